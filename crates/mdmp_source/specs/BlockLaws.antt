@@ -1,0 +1,27 @@
+-- Bytes that move from what is pending to the inner output.
+use Rattle.std.proofs.Common.{◌≡◌, ◌++◌, ◌∙◌, ℕ, List, Option, Some, None, take, drop, ap, sym, refl, append_assoc}
+use Rattle.std.proofs.lemmas.List.{take-append-drop}
+use Rattle.std.specs.Io.KnownBytes.{append_known}
+use Rattle.mdmp_source.specs.Output.{OutState, Keeps, Takes}
+use Rattle.mdmp_source.specs.Blocks.{MovesFront}
+
+kept : (a b : Option (List ℕ)) (pending sent left : List ℕ) → pending ≡ sent ++ left → Takes a sent b
+    → Keeps (append_known a pending) (append_known b left)
+kept None b pending sent left whole took start known = absurd (cc)
+kept (Some c) b pending sent left whole took start known =
+    let taken : b ≡ Some (c ++ sent) = took c refl in
+    rw taken (ap Some (append_assoc c sent left ∙ ap (λ x. c ++ x) (sym whole)) ∙ known)
+
+-- what was taken, with what is pending, stays as it was
+pub Keeps-moved : (before : OutState) (pending : List ℕ) (after : OutState) (left : List ℕ) → MovesFront before pending after left
+    → Keeps (append_known before.taken pending) (append_known after.taken left)
+Keeps-moved before pending after left moved = kept before.taken after.taken pending moved.sent left moved.whole moved.took
+
+-- the first so many bytes moved
+pub MovesFront-take : (before : OutState) (pending : List ℕ) (after : OutState) (left : List ℕ) (n : ℕ)
+    → Takes before.taken (take n pending) after.taken → left ≡ drop n pending → MovesFront before pending after left
+MovesFront-take before pending after left n took same = record {
+  sent = take n pending;
+  whole = rw same (sym (take-append-drop n pending));
+  took = took;
+}

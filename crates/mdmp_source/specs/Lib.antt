@@ -1,0 +1,12 @@
+pub mod BlockLaws
+pub mod Blocks
+pub mod Count
+pub mod Extent
+pub mod Fault
+pub mod Output
+pub mod OutputLaws
+pub mod Patchy
+pub mod Range
+pub mod Source
+pub mod SourceLaws
+pub mod Store

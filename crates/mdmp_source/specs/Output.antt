@@ -1,0 +1,39 @@
+-- What an output has taken, and what a call that writes a text leaves.
+use Rattle.std.specs.Prelude.{◌≡◌, ℕ, List, ◌++◌, Option, Some, Result, MatchResult}
+use Rattle.mdmp_source.specs.Count.{HasRisen}
+
+-- an output as its callers see it
+pub record OutState : Type 0 where
+  -- the bytes that it took, where they are known
+  pub taken : Option (List ℕ)
+  -- how often it answered an error, or took none of some bytes; the count stops at the greatest u128
+  pub failures : ℕ
+
+-- an output that had taken known bytes has taken no others
+abbrev pub Keeps : Option (List ℕ) → Option (List ℕ) → Type 0
+Keeps before after = (start : List ℕ) → before ≡ Some start → after ≡ Some start
+
+-- an output that had taken known bytes has taken the text behind them
+abbrev pub Takes : Option (List ℕ) → List ℕ → Option (List ℕ) → Type 0
+Takes before text after = (start : List ℕ) → before ≡ Some start → after ≡ Some (start ++ text)
+
+-- it has taken the first part of the text
+pub record TakesPrefix (before : Option (List ℕ)) (text : List ℕ) (after : Option (List ℕ)) : Type 0 where
+  pub sent : List ℕ
+  pub rest : List ℕ
+  pub whole : text ≡ sent ++ rest
+  pub took : Takes before sent after
+
+-- all of the text went out, without a refusal
+pub record PutsAll (before : OutState) (text : List ℕ) (after : OutState) : Type 0 where
+  pub took : Takes before.taken text after.taken
+  pub steady : after.failures ≡ before.failures
+
+-- the output refused, and the first part of the text had gone out
+pub record PutsPrefix (before : OutState) (text : List ℕ) (after : OutState) : Type 0 where
+  pub took : TakesPrefix before.taken text after.taken
+  pub refused : HasRisen before.failures after.failures
+
+-- a call that writes a text: all of it, or an error because the output refused
+abbrev pub Puts : {T E : Type 0} → Result T E → OutState → List ℕ → OutState → Type 0
+Puts result before text after = MatchResult result (λ _. PutsAll before text after) (λ _. PutsPrefix before text after)

@@ -1,0 +1,18 @@
+-- Fetches one after another.
+use Rattle.std.proofs.Common.{◌+◌, ◌∙◌, ℕ, arith}
+use Rattle.mdmp_source.specs.Source.{SourceState, FetchesAtMost}
+
+-- some fetches, and then some more
+pub fetches_then : (m n : ℕ) (a b c : SourceState) → FetchesAtMost m a b → FetchesAtMost n b c → FetchesAtMost (m + n) a c
+fetches_then m n a b c first then = record {
+  same_content = then.same_content ∙ first.same_content;
+  same_reliable = then.same_reliable ∙ first.same_reliable;
+  same_size = then.same_size ∙ first.same_size;
+  same_store_size = then.same_store_size ∙ first.same_store_size;
+  failures = omega (arith, first.failures, then.failures);
+  empties = omega (arith, first.empties, then.empties);
+  store_calls = omega (arith, first.store_calls, then.store_calls);
+  more_store_calls = omega (arith, first.more_store_calls, then.more_store_calls);
+  fetched = omega (arith, first.fetched, then.fetched);
+  no_fewer = omega (arith, first.no_fewer, then.no_fewer);
+}

@@ -1,0 +1,46 @@
+//! Files as bytes that may fail to come, and texts as bytes that may fail to go.
+//!
+//! A [`Store`] gives the bytes of a file, a few at a time, and a [`Source`] makes whole fetches of
+//! it and counts them. An [`Out`] takes the bytes of a text or a dump. The stores are
+//! [`MemoryStore`], [`FileStore`] and, for tests, [`PatchyStore`]; the outputs are [`WriteOut`] over
+//! any writer of std, [`BlockOut`], which gathers many small writes into blocks, and, for tests,
+//! [`PatchyOut`].
+//!
+//! Beside them stand the tests of place that every layer above makes: [`inside`], and the class of
+//! a [`Location`].
+//!
+//! ```text
+//! let mut source = Source::new(MemoryStore::new(b"MDMP"));
+//! let mut signature = [0; 4];
+//! source.fetch(0, &mut signature)?;
+//! ```
+#![tactic(auto)]
+
+mod block_out;
+mod fault;
+mod file_store;
+mod location;
+mod memory_store;
+mod output;
+mod patchy_out;
+mod patchy_store;
+mod range;
+mod source;
+mod store;
+mod write_out;
+
+pub use crate::block_out::BlockOut;
+pub use crate::fault::SourceFault;
+pub use crate::file_store::FileStore;
+pub use crate::location::{Extent, Location};
+pub use crate::memory_store::MemoryStore;
+pub use crate::output::{Out, OutFailed, send, write_all};
+pub use crate::patchy_out::PatchyOut;
+pub use crate::patchy_store::PatchyStore;
+pub use crate::range::inside;
+pub use crate::source::Source;
+pub use crate::store::{Store, StoreFailed, Tally};
+pub use crate::write_out::WriteOut;
+
+#[cfg(test)]
+mod tests;

@@ -1,0 +1,65 @@
+//! A file in memory.
+ghost use Rattle.std.specs.Prelude.{◌≡◌, ◌-◌, length, take, min};
+ghost use Rattle.mdmp_source.specs.Range.{bytes_at};
+
+use crate::store::{Store, StoreFailed, Tally};
+
+/// A file in memory, which the store borrows. It never fails.
+#[derive(Drop)]
+pub struct MemoryStore<'a> {
+    bytes: &'a [u8],
+    tally: Tally,
+}
+
+impl<'a> MemoryStore<'a> {
+    ghost use Rattle.mdmp_source.specs.Store.{IsNew};
+    ghost use Rattle.std.specs.Prelude.{Some, true};
+
+    /// A good store, whose content is these bytes.
+    pub fn new(bytes: &'a [u8]) -> Self
+        ensures { IsNew (⟦<MemoryStore<'a> as Store>⟧.state result) (Some bytes.now) true }
+    {
+        MemoryStore {
+            bytes,
+            tally: Tally::new(),
+        }
+    }
+}
+
+impl Store for MemoryStore<'_> {
+    ghost use Rattle.std.specs.Prelude.{Some, true, length};
+    ghost use Rattle.mdmp_source.specs.Store.{StoreState};
+
+    ghost state = { λ s. record {
+      content = Some s.bytes.now;
+      size = length s.bytes.now;
+      is_reliable = true;
+      counts = s.tally;
+    } };
+
+    fn size(&self) -> u64 {
+        self.bytes.len() as u64
+    }
+
+    fn read_at(&mut self, at: u64, out: &mut [u8]) -> Result<usize, StoreFailed> {
+        let answer = Ok(copy_at(self.bytes, at, out));
+        self.tally.count(&answer, out.len());
+        answer
+    }
+}
+
+/// Copies the bytes at `at` into the front of `out`, as many as there are and as fit, and answers
+/// how many.
+pub(crate) fn copy_at(bytes: &[u8], at: u64, out: &mut [u8]) -> usize
+    ensures count { result ≡ min (length out.new) (length bytes.now - at) }
+    ensures copied { take result out.new ≡ bytes_at bytes.now at result }
+{
+    let size = bytes.len() as u64;
+    if at >= size {
+        return 0;
+    }
+    let start = at as usize;
+    let count = out.len().min(bytes.len() - start);
+    out[..count].copy_from_slice(&bytes[start..start + count]);
+    count
+}

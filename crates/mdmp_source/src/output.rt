@@ -1,0 +1,84 @@
+//! Where the bytes of a text or a dump go.
+ghost use Rattle.std.specs.Prelude.{◌≡◌, ◌≤◌, ◌||◌, length, take, nat_lt, IfOk, OnErr, is_err};
+ghost use Rattle.mdmp_source.specs.Count.{raised_if};
+ghost use Rattle.mdmp_source.specs.Store.{is_empty_answer};
+ghost use Rattle.mdmp_source.specs.Output.{OutState, Keeps, Takes, Puts};
+
+/// An output refused a call.
+#[derive(Clone, Copy, Debug, PartialEq, Eq)]
+pub struct OutFailed;
+
+/// Something that takes bytes, of which a call may take some.
+///
+/// What an output has taken is stated where it is known: the bytes of an output in memory are, and
+/// those that went to a terminal are not.
+// std's `Write` has no count of its failures, so no clause over it could say why a text was cut.
+pub trait Out {
+    ghost use Rattle.mdmp_source.specs.Output.{OutState, Keeps, Takes};
+
+    /// The bytes that it took so far, where they are known, and how often it refused: answered an
+    /// error, or took none of some bytes.
+    ghost state: { Self → OutState };
+
+    /// Takes the first bytes of `bytes`, and answers how many.
+    fn write(&mut self, bytes: &[u8]) -> Result<usize, OutFailed>
+        ensures bound { IfOk result (λ k. k ≤ length bytes.now) }
+        ensures took { IfOk result (λ k. Takes (state self.old).taken (take k bytes.now) (state self.new).taken) }
+        ensures none { OnErr result (Keeps (state self.old).taken (state self.new).taken) }
+        ensures failures { (state self.new).failures
+            ≡ raised_if (is_err result || is_empty_answer result (length bytes.now)) (state self.old).failures };
+}
+
+/// An output that is lent is one too.
+impl<O: Out> Out for &mut O {
+    ghost state = { λ o. O.state o.now };
+
+    fn write(&mut self, bytes: &[u8]) -> Result<usize, OutFailed> {
+        O::write(*self, bytes)
+    }
+}
+
+/// The count of refusals after a call with this answer.
+pub(crate) fn failures_after(
+    failures: u128,
+    answer: &Result<usize, OutFailed>,
+    asked: usize,
+) -> u128
+    ensures { result ≡ raised_if (is_err answer.now || is_empty_answer answer.now asked) failures }
+{
+    match answer {
+        Ok(count) if *count > 0 || asked == 0 => failures,
+        _ => failures.saturating_add(1),
+    }
+}
+
+/// Writes the bytes up to the output's first refusal, by as many calls as it takes, and answers how
+/// many went out.
+pub fn send<O: Out>(out: &mut O, bytes: &[u8]) -> usize
+    ensures bound { result ≤ length bytes.now }
+    ensures took { Takes (O.state out.old).taken (take result bytes.now) (O.state out.new).taken }
+    ensures failures { (O.state out.new).failures
+        ≡ raised_if (nat_lt result (length bytes.now)) (O.state out.old).failures }
+{
+    let mut sent = 0;
+    while sent < bytes.len() {
+        match out.write(&bytes[sent..]) {
+            Ok(0) => return sent,
+            Ok(count) => sent += count,
+            Err(_) => return sent,
+        }
+    }
+    sent
+}
+
+/// Writes all of the bytes, by as many calls as it takes. Where the output refuses, the first of
+/// them went out.
+pub fn write_all<O: Out>(out: &mut O, bytes: &[u8]) -> Result<(), OutFailed>
+    ensures { Puts result (O.state out.old) bytes.now (O.state out.new) }
+{
+    if send(out, bytes) == bytes.len() {
+        Ok(())
+    } else {
+        Err(OutFailed)
+    }
+}

@@ -1,0 +1,143 @@
+//! Whole fetches from a store, counted.
+ghost use Rattle.std.specs.Prelude.{◌≡◌, ◌≤◌, ◌<◌, ◌+◌, ◌^◌, Some, List, ℕ, length, IfSome, IfErr, IsSome, IsOk, IsTrue, OnOk, OnErr};
+ghost use Rattle.mdmp_source.specs.Count.{raised, HasRisen};
+ghost use Rattle.mdmp_source.specs.Range.{IsInside, IsObtained, bytes_at};
+ghost use Rattle.mdmp_source.specs.Store.{StoreState, IsSizeOf, IsGood};
+ghost use Rattle.mdmp_source.specs.Source.{SourceState, FetchesAtMost, HasFaultCause};
+ghost use Rattle.mdmp_source.specs.Fault.{fault_at, HasCause};
+
+use crate::fault::SourceFault;
+use crate::store::Store;
+use std::marker::Model;
+
+/// A store that is read by whole fetches, which are counted.
+///
+/// A fetch gives all of the bytes that it is asked for or a fault. The counts are of the source
+/// itself, and stop at the greatest `u128`.
+#[derive(Drop)]
+pub struct Source<S: Store> {
+    store: S,
+    size: u64,
+    fetched: u128,
+    calls: u128,
+}
+
+impl<S: Store> Model for Source<S> {
+    ghost Value = { SourceState };
+
+    ghost view = { λ s. record {
+      store = S.state s.store;
+      size = s.size;
+      fetched = s.fetched;
+      calls = s.calls;
+    } };
+
+    ghost invariant = { λ s. IsSizeOf (S.state s.store).content s.size };
+}
+
+impl<S: Store> Source<S> {
+    /// A source that has fetched nothing.
+    pub fn new(store: S) -> Self
+        ensures store { result.store ≡ S.state store }
+        ensures size { result.size ≡ result.store.size }
+        ensures content { IsSizeOf result.store.content result.size }
+        ensures counts { (result.fetched ≡ 0) × (result.calls ≡ 0) }
+    {
+        let size = store.size();
+        Source {
+            store,
+            size,
+            fetched: 0,
+            calls: 0,
+        }
+    }
+
+    /// The number of bytes in the file, as the store told it when the source was made.
+    pub fn size(&self) -> u64
+        ensures value { result ≡ self.now.size }
+        ensures content { IsSizeOf self.now.store.content result }
+    {
+        self.size
+    }
+
+    /// How many bytes were asked for by `fetch`, faults included.
+    pub fn fetched(&self) -> u128
+        ensures { result ≡ self.now.fetched }
+    {
+        self.fetched
+    }
+
+    /// How often `fetch` was called.
+    pub fn calls(&self) -> u128
+        ensures { result ≡ self.now.calls }
+    {
+        self.calls
+    }
+
+    /// Hands the store back.
+    pub fn into_store(self) -> S
+        ensures { S.state result ≡ self.store }
+    {
+        let Source {
+            store,
+            size: _,
+            fetched: _,
+            calls: _,
+        } = self;
+        store
+    }
+
+    /// Fills `out` with the bytes at the offset `at`. After a fault `out` holds the bytes before the
+    /// first that was not obtained, and behind them any.
+    pub fn fetch(&mut self, at: u64, out: &mut [u8]) -> Result<(), SourceFault>
+        requires { IsInside at (length out.old) self.old.size }
+
+        ensures bytes { OnOk result (IfSome self.old.store.content (λ file. out.new ≡ bytes_at file at (length out.new))) }
+        ensures always { (file : List ℕ) → IsGood self.old.store file → IsOk result }
+
+        // Each fault has its cause in this call, and says which byte was not obtained.
+        ensures cause { HasFaultCause result self.old self.new }
+        ensures fault_at { IfErr result (λ fault. (at ≤ fault_at fault) × (fault_at fault < at + length out.new)) }
+        ensures obtained { IfErr result (λ fault. IsObtained self.old.store.content at (fault_at fault) out.new) }
+
+        ensures fetches { FetchesAtMost (length out.new) self.old self.new }
+        ensures fetched { OnOk result (self.new.fetched ≡ raised self.old.fetched (length out.new)) }
+        ensures calls { self.new.calls ≡ raised self.old.calls 1 }
+    {
+        self.calls = self.calls.saturating_add(1);
+        self.fetched = self.fetched.saturating_add(out.len() as u128);
+        // The proof learns here that the size fits its type.
+        let _size = self.size;
+        fill(&mut self.store, at, out)
+    }
+}
+
+/// Fills `out` with the bytes at `at`, by as many calls as the store takes.
+fn fill<S: Store>(store: &mut S, at: u64, out: &mut [u8]) -> Result<(), SourceFault>
+    requires { at + length out.old < 2 ^ 64 }
+    ensures bytes { OnOk result (IfSome (S.state store.old).content (λ file. out.new ≡ bytes_at file at (length out.new))) }
+    ensures cause { IfErr result (λ fault. HasCause fault
+        (HasRisen (S.state store.old).counts.failures (S.state store.new).counts.failures)
+        (HasRisen (S.state store.old).counts.empties (S.state store.new).counts.empties)) }
+    ensures at { IfErr result (λ fault. (at ≤ fault_at fault) × (fault_at fault < at + length out.new)) }
+    ensures obtained { IfErr result (λ fault. IsObtained (S.state store.old).content at (fault_at fault) out.new) }
+    ensures content { (S.state store.new).content ≡ (S.state store.old).content }
+    ensures reliable { (S.state store.new).is_reliable ≡ (S.state store.old).is_reliable }
+    ensures size { (S.state store.new).size ≡ (S.state store.old).size }
+    ensures no_fewer_calls { (S.state store.old).counts.calls ≤ (S.state store.new).counts.calls }
+    ensures no_fewer { ((S.state store.old).counts.failures ≤ (S.state store.new).counts.failures)
+        × ((S.state store.old).counts.empties ≤ (S.state store.new).counts.empties) }
+    ensures calls { (S.state store.new).counts.calls ≤ (S.state store.old).counts.calls + length out.new }
+    ensures always { IsTrue (S.state store.old).is_reliable → IfSome (S.state store.old).content (λ file. IsInside at (length out.new) (length file) → IsOk result) }
+{
+    let mut filled = 0;
+    while filled < out.len() {
+        let place = at + filled as u64;
+        match store.read_at(place, &mut out[filled..]) {
+            Err(_) => return Err(SourceFault::Failed { at: place }),
+            Ok(0) => return Err(SourceFault::ShortRead { at: place }),
+            Ok(count) => filled += count,
+        }
+    }
+    Ok(())
+}
