@@ -1,0 +1,60 @@
+-- What is said of faults: a line, and an exit status.
+use Rattle.std.specs.Prelude.{ℕ, List, [], ◌∷◌, ◌++◌, Option, Some, None, codes}
+use Rattle.std.specs.List.{concat}
+use Rattle.std.specs.Fmt.{decimal}
+use Rattle.mdmp_source.specs.declared.fault.SourceFault.{SourceFault}
+use Rattle.mdmp_source.specs.declared.fault.SourceFault.TheVariants as source
+use Rattle.mdmp_tool.specs.declared.fault.OpenFault.{OpenFault}
+use Rattle.mdmp_tool.specs.declared.fault.OpenFault.TheVariants as opening
+use Rattle.mdmp_tool.specs.declared.fault.FaultKind.{FaultKind}
+use Rattle.mdmp_tool.specs.declared.fault.FaultKind.TheVariants as kinds
+use Rattle.mdmp_tool.specs.declared.fault.ListFault.{ListFault}
+use Rattle.mdmp_tool.specs.declared.fault.ToolFault.{ToolFault}
+use Rattle.mdmp_tool.specs.declared.fault.ToolFault.TheVariants as tool
+use Rattle.mdmp_tool.specs.Digits.{hex}
+
+-- the exit status: 1 where the file is at fault, 3 where its store, the output or memory is
+abbrev pub status_of : ToolFault → ℕ
+status_of (tool.Opening fault) = 1
+status_of (tool.List fault) = 1
+status_of (tool.Source fault) = 3
+status_of (tool.Out) = 3
+status_of (tool.Memory) = 3
+
+-- ---- what a fault says
+
+abbrev pub source_text : SourceFault → List ℕ
+source_text (source.Failed at) = concat (codes "store failed at " ∷ decimal at ∷ [])
+source_text (source.ShortRead at) = concat (codes "store ended at " ∷ decimal at ∷ [])
+
+abbrev pub memory_text : List ℕ
+memory_text = codes "out of memory"
+
+abbrev pub opening_text : OpenFault → List ℕ
+opening_text (opening.TooShort size) = concat (codes "file of " ∷ decimal size ∷ codes " bytes is too short" ∷ [])
+opening_text (opening.BadSignature) = codes "bad signature"
+opening_text (opening.BadVersion low) = concat (codes "bad version 0x" ∷ hex 4 low ∷ [])
+opening_text (opening.DirectoryOutside offset size) =
+    concat (codes "directory outside the file: offset " ∷ decimal offset ∷ codes " size " ∷ decimal size ∷ [])
+opening_text (opening.Source fault) = source_text fault
+opening_text (opening.Memory) = memory_text
+
+abbrev pub kind_words : FaultKind → List ℕ
+kind_words kinds.StreamOutside = codes "stream outside the file"
+
+-- ` item <k>`, where the fault is that of a record
+abbrev pub item_parts : Option ℕ → List (List ℕ)
+item_parts None = []
+item_parts (Some k) = codes " item " ∷ decimal k ∷ []
+
+-- `entry <e>: <words>: offset <n> size <n>`, with ` item <k>` behind the entry for the fault of a record
+abbrev pub list_fault_text : ListFault → List ℕ
+list_fault_text f = concat (codes "entry " ∷ decimal f.entry ∷ (item_parts f.index
+    ++ codes ": " ∷ kind_words f.kind ∷ codes ": offset " ∷ decimal f.offset ∷ codes " size " ∷ decimal f.size ∷ []))
+
+abbrev pub fault_text : ToolFault → List ℕ
+fault_text (tool.Opening fault) = opening_text fault
+fault_text (tool.List fault) = list_fault_text fault
+fault_text (tool.Source fault) = source_text fault
+fault_text (tool.Out) = codes "output failed"
+fault_text (tool.Memory) = memory_text

@@ -1,0 +1,32 @@
+//! The commands of `mdmp`: what they print, and the faults that end them.
+//!
+//! [`run_words`] reads the words behind the program's name and runs a command. Under it stands one
+//! engine for each command, here [`run_list`], whose contract says what is written: of a good store
+//! the text of `specs/Text.antt`, whole or up to the first bad location, and of one that fails the first
+//! part of it.
+//! A [`ToolFault`] has the exit status of [`status`] and the line of [`fault_line`].
+#![tactic(auto)]
+
+mod blocks;
+mod digits;
+mod directory;
+mod fault;
+mod fault_lines;
+mod header;
+mod limits;
+mod lines;
+mod list;
+mod number;
+mod opening;
+mod pieces;
+mod words;
+
+pub use crate::blocks::list_in_blocks;
+pub use crate::fault::{FaultKind, ListFault, OpenFault, ToolFault, status};
+pub use crate::fault_lines::fault_line;
+pub use crate::limits::Limits;
+pub use crate::list::{list_source, run_list};
+pub use crate::words::run_words;
+
+#[cfg(test)]
+mod tests;
