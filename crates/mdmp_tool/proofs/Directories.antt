@@ -10,14 +10,14 @@ use Rattle.mdmp_tool.specs.declared.fault.ToolFault.{ToolFault}
 use Rattle.mdmp_tool.specs.declared.fault.ToolFault.TheVariants.{Opening, List as BadList, Source, Out, Memory}
 use Rattle.mdmp_source.specs.Range.{bytes_at}
 use Rattle.mdmp_tool.specs.declared.directory.StreamItem.{StreamItem}
-use Rattle.mdmp_tool.specs.declared.directory.Entry.{Entry}
-use Rattle.mdmp_tool.specs.Directory.{Run, joined, listing_of, entry_listing, entries_at, entry_at}
-use Rattle.mdmp_tool.specs.Number.{number_at}
+use Rattle.mdmp_wire.specs.declared.entry.Entry.{Entry}
+use Rattle.mdmp_tool.specs.Directory.{Run, joined, listing_of, entry_listing, entries_at}
+use Rattle.mdmp_wire.specs.Entry.{entry_at}
 use Rattle.mdmp_tool.specs.Lines.{stream_line}
 use Rattle.mdmp_tool.specs.Text.{run_text}
 use Rattle.mdmp_tool.specs.Runs.{IsListed, ListsRun}
 use Rattle.mdmp_tool.specs.Causes.{IsFaultWithin}
-use Rattle.mdmp_tool.proofs.Numbers.{number_at-within}
+use Rattle.mdmp_wire.specs.NumberLaws.{number_at-within}
 
 -- ---- runs that are joined
 
@@ -161,16 +161,18 @@ entries_at-+ F o (suc n) k e =
     let number : e + suc n ≡ e + 1 + n = omega arith in
     rw (count, place, number) (λ i. record { entry = e; stream_type = (entry_at F o).stream_type; location = (entry_at F o).location } ∷ entries_at-+ F (o + 12) n k (e + 1) i)
 
+-- an entry within the n bytes at a place
+entry_at-within : (n at i j : ℕ) (F : List ℕ) → i + 12 ≤ n → j ≡ at + i → entry_at (take n (drop at F)) i ≡ entry_at F j
+entry_at-within n at i j F room place = grind (arith, number_at-within)
+
 -- the entries within the n bytes at a place
 pub entries_at-within : (n at i j k e : ℕ) (F : List ℕ) → i + 12 * k ≤ n → j ≡ at + i → entries_at (take n (drop at F)) i k e ≡ entries_at F j k e
 unfolding entries_at
 entries_at-within n at i j zero e F room place = refl
 entries_at-within n at i j (suc k) e F room place =
-    let type : number_at (take n (drop at F)) i 4 ≡ number_at F j 4 = number_at-within n at i j 4 F (omega arith) place in
-    let size : number_at (take n (drop at F)) (i + 4) 4 ≡ number_at F (j + 4) 4 = number_at-within n at (i + 4) (j + 4) 4 F (omega arith) (omega arith) in
-    let rva : number_at (take n (drop at F)) (i + 8) 4 ≡ number_at F (j + 8) 4 = number_at-within n at (i + 8) (j + 8) 4 F (omega arith) (omega arith) in
+    let same : entry_at (take n (drop at F)) i ≡ entry_at F j = entry_at-within n at i j F (omega arith) place in
     let rest = entries_at-within n at (i + 12) (j + 12) k (e + 1) F (omega arith) (omega arith) in
-    λ x. record { entry = e; stream_type = type x; location = record { size = size x; rva = rva x } } ∷ rest x
+    λ x. record { entry = e; stream_type = (same x).stream_type; location = (same x).location } ∷ rest x
 
 -- the first entry of some, and the others
 pub listing_of-first : (F : List ℕ) (size o n e next left number : ℕ) (x : Entry) → x ≡ entry_at F o → n ≡ suc left → next ≡ o + 12 → number ≡ e + 1

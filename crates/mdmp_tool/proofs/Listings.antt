@@ -3,10 +3,10 @@ use Rattle.std.proofs.Common.{◌≡◌, ◌∙◌, ◌++◌, ℕ, List, length,
 use Rattle.std.specs.Prelude.{Result, Ok, Err}
 use Rattle.mdmp_source.specs.Output.{OutState, PutsAll, PutsPrefix}
 use Rattle.mdmp_source.specs.OutputLaws.{PutsAll-nothing, PutsAll-PutsAll, PutsPrefix-last, PutsPrefix-front, TakesPrefix-last}
-use Rattle.mdmp_tool.specs.declared.header.Header.{Header}
+use Rattle.mdmp_wire.specs.declared.header.Header.{Header}
 use Rattle.mdmp_tool.specs.declared.fault.ToolFault.{ToolFault}
 use Rattle.mdmp_tool.specs.declared.fault.ToolFault.TheVariants.{Opening, List as BadList, Source, Out, Memory}
-use Rattle.mdmp_tool.specs.Header.{header_at}
+use Rattle.mdmp_wire.specs.Header.{header_at}
 use Rattle.mdmp_tool.specs.Directory.{Run, listing, entries_at, listing_of}
 use Rattle.mdmp_tool.specs.Opening.{opening_fault, Opens}
 use Rattle.mdmp_tool.specs.Lines.{dump_line}
@@ -28,7 +28,7 @@ PutsPrefix-dump F h before after opened read cut =
 -- the directory behind the dump line
 pub Lists-opened : (F : List ℕ) (before now after : OutState) (r : Result (Unit {0}) ToolFault) → opening_fault F ≡ None
     → PutsAll before (dump_line (header_at F 0)) now → ListsRun (listing F) now r after
-    → IsFaultWithin (header_at F 0).directory_rva ((header_at F 0).directory_rva + 12 * (header_at F 0).stream_count) r → Lists F before r after
+    → IsFaultWithin (header_at F 0).stream_directory_rva ((header_at F 0).stream_directory_rva + 12 * (header_at F 0).number_of_streams) r → Lists F before r after
 Lists-opened F before now after (Ok x) opened head listed place = record {
   opened = opened;
   ends = listed.ends;
@@ -55,18 +55,18 @@ Lists-opened F before now after (Err Memory) opened head ends place = absurd end
 
 -- the directory of a header that was read
 pub listing-read : (F : List ℕ) (h : Header) (size : ℕ) → h ≡ header_at F 0 → size ≡ length F
-    → listing_of size (entries_at F h.directory_rva h.stream_count 0) ≡ listing F
+    → listing_of size (entries_at F h.stream_directory_rva h.number_of_streams 0) ≡ listing F
 listing-read F h size read len =
-    ap (λ n. listing_of n (entries_at F h.directory_rva h.stream_count 0)) len ∙ ap (λ (x : Header). listing_of (length F) (entries_at F x.directory_rva x.stream_count 0)) read
+    ap (λ n. listing_of n (entries_at F h.stream_directory_rva h.number_of_streams 0)) len ∙ ap (λ (x : Header). listing_of (length F) (entries_at F x.stream_directory_rva x.number_of_streams 0)) read
 
 -- the same for a header that was read
 pub Lists-read : (F : List ℕ) (h : Header) (size : ℕ) (before now after : OutState) (r : Result (Unit {0}) ToolFault) → opening_fault F ≡ None → h ≡ header_at F 0 → size ≡ length F
-    → PutsAll before (dump_line h) now → ListsRun (listing_of size (entries_at F h.directory_rva h.stream_count 0)) now r after
-    → IsFaultWithin h.directory_rva (h.directory_rva + 12 * h.stream_count) r → Lists F before r after
+    → PutsAll before (dump_line h) now → ListsRun (listing_of size (entries_at F h.stream_directory_rva h.number_of_streams 0)) now r after
+    → IsFaultWithin h.stream_directory_rva (h.stream_directory_rva + 12 * h.number_of_streams) r → Lists F before r after
 Lists-read F h size before now after r opened read len head listed place =
     Lists-opened F before now after r opened (subst (λ (x : Header). PutsAll before (dump_line x) now) read head)
     (subst (λ (x : Run). ListsRun x now r after) (listing-read F h size read len) listed)
-    (subst (λ (x : Header). IsFaultWithin x.directory_rva (x.directory_rva + 12 * x.stream_count) r) read place)
+    (subst (λ (x : Header). IsFaultWithin x.stream_directory_rva (x.stream_directory_rva + 12 * x.number_of_streams) r) read place)
 
 -- nothing was written where the header was not obtained, or the file is refused
 pub Lists-unopened : (F : List ℕ) (before : OutState) (fault : ToolFault) → Opens F (Err fault) → IsFaultWithin {T = Header} 0 32 (Err fault) → Lists F before (Err fault) before

@@ -1,19 +1,11 @@
 -- The directory of a file, and what it lists.
 use Rattle.std.specs.Prelude.{ℕ, zero, suc, ◌+◌, ◌==◌, ◌||◌, List, [], ◌∷◌, ◌++◌, length, Option, Some, None, if◌then◌else◌}
 use Rattle.mdmp_source.specs.Range.{is_inside}
-use Rattle.mdmp_tool.specs.declared.directory.Entry.{Entry}
 use Rattle.mdmp_tool.specs.declared.directory.StreamItem.{StreamItem}
 use Rattle.mdmp_tool.specs.declared.fault.ListFault.{ListFault}
 use Rattle.mdmp_tool.specs.declared.fault.FaultKind.TheVariants.{StreamOutside}
-use Rattle.mdmp_tool.specs.Number.{number_at}
-use Rattle.mdmp_tool.specs.Header.{header_at}
-
--- the entry that stands at o in F, 12 bytes: MINIDUMP_DIRECTORY
-abbrev pub entry_at : List ℕ → ℕ → Entry
-entry_at F o = record {
-  stream_type = number_at F o 4;
-  location = record { size = number_at F (o + 4) 4; rva = number_at F (o + 8) 4 };
-}
+use Rattle.mdmp_wire.specs.Entry.{entry_at}
+use Rattle.mdmp_wire.specs.Header.{header_at}
 
 -- the n entries that stand at o in F one behind the other, with their numbers from e on
 unfoldable pub entries_at : List ℕ → ℕ → ℕ → ℕ → List StreamItem
@@ -53,4 +45,4 @@ listing_of size (s ∷ rest) = joined (entry_listing size s) (listing_of size re
 abbrev pub listing : List ℕ → Run
 listing F =
     let h = header_at F 0 in
-    listing_of (length F) (entries_at F h.directory_rva h.stream_count 0)
+    listing_of (length F) (entries_at F h.stream_directory_rva h.number_of_streams 0)

@@ -11,7 +11,7 @@ use Rattle.mdmp_tool.specs.declared.fault.FaultKind.TheVariants as kinds
 use Rattle.mdmp_tool.specs.declared.fault.ListFault.{ListFault}
 use Rattle.mdmp_tool.specs.declared.fault.ToolFault.{ToolFault}
 use Rattle.mdmp_tool.specs.declared.fault.ToolFault.TheVariants as tool
-use Rattle.mdmp_tool.specs.Digits.{hex}
+use Rattle.mdmp_wire.specs.Digits.{hex}
 
 -- the exit status: 1 where the file is at fault, 3 where its store, the output or memory is
 abbrev pub status_of : ToolFault → ℕ

@@ -1,11 +1,8 @@
 pub mod Blockwise
 pub mod Causes
-pub mod Digits
 pub mod Directory
 pub mod Faults
-pub mod Header
 pub mod Lines
-pub mod Number
 pub mod Opening
 pub mod Pieces
 pub mod Runs

@@ -2,7 +2,7 @@
 use Rattle.std.specs.Prelude.{ℕ, List}
 use Rattle.std.specs.Fmt.{decimal}
 use Rattle.std.specs.List.{flat_map}
-use Rattle.mdmp_tool.specs.Digits.{hex}
+use Rattle.mdmp_wire.specs.Digits.{hex}
 use Rattle.mdmp_tool.specs.declared.pieces.Piece.{Piece}
 use Rattle.mdmp_tool.specs.declared.pieces.Piece.TheVariants.{Text, Decimal, Hex4, Hex16}
 

@@ -8,7 +8,7 @@ use Rattle.mdmp_tool.specs.declared.fault.OpenFault.{OpenFault}
 use Rattle.mdmp_tool.specs.declared.fault.ToolFault.{ToolFault}
 use Rattle.mdmp_tool.specs.declared.fault.ToolFault.TheVariants.{Opening, List as BadList, Source, Out, Memory}
 use Rattle.mdmp_tool.specs.Directory.{Run, listing}
-use Rattle.mdmp_tool.specs.Header.{header_at}
+use Rattle.mdmp_wire.specs.Header.{header_at}
 use Rattle.mdmp_tool.specs.Opening.{opening_fault}
 use Rattle.mdmp_tool.specs.Text.{run_text, list_text}
 
@@ -56,8 +56,8 @@ pub record FailsInHeader (fault : SourceFault) (before : OutState) (after : OutS
 -- the store is at fault in the directory, and the first part of the text was written
 pub record FailsInDirectory (F : List ℕ) (fault : SourceFault) (before : OutState) (after : OutState) : Type 0 where
   pub opened : opening_fault F ≡ None
-  pub from : (header_at F 0).directory_rva ≤ fault_at fault
-  pub to : fault_at fault < (header_at F 0).directory_rva + 12 * (header_at F 0).stream_count
+  pub from : (header_at F 0).stream_directory_rva ≤ fault_at fault
+  pub to : fault_at fault < (header_at F 0).stream_directory_rva + 12 * (header_at F 0).number_of_streams
   pub short : StopsShort before (list_text F) after
 
 -- a run of `list` over F: its text, whole or up to the first fault; nothing where F is refused; else the first part of it

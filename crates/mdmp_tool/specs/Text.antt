@@ -2,7 +2,7 @@
 use Rattle.std.specs.Prelude.{ℕ, List, [], ◌++◌, Option, Some, None}
 use Rattle.std.specs.List.{flat_map}
 use Rattle.mdmp_tool.specs.declared.fault.OpenFault.{OpenFault}
-use Rattle.mdmp_tool.specs.Header.{header_at}
+use Rattle.mdmp_wire.specs.Header.{header_at}
 use Rattle.mdmp_tool.specs.Directory.{Run, listing}
 use Rattle.mdmp_tool.specs.Opening.{opening_fault}
 use Rattle.mdmp_tool.specs.Lines.{dump_line, stream_line}

@@ -1,22 +1,13 @@
 //! The directory of a file: an entry for each stream.
 ghost use Rattle.std.specs.Prelude.{◌≡◌, ◌≤◌, ◌+◌, ◌*◌, ◌<◌, ◌^◌, length};
-ghost use Rattle.mdmp_tool.specs.Directory.{entry_at, entries_at, listing_of, entry_listing};
+ghost use Rattle.mdmp_tool.specs.Directory.{entries_at, listing_of, entry_listing};
 ghost use Rattle.mdmp_tool.specs.Runs.{ListsRun};
 ghost use Rattle.mdmp_tool.specs.Causes.{IsNoSourceFault, HasOutCause, IsRefusal};
 
 use crate::fault::{FaultKind, ListFault, ToolFault};
 use crate::lines::put_stream_line;
-use crate::number::u32_at;
 use mdmp_source::{Location, Out, inside};
-
-/// An entry of the directory: `MINIDUMP_DIRECTORY`.
-#[derive(Clone, Copy, Debug, PartialEq, Eq)]
-pub(crate) struct Entry {
-    /// `StreamType`; 0 where the entry is unused.
-    pub stream_type: u32,
-    /// `Location`, of the whole stream.
-    pub location: Location,
-}
+use mdmp_wire::{Entry, Record, read_at};
 
 /// An entry of the directory as it is listed: the stream that it names, and its number.
 #[derive(Clone, Copy, Debug, PartialEq, Eq)]
@@ -27,25 +18,6 @@ pub(crate) struct StreamItem {
     pub stream_type: u32,
     /// `Location`, of the whole stream.
     pub location: Location,
-}
-
-impl Entry {
-    /// How many bytes an entry takes.
-    pub const SIZE: usize = 12;
-
-    /// The entry that stands at a place among these bytes.
-    pub fn read_at(bytes: &[u8], at: usize) -> Self
-        requires { at + 12 ≤ length bytes.now }
-        ensures { result ≡ entry_at bytes.now at }
-    {
-        Entry {
-            stream_type: u32_at(bytes, at),
-            location: Location {
-                size: u32_at(bytes, at + 4),
-                rva: u32_at(bytes, at + 8),
-            },
-        }
-    }
 }
 
 /// Prints the line of an entry. Its fault, that its stream is not inside a file of `size` bytes,
@@ -90,7 +62,7 @@ pub(crate) fn list_block<O: Out>(
     ensures out_cause { HasOutCause (O.state out.old) result (O.state out.new) }
 {
     for k in 0..count {
-        let entry = Entry::read_at(block, 12 * k as usize);
+        let entry: Entry = read_at(block, Entry::SIZE * k as usize);
         let item = StreamItem {
             entry: first + k,
             stream_type: entry.stream_type,

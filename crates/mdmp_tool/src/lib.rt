@@ -8,15 +8,12 @@
 #![tactic(auto)]
 
 mod blocks;
-mod digits;
 mod directory;
 mod fault;
 mod fault_lines;
-mod header;
 mod limits;
 mod lines;
 mod list;
-mod number;
 mod opening;
 mod pieces;
 mod words;

@@ -3,9 +3,9 @@ ghost use Rattle.mdmp_source.specs.Output.{Puts};
 ghost use Rattle.mdmp_tool.specs.Lines.{dump_line, stream_line};
 
 use crate::directory::StreamItem;
-use crate::header::Header;
 use crate::pieces::{Piece, number, put_pieces};
 use mdmp_source::{Out, OutFailed};
+use mdmp_wire::Header;
 
 /// Prints the line of a dump's header.
 pub(crate) fn put_dump_line<O: Out>(header: &Header, out: &mut O) -> Result<(), OutFailed>
@@ -17,13 +17,13 @@ pub(crate) fn put_dump_line<O: Out>(header: &Header, out: &mut O) -> Result<(), 
             Piece::Text("dump version 0x"),
             Piece::Hex4(header.version / 65536),
             Piece::Text(" streams "),
-            number(header.stream_count),
+            number(header.number_of_streams),
             Piece::Text(" directory "),
-            number(header.directory_rva),
+            number(header.stream_directory_rva),
             Piece::Text(" checksum "),
             number(header.checksum),
             Piece::Text(" time "),
-            number(header.time),
+            number(header.time_date_stamp),
             Piece::Text(" flags 0x"),
             Piece::Hex16(header.flags),
             Piece::Text("\n"),

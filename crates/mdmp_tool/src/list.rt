@@ -9,11 +9,11 @@ ghost use Rattle.mdmp_tool.specs.Causes.{IsNoSourceFault, HasSourceCause, HasOut
 
 use crate::directory::list_block;
 use crate::fault::{OpenFault, ToolFault};
-use crate::header::Header;
 use crate::limits::Limits;
 use crate::lines::put_dump_line;
 use crate::opening::open;
 use mdmp_source::{Out, OutFailed, Source, Store};
+use mdmp_wire::{Entry, Header, Record};
 use std::alloc::Allocator;
 
 /// Prints what a file holds: a line for its header, and one for each entry of its directory, up to
@@ -67,7 +67,14 @@ pub fn list_source<S: Store, A: Allocator, O: Out>(
         return Err(ToolFault::Out);
     }
     let size = source.size();
-    list_directory(source, size, &header, &mut window, limits.window / 12, out)
+    list_directory(
+        source,
+        size,
+        &header,
+        &mut window,
+        limits.window / Entry::SIZE as u32,
+        out,
+    )
 }
 
 /// Prints the lines of the directory of a file of `size` bytes, which is read through a window with
@@ -82,22 +89,22 @@ fn list_directory<S: Store, O: Out>(
 ) -> Result<(), ToolFault>
     requires some_room { 0 < room }
     requires room { 12 * room ≤ length window.old }
-    requires inside { IsInside header.now.directory_rva (12 * header.now.stream_count) source.old.size }
+    requires inside { IsInside header.now.stream_directory_rva (12 * header.now.number_of_streams) source.old.size }
     ensures lists { (file : List ℕ) → source.old.store.content ≡ Some file
-        → ListsRun (listing_of size (entries_at file header.now.directory_rva header.now.stream_count 0)) (O.state out.old) result (O.state out.new) }
+        → ListsRun (listing_of size (entries_at file header.now.stream_directory_rva header.now.number_of_streams 0)) (O.state out.old) result (O.state out.new) }
     ensures good { (file : List ℕ) → IsGood source.old.store file → IsNoSourceFault result }
     ensures refusal { IsRefusal size result }
     ensures source_cause { HasSourceCause source.old result source.new }
-    ensures place { IsFaultWithin header.now.directory_rva (header.now.directory_rva + 12 * header.now.stream_count) result }
+    ensures place { IsFaultWithin header.now.stream_directory_rva (header.now.stream_directory_rva + 12 * header.now.number_of_streams) result }
     ensures fetches { FetchesSome source.old source.new }
     ensures out_cause { HasOutCause (O.state out.old) result (O.state out.new) }
 {
-    let count = header.stream_count;
+    let count = header.number_of_streams;
     let mut listed = 0;
     while listed < count {
         let more = room.min(count - listed);
-        let at = u64::from(header.directory_rva) + 12 * u64::from(listed);
-        let block = &mut window[..12 * more as usize];
+        let at = u64::from(header.stream_directory_rva) + Entry::SIZE as u64 * u64::from(listed);
+        let block = &mut window[..Entry::SIZE * more as usize];
         if let Err(fault) = list_entries(source, size, at, block, more, listed, out) {
             return Err(fault);
         }

@@ -4,9 +4,9 @@ ghost use Rattle.mdmp_source.specs.Output.{Puts};
 ghost use Rattle.mdmp_tool.specs.Pieces.{piece_text, text_of};
 ghost use Rattle.mdmp_tool.specs.Lines.{error_line};
 
-use crate::digits::hex_digits;
 use itoa::Buffer;
 use mdmp_source::{Out, OutFailed, write_all};
+use mdmp_wire::hex_digits;
 
 /// A piece of a line. A number with digits in its name is printed by that many hexadecimal ones, in
 /// lower case.

@@ -11,8 +11,8 @@ use Rattle.mdmp_tool.proofs.list.list_directory.Goals as goal
 pub loop-listed-preserved : goal.loop-listed-preserved
 loop-listed-preserved g c =
     let so_far = c.loop-listed.invariant in
-    let rva = c.args.header.now.directory_rva in
-    let n = c.args.header.now.stream_count in
+    let rva = c.args.header.now.stream_directory_rva in
+    let n = c.args.header.now.number_of_streams in
     let k = c.loop-listed.listed in
     let more = c.min-more.result in
     let few : k + more ≤ n = grind (arith, common_steps) in
@@ -33,8 +33,8 @@ loop-listed-preserved g c =
 pub returns-in-Err-clause-lists : goal.returns-in-Err-clause-lists
 returns-in-Err-clause-lists g c = λ file known.
     let so_far = c.loop-listed.invariant in
-    let rva = c.args.header.now.directory_rva in
-    let n = c.args.header.now.stream_count in
+    let rva = c.args.header.now.stream_directory_rva in
+    let n = c.args.header.now.number_of_streams in
     let k = c.loop-listed.listed in
     let more = c.min-more.result in
     let few : k + more ≤ n = grind (arith, common_steps) in

@@ -6,7 +6,7 @@ use Rattle.mdmp_tool.proofs.list.list_directory.Given as goal
 
 abbrev pub invariant-loop-listed : goal.invariant-loop-listed
 invariant-loop-listed g l =
-    let rva = l.header.directory_rva in
+    let rva = l.header.stream_directory_rva in
     record {
       within : l.listed ≤ l.count;
       source : FetchesAtMost (12 * l.listed) l.fn.source l.source;

@@ -1,0 +1,85 @@
+//! Limits, and what is said of faults.
+use super::files::outside;
+use crate::{Limits, OpenFault, ToolFault, fault_line, status};
+use mdmp_source::{PatchyOut, SourceFault};
+use std::test::Fail;
+
+#[test]
+fn limits_have_bounds(rt: HostRuntime) {
+    assert!(rt; Limits::new(167, 0).is_none());
+    assert!(rt; Limits::new((1 << 30) + 1, 0).is_none());
+    assert!(rt; Limits::new(168, (1 << 30) + 1).is_none());
+    assert!(rt; Limits::new(168, 0).is_some());
+    assert!(rt; Limits::new(1 << 30, 1 << 30).is_some());
+    let standard = Limits::default();
+    assert_eq!(rt; (standard.window, standard.name), (65536, 4096));
+}
+
+#[test]
+fn faults_have_a_status_and_a_line(rt: HostRuntime) -> Result<(), Fail> {
+    let mut item = outside();
+    item.index = Some(18446744073709551615);
+    let source = SourceFault::Failed {
+        at: 18446744073709551615,
+    };
+    let directory = OpenFault::DirectoryOutside {
+        offset: 32,
+        size: 12,
+    };
+    let rows = [
+        (
+            ToolFault::Opening(OpenFault::TooShort { size: 0 }),
+            1,
+            "file of 0 bytes is too short",
+        ),
+        (
+            ToolFault::Opening(OpenFault::BadSignature),
+            1,
+            "bad signature",
+        ),
+        (
+            ToolFault::Opening(OpenFault::BadVersion { low: 0xa794 }),
+            1,
+            "bad version 0xa794",
+        ),
+        (
+            ToolFault::Opening(directory),
+            1,
+            "directory outside the file: offset 32 size 12",
+        ),
+        (
+            ToolFault::List(outside()),
+            1,
+            "entry 2: stream outside the file: offset 236 size 5",
+        ),
+        (
+            ToolFault::List(item),
+            1,
+            "entry 2 item 18446744073709551615: stream outside the file: offset 236 size 5",
+        ),
+        (
+            ToolFault::Source(source),
+            3,
+            "store failed at 18446744073709551615",
+        ),
+        (
+            ToolFault::Source(SourceFault::ShortRead { at: 0 }),
+            3,
+            "store ended at 0",
+        ),
+        (ToolFault::Out, 3, "output failed"),
+        (ToolFault::Memory, 3, "out of memory"),
+    ];
+    for (fault, code, text) in rows {
+        assert_eq!(rt; status(&fault), code);
+        let mut out = PatchyOut::with_room(rt.alloc(), 1000, 1, None)?;
+        assert!(rt; fault_line(&fault, &mut out).is_ok());
+        let line = format!(in rt.alloc(); "mdmp: {text}\n")?;
+        assert_eq!(rt; out.bytes(), line.as_bytes());
+        let mut full = PatchyOut::with_room(rt.alloc(), 9, 1000, None)?;
+        assert!(rt; fault_line(&fault, &mut full).is_err());
+        assert_eq!(rt; full.bytes().len(), 9);
+        assert!(rt; line.as_bytes().starts_with(full.bytes()));
+    }
+    Ok(())
+}

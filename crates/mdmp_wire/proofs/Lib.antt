@@ -1,0 +1,3 @@
+pub mod DigitsLemmas
+pub mod Rows
+pub mod Utf16

@@ -1,0 +1,25 @@
+-- What makes a file a minidump.
+use Rattle.std.specs.Prelude.{ℕ, ◌%◌, List, Option, Some, None, not, ◌==◌, if◌then◌else◌}
+use Rattle.mdmp_wire.specs.declared.header.Header.{Header}
+use Rattle.mdmp_wire.specs.declared.header_fault.HeaderFault.{HeaderFault}
+use Rattle.mdmp_wire.specs.declared.header_fault.HeaderFault.TheVariants.{BadSignature, BadVersion}
+use Rattle.mdmp_wire.specs.Header.{header_at}
+
+-- the bytes `MDMP`, as a number
+abbrev pub minidump_signature : ℕ
+minidump_signature = 0x504D444D
+
+-- the low half of the version; the high half belongs to the producer
+abbrev pub minidump_version : ℕ
+minidump_version = 0xA793
+
+-- what is wrong with a header, or none
+abbrev pub fault_of : Header → Option HeaderFault
+fault_of h =
+    if not (h.signature == minidump_signature) then Some BadSignature
+    else if not (h.version % 65536 == minidump_version) then Some (BadVersion (h.version % 65536))
+    else None
+
+-- what is wrong with the header in the first 32 bytes, or none
+abbrev pub header_fault : List ℕ → Option HeaderFault
+header_fault F = fault_of (header_at F 0)

@@ -1,0 +1,58 @@
+//! The structures of a minidump as they stand in a file, read and written.
+//!
+//! A [`Record`] is a structure of fixed size. The doc of each names the structure of minidumpapiset.h that
+//! it is, and its fields have that structure's order; `read` and `write` are two tables of the same
+//! offsets. The fields of a
+//! record are records too, down to the numbers, which stand with their lowest byte first.
+//!
+//! Names are UTF-16: [`UnitsRef`] lends their units from the bytes of a file and [`Units`] owns
+//! them. [`CodeView`] is what a module tells of its debug information. [`hex_digits`] and
+//! [`UnitsRef::escape_into`] are for printing; nothing else here needs an output.
+//!
+//! ```text
+//! let header = Header::check(&head)?;
+//! let entry = Entry::read(&directory[..Entry::SIZE]);
+//! let name = UnitsRef::over(&units).to_utf8(alloc)?;
+//! ```
+#![tactic(auto)]
+
+mod codeview;
+mod descriptor;
+mod descriptor64;
+mod digits;
+mod entry;
+mod exception;
+mod header;
+mod header_fault;
+mod location;
+mod memory_info;
+mod module;
+mod number;
+mod record;
+mod system;
+mod thread;
+mod units;
+mod units_ref;
+mod unloaded;
+mod version;
+
+pub use crate::codeview::CodeView;
+pub use crate::descriptor::Descriptor;
+pub use crate::descriptor64::Descriptor64;
+pub use crate::digits::hex_digits;
+pub use crate::entry::Entry;
+pub use crate::exception::ExceptionRecord;
+pub use crate::header::Header;
+pub use crate::header_fault::HeaderFault;
+pub use crate::memory_info::MemoryInfoRecord;
+pub use crate::module::ModuleRecord;
+pub use crate::record::{Record, put_at, read_at};
+pub use crate::system::SystemRecord;
+pub use crate::thread::ThreadRecord;
+pub use crate::units::{Units, text_survives_utf16};
+pub use crate::units_ref::UnitsRef;
+pub use crate::unloaded::UnloadedRecord;
+pub use crate::version::VersionInfo;
+
+#[cfg(test)]
+mod tests;

@@ -1,0 +1,100 @@
+//! Units of UTF-16 that are lent.
+ghost use Rattle.std.specs.Prelude.{◌≡◌, ◌<◌, ◌%◌, length, slice_index, IfOk, IsTrue, ◌↔◌, string_bytes};
+ghost use Rattle.mdmp_source.specs.Output.{Puts};
+ghost use Rattle.mdmp_wire.specs.Escape.{escaped, escaped_unit};
+ghost use Rattle.mdmp_wire.specs.Units.{units_of, units_in, units_over, plain_units, utf8_of};
+
+use crate::digits::hex_digits;
+use crate::record::read_at;
+use crate::units::Units;
+use mdmp_source::{Out, OutFailed, write_all};
+use std::alloc::{AllocError, Allocator};
+
+/// Units of UTF-16, as the `Buffer` of a `MINIDUMP_STRING`, over the bytes that they stand in.
+///
+/// Any units will do: a surrogate without its other half is one of them, and so is 0.
+// The bytes of a file need no alignment, so they can't be lent as `&[u16]`.
+#[derive(Clone, Copy)]
+pub struct UnitsRef<'a> {
+    bytes: &'a [u8],
+}
+
+impl<'a> UnitsRef<'a> {
+    /// The units that stand in these bytes, two to each and the lower first.
+    pub fn over(bytes: &'a [u8]) -> Self
+        requires { length bytes.now % 2 ≡ 0 }
+        ensures units { units_in result ≡ units_of bytes.now }
+        // For contracts that compare what was lent: the same bytes, wherever they stand.
+        ensures plain { plain_units result ≡ units_over bytes.now }
+    {
+        UnitsRef { bytes }
+    }
+
+    /// How many units they are: half as many as the bytes.
+    pub fn len(&self) -> usize
+        ensures { result ≡ length (units_in self.now) }
+    {
+        self.bytes.len() / 2
+    }
+
+    /// Whether there are none.
+    pub fn is_empty(&self) -> bool
+        ensures { IsTrue result ↔ (length (units_in self.now) ≡ 0) }
+    {
+        self.len() == 0
+    }
+
+    /// The unit at an index below `len`.
+    pub fn get(&self, index: usize) -> u16
+        requires { index < length (units_in self.now) }
+        ensures { result ≡ slice_index (units_in self.now) index }
+    {
+        read_at(self.bytes, 2 * index)
+    }
+
+    /// The same units in memory of their own.
+    pub fn to_owned<A: Allocator>(&self, alloc: A) -> Result<Units<A>, AllocError>
+        ensures { IfOk result (λ units. units ≡ units_in self.now) }
+    {
+        // `over` was given an even number of bytes, so this is all of them.
+        let end = self.bytes.len() - self.bytes.len() % 2;
+        Units::from_le(alloc, &self.bytes[..end])
+    }
+
+    /// The text of the units, with U+FFFD for each surrogate without its other half.
+    pub fn to_utf8<A: Allocator + Copy>(&self, alloc: A) -> Result<String<A>, AllocError>
+        ensures { IfOk result (λ text. string_bytes text ≡ utf8_of (units_in self.now)) }
+    {
+        let mut units = Vec::with_capacity(alloc, self.len())?;
+        for index in 0..self.len() {
+            units.push(self.get(index))?;
+        }
+        String::from_utf16_lossy(alloc, &units)
+    }
+
+    /// Writes the units as they are printed: the characters from the space to the tilde but the
+    /// backslash as they are, and any other unit as `\u` and four hexadecimal digits, so that a
+    /// surrogate pair is two of them. It takes no memory. Where the output refuses, the first part
+    /// of the text went out.
+    pub fn escape_into<O: Out>(&self, out: &mut O) -> Result<(), OutFailed>
+        ensures { Puts result (O.state out.old) (escaped (units_in self.now)) (O.state out.new) }
+    {
+        for index in 0..self.len() {
+            put_unit(out, self.get(index))?;
+        }
+        Ok(())
+    }
+}
+
+/// Writes a unit as it is printed.
+fn put_unit<O: Out>(out: &mut O, unit: u16) -> Result<(), OutFailed>
+    ensures { Puts result (O.state out.old) (escaped_unit unit) (O.state out.new) }
+{
+    if 0x20 <= unit && unit <= 0x7e && unit != 0x5c {
+        write_all(out, &[unit as u8])
+    } else {
+        let mut escape = *b"\\u0000";
+        hex_digits(u64::from(unit), &mut escape[2..]);
+        write_all(out, &escape)
+    }
+}
