@@ -27,13 +27,19 @@ abbrev pub source_text : SourceFault → List ℕ
 source_text (source.Failed at) = concat (codes "store failed at " ∷ decimal at ∷ [])
 source_text (source.ShortRead at) = concat (codes "store ended at " ∷ decimal at ∷ [])
 
+abbrev pub output_text : List ℕ
+output_text = codes "output failed"
+
 abbrev pub memory_text : List ℕ
 memory_text = codes "out of memory"
+
+abbrev pub version_text : ℕ → List ℕ
+version_text low = concat (codes "bad version 0x" ∷ hex 4 low ∷ [])
 
 abbrev pub opening_text : OpenFault → List ℕ
 opening_text (opening.TooShort size) = concat (codes "file of " ∷ decimal size ∷ codes " bytes is too short" ∷ [])
 opening_text (opening.BadSignature) = codes "bad signature"
-opening_text (opening.BadVersion low) = concat (codes "bad version 0x" ∷ hex 4 low ∷ [])
+opening_text (opening.BadVersion low) = version_text low
 opening_text (opening.DirectoryOutside offset size) =
     concat (codes "directory outside the file: offset " ∷ decimal offset ∷ codes " size " ∷ decimal size ∷ [])
 opening_text (opening.Source fault) = source_text fault
@@ -43,18 +49,18 @@ abbrev pub kind_words : FaultKind → List ℕ
 kind_words kinds.StreamOutside = codes "stream outside the file"
 
 -- ` item <k>`, where the fault is that of a record
-abbrev pub item_parts : Option ℕ → List (List ℕ)
-item_parts None = []
-item_parts (Some k) = codes " item " ∷ decimal k ∷ []
+abbrev pub item_text : Option ℕ → List ℕ
+item_text None = []
+item_text (Some k) = codes " item " ++ decimal k
 
 -- `entry <e>: <words>: offset <n> size <n>`, with ` item <k>` behind the entry for the fault of a record
 abbrev pub list_fault_text : ListFault → List ℕ
-list_fault_text f = concat (codes "entry " ∷ decimal f.entry ∷ (item_parts f.index
-    ++ codes ": " ∷ kind_words f.kind ∷ codes ": offset " ∷ decimal f.offset ∷ codes " size " ∷ decimal f.size ∷ []))
+list_fault_text f = concat (codes "entry " ∷ decimal f.entry ∷ item_text f.index
+    ∷ codes ": " ∷ kind_words f.kind ∷ codes ": offset " ∷ decimal f.offset ∷ codes " size " ∷ decimal f.size ∷ [])
 
 abbrev pub fault_text : ToolFault → List ℕ
 fault_text (tool.Opening fault) = opening_text fault
 fault_text (tool.List fault) = list_fault_text fault
 fault_text (tool.Source fault) = source_text fault
-fault_text (tool.Out) = codes "output failed"
+fault_text (tool.Out) = output_text
 fault_text (tool.Memory) = memory_text

@@ -2,10 +2,10 @@
 ghost use Rattle.std.specs.Prelude.{◌≡◌};
 ghost use Rattle.mdmp_source.specs.Output.{Puts};
 ghost use Rattle.mdmp_tool.specs.Lines.{error_line};
-ghost use Rattle.mdmp_tool.specs.Faults.{source_text, memory_text, opening_text, kind_words, list_fault_text, fault_text};
+ghost use Rattle.mdmp_tool.specs.Faults.{source_text, output_text, memory_text, version_text, opening_text, list_fault_text, fault_text};
 
-use crate::fault::{FaultKind, ListFault, OpenFault, ToolFault};
-use crate::pieces::{Piece, number, put_error_line};
+use crate::fault::{ListFault, OpenFault, ToolFault};
+use crate::pieces::{Piece, put_error_line};
 use mdmp_source::{Out, OutFailed, SourceFault};
 
 /// Writes the line of a fault, `mdmp: ` and what it says. Where the output refuses, the first part
@@ -17,7 +17,7 @@ pub fn fault_line<O: Out>(fault: &ToolFault, out: &mut O) -> Result<(), OutFaile
         ToolFault::Opening(fault) => put_opening_fault(fault, out),
         ToolFault::List(fault) => put_list_fault(fault, out),
         ToolFault::Source(fault) => put_source_fault(fault, out),
-        ToolFault::Out => put_error_line(out, &[Piece::Text("output failed")]),
+        ToolFault::Out => put_output_fault(out),
         ToolFault::Memory => put_memory_fault(out),
     }
 }
@@ -37,10 +37,25 @@ fn put_source_fault<O: Out>(fault: &SourceFault, out: &mut O) -> Result<(), OutF
     }
 }
 
+fn put_output_fault<O: Out>(out: &mut O) -> Result<(), OutFailed>
+    ensures { Puts result (O.state out.old) (error_line output_text) (O.state out.new) }
+{
+    put_error_line(out, &[Piece::Text("output failed")])
+}
+
 fn put_memory_fault<O: Out>(out: &mut O) -> Result<(), OutFailed>
     ensures { Puts result (O.state out.old) (error_line memory_text) (O.state out.new) }
 {
     put_error_line(out, &[Piece::Text("out of memory")])
+}
+
+fn put_bad_version<O: Out>(low: u16, out: &mut O) -> Result<(), OutFailed>
+    ensures { Puts result (O.state out.old) (error_line (version_text low)) (O.state out.new) }
+{
+    put_error_line(
+        out,
+        &[Piece::Text("bad version 0x"), Piece::Hex4(low as u32)],
+    )
 }
 
 fn put_opening_fault<O: Out>(fault: &OpenFault, out: &mut O) -> Result<(), OutFailed>
@@ -56,10 +71,7 @@ fn put_opening_fault<O: Out>(fault: &OpenFault, out: &mut O) -> Result<(), OutFa
             ],
         ),
         OpenFault::BadSignature => put_error_line(out, &[Piece::Text("bad signature")]),
-        OpenFault::BadVersion { low } => put_error_line(
-            out,
-            &[Piece::Text("bad version 0x"), Piece::Hex4(u32::from(*low))],
-        ),
+        OpenFault::BadVersion { low } => put_bad_version(*low, out),
         OpenFault::DirectoryOutside { offset, size } => put_error_line(
             out,
             &[
@@ -74,50 +86,21 @@ fn put_opening_fault<O: Out>(fault: &OpenFault, out: &mut O) -> Result<(), OutFa
     }
 }
 
-/// What a kind of fault is called.
-fn words_of(kind: FaultKind) -> &'static str
-    ensures { result.now ≡ kind_words kind }
-{
-    match kind {
-        FaultKind::StreamOutside => "stream outside the file",
-    }
-}
-
 fn put_list_fault<O: Out>(fault: &ListFault, out: &mut O) -> Result<(), OutFailed>
     ensures { Puts result (O.state out.old) (error_line (list_fault_text fault.now)) (O.state out.new) }
 {
-    let entry = number(fault.entry);
-    let words = Piece::Text(words_of(fault.kind));
-    let offset = Piece::Decimal(fault.offset);
-    let size = Piece::Decimal(fault.size);
-    match fault.index {
-        None => put_error_line(
-            out,
-            &[
-                Piece::Text("entry "),
-                entry,
-                Piece::Text(": "),
-                words,
-                Piece::Text(": offset "),
-                offset,
-                Piece::Text(" size "),
-                size,
-            ],
-        ),
-        Some(index) => put_error_line(
-            out,
-            &[
-                Piece::Text("entry "),
-                entry,
-                Piece::Text(" item "),
-                Piece::Decimal(index),
-                Piece::Text(": "),
-                words,
-                Piece::Text(": offset "),
-                offset,
-                Piece::Text(" size "),
-                size,
-            ],
-        ),
-    }
+    put_error_line(
+        out,
+        &[
+            Piece::Text("entry "),
+            Piece::Decimal(fault.entry as u64),
+            Piece::Item(fault.index),
+            Piece::Text(": "),
+            Piece::Kind(fault.kind),
+            Piece::Text(": offset "),
+            Piece::Decimal(fault.offset),
+            Piece::Text(" size "),
+            Piece::Decimal(fault.size),
+        ],
+    )
 }

@@ -3,7 +3,7 @@ ghost use Rattle.mdmp_source.specs.Output.{Puts};
 ghost use Rattle.mdmp_tool.specs.Lines.{dump_line, stream_line};
 
 use crate::directory::StreamItem;
-use crate::pieces::{Piece, number, put_pieces};
+use crate::pieces::{Piece, put_pieces};
 use mdmp_source::{Out, OutFailed};
 use mdmp_wire::Header;
 
@@ -17,13 +17,13 @@ pub(crate) fn put_dump_line<O: Out>(header: &Header, out: &mut O) -> Result<(), 
             Piece::Text("dump version 0x"),
             Piece::Hex4(header.version / 65536),
             Piece::Text(" streams "),
-            number(header.number_of_streams),
+            Piece::Decimal(header.number_of_streams as u64),
             Piece::Text(" directory "),
-            number(header.stream_directory_rva),
+            Piece::Decimal(header.stream_directory_rva as u64),
             Piece::Text(" checksum "),
-            number(header.checksum),
+            Piece::Decimal(header.checksum as u64),
             Piece::Text(" time "),
-            number(header.time_date_stamp),
+            Piece::Decimal(header.time_date_stamp as u64),
             Piece::Text(" flags 0x"),
             Piece::Hex16(header.flags),
             Piece::Text("\n"),
@@ -39,13 +39,13 @@ pub(crate) fn put_stream_line<O: Out>(item: &StreamItem, out: &mut O) -> Result<
         out,
         &[
             Piece::Text("stream "),
-            number(item.entry),
+            Piece::Decimal(item.entry as u64),
             Piece::Text(" type "),
-            number(item.stream_type),
+            Piece::Decimal(item.stream_type as u64),
             Piece::Text(" size "),
-            number(item.location.size),
+            Piece::Decimal(item.location.size as u64),
             Piece::Text(" rva "),
-            number(item.location.rva),
+            Piece::Decimal(item.location.rva as u64),
             Piece::Text("\n"),
         ],
     )

@@ -1,9 +1,12 @@
 //! A line as its pieces.
-ghost use Rattle.std.specs.Prelude.{◌≡◌};
+ghost use Rattle.std.specs.Prelude.{◌≡◌, Some};
+ghost use Rattle.std.specs.Fmt.{decimal};
 ghost use Rattle.mdmp_source.specs.Output.{Puts};
+ghost use Rattle.mdmp_tool.specs.Faults.{item_text, kind_words};
 ghost use Rattle.mdmp_tool.specs.Pieces.{piece_text, text_of};
 ghost use Rattle.mdmp_tool.specs.Lines.{error_line};
 
+use crate::fault::FaultKind;
 use itoa::Buffer;
 use mdmp_source::{Out, OutFailed, write_all};
 use mdmp_wire::hex_digits;
@@ -16,13 +19,34 @@ pub(crate) enum Piece<'a> {
     Decimal(u64),
     Hex4(u32),
     Hex16(u64),
+    /// The number of a record in its stream, where the fault is a record's.
+    Item(Option<u64>),
+    Kind(FaultKind),
 }
 
-/// A number of 32 bits as a piece.
-pub(crate) fn number<'a>(number: u32) -> Piece<'a>
-    ensures { result ≡ Piece.Decimal number }
+/// Writes a number in decimal digits.
+fn put_decimal<O: Out>(out: &mut O, number: u64) -> Result<(), OutFailed>
+    ensures { Puts result (O.state out.old) (decimal number) (O.state out.new) }
 {
-    Piece::Decimal(u64::from(number))
+    let mut buffer = Buffer::new();
+    write_all(out, buffer.format(number).as_bytes())
+}
+
+/// Writes the number of a record in its stream.
+fn put_item<O: Out>(out: &mut O, index: u64) -> Result<(), OutFailed>
+    ensures { Puts result (O.state out.old) (item_text (Some index)) (O.state out.new) }
+{
+    write_all(out, b" item ")?;
+    put_decimal(out, index)
+}
+
+/// What a kind of fault is called.
+fn words_of(kind: FaultKind) -> &'static str
+    ensures { result.now ≡ kind_words kind }
+{
+    match kind {
+        FaultKind::StreamOutside => "stream outside the file",
+    }
 }
 
 /// Writes a piece.
@@ -31,10 +55,7 @@ pub(crate) fn put_piece<O: Out>(out: &mut O, piece: Piece<'_>) -> Result<(), Out
 {
     match piece {
         Piece::Text(text) => write_all(out, text.as_bytes()),
-        Piece::Decimal(number) => {
-            let mut buffer = Buffer::new();
-            write_all(out, buffer.format(number).as_bytes())
-        }
+        Piece::Decimal(number) => put_decimal(out, number),
         Piece::Hex4(number) => {
             let mut digits = [0; 4];
             hex_digits(u64::from(number), &mut digits);
@@ -45,6 +66,9 @@ pub(crate) fn put_piece<O: Out>(out: &mut O, piece: Piece<'_>) -> Result<(), Out
             hex_digits(number, &mut digits);
             write_all(out, &digits)
         }
+        Piece::Item(None) => Ok(()),
+        Piece::Item(Some(index)) => put_item(out, index),
+        Piece::Kind(kind) => write_all(out, words_of(kind).as_bytes()),
     }
 }
 
