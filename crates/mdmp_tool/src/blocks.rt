@@ -6,8 +6,8 @@ ghost use Rattle.mdmp_tool.specs.Blockwise.{ListsThrough, IsFlushed};
 ghost use Rattle.mdmp_tool.specs.Causes.{IsNoSourceFault, HasSourceCause, HasOutCause, IsRefusal};
 
 use crate::fault::{OpenFault, ToolFault};
-use crate::limits::Limits;
 use crate::list::list_source;
+use mdmp_lister::Limits;
 use mdmp_source::{BlockOut, Out, OutFailed, Source, Store};
 use std::alloc::Allocator;
 

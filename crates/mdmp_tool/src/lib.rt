@@ -11,7 +11,6 @@ mod blocks;
 mod directory;
 mod fault;
 mod fault_lines;
-mod limits;
 mod lines;
 mod list;
 mod opening;
@@ -21,9 +20,9 @@ mod words;
 pub use crate::blocks::list_in_blocks;
 pub use crate::fault::{FaultKind, ListFault, OpenFault, ToolFault, status};
 pub use crate::fault_lines::fault_line;
-pub use crate::limits::Limits;
 pub use crate::list::{list_source, run_list};
 pub use crate::words::run_words;
+pub use mdmp_lister::Limits;
 
 #[cfg(test)]
 mod tests;

@@ -9,9 +9,9 @@ ghost use Rattle.mdmp_tool.specs.Causes.{IsNoSourceFault, HasSourceCause, HasOut
 
 use crate::directory::list_block;
 use crate::fault::{OpenFault, ToolFault};
-use crate::limits::Limits;
 use crate::lines::put_dump_line;
 use crate::opening::open;
+use mdmp_lister::Limits;
 use mdmp_source::{Out, OutFailed, Source, Store};
 use mdmp_wire::{Entry, Header, Record};
 use std::alloc::Allocator;

@@ -6,8 +6,8 @@ ghost use Rattle.mdmp_tool.specs.Words.{IsList, name_of, IsTold, IsBadLine, Ends
 use crate::blocks::list_in_blocks;
 use crate::fault::{ToolFault, status};
 use crate::fault_lines::fault_line;
-use crate::limits::Limits;
 use crate::pieces::{Piece, put_error_line};
+use mdmp_lister::Limits;
 use mdmp_source::{BlockOut, FileStore, Out, Source};
 use std::alloc::Allocator;
 use std::rt::Files;

@@ -1,19 +1,8 @@
-//! Limits, and what is said of faults.
+//! What is said of faults.
 use super::files::outside;
-use crate::{Limits, OpenFault, ToolFault, fault_line, status};
+use crate::{OpenFault, ToolFault, fault_line, status};
 use mdmp_source::{PatchyOut, SourceFault};
 use std::test::Fail;
-
-#[test]
-fn limits_have_bounds(rt: HostRuntime) {
-    assert!(rt; Limits::new(167, 0).is_none());
-    assert!(rt; Limits::new((1 << 30) + 1, 0).is_none());
-    assert!(rt; Limits::new(168, (1 << 30) + 1).is_none());
-    assert!(rt; Limits::new(168, 0).is_some());
-    assert!(rt; Limits::new(1 << 30, 1 << 30).is_some());
-    let standard = Limits::default();
-    assert_eq!(rt; (standard.window, standard.name), (65536, 4096));
-}
 
 #[test]
 fn faults_have_a_status_and_a_line(rt: HostRuntime) -> Result<(), Fail> {

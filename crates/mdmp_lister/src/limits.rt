@@ -1,7 +1,7 @@
-//! How much memory a run may hold.
+//! How much memory a lister may hold.
 ghost use Rattle.std.specs.Prelude.{◌≤◌};
 
-/// How many bytes a run may hold for the file's records, and for a name.
+/// How many bytes a lister holds for the file's records, and for a name.
 #[derive(Clone, Copy, Debug, PartialEq, Eq)]
 pub struct Limits {
     /// The window through which the file is read, in bytes.

@@ -1,0 +1,5 @@
+pub mod Files
+pub mod Offsets
+pub mod Room
+pub mod Rows
+pub mod Runs

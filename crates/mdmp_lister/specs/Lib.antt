@@ -1,0 +1,10 @@
+pub mod Bounds
+pub mod Counts
+pub mod Extents
+pub mod Items
+pub mod Listing
+pub mod Names
+pub mod Opening
+pub mod Plain
+pub mod Ranges
+pub mod Shapes

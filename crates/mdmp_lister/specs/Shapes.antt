@@ -1,0 +1,112 @@
+-- Where the records of a stream stand.
+use Rattle.std.specs.Prelude.{◌≤◌, ◌<◌, ℕ, ◌+◌, ◌*◌, List, length, Option, Some, None, Result, Ok, Err, Bool, is_some, ◌==◌, ◌||◌, ◌&&◌, nat_lt, if◌then◌else◌}
+use Rattle.mdmp_source.specs.Range.{is_inside}
+use Rattle.mdmp_wire.specs.declared.entry.Entry.{Entry}
+use Rattle.mdmp_wire.specs.Number.{number_at}
+use Rattle.mdmp_lister.specs.declared.kind.Kind.{Kind}
+use Rattle.mdmp_lister.specs.declared.kind.Kind.TheVariants as kinds
+use Rattle.mdmp_lister.specs.declared.shape.Shape.{Shape}
+use Rattle.mdmp_lister.specs.declared.fault.Fault.{Fault}
+use Rattle.mdmp_lister.specs.declared.fault.FaultKind.TheVariants.{StreamOutside, ShortStream, BadHeaderSize, BadEntrySize, BadCount}
+
+-- the kind of a stream type whose records are known
+abbrev pub kind_of : ℕ → Option Kind
+kind_of t =
+    if t == 3 then Some kinds.Threads
+    else if t == 4 then Some kinds.Modules
+    else if t == 5 then Some kinds.Memory
+    else if t == 6 then Some kinds.Exception
+    else if t == 7 then Some kinds.System
+    else if t == 9 then Some kinds.Memory64
+    else if t == 14 then Some kinds.Unloaded
+    else if t == 16 then Some kinds.MemoryInfo
+    else None
+
+abbrev pub is_known : ℕ → Bool
+is_known t = is_some (kind_of t)
+
+-- how many bytes a record has
+abbrev pub record_size : Kind → ℕ
+record_size kinds.Threads = 48
+record_size kinds.Modules = 108
+record_size kinds.Memory = 16
+record_size kinds.Exception = 168
+record_size kinds.System = 56
+record_size kinds.Memory64 = 16
+record_size kinds.Unloaded = 24
+record_size kinds.MemoryInfo = 48
+
+-- a list of records of the same size behind a u32 that counts them, padded to 8 bytes where the stream has
+-- exactly 4 bytes more than it needs
+abbrev pub counted : List ℕ → ℕ → ℕ → ℕ → Result Shape Fault
+counted F at size record_size =
+    let count = number_at F at 4 in
+    if nat_lt size 4 then Err (record { kind = ShortStream; offset = at; size = size })
+    else if nat_lt size (4 + count * record_size) then Err (record { kind = BadCount; offset = at; size = count })
+    else Ok (record { first = if size == 8 + count * record_size then 8 else 4; stride = record_size; count = count })
+
+-- one record
+abbrev pub single : ℕ → ℕ → ℕ → Result Shape Fault
+single at size record_size =
+    if nat_lt size record_size then Err (record { kind = ShortStream; offset = at; size = size })
+    else Ok (record { first = 0; stride = record_size; count = 1 })
+
+-- ranges behind a u64 that counts them and a u64 that says where their bytes begin
+abbrev pub ranges64 : List ℕ → ℕ → ℕ → Result Shape Fault
+ranges64 F at size =
+    let count = number_at F at 8 in
+    if nat_lt size 16 then Err (record { kind = ShortStream; offset = at; size = size })
+    else if nat_lt size (16 + 16 * count) then Err (record { kind = BadCount; offset = at; size = count })
+    else Ok (record { first = 16; stride = 16; count = count })
+
+-- records behind a head that says its own size, theirs, and how many there are
+abbrev pub sized : List ℕ → ℕ → ℕ → ℕ → ℕ → ℕ → Result Shape Fault
+sized F at size head record_size count =
+    let first = number_at F at 4 in
+    let stride = number_at F (at + 4) 4 in
+    if nat_lt size head then Err (record { kind = ShortStream; offset = at; size = size })
+    else if nat_lt first head || nat_lt size first then Err (record { kind = BadHeaderSize; offset = at; size = first })
+    else if nat_lt 0 count && nat_lt stride record_size then Err (record { kind = BadEntrySize; offset = at + 4; size = stride })
+    else if nat_lt size (first + count * stride) then Err (record { kind = BadCount; offset = at + 8; size = count })
+    else Ok (record { first = first; stride = stride; count = count })
+
+-- the shape of a stream of this kind, of size bytes at `at`
+unfoldable pub shape_of : List ℕ → ℕ → ℕ → Kind → Result Shape Fault
+shape_of F at size kinds.Threads = counted F at size 48
+shape_of F at size kinds.Modules = counted F at size 108
+shape_of F at size kinds.Memory = counted F at size 16
+shape_of F at size kinds.Exception = single at size 168
+shape_of F at size kinds.System = single at size 56
+shape_of F at size kinds.Memory64 = ranges64 F at size
+shape_of F at size kinds.Unloaded = sized F at size 12 24 (number_at F (at + 8) 4)
+shape_of F at size kinds.MemoryInfo = sized F at size 16 48 (number_at F (at + 8) 8)
+
+-- the records of a stream of `size` bytes lie inside it, and no two overlap: a law of every shape
+pub record FitsIn (size : ℕ) (kind : Kind) (shape : Shape) : Type 0 where
+  pub records : shape.first + shape.count * shape.stride ≤ size
+  pub stride : 0 < shape.count → record_size kind ≤ shape.stride
+
+-- ---- entries of any type
+
+-- the fault of an entry whose location is not inside the file, or none: that of an unused entry is not looked at
+abbrev pub location_fault : List ℕ → Entry → Option Fault
+location_fault F e =
+    if e.stream_type == 0 || is_inside e.location.rva e.location.size (length F) then None
+    else Some (record { kind = StreamOutside; offset = e.location.rva; size = e.location.size })
+
+-- how many records a shape has, or its fault
+abbrev pub records_in : Result Shape Fault → Result ℕ Fault
+records_in (Ok shape) = Ok shape.count
+records_in (Err fault) = Err fault
+
+-- an unused entry has none, and neither has an opaque stream
+abbrev pub known_count : List ℕ → ℕ → ℕ → Option Kind → Result ℕ Fault
+known_count F at size (Some kind) = records_in (shape_of F at size kind)
+known_count F at size None = Ok 0
+
+-- how many records an entry has, or its fault
+abbrev pub record_count : List ℕ → Entry → Result ℕ Fault
+record_count F e = behind (location_fault F e) where
+  behind : Option Fault → Result ℕ Fault
+  behind (Some fault) = Err fault
+  behind None = known_count F e.location.rva e.location.size (kind_of e.stream_type)

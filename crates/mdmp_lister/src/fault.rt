@@ -1,0 +1,94 @@
+//! What is wrong with a file, and where.
+
+use mdmp_source::SourceFault;
+
+/// What is wrong with an entry of the directory, or with one of its items. Each kind says which
+/// bytes or number its offset and size are.
+#[derive(Clone, Copy, Debug, PartialEq, Eq)]
+pub enum FaultKind {
+    /// The stream's location is not inside the file: the offset and the size are that location. The
+    /// location of an unused entry is not tested.
+    StreamOutside,
+    /// The stream is shorter than the head of its type: the offset and the size are its location.
+    ShortStream,
+    /// `SizeOfHeader` is less than that head has or more than the stream has: the offset is where
+    /// it stands, and the size is it.
+    BadHeaderSize,
+    /// `SizeOfEntry` is less than a record has, and there is a record: the offset is where it
+    /// stands, and the size is it.
+    BadEntrySize,
+    /// The stream is shorter than its records need: the offset is where their count stands, and the
+    /// size is that count.
+    BadCount,
+    /// The `Length` of a name is not inside the file: the offset is where it should stand, and the
+    /// size is 4.
+    NameLengthOutside,
+    /// The `Length` of a name is odd: the offset is where it stands, and the size is it.
+    NameOdd,
+    /// The `Buffer` of a name is not inside the file: the offset and the size are its bytes.
+    NameUnitsOutside,
+    /// The file's bytes were not obtained: the offset is that of the first byte that was not, and
+    /// the size is 0. No definition of a listing gives it.
+    Source(SourceFault),
+}
+
+/// A fault, and the bytes or the number that it names.
+#[derive(Clone, Copy, Debug, PartialEq, Eq)]
+pub struct Fault {
+    /// What is wrong.
+    pub kind: FaultKind,
+    /// An offset from the start of the file, in bytes.
+    pub offset: u64,
+    /// A number of bytes, or the number that the kind says.
+    pub size: u64,
+}
+
+/// The fault at which a listing ends, and the entry that it belongs to.
+#[derive(Clone, Copy, Debug, PartialEq, Eq)]
+pub struct ListFault {
+    /// The number of the entry in the directory, from 0.
+    pub entry: u32,
+    /// The index of the item in whose place the fault stands, from 0: of the item whose name is
+    /// bad. None where the whole stream is.
+    pub index: Option<u64>,
+    /// What is wrong.
+    pub kind: FaultKind,
+    /// An offset from the start of the file, in bytes.
+    pub offset: u64,
+    /// A number of bytes, or the number that the kind says.
+    pub size: u64,
+}
+
+/// Why a file can't be listed at all. The header is tested first, then where the directory stands,
+/// then how many ranges of memory there are.
+#[derive(Clone, Copy, Debug, PartialEq, Eq)]
+pub enum OpenFault {
+    /// The file has fewer bytes than a header.
+    TooShort {
+        /// How many bytes it has.
+        size: u64,
+    },
+    /// The first four bytes are not `MDMP`: `MINIDUMP_SIGNATURE`.
+    BadSignature,
+    /// The low half of `Version` is not 0xa793: `MINIDUMP_VERSION`.
+    BadVersion {
+        /// The low half that stands there.
+        low: u16,
+    },
+    /// The directory is not inside the file.
+    DirectoryOutside {
+        /// `StreamDirectoryRva`, an offset from the start of the file.
+        offset: u64,
+        /// How many bytes the directory has: 12 for each entry.
+        size: u64,
+    },
+    /// The header, the directory or the head of a memory list was not obtained.
+    Source(SourceFault),
+    /// The allocator refused memory.
+    Memory,
+    /// The chosen memory lists have more ranges than 2^28.
+    TooManyRanges {
+        /// How many they have, each list as often as an entry names it.
+        count: u128,
+    },
+}

@@ -1,0 +1,56 @@
+//! Limits, and which entries are listed.
+use crate::{Choice, Kind, Limits, TypeSet};
+use std::test::Fail;
+
+#[test]
+fn limits_have_bounds(rt: HostRuntime) {
+    assert!(rt; Limits::new(167, 0).is_none());
+    assert!(rt; Limits::new((1 << 30) + 1, 0).is_none());
+    assert!(rt; Limits::new(168, (1 << 30) + 1).is_none());
+    assert!(rt; Limits::new(168, 0).is_some());
+    assert!(rt; Limits::new(1 << 30, 1 << 30).is_some());
+    let standard = Limits::default();
+    assert_eq!(rt; (standard.window, standard.name), (65536, 4096));
+}
+
+#[test]
+fn one_to_sixteen_types_are_a_set(rt: HostRuntime) -> Result<(), Fail> {
+    let types: [u32; 17] = [3, 4, 5, 6, 7, 9, 14, 16, 0, 10, 11, 12, 13, 15, 17, 3, 24];
+    assert!(rt; TypeSet::new(&[]).is_none());
+    assert!(rt; TypeSet::new(&types).is_none());
+    let one = TypeSet::new(&types[..1]).ok_or("one")?;
+    assert_eq!(rt; one.types(), &types[..1]);
+    let most = TypeSet::new(&types[..16]).ok_or("most")?;
+    assert_eq!(rt; most.types(), &types[..16]);
+    Ok(())
+}
+
+#[test]
+fn choice_has_its_types(rt: HostRuntime) -> Result<(), Fail> {
+    let choice = Choice::Types(TypeSet::new(&[7, 0, 7]).ok_or("types")?);
+    assert!(rt; choice.has(7));
+    assert!(rt; choice.has(0));
+    assert!(rt; !choice.has(3));
+    assert!(rt; Choice::All.has(u32::MAX));
+    Ok(())
+}
+
+#[test]
+fn eight_stream_types_have_a_kind(rt: HostRuntime) {
+    let known = [
+        (3, Kind::Threads),
+        (4, Kind::Modules),
+        (5, Kind::Memory),
+        (6, Kind::Exception),
+        (7, Kind::System),
+        (9, Kind::Memory64),
+        (14, Kind::Unloaded),
+        (16, Kind::MemoryInfo),
+    ];
+    for (stream_type, kind) in known {
+        assert_eq!(rt; Kind::of_type(stream_type), Some(kind));
+    }
+    for stream_type in [0, 1, 8, 10, 15, 24, 0x10000, u32::MAX] {
+        assert!(rt; Kind::of_type(stream_type).is_none());
+    }
+}
