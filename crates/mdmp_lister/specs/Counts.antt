@@ -44,7 +44,7 @@ ranges_in F e (Some Memory) = count_in (shape_of F e.location.rva e.location.siz
 ranges_in F e (Some Memory64) = count_in (shape_of F e.location.rva e.location.size Memory64)
 ranges_in F e _ = 0
 
--- how many ranges the chosen memory lists have that lie inside
+-- how many ranges the chosen memory lists have together: lists that lie inside and have no fault, and each range of them
 abbrev pub range_count : List ℕ → Choice → ℕ
 range_count F choice = sum_by (λ x. ranges_in F x.entry (kind_of x.entry.stream_type)) (filter (is_listed F) (chosen F choice))
 

@@ -1,4 +1,4 @@
--- The name that stands at an address of a file.
+-- The name that stands at an offset of a file.
 use Rattle.std.specs.Prelude.{ℕ, ◌+◌, ◌%◌, List, length, Result, Ok, Err, not, ◌==◌, nat_lt, if◌then◌else◌}
 use Rattle.mdmp_source.specs.Range.{is_inside}
 use Rattle.mdmp_wire.specs.Number.{number_at, bytes_at}

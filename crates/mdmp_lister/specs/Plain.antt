@@ -19,7 +19,7 @@ pub record Gathers (old new : List Item) (answer : Option ListFault) (run : Run)
 pub record HasRecords (F : List ℕ) (at : ℕ) (kind : Kind) (shape : Shape) : Type 0 where
   -- each of them does
   pub room : (k : ℕ) → k < shape.count → at + shape.first + k * shape.stride + record_size kind ≤ length F
-  -- and no two overlap, nor does the head of the list
+  -- and what a 64-bit memory list has before record k, its head and k descriptors, does not reach past that record
   pub behind : (k : ℕ) → k < shape.count → at + 16 + 16 * k ≤ at + shape.first + k * shape.stride + record_size kind
 
 -- F has a header, and its directory lies inside

@@ -9,7 +9,7 @@ pub enum FaultKind {
     /// The stream's location is not inside the file: the offset and the size are that location. The
     /// location of an unused entry is not tested.
     StreamOutside,
-    /// The stream is shorter than the head of its type: the offset and the size are its location.
+    /// The stream is shorter than the head of its type, or than its one record: the offset and the size are its location.
     ShortStream,
     /// `SizeOfHeader` is less than that head has or more than the stream has: the offset is where
     /// it stands, and the size is it.
@@ -86,7 +86,7 @@ pub enum OpenFault {
     Source(SourceFault),
     /// The allocator refused memory.
     Memory,
-    /// The chosen memory lists have more ranges than 2^28.
+    /// The chosen memory lists that lie inside and have no fault have more ranges than 2^28.
     TooManyRanges {
         /// How many they have, each list as often as an entry names it.
         count: u128,

@@ -1,8 +1,9 @@
 //! The listing of a minidump: which records a file has, and where its first bad location is.
 //!
 //! A listing gives an [`Item`] for each chosen entry of the directory, in the order of the
-//! directory, and behind it one for each record of that entry's stream. It ends where the file
-//! does or at the first [`ListFault`], which names the entry, the item and the bytes that are bad.
+//! directory, and behind it one for each record of that entry's stream. It ends behind the last
+//! chosen entry, or at the first [`ListFault`], which names the entry, the item and the bytes that
+//! are bad.
 //! The definitions in `specs/` say exactly which items those are: `specs/Listing.antt` first, and
 //! under it `Shapes` (where the records of a stream stand), `Items` (what a record gives), `Names`
 //! and `Opening` (which files can't be listed at all).

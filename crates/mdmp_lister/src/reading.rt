@@ -1,4 +1,4 @@
-//! The name at an address, read from a whole file.
+//! The name at an RVA, read from a whole file.
 ghost use Rattle.std.specs.Prelude.{◌≡◌, ◌<◌, ◌^◌, length};
 ghost use Rattle.std.specs.Result.{result_map_both};
 ghost use Rattle.mdmp_lister.specs.Names.{name_at, plain_name};

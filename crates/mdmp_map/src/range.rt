@@ -5,7 +5,7 @@
 pub struct Range {
     /// Its first address, of the dumped process: `StartOfMemoryRange`.
     pub start: u64,
-    /// How many addresses it has, at least one.
+    /// How many bytes it has, at least one. Addresses end at 2^64 - 1, so it may have fewer of them.
     pub length: u64,
     /// Where the byte of its first address stands, an offset from the start of the file.
     pub offset: u64,

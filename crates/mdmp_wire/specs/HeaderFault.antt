@@ -1,5 +1,5 @@
 -- What makes a file a minidump.
-use Rattle.std.specs.Prelude.{ℕ, ◌%◌, List, Option, Some, None, not, ◌==◌, if◌then◌else◌}
+use Rattle.std.specs.Prelude.{◌≡◌, ◌≤◌, ℕ, ◌%◌, List, length, Option, Some, None, not, ◌==◌, if◌then◌else◌}
 use Rattle.mdmp_wire.specs.declared.header.Header.{Header}
 use Rattle.mdmp_wire.specs.declared.header_fault.HeaderFault.{HeaderFault}
 use Rattle.mdmp_wire.specs.declared.header_fault.HeaderFault.TheVariants.{BadSignature, BadVersion}
@@ -23,3 +23,10 @@ fault_of h =
 -- what is wrong with the header in the first 32 bytes, or none
 abbrev pub header_fault : List ℕ → Option HeaderFault
 header_fault F = fault_of (header_at F 0)
+
+-- F begins with the header h of a minidump
+pub record HasHeader (F : List ℕ) (h : Header) : Type 0 where
+  pub room : 32 ≤ length F
+  pub signature : h.signature ≡ minidump_signature
+  pub version : h.version % 65536 ≡ minidump_version
+  pub fields : h ≡ header_at F 0

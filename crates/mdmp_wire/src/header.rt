@@ -24,8 +24,7 @@ pub struct Header {
 }
 
 impl Header {
-    ghost use Rattle.mdmp_wire.specs.Header.{header_at};
-    ghost use Rattle.mdmp_wire.specs.HeaderFault.{header_fault};
+    ghost use Rattle.mdmp_wire.specs.HeaderFault.{HasHeader, header_fault};
 
     /// The bytes `MDMP` as a number: `MINIDUMP_SIGNATURE`.
     pub const SIGNATURE: u32 = 0x504d_444d;
@@ -39,7 +38,7 @@ impl Header {
     pub fn check(bytes: &[u8]) -> Result<Header, HeaderFault>
         requires { length bytes.now ≡ 32 }
         ensures { MatchResult result
-            (λ header. (header_fault bytes.now ≡ None) × (header ≡ header_at bytes.now 0))
+            (λ header. (header_fault bytes.now ≡ None) × HasHeader bytes.now header)
             (λ fault. header_fault bytes.now ≡ Some fault) }
     {
         let header = Header::read(bytes);

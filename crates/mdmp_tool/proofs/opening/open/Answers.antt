@@ -22,7 +22,7 @@ returns-then-not-inside-clause-opens g c = λ file known.
     let h = c.in-Ok.header in
     let outside : is_inside h.stream_directory_rva (12 * h.number_of_streams) c.size-size.result ≡ false = (rw (c.from-offset.ensures, c.from.ensures) at (sym c.inside.ensures.value)) ∙ search rules in
     rw (c.from-offset.ensures, c.from.ensures)
-    (opening_fault-directory file c.fetch.new.out h c.size-size.result len c.if-size.false c.fetch.auto.out fetched c.in-Ok.ensures.0 c.in-Ok.ensures.1 ∙ directory_fault-outside h c.size-size.result outside)
+    (opening_fault-directory file c.fetch.new.out h c.size-size.result len c.if-size.false c.fetch.auto.out fetched c.in-Ok.ensures.0 c.in-Ok.ensures.1.fields ∙ directory_fault-outside h c.size-size.result outside)
 
 pub returns-clause-opens : goal.returns-clause-opens
 returns-clause-opens g c = λ file known.
@@ -30,6 +30,6 @@ returns-clause-opens g c = λ file known.
     let fetched : c.fetch.new.out ≡ bytes_at file 0 (length c.fetch.new.out) = rw known at c.in_default.ensures.bytes in
     let h = c.in-Ok.header in
     let inside : is_inside h.stream_directory_rva (12 * h.number_of_streams) c.size-size.result ≡ true = (rw (c.from-offset.ensures, c.from.ensures) at (sym c.inside.ensures.value)) ∙ search rules in (
-      opening_fault-directory file c.fetch.new.out h c.size-size.result len c.if-size.false c.fetch.auto.out fetched c.in-Ok.ensures.0 c.in-Ok.ensures.1 ∙ directory_fault-inside h c.size-size.result inside,
-      c.in-Ok.ensures.1 ∙ header_at-fetched file c.fetch.new.out c.fetch.auto.out fetched,
+      opening_fault-directory file c.fetch.new.out h c.size-size.result len c.if-size.false c.fetch.auto.out fetched c.in-Ok.ensures.0 c.in-Ok.ensures.1.fields ∙ directory_fault-inside h c.size-size.result inside,
+      c.in-Ok.ensures.1.fields ∙ header_at-fetched file c.fetch.new.out c.fetch.auto.out fetched,
     )
