@@ -1,5 +1,6 @@
 -- The bytes of worked files.
-use Rattle.std.specs.Prelude.{ℕ, List, [], ◌∷◌, ◌++◌, codes, replicate}
+use Rattle.std.specs.Prelude.{ℕ, List, [], ◌∷◌, ◌++◌, codes, take, drop, replicate}
+use Rattle.std.specs.List.{concat}
 use Rattle.mdmp_wire.specs.Number.{le, zeros}
 
 -- a system with the service pack's name: 136 bytes
@@ -53,9 +54,21 @@ thread_list_file size padding = head 1 32 ++ entry 3 size 44 ++ le 4 1 ++ zeros 
 abbrev pub three_modules_file : List ℕ
 three_modules_file = head 1 32 ++ entry 4 328 44 ++ le 4 3 ++ module_named 1 0 ++ module_named 2 0 ++ module_named 3 0
 
+-- a hundred modules without names
+abbrev pub hundred_modules_file : List ℕ
+hundred_modules_file = head 1 32 ++ entry 4 10804 44 ++ le 4 100 ++ replicate 10800 0
+
+-- so many entries that name one list of a hundred threads, which stands at `at` behind them
+abbrev pub many_entries_file : ℕ → ℕ → List ℕ
+many_entries_file entries at = head entries 32 ++ concat (replicate entries (entry 3 4804 at)) ++ le 4 100 ++ replicate 4800 0
+
 -- two unloaded modules, 1000 bytes apart
 abbrev pub spread_file : List ℕ
 spread_file = head 1 32 ++ entry 14 2012 44 ++ le 4 12 ++ le 4 1000 ++ le 4 2 ++ unloaded_named 1 0 ++ replicate 976 0 ++ unloaded_named 2 0 ++ replicate 976 0
+
+-- the same 24 bytes apart
+abbrev pub close_file : List ℕ
+close_file = head 1 32 ++ entry 14 60 44 ++ le 4 12 ++ le 4 24 ++ le 4 2 ++ unloaded_named 1 0 ++ unloaded_named 2 0
 
 -- an unloaded module whose name stands at 80, with these bytes there
 abbrev pub named_file : ℕ → List ℕ → List ℕ
@@ -79,6 +92,22 @@ overlapping_file = head 1 32 ++ entry 5 36 44 ++ le 4 2 ++ range 0x1000 4 80 ++ 
 
 abbrev pub exchanged_file : List ℕ
 exchanged_file = head 1 32 ++ entry 5 36 44 ++ le 4 2 ++ range 0x1002 4 84 ++ range 0x1000 4 80 ++ codes "ABCDwxyz"
+
+-- three unused entries, and two ranges of memory without bytes
+abbrev pub four_entries_file : List ℕ
+four_entries_file = head 4 32 ++ zeros 36 ++ entry 5 36 80 ++ le 4 2 ++ zeros 32
+
+-- three ranges of memory: absent, outside and inside
+abbrev pub three_ranges_file : List ℕ
+three_ranges_file = head 1 32 ++ entry 5 52 44 ++ le 4 3 ++ range 0x1000 4 0 ++ range 0x2000 4 97 ++ range 0x3000 4 96 ++ codes "ABCD"
+
+-- a range of memory that passes the last address
+abbrev pub last_address_file : List ℕ
+last_address_file = head 1 32 ++ entry 5 20 44 ++ le 4 1 ++ range 0xFFFFFFFFFFFFFFF8 16 64 ++ codes "ABCDEFGHIJKLMNOP"
+
+-- sixteen entries that name one list of seventeen ranges of memory
+abbrev pub sixteen_entries_file : List ℕ
+sixteen_entries_file = head 16 32 ++ concat (replicate 16 (entry 5 276 224)) ++ le 4 17 ++ zeros 272
 
 -- a thread whose stack is absent, and whose context is the byte behind its list
 abbrev pub absent_stack_file : List ℕ
@@ -111,3 +140,16 @@ codeview_bytes = 82 ∷ 83 ∷ 68 ∷ 83 ∷ 51 ∷ 34 ∷ 17 ∷ 0 ∷ 85 ∷ 6
 -- a module with that record behind it
 abbrev pub codeview_file : List ℕ
 codeview_file = head 1 32 ++ entry 4 112 44 ++ le 4 1 ++ zeros 76 ++ location 30 156 ++ zeros 24 ++ codeview_bytes
+
+-- a module whose CodeView record is absent, and whose other debug record lies outside
+abbrev pub misc_file : List ℕ
+misc_file = head 1 32 ++ entry 4 112 44 ++ le 4 1 ++ zeros 76 ++ location 30 0 ++ location 30 0xFFFFFFFF ++ zeros 16
+
+-- a system with its name, a thread, no modules, an exception, no memory and an opaque stream: 444 bytes
+abbrev pub six_streams_file : List ℕ
+six_streams_file =
+    head 6 32 ++ entry 7 56 104 ++ entry 3 52 196 ++ entry 4 4 260 ++ entry 6 168 264 ++ entry 5 4 436 ++ entry 12 4 440
+    ++ take 24 (drop 44 system_file) ++ le 4 160 ++ take 28 (drop 72 system_file) ++ take 36 (drop 100 system_file)
+    ++ take 40 (drop 56 crash_file) ++ le 4 248 ++ location 6 252 ++ take 12 (drop 108 crash_file)
+    ++ zeros 4 ++ take 160 (drop 120 crash_file) ++ location 4 432 ++ drop 288 crash_file
+    ++ zeros 4 ++ 1 ∷ 2 ∷ 3 ∷ 4 ∷ []

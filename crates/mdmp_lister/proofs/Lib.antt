@@ -1,4 +1,6 @@
+pub mod Entries
 pub mod Files
+pub mod LawsLemmas
 pub mod Offsets
 pub mod Room
 pub mod Rows

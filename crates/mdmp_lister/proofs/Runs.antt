@@ -1,16 +1,14 @@
 -- Runs, gathered item by item.
-use Rattle.std.proofs.Common.{◌≡◌, ◌++◌, ◌+◌, ◌*◌, ◌-◌, ◌<◌, ◌≤◌, ◌∙◌, ℕ, suc, true, false, arith, List, ◌∷◌, [], Option, Some, None, Ok, Err, refl, ap, sym, append_assoc, append-nil}
+use Rattle.std.proofs.Common.{◌≡◌, ◌++◌, ◌+◌, ◌*◌, ◌∙◌, ℕ, suc, List, ◌∷◌, [], Option, Some, None, Ok, Err, refl, ap, sym, append_assoc, append-nil}
 use Rattle.std.specs.Prelude.{map}
 use Rattle.std.proofs.lemmas.List.{map-append}
-use Rattle.mdmp_wire.specs.declared.entry.Entry.{Entry}
-use Rattle.mdmp_lister.specs.declared.choice.Choice.{Choice}
 use Rattle.mdmp_lister.specs.declared.kind.Kind.{Kind}
 use Rattle.mdmp_lister.specs.declared.shape.Shape.{Shape}
 use Rattle.mdmp_lister.specs.declared.fault.Fault.{Fault}
 use Rattle.mdmp_lister.specs.declared.fault.ListFault.{ListFault}
 use Rattle.mdmp_lister.specs.declared.item.Item.{Item}
 use Rattle.mdmp_lister.specs.Items.{plain, item_at}
-use Rattle.mdmp_lister.specs.Listing.{Run, items_from, with_item, only_fault, nothing, list_fault, joined, entry_listing, listing_from, entries_from, only_chosen, entry_count, entry_of, is_chosen}
+use Rattle.mdmp_lister.specs.Listing.{Run, items_from, with_item, only_fault, list_fault, joined}
 use Rattle.mdmp_lister.specs.Plain.{Gathers}
 
 -- of a run that was to stand behind the items `old`, this one is left behind the items `now`
@@ -83,39 +81,7 @@ Gathers-joined old now new whole left run rest f l step gathered =
       fault = ap (λ (r : Run). r.fault) (sym split) ∙ l.fault;
     }
 
-listing_from-chosen_of : (F : List ℕ) (choice : Choice) (limit i : ℕ) → i < entry_count F → true ≡ is_chosen choice (entry_of F i).stream_type
-    → listing_from F choice limit i ≡ joined (entry_listing F limit (record { number = i; entry = entry_of F i })) (listing_from F choice limit (i + 1))
-unfolding entries_from only_chosen
-listing_from-chosen_of F choice limit i lt chosen =
-    let more : entry_count F - i ≡ suc (entry_count F - (i + 1)) = omega (arith, lt) in
-    rw (more, ← chosen) refl
-
-listing_from-other_of : (F : List ℕ) (choice : Choice) (limit i : ℕ) → i < entry_count F → false ≡ is_chosen choice (entry_of F i).stream_type
-    → listing_from F choice limit i ≡ listing_from F choice limit (i + 1)
-unfolding entries_from only_chosen
-listing_from-other_of F choice limit i lt other =
-    let more : entry_count F - i ≡ suc (entry_count F - (i + 1)) = omega (arith, lt) in
-    rw (more, ← other) refl
-
--- the rest of a listing, from an entry on that is chosen, or from one that is not
-pub listing_from-chosen : (F : List ℕ) (choice : Choice) (limit i : ℕ) (e : Entry) → i < entry_count F → e ≡ entry_of F i → true ≡ is_chosen choice e.stream_type
-    → listing_from F choice limit i ≡ joined (entry_listing F limit (record { number = i; entry = e })) (listing_from F choice limit (i + 1))
-listing_from-chosen F choice limit i e lt same chosen =
-    listing_from-chosen_of F choice limit i lt (chosen ∙ ap (λ (x : Entry). is_chosen choice x.stream_type) same)
-    ∙ ap (λ (x : Entry). joined (entry_listing F limit (record { number = i; entry = x })) (listing_from F choice limit (i + 1))) (sym same)
-
-pub listing_from-other : (F : List ℕ) (choice : Choice) (limit i : ℕ) (e : Entry) → i < entry_count F → e ≡ entry_of F i → false ≡ is_chosen choice e.stream_type
-    → listing_from F choice limit i ≡ listing_from F choice limit (i + 1)
-listing_from-other F choice limit i e lt same other =
-    listing_from-other_of F choice limit i lt (other ∙ ap (λ (x : Entry). is_chosen choice x.stream_type) same)
-
-pub listing_from-end : (F : List ℕ) (choice : Choice) (limit i : ℕ) → entry_count F ≤ i → listing_from F choice limit i ≡ nothing
-unfolding entries_from only_chosen
-listing_from-end F choice limit i le =
-    let none : entry_count F - i ≡ 0 = omega (arith, le) in
-    rw none refl
-
--- nothing is left to skip
+-- an entry is passed that gives nothing
 pub IsLeftOf-same : (old now : List Item) (whole left rest : Run) → IsLeftOf old whole now left → left ≡ rest → IsLeftOf old whole now rest
 IsLeftOf-same old now whole left rest l same = record {
   items = ap (λ (r : Run). map plain now ++ r.items) (sym same) ∙ l.items;

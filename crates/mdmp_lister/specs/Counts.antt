@@ -1,5 +1,5 @@
 -- The numbers that bound a listing. Repeats count.
-use Rattle.std.specs.Prelude.{ℕ, ◌+◌, ◌&&◌, List, length, map, filter, sum, sum_by, Option, Some, None, Result, Ok, Err, Bool}
+use Rattle.std.specs.Prelude.{ℕ, ◌&&◌, List, [], ◌∷◌, ◌++◌, length, map, filter, sum, sum_by, Option, Some, None, Result, Ok, Err, Bool}
 use Rattle.mdmp_source.specs.Range.{is_inside}
 use Rattle.mdmp_wire.specs.declared.entry.Entry.{Entry}
 use Rattle.mdmp_lister.specs.declared.choice.Choice.{Choice}
@@ -7,25 +7,31 @@ use Rattle.mdmp_lister.specs.declared.kind.Kind.{Kind}
 use Rattle.mdmp_lister.specs.declared.kind.Kind.TheVariants.{Memory, Memory64}
 use Rattle.mdmp_lister.specs.declared.fault.Fault.{Fault}
 use Rattle.mdmp_lister.specs.declared.fault.FaultKind.{FaultKind}
-use Rattle.mdmp_lister.specs.declared.fault.FaultKind.TheVariants.{NameLengthOutside, NameOdd, NameUnitsOutside}
+use Rattle.mdmp_lister.specs.declared.fault.FaultKind.TheVariants.{NameLengthOutside, NameOdd, NameUnitsOutside, Source}
 use Rattle.mdmp_lister.specs.declared.fault.ListFault.{ListFault}
 use Rattle.mdmp_lister.specs.declared.name.Name.{Name}
 use Rattle.mdmp_lister.specs.declared.name.Name.TheVariants.{NoName}
 use Rattle.mdmp_lister.specs.declared.item.Item.{Item}
 use Rattle.mdmp_lister.specs.declared.item.Item.TheVariants.{Module, Unloaded, System}
-use Rattle.mdmp_lister.specs.declared.shape.Shape.{Shape}
-use Rattle.mdmp_lister.specs.Shapes.{kind_of, is_known, shape_of}
-use Rattle.mdmp_lister.specs.Listing.{Numbered, chosen}
+use Rattle.mdmp_lister.specs.Shapes.{kind_of, is_known, record_count}
+use Rattle.mdmp_lister.specs.Listing.{Numbered, Run, chosen}
 
 -- ---- bytes
 
--- the entry is of a known type, and its location lies inside the file
-abbrev pub is_listed : List ℕ → Numbered → Bool
-is_listed F x = is_known x.entry.stream_type && is_inside x.entry.location.rva x.entry.location.size (length F)
+-- the entry is of a known type, and its location lies inside a file of `size` bytes
+abbrev pub is_listed : ℕ → Numbered → Bool
+is_listed size x = is_known x.entry.stream_type && is_inside x.entry.location.rva x.entry.location.size size
+
+-- those of some entries whose records are read
+abbrev pub listed : ℕ → List Numbered → List Numbered
+listed size entries = filter (is_listed size) entries
+
+abbrev pub sizes_of : List Numbered → List ℕ
+sizes_of entries = map (λ x. x.entry.location.size) entries
 
 -- the sizes of the chosen streams of known types that lie inside
 abbrev pub listed_sizes : List ℕ → Choice → List ℕ
-listed_sizes F choice = map (λ x. x.entry.location.size) (filter (is_listed F) (chosen F choice))
+listed_sizes F choice = sizes_of (listed (length F) (chosen F choice))
 
 -- how many bytes they have together
 abbrev pub listed_bytes : List ℕ → Choice → ℕ
@@ -33,20 +39,24 @@ listed_bytes F choice = sum (listed_sizes F choice)
 
 -- ---- ranges
 
--- how many records a stream has that has no fault
-abbrev pub count_in : Result Shape Fault → ℕ
-count_in (Ok shape) = shape.count
-count_in (Err f) = 0
+-- a count, or none where there is a fault
+abbrev pub good_count : Result ℕ Fault → ℕ
+good_count (Ok count) = count
+good_count (Err f) = 0
 
--- how many ranges a stream of this kind gives
+-- how many ranges an entry of this kind gives: those of a memory list that lies inside and has no fault
 abbrev pub ranges_in : List ℕ → Entry → Option Kind → ℕ
-ranges_in F e (Some Memory) = count_in (shape_of F e.location.rva e.location.size Memory)
-ranges_in F e (Some Memory64) = count_in (shape_of F e.location.rva e.location.size Memory64)
+ranges_in F e (Some Memory) = good_count (record_count F e)
+ranges_in F e (Some Memory64) = good_count (record_count F e)
 ranges_in F e _ = 0
 
--- how many ranges the chosen memory lists have together: lists that lie inside and have no fault, and each range of them
+-- how many ranges some entries give together
+abbrev pub ranges_of_all : List ℕ → List Numbered → ℕ
+ranges_of_all F entries = sum_by (λ x. ranges_in F x.entry (kind_of x.entry.stream_type)) entries
+
+-- how many ranges the chosen memory lists have
 abbrev pub range_count : List ℕ → Choice → ℕ
-range_count F choice = sum_by (λ x. ranges_in F x.entry (kind_of x.entry.stream_type)) (filter (is_listed F) (chosen F choice))
+range_count F choice = ranges_of_all F (chosen F choice)
 
 -- ---- names
 
@@ -61,17 +71,41 @@ names_of (Unloaded u) = named_once u.name
 names_of (System s) = named_once s.name
 names_of _ = 0
 
--- 1 where a listing ends at the fault of a name
+-- 1 for the fault of a name
 abbrev pub faulty_name : FaultKind → ℕ
 faulty_name NameLengthOutside = 1
 faulty_name NameOdd = 1
 faulty_name NameUnitsOutside = 1
 faulty_name _ = 0
 
-abbrev pub name_in_fault : Option ListFault → ℕ
-name_in_fault (Some f) = faulty_name f.kind
-name_in_fault None = 0
+-- 1 for a fault of the store, which may stand in the place of a name
+abbrev pub maybe_name : FaultKind → ℕ
+maybe_name (Source f) = 1
+maybe_name kind = faulty_name kind
 
--- how many names have been reached by a run that has given these items and this fault, or none
-abbrev pub names_reached : List Item → Option ListFault → ℕ
-names_reached items fault = sum_by names_of items + name_in_fault fault
+-- what a lister answers to a request for the next item: an item, the end or a fault
+abbrev pub Answer : Type 0
+Answer = Result (Option Item) ListFault
+
+-- how many names an answer reaches at least. A fault that is answered again is no answer of its own
+abbrev pub names_in : Answer → ℕ
+names_in (Ok (Some item)) = names_of item
+names_in (Ok None) = 0
+names_in (Err f) = faulty_name f.kind
+
+-- and how many at most
+abbrev pub most_names_in : Answer → ℕ
+most_names_in (Err f) = maybe_name f.kind
+most_names_in answer = names_in answer
+
+-- how many names some answers have reached, none of which is a fault of the store
+abbrev pub names_reached : List Answer → ℕ
+names_reached answers = sum_by names_in answers
+
+-- the answers by which a run is given
+abbrev pub end_of : Option ListFault → Answer
+end_of (Some f) = Err f
+end_of None = Ok None
+
+abbrev pub answers_of : Run → List Answer
+answers_of run = map (λ x. Ok (Some x)) run.items ++ end_of run.fault ∷ []

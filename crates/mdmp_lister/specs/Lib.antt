@@ -2,6 +2,7 @@ pub mod Bounds
 pub mod Counts
 pub mod Extents
 pub mod Items
+pub mod Laws
 pub mod Listing
 pub mod Names
 pub mod Opening

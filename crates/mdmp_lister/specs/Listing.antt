@@ -54,6 +54,10 @@ entries F = entries_from F (entry_count F) 0
 abbrev pub chosen : List ℕ → Choice → List Numbered
 chosen F choice = only_chosen choice (entries F)
 
+-- the chosen entries from entry i on
+abbrev pub chosen_from : List ℕ → Choice → ℕ → List Numbered
+chosen_from F choice i = only_chosen choice (entries_from F (entry_count F - i) i)
+
 -- ---- runs
 
 -- items, and the fault that stands behind them or none
@@ -128,8 +132,7 @@ listing F choice limit = all_joined (map (entry_listing F limit) (chosen F choic
 
 -- what is left from entry i on
 abbrev pub listing_from : List ℕ → Choice → ℕ → ℕ → Run
-listing_from F choice limit i =
-    all_joined (map (entry_listing F limit) (only_chosen choice (entries_from F (entry_count F - i) i)))
+listing_from F choice limit i = all_joined (map (entry_listing F limit) (chosen_from F choice i))
 
 -- each chosen entry with its fault or none
 abbrev pub verdicts : List ℕ → Choice → ℕ → List Verdict

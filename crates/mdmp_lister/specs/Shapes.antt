@@ -72,14 +72,14 @@ sized F at size head record_size count =
 
 -- the shape of a stream of this kind, of size bytes at `at`
 unfoldable pub shape_of : List ℕ → ℕ → ℕ → Kind → Result Shape Fault
-shape_of F at size kinds.Threads = counted F at size 48
-shape_of F at size kinds.Modules = counted F at size 108
-shape_of F at size kinds.Memory = counted F at size 16
-shape_of F at size kinds.Exception = single at size 168
-shape_of F at size kinds.System = single at size 56
+shape_of F at size kinds.Threads = counted F at size (record_size kinds.Threads)
+shape_of F at size kinds.Modules = counted F at size (record_size kinds.Modules)
+shape_of F at size kinds.Memory = counted F at size (record_size kinds.Memory)
+shape_of F at size kinds.Exception = single at size (record_size kinds.Exception)
+shape_of F at size kinds.System = single at size (record_size kinds.System)
 shape_of F at size kinds.Memory64 = ranges64 F at size
-shape_of F at size kinds.Unloaded = sized F at size 12 24 (number_at F (at + 8) 4)
-shape_of F at size kinds.MemoryInfo = sized F at size 16 48 (number_at F (at + 8) 8)
+shape_of F at size kinds.Unloaded = sized F at size 12 (record_size kinds.Unloaded) (number_at F (at + 8) 4)
+shape_of F at size kinds.MemoryInfo = sized F at size 16 (record_size kinds.MemoryInfo) (number_at F (at + 8) 8)
 
 -- the records of a stream of `size` bytes lie inside it, and no two overlap: a law of every shape
 pub record FitsIn (size : ℕ) (kind : Kind) (shape : Shape) : Type 0 where

@@ -2,8 +2,8 @@
 ghost use Rattle.std.specs.Prelude.{◌≡◌};
 ghost use Rattle.mdmp_lister.specs.Shapes.{kind_of};
 
-/// The streams whose records are listed, with their `MINIDUMP_STREAM_TYPE`. Every other type is
-/// opaque: its location alone is listed.
+/// The streams whose records are listed, with their `MINIDUMP_STREAM_TYPE`. Of an entry of another
+/// type its location alone is listed: such a stream is opaque, and `UnusedStream`, 0, is none.
 #[derive(Clone, Copy, Debug, PartialEq, Eq)]
 pub enum Kind {
     /// `ThreadListStream`, 3.

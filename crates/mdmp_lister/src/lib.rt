@@ -23,6 +23,7 @@ mod choice;
 mod fault;
 mod item;
 mod kind;
+mod laws;
 mod limits;
 mod name;
 mod plain;
@@ -38,9 +39,10 @@ pub use crate::item::{
     UnloadedItem,
 };
 pub use crate::kind::Kind;
+pub use crate::laws::{listing_ends_at_the_first_bad_verdict, listing_of_a_choice};
 pub use crate::limits::Limits;
 pub use crate::name::Name;
-pub use crate::plain::{Listing, has_directory, list_file};
+pub use crate::plain::{Listing, list_file, opening_fault};
 pub use crate::reading::name_at;
 pub use crate::shape::Shape;
 pub use crate::shaping::shape_of;

@@ -6,7 +6,10 @@ ghost use Rattle.mdmp_lister.specs.Shapes.{FitsIn, counted, single, ranges64, si
 use crate::fault::{Fault, FaultKind};
 use crate::kind::Kind;
 use crate::shape::Shape;
-use mdmp_wire::read_at;
+use mdmp_wire::{
+    Descriptor, ExceptionRecord, MemoryInfoRecord, ModuleRecord, Record, SystemRecord,
+    ThreadRecord, UnloadedRecord, read_at,
+};
 
 fn fault<T: Drop>(kind: FaultKind, offset: u64, size: u64) -> Result<T, Fault>
     ensures { result ≡ Err (record { kind = kind; offset = offset; size = size }) }
@@ -125,11 +128,11 @@ pub fn shape_of(file: &[u8], at: u32, size: u32, kind: Kind) -> Result<Shape, Fa
     ensures fits { IfOk result (λ shape. FitsIn size kind shape) }
 {
     match kind {
-        Kind::Threads => counted(file, at, size, 48),
-        Kind::Modules => counted(file, at, size, 108),
-        Kind::Memory => counted(file, at, size, 16),
-        Kind::Exception => single(at, size, 168),
-        Kind::System => single(at, size, 56),
+        Kind::Threads => counted(file, at, size, ThreadRecord::SIZE as u32),
+        Kind::Modules => counted(file, at, size, ModuleRecord::SIZE as u32),
+        Kind::Memory => counted(file, at, size, Descriptor::SIZE as u32),
+        Kind::Exception => single(at, size, ExceptionRecord::SIZE as u32),
+        Kind::System => single(at, size, SystemRecord::SIZE as u32),
         Kind::Memory64 => ranges64(file, at, size),
         Kind::Unloaded => {
             let count: u32 = if size < 12 {
@@ -137,7 +140,14 @@ pub fn shape_of(file: &[u8], at: u32, size: u32, kind: Kind) -> Result<Shape, Fa
             } else {
                 read_at(file, at as usize + 8)
             };
-            sized(file, at, size, 12, 24, u64::from(count))
+            sized(
+                file,
+                at,
+                size,
+                12,
+                UnloadedRecord::SIZE as u32,
+                u64::from(count),
+            )
         }
         Kind::MemoryInfo => {
             let count = if size < 16 {
@@ -145,7 +155,7 @@ pub fn shape_of(file: &[u8], at: u32, size: u32, kind: Kind) -> Result<Shape, Fa
             } else {
                 read_at(file, at as usize + 8)
             };
-            sized(file, at, size, 16, 48, count)
+            sized(file, at, size, 16, MemoryInfoRecord::SIZE as u32, count)
         }
     }
 }

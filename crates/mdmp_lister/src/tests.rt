@@ -1,5 +1,6 @@
 //! Limits, choices, and the two steps of a listing.
 mod choices;
+mod files;
 mod listings;
 mod names;
 mod shapes;

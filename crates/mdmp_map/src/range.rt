@@ -10,3 +10,22 @@ pub struct Range {
     /// Where the byte of its first address stands, an offset from the start of the file.
     pub offset: u64,
 }
+
+impl Range {
+    ghost use Rattle.std.specs.Prelude.{◌≡◌};
+    ghost use Rattle.mdmp_map.specs.Ranges.{holds, range_end};
+
+    /// One behind its last byte, as if addresses did not end.
+    pub fn end(&self) -> u128
+        ensures { result ≡ range_end self.now }
+    {
+        u128::from(self.start) + u128::from(self.length)
+    }
+
+    /// Whether the range holds an address.
+    pub fn holds(&self, address: u64) -> bool
+        ensures { result ≡ holds address self.now }
+    {
+        self.start <= address && u128::from(address) < self.end()
+    }
+}

@@ -1,6 +1,6 @@
 use Rattle.mdmp_lister.specs.Listing.{listing, listing_from}
 use Rattle.mdmp_lister.proofs.Runs.{IsLeftOf}
-use Rattle.mdmp_lister.proofs.plain.list_entries.Given as goal
+use Rattle.mdmp_lister.proofs.plain.entries.list_entries.Given as goal
 
 abbrev pub invariant-loop-number : goal.invariant-loop-number
 invariant-loop-number g l =

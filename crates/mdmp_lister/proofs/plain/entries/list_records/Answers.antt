@@ -1,7 +1,7 @@
 use Rattle.std.proofs.Common.{◌+◌, ◌*◌, ◌-◌, arith}
 use Rattle.mdmp_lister.specs.Items.{plain}
 use Rattle.mdmp_lister.proofs.Runs.{IsLeftOf-push, Gathers-end, items_from-Ok, items_from-Err}
-use Rattle.mdmp_lister.proofs.plain.list_records.Goals as goal
+use Rattle.mdmp_lister.proofs.plain.entries.list_records.Goals as goal
 
 pub returns-in-Err : goal.returns-in-Err
 returns-in-Err g c =

@@ -1,7 +1,7 @@
 use Rattle.std.proofs.Common.{◌-◌}
 use Rattle.mdmp_lister.specs.Listing.{items_from}
 use Rattle.mdmp_lister.proofs.Runs.{IsLeftOf}
-use Rattle.mdmp_lister.proofs.plain.list_records.Given as goal
+use Rattle.mdmp_lister.proofs.plain.entries.list_records.Given as goal
 
 abbrev pub invariant-loop-index : goal.invariant-loop-index
 invariant-loop-index g l =

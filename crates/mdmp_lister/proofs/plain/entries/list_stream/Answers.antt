@@ -1,5 +1,5 @@
 use Rattle.mdmp_lister.proofs.Room.{HasRecords-FitsIn}
-use Rattle.mdmp_lister.proofs.plain.list_stream.Goals as goal
+use Rattle.mdmp_lister.proofs.plain.entries.list_stream.Goals as goal
 
 pub list_records-requires : goal.list_records-requires
 list_records-requires g c =

@@ -1,7 +1,7 @@
 use Rattle.std.proofs.Common.{◌≡◌, ◌+◌, ◌*◌, ◌-◌, arith, ap, ◌∙◌}
 use Rattle.mdmp_wire.specs.Number.{number_at}
 use Rattle.mdmp_lister.proofs.Offsets.{sizes_before-step}
-use Rattle.mdmp_lister.proofs.plain.sizes_before.Goals as goal
+use Rattle.mdmp_lister.proofs.plain.items.sizes_before.Goals as goal
 
 pub loop-index-preserved : goal.loop-index-preserved
 loop-index-preserved c =

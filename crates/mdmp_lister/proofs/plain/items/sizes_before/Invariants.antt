@@ -1,6 +1,6 @@
 use Rattle.std.proofs.Common.{◌≡◌, ◌≤◌, ◌+◌, ◌*◌, ◌-◌, ◌^◌}
 use Rattle.mdmp_lister.specs.Items.{sizes_before}
-use Rattle.mdmp_lister.proofs.plain.sizes_before.Given as goal
+use Rattle.mdmp_lister.proofs.plain.items.sizes_before.Given as goal
 
 abbrev pub invariant-loop-index : goal.invariant-loop-index
 invariant-loop-index l =
