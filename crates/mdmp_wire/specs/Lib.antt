@@ -8,7 +8,9 @@ pub mod Exception
 pub mod Header
 pub mod HeaderFault
 pub mod Location
+pub mod Memory64List
 pub mod MemoryInfo
+pub mod MemoryInfoList
 pub mod Module
 pub mod Number
 pub mod NumberLaws
@@ -17,4 +19,5 @@ pub mod Thread
 pub mod Units
 pub mod UnitsLaws
 pub mod Unloaded
+pub mod UnloadedList
 pub mod Version

@@ -25,7 +25,9 @@ mod exception;
 mod header;
 mod header_fault;
 mod location;
+mod memory64_list;
 mod memory_info;
+mod memory_info_list;
 mod module;
 mod number;
 mod record;
@@ -34,6 +36,7 @@ mod thread;
 mod units;
 mod units_ref;
 mod unloaded;
+mod unloaded_list;
 mod version;
 
 pub use crate::codeview::CodeView;
@@ -45,6 +48,8 @@ pub use crate::exception::ExceptionRecord;
 pub use crate::header::Header;
 pub use crate::header_fault::HeaderFault;
 pub use crate::memory_info::MemoryInfoRecord;
+pub use crate::memory_info_list::MemoryInfoList;
+pub use crate::memory64_list::Memory64List;
 pub use crate::module::ModuleRecord;
 pub use crate::record::{Record, put_at, read_at};
 pub use crate::system::SystemRecord;
@@ -52,6 +57,7 @@ pub use crate::thread::ThreadRecord;
 pub use crate::units::{Units, text_survives_utf16};
 pub use crate::units_ref::UnitsRef;
 pub use crate::unloaded::UnloadedRecord;
+pub use crate::unloaded_list::UnloadedList;
 pub use crate::version::VersionInfo;
 
 #[cfg(test)]

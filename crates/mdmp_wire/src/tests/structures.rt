@@ -2,8 +2,9 @@
 ghost use Rattle.std.specs.Prelude.{◌≡◌, length};
 
 use crate::{
-    Descriptor, Descriptor64, Entry, ExceptionRecord, Header, MemoryInfoRecord, ModuleRecord,
-    Record, SystemRecord, ThreadRecord, UnloadedRecord, VersionInfo, put_at, read_at,
+    Descriptor, Descriptor64, Entry, ExceptionRecord, Header, Memory64List, MemoryInfoList,
+    MemoryInfoRecord, ModuleRecord, Record, SystemRecord, ThreadRecord, UnloadedList,
+    UnloadedRecord, VersionInfo, put_at, read_at,
 };
 use mdmp_source::Location;
 
@@ -300,6 +301,37 @@ fn descriptor64_has_its_fields_at_their_offsets(rt: HostRuntime) {
     let mut out = [0x55; 16];
     let read: Descriptor64 = read_and_write(&bytes, &mut out);
     assert_eq!(rt; read, expected);
+    assert_eq!(rt; out, bytes);
+}
+
+#[test]
+fn heads_of_lists_have_their_fields_at_their_offsets(rt: HostRuntime) {
+    let bytes: [u8; 16] = counted();
+    let mut out = [0x55; 12];
+    let unloaded: UnloadedList = read_and_write(&bytes[..12], &mut out);
+    let expected = UnloadedList {
+        size_of_header: 0x03020100,
+        size_of_entry: 0x07060504,
+        number_of_entries: 0x0b0a0908,
+    };
+    assert_eq!(rt; unloaded, expected);
+    assert_eq!(rt; out.as_slice(), &bytes[..12]);
+    let mut out = [0x55; 16];
+    let regions: MemoryInfoList = read_and_write(&bytes, &mut out);
+    let expected = MemoryInfoList {
+        size_of_header: 0x03020100,
+        size_of_entry: 0x07060504,
+        number_of_entries: 0x0f0e0d0c0b0a0908,
+    };
+    assert_eq!(rt; regions, expected);
+    assert_eq!(rt; out, bytes);
+    let mut out = [0x55; 16];
+    let ranges: Memory64List = read_and_write(&bytes, &mut out);
+    let expected = Memory64List {
+        number_of_memory_ranges: 0x0706050403020100,
+        base_rva: 0x0f0e0d0c0b0a0908,
+    };
+    assert_eq!(rt; ranges, expected);
     assert_eq!(rt; out, bytes);
 }
 

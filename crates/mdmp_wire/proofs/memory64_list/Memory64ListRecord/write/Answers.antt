@@ -1,0 +1,17 @@
+use Rattle.std.proofs.Common.{◌≡◌, sym, ap, ◌∙◌, arith}
+use Rattle.std.proofs.lemmas.List.{take_all}
+use Rattle.mdmp_wire.specs.Number.{number_at, le}
+use Rattle.mdmp_wire.specs.Memory64List.{memory64_list_at, memory64_list_bytes}
+use Rattle.mdmp_wire.proofs.memory64_list.Memory64ListRecord.write.Goals as goal
+
+pub returns-clause-bytes : goal.returns-clause-bytes
+returns-clause-bytes c = sym (take_all 16 c.put_at-2.new.out (omega arith)) ∙ cc
+
+pub returns-clause-back : goal.returns-clause-back
+unfolding number_at le
+returns-clause-back c =
+    let back : memory64_list_at (memory64_list_bytes c.args.self.now) 0 ≡ c.args.self.now = λ i. record {
+      number_of_memory_ranges = c.put_at.ensures.back i;
+      base_rva = c.put_at-2.ensures.back i;
+    } in
+    ap (λ b. memory64_list_at b 0) (returns-clause-bytes c) ∙ back
