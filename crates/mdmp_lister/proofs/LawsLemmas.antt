@@ -1,5 +1,5 @@
 -- Laws of a listing: what an entry gives is of that entry alone, and a fault ends it.
-use Rattle.std.proofs.Common.{◌≡◌, ◌++◌, ◌+◌, ◌*◌, ◌∙◌, ◌↔◌, ◌&&◌, ℕ, zero, suc, Bool, true, false, cond, List, ◌∷◌, [], map, filter, Option, Some, None, Result, Ok, Err, is_none, IfSome, IfOk, IsTrue, refl, ap, sym, append_assoc, append-nil}
+use Rattle.std.proofs.Common.{◌≡◌, ◌++◌, ◌+◌, ◌*◌, ◌∙◌, ◌↔◌, ◌&&◌, ℕ, zero, suc, Bool, true, false, cond, List, ◌∷◌, [], length, map, filter, Option, Some, None, Result, Ok, Err, is_none, IfSome, IfOk, IsTrue, refl, ap, sym, append_assoc, append-nil}
 use Rattle.std.specs.List.{list_all}
 use Rattle.std.specs.Option.{option_or}
 use Rattle.std.proofs.lemmas.Bool.{false≢true}
@@ -81,13 +81,13 @@ IsOf-records_of : (F : List ℕ) (limit e at size : ℕ) (kind : Option Kind) �
 IsOf-records_of F limit e at size (Some kind) = IsOf-shaped F limit e at kind (shape_of F at size kind)
 IsOf-records_of F limit e at size None = IsOf-nothing e
 
-IsOf-body_of : (F : List ℕ) (limit : ℕ) (x : Numbered) (outside : Option Fault) → outside ≡ location_fault F x.entry → IsOf x.number (body_of F limit x)
+IsOf-body_of : (F : List ℕ) (limit : ℕ) (x : Numbered) (outside : Option Fault) → outside ≡ location_fault (length F) x.entry → IsOf x.number (body_of F limit x)
 IsOf-body_of F limit x None inside = rw (← inside) (IsOf-records_of F limit x.number x.entry.location.rva x.entry.location.size (kind_of x.entry.stream_type))
 IsOf-body_of F limit x (Some f) outside = rw (← outside) (IsOf-only_fault x.number None f)
 
 -- all that an entry gives is of that entry
 IsOf-entry_listing : (F : List ℕ) (limit : ℕ) (x : Numbered) → IsOf x.number (entry_listing F limit x)
-IsOf-entry_listing F limit x = IsOf-with_item x.number (stream_item x) (body_of F limit x) refl (IsOf-body_of F limit x (location_fault F x.entry) refl)
+IsOf-entry_listing F limit x = IsOf-with_item x.number (stream_item x) (body_of F limit x) refl (IsOf-body_of F limit x (location_fault (length F) x.entry) refl)
 
 -- ---- the part of a listing that a choice has
 

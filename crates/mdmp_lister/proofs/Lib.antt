@@ -1,7 +1,16 @@
+pub mod Advancing
+pub mod Bodies
+pub mod Directory
+pub mod Ending
 pub mod Entries
+pub mod Fetches
 pub mod Files
+pub mod Handing
 pub mod LawsLemmas
+pub mod NamedItems
 pub mod Offsets
+pub mod Refusals
 pub mod Room
 pub mod Rows
 pub mod Runs
+pub mod Soundness

@@ -1,9 +1,59 @@
 -- The sizes of ranges, one by one.
-use Rattle.std.proofs.Common.{◌≡◌, ◌+◌, ℕ, suc, List, refl}
+use Rattle.std.proofs.Common.{◌≡◌, ◌+◌, ◌*◌, ℕ, zero, suc, List, length, Result, Ok, arith, refl}
 use Rattle.mdmp_wire.specs.Number.{number_at}
-use Rattle.mdmp_lister.specs.Items.{sizes_before}
+use Rattle.mdmp_wire.specs.Descriptor64.{descriptor64_at}
+use Rattle.mdmp_lister.specs.declared.fault.Fault.{Fault}
+use Rattle.mdmp_lister.specs.declared.item.Item.{Item}
+use Rattle.mdmp_lister.specs.declared.item.RangeItem.{RangeItem}
+use Rattle.mdmp_lister.specs.declared.kind.Kind.{Kind}
+use Rattle.mdmp_lister.specs.declared.kind.Kind.TheVariants.{Memory64}
+use Rattle.mdmp_lister.specs.declared.item.Item.TheVariants as items
+use Rattle.mdmp_lister.specs.declared.step.Step.{Step}
+use Rattle.mdmp_lister.specs.declared.step.Step.TheVariants as step
+use Rattle.mdmp_lister.specs.Items.{item_at, range64_item, range_offset, sizes_before}
+use Rattle.mdmp_lister.specs.Steps.{step_item}
 
 -- the first of some ranges, and the others
 pub sizes_before-step : (F : List ℕ) (o n j m : ℕ) → n ≡ suc m → j ≡ o + 16 → number_at F (o + 8) 8 + sizes_before F j m ≡ sizes_before F o n
 unfolding sizes_before
 sizes_before-step F o n j m more next = rw (more, next) refl
+
+-- the last of some ranges, and those before it
+sizes_before-last : (F : List ℕ) (o n : ℕ) → sizes_before F o (n + 1) ≡ sizes_before F o n + (descriptor64_at F (o + 16 * n)).data_size
+unfolding sizes_before
+sizes_before-last F o zero = let same : o + 16 * 0 ≡ o = omega arith in rw same (omega arith)
+sizes_before-last F o (suc n) =
+    let later = sizes_before-last F (o + 16) n in
+    let place : o + 16 + 16 * n ≡ o + 16 * suc n = omega arith in
+    let first = sizes_before-step F o (suc n + 1) (o + 16) (n + 1) (omega arith) refl in
+    let last = rw place at later in
+    omega (arith, first, last, sizes_before-step F o (suc n) (o + 16) n refl refl)
+
+pub range_offset-next : (F : List ℕ) (at k o : ℕ) → o ≡ at + 16 + k * 16 → range_offset F at (k + 1) ≡ range_offset F at k + (descriptor64_at F o).data_size
+range_offset-next F at k o place =
+    let same : at + 16 + 16 * k ≡ o = omega (arith, place) in
+    omega (arith, rw same at (sizes_before-last F (at + 16) k))
+
+-- a step that gives a range is one
+pub range-step : (z : ℕ) (buffer : List ℕ) (s : Step) (x : RangeItem) → step_item z buffer s ≡ items.Range x → s ≡ step.Range x
+range-step z buffer (step.Stream y) x same = cc
+range-step z buffer (step.Thread y) x same = cc
+range-step z buffer (step.Module e k fields name) x same = cc
+range-step z buffer (step.Unloaded e k fields name) x same = cc
+range-step z buffer (step.Exception y) x same = cc
+range-step z buffer (step.System e k fields name) x same = cc
+range-step z buffer (step.MemoryInfo y) x same = cc
+range-step z buffer (step.Range y) x same = cc
+
+one_answer : (r : Result Item Fault) (x y : Item) → r ≡ Ok x → r ≡ Ok y → x ≡ y
+one_answer r x y first second = cc
+
+-- behind a range of a 64-bit memory list the next one's bytes stand
+pub range-next : (F : List ℕ) (limit e k at o z offset next : ℕ) (buffer : List ℕ) (kind : Kind) (s : Step) → kind ≡ Memory64
+    → item_at F limit e k at o kind ≡ Ok (step_item z buffer s) → offset ≡ range_offset F at k → o ≡ at + 16 + k * 16
+    → ((x : RangeItem) → s ≡ step.Range x → next ≡ offset + x.size) → next ≡ range_offset F at (k + 1)
+range-next F limit e k at o z offset next buffer kind s is given here place behind =
+    let x = range64_item (length F) e k (descriptor64_at F o) (range_offset F at k) in
+    let known : item_at F limit e k at o Memory64 ≡ Ok (step_item z buffer s) = rw is at given in
+    let same : step_item z buffer s ≡ items.Range x = one_answer _ _ _ known refl in
+    omega (arith, behind x (range-step z buffer s x same), here, range_offset-next F at k o place)

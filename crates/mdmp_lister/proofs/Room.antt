@@ -28,13 +28,18 @@ ends_inside : (at size z first n s k r : ℕ) → IsInside at size z → first +
 ends_inside at size z first n s k r (inl none) records room some = omega (arith, none, records, room, some)
 ends_inside at size z first n s k r (inr whole) records room some = omega (arith, whole, records, room)
 
+-- record k of a stream that lies inside a file of z bytes does
+pub record-inside : (z at size : ℕ) (kind : Kind) (shape : Shape) (k : ℕ) → IsInside at size z → FitsIn size kind shape → k < shape.count
+    → at + shape.first + k * shape.stride + record_size kind ≤ z
+record-inside z at size kind shape k whole fits lt =
+    let wide : record_size kind ≤ shape.stride = fits.stride (omega (arith, lt)) in
+    ends_inside at size z shape.first shape.count shape.stride k (record_size kind) whole fits.records
+    (record_room k shape.count shape.stride (record_size kind) lt wide) (least_record kind)
+
 -- the records of a stream that lies inside a file do
 pub HasRecords-FitsIn : (F : List ℕ) (at size : ℕ) (kind : Kind) (shape : Shape) → IsInside at size (length F) → FitsIn size kind shape → HasRecords F at kind shape
 HasRecords-FitsIn F at size kind shape whole fits = record {
-  room = λ k lt.
-      let wide : record_size kind ≤ shape.stride = fits.stride (omega (arith, lt)) in
-      ends_inside at size (length F) shape.first shape.count shape.stride k (record_size kind) whole fits.records
-      (record_room k shape.count shape.stride (record_size kind) lt wide) (least_record kind);
+  room = λ k lt. record-inside (length F) at size kind shape k whole fits lt;
   behind = λ k lt.
       let least = least_record kind in
       let wide : record_size kind ≤ shape.stride = fits.stride (omega (arith, lt)) in

@@ -98,7 +98,7 @@ abbrev pub most_names_in : Answer → ℕ
 most_names_in (Err f) = maybe_name f.kind
 most_names_in answer = names_in answer
 
--- how many names some answers have reached, none of which is a fault of the store
+-- how many names some answers have reached, each fault once, and none of them one of the store
 abbrev pub names_reached : List Answer → ℕ
 names_reached answers = sum_by names_in answers
 

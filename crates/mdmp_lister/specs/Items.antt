@@ -4,13 +4,21 @@ use Rattle.mdmp_source.specs.Extent.{extent_of}
 use Rattle.mdmp_lister.specs.Extents.{range_extent_of}
 use Rattle.mdmp_wire.specs.Number.{number_at}
 use Rattle.mdmp_wire.specs.Thread.{thread_at}
+use Rattle.mdmp_wire.specs.declared.thread.ThreadRecord.{ThreadRecord}
 use Rattle.mdmp_wire.specs.Module.{module_at}
+use Rattle.mdmp_wire.specs.declared.module.ModuleRecord.{ModuleRecord}
 use Rattle.mdmp_wire.specs.Unloaded.{unloaded_at}
+use Rattle.mdmp_wire.specs.declared.unloaded.UnloadedRecord.{UnloadedRecord}
 use Rattle.mdmp_wire.specs.Exception.{exception_at}
+use Rattle.mdmp_wire.specs.declared.exception.ExceptionRecord.{ExceptionRecord}
 use Rattle.mdmp_wire.specs.System.{system_at}
+use Rattle.mdmp_wire.specs.declared.system.SystemRecord.{SystemRecord}
 use Rattle.mdmp_wire.specs.MemoryInfo.{memory_info_at}
+use Rattle.mdmp_wire.specs.declared.memory_info.MemoryInfoRecord.{MemoryInfoRecord}
 use Rattle.mdmp_wire.specs.Descriptor.{descriptor_at}
+use Rattle.mdmp_wire.specs.declared.descriptor.Descriptor.{Descriptor}
 use Rattle.mdmp_wire.specs.Descriptor64.{descriptor64_at}
+use Rattle.mdmp_wire.specs.declared.descriptor64.Descriptor64.{Descriptor64}
 use Rattle.mdmp_lister.specs.declared.kind.Kind.{Kind}
 use Rattle.mdmp_lister.specs.declared.kind.Kind.TheVariants as kinds
 use Rattle.mdmp_lister.specs.declared.fault.Fault.{Fault}
@@ -47,78 +55,74 @@ sizes_before F o (suc n) = (descriptor64_at F o).data_size + sizes_before F (o +
 abbrev pub range_offset : List ℕ → ℕ → ℕ → ℕ
 range_offset F at k = number_at F (at + 8) 8 + sizes_before F (at + 16) k
 
--- ---- item k of entry e, whose record stands at o
+-- ---- item k of entry e, of a record with these fields, in a file of z bytes
 
-abbrev pub thread_item : List ℕ → ℕ → ℕ → ℕ → ThreadItem
-thread_item F e k o =
-    let fields = thread_at F o in
-    record {
-      entry = e;
-      index = k;
-      fields = fields;
-      stack = extent_of fields.stack.memory (length F);
-      context = extent_of fields.thread_context (length F);
-    }
+abbrev pub thread_item : ℕ → ℕ → ℕ → ThreadRecord → ThreadItem
+thread_item z e k fields = record {
+  entry = e;
+  index = k;
+  fields = fields;
+  stack = extent_of fields.stack.memory z;
+  context = extent_of fields.thread_context z;
+}
 
-abbrev pub module_item : List ℕ → ℕ → ℕ → ℕ → Name → ModuleItem
-module_item F e k o name =
-    let fields = module_at F o in
-    record {
-      entry = e;
-      index = k;
-      fields = fields;
-      codeview = extent_of fields.cv_record (length F);
-      misc = extent_of fields.misc_record (length F);
-      name = name;
-    }
+abbrev pub module_item : ℕ → ℕ → ℕ → ModuleRecord → Name → ModuleItem
+module_item z e k fields name = record {
+  entry = e;
+  index = k;
+  fields = fields;
+  codeview = extent_of fields.cv_record z;
+  misc = extent_of fields.misc_record z;
+  name = name;
+}
 
-abbrev pub unloaded_item : List ℕ → ℕ → ℕ → ℕ → Name → UnloadedItem
-unloaded_item F e k o name = record { entry = e; index = k; fields = unloaded_at F o; name = name }
+abbrev pub unloaded_item : ℕ → ℕ → UnloadedRecord → Name → UnloadedItem
+unloaded_item e k fields name = record { entry = e; index = k; fields = fields; name = name }
 
-abbrev pub exception_item : List ℕ → ℕ → ℕ → ℕ → ExceptionItem
-exception_item F e k o =
-    let fields = exception_at F o in
-    record { entry = e; index = k; fields = fields; context = extent_of fields.thread_context (length F) }
+abbrev pub exception_item : ℕ → ℕ → ℕ → ExceptionRecord → ExceptionItem
+exception_item z e k fields = record { entry = e; index = k; fields = fields; context = extent_of fields.thread_context z }
 
-abbrev pub system_item : List ℕ → ℕ → ℕ → ℕ → Name → SystemItem
-system_item F e k o name = record { entry = e; index = k; fields = system_at F o; name = name }
+abbrev pub system_item : ℕ → ℕ → SystemRecord → Name → SystemItem
+system_item e k fields name = record { entry = e; index = k; fields = fields; name = name }
 
-abbrev pub memory_info_item : List ℕ → ℕ → ℕ → ℕ → MemoryInfoItem
-memory_info_item F e k o = record { entry = e; index = k; fields = memory_info_at F o }
+abbrev pub memory_info_item : ℕ → ℕ → MemoryInfoRecord → MemoryInfoItem
+memory_info_item e k fields = record { entry = e; index = k; fields = fields }
 
 -- a range of a memory list, which says where its own bytes stand
-abbrev pub range_item : List ℕ → ℕ → ℕ → ℕ → RangeItem
-range_item F e k o =
-    let fields = descriptor_at F o in
-    record {
-      entry = e;
-      index = k;
-      start = fields.start_of_memory_range;
-      size = fields.memory.size;
-      extent = extent_of fields.memory (length F);
-      offset = fields.memory.rva;
-    }
+abbrev pub range_item : ℕ → ℕ → ℕ → Descriptor → RangeItem
+range_item z e k fields = record {
+  entry = e;
+  index = k;
+  start = fields.start_of_memory_range;
+  size = fields.memory.size;
+  extent = extent_of fields.memory z;
+  offset = fields.memory.rva;
+}
 
 -- a range of a 64-bit memory list, whose bytes stand at this offset
-abbrev pub range64_item : List ℕ → ℕ → ℕ → ℕ → ℕ → RangeItem
-range64_item F e k o offset =
-    let fields = descriptor64_at F o in
-    record {
-      entry = e;
-      index = k;
-      start = fields.start_of_memory_range;
-      size = fields.data_size;
-      extent = range_extent_of offset fields.data_size (length F);
-      offset = offset;
-    }
+abbrev pub range64_item : ℕ → ℕ → ℕ → Descriptor64 → ℕ → RangeItem
+range64_item z e k fields offset = record {
+  entry = e;
+  index = k;
+  start = fields.start_of_memory_range;
+  size = fields.data_size;
+  extent = range_extent_of offset fields.data_size z;
+  offset = offset;
+}
 
--- the item, or the fault of its name: the stream of this kind begins at `at`
+-- the item of the record at o, or the fault of its name: the stream of this kind begins at `at`
 abbrev pub item_at : List ℕ → ℕ → ℕ → ℕ → ℕ → ℕ → Kind → Result Item Fault
-item_at F limit e k at o kinds.Threads = Ok (items.Thread (thread_item F e k o))
-item_at F limit e k at o kinds.Modules = named (name_at F (module_at F o).module_name_rva limit) (λ name. items.Module (module_item F e k o name))
-item_at F limit e k at o kinds.Memory = Ok (items.Range (range_item F e k o))
-item_at F limit e k at o kinds.Exception = Ok (items.Exception (exception_item F e k o))
-item_at F limit e k at o kinds.System = named (name_at F (system_at F o).csd_version_rva limit) (λ name. items.System (system_item F e k o name))
-item_at F limit e k at o kinds.Memory64 = Ok (items.Range (range64_item F e k o (range_offset F at k)))
-item_at F limit e k at o kinds.Unloaded = named (name_at F (unloaded_at F o).module_name_rva limit) (λ name. items.Unloaded (unloaded_item F e k o name))
-item_at F limit e k at o kinds.MemoryInfo = Ok (items.MemoryInfo (memory_info_item F e k o))
+item_at F limit e k at o kinds.Threads = Ok (items.Thread (thread_item (length F) e k (thread_at F o)))
+item_at F limit e k at o kinds.Modules =
+    let fields = module_at F o in
+    named (name_at F fields.module_name_rva limit) (λ name. items.Module (module_item (length F) e k fields name))
+item_at F limit e k at o kinds.Memory = Ok (items.Range (range_item (length F) e k (descriptor_at F o)))
+item_at F limit e k at o kinds.Exception = Ok (items.Exception (exception_item (length F) e k (exception_at F o)))
+item_at F limit e k at o kinds.System =
+    let fields = system_at F o in
+    named (name_at F fields.csd_version_rva limit) (λ name. items.System (system_item e k fields name))
+item_at F limit e k at o kinds.Memory64 = Ok (items.Range (range64_item (length F) e k (descriptor64_at F o) (range_offset F at k)))
+item_at F limit e k at o kinds.Unloaded =
+    let fields = unloaded_at F o in
+    named (name_at F fields.module_name_rva limit) (λ name. items.Unloaded (unloaded_item e k fields name))
+item_at F limit e k at o kinds.MemoryInfo = Ok (items.MemoryInfo (memory_info_item e k (memory_info_at F o)))

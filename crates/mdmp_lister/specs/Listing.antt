@@ -1,5 +1,5 @@
 -- What a listing gives: items, up to the first fault.
-use Rattle.std.specs.Prelude.{ℕ, zero, suc, ◌+◌, ◌-◌, ◌*◌, List, [], ◌∷◌, ◌++◌, map, Option, Some, None, Result, Ok, Err, Bool, true, ◌==◌, if◌then◌else◌}
+use Rattle.std.specs.Prelude.{ℕ, zero, suc, ◌+◌, ◌-◌, ◌*◌, List, [], ◌∷◌, ◌++◌, length, map, Option, Some, None, Result, Ok, Err, Bool, true, ◌==◌, if◌then◌else◌}
 use Rattle.std.specs.List.{list_any}
 use Rattle.mdmp_wire.specs.declared.entry.Entry.{Entry}
 use Rattle.mdmp_wire.specs.Header.{header_at}
@@ -113,7 +113,7 @@ records_of F limit e at size None = nothing
 
 -- what stands behind the Stream item of an entry: the fault of its location, or its records
 abbrev pub body_of : List ℕ → ℕ → Numbered → Run
-body_of F limit x = behind (location_fault F x.entry) where
+body_of F limit x = behind (location_fault (length F) x.entry) where
   behind : Option Fault → Run
   behind (Some f) = only_fault (list_fault x.number None f)
   behind None = records_of F limit x.number x.entry.location.rva x.entry.location.size (kind_of x.entry.stream_type)

@@ -1,5 +1,9 @@
 -- Whether a file can be listed at all.
-use Rattle.std.specs.Prelude.{ℕ, ◌*◌, ◌^◌, List, length, Option, Some, None, nat_lt, if◌then◌else◌}
+use Rattle.std.specs.Prelude.{◌≡◌, ◌≤◌, ◌<◌, false, ℕ, ◌+◌, ◌*◌, ◌^◌, List, length, Option, Some, None, Result, Ok, Err, nat_lt, if◌then◌else◌}
+use Rattle.mdmp_source.specs.Count.{HasRisen}
+use Rattle.mdmp_source.specs.Fault.{HasCause}
+use Rattle.mdmp_source.specs.Source.{SourceState, FetchesAtMost}
+use Rattle.mdmp_wire.specs.declared.header.Header.{Header}
 use Rattle.mdmp_source.specs.Range.{is_inside}
 use Rattle.mdmp_wire.specs.declared.header_fault.HeaderFault.{HeaderFault}
 use Rattle.mdmp_wire.specs.declared.header_fault.HeaderFault.TheVariants as header
@@ -7,7 +11,7 @@ use Rattle.mdmp_wire.specs.Header.{header_at}
 use Rattle.mdmp_wire.specs.HeaderFault.{header_fault}
 use Rattle.mdmp_lister.specs.declared.choice.Choice.{Choice}
 use Rattle.mdmp_lister.specs.declared.fault.OpenFault.{OpenFault}
-use Rattle.mdmp_lister.specs.declared.fault.OpenFault.TheVariants.{TooShort, BadSignature, BadVersion, DirectoryOutside, TooManyRanges}
+use Rattle.mdmp_lister.specs.declared.fault.OpenFault.TheVariants.{TooShort, BadSignature, BadVersion, DirectoryOutside, TooManyRanges, Source, Memory}
 use Rattle.mdmp_lister.specs.Listing.{entry_count}
 use Rattle.mdmp_lister.specs.Counts.{range_count}
 
@@ -46,3 +50,55 @@ behind_directory F choice None = range_fault F choice
 -- the first fault that keeps a file from being opened, or none
 abbrev pub opening_fault : List ℕ → Choice → Option OpenFault
 opening_fault F choice = behind_directory F choice (directory_refusal F)
+
+-- ---- what an opening answers
+
+-- the header of F was read, or the first fault of its header and directory; a fault of the store says nothing of F
+abbrev pub Finds : List ℕ → Result Header OpenFault → Type 0
+Finds F (Ok header) = (directory_refusal F ≡ None) × (header ≡ header_at F 0)
+Finds F (Err (Source fault)) = Unit {0}
+Finds F (Err fault) = directory_refusal F ≡ Some fault
+
+-- the bytes were not obtained
+abbrev pub IsUnread : OpenFault → Type 0
+IsUnread (Source fault) = Unit {0}
+IsUnread fault = ⊥
+
+-- a fault of the store has its cause in this call
+abbrev pub IsUnreadFor : OpenFault → SourceState → SourceState → Type 0
+IsUnreadFor (Source fault) old new = HasCause fault
+    (HasRisen old.store.counts.failures new.store.counts.failures)
+    (HasRisen old.store.counts.empties new.store.counts.empties)
+IsUnreadFor fault old new = Unit {0}
+
+-- a fault that a file may be refused with: its own, or want of memory where it has none, or one of the store
+abbrev pub IsRefusalOf : List ℕ → OpenFault → Type 0
+IsRefusalOf F (Source fault) = Unit {0}
+IsRefusalOf F Memory = directory_refusal F ≡ None
+IsRefusalOf F fault = directory_refusal F ≡ Some fault
+
+-- the header and the place of the directory were refused
+abbrev pub IsOfHead : OpenFault → Type 0
+IsOfHead (TooShort size) = Unit {0}
+IsOfHead BadSignature = Unit {0}
+IsOfHead (BadVersion low) = Unit {0}
+IsOfHead (DirectoryOutside offset size) = Unit {0}
+IsOfHead fault = ⊥
+
+-- the source of a file that was refused: its header was fetched, and at most so many entries of its directory
+pub record IsHandedBack (old : SourceState) (fault : OpenFault) (new : SourceState) : Type 0 where
+  pub entries : ℕ
+  pub fetches : FetchesAtMost (32 + 12 * entries) old new
+  pub known : (file : List ℕ) → old.store.content ≡ Some file → entries ≤ entry_count file
+  pub inside : 12 * entries ≤ old.size
+  -- none but of a file whose header and place of the directory are good, and not even the header of a file that is too short
+  pub begun : 0 < entries → (file : List ℕ) → old.store.content ≡ Some file → directory_refusal file ≡ None
+  pub early : IsOfHead fault → entries ≡ 0
+  pub unfetched : fault ≡ Memory → entries ≡ 0
+  pub short : (size : ℕ) → fault ≡ TooShort size → new ≡ old
+
+-- a file of `size` bytes may be refused so, whatever its bytes
+abbrev pub IsOpenRefusal : ℕ → OpenFault → Type 0
+IsOpenRefusal size (TooShort told) = (told ≡ size) × (size < 32)
+IsOpenRefusal size (DirectoryOutside offset len) = is_inside offset len size ≡ false
+IsOpenRefusal size fault = 32 ≤ size

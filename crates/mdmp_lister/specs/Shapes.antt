@@ -3,6 +3,9 @@ use Rattle.std.specs.Prelude.{◌≤◌, ◌<◌, ℕ, ◌+◌, ◌*◌, List, l
 use Rattle.mdmp_source.specs.Range.{is_inside}
 use Rattle.mdmp_wire.specs.declared.entry.Entry.{Entry}
 use Rattle.mdmp_wire.specs.Number.{number_at}
+use Rattle.mdmp_wire.specs.Memory64List.{memory64_list_at}
+use Rattle.mdmp_wire.specs.MemoryInfoList.{memory_info_list_at}
+use Rattle.mdmp_wire.specs.UnloadedList.{unloaded_list_at}
 use Rattle.mdmp_lister.specs.declared.kind.Kind.{Kind}
 use Rattle.mdmp_lister.specs.declared.kind.Kind.TheVariants as kinds
 use Rattle.mdmp_lister.specs.declared.shape.Shape.{Shape}
@@ -25,6 +28,17 @@ kind_of t =
 abbrev pub is_known : ℕ → Bool
 is_known t = is_some (kind_of t)
 
+-- how many bytes stand before the records, at least; of a single record it is all
+abbrev pub head_size : Kind → ℕ
+head_size kinds.Threads = 4
+head_size kinds.Modules = 4
+head_size kinds.Memory = 4
+head_size kinds.Exception = 168
+head_size kinds.System = 56
+head_size kinds.Memory64 = 16
+head_size kinds.Unloaded = 12
+head_size kinds.MemoryInfo = 16
+
 -- how many bytes a record has
 abbrev pub record_size : Kind → ℕ
 record_size kinds.Threads = 48
@@ -38,48 +52,49 @@ record_size kinds.MemoryInfo = 48
 
 -- a list of records of the same size behind a u32 that counts them, padded to 8 bytes where the stream has
 -- exactly 4 bytes more than it needs
-abbrev pub counted : List ℕ → ℕ → ℕ → ℕ → Result Shape Fault
-counted F at size record_size =
-    let count = number_at F at 4 in
-    if nat_lt size 4 then Err (record { kind = ShortStream; offset = at; size = size })
-    else if nat_lt size (4 + count * record_size) then Err (record { kind = BadCount; offset = at; size = count })
+abbrev pub counted : ℕ → ℕ → ℕ → ℕ → Result Shape Fault
+counted at size record_size count =
+    if nat_lt size (4 + count * record_size) then Err (record { kind = BadCount; offset = at; size = count })
     else Ok (record { first = if size == 8 + count * record_size then 8 else 4; stride = record_size; count = count })
 
 -- one record
-abbrev pub single : ℕ → ℕ → ℕ → Result Shape Fault
-single at size record_size =
-    if nat_lt size record_size then Err (record { kind = ShortStream; offset = at; size = size })
-    else Ok (record { first = 0; stride = record_size; count = 1 })
+abbrev pub single : ℕ → Result Shape Fault
+single record_size = Ok (record { first = 0; stride = record_size; count = 1 })
 
 -- ranges behind a u64 that counts them and a u64 that says where their bytes begin
-abbrev pub ranges64 : List ℕ → ℕ → ℕ → Result Shape Fault
-ranges64 F at size =
-    let count = number_at F at 8 in
-    if nat_lt size 16 then Err (record { kind = ShortStream; offset = at; size = size })
-    else if nat_lt size (16 + 16 * count) then Err (record { kind = BadCount; offset = at; size = count })
+abbrev pub ranges64 : ℕ → ℕ → ℕ → Result Shape Fault
+ranges64 at size count =
+    if nat_lt size (16 + 16 * count) then Err (record { kind = BadCount; offset = at; size = count })
     else Ok (record { first = 16; stride = 16; count = count })
 
 -- records behind a head that says its own size, theirs, and how many there are
-abbrev pub sized : List ℕ → ℕ → ℕ → ℕ → ℕ → ℕ → Result Shape Fault
-sized F at size head record_size count =
-    let first = number_at F at 4 in
-    let stride = number_at F (at + 4) 4 in
-    if nat_lt size head then Err (record { kind = ShortStream; offset = at; size = size })
-    else if nat_lt first head || nat_lt size first then Err (record { kind = BadHeaderSize; offset = at; size = first })
+abbrev pub sized : ℕ → ℕ → ℕ → ℕ → ℕ → ℕ → ℕ → Result Shape Fault
+sized at size head record_size first stride count =
+    if nat_lt first head || nat_lt size first then Err (record { kind = BadHeaderSize; offset = at; size = first })
     else if nat_lt 0 count && nat_lt stride record_size then Err (record { kind = BadEntrySize; offset = at + 4; size = stride })
     else if nat_lt size (first + count * stride) then Err (record { kind = BadCount; offset = at + 8; size = count })
     else Ok (record { first = first; stride = stride; count = count })
 
+-- the shape of a stream of this kind that has room for its head
+abbrev pub shape_behind_head : List ℕ → ℕ → ℕ → Kind → Result Shape Fault
+shape_behind_head F at size kinds.Threads = counted at size (record_size kinds.Threads) (number_at F at 4)
+shape_behind_head F at size kinds.Modules = counted at size (record_size kinds.Modules) (number_at F at 4)
+shape_behind_head F at size kinds.Memory = counted at size (record_size kinds.Memory) (number_at F at 4)
+shape_behind_head F at size kinds.Exception = single (record_size kinds.Exception)
+shape_behind_head F at size kinds.System = single (record_size kinds.System)
+shape_behind_head F at size kinds.Memory64 = ranges64 at size (memory64_list_at F at).number_of_memory_ranges
+shape_behind_head F at size kinds.Unloaded =
+    let head = unloaded_list_at F at in
+    sized at size (head_size kinds.Unloaded) (record_size kinds.Unloaded) head.size_of_header head.size_of_entry head.number_of_entries
+shape_behind_head F at size kinds.MemoryInfo =
+    let head = memory_info_list_at F at in
+    sized at size (head_size kinds.MemoryInfo) (record_size kinds.MemoryInfo) head.size_of_header head.size_of_entry head.number_of_entries
+
 -- the shape of a stream of this kind, of size bytes at `at`
 unfoldable pub shape_of : List ℕ → ℕ → ℕ → Kind → Result Shape Fault
-shape_of F at size kinds.Threads = counted F at size (record_size kinds.Threads)
-shape_of F at size kinds.Modules = counted F at size (record_size kinds.Modules)
-shape_of F at size kinds.Memory = counted F at size (record_size kinds.Memory)
-shape_of F at size kinds.Exception = single at size (record_size kinds.Exception)
-shape_of F at size kinds.System = single at size (record_size kinds.System)
-shape_of F at size kinds.Memory64 = ranges64 F at size
-shape_of F at size kinds.Unloaded = sized F at size 12 (record_size kinds.Unloaded) (number_at F (at + 8) 4)
-shape_of F at size kinds.MemoryInfo = sized F at size 16 (record_size kinds.MemoryInfo) (number_at F (at + 8) 8)
+shape_of F at size kind =
+    if nat_lt size (head_size kind) then Err (record { kind = ShortStream; offset = at; size = size })
+    else shape_behind_head F at size kind
 
 -- the records of a stream of `size` bytes lie inside it, and no two overlap: a law of every shape
 pub record FitsIn (size : ℕ) (kind : Kind) (shape : Shape) : Type 0 where
@@ -88,10 +103,11 @@ pub record FitsIn (size : ℕ) (kind : Kind) (shape : Shape) : Type 0 where
 
 -- ---- entries of any type
 
--- the fault of an entry whose location is not inside the file, or none: that of an unused entry is not looked at
-abbrev pub location_fault : List ℕ → Entry → Option Fault
-location_fault F e =
-    if e.stream_type == 0 || is_inside e.location.rva e.location.size (length F) then None
+-- the fault of an entry whose location is not inside a file of z bytes, or none: that of an unused entry is not
+-- looked at
+abbrev pub location_fault : ℕ → Entry → Option Fault
+location_fault z e =
+    if e.stream_type == 0 || is_inside e.location.rva e.location.size z then None
     else Some (record { kind = StreamOutside; offset = e.location.rva; size = e.location.size })
 
 -- how many records a shape has, or its fault
@@ -106,7 +122,7 @@ known_count F at size None = Ok 0
 
 -- how many records an entry has, or its fault
 abbrev pub record_count : List ℕ → Entry → Result ℕ Fault
-record_count F e = behind (location_fault F e) where
+record_count F e = behind (location_fault (length F) e) where
   behind : Option Fault → Result ℕ Fault
   behind (Some fault) = Err fault
   behind None = known_count F e.location.rva e.location.size (kind_of e.stream_type)

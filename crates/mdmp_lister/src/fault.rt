@@ -49,7 +49,7 @@ pub struct ListFault {
     /// The number of the entry in the directory, from 0.
     pub entry: u32,
     /// The index of the item in whose place the fault stands, from 0: of the item whose name is
-    /// bad. None where the whole stream is.
+    /// bad. None where the whole stream is, or the store failed.
     pub index: Option<u64>,
     /// What is wrong.
     pub kind: FaultKind,
@@ -82,7 +82,7 @@ pub enum OpenFault {
         /// How many bytes the directory has: 12 for each entry.
         size: u64,
     },
-    /// The header, the directory or the head of a memory list was not obtained.
+    /// The header or the directory was not obtained.
     Source(SourceFault),
     /// The allocator refused memory.
     Memory,

@@ -1,9 +1,12 @@
 //! What a listing gives.
+ghost use Rattle.std.specs.Prelude.{◌≡◌};
+ghost use Rattle.mdmp_lister.specs.Extents.{range_extent_of};
 
 use crate::name::Name;
 use mdmp_source::{Extent, Location};
 use mdmp_wire::{
-    ExceptionRecord, MemoryInfoRecord, ModuleRecord, SystemRecord, ThreadRecord, UnloadedRecord,
+    Descriptor, Descriptor64, ExceptionRecord, MemoryInfoRecord, ModuleRecord, SystemRecord,
+    ThreadRecord, UnloadedRecord,
 };
 
 /// An entry of the directory, `MINIDUMP_DIRECTORY`: the items of its stream follow this one.
@@ -30,6 +33,24 @@ pub struct ThreadItem {
     pub stack: Extent,
     /// What its `ThreadContext` names.
     pub context: Extent,
+}
+
+impl ThreadItem {
+    ghost use Rattle.std.specs.Prelude.{◌≡◌};
+    ghost use Rattle.mdmp_lister.specs.Items.{thread_item};
+
+    /// The item of a record, in a file of `size` bytes.
+    pub(crate) fn new(entry: u32, index: u64, fields: ThreadRecord, size: u64) -> Self
+        ensures { result ≡ thread_item size entry index fields }
+    {
+        ThreadItem {
+            entry,
+            index,
+            fields,
+            stack: fields.stack.memory.classify(size),
+            context: fields.thread_context.classify(size),
+        }
+    }
 }
 
 /// A module, `MINIDUMP_MODULE`.
@@ -75,6 +96,23 @@ pub struct ExceptionItem {
     pub context: Extent,
 }
 
+impl ExceptionItem {
+    ghost use Rattle.std.specs.Prelude.{◌≡◌};
+    ghost use Rattle.mdmp_lister.specs.Items.{exception_item};
+
+    /// The item of a record, in a file of `size` bytes.
+    pub(crate) fn new(entry: u32, index: u64, fields: ExceptionRecord, size: u64) -> Self
+        ensures { result ≡ exception_item size entry index fields }
+    {
+        ExceptionItem {
+            entry,
+            index,
+            fields,
+            context: fields.thread_context.classify(size),
+        }
+    }
+}
+
 /// The system, `MINIDUMP_SYSTEM_INFO`.
 #[derive(Drop)]
 pub struct SystemItem<'a> {
@@ -116,6 +154,52 @@ pub struct RangeItem {
     /// `MINIDUMP_MEMORY64_LIST` stand behind the bytes of the ranges before it, so that the offset
     /// may be greater than any file is long.
     pub offset: u128,
+}
+
+impl RangeItem {
+    ghost use Rattle.std.specs.Prelude.{◌≡◌};
+    ghost use Rattle.mdmp_lister.specs.Items.{range64_item, range_item};
+
+    /// The item of a range that says where its bytes stand, in a file of `size` bytes.
+    pub(crate) fn new(entry: u32, index: u64, fields: Descriptor, size: u64) -> Self
+        ensures { result ≡ range_item size entry index fields }
+    {
+        RangeItem {
+            entry,
+            index,
+            start: fields.start_of_memory_range,
+            size: u64::from(fields.memory.size),
+            extent: fields.memory.classify(size),
+            offset: u128::from(fields.memory.rva),
+        }
+    }
+
+    /// The item of a range whose bytes stand at an offset, in a file of `size` bytes.
+    pub(crate) fn at(entry: u32, index: u64, fields: Descriptor64, offset: u128, size: u64) -> Self
+        ensures { result ≡ range64_item size entry index fields offset }
+    {
+        RangeItem {
+            entry,
+            index,
+            start: fields.start_of_memory_range,
+            size: fields.data_size,
+            extent: classify(offset, fields.data_size, size),
+            offset,
+        }
+    }
+}
+
+/// What `len` bytes at an offset are in a file of `size` bytes. They are never absent.
+fn classify(offset: u128, len: u64, size: u64) -> Extent
+    ensures { result ≡ range_extent_of offset len size }
+{
+    if len == 0 {
+        Extent::Empty
+    } else if offset <= u128::from(size) && u128::from(len) <= u128::from(size) - offset {
+        Extent::Inside
+    } else {
+        Extent::Outside
+    }
 }
 
 /// What a listing gives, one at a time: an entry of the directory, and then its records.

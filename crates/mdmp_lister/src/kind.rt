@@ -1,6 +1,11 @@
 //! Which streams have records here.
 ghost use Rattle.std.specs.Prelude.{◌≡◌};
-ghost use Rattle.mdmp_lister.specs.Shapes.{kind_of};
+ghost use Rattle.mdmp_lister.specs.Shapes.{head_size, kind_of, record_size};
+
+use mdmp_wire::{
+    Descriptor, Descriptor64, ExceptionRecord, Memory64List, MemoryInfoList, MemoryInfoRecord,
+    ModuleRecord, Record, SystemRecord, ThreadRecord, UnloadedList, UnloadedRecord,
+};
 
 /// The streams whose records are listed, with their `MINIDUMP_STREAM_TYPE`. Of an entry of another
 /// type its location alone is listed: such a stream is opaque, and `UnusedStream`, 0, is none.
@@ -40,5 +45,35 @@ impl Kind {
             16 => Some(Kind::MemoryInfo),
             _ => None,
         }
+    }
+
+    /// How many bytes stand before the records, at least; of a single record it is all of it.
+    pub(crate) fn head_size(self) -> u32
+        ensures { result ≡ head_size self }
+    {
+        match self {
+            Kind::Threads | Kind::Modules | Kind::Memory => 4,
+            Kind::Exception | Kind::System => self.record_size(),
+            Kind::Memory64 => Memory64List::SIZE as u32,
+            Kind::Unloaded => UnloadedList::SIZE as u32,
+            Kind::MemoryInfo => MemoryInfoList::SIZE as u32,
+        }
+    }
+
+    /// How many bytes a record has.
+    pub(crate) fn record_size(self) -> u32
+        ensures { result ≡ record_size self }
+    {
+        let size = match self {
+            Kind::Threads => ThreadRecord::SIZE,
+            Kind::Modules => ModuleRecord::SIZE,
+            Kind::Memory => Descriptor::SIZE,
+            Kind::Exception => ExceptionRecord::SIZE,
+            Kind::System => SystemRecord::SIZE,
+            Kind::Memory64 => Descriptor64::SIZE,
+            Kind::Unloaded => UnloadedRecord::SIZE,
+            Kind::MemoryInfo => MemoryInfoRecord::SIZE,
+        };
+        size as u32
     }
 }

@@ -8,29 +8,45 @@
 //! under it `Shapes` (where the records of a stream stand), `Items` (what a record gives), `Names`
 //! and `Opening` (which files can't be listed at all).
 //!
+//! [`Lister`] lists a file through a window, one item at a time or all of them into a [`Sink`];
 //! [`Choice`] says which entries are listed and [`Limits`] how much memory that may take.
-//! [`name_at`] and [`shape_of`] are two steps of a listing over a whole file in memory.
+//! [`list_file`] lists a file that is wholly in memory, slow and obvious; [`name_at`] and [`shape_of`]
+//! are two steps of it.
 //!
 //! ```text
-//! let choice = Choice::Types(TypeSet::new(&[3, 4]).ok_or("types")?);
-//! if let Some(kind) = Kind::of_type(entry.stream_type) {
-//!     let shape = shape_of(file, entry.location.rva, entry.location.size, kind)?;
+//! let source = Source::new(FileStore::open(rt, "crash.dmp")?);
+//! let mut lister = match Lister::open(alloc, source, Limits::default(), Choice::All) {
+//!     Ok(lister) => lister,
+//!     Err(refused) => return Err(refused.fault),
+//! };
+//! while let Some(item) = lister.next()? {
+//!     if let Item::Module(module) = item { .. }
 //! }
 //! ```
 #![tactic(auto)]
 
 mod choice;
 mod fault;
+mod fetching;
+mod heading;
 mod item;
 mod kind;
 mod laws;
 mod limits;
+mod lister;
 mod name;
+mod opening;
 mod plain;
 mod reading;
+mod recording;
 mod shape;
 mod shaping;
+mod sink;
+mod stage;
+mod step;
+mod stop_at;
 mod verdict;
+mod walk;
 
 pub use crate::choice::{Choice, TypeSet};
 pub use crate::fault::{Fault, FaultKind, ListFault, OpenFault};
@@ -41,11 +57,15 @@ pub use crate::item::{
 pub use crate::kind::Kind;
 pub use crate::laws::{listing_ends_at_the_first_bad_verdict, listing_of_a_choice};
 pub use crate::limits::Limits;
+pub use crate::lister::Lister;
 pub use crate::name::Name;
+pub use crate::opening::OpenRefused;
 pub use crate::plain::{Listing, list_file, opening_fault};
 pub use crate::reading::name_at;
 pub use crate::shape::Shape;
 pub use crate::shaping::shape_of;
+pub use crate::sink::{RunFault, Sink, Stopped};
+pub use crate::stop_at::StopAt;
 pub use crate::verdict::Verdict;
 
 #[cfg(test)]

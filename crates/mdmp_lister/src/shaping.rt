@@ -1,15 +1,23 @@
-//! Where the records of a stream stand, read from a whole file.
-ghost use Rattle.std.specs.Prelude.{◌≡◌, ◌≤◌, ◌+◌, ◌*◌, ◌<◌, ◌^◌, length, IfOk};
+//! Where the records of a stream stand.
+ghost use Rattle.std.specs.Prelude.{◌≡◌, ◌≤◌, ◌+◌, ◌*◌, ◌<◌, ◌^◌, None, length, IfOk};
 ghost use Rattle.mdmp_source.specs.Range.{IsInside};
-ghost use Rattle.mdmp_lister.specs.Shapes.{FitsIn, counted, single, ranges64, sized, shape_of};
+ghost use Rattle.mdmp_lister.specs.Shapes.{
+  FitsIn,
+  counted,
+  head_size,
+  location_fault,
+  ranges64,
+  record_size,
+  shape_of,
+  single,
+  sized,
+};
 
 use crate::fault::{Fault, FaultKind};
 use crate::kind::Kind;
 use crate::shape::Shape;
-use mdmp_wire::{
-    Descriptor, ExceptionRecord, MemoryInfoRecord, ModuleRecord, Record, SystemRecord,
-    ThreadRecord, UnloadedRecord, read_at,
-};
+use mdmp_source::{Location, inside};
+use mdmp_wire::{Entry, Memory64List, MemoryInfoList, UnloadedList, read_at};
 
 fn fault<T: Drop>(kind: FaultKind, offset: u64, size: u64) -> Result<T, Fault>
     ensures { result ≡ Err (record { kind = kind; offset = offset; size = size }) }
@@ -17,63 +25,76 @@ fn fault<T: Drop>(kind: FaultKind, offset: u64, size: u64) -> Result<T, Fault>
     Err(Fault { kind, offset, size })
 }
 
-fn counted(file: &[u8], at: u32, size: u32, record_size: u32) -> Result<Shape, Fault>
-    requires { IsInside at size (length file.now) }
-    ensures shape { result ≡ counted file.now at size record_size }
-    ensures records { IfOk result (λ shape. shape.first + shape.count * shape.stride ≤ size) }
-    ensures stride { IfOk result (λ shape. 0 < shape.count → record_size ≤ shape.stride) }
+/// The fault of an entry whose location is not inside a file of `size` bytes. That of an unused entry
+/// is not looked at.
+pub(crate) fn location_fault(entry: Entry, size: u64) -> Option<Fault>
+    ensures fault { result ≡ location_fault size entry }
+    ensures inside { result ≡ None → 0 < entry.stream_type → IsInside entry.location.rva entry.location.size size }
 {
-    let start = u64::from(at);
-    let size = u64::from(size);
-    let stride = u64::from(record_size);
-    if size < 4 {
-        return fault(FaultKind::ShortStream, start, size);
+    let offset = u64::from(entry.location.rva);
+    let len = u64::from(entry.location.size);
+    if entry.stream_type == 0 || inside(offset, len, size) {
+        return None;
     }
-    let count: u32 = read_at(file, at as usize);
-    let count = u64::from(count);
+    Some(Fault {
+        kind: FaultKind::StreamOutside,
+        offset,
+        size: len,
+    })
+}
+
+/// The fault of a stream that is shorter than its head.
+pub(crate) fn too_short<T: Drop>(at: Location) -> Result<T, Fault>
+    ensures { result ≡ Err (record { kind = FaultKind.ShortStream; offset = at.rva; size = at.size }) }
+{
+    fault(
+        FaultKind::ShortStream,
+        u64::from(at.rva),
+        u64::from(at.size),
+    )
+}
+
+/// The shape of a list of so many records behind their count.
+pub(crate) fn counted(at: Location, kind: Kind, count: u32) -> Result<Shape, Fault>
+    requires { 4 ≤ at.size }
+    ensures shape { result ≡ counted at.rva at.size (record_size kind) count }
+    ensures fits { IfOk result (λ shape. shape.first + shape.count * shape.stride ≤ at.size) }
+    ensures stride { IfOk result (λ shape. shape.stride ≡ record_size kind) }
+{
+    let size = u128::from(at.size);
+    let stride = u64::from(kind.record_size());
     let records = u128::from(count) * u128::from(stride);
-    if u128::from(size) < 4 + records {
-        return fault(FaultKind::BadCount, start, count);
+    if size < 4 + records {
+        return fault(FaultKind::BadCount, u64::from(at.rva), u64::from(count));
     }
-    let first = if u128::from(size) == 8 + records {
-        8
-    } else {
-        4
-    };
+    let first = if size == 8 + records { 8 } else { 4 };
     Ok(Shape {
         first,
         stride,
-        count,
+        count: u64::from(count),
     })
 }
 
-fn single(at: u32, size: u32, record_size: u32) -> Result<Shape, Fault>
-    ensures shape { result ≡ single at size record_size }
-    ensures records { IfOk result (λ shape. shape.first + shape.count * shape.stride ≤ size) }
-    ensures stride { IfOk result (λ shape. 0 < shape.count → record_size ≤ shape.stride) }
+/// The shape of a stream that is one record.
+pub(crate) fn single(kind: Kind) -> Shape
+    ensures { single (record_size kind) ≡ Ok result }
 {
-    if size < record_size {
-        return fault(FaultKind::ShortStream, u64::from(at), u64::from(size));
-    }
-    Ok(Shape {
+    Shape {
         first: 0,
-        stride: u64::from(record_size),
+        stride: u64::from(kind.record_size()),
         count: 1,
-    })
+    }
 }
 
-fn ranges64(file: &[u8], at: u32, size: u32) -> Result<Shape, Fault>
-    requires { IsInside at size (length file.now) }
-    ensures shape { result ≡ ranges64 file.now at size }
-    ensures records { IfOk result (λ shape. shape.first + shape.count * shape.stride ≤ size) }
-    ensures stride { IfOk result (λ shape. 0 < shape.count → 16 ≤ shape.stride) }
+/// The shape of a 64-bit memory list with this head.
+pub(crate) fn ranges64(at: Location, head: Memory64List) -> Result<Shape, Fault>
+    ensures shape { result ≡ ranges64 at.rva at.size head.number_of_memory_ranges }
+    ensures fits { IfOk result (λ shape. shape.first + shape.count * shape.stride ≤ at.size) }
+    ensures places { IfOk result (λ shape. (shape.first ≡ 16) × (shape.stride ≡ 16)) }
 {
-    if size < 16 {
-        return fault(FaultKind::ShortStream, u64::from(at), u64::from(size));
-    }
-    let count: u64 = read_at(file, at as usize);
-    if u128::from(size) < 16 + 16 * u128::from(count) {
-        return fault(FaultKind::BadCount, u64::from(at), count);
+    let count = head.number_of_memory_ranges;
+    if u128::from(at.size) < 16 + 16 * u128::from(count) {
+        return fault(FaultKind::BadCount, u64::from(at.rva), count);
     }
     Ok(Shape {
         first: 16,
@@ -82,80 +103,84 @@ fn ranges64(file: &[u8], at: u32, size: u32) -> Result<Shape, Fault>
     })
 }
 
-fn sized(
-    file: &[u8],
-    at: u32,
-    size: u32,
-    head: u32,
-    record_size: u32,
+/// The shape of a list whose head says its own size, that of an entry, and how many there are.
+pub(crate) fn sized(
+    at: Location,
+    kind: Kind,
+    header_size: u32,
+    entry_size: u32,
     count: u64,
 ) -> Result<Shape, Fault>
-    requires inside { IsInside at size (length file.now) }
-    requires head { 8 ≤ head }
-    ensures shape { result ≡ sized file.now at size head record_size count }
-    ensures records { IfOk result (λ shape. shape.first + shape.count * shape.stride ≤ size) }
-    ensures stride { IfOk result (λ shape. 0 < shape.count → record_size ≤ shape.stride) }
+    ensures shape { result ≡ sized at.rva at.size (head_size kind) (record_size kind) header_size entry_size count }
+    ensures fits { IfOk result (λ shape. shape.first + shape.count * shape.stride ≤ at.size) }
+    ensures stride { IfOk result (λ shape. 0 < shape.count → record_size kind ≤ shape.stride) }
 {
-    let start = u64::from(at);
-    if size < head {
-        return fault(FaultKind::ShortStream, start, u64::from(size));
+    let start = u64::from(at.rva);
+    if header_size < kind.head_size() || at.size < header_size {
+        return fault(FaultKind::BadHeaderSize, start, u64::from(header_size));
     }
-    let first: u32 = read_at(file, at as usize);
-    let stride: u32 = read_at(file, at as usize + 4);
-    if first < head || size < first {
-        return fault(FaultKind::BadHeaderSize, start, u64::from(first));
+    if 0 < count && entry_size < kind.record_size() {
+        return fault(FaultKind::BadEntrySize, start + 4, u64::from(entry_size));
     }
-    if 0 < count && stride < record_size {
-        return fault(FaultKind::BadEntrySize, start + 4, u64::from(stride));
-    }
-    if u128::from(size) < u128::from(first) + u128::from(count) * u128::from(stride) {
+    if u128::from(at.size) < u128::from(header_size) + u128::from(count) * u128::from(entry_size) {
         return fault(FaultKind::BadCount, start + 8, count);
     }
     Ok(Shape {
-        first: u64::from(first),
-        stride: u64::from(stride),
+        first: u64::from(header_size),
+        stride: u64::from(entry_size),
         count,
     })
 }
 
-/// Where the records of a stream of `size` bytes at `at` stand, or its first fault: too short for
-/// its head, a bad header size, a bad entry size, a bad count. The stream lies inside the file, or
-/// has no bytes. The records themselves are not read.
+/// Where the records of a stream stand, or its first fault: too short for its head, a bad header
+/// size, a bad entry size, a bad count. The stream lies inside the file, or has no bytes. The
+/// records themselves are not read.
 #[tactic(auto, unfolding(crate::specs::Shapes::shape_of))]
-pub fn shape_of(file: &[u8], at: u32, size: u32, kind: Kind) -> Result<Shape, Fault>
-    requires { IsInside at size (length file.now) }
-    ensures shape { result ≡ shape_of file.now at size kind }
-    ensures fits { IfOk result (λ shape. FitsIn size kind shape) }
+pub fn shape_of(file: &[u8], location: Location, kind: Kind) -> Result<Shape, Fault>
+    requires { IsInside location.rva location.size (length file.now) }
+    ensures shape { result ≡ shape_of file.now location.rva location.size kind }
+    ensures fits { IfOk result (λ shape. FitsIn location.size kind shape) }
 {
+    if location.size < kind.head_size() {
+        return too_short(location);
+    }
+    let at = location.rva as usize;
     match kind {
-        Kind::Threads => counted(file, at, size, ThreadRecord::SIZE as u32),
-        Kind::Modules => counted(file, at, size, ModuleRecord::SIZE as u32),
-        Kind::Memory => counted(file, at, size, Descriptor::SIZE as u32),
-        Kind::Exception => single(at, size, ExceptionRecord::SIZE as u32),
-        Kind::System => single(at, size, SystemRecord::SIZE as u32),
-        Kind::Memory64 => ranges64(file, at, size),
+        Kind::Threads | Kind::Modules | Kind::Memory => counted(location, kind, read_at(file, at)),
+        Kind::Exception | Kind::System => Ok(single(kind)),
+        Kind::Memory64 => ranges64(location, read_at(file, at)),
         Kind::Unloaded => {
-            let count: u32 = if size < 12 {
-                0
-            } else {
-                read_at(file, at as usize + 8)
-            };
+            let head: UnloadedList = read_at(file, at);
+            let count = u64::from(head.number_of_entries);
             sized(
-                file,
-                at,
-                size,
-                12,
-                UnloadedRecord::SIZE as u32,
-                u64::from(count),
+                location,
+                kind,
+                head.size_of_header,
+                head.size_of_entry,
+                count,
             )
         }
         Kind::MemoryInfo => {
-            let count = if size < 16 {
-                0
-            } else {
-                read_at(file, at as usize + 8)
-            };
-            sized(file, at, size, 16, MemoryInfoRecord::SIZE as u32, count)
+            let head: MemoryInfoList = read_at(file, at);
+            let count = head.number_of_entries;
+            sized(
+                location,
+                kind,
+                head.size_of_header,
+                head.size_of_entry,
+                count,
+            )
         }
     }
+}
+
+/// Where a record stands of a stream that lies inside a file of `size` bytes.
+pub(crate) fn record_at(stream: Location, kind: Kind, shape: Shape, index: u64, size: u64) -> u64
+    requires inside { IsInside stream.rva stream.size size }
+    requires fits { FitsIn stream.size kind shape }
+    requires left { index < shape.count }
+    ensures place { result ≡ stream.rva + shape.first + index * shape.stride }
+    ensures room { result + record_size kind ≤ size }
+{
+    u64::from(stream.rva) + shape.first + index * shape.stride
 }

@@ -1,16 +1,14 @@
 //! The entries of the directory, of a whole file in memory.
-ghost use Rattle.std.specs.Prelude.{◌≡◌, ◌≤◌, ◌<◌, ◌*◌, ◌^◌, None, length};
-ghost use Rattle.mdmp_source.specs.Range.{IsInside};
-ghost use Rattle.mdmp_lister.specs.Shapes.{kind_of, location_fault, record_count};
+ghost use Rattle.std.specs.Prelude.{◌≡◌, ◌≤◌, ◌<◌, ◌*◌, ◌^◌, length};
+ghost use Rattle.mdmp_lister.specs.Shapes.{kind_of, record_count};
 ghost use Rattle.mdmp_lister.specs.Listing.{entry_count, entry_of};
 ghost use Rattle.mdmp_lister.specs.Counts.{range_count, ranges_in};
 ghost use Rattle.mdmp_lister.specs.Plain.{HasDirectory};
 
 use crate::choice::Choice;
-use crate::fault::{Fault, FaultKind};
+use crate::fault::Fault;
 use crate::kind::Kind;
-use crate::shaping::shape_of;
-use mdmp_source::inside;
+use crate::shaping::{location_fault, shape_of};
 use mdmp_wire::{Entry, Header, read_at};
 
 /// How many entries the directory has.
@@ -35,35 +33,17 @@ pub(crate) fn entry_of(file: &[u8], number: u32) -> Entry
     )
 }
 
-/// The fault of an entry whose location is not inside the file.
-pub(crate) fn location_fault(file: &[u8], entry: Entry) -> Option<Fault>
-    ensures fault { result ≡ location_fault file.now entry }
-    ensures inside { result ≡ None → 0 < entry.stream_type
-        → IsInside entry.location.rva entry.location.size (length file.now) }
-{
-    let offset = u64::from(entry.location.rva);
-    let size = u64::from(entry.location.size);
-    if entry.stream_type == 0 || inside(offset, size, file.len() as u64) {
-        return None;
-    }
-    Some(Fault {
-        kind: FaultKind::StreamOutside,
-        offset,
-        size,
-    })
-}
-
 /// How many records an entry has, or its fault.
 fn record_count(file: &[u8], entry: Entry) -> Result<u64, Fault>
     ensures { result ≡ record_count file.now entry }
 {
-    if let Some(fault) = location_fault(file, entry) {
+    if let Some(fault) = location_fault(entry, file.len() as u64) {
         return Err(fault);
     }
     match Kind::of_type(entry.stream_type) {
         None => Ok(0),
         Some(kind) => {
-            match shape_of(file, entry.location.rva, entry.location.size, kind) {
+            match shape_of(file, entry.location, kind) {
                 Ok(shape) => Ok(shape.count),
                 Err(fault) => Err(fault),
             }

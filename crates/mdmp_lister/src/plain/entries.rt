@@ -9,10 +9,10 @@ use crate::choice::Choice;
 use crate::fault::{Fault, ListFault};
 use crate::item::{Item, StreamItem};
 use crate::kind::Kind;
-use crate::plain::directory::{entry_count, entry_of, location_fault};
+use crate::plain::directory::{entry_count, entry_of};
 use crate::plain::items::item_at;
 use crate::shape::Shape;
-use crate::shaping::shape_of;
+use crate::shaping::{location_fault, shape_of};
 use mdmp_source::Location;
 use mdmp_wire::Entry;
 use std::alloc::{AllocError, Allocator};
@@ -67,7 +67,7 @@ fn list_stream<'a, A: Allocator>(
         (shaped file.now limit entry location.rva kind
         (shape_of file.now location.rva location.size kind))) }
 {
-    match shape_of(file, location.rva, location.size, kind) {
+    match shape_of(file, location, kind) {
         Err(fault) => Ok(Some(list_fault(entry, None, fault))),
         Ok(shape) => list_records(
             file,
@@ -98,7 +98,7 @@ fn list_entry<'a, A: Allocator>(
         stream_type: entry.stream_type,
         location,
     }))?;
-    if let Some(fault) = location_fault(file, entry) {
+    if let Some(fault) = location_fault(entry, file.len() as u64) {
         return Ok(Some(list_fault(number, None, fault)));
     }
     match Kind::of_type(entry.stream_type) {

@@ -2,6 +2,35 @@
 use std::alloc::Global;
 use std::test::Fail;
 
+/// A system, whose name is that of its service pack.
+pub const SYSTEM: [u8; 136] =
+    *b"MDMP\x93\xa7\0\0\x01\0\0\0\x20\0\0\0\0\0\0\0\0\0\0\0\0\0\0\0\0\0\0\0\
+\x07\0\0\0\x38\0\0\0\x2c\0\0\0\
+\x09\0\x06\0\x03\0\x04\x01\x06\0\0\0\x01\0\0\0\xb1\x1d\0\0\x02\0\0\0\x64\0\0\0\0\x01\0\0\
+\0\0\0\0\0\0\0\0\0\0\0\0\0\0\0\0\0\0\0\0\0\0\0\0\
+\x1c\0\0\0S\0e\0r\0v\0i\0c\0e\0 \0P\0a\0c\0k\0 \x001\0\0\0\0\0";
+
+/// Two ranges of 64-bit memory, the second outside the file.
+pub const MEMORY64: [u8; 98] =
+    *b"MDMP\x93\xa7\0\0\x01\0\0\0\x20\0\0\0\0\0\0\0\0\0\0\0\0\0\0\0\0\0\0\0\
+\x09\0\0\0\x30\0\0\0\x2c\0\0\0\
+\x02\0\0\0\0\0\0\0\x5c\0\0\0\0\0\0\0\
+\0\x10\0\0\0\0\0\0\x04\0\0\0\0\0\0\0\
+\0\x20\0\0\0\0\0\0\x04\0\0\0\0\0\0\0ABCDEF";
+
+/// A system, a module whose name lies outside, and a comment that does.
+pub const FAULTY: [u32; 51] = [
+    7, 56, 68, 4, 112, 124, 10, 5, 236, // the directory
+    0, 0, 0, 0, 0, 0, 0, 0, 0, 0, 0, 0, 0, 0, // the system
+    1, 0, 0, 0, 0, 0, 4294967295, 0, 0, 0, 0, 0, 0, 0, 0, 0, 0, 0, 0, 0, 0, 0, 0, 0, 0, 0, 0, 0,
+];
+
+/// Three entries that name one list of one thread.
+pub const THRICE: [u32; 22] = [
+    3, 52, 68, 3, 52, 68, 3, 52, 68, // the directory
+    1, 7, 0, 0, 0, 0, 0, 0, 0, 0, 0, 0, 0, // one thread
+];
+
 /// A file of these numbers, each of four bytes, behind a header that names so many entries at 32.
 pub fn file(rt: &HostRuntime, entries: u32, numbers: &[u32]) -> Result<Vec<u8, Global>, Fail> {
     let mut file = Vec::new(rt.alloc());

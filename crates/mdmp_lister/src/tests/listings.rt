@@ -1,25 +1,11 @@
 //! Whole files, listed.
-use crate::tests::files::file;
+use crate::tests::files::{FAULTY, MEMORY64, SYSTEM, THRICE, file};
 use crate::{
     Choice, FaultKind, Item, ListFault, Listing, Name, OpenFault, TypeSet, list_file, opening_fault,
 };
 use mdmp_source::{Extent, Location};
 use std::alloc::Global;
 use std::test::Fail;
-
-/// A system, whose name is that of its service pack.
-const SYSTEM: [u8; 136] = *b"MDMP\x93\xa7\0\0\x01\0\0\0\x20\0\0\0\0\0\0\0\0\0\0\0\0\0\0\0\0\0\0\0\
-\x07\0\0\0\x38\0\0\0\x2c\0\0\0\
-\x09\0\x06\0\x03\0\x04\x01\x06\0\0\0\x01\0\0\0\xb1\x1d\0\0\x02\0\0\0\x64\0\0\0\0\x01\0\0\
-\0\0\0\0\0\0\0\0\0\0\0\0\0\0\0\0\0\0\0\0\0\0\0\0\
-\x1c\0\0\0S\0e\0r\0v\0i\0c\0e\0 \0P\0a\0c\0k\0 \x001\0\0\0\0\0";
-
-/// Two ranges of 64-bit memory, the second outside the file.
-const MEMORY64: [u8; 98] = *b"MDMP\x93\xa7\0\0\x01\0\0\0\x20\0\0\0\0\0\0\0\0\0\0\0\0\0\0\0\0\0\0\0\
-\x09\0\0\0\x30\0\0\0\x2c\0\0\0\
-\x02\0\0\0\0\0\0\0\x5c\0\0\0\0\0\0\0\
-\0\x10\0\0\0\0\0\0\x04\0\0\0\0\0\0\0\
-\0\x20\0\0\0\0\0\0\x04\0\0\0\0\0\0\0ABCDEF";
 
 #[test]
 fn system_is_listed_with_its_name(rt: HostRuntime) -> Result<(), Fail> {
@@ -114,14 +100,7 @@ fn unused_entry_is_listed_as_it_stands(rt: HostRuntime) -> Result<(), Fail> {
 
 #[test]
 fn list_that_three_entries_name_is_listed_thrice(rt: HostRuntime) -> Result<(), Fail> {
-    let file = file(
-        &rt,
-        3,
-        &[
-            3, 52, 68, 3, 52, 68, 3, 52, 68, // the directory
-            1, 7, 0, 0, 0, 0, 0, 0, 0, 0, 0, 0, 0, // one thread
-        ],
-    )?;
+    let file = file(&rt, 3, &THRICE)?;
     let listed = list_file(rt.alloc(), &file, &Choice::All, 0)?;
     assert!(rt; listed.fault().is_none());
     assert_eq!(rt; listed.items().len(), 6);
@@ -209,13 +188,6 @@ fn count_of_a_region_list_may_be_any_number(rt: HostRuntime) -> Result<(), Fail>
     assert_eq!(rt; listed.fault(), Some(expected));
     Ok(())
 }
-
-/// A system, a module whose name lies outside, and a comment that does.
-const FAULTY: [u32; 51] = [
-    7, 56, 68, 4, 112, 124, 10, 5, 236, // the directory
-    0, 0, 0, 0, 0, 0, 0, 0, 0, 0, 0, 0, 0, 0, // the system
-    1, 0, 0, 0, 0, 0, 4294967295, 0, 0, 0, 0, 0, 0, 0, 0, 0, 0, 0, 0, 0, 0, 0, 0, 0, 0, 0, 0, 0,
-];
 
 #[test]
 fn nothing_is_listed_behind_the_first_fault(rt: HostRuntime) -> Result<(), Fail> {

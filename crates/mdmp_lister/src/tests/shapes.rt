@@ -1,5 +1,6 @@
 //! Where the records of a stream stand.
 use crate::{Fault, FaultKind, Kind, Shape, shape_of};
+use mdmp_source::Location;
 
 /// The shape of a stream of so many bytes at 4, whose head is these bytes.
 fn shape(kind: Kind, size: u32, head: [u8; 16]) -> Result<Shape, Fault> {
@@ -8,9 +9,9 @@ fn shape(kind: Kind, size: u32, head: [u8; 16]) -> Result<Shape, Fault> {
         file[4 + i] = head[i];
     }
     if size > 4092 {
-        return shape_of(&file, 0, 0, kind);
+        return shape_of(&file, Location { size: 0, rva: 0 }, kind);
     }
-    shape_of(&file, 4, size, kind)
+    shape_of(&file, Location { size, rva: 4 }, kind)
 }
 
 /// The head of a list: three numbers, and a fourth that is 0.
@@ -119,7 +120,11 @@ fn sized_lists_say_where_their_records_stand(rt: HostRuntime) {
 
 #[test]
 fn stream_of_no_bytes_is_too_short_wherever_it_is(rt: HostRuntime) {
-    let shape = shape_of(b"", u32::MAX, 0, Kind::Threads);
+    let nowhere = Location {
+        size: 0,
+        rva: u32::MAX,
+    };
+    let shape = shape_of(b"", nowhere, Kind::Threads);
     assert_eq!(rt; shape, bad(FaultKind::ShortStream, 4294967295, 0));
 }
 

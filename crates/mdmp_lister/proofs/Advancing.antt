@@ -1,0 +1,95 @@
+-- What a step says of what is left.
+use Rattle.std.proofs.Common.{◌≡◌, ◌-◌, arith, ℕ, List, Option, None, Some, refl, sym, subst, ap, ◌∙◌, vec_len}
+use Rattle.std.specs.Option.{option_map}
+use Rattle.mdmp_source.specs.Source.{SourceState}
+use Rattle.mdmp_lister.specs.declared.choice.Choice.{Choice}
+use Rattle.mdmp_lister.specs.declared.limits.Limits.{Limits}
+use Rattle.mdmp_lister.specs.declared.walk.Walk.{Walk}
+use Rattle.mdmp_lister.specs.declared.item.Item.{Item}
+use Rattle.mdmp_lister.specs.declared.item.Item.TheVariants as items
+use Rattle.mdmp_lister.specs.declared.step.Step.{Step}
+use Rattle.mdmp_lister.specs.declared.step.Step.TheVariants as step
+use Rattle.mdmp_lister.specs.Items.{plain}
+use Rattle.mdmp_lister.specs.Lister.{IsNewLister, passed_after}
+use Rattle.mdmp_lister.specs.Listing.{Run, entry_count, listing}
+use Rattle.mdmp_lister.specs.Stages.{stop_of}
+use Rattle.mdmp_lister.specs.Steps.{passed_by, step_item}
+use Rattle.mdmp_lister.specs.Walk.{IsNewWalk, IsSound, left_of, work_of}
+
+-- what is left now follows from what was left, of each file
+pub option_map-then : (old new : List ℕ → Run) (f : Run → Run) (content : Option (List ℕ)) → ((file : List ℕ) → content ≡ Some file → new file ≡ f (old file))
+    → (now : Option (List ℕ)) → now ≡ content → option_map new now ≡ option_map f (option_map old content)
+option_map-then old new f None each now same = rw same refl
+option_map-then old new f (Some file) each now same = rw same (ap Some (each file refl))
+
+-- what is known of a file's run is known of the run
+pub of_run : (of : List ℕ → Run) (P : Run → Type 0) (content : Option (List ℕ)) → ((file : List ℕ) → content ≡ Some file → P (of file)) → (left : Run) → option_map of content ≡ Some left → P left
+of_run of P None each left same = cc
+of_run of P (Some file) each left same = let k : of file ≡ left = cc in subst P k (each file refl)
+
+passed_after-plain : (x : Item) (next : ℕ) → passed_after (plain x) next ≡ passed_after x next
+passed_after-plain (items.Stream x) next = refl
+passed_after-plain (items.Thread x) next = refl
+passed_after-plain (items.Module x) next = refl
+passed_after-plain (items.Unloaded x) next = refl
+passed_after-plain (items.Exception x) next = refl
+passed_after-plain (items.System x) next = refl
+passed_after-plain (items.MemoryInfo x) next = refl
+passed_after-plain (items.Range x) next = refl
+
+passed_after-step : (z : ℕ) (buffer : List ℕ) (s : Step) (next : ℕ) → passed_after (step_item z buffer s) next ≡ passed_by s next
+passed_after-step z buffer (step.Stream x) next = refl
+passed_after-step z buffer (step.Thread x) next = refl
+passed_after-step z buffer (step.Module e k fields name) next = refl
+passed_after-step z buffer (step.Unloaded e k fields name) next = refl
+passed_after-step z buffer (step.Exception x) next = refl
+passed_after-step z buffer (step.System e k fields name) next = refl
+passed_after-step z buffer (step.MemoryInfo x) next = refl
+passed_after-step z buffer (step.Range x) next = refl
+
+-- an item passes its entry as its step does
+pub passes : (z : ℕ) (buffer : List ℕ) (s : Step) (x : Item) (old new : ℕ) → plain x ≡ step_item z buffer s → new ≡ passed_by s old → new ≡ passed_after x old
+passes z buffer s x old new same next =
+    next ∙ sym (passed_after-step z buffer s old) ∙ ap (λ (y : Item). passed_after y old) (sym same) ∙ passed_after-plain x old
+
+-- what is known of each file's runs before and after a call is known of the runs
+pub runs_then : (of new : List ℕ → Run) (P : Run → Run → Type 0) (content now : Option (List ℕ)) → now ≡ content → ((file : List ℕ) → content ≡ Some file → P (of file) (new file))
+    → (left : Run) → option_map of content ≡ Some left → (rest : Run) × ((option_map new now ≡ Some rest) × P left rest)
+runs_then of new P None now same each left known = absurd (cc)
+runs_then of new P (Some file) now same each left known =
+    let k : of file ≡ left = cc in
+    (new file, (rw same refl, subst (λ (run : Run). P run (new file)) k (each file refl)))
+
+-- ---- a walk that was opened
+
+option_map-same : (f g : List ℕ → Run) (content : Option (List ℕ)) → ((file : List ℕ) → f file ≡ g file) → option_map f content ≡ option_map g content
+option_map-same f g None each = refl
+option_map-same f g (Some file) each = ap Some (each file)
+
+module _ {S A : Type 0} (source : SourceState) (choice : Choice) (limits : Limits) (w : Walk S A) where
+  left-new : IsNewWalk source choice limits w → (file : List ℕ) → left_of w file ≡ listing file choice limits.name
+  left-new new file =
+      let all : entry_count file - 0 ≡ entry_count file = omega arith in
+      rw (new.stage, new.next, new.choice_is, new.name, all) refl
+
+  pub IsNewLister-open : IsSound w → IsNewWalk source choice limits w → IsNewLister source choice limits.name (record {
+    source = w.source;
+    header = w.header;
+    choice = w.choice;
+    limit = vec_len w.name;
+    passed = w.next;
+    left = option_map (left_of w) w.source.store.content;
+    stop = stop_of w.stage;
+    work = work_of w;
+  })
+  IsNewLister-open sound new = record {
+    fetches = new.fetches;
+    header_is = λ file known. sound.header_is file (new.fetches.same_content ∙ known);
+    choice_is = new.choice_is;
+    limit_is = new.name;
+    passed = new.next;
+    left =
+        option_map-same (left_of w) (λ file. listing file choice limits.name) w.source.store.content (left-new new)
+        ∙ ap (option_map (λ file. listing file choice limits.name)) new.fetches.same_content;
+    stop = rw new.stage refl;
+  }

@@ -1,0 +1,15 @@
+-- A walk at its end.
+use Rattle.std.proofs.Common.{◌≡◌, ◌≤◌, ◌-◌, ◌∙◌, ℕ, List, length, arith, ap, vec_len}
+use Rattle.mdmp_lister.specs.declared.stage.Stage.TheVariants.{Ended}
+use Rattle.mdmp_lister.specs.declared.walk.Walk.{Walk}
+use Rattle.mdmp_lister.specs.declared.stage.Stage.{Stage}
+use Rattle.mdmp_lister.specs.Directory.{IsDirectory}
+use Rattle.mdmp_lister.specs.Listing.{joined, nothing, listing_from}
+use Rattle.mdmp_lister.specs.Walk.{left_of, left_of_entry}
+use Rattle.mdmp_lister.proofs.Entries.{listing_from-end}
+
+module _ {S A : Type 0} (w : Walk S A) (file : List ℕ) where
+  pub left_of-ended : w.stage ≡ Ended → length w.entries.items ≤ w.next → IsDirectory file w.entries.items → left_of w file ≡ nothing
+  left_of-ended end over directory =
+      ap (λ (s : Stage). joined (left_of_entry file (vec_len w.name) (w.next - 1) w.current s) (listing_from file w.choice (vec_len w.name) w.next)) end
+      ∙ listing_from-end file w.choice (vec_len w.name) w.next (omega (arith, over, directory.count))

@@ -1,0 +1,87 @@
+-- The first fault of a file's header and directory, from the bytes of its header.
+use Rattle.std.proofs.Common.{◌≡◌, ◌≤◌, ◌*◌, inl, inr, refl, subst, ℕ, List, length, Option, Some, None, arith, sym, ◌∙◌, ap}
+use Rattle.std.specs.Prelude.{nat_lt, true, false, if◌then◌else◌}
+use Rattle.std.proofs.lemmas.Grind.{common_steps}
+use Rattle.mdmp_source.specs.Range.{IsInside, bytes_at, is_inside}
+use Rattle.mdmp_source.specs.Source.{SourceState, FetchesAtMost}
+use Rattle.mdmp_source.specs.SourceLaws.{fetches_then}
+use Rattle.mdmp_wire.specs.declared.header.Header.{Header}
+use Rattle.mdmp_wire.specs.declared.header_fault.HeaderFault.{HeaderFault}
+use Rattle.mdmp_wire.specs.Header.{header_at, header_at-part}
+use Rattle.mdmp_wire.specs.HeaderFault.{fault_of, header_fault}
+use Rattle.mdmp_lister.specs.declared.fault.OpenFault.{OpenFault}
+use Rattle.mdmp_lister.specs.declared.fault.OpenFault.TheVariants.{TooShort, DirectoryOutside, Source}
+use Rattle.mdmp_lister.specs.Opening.{IsHandedBack, IsOfHead, IsUnread, directory_refusal, behind_header}
+
+-- the fault of the directory that a header places in a file of `size` bytes, or none
+abbrev placed_fault : Header → ℕ → Option OpenFault
+placed_fault h size = if is_inside h.stream_directory_rva (12 * h.number_of_streams) size then None else Some (DirectoryOutside h.stream_directory_rva (12 * h.number_of_streams))
+
+-- the header of the first bytes of a file is the file's
+pub header_at-fetched : (F bytes : List ℕ) → length bytes ≡ 32 → bytes ≡ bytes_at F 0 (length bytes) → header_at bytes 0 ≡ header_at F 0
+header_at-fetched F bytes whole fetched = ap (λ b. header_at b 0) (fetched ∙ ap (bytes_at F 0) whole) ∙ header_at-part 32 0 F (omega arith)
+
+-- what the fault of a header that was fetched says of its file
+pub directory_refusal-fetched : (F bytes : List ℕ) (size : ℕ) (fault : Option HeaderFault) → size ≡ length F → 32 ≤ size → length bytes ≡ 32 → bytes ≡ bytes_at F 0 (length bytes)
+    → header_fault bytes ≡ fault → directory_refusal F ≡ behind_header F fault
+directory_refusal-fetched F bytes size fault len room whole fetched e =
+    let long : nat_lt (length F) 32 ≡ false = grind (arith, common_steps) in
+    ap (λ b. if b then Some (TooShort (length F)) else behind_header F (header_fault F)) long
+    ∙ ap (behind_header F) (ap fault_of (sym (header_at-fetched F bytes whole fetched)) ∙ e)
+
+-- the same where the header is good, by its directory
+directory_refusal-placed : (F bytes : List ℕ) (h : Header) (size : ℕ) → size ≡ length F → 32 ≤ size → length bytes ≡ 32 → bytes ≡ bytes_at F 0 (length bytes)
+    → header_fault bytes ≡ None → h ≡ header_at bytes 0 → directory_refusal F ≡ placed_fault h size
+directory_refusal-placed F bytes h size len room whole fetched good read =
+    directory_refusal-fetched F bytes size None len room whole fetched good
+    ∙ (ap (λ x. placed_fault x (length F)) (sym (read ∙ header_at-fetched F bytes whole fetched)) ∙ ap (placed_fault h) (sym len))
+
+pub directory_refusal-inside : (F bytes : List ℕ) (h : Header) (size : ℕ) → size ≡ length F → 32 ≤ size → length bytes ≡ 32 → bytes ≡ bytes_at F 0 (length bytes)
+    → header_fault bytes ≡ None → h ≡ header_at bytes 0 → is_inside h.stream_directory_rva (12 * h.number_of_streams) size ≡ true → directory_refusal F ≡ None
+directory_refusal-inside F bytes h size len room whole fetched good read inside =
+    directory_refusal-placed F bytes h size len room whole fetched good read
+    ∙ ap (λ b. if b then None else Some (DirectoryOutside h.stream_directory_rva (12 * h.number_of_streams))) inside
+
+pub directory_refusal-outside : (F bytes : List ℕ) (h : Header) (size : ℕ) → size ≡ length F → 32 ≤ size → length bytes ≡ 32 → bytes ≡ bytes_at F 0 (length bytes)
+    → header_fault bytes ≡ None → h ≡ header_at bytes 0 → is_inside h.stream_directory_rva (12 * h.number_of_streams) size ≡ false
+    → directory_refusal F ≡ Some (DirectoryOutside h.stream_directory_rva (12 * h.number_of_streams))
+directory_refusal-outside F bytes h size len room whole fetched good read outside =
+    directory_refusal-placed F bytes h size len room whole fetched good read
+    ∙ ap (λ b. if b then None else Some (DirectoryOutside h.stream_directory_rva (12 * h.number_of_streams))) outside
+
+-- ---- sources that are handed back
+
+-- of a file whose directory was not begun
+pub IsHandedBack-head : (old new : SourceState) (fault : OpenFault) → FetchesAtMost 32 old new → ((size : ℕ) → fault ≡ TooShort size → new ≡ old) → IsHandedBack old fault new
+IsHandedBack-head old new fault fetches short = record {
+  entries = 0;
+  fetches = fetches;
+  known = λ file known. omega arith;
+  inside = omega arith;
+  begun = λ some. absurd (omega (arith, some));
+  early = λ of. refl;
+  unfetched = λ same. refl;
+  short = short;
+}
+
+not_of_head : (fault : OpenFault) → IsUnread fault → IsOfHead fault → ⊥
+not_of_head (Source f) unread of = of
+not_of_head fault unread of = unread
+
+not_short : (fault : OpenFault) (size : ℕ) → IsUnread fault → fault ≡ TooShort size → ⊥
+not_short fault size unread same = subst IsUnread same unread
+
+-- of one whose directory was
+pub IsHandedBack-directory : (old mid new : SourceState) (fault : OpenFault) (header : Header) → FetchesAtMost 32 old mid → FetchesAtMost (12 * header.number_of_streams) mid new
+    → IsInside header.stream_directory_rva (12 * header.number_of_streams) old.size
+    → ((file : List ℕ) → old.store.content ≡ Some file → (directory_refusal file ≡ None) × (header ≡ header_at file 0)) → IsUnread fault → IsHandedBack old fault new
+IsHandedBack-directory old mid new fault header first more within read unread = record {
+  entries = header.number_of_streams;
+  fetches = fetches_then 32 (12 * header.number_of_streams) old mid new first more;
+  known = λ file known. let same = ap (λ h. h.number_of_streams) (read file known).1 in omega (arith, same);
+  inside = elim within [ inl none ↦ omega (arith, none) | inr all ↦ omega (arith, all) ];
+  begun = λ some file known. (read file known).0;
+  early = λ of. absurd (not_of_head fault unread of);
+  unfetched = λ same. absurd (subst IsUnread same unread);
+  short = λ size same. absurd (not_short fault size unread same);
+}

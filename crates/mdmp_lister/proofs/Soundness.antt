@@ -1,0 +1,77 @@
+-- A walk stays sound where its lists stay and its new stage is.
+use Rattle.std.proofs.Common.{◌≡◌, ◌∙◌, ℕ, List, Some, None, IsTrue, sym, subst, refl, vec_len}
+use Rattle.mdmp_source.specs.Source.{SourceState, FetchesAtMost}
+use Rattle.mdmp_source.specs.Store.{IsGood}
+use Rattle.mdmp_wire.specs.declared.entry.Entry.{Entry}
+use Rattle.mdmp_lister.specs.declared.fault.FaultKind.{FaultKind}
+use Rattle.mdmp_lister.specs.declared.fault.FaultKind.TheVariants.{Source}
+use Rattle.mdmp_lister.specs.declared.fault.ListFault.{ListFault}
+use Rattle.mdmp_lister.specs.declared.stage.Stage.TheVariants.{Ended}
+use Rattle.mdmp_lister.specs.declared.walk.Walk.{Walk}
+use Rattle.mdmp_lister.specs.Reading.{IsOfSource}
+use Rattle.mdmp_lister.specs.Stages.{failure_of, fault_stage, stage_by}
+use Rattle.mdmp_lister.specs.Walk.{IsSound, IsStaged, IsOffset, SameEntry}
+
+-- a store is good if it was before some fetches, and was if it is
+pub IsGood-before : (n : ℕ) (old new : SourceState) (file : List ℕ) → FetchesAtMost n old new → IsGood new.store file → IsGood old.store file
+IsGood-before n old new file fetches good = record {
+  known = sym fetches.same_content ∙ good.known;
+  reliable = subst IsTrue fetches.same_reliable good.reliable;
+}
+
+pub IsGood-after : (n : ℕ) (old new : SourceState) (file : List ℕ) → FetchesAtMost n old new → IsGood old.store file → IsGood new.store file
+IsGood-after n old new file fetches good = record {
+  known = fetches.same_content ∙ good.known;
+  reliable = subst IsTrue (sym fetches.same_reliable) good.reliable;
+}
+
+module _ {S A : Type 0} (n : ℕ) (old new : Walk S A) where
+  pub IsSound-after : IsSound old → FetchesAtMost n old.source new.source → SameEntry old new
+      → IsStaged old.source.size old.next old.current new.stage
+      → ((file : List ℕ) → old.source.store.content ≡ Some file → IsOffset file old.current new.stage)
+      → (new.stage ≡ Ended → old.next ≡ vec_len old.entries)
+      → ((file : List ℕ) → IsGood old.source.store file → failure_of new.stage ≡ None)
+      → IsSound new
+  IsSound-after sound fetches same staged offset ended unfailed = record {
+    sized = rw (fetches.same_content, fetches.same_size) sound.sized;
+    window = rw same.room.window sound.window;
+    small = rw same.room.name sound.small;
+    few = rw same.room.entries sound.few;
+    placed = rw (same.room.entries, same.next) sound.placed;
+    staged = rw (fetches.same_size, same.next, same.current) staged;
+    offset = λ file known. rw same.current (offset file (sym fetches.same_content ∙ known));
+    ended = λ end. rw (same.room.entries, same.next) (ended end);
+    directory = λ file known. rw same.room.entries (sound.directory file (sym fetches.same_content ∙ known));
+    header_is = λ file known. same.room.header_is ∙ sound.header_is file (sym fetches.same_content ∙ known);
+    unfailed = λ file good. unfailed file (IsGood-before n old.source new.source file fetches good);
+  }
+
+-- ---- the stage behind a fault
+
+stage_by-staged : (size next : ℕ) (e : Entry) (f : ListFault) (kind : FaultKind) → kind ≡ f.kind → IsStaged size next e (stage_by kind f)
+stage_by-staged size next e f (Source fault) same = subst IsOfSource same tt
+stage_by-staged size next e f _ same = λ of. subst IsOfSource (sym same) of
+
+pub fault_stage-staged : (size next : ℕ) (e : Entry) (f : ListFault) → IsStaged size next e (fault_stage f)
+fault_stage-staged size next e f = stage_by-staged size next e f f.kind refl
+
+stage_by-offset : (file : List ℕ) (e : Entry) (f : ListFault) (kind : FaultKind) → IsOffset file e (stage_by kind f)
+stage_by-offset file e f (Source fault) = tt
+stage_by-offset file e f _ = tt
+
+pub fault_stage-offset : (file : List ℕ) (e : Entry) (f : ListFault) → IsOffset file e (fault_stage f)
+fault_stage-offset file e f = stage_by-offset file e f f.kind
+
+stage_by-going : (f : ListFault) (kind : FaultKind) → stage_by kind f ≡ Ended → ⊥
+stage_by-going f (Source fault) end = cc
+stage_by-going f _ end = cc
+
+pub fault_stage-going : (f : ListFault) → fault_stage f ≡ Ended → ⊥
+fault_stage-going f end = stage_by-going f f.kind end
+
+stage_by-unfailed : (f : ListFault) (kind : FaultKind) → (IsOfSource kind → ⊥) → failure_of (stage_by kind f) ≡ None
+stage_by-unfailed f (Source fault) not = absurd (not tt)
+stage_by-unfailed f _ not = refl
+
+pub fault_stage-unfailed : (f : ListFault) → (IsOfSource f.kind → ⊥) → failure_of (fault_stage f) ≡ None
+fault_stage-unfailed f not = stage_by-unfailed f f.kind not

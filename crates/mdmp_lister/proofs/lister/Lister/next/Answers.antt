@@ -1,0 +1,69 @@
+use Rattle.std.proofs.Common.{◌≡◌, ℕ, List, Some, slice_get, refl, sym, ap, ◌∙◌}
+use Rattle.mdmp_lister.specs.Items.{plain}
+use Rattle.mdmp_lister.specs.Lister.{tail}
+use Rattle.mdmp_lister.specs.Listing.{Run, nothing, with_item}
+use Rattle.mdmp_lister.specs.Stages.{stop_after}
+use Rattle.mdmp_lister.specs.Walk.{left_of}
+use Rattle.mdmp_lister.proofs.Advancing.{option_map-then, of_run, passes}
+use Rattle.mdmp_lister.proofs.lister.Lister.next.Goals as goal
+
+pub returns-in-None : goal.returns-in-None
+returns-in-None g c =
+    let w = c.self.inside.walk in
+    let n = c.advance.new.self in
+    let none : (file : List ℕ) → w.source.store.content ≡ Some file → (left_of w file ≡ nothing) × (left_of n file ≡ nothing) =
+    λ file known. rw c.in-None.is at (c.in_ok-advance.ensures.listing file known) in
+    rw (← c.self.view_is) (
+      (
+        refl,
+        λ _. tt,
+        record {
+          same = record { header_is = c.advance.ensures.same.header_is; choice = c.advance.ensures.same.choice; limit = c.advance.ensures.same.name; fetches = record { count = _; fetches = c.advance.ensures.fetches } };
+          left = option_map-then (left_of w) (left_of n) (λ run. run) w.source.store.content (λ file known. (none file known).1 ∙ sym (none file known).0) n.source.store.content c.advance.ensures.fetches.same_content;
+          stop = rw c.in-None.is at c.in_ok-advance.ensures.stage;
+          passed = tt;
+          falls = tt;
+          repeats = λ stop same. rw (c.advance.ensures.repeats stop same).0 refl;
+          cause = λ _. tt;
+          place = λ _. tt;
+          rests = c.advance.ensures.rests;
+        },
+      ),
+      record {
+        gives = of_run (left_of w) (λ left. left ≡ nothing) w.source.store.content (λ file known. (none file known).0);
+        leaves = tt;
+        good = λ _ _. tt;
+        repeats = λ stop same. let a : stop_after c.advance.result ≡ Some stop = (c.advance.ensures.repeats stop same).1 in let b = c.in_ok-advance.was in let d = c.in-None.is in rw (b, d) at a;
+      },
+    )
+
+pub returns-in-Some : goal.returns-in-Some
+returns-in-Some g c =
+    let w = c.self.inside.walk in
+    let n = c.advance.new.self in
+    let size = c.advance.ensures.fetches.same_size in
+    let given : (file : List ℕ) → w.source.store.content ≡ Some file → left_of w file ≡ with_item (plain c.item.result) (left_of n file) =
+    λ file known. rw (c.item.ensures, size) (rw c.in-Some.is at (c.in_ok-advance.ensures.listing file known)) in
+    rw (← c.self.view_is) (
+      (
+        refl,
+        λ _. tt,
+        record {
+          same = record { header_is = c.advance.ensures.same.header_is; choice = c.advance.ensures.same.choice; limit = c.advance.ensures.same.name; fetches = record { count = _; fetches = c.advance.ensures.fetches } };
+          left = option_map-then (left_of w) (left_of n) tail w.source.store.content (λ file known. sym (ap tail (given file known))) n.source.store.content c.advance.ensures.fetches.same_content;
+          stop = rw c.in-Some.is at c.in_ok-advance.ensures.stage;
+          passed = passes n.source.size n.name.items _ c.item.result w.next n.next c.item.ensures (rw c.in-Some.is at c.in_ok-advance.ensures.passed);
+          falls = rw c.in-Some.is at c.in_ok-advance.ensures.falls;
+          repeats = λ stop same. rw (c.advance.ensures.repeats stop same).0 refl;
+          cause = λ _. tt;
+          place = λ _. tt;
+          rests = c.advance.ensures.rests;
+        },
+      ),
+      record {
+        gives = of_run (left_of w) (λ left. slice_get left.items 0 ≡ Some (plain c.item.result)) w.source.store.content (λ file known. ap (λ (r : Run). slice_get r.items 0) (given file known));
+        leaves = tt;
+        good = λ _ _. tt;
+        repeats = λ stop same. let a : stop_after c.advance.result ≡ Some stop = (c.advance.ensures.repeats stop same).1 in let b = c.in_ok-advance.was in let d = c.in-Some.is in rw (b, d) at a;
+      },
+    )

@@ -1,0 +1,34 @@
+use Rattle.std.proofs.Common.{◌≡◌, ◌≤◌, ◌<◌, ◌∙◌, true, refl, ap, arith, sym, get_or}
+use Rattle.mdmp_wire.specs.declared.entry.Entry.{Entry}
+use Rattle.mdmp_lister.specs.Listing.{entry_count, entry_of, is_chosen}
+use Rattle.mdmp_lister.proofs.Entries.{chosen_from-chosen, chosen_from-other, chosen_from-end}
+use Rattle.mdmp_lister.proofs.opening.next_chosen.Goals as goal
+
+abbrev no_entry : Entry
+no_entry = record { stream_type = 0; location = record { size = 0; rva = 0 } }
+
+pub returns-then-has-clause-first : goal.returns-then-has-clause-first
+returns-then-has-clause-first c = λ file dir.
+    let at = c.loop-at.at in
+    let e : Entry = get_or c.args.entries.now at no_entry in
+    let lt : at < entry_count file = omega (arith, dir.count, c.loop-at-test.true) in
+    let same : e ≡ entry_of file at = dir.each at no_entry c.loop-at-test.true in
+    let chosen : true ≡ is_chosen c.args.choice.now (entry_of file at).stream_type = sym c.if-has.true ∙ c.has.ensures ∙ ap (λ (x : Entry). is_chosen c.args.choice.now x.stream_type) same in
+    c.loop-at.invariant.passed file dir ∙ chosen_from-chosen file c.args.choice.now at (entry_of file at) lt refl chosen
+
+pub loop-at-preserved : goal.loop-at-preserved
+loop-at-preserved c = record {
+  risen = omega arith;
+  placed = omega arith;
+  passed = λ file dir.
+      let at = c.loop-at.at in
+      let e : Entry = get_or c.args.entries.now at no_entry in
+      let lt : at < entry_count file = omega (arith, dir.count, c.loop-at-test.true) in
+      let same : e ≡ entry_of file at = dir.each at no_entry c.loop-at-test.true in
+      c.loop-at.invariant.passed file dir ∙ chosen_from-other file c.args.choice.now at e lt same (sym c.if-has.false ∙ c.has.ensures);
+}
+
+pub returns-clause-first : goal.returns-clause-first
+returns-clause-first c = λ file dir.
+    let over : entry_count file ≤ c.loop-at.at = omega (arith, dir.count, c.loop-at-test.false) in
+    c.loop-at.invariant.passed file dir ∙ chosen_from-end file c.args.choice.now c.loop-at.at over

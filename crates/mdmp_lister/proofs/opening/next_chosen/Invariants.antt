@@ -1,0 +1,15 @@
+use Rattle.std.proofs.Common.{◌≡◌, ◌-◌, ◌≤◌, ℕ, List, length}
+use Rattle.mdmp_lister.specs.Directory.{IsDirectory}
+use Rattle.mdmp_lister.specs.Listing.{chosen_from}
+use Rattle.mdmp_lister.proofs.opening.next_chosen.Given as goal
+
+-- the entries passed are not chosen
+abbrev pub invariant-loop-at : goal.invariant-loop-at
+invariant-loop-at l = record {
+  risen : l.fn.from ≤ l.at;
+  placed : l.at ≤ length l.entries;
+  passed : (file : List ℕ) → IsDirectory file l.entries → chosen_from file l.choice l.fn.from ≡ chosen_from file l.choice l.at;
+}
+
+abbrev pub decreases-loop-at : goal.decreases-loop-at
+decreases-loop-at l = length l.entries - l.at

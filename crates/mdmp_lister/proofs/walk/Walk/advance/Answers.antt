@@ -1,0 +1,11 @@
+use Rattle.std.proofs.Common.{◌≤◌, length, arith}
+use Rattle.mdmp_lister.proofs.Ending.{left_of-ended}
+use Rattle.mdmp_lister.proofs.walk.Walk.advance.Goals as goal
+
+pub returns-in-Ended-clause-listing : goal.returns-in-Ended-clause-listing
+returns-in-Ended-clause-listing g c = λ file known.
+    let w = c.args.self.now in
+    let ok = w.entries.ok.0 in
+    let over : length w.entries.items ≤ w.next = omega (arith, ok, c.requires.ended c.in-Ended.is) in
+    let none = left_of-ended w file c.in-Ended.is over (c.requires.directory file known) in
+    (none, none)

@@ -1,0 +1,16 @@
+use Rattle.std.proofs.Common.{◌≡◌, ◌≤◌, [], arith, ap, vec_len}
+use Rattle.std.specs.Prelude.{map}
+use Rattle.mdmp_lister.specs.Listing.{all_joined, chosen_from, entry_count, entry_listing, nothing}
+use Rattle.mdmp_lister.specs.Walk.{rest_of}
+use Rattle.mdmp_lister.proofs.Entries.{listing_from-end}
+use Rattle.mdmp_lister.proofs.walk.Walk.next_stream.Goals as goal
+
+pub returns-in_default-clause-listing : goal.returns-in_default-clause-listing
+returns-in_default-clause-listing g c = λ file known.
+    let w = c.args.self.now in
+    let directory = c.requires.directory file known in
+    let none : chosen_from file w.choice w.next ≡ [] = c.in_default.ensures.first file (rw c.deref.ensures.value directory) in
+    let given : rest_of w file ≡ nothing = ap (λ xs. all_joined (map (entry_listing file (vec_len w.name)) xs)) none in
+    let ok = w.entries.ok.0 in
+    let over : entry_count file ≤ c.len-self.result = omega (arith, ok, c.len-self.ensures, directory.count) in
+    (given, listing_from-end file w.choice (vec_len w.name) c.len-self.result over)

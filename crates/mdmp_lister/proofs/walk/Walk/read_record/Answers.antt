@@ -1,0 +1,63 @@
+use Rattle.std.proofs.Common.{◌≡◌, ◌-◌, ◌∙◌, length, arith, sym, refl, rules, vec_len}
+use Rattle.mdmp_lister.specs.Reading.{IsOfSource}
+use Rattle.mdmp_lister.specs.Walk.{IsReading, FaultStays, current_of}
+use Rattle.mdmp_lister.proofs.Bodies.{records-given, records-faulted, fault_stage-left, take-lent}
+use Rattle.mdmp_lister.proofs.Offsets.{range-next}
+use Rattle.mdmp_lister.proofs.Soundness.{IsSound-after, fault_stage-staged, fault_stage-offset, fault_stage-going, fault_stage-unfailed}
+use Rattle.mdmp_lister.proofs.walk.Walk.read_record.Goals as goal
+
+pub returns-in-Ok-clause-sound : goal.returns-in-Ok-clause-sound
+returns-in-Ok-clause-sound g c =
+    let w = c.args.self.now in
+    let reading : IsReading w.source.size w.next w.current c.args.kind c.args.shape c.args.index c.args.offset = rw c.requires.stage at c.requires.sound.staged in
+    IsSound-after _ w _ c.requires.sound c.read_item.ensures.fetches
+    (search rules)
+    (record { begun = reading.begun; within = omega (arith, c.requires.left); inside = reading.inside; fits = reading.fits; ranges = reading.ranges; bound = omega (arith, c.offset_behind.ensures.bound, reading.bound) })
+    (λ file known kind.
+    let here = (rw c.requires.stage at (c.requires.sound.offset file known)) in
+    let places = reading.ranges kind in
+    let place = c.record_at-at.ensures.place in
+    range-next file _ _ c.args.index w.current.location.rva c.record_at-at.result _ c.args.offset c.offset_behind.result _ c.args.kind c.in-Ok.step kind
+    (c.in-Ok.ensures.item file known w.current.location.rva here) (here kind) (rw (places.0, places.1) at place) c.offset_behind.ensures.range)
+    (λ end. cc)
+    (λ file good. refl)
+
+pub returns-in-Ok-clause-entry : goal.returns-in-Ok-clause-entry
+returns-in-Ok-clause-entry g c = λ file known.
+    let w = c.args.self.now in
+    let here = (rw c.requires.stage at (c.requires.sound.offset file known)) in
+    let room : length c.read_item.new.buffer ≡ vec_len w.name = c.in-Ok.ensures.length ∙ c.deref_mut-2.ensures.len in
+    let given = c.in-Ok.ensures.item file known w.current.location.rva here in
+    rw (take-lent (vec_len w.name) c.read_item.new.buffer _ room, c.requires.stage)
+    (records-given file (vec_len w.name) (w.next - 1) w.current.location.rva c.args.kind c.args.shape c.args.index c.requires.left _ (rw (room, c.record_at-at.ensures.place) at given))
+
+pub returns-in-Err-clause-sound : goal.returns-in-Err-clause-sound
+returns-in-Err-clause-sound g c =
+    let w = c.args.self.now in
+    let f = c.told.result in
+    rw c.stop_at.ensures.stage (
+    IsSound-after _ w _ c.requires.sound c.read_item.ensures.fetches
+    (search rules)
+    (fault_stage-staged w.source.size w.next w.current f)
+    (λ file known. fault_stage-offset file w.current f)
+    (λ end. absurd (fault_stage-going f end))
+    (λ file good. fault_stage-unfailed f (λ of. c.in-Err.ensures.good file good (rw c.told.ensures.kind at of)))
+    )
+
+pub returns-in-Err-clause-entry : goal.returns-in-Err-clause-entry
+returns-in-Err-clause-entry g c = λ file known.
+    let w = c.args.self.now in
+    let here = (rw c.requires.stage at (c.requires.sound.offset file known)) in
+    let room : length c.read_item.new.buffer ≡ vec_len w.name = c.in-Err.ensures.length ∙ c.deref_mut-2.ensures.len in
+    let stays : FaultStays (current_of w file) c.told.result (current_of c.stop_at.new.self file) = λ not.
+    let other : IsOfSource c.in-Err.fault.kind → ⊥ = λ of. not (rw (sym c.told.ensures.kind) at of) in
+    let given = c.in-Err.ensures.item file known w.current.location.rva here other in (
+      rw (c.requires.stage, c.told.ensures.of_file other)
+          (records-faulted file (vec_len w.name) (w.next - 1) w.current.location.rva c.args.kind c.args.shape c.args.index c.requires.left c.in-Err.fault (rw (room, c.record_at-at.ensures.place) at given)),
+      rw c.stop_at.ensures.stage (fault_stage-left file _ (w.next - 1) w.current c.told.result),
+    )
+    in
+    rw c.stop_at.ensures.fault stays
+
+pub returns-in-Err-clause-good : goal.returns-in-Err-clause-good
+returns-in-Err-clause-good g c = λ file good. rw c.stop_at.ensures.fault (λ of. c.in-Err.ensures.good file good (rw c.told.ensures.kind at of))

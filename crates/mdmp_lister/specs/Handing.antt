@@ -1,0 +1,37 @@
+-- What a run hands to a sink.
+use Rattle.std.specs.Prelude.{◌≡◌, ◌⊎◌, List, [], ◌∷◌, ◌++◌, Result, Ok, Err}
+use Rattle.mdmp_lister.specs.declared.item.Item.{Item}
+use Rattle.mdmp_lister.specs.declared.sink.RunFault.{RunFault}
+use Rattle.mdmp_lister.specs.declared.sink.RunFault.TheVariants as run
+use Rattle.mdmp_lister.specs.declared.sink.Stopped.{Stopped}
+use Rattle.mdmp_lister.specs.Listing.{Run, nothing, only_fault}
+use Rattle.mdmp_lister.specs.Reading.{IsOfSource}
+
+-- these items, and then a run
+abbrev pub give_all : List Item → Run → Run
+give_all xs left = record { items = xs ++ left.items; fault = left.fault }
+
+-- xs were given of what was left, and the rest is left: nothing at the end of the listing, and at a fault that fault
+-- alone, unless it is one of the store, which can stand anywhere
+abbrev pub GivesAll : Run → List Item → Result (Unit {0}) RunFault → Run → Type 0
+GivesAll old xs (Ok done) new = (old ≡ give_all xs nothing) × (new ≡ nothing)
+GivesAll old xs (Err run.Stopped) new = old ≡ give_all xs new
+GivesAll old xs (Err (run.At f)) new =
+    ((rest : Run) × (old ≡ give_all xs rest)) × ((IsOfSource f.kind → ⊥) → (old ≡ give_all xs (only_fault f)) × (new ≡ only_fault f))
+
+module _ {K X : Type 0} (step : K → X → Result (Unit {0}) Stopped → K → Type 0) where
+  -- the sink took all of xs
+  abbrev pub Taken : K → List X → K → Type 0
+  Taken k [] new = new ≡ k
+  Taken k (x ∷ xs) new = (m : K) × (step k x (Ok tt) m × Taken m xs new)
+
+  -- the sink took all of xs, and at the last it stopped
+  abbrev pub TakenToStop : K → List X → K → Type 0
+  TakenToStop k [] new = ⊥
+  TakenToStop k (x ∷ xs) new = (xs ≡ [] × step k x (Err (record {})) new) ⊎ ((m : K) × (step k x (Ok tt) m × TakenToStop m xs new))
+
+  -- the sink was handed xs
+  abbrev pub Handed : K → List X → Result (Unit {0}) RunFault → K → Type 0
+  Handed k xs (Ok done) new = Taken k xs new
+  Handed k xs (Err (run.At f)) new = Taken k xs new
+  Handed k xs (Err run.Stopped) new = TakenToStop k xs new

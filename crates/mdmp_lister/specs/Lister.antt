@@ -1,0 +1,105 @@
+-- What a contract sees of a lister.
+use Rattle.std.specs.Prelude.{◌≡◌, ◌≤◌, ◌<◌, ◌+◌, ◌*◌, ℕ, List, drop, slice_get, Bool, true, false, Option, None, Some, Result, Ok, Err, IfOk, IfErr, IfSome}
+use Rattle.std.specs.Option.{option_map}
+use Rattle.mdmp_source.specs.Source.{SourceState, FetchesAtMost, FetchesSome}
+use Rattle.mdmp_wire.specs.declared.header.Header.{Header}
+use Rattle.mdmp_wire.specs.Header.{header_at}
+use Rattle.mdmp_lister.specs.declared.choice.Choice.{Choice}
+use Rattle.mdmp_lister.specs.declared.fault.FaultKind.{FaultKind}
+use Rattle.mdmp_lister.specs.declared.fault.FaultKind.TheVariants.{Source}
+use Rattle.mdmp_lister.specs.declared.fault.ListFault.{ListFault}
+use Rattle.mdmp_lister.specs.declared.item.Item.{Item}
+use Rattle.mdmp_lister.specs.declared.item.Item.TheVariants.{Stream}
+use Rattle.mdmp_lister.specs.Items.{plain}
+use Rattle.mdmp_lister.specs.Listing.{Run, nothing, only_fault, listing, listing_from}
+use Rattle.mdmp_lister.specs.Reading.{IsCaused, IsOfSource, IsStoreFault}
+use Rattle.mdmp_lister.specs.Stages.{stop_after}
+
+pub record ListerState : Type 0 where
+  -- the file is the source's content, where that is known
+  pub source : SourceState
+  pub header : Header
+  pub choice : Choice
+  -- names of more bytes are told by their length
+  pub limit : ℕ
+  -- the number of the first entry behind the one whose Stream item was given last
+  pub passed : ℕ
+  -- the items that are left and the fault behind them or none, where the file is known
+  pub left : Option Run
+  -- the end or the fault with which each request is answered from now on, where there is one
+  pub stop : Option (Option ListFault)
+  -- a number that falls with each item
+  pub work : ℕ
+
+-- what the chosen entries from number i on give, where the file is known
+abbrev pub listing_behind : ListerState → ℕ → Option Run
+listing_behind v i = option_map (λ file. listing_from file v.choice v.limit i) v.source.store.content
+
+-- a run without its first item
+abbrev pub tail : Run → Run
+tail run = record { items = drop 1 run.items; fault = run.fault }
+
+-- a request was answered with the first of what was left: an item, the end, or the fault where no item stood
+-- before it; or the store failed
+abbrev pub Gives : Run → Result (Option Item) ListFault → Type 0
+Gives left (Ok None) = left ≡ nothing
+Gives left (Ok (Some item)) = slice_get left.items 0 ≡ Some (plain item)
+Gives left (Err f) = (IsOfSource f.kind → ⊥) → left ≡ only_fault f
+
+-- what is left behind an answer; behind a fault it is that fault
+abbrev pub left_after : Result (Option Item) ListFault → Run → Run
+left_after (Ok None) left = left
+left_after (Ok (Some item)) left = tail left
+left_after (Err f) left = only_fault f
+
+-- the number of the first entry behind the current one, once an item was given: a Stream item begins an entry
+abbrev pub passed_after : Item → ℕ → ℕ
+passed_after (Stream x) next = x.entry + 1
+passed_after item next = next
+
+abbrev pub Passes : Result (Option Item) ListFault → ℕ → ℕ → Type 0
+Passes (Ok None) old new = Unit {0}
+Passes (Ok (Some item)) old new = new ≡ passed_after item old
+Passes (Err f) old new = new ≡ old
+
+-- the end and a fault of the store stay for good
+abbrev pub is_of_source : FaultKind → Bool
+is_of_source (Source fault) = true
+is_of_source kind = false
+
+abbrev pub is_for_good : Option (Option ListFault) → Bool
+is_for_good None = false
+is_for_good (Some None) = true
+is_for_good (Some (Some f)) = is_of_source f.kind
+
+-- a lister that was opened over a source, and has given nothing
+pub record IsNewLister (source : SourceState) (choice : Choice) (limit : ℕ) (new : ListerState) : Type 0 where
+  pub fetches : FetchesAtMost (32 + 12 * new.header.number_of_streams) source new.source
+  pub header_is : (file : List ℕ) → source.store.content ≡ Some file → new.header ≡ header_at file 0
+  pub choice_is : new.choice ≡ choice
+  pub limit_is : new.limit ≡ limit
+  pub passed : new.passed ≡ 0
+  pub left : new.left ≡ option_map (λ file. listing file choice limit) source.store.content
+  pub stop : new.stop ≡ None
+
+-- what no call changes
+pub record IsSameLister (old new : ListerState) : Type 0 where
+  pub header_is : new.header ≡ old.header
+  pub choice : new.choice ≡ old.choice
+  pub limit : new.limit ≡ old.limit
+  pub fetches : FetchesSome old.source new.source
+
+-- what a request for the next item leaves
+pub record Leaves (old : ListerState) (result : Result (Option Item) ListFault) (new : ListerState) : Type 0 where
+  pub same : IsSameLister old new
+  pub left : new.left ≡ option_map (left_after result) old.left
+  pub stop : new.stop ≡ stop_after result
+  pub passed : Passes result old.passed new.passed
+  pub falls : IfOk result (λ given. IfSome given (λ item. new.work < old.work))
+  -- an answer that is given again changes nothing
+  pub repeats : (stop : Option ListFault) → old.stop ≡ Some stop → new ≡ old
+  -- and another fault of the store has its cause in this call
+  pub cause : old.stop ≡ None → IfErr result (λ f. IsCaused f.kind old.source new.source)
+  -- it has no index, the offset of the first byte that was not obtained, and no size
+  pub place : old.stop ≡ None → IfErr result IsStoreFault
+  pub rests : new.work ≤ old.work

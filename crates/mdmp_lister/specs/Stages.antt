@@ -1,0 +1,61 @@
+-- How far a walk has listed the current entry, and what it answers from then on.
+use Rattle.std.specs.Prelude.{◌≡◌, Bool, true, false, Option, None, Some, Result, Ok, Err}
+use Rattle.mdmp_lister.specs.declared.fault.FaultKind.{FaultKind}
+use Rattle.mdmp_lister.specs.declared.fault.FaultKind.TheVariants.{Source}
+use Rattle.mdmp_lister.specs.declared.fault.ListFault.{ListFault}
+use Rattle.mdmp_lister.specs.declared.sink.RunFault.{RunFault}
+use Rattle.mdmp_lister.specs.declared.sink.RunFault.TheVariants as run
+use Rattle.mdmp_lister.specs.declared.stage.Stage.{Stage}
+use Rattle.mdmp_lister.specs.declared.stage.Stage.TheVariants.{Bad, Failed, Ended}
+
+-- the stage behind a fault: one of the store stays for good
+abbrev pub stage_by : FaultKind → ListFault → Stage
+stage_by (Source fault) f = Failed f
+stage_by kind f = Bad f
+
+abbrev pub fault_stage : ListFault → Stage
+fault_stage f = stage_by f.kind f
+
+-- the fault of the store that every call answers
+abbrev pub failure_of : Stage → Option ListFault
+failure_of (Failed f) = Some f
+failure_of stage = None
+
+-- what every request for an item is answered with, the end or a fault, where there is such an answer
+abbrev pub stop_of : Stage → Option (Option ListFault)
+stop_of (Failed f) = Some (Some f)
+stop_of (Bad f) = Some (Some f)
+stop_of Ended = Some None
+stop_of stage = None
+
+abbrev pub stop_given : {X : Type 0} → Option X → Option (Option ListFault)
+stop_given (Some x) = None
+stop_given None = Some None
+
+-- what requests are answered with behind this answer
+abbrev pub stop_after : {X : Type 0} → Result (Option X) ListFault → Option (Option ListFault)
+stop_after (Ok given) = stop_given given
+stop_after (Err f) = Some (Some f)
+
+-- nothing leads on from a stage
+abbrev pub ends : Stage → Bool
+ends (Failed f) = true
+ends Ended = true
+ends stage = false
+
+-- what requests are answered with behind a run: its end or its fault, and nothing yet where the sink stopped it
+abbrev pub IsStageAfterRun : Result (Unit {0}) RunFault → Stage → Type 0
+IsStageAfterRun (Ok done) stage = stop_of stage ≡ Some None
+IsStageAfterRun (Err (run.At f)) stage = stage ≡ fault_stage f
+IsStageAfterRun (Err run.Stopped) stage = stop_of stage ≡ None
+
+-- the stage tells what a call answered
+abbrev pub IsStageAfter : {X : Type 0} → Result X ListFault → Stage → Type 0
+IsStageAfter (Ok x) stage = stop_of stage ≡ None
+IsStageAfter (Err f) stage = stage ≡ fault_stage f
+
+-- what requests are answered with behind a run
+abbrev pub stop_after_run : Result (Unit {0}) RunFault → Option (Option ListFault)
+stop_after_run (Ok done) = Some None
+stop_after_run (Err (run.At f)) = Some (Some f)
+stop_after_run (Err run.Stopped) = None

@@ -1,0 +1,31 @@
+-- Items whose names stand in a buffer.
+use Rattle.std.specs.Prelude.{◌+◌, ℕ, List}
+use Rattle.mdmp_lister.specs.declared.item.Item.{Item}
+use Rattle.mdmp_lister.specs.declared.item.Item.TheVariants as items
+use Rattle.mdmp_lister.specs.declared.step.Step.{Step}
+use Rattle.mdmp_lister.specs.declared.step.Step.TheVariants as step
+use Rattle.mdmp_lister.specs.Items.{module_item, system_item, unloaded_item}
+use Rattle.mdmp_lister.specs.Reading.{IsHeld, name_read}
+
+-- the item, its name in this buffer, in a file of z bytes
+abbrev pub step_item : ℕ → List ℕ → Step → Item
+step_item z buffer (step.Stream x) = items.Stream x
+step_item z buffer (step.Thread x) = items.Thread x
+step_item z buffer (step.Module e k fields name) = items.Module (module_item z e k fields (name_read buffer name))
+step_item z buffer (step.Unloaded e k fields name) = items.Unloaded (unloaded_item e k fields (name_read buffer name))
+step_item z buffer (step.Exception x) = items.Exception x
+step_item z buffer (step.System e k fields name) = items.System (system_item e k fields (name_read buffer name))
+step_item z buffer (step.MemoryInfo x) = items.MemoryInfo x
+step_item z buffer (step.Range x) = items.Range x
+
+-- its name fits in `room` bytes
+abbrev pub IsStepHeld : ℕ → Step → Type 0
+IsStepHeld room (step.Module e k fields name) = IsHeld room name
+IsStepHeld room (step.Unloaded e k fields name) = IsHeld room name
+IsStepHeld room (step.System e k fields name) = IsHeld room name
+IsStepHeld room x = Unit {0}
+
+-- the number of the first entry behind the current one, once a step was given
+abbrev pub passed_by : Step → ℕ → ℕ
+passed_by (step.Stream x) next = x.entry + 1
+passed_by s next = next

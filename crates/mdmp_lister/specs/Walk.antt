@@ -1,0 +1,142 @@
+-- What is left of a walk.
+use Rattle.std.specs.Prelude.{◌≡◌, ◌≤◌, ◌<◌, ◌+◌, ◌-◌, ◌*◌, ◌^◌, ℕ, List, Option, None, Some, Result, Ok, Err, vec_len}
+use Rattle.mdmp_source.specs.Range.{IsInside}
+use Rattle.mdmp_source.specs.Source.{SourceState, FetchesAtMost}
+use Rattle.mdmp_source.specs.Store.{IsGood, IsSizeOf}
+use Rattle.mdmp_wire.specs.declared.entry.Entry.{Entry}
+use Rattle.mdmp_wire.specs.Header.{header_at}
+use Rattle.mdmp_lister.specs.declared.choice.Choice.{Choice}
+use Rattle.mdmp_lister.specs.declared.fault.ListFault.{ListFault}
+use Rattle.mdmp_lister.specs.declared.kind.Kind.{Kind}
+use Rattle.mdmp_lister.specs.declared.kind.Kind.TheVariants.{Memory64}
+use Rattle.mdmp_lister.specs.declared.limits.Limits.{Limits}
+use Rattle.mdmp_lister.specs.declared.shape.Shape.{Shape}
+use Rattle.mdmp_lister.specs.declared.step.Step.{Step}
+use Rattle.mdmp_lister.specs.declared.stage.Stage.{Stage}
+use Rattle.mdmp_lister.specs.declared.stage.Stage.TheVariants.{Between, Head, Records, Bad, Failed, Ended}
+use Rattle.mdmp_lister.specs.declared.walk.Walk.{Walk}
+use Rattle.mdmp_lister.specs.Directory.{IsDirectory}
+use Rattle.mdmp_lister.specs.Items.{range_offset}
+use Rattle.mdmp_lister.specs.Listing.{Run, nothing, only_fault, with_item, joined, items_from, body_of, listing_from}
+use Rattle.mdmp_lister.specs.Reading.{IsOfSource}
+use Rattle.mdmp_lister.specs.Shapes.{FitsIn}
+use Rattle.mdmp_lister.specs.Stages.{failure_of}
+use Rattle.mdmp_lister.specs.Steps.{passed_by, step_item}
+
+-- what is left of an entry with this number
+abbrev pub left_of_entry : List ℕ → ℕ → ℕ → Entry → Stage → Run
+left_of_entry F limit number e Between = nothing
+left_of_entry F limit number e Ended = nothing
+left_of_entry F limit number e Head = body_of F limit (record { number = number; entry = e })
+left_of_entry F limit number e (Records kind shape index offset) = items_from F limit number e.location.rva kind shape (shape.count - index) index
+left_of_entry F limit number e (Bad f) = only_fault f
+left_of_entry F limit number e (Failed f) = only_fault f
+
+-- the records of an entry are read from `index` on, in a file of `size` bytes
+pub record IsReading (size next : ℕ) (e : Entry) (kind : Kind) (shape : Shape) (index offset : ℕ) : Type 0 where
+  pub begun : 0 < next
+  pub within : index ≤ shape.count
+  pub inside : IsInside e.location.rva e.location.size size
+  pub fits : FitsIn e.location.size kind shape
+  pub ranges : kind ≡ Memory64 → (shape.first ≡ 16) × (shape.stride ≡ 16)
+  pub bound : offset < 2 ^ 64 * (index + 1)
+
+-- what is kept of an entry that is partly listed
+abbrev pub IsStaged : ℕ → ℕ → Entry → Stage → Type 0
+IsStaged size next e Between = Unit {0}
+IsStaged size next e Ended = Unit {0}
+IsStaged size next e Head = 0 < next
+IsStaged size next e (Records kind shape index offset) = IsReading size next e kind shape index offset
+IsStaged size next e (Bad f) = IsOfSource f.kind → ⊥
+IsStaged size next e (Failed f) = IsOfSource f.kind
+
+-- where the bytes of the next range of a 64-bit memory list stand
+abbrev pub IsOffset : List ℕ → Entry → Stage → Type 0
+IsOffset F e (Records kind shape index offset) = kind ≡ Memory64 → offset ≡ range_offset F e.location.rva index
+IsOffset F e stage = Unit {0}
+
+abbrev pub stage_work : Stage → ℕ
+stage_work Head = 2 ^ 64
+stage_work (Records kind shape index offset) = shape.count - index
+stage_work stage = 0
+
+module _ {S A : Type 0} where
+  -- how many calls may still give an item, at most
+  abbrev pub work_of : Walk S A → ℕ
+  work_of w = (vec_len w.entries - w.next) * 2 ^ 66 + stage_work w.stage
+
+  pub record IsSound (w : Walk S A) : Type 0 where
+    pub sized : IsSizeOf w.source.store.content w.source.size
+    pub window : 168 ≤ vec_len w.window
+    pub small : vec_len w.name < 2 ^ 32
+    pub few : vec_len w.entries < 2 ^ 32
+    pub placed : w.next ≤ vec_len w.entries
+    pub staged : IsStaged w.source.size w.next w.current w.stage
+    pub offset : (file : List ℕ) → w.source.store.content ≡ Some file → IsOffset file w.current w.stage
+    pub ended : w.stage ≡ Ended → w.next ≡ vec_len w.entries
+    pub directory : (file : List ℕ) → w.source.store.content ≡ Some file → IsDirectory file w.entries.items
+    pub header_is : (file : List ℕ) → w.source.store.content ≡ Some file → w.header ≡ header_at file 0
+    pub unfailed : (file : List ℕ) → IsGood w.source.store file → failure_of w.stage ≡ None
+
+  -- no list is longer or shorter, and what was read of the file's head stays
+  pub record SameRoom (old new : Walk S A) : Type 0 where
+    pub header_is : new.header ≡ old.header
+    pub entries : new.entries ≡ old.entries
+    pub choice : new.choice ≡ old.choice
+    pub window : vec_len new.window ≡ vec_len old.window
+    pub name : vec_len new.name ≡ vec_len old.name
+
+  -- nor is another entry the current one
+  pub record SameEntry (old new : Walk S A) : Type 0 where
+    pub room : SameRoom old new
+    pub next : new.next ≡ old.next
+    pub current : new.current ≡ old.current
+
+  -- a walk that was opened over a source, and has given nothing
+  pub record IsNewWalk (source : SourceState) (choice : Choice) (limits : Limits) (w : Walk S A) : Type 0 where
+    pub fetches : FetchesAtMost (32 + 12 * w.header.number_of_streams) source w.source
+    pub choice_is : w.choice ≡ choice
+    pub window : vec_len w.window ≡ limits.window
+    pub name : vec_len w.name ≡ limits.name
+    pub next : w.next ≡ 0
+    pub stage : w.stage ≡ Between
+
+  -- what is left of the current entry
+  abbrev pub current_of : Walk S A → List ℕ → Run
+  current_of w file = left_of_entry file (vec_len w.name) (w.next - 1) w.current w.stage
+
+  -- what the entries behind it give
+  abbrev pub rest_of : Walk S A → List ℕ → Run
+  rest_of w file = listing_from file w.choice (vec_len w.name) w.next
+
+  -- what is left
+  abbrev pub left_of : Walk S A → List ℕ → Run
+  left_of w file = joined (current_of w file) (rest_of w file)
+
+-- ---- what calls answer
+
+abbrev pub PassesTo : Result (Option Step) ListFault → ℕ → ℕ → Type 0
+PassesTo (Ok None) old new = Unit {0}
+PassesTo (Ok (Some s)) old new = new ≡ passed_by s old
+PassesTo (Err f) old new = new ≡ old
+
+-- the head of the current entry was read
+abbrev pub IsListing : Stage → Type 0
+IsListing Between = Unit {0}
+IsListing (Records kind shape index offset) = Unit {0}
+IsListing stage = ⊥
+
+-- a fault that was next in a run, and stays in it
+abbrev pub FaultStays : Run → ListFault → Run → Type 0
+FaultStays old f new = (IsOfSource f.kind → ⊥) → (old ≡ only_fault f) × (new ≡ only_fault f)
+
+-- a call that gives nothing changed nothing of what is left
+abbrev pub Keeps : {X : Type 0} → Run → Result X ListFault → Run → Type 0
+Keeps old (Ok x) new = new ≡ old
+Keeps old (Err f) new = FaultStays old f new
+
+-- a call answered the first of what was left, or a fault of the store, and leaves the rest
+abbrev pub Advances : ℕ → List ℕ → Run → Result (Option Step) ListFault → Run → Type 0
+Advances z buffer old (Ok None) new = (old ≡ nothing) × (new ≡ nothing)
+Advances z buffer old (Ok (Some s)) new = old ≡ with_item (step_item z buffer s) new
+Advances z buffer old (Err f) new = FaultStays old f new

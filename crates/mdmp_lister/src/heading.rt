@@ -1,0 +1,88 @@
+//! The head of a stream, read through a source.
+ghost use Rattle.std.specs.Prelude.{◌≡◌, ◌≤◌, ◌<◌, ◌+◌, ◌*◌, ◌^◌, ℕ, List, Some, length, IfOk, IfErr};
+ghost use Rattle.std.specs.Result.{result_map_both};
+ghost use Rattle.mdmp_source.specs.Range.{IsInside};
+ghost use Rattle.mdmp_source.specs.Store.{IsGood};
+ghost use Rattle.mdmp_source.specs.Source.{FetchesAtMost};
+ghost use Rattle.mdmp_wire.specs.Number.{number_at};
+ghost use Rattle.mdmp_lister.specs.Shapes.{FitsIn, head_size, shape_of};
+ghost use Rattle.mdmp_lister.specs.Reading.{Answers, IsAtStore, IsCaused, IsOfSource};
+
+use crate::fault::Fault;
+use crate::fetching::read;
+use crate::kind::Kind;
+use crate::shape::Shape;
+use crate::shaping::{counted, ranges64, single, sized, too_short};
+use mdmp_source::{Location, Source, Store};
+use mdmp_wire::{Memory64List, MemoryInfoList, UnloadedList};
+
+/// What the head of a stream says.
+#[derive(Clone, Copy, Debug, PartialEq, Eq)]
+pub(crate) struct Head {
+    /// Where its records stand.
+    pub shape: Shape,
+    /// Where the bytes of the first range of a 64-bit memory list stand, an offset from the start of
+    /// the file; of any other stream 0.
+    pub base: u64,
+}
+
+/// Where the records of a stream stand, or its first fault: too short for its head, a bad header
+/// size, a bad entry size, a bad count.
+#[tactic(auto, unfolding(crate::specs::Shapes::shape_of))]
+pub(crate) fn read_head<S: Store>(
+    source: &mut Source<S>,
+    window: &mut [u8],
+    at: Location,
+    kind: Kind,
+) -> Result<Head, Fault>
+    requires inside { IsInside at.rva at.size source.old.size }
+    requires window { 168 ≤ length window.old }
+    ensures shape { (file : List ℕ) → source.old.store.content ≡ Some file
+        → Answers (shape_of file at.rva at.size kind) (λ head. head.shape) result }
+    ensures base { (file : List ℕ) → source.old.store.content ≡ Some file
+        → kind ≡ Kind.Memory64 → IfOk result (λ head. head.base ≡ number_at file (at.rva + 8) 8) }
+    ensures fits { IfOk result (λ head. FitsIn at.size kind head.shape) }
+    ensures ranges { kind ≡ Kind.Memory64 → IfOk result (λ head. (head.shape.first ≡ 16) × (head.shape.stride ≡ 16)) }
+    ensures fetches { FetchesAtMost 16 source.old source.new }
+    ensures cause { IfErr result (λ fault. IsCaused fault.kind source.old source.new) }
+    ensures place { IfErr result (λ fault. IsAtStore fault.kind fault.offset fault.size) }
+    ensures good { (file : List ℕ) → IsGood source.old.store file → IfErr result (λ fault. IsOfSource fault.kind → ⊥) }
+{
+    if at.size < kind.head_size() {
+        return too_short(at);
+    }
+    let start = u64::from(at.rva);
+    let mut base = 0;
+    let shape = match kind {
+        Kind::Threads | Kind::Modules | Kind::Memory => match read(source, window, start) {
+            Ok(count) => counted(at, kind, count),
+            Err(fault) => return Err(fault),
+        },
+        Kind::Exception | Kind::System => Ok(single(kind)),
+        Kind::Memory64 => match read::<Memory64List, S>(source, window, start) {
+            Ok(head) => {
+                base = head.base_rva;
+                ranges64(at, head)
+            }
+            Err(fault) => return Err(fault),
+        },
+        Kind::Unloaded => match read::<UnloadedList, S>(source, window, start) {
+            Ok(head) => {
+                let count = u64::from(head.number_of_entries);
+                sized(at, kind, head.size_of_header, head.size_of_entry, count)
+            }
+            Err(fault) => return Err(fault),
+        },
+        Kind::MemoryInfo => match read::<MemoryInfoList, S>(source, window, start) {
+            Ok(head) => {
+                let count = head.number_of_entries;
+                sized(at, kind, head.size_of_header, head.size_of_entry, count)
+            }
+            Err(fault) => return Err(fault),
+        },
+    };
+    match shape {
+        Ok(shape) => Ok(Head { shape, base }),
+        Err(fault) => Err(fault),
+    }
+}

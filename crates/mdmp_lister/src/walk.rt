@@ -1,0 +1,407 @@
+//! The walk over the entries of a file, without its public face.
+ghost use Rattle.std.specs.Prelude.{◌≡◌, ◌+◌, ◌*◌, ◌^◌, ◌≤◌, ◌<◌, ◌-◌, ℕ, List, None, Some, IfOk, IfErr, IfSome, IsTrue, false, OnOk, OnSome, MatchResult, vec_len};
+ghost use Rattle.mdmp_source.specs.Store.{IsGood};
+ghost use Rattle.mdmp_source.specs.Source.{FetchesAtMost, FetchesSome};
+ghost use Rattle.mdmp_lister.specs.Opening.{IsHandedBack, IsOpenRefusal, IsRefusalOf, IsUnread, IsUnreadFor, directory_refusal};
+ghost use Rattle.mdmp_lister.specs.Reading.{IsCaused, IsOfSource, IsStoreFault};
+ghost use Rattle.mdmp_lister.specs.Stages.{IsStageAfter, IsStageAfterRun, ends, fault_stage, stop_after, stop_given, stop_of};
+ghost use Rattle.mdmp_lister.specs.Steps.{IsStepHeld, passed_by, step_item};
+ghost use Rattle.mdmp_lister.specs.Handing.{GivesAll, Handed};
+ghost use Rattle.mdmp_lister.specs.Listing.{list_fault, with_item};
+ghost use Rattle.mdmp_lister.specs.Items.{plain};
+
+use crate::choice::Choice;
+use crate::fault::{Fault, FaultKind, ListFault, OpenFault};
+use crate::heading::read_head;
+use crate::item::{Item, StreamItem};
+use crate::kind::Kind;
+use crate::limits::Limits;
+use crate::opening::{OpenRefused, next_chosen, read_directory, read_header};
+use crate::recording::read_item;
+use crate::shape::Shape;
+use crate::shaping::{location_fault, record_at};
+use crate::sink::{RunFault, Sink, Stopped};
+use crate::stage::Stage;
+use crate::step::{Step, lent_item};
+use mdmp_source::{Location, Source, Store};
+use mdmp_wire::{Entry, Header};
+use std::alloc::Allocator;
+
+/// The state of a listing.
+#[derive(Drop)]
+pub(crate) struct Walk<S: Store + Drop, A: Allocator + Copy> {
+    pub(crate) source: Source<S>,
+    pub(crate) header: Header,
+    pub(crate) entries: Vec<Entry, A>,
+    pub(crate) choice: Choice,
+    /// Through it records are read.
+    pub(crate) window: Vec<u8, A>,
+    /// At its front the units of the last name stand. Its length is the limit of names.
+    pub(crate) name: Vec<u8, A>,
+    /// The number of the first entry behind the current one.
+    pub(crate) next: usize,
+    pub(crate) current: Entry,
+    pub(crate) stage: Stage,
+}
+
+impl<S: Store + Drop, A: Allocator + Copy> Walk<S, A> {
+    ghost use Rattle.mdmp_lister.specs.declared.item.Item.{Item};
+    ghost use Rattle.mdmp_lister.specs.Walk.{Advances, FaultStays, IsListing, IsNewWalk, IsSound, Keeps, PassesTo, SameEntry, SameRoom, current_of, left_of, rest_of, work_of};
+
+    /// Reads the header and the directory of a file, and takes all the memory that a walk needs.
+    pub(crate) fn open(
+        alloc: A,
+        mut source: Source<S>,
+        limits: Limits,
+        choice: Choice,
+    ) -> Result<Self, OpenRefused<S>>
+        ensures sound { IfOk result IsSound }
+        ensures new { IfOk result (IsNewWalk source choice limits) }
+        ensures handed_back { IfErr result (λ refused. IsHandedBack source refused.fault refused.source) }
+        ensures opens { (file : List ℕ) → source.store.content ≡ Some file
+            → MatchResult result (λ _. directory_refusal file ≡ None) (λ refused. IsRefusalOf file refused.fault) }
+        ensures good { (file : List ℕ) → IsGood source.store file → IfErr result (λ refused. IsUnread refused.fault → ⊥) }
+        ensures refusal { IfErr result (λ refused. IsOpenRefusal source.size refused.fault) }
+        ensures short { source.size < 32 → MatchResult result (λ _. ⊥) (λ refused. refused.fault ≡ OpenFault.TooShort source.size) }
+        ensures cause { IfErr result (λ refused. IsUnreadFor refused.fault source refused.source) }
+    {
+        let header = match read_header(&mut source) {
+            Ok(header) => header,
+            Err(fault) => return Err(OpenRefused { fault, source }),
+        };
+        let Ok(mut entries) = Vec::with_capacity(alloc, header.number_of_streams as usize) else {
+            return Err(want_of_memory(source));
+        };
+        let Ok(mut window) = vec![in alloc; 0; limits.window as usize] else {
+            return Err(want_of_memory(source));
+        };
+        let Ok(name) = vec![in alloc; 0; limits.name as usize] else {
+            return Err(want_of_memory(source));
+        };
+        match read_directory(&mut source, &mut window, header, &mut entries) {
+            Ok(()) => {}
+            Err(fault) => return Err(OpenRefused { fault, source }),
+        }
+        Ok(Walk {
+            source,
+            header,
+            entries,
+            choice,
+            window,
+            name,
+            next: 0,
+            current: Entry {
+                stream_type: 0,
+                location: Location { size: 0, rva: 0 },
+            },
+            stage: Stage::Between,
+        })
+    }
+
+    /// Gives the next step, or the fault that is next.
+    pub(crate) fn advance(&mut self) -> Result<Option<Step>, ListFault>
+        requires { IsSound self.old }
+        ensures sound { IsSound self.new }
+        ensures same { SameRoom self.old self.new }
+        ensures fetches { FetchesAtMost (16 + (168 + (4 + vec_len self.old.name))) self.old.source self.new.source }
+        ensures listing { (file : List ℕ) → self.old.source.store.content ≡ Some file
+            → Advances self.old.source.size self.new.name.items (left_of self.old file) result (left_of self.new file) }
+        ensures held { IfOk result (λ given. IfSome given (IsStepHeld (vec_len self.new.name))) }
+        ensures stage { stop_of self.new.stage ≡ stop_after result }
+        ensures failed { IfErr result (λ fault. self.new.stage ≡ fault_stage fault) }
+        ensures passed { PassesTo result self.old.next self.new.next }
+        ensures falls { IfOk result (λ given. IfSome given (λ _. work_of self.new < work_of self.old)) }
+        ensures repeats { (stop : _) → stop_of self.old.stage ≡ Some stop → (self.new ≡ self.old) × (stop_after result ≡ Some stop) }
+        ensures cause { stop_of self.old.stage ≡ None → IfErr result (λ fault. IsCaused fault.kind self.old.source self.new.source) }
+        ensures place { stop_of self.old.stage ≡ None → IfErr result IsStoreFault }
+        ensures rests { work_of self.new ≤ work_of self.old }
+        ensures good { (file : List ℕ) → IsGood self.old.source.store file → IfErr result (λ fault. IsOfSource fault.kind → ⊥) }
+    {
+        match self.stage {
+            Stage::Bad(fault) | Stage::Failed(fault) => Err(fault),
+            Stage::Ended => Ok(None),
+            Stage::Head => {
+                self.read_head()?;
+                self.step()
+            }
+            Stage::Between | Stage::Records { .. } => self.step(),
+        }
+    }
+
+    /// Hands all that is left to a sink.
+    pub(crate) fn list_into<K: Sink>(&mut self, sink: &mut K) -> Result<(), RunFault>
+        requires { IsSound self.old }
+        ensures sound { IsSound self.new }
+        ensures same { SameRoom self.old self.new }
+        ensures fetches { FetchesSome self.old.source self.new.source }
+        ensures runs { (xs : List Item) × (Handed K.step sink.old xs result sink.new
+            × ((file : List ℕ) → self.old.source.store.content ≡ Some file → GivesAll (left_of self.old file) xs result (left_of self.new file))) }
+        ensures stage { IsStageAfterRun result self.new.stage }
+        ensures cause { stop_of self.old.stage ≡ None
+            → IfErr result (λ r. (fault : _) → r ≡ RunFault.At fault → IsCaused fault.kind self.old.source self.new.source) }
+        ensures good { (file : List ℕ) → IsGood self.old.source.store file
+            → IfErr result (λ r. (fault : _) → r ≡ RunFault.At fault → IsOfSource fault.kind → ⊥) }
+    {
+        loop {
+            match self.advance() {
+                Ok(Some(step)) => {
+                    let item = self.item(step);
+                    match sink.take(&item) {
+                        Ok(()) => {}
+                        Err(Stopped) => return Err(RunFault::Stopped),
+                    }
+                }
+                Ok(None) => return Ok(()),
+                Err(fault) => return Err(RunFault::At(fault)),
+            }
+        }
+    }
+
+    /// The item that a step tells, its name lent.
+    pub(crate) fn item(&self, step: Step) -> Item<'_>
+        requires { IsStepHeld (vec_len self.now.name) step }
+        ensures { plain result ≡ step_item self.now.source.size self.now.name.items step }
+    {
+        lent_item(step, &self.name, self.source.size())
+    }
+
+    /// Hands the source back.
+    pub(crate) fn into_source(self) -> Source<S>
+        ensures { result ≡ self.source }
+    {
+        let Walk { source, .. } = self;
+        source
+    }
+
+    /// Drops what is left of the current entry.
+    pub(crate) fn skip_entry(&mut self)
+        requires { IsSound self.old }
+        ensures sound { IsSound self.new }
+        ensures skips { ends self.old.stage ≡ false → self.new ≡ record self.old { stage = Stage.Between } }
+        ensures stays { IsTrue (ends self.old.stage) → self.new ≡ self.old }
+        ensures rests { work_of self.new ≤ work_of self.old }
+    {
+        match self.stage {
+            Stage::Failed(_) | Stage::Ended => {}
+            _ => self.stage = Stage::Between,
+        }
+    }
+
+    /// Gives the next record, or the next Stream item.
+    fn step(&mut self) -> Result<Option<Step>, ListFault>
+        requires sound { IsSound self.old }
+        requires stage { IsListing self.old.stage }
+        ensures sound { IsSound self.new }
+        ensures same { SameRoom self.old self.new }
+        ensures fetches { FetchesAtMost (168 + (4 + vec_len self.old.name)) self.old.source self.new.source }
+        ensures listing { (file : List ℕ) → self.old.source.store.content ≡ Some file
+            → Advances self.old.source.size self.new.name.items (left_of self.old file) result (left_of self.new file) }
+        ensures held { IfOk result (λ given. IfSome given (IsStepHeld (vec_len self.new.name))) }
+        ensures stage { stop_of self.new.stage ≡ stop_after result }
+        ensures failed { IfErr result (λ fault. self.new.stage ≡ fault_stage fault) }
+        ensures passed { PassesTo result self.old.next self.new.next }
+        ensures falls { IfOk result (λ given. IfSome given (λ _. work_of self.new < work_of self.old)) }
+        ensures cause { IfErr result (λ fault. IsCaused fault.kind self.old.source self.new.source) }
+        ensures place { IfErr result IsStoreFault }
+        ensures rests { work_of self.new ≤ work_of self.old }
+        ensures good { (file : List ℕ) → IsGood self.old.source.store file → IfErr result (λ fault. IsOfSource fault.kind → ⊥) }
+    {
+        match self.stage {
+            Stage::Records {
+                kind,
+                shape,
+                index,
+                offset,
+            } if index < shape.count => Ok(Some(self.read_record(kind, shape, index, offset)?)),
+            _ => Ok(self.next_stream()),
+        }
+    }
+
+    /// Reads where the records of the current entry stand.
+    fn read_head(&mut self) -> Result<(), ListFault>
+        requires sound { IsSound self.old }
+        requires head { self.old.stage ≡ Stage.Head }
+        ensures sound { IsSound self.new }
+        ensures same { SameEntry self.old self.new }
+        ensures name { self.new.name ≡ self.old.name }
+        ensures fetches { FetchesAtMost 16 self.old.source self.new.source }
+        ensures entry { (file : List ℕ) → self.old.source.store.content ≡ Some file → Keeps (current_of self.old file) result (current_of self.new file) }
+        ensures records { IfOk result (λ _. IsListing self.new.stage) }
+        ensures stage { IsStageAfter result self.new.stage }
+        ensures falls { OnOk result (work_of self.new < work_of self.old) }
+        ensures cause { IfErr result (λ fault. IsCaused fault.kind self.old.source self.new.source) }
+        ensures place { IfErr result IsStoreFault }
+        ensures rests { work_of self.new ≤ work_of self.old }
+        ensures good { (file : List ℕ) → IsGood self.old.source.store file → IfErr result (λ fault. IsOfSource fault.kind → ⊥) }
+    {
+        let number = (self.next - 1) as u32;
+        if let Some(fault) = location_fault(self.current, self.source.size()) {
+            return self.stop_at(told(number, None, fault));
+        }
+        let Some(kind) = Kind::of_type(self.current.stream_type) else {
+            self.stage = Stage::Between;
+            return Ok(());
+        };
+        match read_head(
+            &mut self.source,
+            &mut self.window,
+            self.current.location,
+            kind,
+        ) {
+            Ok(head) => {
+                self.stage = Stage::Records {
+                    kind,
+                    shape: head.shape,
+                    index: 0,
+                    offset: u128::from(head.base),
+                };
+                Ok(())
+            }
+            Err(fault) => self.stop_at(told(number, None, fault)),
+        }
+    }
+
+    /// Gives a record that is left.
+    fn read_record(
+        &mut self,
+        kind: Kind,
+        shape: Shape,
+        index: u64,
+        offset: u128,
+    ) -> Result<Step, ListFault>
+        requires sound { IsSound self.old }
+        requires stage { self.old.stage ≡ Stage.Records kind shape index offset }
+        requires left { index < shape.count }
+        ensures sound { IsSound self.new }
+        ensures same { SameEntry self.old self.new }
+        ensures fetches { FetchesAtMost (168 + (4 + vec_len self.old.name)) self.old.source self.new.source }
+        ensures entry { (file : List ℕ) → self.old.source.store.content ≡ Some file → MatchResult result
+            (λ step. current_of self.old file ≡ with_item (step_item self.old.source.size self.new.name.items step) (current_of self.new file))
+            (λ fault. FaultStays (current_of self.old file) fault (current_of self.new file)) }
+        ensures records { IfOk result (λ _. IsListing self.new.stage) }
+        ensures held { IfOk result (IsStepHeld (vec_len self.new.name)) }
+        ensures passed { IfOk result (λ step. passed_by step self.old.next ≡ self.old.next) }
+        ensures stage { IsStageAfter result self.new.stage }
+        ensures falls { OnOk result (work_of self.new < work_of self.old) }
+        ensures cause { IfErr result (λ fault. IsCaused fault.kind self.old.source self.new.source) }
+        ensures place { IfErr result IsStoreFault }
+        ensures rests { work_of self.new ≤ work_of self.old }
+        ensures good { (file : List ℕ) → IsGood self.old.source.store file → IfErr result (λ fault. IsOfSource fault.kind → ⊥) }
+    {
+        let number = (self.next - 1) as u32;
+        let at = record_at(
+            self.current.location,
+            kind,
+            shape,
+            index,
+            self.source.size(),
+        );
+        match read_item(
+            &mut self.source,
+            &mut self.window,
+            &mut self.name,
+            kind,
+            number,
+            index,
+            at,
+            offset,
+        ) {
+            Ok(step) => {
+                self.stage = Stage::Records {
+                    kind,
+                    shape,
+                    index: index + 1,
+                    offset: offset_behind(step, offset),
+                };
+                Ok(step)
+            }
+            Err(fault) => self.stop_at(told(number, Some(index), fault)),
+        }
+    }
+
+    /// Gives the Stream item of the next chosen entry.
+    fn next_stream(&mut self) -> Option<Step>
+        requires { IsSound self.old }
+        ensures sound { IsSound self.new }
+        ensures same { SameRoom self.old self.new }
+        ensures source { self.new.source ≡ self.old.source }
+        ensures name { self.new.name ≡ self.old.name }
+        ensures listing { (file : List ℕ) → self.old.source.store.content ≡ Some file
+            → Advances self.old.source.size self.new.name.items (rest_of self.old file) (Ok result) (left_of self.new file) }
+        ensures held { IfSome result (IsStepHeld (vec_len self.new.name)) }
+        ensures passed { IfSome result (λ step. self.new.next ≡ passed_by step self.old.next) }
+        ensures stage { stop_of self.new.stage ≡ stop_given result }
+        ensures falls { IfSome result (λ _. work_of self.new < work_of self.old) }
+        ensures rests { work_of self.new ≤ work_of self.old }
+    {
+        let Some(at) = next_chosen(&self.entries, self.next, &self.choice) else {
+            self.next = self.entries.len();
+            self.stage = Stage::Ended;
+            return None;
+        };
+        let entry = self.entries[at];
+        self.next = at + 1;
+        self.current = entry;
+        self.stage = Stage::Head;
+        Some(Step::Stream(StreamItem {
+            entry: at as u32,
+            stream_type: entry.stream_type,
+            location: entry.location,
+        }))
+    }
+
+    /// Stays at a fault.
+    fn stop_at<T: Drop>(&mut self, fault: ListFault) -> Result<T, ListFault>
+        ensures fault { result ≡ Err fault }
+        ensures stage { self.new ≡ record self.old { stage = fault_stage fault } }
+    {
+        self.stage = match fault.kind {
+            FaultKind::Source(_) => Stage::Failed(fault),
+            _ => Stage::Bad(fault),
+        };
+        Err(fault)
+    }
+}
+
+/// Memory was refused.
+fn want_of_memory<S: Store + Drop>(source: Source<S>) -> OpenRefused<S>
+    ensures { result ≡ record { fault = OpenFault.Memory; source = source } }
+{
+    OpenRefused {
+        fault: OpenFault::Memory,
+        source,
+    }
+}
+
+/// A fault of the item in whose place it stands, or of the whole entry. One of the store is that of
+/// no item.
+fn told(entry: u32, index: Option<u64>, fault: Fault) -> ListFault
+    ensures of_file { (IsOfSource fault.kind → ⊥) → result ≡ list_fault entry index fault }
+    ensures kind { result.kind ≡ fault.kind }
+    ensures place { (result.offset ≡ fault.offset) × (result.size ≡ fault.size) }
+    ensures of_store { IsOfSource fault.kind → result.index ≡ None }
+{
+    let index = match fault.kind {
+        FaultKind::Source(_) => None,
+        _ => index,
+    };
+    ListFault {
+        entry,
+        index,
+        kind: fault.kind,
+        offset: fault.offset,
+        size: fault.size,
+    }
+}
+
+/// Where the bytes of the range behind a step stand, of one whose bytes stand at `offset`.
+fn offset_behind(step: Step, offset: u128) -> u128
+    requires { offset + 2 ^ 64 ≤ 2 ^ 128 - 1 }
+    ensures range { (range : _) → step ≡ Step.Range range → result ≡ offset + range.size }
+    ensures bound { result < offset + 2 ^ 64 }
+{
+    match step {
+        Step::Range(range) => offset + u128::from(range.size),
+        _ => offset,
+    }
+}
