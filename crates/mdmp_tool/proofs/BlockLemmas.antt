@@ -62,16 +62,16 @@ all : (a b : Option (List ℕ)) (text : List ℕ) → Takes a text b → TakesPr
 all a b text took = record { sent = text; rest = []; whole = sym (append-nil text); took = took }
 
 -- whatever the answer, what was written is a prefix of the text
-pub Lists-prefix : (F : List ℕ) (a b : OutState) (r : Result (Unit {0}) ToolFault) → Lists F a r b → TakesPrefix a.taken (list_text F) b.taken
-Lists-prefix F a b (Ok x) listed = all a.taken b.taken (list_text F) listed.text.took
-Lists-prefix F a b (Err (BadList f)) listed = all a.taken b.taken (list_text F) listed.text.took
-Lists-prefix F a b (Err (Opening f)) listed = nothing a.taken b.taken (list_text F) listed.nothing.took
-Lists-prefix F a b (Err Memory) listed = nothing a.taken b.taken (list_text F) listed.nothing.took
-Lists-prefix F a b (Err (Source f)) fails = elim fails [
-  | inl head ↦ nothing a.taken b.taken (list_text F) head.nothing.took
-  | inr directory ↦ directory.short.took
+pub Lists-prefix : (F : List ℕ) (limit : ℕ) (a b : OutState) (r : Result (Unit {0}) ToolFault) → Lists F limit a r b → TakesPrefix a.taken (list_text F limit) b.taken
+Lists-prefix F limit a b (Ok x) listed = all a.taken b.taken (list_text F limit) listed.text.took
+Lists-prefix F limit a b (Err (BadList f)) listed = all a.taken b.taken (list_text F limit) listed.text.took
+Lists-prefix F limit a b (Err (Opening f)) listed = nothing a.taken b.taken (list_text F limit) listed.nothing.took
+Lists-prefix F limit a b (Err Memory) listed = nothing a.taken b.taken (list_text F limit) listed.nothing.took
+Lists-prefix F limit a b (Err (Source f)) fails = elim fails [
+  | inl none ↦ nothing a.taken b.taken (list_text F limit) none.took
+  | inr begun ↦ begun.short.took
 ]
-Lists-prefix F a b (Err Out) cut = cut.took
+Lists-prefix F limit a b (Err Out) cut = cut.took
 
 -- ---- the whole run
 
@@ -80,33 +80,31 @@ abbrev pub with_pending : OutState → List ℕ → OutState
 with_pending inner pending = record { taken = append_known inner.taken pending; failures = inner.failures }
 
 -- the run refused
-pub RefusesWithin-run : (F : List ℕ) (a b c : OutState) (old pending left : List ℕ) (r : Result (Unit {0}) ToolFault) → old ≡ []
-    → Lists F (with_pending a old) r (with_pending b pending) → Keeps (append_known b.taken pending) (append_known c.taken left) → HasRisen a.failures c.failures
-    → RefusesWithin a (list_text F) c
-RefusesWithin-run F a b c old pending left r none listed kept risen = record {
-  within = first_part-taken a.taken c.taken old left (list_text F) none
-      (TakesPrefix-Keeps _ _ _ (list_text F) (Lists-prefix F (with_pending a old) (with_pending b pending) r listed) kept);
+pub RefusesWithin-run : (F : List ℕ) (limit : ℕ) (a b c : OutState) (old pending left : List ℕ) (r : Result (Unit {0}) ToolFault) → old ≡ []
+    → Lists F limit (with_pending a old) r (with_pending b pending) → Keeps (append_known b.taken pending) (append_known c.taken left) → HasRisen a.failures c.failures
+    → RefusesWithin a (list_text F limit) c
+RefusesWithin-run F limit a b c old pending left r none listed kept risen = record {
+  within = first_part-taken a.taken c.taken old left (list_text F limit) none
+      (TakesPrefix-Keeps _ _ _ (list_text F limit) (Lists-prefix F limit (with_pending a old) (with_pending b pending) r listed) kept);
   refused = risen;
 }
 
 -- the last flush went through
-pub ListsThrough-flushed : (F : List ℕ) (a b c : OutState) (old pending left : List ℕ) (r : Result (Unit {0}) ToolFault) → old ≡ [] → left ≡ []
-    → MovesFront b pending c left → c.failures ≡ b.failures → Lists F (with_pending a old) r (with_pending b pending) → ListsThrough F a r c
-ListsThrough-flushed F a b c old pending left r none done moved same listed = through r listed where
+pub ListsThrough-flushed : (F : List ℕ) (limit : ℕ) (a b c : OutState) (old pending left : List ℕ) (r : Result (Unit {0}) ToolFault) → old ≡ [] → left ≡ []
+    → MovesFront b pending c left → c.failures ≡ b.failures → Lists F limit (with_pending a old) r (with_pending b pending) → ListsThrough F limit a r c
+ListsThrough-flushed F limit a b c old pending left r none done moved same listed = through r listed where
   put : (text : List ℕ) → PutsAll (with_pending a old) text (with_pending b pending) → PutsAll a text c
   put text all_put = record { took = Takes-flushed a b c old pending left text none done moved all_put.took; steady = same ∙ all_put.steady }
 
-  through : (r : Result (Unit {0}) ToolFault) → Lists F (with_pending a old) r (with_pending b pending) → ListsThrough F a r c
-  through (Ok x) l = record { opened = l.opened; ends = l.ends; text = put (list_text F) l.text }
-  through (Err (BadList f)) l = record { opened = l.opened; ends = l.ends; text = put (list_text F) l.text }
+  through : (r : Result (Unit {0}) ToolFault) → Lists F limit (with_pending a old) r (with_pending b pending) → ListsThrough F limit a r c
+  through (Ok x) l = record { opened = l.opened; ends = l.ends; text = put (list_text F limit) l.text }
+  through (Err (BadList f)) l = record { opened = l.opened; ends = l.ends; text = put (list_text F limit) l.text }
   through (Err (Opening f)) l = record { refused = l.refused; nothing = put [] l.nothing }
   through (Err Memory) l = record { opened = l.opened; nothing = put [] l.nothing }
   through (Err (Source f)) fails = elim fails [
-    | inl head ↦ inl (record { place = head.place; nothing = put [] head.nothing })
+    | inl none ↦ inl (put [] none)
     | inr l ↦ inr (record {
       opened = l.opened;
-      from = l.from;
-      to = l.to;
       short = record {
         took = record { sent = l.short.took.sent; rest = l.short.took.rest; whole = l.short.took.whole; took = Takes-flushed a b c old pending left l.short.took.sent none done moved l.short.took.took };
         steady = same ∙ l.short.steady;
@@ -114,21 +112,21 @@ ListsThrough-flushed F a b c old pending left r none done moved same listed = th
     })
   ]
   through (Err Out) l =
-      RefusesWithin-run F a b c old pending left (Err Out) none l (Keeps-moved b pending c left moved) (subst (λ (n : ℕ). HasRisen a.failures n) (sym same) l.refused)
+      RefusesWithin-run F limit a b c old pending left (Err Out) none l (Keeps-moved b pending c left moved) (subst (λ (n : ℕ). HasRisen a.failures n) (sym same) l.refused)
 
 -- an output's count of refusals does not fall
-pub Lists-failures : (F : List ℕ) (a b : OutState) (r : Result (Unit {0}) ToolFault) → Lists F a r b → a.failures ≤ b.failures
-Lists-failures F a b (Ok x) l = omega (arith, l.text.steady)
-Lists-failures F a b (Err (BadList f)) l = omega (arith, l.text.steady)
-Lists-failures F a b (Err (Opening f)) l = omega (arith, l.nothing.steady)
-Lists-failures F a b (Err Memory) l = omega (arith, l.nothing.steady)
-Lists-failures F a b (Err (Source f)) fails = elim fails [ inl head ↦ omega (arith, head.nothing.steady) | inr l ↦ omega (arith, l.short.steady) ]
-Lists-failures F a b (Err Out) l = omega (arith, l.refused)
+pub Lists-failures : (F : List ℕ) (limit : ℕ) (a b : OutState) (r : Result (Unit {0}) ToolFault) → Lists F limit a r b → a.failures ≤ b.failures
+Lists-failures F limit a b (Ok x) l = omega (arith, l.text.steady)
+Lists-failures F limit a b (Err (BadList f)) l = omega (arith, l.text.steady)
+Lists-failures F limit a b (Err (Opening f)) l = omega (arith, l.nothing.steady)
+Lists-failures F limit a b (Err Memory) l = omega (arith, l.nothing.steady)
+Lists-failures F limit a b (Err (Source f)) fails = elim fails [ inl none ↦ omega (arith, none.steady) | inr l ↦ omega (arith, l.short.steady) ]
+Lists-failures F limit a b (Err Out) l = omega (arith, l.refused)
 
 -- the last flush was refused
-pub RefusesWithin-flush : (F : List ℕ) (a b c : OutState) (old pending left : List ℕ) (r : Result (Unit {0}) ToolFault) → old ≡ []
-    → Lists F (with_pending a old) r (with_pending b pending) → MovesFront b pending c left → c.failures ≡ raised b.failures 1
-    → RefusesWithin a (list_text F) c
-RefusesWithin-flush F a b c old pending left r none listed moved refused =
-    let no_fewer : a.failures ≤ b.failures = Lists-failures F (with_pending a old) (with_pending b pending) r listed in
-    RefusesWithin-run F a b c old pending left r none listed (Keeps-moved b pending c left moved) (omega (arith, refused, no_fewer))
+pub RefusesWithin-flush : (F : List ℕ) (limit : ℕ) (a b c : OutState) (old pending left : List ℕ) (r : Result (Unit {0}) ToolFault) → old ≡ []
+    → Lists F limit (with_pending a old) r (with_pending b pending) → MovesFront b pending c left → c.failures ≡ raised b.failures 1
+    → RefusesWithin a (list_text F limit) c
+RefusesWithin-flush F limit a b c old pending left r none listed moved refused =
+    let no_fewer : a.failures ≤ b.failures = Lists-failures F limit (with_pending a old) (with_pending b pending) r listed in
+    RefusesWithin-run F limit a b c old pending left r none listed (Keeps-moved b pending c left moved) (omega (arith, refused, no_fewer))

@@ -1,6 +1,7 @@
 pub mod BlockLemmas
-pub mod Directories
+pub mod ItemRows
 pub mod Listings
-pub mod Refusals
+pub mod PlainLines
+pub mod Printing
 pub mod Rows
 pub mod Telling

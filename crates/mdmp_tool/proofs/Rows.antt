@@ -1,14 +1,14 @@
--- What small files give, computed by the definitions.
-use Rattle.std.proofs.Common.{◌≡◌, ℕ, List, [], ◌∷◌, ◌++◌, Some, None, refl, take}
+-- What small files print, computed by the definitions.
+use Rattle.std.proofs.Common.{◌≡◌, ℕ, List, [], ◌∷◌, ◌++◌, refl}
 use Rattle.std.specs.Prelude.{codes}
 use Rattle.std.specs.List.{concat}
 use Rattle.std.specs.Fmt.{digits}
-use Rattle.mdmp_wire.specs.Number.{number_at, le, zeros}
-use Rattle.mdmp_tool.specs.declared.fault.OpenFault.TheVariants.{TooShort, BadSignature, BadVersion, DirectoryOutside}
-use Rattle.mdmp_tool.specs.declared.fault.FaultKind.TheVariants.{StreamOutside}
+use Rattle.mdmp_wire.specs.Number.{number_at, numbers_at, bytes_at, le, zeros}
 use Rattle.mdmp_wire.specs.Digits.{hex}
-use Rattle.mdmp_tool.specs.Directory.{listing, entries_at}
-use Rattle.mdmp_tool.specs.Opening.{opening_fault}
+use Rattle.mdmp_lister.specs.Items.{sizes_before}
+use Rattle.mdmp_lister.specs.Listing.{entries_from, only_chosen}
+use Rattle.mdmp_lister.specs.Names.{name_at}
+use Rattle.mdmp_lister.specs.Shapes.{shape_of}
 use Rattle.mdmp_tool.specs.Text.{list_text}
 
 -- a header of so many streams, whose directory stands at an offset
@@ -18,51 +18,30 @@ head streams directory = codes "MDMP" ++ le 4 0xa793 ++ le 4 streams ++ le 4 dir
 abbrev entry : ℕ → ℕ → ℕ → List ℕ
 entry stream_type size rva = le 4 stream_type ++ le 4 size ++ le 4 rva
 
--- three entries, the last of which names bytes behind the end
+-- a system, and a module whose name lies outside
 abbrev faulty_file : List ℕ
-faulty_file = head 3 32 ++ entry 7 56 68 ++ entry 4 112 124 ++ entry 10 5 236 ++ zeros 168
+faulty_file = head 2 32 ++ entry 7 56 56 ++ entry 4 112 112 ++ zeros 56 ++ le 4 1 ++ zeros 20 ++ le 4 0xffffffff ++ zeros 84
 
 -- with no streams the directory is not looked at
-empty-text : list_text (head 0 0xffffffff) ≡ codes "dump version 0x0000 streams 0 directory 4294967295 checksum 0 time 0 flags 0x0000000000000000\n"
-unfolding number_at le hex digits entries_at
+empty-text : list_text (head 0 0xffffffff) 0 ≡ codes "dump version 0x0000 streams 0 directory 4294967295 checksum 0 time 0 flags 0x0000000000000000\n"
+unfolding number_at numbers_at bytes_at le hex digits name_at shape_of entries_from only_chosen sizes_before
 empty-text = refl
 
-short-fault : opening_fault (take 31 (head 0 0xffffffff)) ≡ Some (TooShort 31)
-unfolding number_at le
-short-fault = refl
-
-signature-fault : opening_fault (codes "PMDM" ++ zeros 28) ≡ Some BadSignature
-unfolding number_at le
-signature-fault = refl
-
-version-fault : opening_fault (codes "MDMP" ++ le 4 0xa794 ++ zeros 24) ≡ Some (BadVersion 0xa794)
-unfolding number_at le
-version-fault = refl
-
--- the producer's own half of the version
-version-opened : opening_fault (codes "MDMP" ++ le 4 0x12aaa793 ++ zeros 24) ≡ None
-unfolding number_at le
-version-opened = refl
-
-endless-fault : opening_fault (head 0xffffffff 32 ++ zeros 12) ≡ Some (DirectoryOutside 32 51539607540)
-unfolding number_at le
-endless-fault = refl
-
-cut-fault : opening_fault (head 1 32 ++ zeros 11) ≡ Some (DirectoryOutside 32 12)
-unfolding number_at le
-cut-fault = refl
+-- a file that is refused prints nothing
+refused-text : list_text (head 1 32 ++ zeros 11) 0 ≡ []
+unfolding number_at numbers_at bytes_at le hex digits name_at shape_of entries_from only_chosen sizes_before
+refused-text = refl
 
 -- the location of an unused entry is printed and not tested
-unused-text : list_text (head 1 32 ++ entry 0 7 0xffffffff) ≡ concat (codes "dump version 0x0000 streams 1 directory 32 checksum 0 time 0 flags 0x0000000000000000\n"
+unused-text : list_text (head 1 32 ++ entry 0 7 0xffffffff) 0 ≡ concat (codes "dump version 0x0000 streams 1 directory 32 checksum 0 time 0 flags 0x0000000000000000\n"
     ∷ codes "stream 0 type 0 size 7 rva 4294967295\n" ∷ [])
-unfolding number_at le hex digits entries_at
+unfolding number_at numbers_at bytes_at le hex digits name_at shape_of entries_from only_chosen sizes_before
 unused-text = refl
 
-faulty-text : list_text faulty_file ≡ concat (codes "dump version 0x0000 streams 3 directory 32 checksum 0 time 0 flags 0x0000000000000000\n"
-    ∷ codes "stream 0 type 7 size 56 rva 68\n" ∷ codes "stream 1 type 4 size 112 rva 124\n" ∷ codes "stream 2 type 10 size 5 rva 236\n" ∷ [])
-unfolding number_at le hex digits entries_at
+-- the lines up to the first fault
+faulty-text : list_text faulty_file 0 ≡ concat (codes "dump version 0x0000 streams 2 directory 32 checksum 0 time 0 flags 0x0000000000000000\n"
+    ∷ codes "stream 0 type 7 size 56 rva 56\n"
+    ∷ codes "system architecture 0 level 0 revision 0 processors 0 product 0 version 0.0.0 platform 0 suite 0 csd none\n"
+    ∷ codes "stream 1 type 4 size 112 rva 112\n" ∷ [])
+unfolding number_at numbers_at bytes_at le hex digits name_at shape_of entries_from only_chosen sizes_before
 faulty-text = refl
-
-faulty-fault : (listing faulty_file).fault ≡ Some (record { entry = 2; index = None; kind = StreamOutside; offset = 236; size = 5 })
-unfolding number_at le entries_at
-faulty-fault = refl

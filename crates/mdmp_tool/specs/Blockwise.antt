@@ -20,9 +20,9 @@ pub record RefusesWithin (before : OutState) (text : List ℕ) (after : OutState
   pub refused : HasRisen before.failures after.failures
 
 -- the same through blocks, of which the last is flushed
-abbrev pub ListsThrough : List ℕ → OutState → Result (Unit {0}) ToolFault → OutState → Type 0
-ListsThrough F before (Err Out) after = RefusesWithin before (list_text F) after
-ListsThrough F before r after = Lists F before r after
+abbrev pub ListsThrough : List ℕ → ℕ → OutState → Result (Unit {0}) ToolFault → OutState → Type 0
+ListsThrough F limit before (Err Out) after = RefusesWithin before (list_text F limit) after
+ListsThrough F limit before r after = Lists F limit before r after
 
 -- nothing is pending, but where the output refused
 abbrev pub IsFlushed : Result (Unit {0}) ToolFault → List ℕ → Type 0

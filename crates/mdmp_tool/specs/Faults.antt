@@ -4,11 +4,11 @@ use Rattle.std.specs.List.{concat}
 use Rattle.std.specs.Fmt.{decimal}
 use Rattle.mdmp_source.specs.declared.fault.SourceFault.{SourceFault}
 use Rattle.mdmp_source.specs.declared.fault.SourceFault.TheVariants as source
-use Rattle.mdmp_tool.specs.declared.fault.OpenFault.{OpenFault}
-use Rattle.mdmp_tool.specs.declared.fault.OpenFault.TheVariants as opening
-use Rattle.mdmp_tool.specs.declared.fault.FaultKind.{FaultKind}
-use Rattle.mdmp_tool.specs.declared.fault.FaultKind.TheVariants as kinds
-use Rattle.mdmp_tool.specs.declared.fault.ListFault.{ListFault}
+use Rattle.mdmp_lister.specs.declared.fault.OpenFault.{OpenFault}
+use Rattle.mdmp_lister.specs.declared.fault.OpenFault.TheVariants as opening
+use Rattle.mdmp_lister.specs.declared.fault.FaultKind.{FaultKind}
+use Rattle.mdmp_lister.specs.declared.fault.FaultKind.TheVariants as kinds
+use Rattle.mdmp_lister.specs.declared.fault.ListFault.{ListFault}
 use Rattle.mdmp_tool.specs.declared.fault.ToolFault.{ToolFault}
 use Rattle.mdmp_tool.specs.declared.fault.ToolFault.TheVariants as tool
 use Rattle.mdmp_wire.specs.Digits.{hex}
@@ -36,6 +36,9 @@ memory_text = codes "out of memory"
 abbrev pub version_text : ℕ → List ℕ
 version_text low = concat (codes "bad version 0x" ∷ hex 4 low ∷ [])
 
+abbrev pub ranges_text : ℕ → List ℕ
+ranges_text count = concat (codes "too many memory ranges: " ∷ decimal count ∷ [])
+
 abbrev pub opening_text : OpenFault → List ℕ
 opening_text (opening.TooShort size) = concat (codes "file of " ∷ decimal size ∷ codes " bytes is too short" ∷ [])
 opening_text (opening.BadSignature) = codes "bad signature"
@@ -44,9 +47,19 @@ opening_text (opening.DirectoryOutside offset size) =
     concat (codes "directory outside the file: offset " ∷ decimal offset ∷ codes " size " ∷ decimal size ∷ [])
 opening_text (opening.Source fault) = source_text fault
 opening_text (opening.Memory) = memory_text
+opening_text (opening.TooManyRanges count) = ranges_text count
 
+-- what a kind of fault is called; a fault of the store has a text of its own
 abbrev pub kind_words : FaultKind → List ℕ
 kind_words kinds.StreamOutside = codes "stream outside the file"
+kind_words kinds.ShortStream = codes "stream too short"
+kind_words kinds.BadHeaderSize = codes "bad header size"
+kind_words kinds.BadEntrySize = codes "bad entry size"
+kind_words kinds.BadCount = codes "bad count"
+kind_words kinds.NameLengthOutside = codes "name length outside the file"
+kind_words kinds.NameOdd = codes "odd name length"
+kind_words kinds.NameUnitsOutside = codes "name outside the file"
+kind_words (kinds.Source fault) = []
 
 -- ` item <k>`, where the fault is that of a record
 abbrev pub item_text : Option ℕ → List ℕ

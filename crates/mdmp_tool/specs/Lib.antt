@@ -1,10 +1,10 @@
 pub mod Blockwise
 pub mod Causes
-pub mod Directory
 pub mod Faults
+pub mod ItemLines
 pub mod Lines
-pub mod Opening
 pub mod Pieces
 pub mod Runs
+pub mod Telling
 pub mod Text
 pub mod Words

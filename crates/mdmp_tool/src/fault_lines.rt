@@ -2,10 +2,11 @@
 ghost use Rattle.std.specs.Prelude.{◌≡◌};
 ghost use Rattle.mdmp_source.specs.Output.{Puts};
 ghost use Rattle.mdmp_tool.specs.Lines.{error_line};
-ghost use Rattle.mdmp_tool.specs.Faults.{source_text, output_text, memory_text, version_text, opening_text, list_fault_text, fault_text};
+ghost use Rattle.mdmp_tool.specs.Faults.{source_text, output_text, memory_text, version_text, ranges_text, opening_text, list_fault_text, fault_text};
 
-use crate::fault::{ListFault, OpenFault, ToolFault};
+use crate::fault::ToolFault;
 use crate::pieces::{Piece, put_error_line};
+use mdmp_lister::{ListFault, OpenFault};
 use mdmp_source::{Out, OutFailed, SourceFault};
 
 /// Writes the line of a fault, `mdmp: ` and what it says. Where the output refuses, the first part
@@ -58,6 +59,18 @@ fn put_bad_version<O: Out>(low: u16, out: &mut O) -> Result<(), OutFailed>
     )
 }
 
+fn put_too_many_ranges<O: Out>(count: u128, out: &mut O) -> Result<(), OutFailed>
+    ensures { Puts result (O.state out.old) (error_line (ranges_text count)) (O.state out.new) }
+{
+    put_error_line(
+        out,
+        &[
+            Piece::Text("too many memory ranges: "),
+            Piece::WideDecimal(count),
+        ],
+    )
+}
+
 fn put_opening_fault<O: Out>(fault: &OpenFault, out: &mut O) -> Result<(), OutFailed>
     ensures { Puts result (O.state out.old) (error_line (opening_text fault.now)) (O.state out.new) }
 {
@@ -83,6 +96,7 @@ fn put_opening_fault<O: Out>(fault: &OpenFault, out: &mut O) -> Result<(), OutFa
         ),
         OpenFault::Source(fault) => put_source_fault(fault, out),
         OpenFault::Memory => put_memory_fault(out),
+        OpenFault::TooManyRanges { count } => put_too_many_ranges(*count, out),
     }
 }
 

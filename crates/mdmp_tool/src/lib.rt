@@ -8,21 +8,20 @@
 #![tactic(auto)]
 
 mod blocks;
-mod directory;
 mod fault;
 mod fault_lines;
+mod item_lines;
 mod lines;
 mod list;
-mod opening;
 mod pieces;
 mod words;
 
 pub use crate::blocks::list_in_blocks;
-pub use crate::fault::{FaultKind, ListFault, OpenFault, ToolFault, status};
+pub use crate::fault::{ToolFault, status};
 pub use crate::fault_lines::fault_line;
-pub use crate::list::{list_source, run_list};
+pub use crate::list::{Listed, list_source, run_list};
 pub use crate::words::run_words;
-pub use mdmp_lister::Limits;
+pub use mdmp_lister::{FaultKind, Limits, ListFault, OpenFault};
 
 #[cfg(test)]
 mod tests;

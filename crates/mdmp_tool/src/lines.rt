@@ -1,8 +1,7 @@
 //! The lines that `list` prints.
 ghost use Rattle.mdmp_source.specs.Output.{Puts};
-ghost use Rattle.mdmp_tool.specs.Lines.{dump_line, stream_line};
+ghost use Rattle.mdmp_tool.specs.Lines.{dump_line};
 
-use crate::directory::StreamItem;
 use crate::pieces::{Piece, put_pieces};
 use mdmp_source::{Out, OutFailed};
 use mdmp_wire::Header;
@@ -26,26 +25,6 @@ pub(crate) fn put_dump_line<O: Out>(header: &Header, out: &mut O) -> Result<(), 
             Piece::Decimal(header.time_date_stamp as u64),
             Piece::Text(" flags 0x"),
             Piece::Hex16(header.flags),
-            Piece::Text("\n"),
-        ],
-    )
-}
-
-/// Prints the line of an entry of the directory.
-pub(crate) fn put_stream_line<O: Out>(item: &StreamItem, out: &mut O) -> Result<(), OutFailed>
-    ensures { Puts result (O.state out.old) (stream_line item.now) (O.state out.new) }
-{
-    put_pieces(
-        out,
-        &[
-            Piece::Text("stream "),
-            Piece::Decimal(item.entry as u64),
-            Piece::Text(" type "),
-            Piece::Decimal(item.stream_type as u64),
-            Piece::Text(" size "),
-            Piece::Decimal(item.location.size as u64),
-            Piece::Text(" rva "),
-            Piece::Decimal(item.location.rva as u64),
             Piece::Text("\n"),
         ],
     )

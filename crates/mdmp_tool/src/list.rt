@@ -1,28 +1,34 @@
 //! The command `list`.
-ghost use Rattle.std.specs.Prelude.{◌≡◌, ◌≤◌, ◌<◌, ◌+◌, ◌*◌, ◌^◌, ℕ, List, Some, length, false};
-ghost use Rattle.mdmp_source.specs.Range.{IsInside};
+ghost use Rattle.std.specs.Prelude.{◌≡◌, ◌≤◌, ◌<◌, ℕ, List, None, Some, Err, false};
 ghost use Rattle.mdmp_source.specs.Store.{IsGood};
-ghost use Rattle.mdmp_source.specs.Source.{FetchesAtMost, FetchesSome};
-ghost use Rattle.mdmp_tool.specs.Directory.{entries_at, listing_of};
-ghost use Rattle.mdmp_tool.specs.Runs.{ListsRun, Lists};
-ghost use Rattle.mdmp_tool.specs.Causes.{IsNoSourceFault, HasSourceCause, HasOutCause, IsFaultWithin, IsRefusal};
+ghost use Rattle.mdmp_source.specs.Source.{FetchesSome};
+ghost use Rattle.mdmp_lister.specs.Listing.{Run};
+ghost use Rattle.mdmp_tool.specs.Runs.{IsOfRun, Lists, ListsFile, ListsRun};
+ghost use Rattle.mdmp_tool.specs.Causes.{IsNoSourceFault, HasSourceCause, HasOutCause, IsRefusal};
+ghost use Rattle.mdmp_tool.specs.Telling.{list_told, opening_told};
 
-use crate::directory::list_block;
-use crate::fault::{OpenFault, ToolFault};
+use crate::fault::ToolFault;
+use crate::item_lines::put_item_line;
 use crate::lines::put_dump_line;
-use crate::opening::open;
-use mdmp_lister::Limits;
+use mdmp_lister::{Choice, FaultKind, Limits, ListFault, Lister, OpenFault};
 use mdmp_source::{Out, OutFailed, Source, Store};
-use mdmp_wire::{Entry, Header, Record};
 use std::alloc::Allocator;
 
-/// Prints what a file holds: a line for its header, and one for each entry of its directory, up to
-/// and with the first whose stream is not inside the file. What stands behind the directory is not
-/// looked at, and no CodeView records are told (`pdb`).
+/// What a run answered, and the source that it read.
+#[derive(Drop)]
+pub struct Listed<S: Store + Drop> {
+    /// Whether all lines were printed, or why not.
+    pub answer: Result<(), ToolFault>,
+    /// The source, whose counts tell the cause of its faults.
+    pub source: Source<S>,
+}
+
+/// Prints what a file holds: a line for its header, and one for each item of its listing, up to the
+/// first fault. No CodeView records are told (`pdb`).
 ///
 /// Where the file is refused nothing is written. After a fault of the store or the output the first
-/// part of the text went out. Memory is taken before the first byte of output: the window.
-pub fn run_list<S: Store + Drop, A: Allocator, O: Out>(
+/// part of the text went out. Memory is taken before the first byte of output.
+pub fn run_list<S: Store + Drop, A: Allocator + Copy, O: Out>(
     alloc: A,
     store: S,
     limits: Limits,
@@ -30,113 +36,109 @@ pub fn run_list<S: Store + Drop, A: Allocator, O: Out>(
     out: &mut O,
 ) -> Result<(), ToolFault>
     requires { pdb ≡ false }
-    ensures lists { (file : List ℕ) → (S.state store).content ≡ Some file → Lists file (O.state out.old) result (O.state out.new) }
+    ensures lists { (file : List ℕ) → (S.state store).content ≡ Some file → Lists file limits.name (O.state out.old) result (O.state out.new) }
     ensures good { (file : List ℕ) → IsGood (S.state store) file → IsNoSourceFault result }
     ensures refusal { IsRefusal (S.state store).size result }
     ensures short { (S.state store).size < 32 → result ≡ Err (ToolFault.Opening (OpenFault.TooShort (S.state store).size)) }
     ensures out_cause { HasOutCause (O.state out.old) result (O.state out.new) }
 {
     let _ = pdb;
-    let mut source = Source::new(store);
-    list_source(alloc, &mut source, limits, out)
+    let Listed { answer, source: _ } = list_source(alloc, Source::new(store), limits, out);
+    answer
 }
 
-/// Does what `run_list` does over a source that is lent, whose counts tell the cause of its faults.
-pub fn list_source<S: Store, A: Allocator, O: Out>(
+/// Does what `run_list` does, and hands the source back, whose counts tell the cause of its faults.
+pub fn list_source<S: Store + Drop, A: Allocator + Copy, O: Out>(
     alloc: A,
-    source: &mut Source<S>,
+    source: Source<S>,
     limits: Limits,
     out: &mut O,
+) -> Listed<S>
+    ensures lists { (file : List ℕ) → source.store.content ≡ Some file → Lists file limits.name (O.state out.old) result.answer (O.state out.new) }
+    ensures good { (file : List ℕ) → IsGood source.store file → IsNoSourceFault result.answer }
+    ensures refusal { IsRefusal source.size result.answer }
+    ensures short { source.size < 32 → result.answer ≡ Err (ToolFault.Opening (OpenFault.TooShort source.size)) }
+    ensures source_cause { HasSourceCause source result.answer result.source }
+    ensures fetches { FetchesSome source result.source }
+    ensures out_cause { HasOutCause (O.state out.old) result.answer (O.state out.new) }
+{
+    let mut lister = match Lister::open(alloc, source, limits, Choice::All) {
+        Ok(lister) => lister,
+        Err(refused) => {
+            return Listed {
+                answer: Err(told_opening(refused.fault)),
+                source: refused.source,
+            };
+        }
+    };
+    let answer = list_file(&mut lister, out);
+    Listed {
+        answer,
+        source: lister.into_source(),
+    }
+}
+
+/// Prints the line of the header, and those of the items that are left.
+fn list_file<S: Store + Drop, A: Allocator + Copy, O: Out>(
+    lister: &mut Lister<S, A>,
+    out: &mut O,
 ) -> Result<(), ToolFault>
-    ensures lists { (file : List ℕ) → source.old.store.content ≡ Some file → Lists file (O.state out.old) result (O.state out.new) }
-    ensures good { (file : List ℕ) → IsGood source.old.store file → IsNoSourceFault result }
-    ensures refusal { IsRefusal source.old.size result }
-    ensures short { source.old.size < 32 → result ≡ Err (ToolFault.Opening (OpenFault.TooShort source.old.size)) }
-    ensures source_cause { HasSourceCause source.old result source.new }
-    ensures fetches { FetchesSome source.old source.new }
+    requires { lister.old.stop ≡ None }
+    ensures lists { (left : Run) → lister.old.left ≡ Some left → ListsFile lister.old.header left (O.state out.old) result (O.state out.new) }
+    ensures good { (file : List ℕ) → IsGood lister.old.source.store file → IsNoSourceFault result }
+    ensures kind { IsOfRun result }
+    ensures source_cause { HasSourceCause lister.old.source result lister.new.source }
+    ensures fetches { FetchesSome lister.old.source lister.new.source }
     ensures out_cause { HasOutCause (O.state out.old) result (O.state out.new) }
 {
-    let header = match open(source) {
-        Ok(header) => header,
-        Err(fault) => return Err(fault),
-    };
-    let Ok(mut window) = vec![in alloc; 0; limits.window as usize] else {
-        return Err(ToolFault::Memory);
-    };
-    if let Err(OutFailed) = put_dump_line(&header, out) {
+    if let Err(OutFailed) = put_dump_line(&lister.header(), out) {
         return Err(ToolFault::Out);
     }
-    let size = source.size();
-    list_directory(
-        source,
-        size,
-        &header,
-        &mut window,
-        limits.window / Entry::SIZE as u32,
-        out,
-    )
+    list_items(lister, out)
 }
 
-/// Prints the lines of the directory of a file of `size` bytes, which is read through a window with
-/// room for `room` entries.
-fn list_directory<S: Store, O: Out>(
-    source: &mut Source<S>,
-    size: u64,
-    header: &Header,
-    window: &mut [u8],
-    room: u32,
+/// Prints the lines of the items that are left.
+fn list_items<S: Store + Drop, A: Allocator + Copy, O: Out>(
+    lister: &mut Lister<S, A>,
     out: &mut O,
 ) -> Result<(), ToolFault>
-    requires some_room { 0 < room }
-    requires room { 12 * room ≤ length window.old }
-    requires inside { IsInside header.now.stream_directory_rva (12 * header.now.number_of_streams) source.old.size }
-    ensures lists { (file : List ℕ) → source.old.store.content ≡ Some file
-        → ListsRun (listing_of size (entries_at file header.now.stream_directory_rva header.now.number_of_streams 0)) (O.state out.old) result (O.state out.new) }
-    ensures good { (file : List ℕ) → IsGood source.old.store file → IsNoSourceFault result }
-    ensures refusal { IsRefusal size result }
-    ensures source_cause { HasSourceCause source.old result source.new }
-    ensures place { IsFaultWithin header.now.stream_directory_rva (header.now.stream_directory_rva + 12 * header.now.number_of_streams) result }
-    ensures fetches { FetchesSome source.old source.new }
+    requires { lister.old.stop ≡ None }
+    ensures lists { (left : Run) → lister.old.left ≡ Some left → ListsRun left (O.state out.old) result (O.state out.new) }
+    ensures good { (file : List ℕ) → IsGood lister.old.source.store file → IsNoSourceFault result }
+    ensures kind { IsOfRun result }
+    ensures source_cause { HasSourceCause lister.old.source result lister.new.source }
+    ensures fetches { FetchesSome lister.old.source lister.new.source }
     ensures out_cause { HasOutCause (O.state out.old) result (O.state out.new) }
 {
-    let count = header.number_of_streams;
-    let mut listed = 0;
-    while listed < count {
-        let more = room.min(count - listed);
-        let at = u64::from(header.stream_directory_rva) + Entry::SIZE as u64 * u64::from(listed);
-        let block = &mut window[..Entry::SIZE * more as usize];
-        if let Err(fault) = list_entries(source, size, at, block, more, listed, out) {
-            return Err(fault);
+    loop {
+        match lister.next() {
+            Ok(None) => return Ok(()),
+            Ok(Some(item)) => match put_item_line(&item, out) {
+                Ok(()) => {}
+                Err(OutFailed) => return Err(ToolFault::Out),
+            },
+            Err(fault) => return Err(told_fault(fault)),
         }
-        listed += more;
     }
-    Ok(())
 }
 
-/// Fetches `count` entries, the first of them entry `first`, and prints their lines.
-fn list_entries<S: Store, O: Out>(
-    source: &mut Source<S>,
-    size: u64,
-    at: u64,
-    block: &mut [u8],
-    count: u32,
-    first: u32,
-    out: &mut O,
-) -> Result<(), ToolFault>
-    requires block { length block.old ≡ 12 * count }
-    requires numbers { first + count < 2 ^ 32 }
-    requires inside { IsInside at (12 * count) source.old.size }
-    ensures lists { (file : List ℕ) → source.old.store.content ≡ Some file
-        → ListsRun (listing_of size (entries_at file at count first)) (O.state out.old) result (O.state out.new) }
-    ensures good { (file : List ℕ) → IsGood source.old.store file → IsNoSourceFault result }
-    ensures refusal { IsRefusal size result }
-    ensures source_cause { HasSourceCause source.old result source.new }
-    ensures place { IsFaultWithin at (at + 12 * count) result }
-    ensures out_cause { HasOutCause (O.state out.old) result (O.state out.new) }
-    ensures fetches { FetchesAtMost (12 * count) source.old source.new }
+/// A fault of the opening, as a command tells it.
+fn told_opening(fault: OpenFault) -> ToolFault
+    ensures { result ≡ opening_told fault }
 {
-    if let Err(fault) = source.fetch(at, block) {
-        return Err(ToolFault::Source(fault));
+    match fault {
+        OpenFault::Source(fault) => ToolFault::Source(fault),
+        OpenFault::Memory => ToolFault::Memory,
+        fault => ToolFault::Opening(fault),
     }
-    list_block(block, count, first, size, out)
+}
+
+/// A fault of the listing, as a command tells it.
+fn told_fault(fault: ListFault) -> ToolFault
+    ensures { result ≡ list_told fault }
+{
+    match fault.kind {
+        FaultKind::Source(fault) => ToolFault::Source(fault),
+        _ => ToolFault::List(fault),
+    }
 }

@@ -2,26 +2,49 @@
 ghost use Rattle.std.specs.Prelude.{◌≡◌, Some};
 ghost use Rattle.std.specs.Fmt.{decimal};
 ghost use Rattle.mdmp_source.specs.Output.{Puts};
+ghost use Rattle.mdmp_wire.specs.Digits.{hex};
 ghost use Rattle.mdmp_tool.specs.Faults.{item_text, kind_words};
+ghost use Rattle.mdmp_tool.specs.ItemLines.{extent_text, name_text, units_text, value_text, values_text, information_text, place_text, size_text, offset_text};
 ghost use Rattle.mdmp_tool.specs.Pieces.{piece_text, text_of};
 ghost use Rattle.mdmp_tool.specs.Lines.{error_line};
 
-use crate::fault::FaultKind;
 use itoa::Buffer;
-use mdmp_source::{Out, OutFailed, write_all};
-use mdmp_wire::hex_digits;
+use mdmp_lister::{FaultKind, Name};
+use mdmp_source::{Extent, Out, OutFailed, write_all};
+use mdmp_wire::{UnitsRef, hex_digits};
 
 /// A piece of a line. A number with digits in its name is printed by that many hexadecimal ones, in
 /// lower case.
-#[derive(Clone, Copy, Debug)]
+#[derive(Clone, Copy)]
 pub(crate) enum Piece<'a> {
     Text(&'a str),
     Decimal(u64),
+    WideDecimal(u128),
     Hex4(u32),
+    Hex8(u32),
     Hex16(u64),
+    /// What a part or a range is in its file, its size, and where it stands.
+    Extent {
+        extent: Extent,
+        size: u64,
+        offset: u128,
+    },
+    Name(&'a Name<'a>),
+    /// As many of the values of an exception as it is said to have, at most all of them.
+    Information {
+        count: u32,
+        values: &'a [u64; 15],
+    },
     /// The number of a record in its stream, where the fault is a record's.
     Item(Option<u64>),
     Kind(FaultKind),
+}
+
+/// Writes a text.
+fn put_text<O: Out>(out: &mut O, text: &str) -> Result<(), OutFailed>
+    ensures { Puts result (O.state out.old) text.now (O.state out.new) }
+{
+    write_all(out, text.as_bytes())
 }
 
 /// Writes a number in decimal digits.
@@ -32,6 +55,23 @@ fn put_decimal<O: Out>(out: &mut O, number: u64) -> Result<(), OutFailed>
     write_all(out, buffer.format(number).as_bytes())
 }
 
+/// Writes a wide number in decimal digits.
+fn put_wide_decimal<O: Out>(out: &mut O, number: u128) -> Result<(), OutFailed>
+    ensures { Puts result (O.state out.old) (decimal number) (O.state out.new) }
+{
+    let mut buffer = Buffer::new();
+    write_all(out, buffer.format(number).as_bytes())
+}
+
+/// Writes a number in sixteen hexadecimal digits.
+fn put_hex16<O: Out>(out: &mut O, number: u64) -> Result<(), OutFailed>
+    ensures { Puts result (O.state out.old) (hex 16 number) (O.state out.new) }
+{
+    let mut digits = [0; 16];
+    hex_digits(number, &mut digits);
+    write_all(out, &digits)
+}
+
 /// Writes the number of a record in its stream.
 fn put_item<O: Out>(out: &mut O, index: u64) -> Result<(), OutFailed>
     ensures { Puts result (O.state out.old) (item_text (Some index)) (O.state out.new) }
@@ -40,13 +80,103 @@ fn put_item<O: Out>(out: &mut O, index: u64) -> Result<(), OutFailed>
     put_decimal(out, index)
 }
 
-/// What a kind of fault is called.
+/// What a kind of fault is called. The store's fault has a text of its own.
 fn words_of(kind: FaultKind) -> &'static str
     ensures { result.now ≡ kind_words kind }
 {
     match kind {
         FaultKind::StreamOutside => "stream outside the file",
+        FaultKind::ShortStream => "stream too short",
+        FaultKind::BadHeaderSize => "bad header size",
+        FaultKind::BadEntrySize => "bad entry size",
+        FaultKind::BadCount => "bad count",
+        FaultKind::NameLengthOutside => "name length outside the file",
+        FaultKind::NameOdd => "odd name length",
+        FaultKind::NameUnitsOutside => "name outside the file",
+        FaultKind::Source(_) => "",
     }
+}
+
+/// Writes a word and the size behind it.
+fn put_size<O: Out>(out: &mut O, word: &str, size: u64) -> Result<(), OutFailed>
+    ensures { Puts result (O.state out.old) (size_text word.now size) (O.state out.new) }
+{
+    put_text(out, word)?;
+    put_decimal(out, size)
+}
+
+/// Writes where something stands, behind its size.
+fn put_offset<O: Out>(out: &mut O, offset: u128) -> Result<(), OutFailed>
+    ensures { Puts result (O.state out.old) (offset_text offset) (O.state out.new) }
+{
+    write_all(out, b"@")?;
+    put_wide_decimal(out, offset)
+}
+
+/// Writes a word, the size behind it, and where something stands.
+fn put_place<O: Out>(out: &mut O, word: &str, size: u64, offset: u128) -> Result<(), OutFailed>
+    ensures { Puts result (O.state out.old) (place_text word.now size offset) (O.state out.new) }
+{
+    put_size(out, word, size)?;
+    put_offset(out, offset)
+}
+
+/// Writes what bytes are in their file.
+fn put_extent<O: Out>(out: &mut O, extent: Extent, size: u64, offset: u128) -> Result<(), OutFailed>
+    ensures { Puts result (O.state out.old) (extent_text extent size offset) (O.state out.new) }
+{
+    match extent {
+        Extent::Empty => write_all(out, b"empty"),
+        Extent::Absent => put_size(out, "absent ", size),
+        Extent::Inside => put_place(out, "inside ", size, offset),
+        Extent::Outside => put_place(out, "outside ", size, offset),
+    }
+}
+
+/// Writes units of a name between double quotes.
+fn put_units<O: Out>(out: &mut O, units: &UnitsRef<'_>) -> Result<(), OutFailed>
+    ensures { Puts result (O.state out.old) (units_text units.now) (O.state out.new) }
+{
+    write_all(out, b"\"")?;
+    units.escape_into(out)?;
+    write_all(out, b"\"")
+}
+
+/// Writes a name.
+fn put_name<O: Out>(out: &mut O, name: &Name<'_>) -> Result<(), OutFailed>
+    ensures { Puts result (O.state out.old) (name_text name.now) (O.state out.new) }
+{
+    match name {
+        Name::NoName => write_all(out, b"none"),
+        Name::Units(units) => put_units(out, units),
+        Name::Long(length) => put_size(out, "long ", *length as u64),
+    }
+}
+
+/// Writes a number as sixteen hexadecimal digits, behind a space.
+fn put_value<O: Out>(out: &mut O, value: u64) -> Result<(), OutFailed>
+    ensures { Puts result (O.state out.old) (value_text value) (O.state out.new) }
+{
+    write_all(out, b" 0x")?;
+    put_hex16(out, value)
+}
+
+/// Writes numbers one behind the other, each behind a space.
+fn put_values<O: Out>(out: &mut O, values: &[u64]) -> Result<(), OutFailed>
+    ensures { Puts result (O.state out.old) (values_text values.now) (O.state out.new) }
+{
+    for value in values {
+        put_value(out, *value)?;
+    }
+    Ok(())
+}
+
+/// Writes as many of the values of an exception as it is said to have, at most all of them.
+fn put_information<O: Out>(out: &mut O, count: u32, values: &[u64; 15]) -> Result<(), OutFailed>
+    ensures { Puts result (O.state out.old) (information_text count values.now) (O.state out.new) }
+{
+    let count = (count as usize).min(15);
+    put_values(out, &values[..count])
 }
 
 /// Writes a piece.
@@ -54,18 +184,27 @@ pub(crate) fn put_piece<O: Out>(out: &mut O, piece: Piece<'_>) -> Result<(), Out
     ensures { Puts result (O.state out.old) (piece_text piece.entry) (O.state out.new) }
 {
     match piece {
-        Piece::Text(text) => write_all(out, text.as_bytes()),
+        Piece::Text(text) => put_text(out, text),
         Piece::Decimal(number) => put_decimal(out, number),
+        Piece::WideDecimal(number) => put_wide_decimal(out, number),
         Piece::Hex4(number) => {
             let mut digits = [0; 4];
             hex_digits(u64::from(number), &mut digits);
             write_all(out, &digits)
         }
-        Piece::Hex16(number) => {
-            let mut digits = [0; 16];
-            hex_digits(number, &mut digits);
+        Piece::Hex8(number) => {
+            let mut digits = [0; 8];
+            hex_digits(u64::from(number), &mut digits);
             write_all(out, &digits)
         }
+        Piece::Hex16(number) => put_hex16(out, number),
+        Piece::Extent {
+            extent,
+            size,
+            offset,
+        } => put_extent(out, extent, size, offset),
+        Piece::Name(name) => put_name(out, name),
+        Piece::Information { count, values } => put_information(out, count, values),
         Piece::Item(None) => Ok(()),
         Piece::Item(Some(index)) => put_item(out, index),
         Piece::Kind(kind) => write_all(out, words_of(kind).as_bytes()),

@@ -1,4 +1,10 @@
+mod blocks;
 mod faults;
 mod files;
+mod item_lines;
 mod list;
+mod names;
+mod ranges;
+mod records;
+mod stores;
 mod words;

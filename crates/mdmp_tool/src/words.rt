@@ -64,8 +64,8 @@ fn list<R: Files, A: Allocator + Copy, O: Out, E: Out>(
     let Ok(mut blocks) = BlockOut::with_room(alloc, BLOCK, out) else {
         return ended(&ToolFault::Memory, err);
     };
-    let mut source = Source::new(store);
-    match list_in_blocks(alloc, &mut source, Limits::default(), &mut blocks) {
+    let listed = list_in_blocks(alloc, Source::new(store), Limits::default(), &mut blocks);
+    match listed.answer {
         Ok(()) => 0,
         Err(fault) => ended(&fault, err),
     }

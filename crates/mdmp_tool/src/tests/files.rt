@@ -1,6 +1,7 @@
 //! The files of the tests.
-use crate::{FaultKind, ListFault};
-use std::alloc::{AllocError, Global};
+use crate::{FaultKind, Limits, ListFault, ToolFault, run_list};
+use mdmp_source::{MemoryStore, PatchyOut};
+use std::alloc::{AllocError, Allocator, Global};
 
 /// The bytes of a header with version 0x0000a793 and zeros beside these two fields.
 pub(super) fn head(streams: u32, directory: u32) -> [u8; 32] {
@@ -29,6 +30,41 @@ pub(super) fn file(alloc: Global, parts: &[&[u8]], size: usize) -> Result<Vec<u8
     Ok(bytes)
 }
 
+/// A file of a header, the directory behind it, and all else as numbers of four bytes.
+pub(super) fn numbers(alloc: Global, streams: u32, numbers: &[u32]) -> Result<Vec<u8>, AllocError> {
+    let mut bytes = Vec::new(alloc);
+    bytes.extend_from_slice(&head(streams, 32))?;
+    for number in numbers {
+        bytes.extend_from_slice(&number.to_le_bytes())?;
+    }
+    Ok(bytes)
+}
+
+/// Lists a file with a window of 168 bytes and this limit of names.
+pub(super) fn list_to<A: Allocator + Copy>(
+    alloc: A,
+    bytes: &[u8],
+    name: u32,
+    out: &mut PatchyOut<Global>,
+) -> Result<(), ToolFault> {
+    let limits = Limits::new(168, name).unwrap_or(Limits::default());
+    run_list(alloc, MemoryStore::new(bytes), limits, false, out)
+}
+
+/// What a listing answered, and what it printed.
+#[derive(Drop)]
+pub(super) struct Printed {
+    pub(super) answer: Result<(), ToolFault>,
+    pub(super) out: PatchyOut<Global>,
+}
+
+/// Lists a file, to an output that takes all, by seven bytes a call.
+pub(super) fn print_list(alloc: Global, bytes: &[u8], name: u32) -> Result<Printed, AllocError> {
+    let mut out = PatchyOut::with_room(alloc, 2000, 7, None)?;
+    let answer = list_to(alloc, bytes, name, &mut out);
+    Ok(Printed { answer, out })
+}
+
 /// The record of a system with the service pack `Service Pack 1`, and its name behind it.
 const SYSTEM: &[u8] =
     b"\x09\0\x06\0\x03\0\x04\x01\x06\0\0\0\x01\0\0\0\xb1\x1d\0\0\x02\0\0\0\x64\0\0\0\0\x01\0\0\
@@ -40,27 +76,43 @@ pub(super) fn system_file(alloc: Global) -> Result<Vec<u8>, AllocError> {
     file(alloc, &[&head(1, 32), &entry(7, 56, 44), SYSTEM], 136)
 }
 
-/// A file of three entries, of which the last names bytes behind the end.
+/// What `list` prints of it, where the name is not longer than its limit.
+pub(super) const SYSTEM_TEXT: &[u8] =
+    b"dump version 0x0000 streams 1 directory 32 checksum 0 time 0 flags 0x0000000000000000
+stream 0 type 7 size 56 rva 44
+system architecture 9 level 6 revision 3 processors 4 product 1 version 6.1.7601 platform 2 suite 256 csd \"Service Pack 1\"\n";
+
+/// A file of three entries: a system, a module whose name stands behind the end, and a comment that does.
 pub(super) fn faulty_file(alloc: Global) -> Result<Vec<u8>, AllocError> {
     let directory = [entry(7, 56, 68), entry(4, 112, 124), entry(10, 5, 236)];
     let [first, second, third] = &directory;
-    file(alloc, &[&head(3, 32), first, second, third], 236)
+    let parts: [&[u8]; 8] = [
+        &head(3, 32),
+        first,
+        second,
+        third,
+        &[0; 56],
+        &[1, 0, 0, 0],
+        &[0; 20],
+        &[0xff; 4],
+    ];
+    file(alloc, &parts, 236)
 }
 
-/// What `list` prints of the file whose last entry is bad.
+/// What `list` prints of that file.
 pub(super) const FAULTY: &[u8] =
     b"dump version 0x0000 streams 3 directory 32 checksum 0 time 0 flags 0x0000000000000000
 stream 0 type 7 size 56 rva 68
-stream 1 type 4 size 112 rva 124
-stream 2 type 10 size 5 rva 236\n";
+system architecture 0 level 0 revision 0 processors 0 product 0 version 0.0.0 platform 0 suite 0 csd none
+stream 1 type 4 size 112 rva 124\n";
 
 /// Its fault.
-pub(super) fn outside() -> ListFault {
+pub(super) fn bad_name() -> ListFault {
     ListFault {
-        entry: 2,
-        index: None,
-        kind: FaultKind::StreamOutside,
-        offset: 236,
-        size: 5,
+        entry: 1,
+        index: Some(0),
+        kind: FaultKind::NameLengthOutside,
+        offset: 4294967295,
+        size: 4,
     }
 }

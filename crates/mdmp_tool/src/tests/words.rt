@@ -1,5 +1,5 @@
 //! Command lines, over files that the tests write.
-use super::files::{FAULTY, faulty_file, head, system_file};
+use super::files::{FAULTY, SYSTEM_TEXT, faulty_file, head, system_file};
 use crate::run_words;
 use linked_list_allocator::LocalHeap;
 use mdmp_source::PatchyOut;
@@ -12,9 +12,7 @@ fn run_words_succeeds(rt: HostRuntime) -> Result<(), Fail> {
     fs::write(&rt, "short.dmp", [0u8; 31].as_slice())?;
     fs::write(&rt, "system.dmp", system_file(rt.alloc())?.as_slice())?;
     fs::write(&rt, "faulty.dmp", faulty_file(rt.alloc())?.as_slice())?;
-    let system =
-        "dump version 0x0000 streams 1 directory 32 checksum 0 time 0 flags 0x0000000000000000
-stream 0 type 7 size 56 rva 44\n";
+    let system = str::from_utf8(SYSTEM_TEXT).ok().ok_or("text")?;
     let empty =
         "dump version 0x0000 streams 0 directory 4294967295 checksum 0 time 0 flags 0x0000000000000000\n";
     let faulty = str::from_utf8(FAULTY).ok().ok_or("text")?;
@@ -37,7 +35,7 @@ stream 0 type 7 size 56 rva 44\n";
             &["list", "faulty.dmp"],
             1,
             faulty,
-            "mdmp: entry 2: stream outside the file: offset 236 size 5\n",
+            "mdmp: entry 1 item 0: name length outside the file: offset 4294967295 size 4\n",
         ),
         (&["list", "none.dmp"], 3, "", "mdmp: cannot open none.dmp\n"),
         (&[], 2, "", "mdmp: bad command line\n"),
@@ -82,14 +80,15 @@ fn words_tell_a_failing_output_and_want_of_memory(rt: HostRuntime) -> Result<(),
     assert_eq!(rt; run_words(&rt, rt.alloc(), &words, &mut full, &mut err), 3);
     assert_eq!(rt; full.bytes(), &FAULTY[..100]);
     assert_eq!(rt; err.bytes(), b"mdmp: output failed\n".as_slice());
-    // The block of output and the window are the growths, each of 65536 bytes.
+    // The growths are the block of output and the window of 65536 bytes each, the directory of 36, and
+    // the name of 4096.
     for (size, code, told) in [
         (0, 3, "mdmp: out of memory\n"),
-        (65536, 3, "mdmp: out of memory\n"),
+        (131120, 3, "mdmp: out of memory\n"),
         (
-            131072,
+            135216,
             1,
-            "mdmp: entry 2: stream outside the file: offset 236 size 5\n",
+            "mdmp: entry 1 item 0: name length outside the file: offset 4294967295 size 4\n",
         ),
     ] {
         let heap = LocalHeap::new(rt.alloc(), size)?;

@@ -1,29 +1,27 @@
-use Rattle.std.proofs.Common.{◌≡◌, ◌∙◌, ◌+◌, length}
+use Rattle.std.proofs.Common.{◌≡◌, ◌∙◌, ◌+◌, ◌*◌, Some, ap, subst}
+use Rattle.std.specs.Option.{option_map}
 use Rattle.mdmp_source.specs.SourceLaws.{fetches_then}
-use Rattle.mdmp_tool.proofs.Listings.{PutsPrefix-dump, Lists-read, Lists-unopened, HasOutCause-unopened}
+use Rattle.mdmp_wire.specs.declared.header.Header.{Header}
+use Rattle.mdmp_lister.specs.declared.choice.Choice.TheVariants.{All}
+use Rattle.mdmp_lister.specs.Listing.{listing}
+use Rattle.mdmp_tool.specs.Runs.{ListsFile}
+use Rattle.mdmp_tool.proofs.Listings.{Lists-opened}
 use Rattle.mdmp_tool.proofs.list.list_source.Goals as goal
-
-pub returns-in-Err-put_dump_line-clause-lists : goal.returns-in-Err-put_dump_line-clause-lists
-returns-in-Err-put_dump_line-clause-lists g c = λ file known.
-    let opened = c.in-Ok.ensures.opens file known in
-    PutsPrefix-dump file c.in-Ok.header _ _ opened.0 opened.1 c.in-Err-put_dump_line.ensures
 
 pub returns-clause-lists : goal.returns-clause-lists
 returns-clause-lists g c = λ file known.
-    let opened = c.in-Ok.ensures.opens file known in
-    let same = c.in-Ok.ensures.fetches.same_content ∙ known in
-    let len : c.size-size.result ≡ length file = rw same at c.size-size.ensures.content in
-    Lists-read file c.in-Ok.header c.size-size.result _ _ _ c.list_directory.result opened.0 opened.1 len c.in_default-put_dump_line.ensures (c.list_directory.ensures.lists file same) c.list_directory.ensures.place
-
-pub returns-in-Err-clause-lists : goal.returns-in-Err-clause-lists
-returns-in-Err-clause-lists g c = λ file known.
-    Lists-unopened file _ c.in-Err.fault (c.in-Err.ensures.opens file known) c.in-Err.ensures.place
-
-pub returns-in-Err-clause-out_cause : goal.returns-in-Err-clause-out_cause
-returns-in-Err-clause-out_cause g c = HasOutCause-unopened _ c.in-Err.fault c.in-Err.ensures.kind
+    let limit = c.args.limits.name in
+    let new = c.in-Ok.ensures.new in
+    let left : c.in-Ok.lister.left ≡ Some (listing file All limit) = new.left ∙ ap (option_map (λ F. listing F All limit)) known in
+    let before = g.O.Out.state c.args.out.now in
+    let after = g.O.Out.state c.list_file-answer.new.out in
+    Lists-opened file limit before after c.list_file-answer.result (c.in-Ok.ensures.opens file known)
+    (subst (λ (h : Header). ListsFile h (listing file All limit) before c.list_file-answer.result after) (new.header_is file known) (c.list_file-answer.ensures.lists (listing file All limit) left))
 
 pub returns-clause-fetches : goal.returns-clause-fetches
-returns-clause-fetches g c = record {
-  count = 32 + c.list_directory.ensures.fetches.count;
-  fetches = fetches_then _ _ _ _ _ c.in-Ok.ensures.fetches c.list_directory.ensures.fetches.fetches;
-}
+returns-clause-fetches g c =
+    let more = c.list_file-answer.ensures.fetches in
+    rw c.into_source.ensures (record {
+      count = 32 + 12 * c.in-Ok.lister.header.number_of_streams + more.count;
+      fetches = fetches_then _ _ _ _ _ c.in-Ok.ensures.new.fetches more.fetches;
+    })

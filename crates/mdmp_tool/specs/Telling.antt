@@ -1,0 +1,21 @@
+-- The lister's faults, as a command tells them.
+use Rattle.mdmp_lister.specs.declared.fault.FaultKind.{FaultKind}
+use Rattle.mdmp_lister.specs.declared.fault.FaultKind.TheVariants as kinds
+use Rattle.mdmp_lister.specs.declared.fault.ListFault.{ListFault}
+use Rattle.mdmp_lister.specs.declared.fault.OpenFault.{OpenFault}
+use Rattle.mdmp_lister.specs.declared.fault.OpenFault.TheVariants as opening
+use Rattle.mdmp_tool.specs.declared.fault.ToolFault.{ToolFault}
+use Rattle.mdmp_tool.specs.declared.fault.ToolFault.TheVariants as tool
+
+-- a fault of the store and want of memory are told as such, every other one as the file's
+abbrev pub opening_told : OpenFault → ToolFault
+opening_told (opening.Source fault) = tool.Source fault
+opening_told (opening.Memory) = tool.Memory
+opening_told fault = tool.Opening fault
+
+abbrev pub told_by : FaultKind → ListFault → ToolFault
+told_by (kinds.Source fault) f = tool.Source fault
+told_by kind f = tool.List f
+
+abbrev pub list_told : ListFault → ToolFault
+list_told f = told_by f.kind f
