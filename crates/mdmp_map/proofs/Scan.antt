@@ -1,22 +1,19 @@
 -- A scan of ranges from the front: the place that it finds, and how far that reaches.
 use Rattle.std.proofs.Common.{◌≡◌, ◌≢◌, ◌≤◌, ◌<◌, ℕ, ◌+◌, ◌-◌, ◌∙◌, min, List, [], ◌∷◌, Option, Some, None, true, false, refl, sym, ap, subst, arith, inl, inr, drop, length, get_or}
 use Rattle.std.specs.Prelude.{All, not, ◌&&◌, nat_lt, nat_le, if◌then◌else◌, option_map}
-use Rattle.std.proofs.lemmas.Bool.{cases_Bool, cases_lt, and_parts, and_from, ltb-true, leb-true, lt-ltb, le-ltb, le-leb, false_from_ne_true, both_ways}
+use Rattle.std.proofs.lemmas.Bool.{cases_Bool, cases_lt, and_from, lt-ltb, le-ltb, le-leb, false_from_ne_true, both_ways}
 use Rattle.std.proofs.lemmas.Bool.Decides.{nat_tests}
 use Rattle.std.proofs.lemmas.List.{at_drop_more, at_drop_all}
 use Rattle.std.proofs.lemmas.List.Sums.{take_while-cons}
 use Rattle.std.proofs.lemmas.List.Elements.{All-head, All-tail}
 use Rattle.mdmp_map.specs.declared.range.Range.{Range}
 use Rattle.mdmp_map.specs.declared.place.Place.{Place}
+use Rattle.mdmp_map.specs.RangeLaws.{limit_past, limit_past-le, next_start-lt, next_start-le, holds_parts, first_range-holds, first_range-passes, first_range_holds}
 use Rattle.mdmp_map.specs.Ranges.{IsPlaced, IsLeft, address_end, range_end, holds, first_range, ranges_before, next_start, left_of, place_of}
 
 -- the place in r, if limit is the lowest start behind the address among the ranges before r
 abbrev pub place_in : ℕ → ℕ → Range → Place
 place_in limit address r = record { offset = r.offset + (address - r.start); left = min (range_end r) limit - address }
-
--- the lowest start behind the address, after one more range
-abbrev pub limit_past : ℕ → ℕ → Range → ℕ
-limit_past limit address r = if nat_lt address r.start then min limit r.start else limit
 
 -- what a scan finds from some ranges on
 unfoldable pub scan : ℕ → ℕ → List Range → Option Place
@@ -39,14 +36,6 @@ unfolding scan
 scan-nil limit address = refl
 
 -- ---- one more range
-
-first_range-holds : (address : ℕ) (r : Range) (ranges : List Range) → holds address r ≡ true
-    → first_range (r ∷ ranges) address ≡ Some r
-first_range-holds address r ranges here = rw here refl
-
-first_range-passes : (address : ℕ) (r : Range) (ranges : List Range) → holds address r ≡ false
-    → first_range (r ∷ ranges) address ≡ first_range ranges address
-first_range-passes address r ranges other = rw other refl
 
 ranges_before-holds : (address : ℕ) (r : Range) (ranges : List Range) → holds address r ≡ true
     → ranges_before (r ∷ ranges) address ≡ []
@@ -73,15 +62,6 @@ limit_past-ahead limit address r ahead = rw (lt-ltb address r.start ahead) refl
 pub limit_past-begun : (limit address : ℕ) (r : Range) → r.start ≤ address → limit_past limit address r ≡ limit
 limit_past-begun limit address r begun = rw (le-ltb address r.start begun) refl
 
-pub limit_past-lt : (limit address : ℕ) (r : Range) → address < limit → address < limit_past limit address r
-limit_past-lt limit address r below = elim (cases_lt address r.start) [
-  | inl ahead ↦ omega (arith, limit_past-ahead limit address r ahead)
-  | inr begun ↦ omega (arith, limit_past-begun limit address r begun)
-]
-
-pub limit_past-le : (limit address : ℕ) (r : Range) → limit_past limit address r ≤ limit
-limit_past-le limit address r = grind (arith, nat_tests)
-
 limit_past-min : (l m address : ℕ) (r : Range) → limit_past (min l m) address r ≡ min l (limit_past m address r)
 limit_past-min l m address r = grind (arith, nat_tests)
 
@@ -91,11 +71,6 @@ next_start-min l m address [] = refl
 next_start-min l m address (r ∷ ranges) =
     ap (λ limit. next_start limit address ranges) (limit_past-min l m address r)
     ∙ next_start-min l (limit_past m address r) address ranges
-
-next_start-le : (limit address : ℕ) (ranges : List Range) → next_start limit address ranges ≤ limit
-unfolding next_start
-next_start-le limit address [] = omega arith
-next_start-le limit address (r ∷ ranges) = omega (arith, next_start-le (limit_past limit address r) address ranges, limit_past-le limit address r)
 
 -- ---- a scan finds the place
 
@@ -169,12 +144,6 @@ not_found limit address i ranges past so_far =
 
 -- ---- how many addresses are left
 
-holds_parts : (address : ℕ) (r : Range) → holds address r ≡ true → (address < address_end) × (r.start ≤ address) × (address < range_end r)
-holds_parts address r here =
-    let both = and_parts (nat_lt address address_end && nat_le r.start address) (nat_lt address (range_end r)) here in
-    let first = and_parts (nat_lt address address_end) (nat_le r.start address) both.0 in
-    (ltb-true address address_end first.0, leb-true r.start address first.1, ltb-true address (range_end r) both.1)
-
 holds_from : (address : ℕ) (r : Range) → address < address_end → r.start ≤ address → address < range_end r → holds address r ≡ true
 holds_from address r in_space begun not_past =
     and_from (nat_lt address address_end && nat_le r.start address) (nat_lt address (range_end r))
@@ -191,20 +160,6 @@ holds_later limit address later r in_space other from below =
       | inl ahead ↦ absurd (omega (arith, parts.1, limit_past-ahead limit address r ahead))
       | inr begun ↦ both_ways (holds address r) other (holds_from address r in_space begun (omega (arith, parts.2)))
     ])
-
--- a range that is found holds the address
-first_range_holds : (address : ℕ) (r : Range) (ranges : List Range) → first_range ranges address ≡ Some r → holds address r ≡ true
-first_range_holds address r [] is = cc
-first_range_holds address r (q ∷ ranges) is = elim (cases_Bool (holds address q)) [
-  | inl here ↦ let same : q ≡ r = let e = first_range-holds address q ranges here in cc in subst (λ x. holds address x ≡ true) same here
-  | inr other ↦ first_range_holds address r ranges (sym (first_range-passes address q ranges other) ∙ is)
-]
-
-next_start-lt : (limit address : ℕ) (ranges : List Range) → address < limit → address < next_start limit address ranges
-unfolding next_start
-next_start-lt limit address [] below = below
-next_start-lt limit address (r ∷ ranges) below =
-    next_start-lt (limit_past limit address r) address ranges (limit_past-lt limit address r below)
 
 -- r stays the first range up to where it or the addresses end, and to where an earlier range begins
 reaches : (limit address later : ℕ) (r : Range) (ranges : List Range) → first_range ranges address ≡ Some r → address ≤ later

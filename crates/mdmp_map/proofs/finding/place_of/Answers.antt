@@ -1,6 +1,7 @@
 use Rattle.std.proofs.Common.{◌≡◌, ◌∙◌, ℕ, ◌<◌, ◌≤◌, ◌-◌, min, get_or, arith, ap, sym}
 use Rattle.mdmp_map.specs.declared.range.Range.{Range}
-use Rattle.mdmp_map.proofs.Scan.{scan-place_of, limit_past, limit_past-ahead, limit_past-begun, limit_past-lt, limit_past-le, found, passed, not_found, place_of-IsLeft}
+use Rattle.mdmp_map.specs.RangeLaws.{limit_past, limit_past-lt, limit_past-le}
+use Rattle.mdmp_map.proofs.Scan.{scan-place_of, limit_past-ahead, limit_past-begun, found, passed, not_found, place_of-IsLeft}
 use Rattle.mdmp_map.proofs.finding.place_of.Goals as goal
 use Rattle.mdmp_map.proofs.finding.place_of.Goals.{then-address-range, else-address-range}
 

@@ -1,0 +1,16 @@
+-- What is left at a place, if one was found.
+use Rattle.std.proofs.Common.{◌≡◌, ◌≤◌, ◌<◌, ◌+◌, ℕ, List, Option, Some, None, sym}
+use Rattle.std.specs.Prelude.{All, IfSome}
+use Rattle.mdmp_map.specs.declared.range.Range.{Range}
+use Rattle.mdmp_map.specs.declared.place.Place.{Place}
+use Rattle.mdmp_map.specs.Ranges.{IsWithin, place_of}
+use Rattle.mdmp_map.specs.RangeLaws.{place-left, place-within}
+
+pub some_left : (ranges : List Range) (address : ℕ) (found : Option Place) → found ≡ place_of ranges address → IfSome found (λ place. 0 < place.left)
+some_left ranges address None is = tt
+some_left ranges address (Some place) is = place-left ranges address place (sym is)
+
+pub left_within : (ranges : List Range) (address size : ℕ) (found : Option Place) → found ≡ place_of ranges address → All (IsWithin size) ranges
+    → IfSome found (λ place. place.offset + place.left ≤ size)
+left_within ranges address size None is all = tt
+left_within ranges address size (Some place) is all = place-within ranges address size place all (sym is)
