@@ -4,8 +4,11 @@ use Rattle.mdmp_lister.specs.declared.stage.Stage.TheVariants.{Ended}
 use Rattle.mdmp_lister.specs.declared.walk.Walk.{Walk}
 use Rattle.mdmp_lister.specs.declared.stage.Stage.{Stage}
 use Rattle.mdmp_lister.specs.Directory.{IsDirectory}
-use Rattle.mdmp_lister.specs.Listing.{joined, nothing, listing_from}
+use Rattle.mdmp_lister.specs.Listing.{Run, joined, nothing, only_fault, listing_from}
+use Rattle.mdmp_lister.specs.Stages.{fault_stage}
+use Rattle.mdmp_lister.specs.declared.fault.ListFault.{ListFault}
 use Rattle.mdmp_lister.specs.Walk.{left_of, left_of_entry}
+use Rattle.mdmp_lister.proofs.Bodies.{fault_stage-left}
 use Rattle.mdmp_lister.proofs.Entries.{listing_from-end}
 
 module _ {S A : Type 0} (w : Walk S A) (file : List ℕ) where
@@ -13,3 +16,8 @@ module _ {S A : Type 0} (w : Walk S A) (file : List ℕ) where
   left_of-ended end over directory =
       ap (λ (s : Stage). joined (left_of_entry file (vec_len w.name) (w.next - 1) w.current s) (listing_from file w.choice (vec_len w.name) w.next)) end
       ∙ listing_from-end file w.choice (vec_len w.name) w.next (omega (arith, over, directory.count))
+
+  pub left_of-fault : (f : ListFault) → w.stage ≡ fault_stage f → left_of w file ≡ only_fault f
+  left_of-fault f at =
+      ap (λ (s : Stage). joined (left_of_entry file (vec_len w.name) (w.next - 1) w.current s) (listing_from file w.choice (vec_len w.name) w.next)) at
+      ∙ ap (λ (run : Run). joined run (listing_from file w.choice (vec_len w.name) w.next)) (fault_stage-left file (vec_len w.name) (w.next - 1) w.current f)

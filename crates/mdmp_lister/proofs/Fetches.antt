@@ -4,7 +4,7 @@ use Rattle.mdmp_source.specs.Count.{HasRisen}
 use Rattle.mdmp_source.specs.Source.{SourceState, FetchesAtMost, FetchesSome}
 use Rattle.mdmp_source.specs.SourceLaws.{fetches_then}
 use Rattle.mdmp_source.specs.Store.{IsGood}
-use Rattle.mdmp_source.specs.declared.fault.SourceFault.TheVariants.{Failed, ShortRead}
+use Rattle.mdmp_source.specs.declared.fault.SourceFault.TheVariants.{Failed, ShortRead, Changed}
 use Rattle.mdmp_lister.specs.declared.fault.OpenFault.{OpenFault}
 use Rattle.mdmp_lister.specs.declared.fault.OpenFault.TheVariants.{TooShort, BadSignature, BadVersion, DirectoryOutside, Source, Memory, TooManyRanges}
 use Rattle.mdmp_lister.specs.Opening.{IsUnreadFor}
@@ -49,6 +49,7 @@ HasRisen-later a b c le risen = omega (arith, le, risen)
 pub IsUnreadFor-later : (fault : OpenFault) (n : ℕ) (a b c : SourceState) → FetchesAtMost n a b → IsUnreadFor fault b c → IsUnreadFor fault a c
 IsUnreadFor-later (Source (Failed at)) n a b c f cause = HasRisen-later a.store.counts.failures b.store.counts.failures c.store.counts.failures f.failures cause
 IsUnreadFor-later (Source (ShortRead at)) n a b c f cause = HasRisen-later a.store.counts.empties b.store.counts.empties c.store.counts.empties f.empties cause
+IsUnreadFor-later (Source (Changed at)) n a b c f cause = cause
 IsUnreadFor-later (TooShort size) n a b c f cause = cause
 IsUnreadFor-later BadSignature n a b c f cause = cause
 IsUnreadFor-later (BadVersion low) n a b c f cause = cause

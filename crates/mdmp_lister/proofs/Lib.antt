@@ -1,3 +1,5 @@
+pub mod AddressRows
+pub mod Addresses
 pub mod Advancing
 pub mod Bodies
 pub mod Directory
@@ -7,8 +9,10 @@ pub mod Fetches
 pub mod Files
 pub mod Handing
 pub mod LawsLemmas
+pub mod Mapping
 pub mod NamedItems
 pub mod Offsets
+pub mod Owing
 pub mod Refusals
 pub mod Room
 pub mod Rows

@@ -1,5 +1,5 @@
 -- The first fault of a file's header and directory, from the bytes of its header.
-use Rattle.std.proofs.Common.{◌≡◌, ◌≤◌, ◌*◌, inl, inr, refl, subst, ℕ, List, length, Option, Some, None, arith, sym, ◌∙◌, ap}
+use Rattle.std.proofs.Common.{◌≡◌, ◌≤◌, ◌+◌, ◌*◌, inl, inr, refl, subst, ℕ, List, length, Option, Some, None, arith, sym, ◌∙◌, ap}
 use Rattle.std.specs.Prelude.{nat_lt, true, false, if◌then◌else◌}
 use Rattle.std.proofs.lemmas.Grind.{common_steps}
 use Rattle.mdmp_source.specs.Range.{IsInside, bytes_at, is_inside}
@@ -9,9 +9,11 @@ use Rattle.mdmp_wire.specs.declared.header.Header.{Header}
 use Rattle.mdmp_wire.specs.declared.header_fault.HeaderFault.{HeaderFault}
 use Rattle.mdmp_wire.specs.Header.{header_at, header_at-part}
 use Rattle.mdmp_wire.specs.HeaderFault.{fault_of, header_fault}
+use Rattle.mdmp_lister.specs.declared.choice.Choice.{Choice}
 use Rattle.mdmp_lister.specs.declared.fault.OpenFault.{OpenFault}
-use Rattle.mdmp_lister.specs.declared.fault.OpenFault.TheVariants.{TooShort, DirectoryOutside, Source}
-use Rattle.mdmp_lister.specs.Opening.{IsHandedBack, IsOfHead, IsUnread, directory_refusal, behind_header}
+use Rattle.mdmp_lister.specs.declared.fault.OpenFault.TheVariants.{TooShort, BadSignature, BadVersion, DirectoryOutside, TooManyRanges, Source, Memory}
+use Rattle.mdmp_lister.proofs.Fetches.{FetchesAtMost-within}
+use Rattle.mdmp_lister.specs.Opening.{IsDirectoryRefusal, IsHandedBack, IsOfHead, IsRefusalOf, IsUnread, behind_directory, directory_refusal, behind_header}
 
 -- the fault of the directory that a header places in a file of `size` bytes, or none
 abbrev placed_fault : Header → ℕ → Option OpenFault
@@ -60,28 +62,39 @@ IsHandedBack-head old new fault fetches short = record {
   inside = omega arith;
   begun = λ some. absurd (omega (arith, some));
   early = λ of. refl;
-  unfetched = λ same. refl;
   short = short;
 }
 
-not_of_head : (fault : OpenFault) → IsUnread fault → IsOfHead fault → ⊥
+pub not_of_head : (fault : OpenFault) → IsUnread fault → IsOfHead fault → ⊥
 not_of_head (Source f) unread of = of
 not_of_head fault unread of = unread
 
-not_short : (fault : OpenFault) (size : ℕ) → IsUnread fault → fault ≡ TooShort size → ⊥
-not_short fault size unread same = subst IsUnread same unread
-
--- of one whose directory was
-pub IsHandedBack-directory : (old mid new : SourceState) (fault : OpenFault) (header : Header) → FetchesAtMost 32 old mid → FetchesAtMost (12 * header.number_of_streams) mid new
-    → IsInside header.stream_directory_rva (12 * header.number_of_streams) old.size
-    → ((file : List ℕ) → old.store.content ≡ Some file → (directory_refusal file ≡ None) × (header ≡ header_at file 0)) → IsUnread fault → IsHandedBack old fault new
-IsHandedBack-directory old mid new fault header first more within read unread = record {
+-- of one whose directory was, and the heads of its lists
+pub IsHandedBack-begun : (old mid new : SourceState) (fault : OpenFault) (header : Header) (m n : ℕ) → FetchesAtMost m old mid → FetchesAtMost n mid new → m + n ≤ 32 + 28 * header.number_of_streams
+    → 12 * header.number_of_streams ≤ old.size
+    → ((file : List ℕ) → old.store.content ≡ Some file → (directory_refusal file ≡ None) × (header ≡ header_at file 0)) → (IsOfHead fault → ⊥) → IsHandedBack old fault new
+IsHandedBack-begun old mid new fault header m n first more few within read late = record {
   entries = header.number_of_streams;
-  fetches = fetches_then 32 (12 * header.number_of_streams) old mid new first more;
+  fetches = FetchesAtMost-within (m + n) (32 + 28 * header.number_of_streams) old new few (fetches_then m n old mid new first more);
   known = λ file known. let same = ap (λ h. h.number_of_streams) (read file known).1 in omega (arith, same);
-  inside = elim within [ inl none ↦ omega (arith, none) | inr all ↦ omega (arith, all) ];
+  inside = within;
   begun = λ some file known. (read file known).0;
-  early = λ of. absurd (not_of_head fault unread of);
-  unfetched = λ same. absurd (subst IsUnread same unread);
-  short = λ size same. absurd (not_short fault size unread same);
+  early = λ of. absurd (late of);
+  short = λ size same. absurd (late (subst IsOfHead (sym same) tt));
 }
+
+-- the room of a directory that lies inside a file
+pub directory_room : (rva count size : ℕ) → IsInside rva (12 * count) size → 12 * count ≤ size
+directory_room rva count size (inl none) = omega (arith, none)
+directory_room rva count size (inr all) = omega (arith, all)
+
+-- ---- what a file is refused with
+
+pub IsRefusalOf-directory : (F : List ℕ) (choice : Choice) (fault : OpenFault) → IsDirectoryRefusal F fault → IsRefusalOf F choice fault
+IsRefusalOf-directory F choice (Source fault) of = tt
+IsRefusalOf-directory F choice Memory of = of
+IsRefusalOf-directory F choice (TooShort size) of = ap (behind_directory F choice) of
+IsRefusalOf-directory F choice BadSignature of = ap (behind_directory F choice) of
+IsRefusalOf-directory F choice (BadVersion low) of = ap (behind_directory F choice) of
+IsRefusalOf-directory F choice (DirectoryOutside offset size) of = ap (behind_directory F choice) of
+IsRefusalOf-directory F choice (TooManyRanges count) of = ap (behind_directory F choice) of

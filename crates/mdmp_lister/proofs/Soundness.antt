@@ -1,5 +1,5 @@
 -- A walk stays sound where its lists stay and its new stage is.
-use Rattle.std.proofs.Common.{◌≡◌, ◌∙◌, ℕ, List, Some, None, IsTrue, sym, subst, refl, vec_len}
+use Rattle.std.proofs.Common.{◌≡◌, ◌<◌, ◌∙◌, ℕ, List, Some, None, IsTrue, sym, subst, refl, vec_len}
 use Rattle.mdmp_source.specs.Source.{SourceState, FetchesAtMost}
 use Rattle.mdmp_source.specs.Store.{IsGood}
 use Rattle.mdmp_wire.specs.declared.entry.Entry.{Entry}
@@ -48,12 +48,12 @@ module _ {S A : Type 0} (n : ℕ) (old new : Walk S A) where
 
 -- ---- the stage behind a fault
 
-stage_by-staged : (size next : ℕ) (e : Entry) (f : ListFault) (kind : FaultKind) → kind ≡ f.kind → IsStaged size next e (stage_by kind f)
-stage_by-staged size next e f (Source fault) same = subst IsOfSource same tt
-stage_by-staged size next e f _ same = λ of. subst IsOfSource (sym same) of
+stage_by-staged : (size next : ℕ) (e : Entry) (f : ListFault) (kind : FaultKind) → 0 < next → kind ≡ f.kind → IsStaged size next e (stage_by kind f)
+stage_by-staged size next e f (Source fault) begun same = subst IsOfSource same tt
+stage_by-staged size next e f _ begun same = (begun, λ of. subst IsOfSource (sym same) of)
 
-pub fault_stage-staged : (size next : ℕ) (e : Entry) (f : ListFault) → IsStaged size next e (fault_stage f)
-fault_stage-staged size next e f = stage_by-staged size next e f f.kind refl
+pub fault_stage-staged : (size next : ℕ) (e : Entry) (f : ListFault) → 0 < next → IsStaged size next e (fault_stage f)
+fault_stage-staged size next e f begun = stage_by-staged size next e f f.kind begun refl
 
 stage_by-offset : (file : List ℕ) (e : Entry) (f : ListFault) (kind : FaultKind) → IsOffset file e (stage_by kind f)
 stage_by-offset file e f (Source fault) = tt

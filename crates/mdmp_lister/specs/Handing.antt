@@ -1,9 +1,11 @@
 -- What a run hands to a sink.
-use Rattle.std.specs.Prelude.{◌≡◌, ◌⊎◌, List, [], ◌∷◌, ◌++◌, Result, Ok, Err}
+use Rattle.std.specs.Prelude.{◌≡◌, ◌⊎◌, ℕ, List, [], ◌∷◌, ◌++◌, Result, Ok, Err}
+use Rattle.mdmp_wire.specs.declared.entry.Entry.{Entry}
 use Rattle.mdmp_lister.specs.declared.item.Item.{Item}
 use Rattle.mdmp_lister.specs.declared.sink.RunFault.{RunFault}
 use Rattle.mdmp_lister.specs.declared.sink.RunFault.TheVariants as run
 use Rattle.mdmp_lister.specs.declared.sink.Stopped.{Stopped}
+use Rattle.mdmp_lister.specs.Lister.{current_after, passed_after}
 use Rattle.mdmp_lister.specs.Listing.{Run, nothing, only_fault}
 use Rattle.mdmp_lister.specs.Reading.{IsOfSource}
 
@@ -12,12 +14,27 @@ abbrev pub give_all : List Item → Run → Run
 give_all xs left = record { items = xs ++ left.items; fault = left.fault }
 
 -- xs were given of what was left, and the rest is left: nothing at the end of the listing, and at a fault that fault
--- alone, unless it is one of the store, which can stand anywhere
+-- alone, which was next unless it is one of the store, which can stand anywhere
 abbrev pub GivesAll : Run → List Item → Result (Unit {0}) RunFault → Run → Type 0
 GivesAll old xs (Ok done) new = (old ≡ give_all xs nothing) × (new ≡ nothing)
 GivesAll old xs (Err run.Stopped) new = old ≡ give_all xs new
 GivesAll old xs (Err (run.At f)) new =
-    ((rest : Run) × (old ≡ give_all xs rest)) × ((IsOfSource f.kind → ⊥) → (old ≡ give_all xs (only_fault f)) × (new ≡ only_fault f))
+    ((rest : Run) × (old ≡ give_all xs rest)) × (((IsOfSource f.kind → ⊥) → old ≡ give_all xs (only_fault f)) × (new ≡ only_fault f))
+
+-- the number of the first entry behind the current one, once these items were given
+abbrev pub passed_behind : List Item → ℕ → ℕ
+passed_behind [] next = next
+passed_behind (x ∷ xs) next = passed_behind xs (passed_after x next)
+
+-- the same behind a run; nothing is said of its end, behind which no entry is skipped
+abbrev pub PassesAll : List Item → Result (Unit {0}) RunFault → ℕ → ℕ → Type 0
+PassesAll xs (Ok done) old new = Unit {0}
+PassesAll xs (Err fault) old new = new ≡ passed_behind xs old
+
+-- the entry whose Stream item was given last, once these items were given
+abbrev pub current_behind : List Item → Entry → Entry
+current_behind [] e = e
+current_behind (x ∷ xs) e = current_behind xs (current_after x e)
 
 module _ {K X : Type 0} (step : K → X → Result (Unit {0}) Stopped → K → Type 0) where
   -- the sink took all of xs

@@ -1,3 +1,4 @@
+pub mod Addresses
 pub mod Bounds
 pub mod Counts
 pub mod Directory
@@ -7,8 +8,10 @@ pub mod Items
 pub mod Laws
 pub mod Lister
 pub mod Listing
+pub mod Mapping
 pub mod Names
 pub mod Opening
+pub mod Owing
 pub mod Plain
 pub mod Ranges
 pub mod Reading

@@ -1,7 +1,8 @@
 -- What a contract sees of a lister.
-use Rattle.std.specs.Prelude.{◌≡◌, ◌≤◌, ◌<◌, ◌+◌, ◌*◌, ℕ, List, drop, slice_get, Bool, true, false, Option, None, Some, Result, Ok, Err, IfOk, IfErr, IfSome}
+use Rattle.std.specs.Prelude.{◌≡◌, ◌≤◌, ◌<◌, ◌+◌, ◌*◌, ℕ, List, [], ◌∷◌, ◌++◌, drop, slice_get, Bool, true, false, Option, None, Some, Result, Ok, Err, IfOk, IfErr, IfSome}
 use Rattle.std.specs.Option.{option_map}
 use Rattle.mdmp_source.specs.Source.{SourceState, FetchesAtMost, FetchesSome}
+use Rattle.mdmp_wire.specs.declared.entry.Entry.{Entry}
 use Rattle.mdmp_wire.specs.declared.header.Header.{Header}
 use Rattle.mdmp_wire.specs.Header.{header_at}
 use Rattle.mdmp_lister.specs.declared.choice.Choice.{Choice}
@@ -10,9 +11,11 @@ use Rattle.mdmp_lister.specs.declared.fault.FaultKind.TheVariants.{Source}
 use Rattle.mdmp_lister.specs.declared.fault.ListFault.{ListFault}
 use Rattle.mdmp_lister.specs.declared.item.Item.{Item}
 use Rattle.mdmp_lister.specs.declared.item.Item.TheVariants.{Stream}
+use Rattle.mdmp_map.specs.declared.range.Range.{Range}
 use Rattle.mdmp_lister.specs.Items.{plain}
 use Rattle.mdmp_lister.specs.Listing.{Run, nothing, only_fault, listing, listing_from}
-use Rattle.mdmp_lister.specs.Reading.{IsCaused, IsOfSource, IsStoreFault}
+use Rattle.mdmp_lister.specs.Ranges.{ranges_of}
+use Rattle.mdmp_lister.specs.Reading.{IsCaused, IsChangeOf, IsOfSource, IsStoreFault}
 use Rattle.mdmp_lister.specs.Stages.{stop_after}
 
 pub record ListerState : Type 0 where
@@ -22,8 +25,12 @@ pub record ListerState : Type 0 where
   pub choice : Choice
   -- names of more bytes are told by their length
   pub limit : ℕ
-  -- the number of the first entry behind the one whose Stream item was given last
+  -- the number of the first entry behind the one whose Stream item was given last; behind the end, how many there are
   pub passed : ℕ
+  -- the entry whose Stream item was given last
+  pub current : Entry
+  -- the ranges inside the file that were given, in order
+  pub ranges : List Range
   -- the items that are left and the fault behind them or none, where the file is known
   pub left : Option Run
   -- the end or the fault with which each request is answered from now on, where there is one
@@ -62,6 +69,20 @@ Passes (Ok None) old new = Unit {0}
 Passes (Ok (Some item)) old new = new ≡ passed_after item old
 Passes (Err f) old new = new ≡ old
 
+-- the current entry, once an item was given
+abbrev pub current_after : Item → Entry → Entry
+current_after (Stream x) e = record { stream_type = x.stream_type; location = x.location }
+current_after item e = e
+
+abbrev pub IsCurrent : Result (Option Item) ListFault → Entry → Entry → Type 0
+IsCurrent (Ok (Some item)) old new = new ≡ current_after item old
+IsCurrent answer old new = new ≡ old
+
+-- the ranges inside the file of an answer
+abbrev pub ranges_answered : Result (Option Item) ListFault → List Range
+ranges_answered (Ok (Some item)) = ranges_of (item ∷ [])
+ranges_answered answer = []
+
 -- the end and a fault of the store stay for good
 abbrev pub is_of_source : FaultKind → Bool
 is_of_source (Source fault) = true
@@ -74,11 +95,12 @@ is_for_good (Some (Some f)) = is_of_source f.kind
 
 -- a lister that was opened over a source, and has given nothing
 pub record IsNewLister (source : SourceState) (choice : Choice) (limit : ℕ) (new : ListerState) : Type 0 where
-  pub fetches : FetchesAtMost (32 + 12 * new.header.number_of_streams) source new.source
+  pub fetches : FetchesAtMost (32 + 28 * new.header.number_of_streams) source new.source
   pub header_is : (file : List ℕ) → source.store.content ≡ Some file → new.header ≡ header_at file 0
   pub choice_is : new.choice ≡ choice
   pub limit_is : new.limit ≡ limit
   pub passed : new.passed ≡ 0
+  pub ranges : new.ranges ≡ []
   pub left : new.left ≡ option_map (λ file. listing file choice limit) source.store.content
   pub stop : new.stop ≡ None
 
@@ -95,11 +117,17 @@ pub record Leaves (old : ListerState) (result : Result (Option Item) ListFault) 
   pub left : new.left ≡ option_map (left_after result) old.left
   pub stop : new.stop ≡ stop_after result
   pub passed : Passes result old.passed new.passed
+  pub current : IsCurrent result old.current new.current
+  pub ranges : new.ranges ≡ old.ranges ++ ranges_answered result
   pub falls : IfOk result (λ given. IfSome given (λ item. new.work < old.work))
   -- an answer that is given again changes nothing
   pub repeats : (stop : Option ListFault) → old.stop ≡ Some stop → new ≡ old
   -- and another fault of the store has its cause in this call
   pub cause : old.stop ≡ None → IfErr result (λ f. IsCaused f.kind old.source new.source)
-  -- it has no index, the offset of the first byte that was not obtained, and no size
+  -- it has no index, the offset at which the store is at fault, and no size
   pub place : old.stop ≡ None → IfErr result IsStoreFault
+  -- a store has changed where the head of a memory list counts more ranges than it did when the file was opened
+  pub changed : old.stop ≡ None → IfErr result (λ f. IsChangeOf old.current f.kind)
+  -- a fault stands in the entry whose Stream item was given last
+  pub entry : old.stop ≡ None → IfErr result (λ f. f.entry + 1 ≡ old.passed)
   pub rests : new.work ≤ old.work

@@ -28,6 +28,10 @@ abbrev pub is_chosen : Choice → ℕ → Bool
 is_chosen All t = true
 is_chosen (Types types) t = list_any (λ x. x == t) types
 
+-- the entries that list memory
+abbrev pub memory_lists : Choice
+memory_lists = Types (5 ∷ 9 ∷ [])
+
 -- how many entries the directory has
 abbrev pub entry_count : List ℕ → ℕ
 entry_count F = (header_at F 0).number_of_streams

@@ -71,11 +71,18 @@ IsUnreadFor (Source fault) old new = HasCause fault
     (HasRisen old.store.counts.empties new.store.counts.empties)
 IsUnreadFor fault old new = Unit {0}
 
--- a fault that a file may be refused with: its own, or want of memory where it has none, or one of the store
-abbrev pub IsRefusalOf : List ℕ → OpenFault → Type 0
-IsRefusalOf F (Source fault) = Unit {0}
-IsRefusalOf F Memory = directory_refusal F ≡ None
-IsRefusalOf F fault = directory_refusal F ≡ Some fault
+-- a fault of a file's header or directory, or want of memory where they have none, or a fault of the store
+abbrev pub IsDirectoryRefusal : List ℕ → OpenFault → Type 0
+IsDirectoryRefusal F (Source fault) = Unit {0}
+IsDirectoryRefusal F Memory = directory_refusal F ≡ None
+IsDirectoryRefusal F fault = directory_refusal F ≡ Some fault
+
+-- a fault that a file may be refused with: its own, or want of memory where its header and directory have none, or one
+-- of the store
+abbrev pub IsRefusalOf : List ℕ → Choice → OpenFault → Type 0
+IsRefusalOf F choice (Source fault) = Unit {0}
+IsRefusalOf F choice Memory = directory_refusal F ≡ None
+IsRefusalOf F choice fault = opening_fault F choice ≡ Some fault
 
 -- the header and the place of the directory were refused
 abbrev pub IsOfHead : OpenFault → Type 0
@@ -85,20 +92,21 @@ IsOfHead (BadVersion low) = Unit {0}
 IsOfHead (DirectoryOutside offset size) = Unit {0}
 IsOfHead fault = ⊥
 
--- the source of a file that was refused: its header was fetched, and at most so many entries of its directory
+-- the source of a file that was refused: its header was fetched, and at most so many entries of its directory, each with
+-- the head of its list
 pub record IsHandedBack (old : SourceState) (fault : OpenFault) (new : SourceState) : Type 0 where
   pub entries : ℕ
-  pub fetches : FetchesAtMost (32 + 12 * entries) old new
+  pub fetches : FetchesAtMost (32 + 28 * entries) old new
   pub known : (file : List ℕ) → old.store.content ≡ Some file → entries ≤ entry_count file
   pub inside : 12 * entries ≤ old.size
   -- none but of a file whose header and place of the directory are good, and not even the header of a file that is too short
   pub begun : 0 < entries → (file : List ℕ) → old.store.content ≡ Some file → directory_refusal file ≡ None
   pub early : IsOfHead fault → entries ≡ 0
-  pub unfetched : fault ≡ Memory → entries ≡ 0
   pub short : (size : ℕ) → fault ≡ TooShort size → new ≡ old
 
 -- a file of `size` bytes may be refused so, whatever its bytes
 abbrev pub IsOpenRefusal : ℕ → OpenFault → Type 0
 IsOpenRefusal size (TooShort told) = (told ≡ size) × (size < 32)
 IsOpenRefusal size (DirectoryOutside offset len) = is_inside offset len size ≡ false
+IsOpenRefusal size (TooManyRanges count) = (32 ≤ size) × (most_ranges < count)
 IsOpenRefusal size fault = 32 ≤ size

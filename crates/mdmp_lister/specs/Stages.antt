@@ -43,12 +43,6 @@ ends (Failed f) = true
 ends Ended = true
 ends stage = false
 
--- what requests are answered with behind a run: its end or its fault, and nothing yet where the sink stopped it
-abbrev pub IsStageAfterRun : Result (Unit {0}) RunFault → Stage → Type 0
-IsStageAfterRun (Ok done) stage = stop_of stage ≡ Some None
-IsStageAfterRun (Err (run.At f)) stage = stage ≡ fault_stage f
-IsStageAfterRun (Err run.Stopped) stage = stop_of stage ≡ None
-
 -- the stage tells what a call answered
 abbrev pub IsStageAfter : {X : Type 0} → Result X ListFault → Stage → Type 0
 IsStageAfter (Ok x) stage = stop_of stage ≡ None

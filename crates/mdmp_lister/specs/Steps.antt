@@ -1,9 +1,12 @@
 -- Items whose names stand in a buffer.
-use Rattle.std.specs.Prelude.{◌+◌, ℕ, List}
+use Rattle.std.specs.Prelude.{◌≡◌, ◌+◌, ℕ, List, Option, Some, Result, Ok}
+use Rattle.mdmp_wire.specs.declared.entry.Entry.{Entry}
+use Rattle.mdmp_lister.specs.declared.fault.ListFault.{ListFault}
 use Rattle.mdmp_lister.specs.declared.item.Item.{Item}
 use Rattle.mdmp_lister.specs.declared.item.Item.TheVariants as items
 use Rattle.mdmp_lister.specs.declared.step.Step.{Step}
 use Rattle.mdmp_lister.specs.declared.step.Step.TheVariants as step
+use Rattle.mdmp_lister.specs.Ranges.{IsRangeIn}
 use Rattle.mdmp_lister.specs.Items.{module_item, system_item, unloaded_item}
 use Rattle.mdmp_lister.specs.Reading.{IsHeld, name_read}
 
@@ -18,14 +21,24 @@ step_item z buffer (step.System e k fields name) = items.System (system_item e k
 step_item z buffer (step.MemoryInfo x) = items.MemoryInfo x
 step_item z buffer (step.Range x) = items.Range x
 
--- its name fits in `room` bytes
-abbrev pub IsStepHeld : ℕ → Step → Type 0
-IsStepHeld room (step.Module e k fields name) = IsHeld room name
-IsStepHeld room (step.Unloaded e k fields name) = IsHeld room name
-IsStepHeld room (step.System e k fields name) = IsHeld room name
-IsStepHeld room x = Unit {0}
+-- its name fits in `room` bytes, and a range that is said to lie inside the file of z bytes does
+abbrev pub IsStepHeld : ℕ → ℕ → Step → Type 0
+IsStepHeld z room (step.Module e k fields name) = IsHeld room name
+IsStepHeld z room (step.Unloaded e k fields name) = IsHeld room name
+IsStepHeld z room (step.System e k fields name) = IsHeld room name
+IsStepHeld z room (step.Range r) = IsRangeIn z r
+IsStepHeld z room x = Unit {0}
 
 -- the number of the first entry behind the current one, once a step was given
 abbrev pub passed_by : Step → ℕ → ℕ
 passed_by (step.Stream x) next = x.entry + 1
 passed_by s next = next
+
+-- the entry whose records are read, once a step was given
+abbrev pub current_by : Step → Entry → Entry
+current_by (step.Stream x) e = record { stream_type = x.stream_type; location = x.location }
+current_by s e = e
+
+abbrev pub CurrentAfter : Result (Option Step) ListFault → Entry → Entry → Type 0
+CurrentAfter (Ok (Some s)) old new = new ≡ current_by s old
+CurrentAfter answer old new = new ≡ old

@@ -47,7 +47,7 @@ IsStaged size next e Between = Unit {0}
 IsStaged size next e Ended = Unit {0}
 IsStaged size next e Head = 0 < next
 IsStaged size next e (Records kind shape index offset) = IsReading size next e kind shape index offset
-IsStaged size next e (Bad f) = IsOfSource f.kind → ⊥
+IsStaged size next e (Bad f) = (0 < next) × (IsOfSource f.kind → ⊥)
 IsStaged size next e (Failed f) = IsOfSource f.kind
 
 -- where the bytes of the next range of a 64-bit memory list stand
@@ -95,6 +95,8 @@ module _ {S A : Type 0} where
   -- a walk that was opened over a source, and has given nothing
   pub record IsNewWalk (source : SourceState) (choice : Choice) (limits : Limits) (w : Walk S A) : Type 0 where
     pub fetches : FetchesAtMost (32 + 12 * w.header.number_of_streams) source w.source
+    pub entries : vec_len w.entries ≡ w.header.number_of_streams
+    pub inside : 12 * w.header.number_of_streams ≤ source.size
     pub choice_is : w.choice ≡ choice
     pub window : vec_len w.window ≡ limits.window
     pub name : vec_len w.name ≡ limits.name

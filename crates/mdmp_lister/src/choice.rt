@@ -56,7 +56,18 @@ pub enum Choice {
 
 impl Choice {
     ghost use Rattle.std.specs.Prelude.{◌≡◌};
-    ghost use Rattle.mdmp_lister.specs.Listing.{is_chosen};
+    ghost use Rattle.mdmp_lister.specs.Listing.{is_chosen, memory_lists};
+
+    /// The entries that list memory of the dumped process: `MemoryListStream`, 5, and
+    /// `Memory64ListStream`, 9.
+    pub fn memory_lists() -> Choice
+        ensures { result ≡ memory_lists }
+    {
+        let mut types = [0; 16];
+        types[0] = 5;
+        types[1] = 9;
+        Choice::Types(TypeSet { types, count: 2 })
+    }
 
     /// Whether entries of this `StreamType` are listed.
     pub fn has(&self, stream_type: u32) -> bool

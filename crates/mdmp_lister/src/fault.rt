@@ -27,8 +27,8 @@ pub enum FaultKind {
     NameOdd,
     /// The `Buffer` of a name is not inside the file: the offset and the size are its bytes.
     NameUnitsOutside,
-    /// The file's bytes were not obtained: the offset is that of the first byte that was not, and
-    /// the size is 0. No definition of a listing gives it.
+    /// The file's bytes were not obtained, or do not agree with what was read before: the offset is
+    /// that of the store's fault, and the size is 0. No definition of a listing gives it.
     Source(SourceFault),
 }
 
@@ -82,7 +82,7 @@ pub enum OpenFault {
         /// How many bytes the directory has: 12 for each entry.
         size: u64,
     },
-    /// The header or the directory was not obtained.
+    /// The header, the directory or the head of a memory list was not obtained.
     Source(SourceFault),
     /// The allocator refused memory.
     Memory,

@@ -5,7 +5,7 @@ ghost use Rattle.mdmp_source.specs.Store.{IsGood, IsSizeOf};
 ghost use Rattle.mdmp_source.specs.Source.{FetchesAtMost};
 ghost use Rattle.mdmp_source.specs.Fault.{fault_at};
 ghost use Rattle.mdmp_lister.specs.Names.{name_at};
-ghost use Rattle.mdmp_lister.specs.Reading.{Answers, IsAtStore, IsCaused, IsHeld, IsOfSource, name_read};
+ghost use Rattle.mdmp_lister.specs.Reading.{Answers, IsAtStore, IsCaused, IsHeld, IsFetchCause, IsOfSource, name_read};
 
 use crate::fault::{Fault, FaultKind};
 use mdmp_source::{Source, SourceFault, Store, inside};
@@ -27,7 +27,8 @@ fn of_source(fault: SourceFault) -> Fault
     ensures { result ≡ record { kind = FaultKind.Source fault; offset = fault_at fault; size = 0 } }
 {
     let offset = match fault {
-        SourceFault::Failed { at } | SourceFault::ShortRead { at } => at,
+        SourceFault::Failed { at } | SourceFault::ShortRead { at } | SourceFault::Changed { at } =>
+            at,
     };
     Fault {
         kind: FaultKind::Source(fault),
@@ -37,12 +38,14 @@ fn of_source(fault: SourceFault) -> Fault
 }
 
 /// Fetches the bytes at `at` into `out`.
+#[tactic(auto, using(mdmp_source::specs::SourceLaws::fault_of_fetches))]
 fn fetch<S: Store>(source: &mut Source<S>, at: u64, out: &mut [u8]) -> Result<(), Fault>
     requires { IsInside at (length out.old) source.old.size }
     ensures bytes { (file : List ℕ) → source.old.store.content ≡ Some file → OnOk result (out.new ≡ bytes_at file at (length out.new)) }
     ensures fault { IfErr result (λ fault. IsOfSource fault.kind) }
     ensures fetches { FetchesAtMost (length out.new) source.old source.new }
     ensures cause { IfErr result (λ fault. IsCaused fault.kind source.old source.new) }
+    ensures fetch_cause { IfErr result (λ fault. IsFetchCause fault.kind source.old source.new) }
     ensures place { IfErr result (λ fault. IsAtStore fault.kind fault.offset fault.size) }
     ensures good { (file : List ℕ) → IsGood source.old.store file → IsOk result }
 {
@@ -66,6 +69,7 @@ fn fetch_front<S: Store>(
     ensures fault { IfErr result (λ fault. IsOfSource fault.kind) }
     ensures fetches { FetchesAtMost count source.old source.new }
     ensures cause { IfErr result (λ fault. IsCaused fault.kind source.old source.new) }
+    ensures fetch_cause { IfErr result (λ fault. IsFetchCause fault.kind source.old source.new) }
     ensures place { IfErr result (λ fault. IsAtStore fault.kind fault.offset fault.size) }
     ensures good { (file : List ℕ) → IsGood source.old.store file → IsOk result }
 {
@@ -84,6 +88,7 @@ pub(crate) fn read<R: Record, S: Store>(
     ensures fault { IfErr result (λ fault. IsOfSource fault.kind) }
     ensures fetches { FetchesAtMost R.SIZE source.old source.new }
     ensures cause { IfErr result (λ fault. IsCaused fault.kind source.old source.new) }
+    ensures fetch_cause { IfErr result (λ fault. IsFetchCause fault.kind source.old source.new) }
     ensures place { IfErr result (λ fault. IsAtStore fault.kind fault.offset fault.size) }
     ensures good { (file : List ℕ) → IsGood source.old.store file → IsOk result }
 {
@@ -110,6 +115,7 @@ pub(crate) fn read_name<S: Store>(
     ensures held { IfOk result (IsHeld (length buffer.new)) }
     ensures fetches { FetchesAtMost (4 + length buffer.new) source.old source.new }
     ensures cause { IfErr result (λ fault. IsCaused fault.kind source.old source.new) }
+    ensures fetch_cause { IfErr result (λ fault. IsFetchCause fault.kind source.old source.new) }
     ensures place { IfErr result (λ fault. IsAtStore fault.kind fault.offset fault.size) }
     ensures good { (file : List ℕ) → IsGood source.old.store file → IfErr result (λ fault. IsOfSource fault.kind → ⊥) }
 {

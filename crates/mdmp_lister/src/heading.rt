@@ -6,7 +6,7 @@ ghost use Rattle.mdmp_source.specs.Store.{IsGood};
 ghost use Rattle.mdmp_source.specs.Source.{FetchesAtMost};
 ghost use Rattle.mdmp_wire.specs.Number.{number_at};
 ghost use Rattle.mdmp_lister.specs.Shapes.{FitsIn, head_size, shape_of};
-ghost use Rattle.mdmp_lister.specs.Reading.{Answers, IsAtStore, IsCaused, IsOfSource};
+ghost use Rattle.mdmp_lister.specs.Reading.{Answers, IsAtStore, IsCaused, IsFetchCause, IsOfSource};
 
 use crate::fault::Fault;
 use crate::fetching::read;
@@ -45,6 +45,7 @@ pub(crate) fn read_head<S: Store>(
     ensures ranges { kind ≡ Kind.Memory64 → IfOk result (λ head. (head.shape.first ≡ 16) × (head.shape.stride ≡ 16)) }
     ensures fetches { FetchesAtMost 16 source.old source.new }
     ensures cause { IfErr result (λ fault. IsCaused fault.kind source.old source.new) }
+    ensures fetch_cause { IfErr result (λ fault. IsFetchCause fault.kind source.old source.new) }
     ensures place { IfErr result (λ fault. IsAtStore fault.kind fault.offset fault.size) }
     ensures good { (file : List ℕ) → IsGood source.old.store file → IfErr result (λ fault. IsOfSource fault.kind → ⊥) }
 {

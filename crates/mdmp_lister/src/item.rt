@@ -159,10 +159,12 @@ pub struct RangeItem {
 impl RangeItem {
     ghost use Rattle.std.specs.Prelude.{◌≡◌};
     ghost use Rattle.mdmp_lister.specs.Items.{range64_item, range_item};
+    ghost use Rattle.mdmp_lister.specs.Ranges.{IsRangeIn};
 
     /// The item of a range that says where its bytes stand, in a file of `size` bytes.
     pub(crate) fn new(entry: u32, index: u64, fields: Descriptor, size: u64) -> Self
-        ensures { result ≡ range_item size entry index fields }
+        ensures item { result ≡ range_item size entry index fields }
+        ensures inside { IsRangeIn size result }
     {
         RangeItem {
             entry,
@@ -176,7 +178,8 @@ impl RangeItem {
 
     /// The item of a range whose bytes stand at an offset, in a file of `size` bytes.
     pub(crate) fn at(entry: u32, index: u64, fields: Descriptor64, offset: u128, size: u64) -> Self
-        ensures { result ≡ range64_item size entry index fields offset }
+        ensures item { result ≡ range64_item size entry index fields offset }
+        ensures inside { IsRangeIn size result }
     {
         RangeItem {
             entry,

@@ -25,7 +25,9 @@
 //! ```
 #![tactic(auto)]
 
+mod addressing;
 mod choice;
+mod counting;
 mod fault;
 mod fetching;
 mod heading;

@@ -1,39 +1,53 @@
 //! The lister.
-ghost use Rattle.std.specs.Prelude.{◌≡◌, ◌≤◌, ◌<◌, ◌+◌, ◌*◌, ℕ, List, None, Some, IfOk, IfErr, IsTrue, false, MatchResult};
+ghost use Rattle.std.specs.Prelude.{◌≡◌, ◌≤◌, ◌<◌, ◌+◌, ◌*◌, ◌++◌, ◌⊎◌, ℕ, List, None, Some, IfOk, IfErr, IsOk, IsTrue, OnOk, length, false, MatchResult};
 ghost use Rattle.std.specs.Borrow.{sem};
 ghost use Rattle.std.specs.Io.BufRead.{Rests};
 ghost use Rattle.mdmp_source.specs.Store.{IsGood};
-ghost use Rattle.mdmp_lister.specs.Opening.{IsHandedBack, IsOpenRefusal, IsRefusalOf, IsUnread, IsUnreadFor, directory_refusal};
-ghost use Rattle.mdmp_lister.specs.Reading.{IsCaused, IsOfSource};
+ghost use Rattle.mdmp_lister.specs.Opening.{IsHandedBack, IsOpenRefusal, IsRefusalOf, IsUnread, IsUnreadFor, opening_fault};
+ghost use Rattle.mdmp_map.specs.Map.{free_of};
+ghost use Rattle.mdmp_source.specs.Source.{FetchesAtMost, HasFaultCause};
+ghost use Rattle.mdmp_lister.specs.Addresses.{ReadsCells};
+ghost use Rattle.mdmp_lister.specs.Mapping.{IsStepPlaced, ranges_of_step};
+ghost use Rattle.mdmp_lister.specs.Owing.{count_told};
+ghost use Rattle.mdmp_lister.specs.Ranges.{ranges_of};
+ghost use Rattle.mdmp_lister.specs.Reading.{IsCaused, IsChangeOf, IsOfSource, IsStoreFault};
 ghost use Rattle.mdmp_lister.specs.Stages.{stop_after, stop_after_run};
 
+use crate::addressing::read_addresses;
 use crate::choice::Choice;
 use crate::fault::{ListFault, OpenFault};
 use crate::item::Item;
 use crate::limits::Limits;
 use crate::opening::OpenRefused;
-use crate::sink::{RunFault, Sink};
+use crate::sink::{RunFault, Sink, Stopped};
+use crate::step::Step;
 use crate::walk::Walk;
-use mdmp_source::{Source, Store};
+use mdmp_map::AddressMap;
+use mdmp_source::{Extent, Source, SourceFault, Store};
 use mdmp_wire::Header;
-use std::alloc::Allocator;
+use std::alloc::{AllocError, Allocator};
 use std::marker::Model;
 
 /// Lists a file, one item at a time.
 ///
-/// It holds a window, the directory and a name, and takes no memory once it is opened. Its items are
-/// those of the listing, in order, up to the first fault.
+/// It holds a window, the directory, a name and a map of the ranges of memory that it gave, and takes
+/// no memory once it is opened. Its items are those of the listing, in order, up to the first fault.
 #[derive(Drop)]
 pub struct Lister<S: Store + Drop, A: Allocator + Copy> {
     walk: Walk<S, A>,
+    map: AddressMap<A>,
 }
+
+/// The most ranges that a lister takes.
+const MOST_RANGES: u128 = 1 << 28;
 
 impl<S: Store + Drop, A: Allocator + Copy> Model for Lister<S, A> {
     ghost use Rattle.std.specs.Option.{option_map};
     ghost use Rattle.std.specs.Prelude.{vec_len};
     ghost use Rattle.mdmp_lister.specs.Lister.{ListerState};
     ghost use Rattle.mdmp_lister.specs.Stages.{stop_of};
-    ghost use Rattle.mdmp_lister.specs.Walk.{IsSound, left_of, work_of};
+    ghost use Rattle.mdmp_lister.specs.Mapping.{IsMapped};
+    ghost use Rattle.mdmp_lister.specs.Walk.{left_of, work_of};
 
     ghost Value = { ListerState };
 
@@ -43,25 +57,29 @@ impl<S: Store + Drop, A: Allocator + Copy> Model for Lister<S, A> {
       choice = l.walk.choice;
       limit = vec_len l.walk.name;
       passed = l.walk.next;
+      current = l.walk.current;
+      ranges = l.map.ranges;
       left = option_map (left_of l.walk) l.walk.source.store.content;
       stop = stop_of l.walk.stage;
       work = work_of l.walk;
     } };
 
-    ghost invariant = { λ l. IsSound l.walk };
+    ghost invariant = { λ l. IsMapped l.walk l.map };
 }
 
 impl<S: Store + Drop, A: Allocator + Copy> Lister<S, A> {
     ghost use Rattle.mdmp_lister.specs.contracts.lister.Lister.{the_row};
     ghost use Rattle.mdmp_lister.specs.declared.item.Item.{Item};
-    ghost use Rattle.mdmp_lister.specs.Handing.{GivesAll, Handed};
+    ghost use Rattle.mdmp_lister.specs.Handing.{GivesAll, current_behind, Handed, PassesAll};
     ghost use Rattle.mdmp_lister.specs.Listing.{Run};
     ghost use Rattle.mdmp_lister.specs.Lister.{Gives, IsNewLister, IsSameLister, Leaves, is_for_good, listing_behind};
 
-    /// Opens a file: its header and directory are read, and all the memory is taken that the lister
-    /// will need, for the directory, the window and a name, in this order. A refusal hands the source
-    /// back: the fault of the header or of the place of the directory, or want of memory, or that
-    /// the store failed.
+    /// Opens a file. Its header is read; memory is taken for the directory, the window and a name; the
+    /// directory is read, and the ranges of the chosen memory lists are counted by their heads; then
+    /// memory is taken for the map of ranges. No later call takes any.
+    ///
+    /// A refusal hands the source back: the fault of the header or of the place of the directory, too
+    /// many ranges, want of memory, or that the store failed.
     pub fn open(
         alloc: A,
         source: Source<S>,
@@ -69,17 +87,30 @@ impl<S: Store + Drop, A: Allocator + Copy> Lister<S, A> {
         choice: Choice,
     ) -> Result<Lister<S, A>, OpenRefused<S>>
         ensures opens { (file : List ℕ) → source.store.content ≡ Some file
-            → MatchResult result (λ _. directory_refusal file ≡ None) (λ refused. IsRefusalOf file refused.fault) }
+            → MatchResult result (λ _. opening_fault file choice ≡ None) (λ refused. IsRefusalOf file choice refused.fault) }
         ensures new { IfOk result (IsNewLister source choice limits.name) }
         ensures handed_back { IfErr result (λ refused. IsHandedBack source refused.fault refused.source) }
         ensures good { (file : List ℕ) → IsGood source.store file → IfErr result (λ refused. IsUnread refused.fault → ⊥) }
         ensures refusal { IfErr result (λ refused. IsOpenRefusal source.size refused.fault) }
         ensures short { source.size < 32 → MatchResult result (λ _. ⊥) (λ refused. refused.fault ≡ OpenFault.TooShort source.size) }
+        ensures memory { IfErr result (λ refused. refused.fault ≡ OpenFault.Memory
+            → FetchesAtMost 32 source refused.source ⊎ ((file : List ℕ) → source.store.content ≡ Some file → opening_fault file choice ≡ None)) }
         ensures cause { IfErr result (λ refused. IsUnreadFor refused.fault source refused.source) }
     {
-        match Walk::open(alloc, source, limits, choice) {
-            Ok(walk) => Ok(Lister { walk }),
-            Err(refused) => Err(refused),
+        let mut walk = match Walk::open(alloc, source, limits, choice) {
+            Ok(walk) => walk,
+            Err(refused) => return Err(refused),
+        };
+        let count = match walk.count_ranges() {
+            Ok(count) => count,
+            Err(fault) => return Err(refused(OpenFault::Source(fault), walk)),
+        };
+        if count > MOST_RANGES {
+            return Err(refused(OpenFault::TooManyRanges { count }, walk));
+        }
+        match AddressMap::with_room(alloc, count as usize) {
+            Ok(map) => Ok(Lister { walk, map }),
+            Err(AllocError) => Err(refused(OpenFault::Memory, walk)),
         }
     }
 
@@ -91,16 +122,21 @@ impl<S: Store + Drop, A: Allocator + Copy> Lister<S, A> {
     }
 
     /// The next item, whose name is lent until the next call, or none behind the last one. A fault
-    /// of the file is answered again until its entry is skipped, a fault of the store for good.
+    /// of the file is answered again until its entry is skipped, a fault of the store for good. A
+    /// range that lies inside the file is put into the map. A store has changed where the head of a
+    /// memory list, read again, counts more ranges than the map has room left.
     pub fn next(&mut self) -> Result<Option<Item<'_>>, ListFault>
         ensures gives { (left : _) → self.old.left ≡ Some left → Gives left result }
         ensures* leaves { sem 𝓛 (Rests (the_row S.row A.row S.Store A.Allocator) self.entry (Leaves self.old result)) }
         ensures repeats { (stop : _) → self.old.stop ≡ Some stop → stop_after result ≡ Some stop }
         ensures good { (file : List ℕ) → IsGood self.old.source.store file → IfErr result (λ fault. IsOfSource fault.kind → ⊥) }
     {
-        match self.walk.advance()? {
+        match self.walk.advance(self.map.free())? {
             None => Ok(None),
-            Some(step) => Ok(Some(self.walk.item(step))),
+            Some(step) => {
+                push_range(&mut self.map, step);
+                Ok(Some(self.walk.item(step)))
+            }
         }
     }
 
@@ -110,9 +146,12 @@ impl<S: Store + Drop, A: Allocator + Copy> Lister<S, A> {
         ensures skips { is_for_good self.old.stop ≡ false
             → (self.new.left ≡ listing_behind self.old self.old.passed) × (self.new.stop ≡ None) }
         ensures stays { IsTrue (is_for_good self.old.stop) → self.new ≡ self.old }
+        ensures unbegun { self.old.passed ≡ 0 → self.new ≡ self.old }
         ensures source { self.new.source ≡ self.old.source }
         ensures same { IsSameLister self.old self.new }
         ensures passed { self.new.passed ≡ self.old.passed }
+        ensures current { self.new.current ≡ self.old.current }
+        ensures ranges { self.new.ranges ≡ self.old.ranges }
         ensures rests { self.new.work ≤ self.old.work }
     {
         self.walk.skip_entry();
@@ -123,22 +162,95 @@ impl<S: Store + Drop, A: Allocator + Copy> Lister<S, A> {
     /// as given.
     pub fn list_into<K: Sink>(&mut self, sink: &mut K) -> Result<(), RunFault>
         ensures runs { (xs : List Item) × (Handed K.step sink.old xs result sink.new
-            × ((left : _) → self.old.left ≡ Some left → (rest : Run) × ((self.new.left ≡ Some rest) × GivesAll left xs result rest))) }
+            × (PassesAll xs result self.old.passed self.new.passed
+            × ((self.new.current ≡ current_behind xs self.old.current)
+            × ((self.new.ranges ≡ self.old.ranges ++ ranges_of xs)
+            × ((left : _) → self.old.left ≡ Some left → (rest : Run) × ((self.new.left ≡ Some rest) × GivesAll left xs result rest)))))) }
         ensures stop { self.new.stop ≡ stop_after_run result }
+        ensures repeats { (stop : _) → self.old.stop ≡ Some stop
+            → (self.new ≡ self.old) × ((stop_after_run result ≡ Some stop) × (sink.new ≡ sink.old)) }
+        ensures falls { result ≡ Err RunFault.Stopped → self.new.work < self.old.work }
+        ensures rests { self.new.work ≤ self.old.work }
         ensures same { IsSameLister self.old self.new }
         ensures cause { self.old.stop ≡ None
             → IfErr result (λ r. (fault : _) → r ≡ RunFault.At fault → IsCaused fault.kind self.old.source self.new.source) }
+        ensures place { self.old.stop ≡ None
+            → IfErr result (λ r. (fault : _) → r ≡ RunFault.At fault → IsStoreFault fault × (fault.entry + 1 ≡ self.new.passed)) }
+        ensures changed { self.old.stop ≡ None
+            → IfErr result (λ r. (fault : _) → r ≡ RunFault.At fault → IsChangeOf self.new.current fault.kind) }
         ensures good { (file : List ℕ) → IsGood self.old.source.store file
             → IfErr result (λ r. (fault : _) → r ≡ RunFault.At fault → IsOfSource fault.kind → ⊥) }
     {
-        self.walk.list_into(sink)
+        loop {
+            match self.next() {
+                Ok(Some(item)) => match sink.take(&item) {
+                    Ok(()) => {}
+                    Err(Stopped) => return Err(RunFault::Stopped),
+                },
+                Ok(None) => return Ok(()),
+                Err(fault) => return Err(RunFault::At(fault)),
+            }
+        }
+    }
+
+    /// The ranges of memory inside the file that were given so far, in order.
+    pub fn map(&self) -> &AddressMap<A>
+        ensures { result.now.ranges ≡ self.now.ranges }
+    {
+        &self.map
+    }
+
+    /// Reads the memory of the dumped process from an address on, as far as the ranges that were given
+    /// so far hold it. Where one holds an address, its byte is put into `out`, and `known` is true
+    /// there; else both are 0 and false. After a fault of the store they may hold anything, and what
+    /// is listed stays as it was.
+    pub fn read_address(
+        &mut self,
+        address: u64,
+        out: &mut [u8],
+        known: &mut [bool],
+    ) -> Result<(), SourceFault>
+        requires { length out.old ≡ length known.old }
+        ensures cells { OnOk result (ReadsCells self.old.source.store.content self.old.ranges address out.new known.new) }
+        ensures same { self.new ≡ record self.old { source = self.new.source } }
+        ensures fetches { FetchesAtMost (length out.new) self.old.source self.new.source }
+        ensures cause { HasFaultCause result self.old.source self.new.source }
+        ensures good { (file : List ℕ) → IsGood self.old.source.store file → IsOk result }
+    {
+        read_addresses(&mut self.walk.source, &self.map, address, out, known)
     }
 
     /// Hands the source back.
     pub fn into_source(self) -> Source<S>
         ensures { result ≡ self.source }
     {
-        let Lister { walk } = self;
+        let Lister { walk, map: _ } = self;
         walk.into_source()
+    }
+}
+
+/// A file is refused.
+fn refused<S: Store + Drop, A: Allocator + Copy>(
+    fault: OpenFault,
+    walk: Walk<S, A>,
+) -> OpenRefused<S>
+    ensures { result ≡ record { fault = fault; source = walk.source } }
+{
+    OpenRefused {
+        fault,
+        source: walk.into_source(),
+    }
+}
+
+/// Puts a range that lies inside the file behind those of a map.
+fn push_range<A: Allocator>(map: &mut AddressMap<A>, step: Step)
+    requires placed { IsStepPlaced step }
+    requires room { count_told step ≤ free_of map.old }
+    ensures { map.new ≡ record map.old { ranges = map.old.ranges ++ ranges_of_step step } }
+{
+    if let Step::Range(range) = step {
+        if let Extent::Inside = range.extent {
+            map.push(range.start, range.size, range.offset as u64);
+        }
     }
 }

@@ -4,8 +4,10 @@ ghost use Rattle.mdmp_source.specs.Store.{IsGood, IsSizeOf};
 ghost use Rattle.mdmp_source.specs.Source.{FetchesAtMost};
 ghost use Rattle.mdmp_lister.specs.Shapes.{record_size};
 ghost use Rattle.mdmp_lister.specs.Items.{item_at, range_offset};
-ghost use Rattle.mdmp_lister.specs.Reading.{Answers, IsAtStore, IsCaused, IsOfSource};
-ghost use Rattle.mdmp_lister.specs.Steps.{IsStepHeld, passed_by, step_item};
+ghost use Rattle.mdmp_lister.specs.Reading.{Answers, IsAtStore, IsCaused, IsFetchCause, IsOfSource};
+ghost use Rattle.mdmp_lister.specs.Owing.{ranges_by, count_told};
+ghost use Rattle.mdmp_wire.specs.declared.entry.Entry.{Entry};
+ghost use Rattle.mdmp_lister.specs.Steps.{IsStepHeld, current_by, passed_by, step_item};
 
 use crate::fault::Fault;
 use crate::fetching::{read, read_name};
@@ -31,10 +33,13 @@ fn read_module<S: Store>(
     requires small { length buffer.old < 2 ^ 32 }
     ensures item { (file : List ℕ) → source.old.store.content ≡ Some file → (stream : ℕ)
         → Answers (item_at file (length buffer.new) entry index stream at Kind.Modules) (step_item source.old.size buffer.new) result }
-    ensures held { IfOk result (IsStepHeld (length buffer.new)) }
+    ensures held { IfOk result (IsStepHeld source.old.size (length buffer.new)) }
+    ensures ranges { IfOk result (λ step. count_told step ≡ 0) }
     ensures passed { IfOk result (λ step. (next : ℕ) → passed_by step next ≡ next) }
+    ensures stays { IfOk result (λ step. (e : Entry) → current_by step e ≡ e) }
     ensures fetches { FetchesAtMost (108 + (4 + length buffer.new)) source.old source.new }
     ensures cause { IfErr result (λ fault. IsCaused fault.kind source.old source.new) }
+    ensures fetch_cause { IfErr result (λ fault. IsFetchCause fault.kind source.old source.new) }
     ensures place { IfErr result (λ fault. IsAtStore fault.kind fault.offset fault.size) }
     ensures good { (file : List ℕ) → IsGood source.old.store file → IfErr result (λ fault. IsOfSource fault.kind → ⊥) }
 {
@@ -68,10 +73,13 @@ fn read_unloaded<S: Store>(
     requires small { length buffer.old < 2 ^ 32 }
     ensures item { (file : List ℕ) → source.old.store.content ≡ Some file → (stream : ℕ)
         → Answers (item_at file (length buffer.new) entry index stream at Kind.Unloaded) (step_item source.old.size buffer.new) result }
-    ensures held { IfOk result (IsStepHeld (length buffer.new)) }
+    ensures held { IfOk result (IsStepHeld source.old.size (length buffer.new)) }
+    ensures ranges { IfOk result (λ step. count_told step ≡ 0) }
     ensures passed { IfOk result (λ step. (next : ℕ) → passed_by step next ≡ next) }
+    ensures stays { IfOk result (λ step. (e : Entry) → current_by step e ≡ e) }
     ensures fetches { FetchesAtMost (24 + (4 + length buffer.new)) source.old source.new }
     ensures cause { IfErr result (λ fault. IsCaused fault.kind source.old source.new) }
+    ensures fetch_cause { IfErr result (λ fault. IsFetchCause fault.kind source.old source.new) }
     ensures place { IfErr result (λ fault. IsAtStore fault.kind fault.offset fault.size) }
     ensures good { (file : List ℕ) → IsGood source.old.store file → IfErr result (λ fault. IsOfSource fault.kind → ⊥) }
 {
@@ -105,10 +113,13 @@ fn read_system<S: Store>(
     requires small { length buffer.old < 2 ^ 32 }
     ensures item { (file : List ℕ) → source.old.store.content ≡ Some file → (stream : ℕ)
         → Answers (item_at file (length buffer.new) entry index stream at Kind.System) (step_item source.old.size buffer.new) result }
-    ensures held { IfOk result (IsStepHeld (length buffer.new)) }
+    ensures held { IfOk result (IsStepHeld source.old.size (length buffer.new)) }
+    ensures ranges { IfOk result (λ step. count_told step ≡ 0) }
     ensures passed { IfOk result (λ step. (next : ℕ) → passed_by step next ≡ next) }
+    ensures stays { IfOk result (λ step. (e : Entry) → current_by step e ≡ e) }
     ensures fetches { FetchesAtMost (56 + (4 + length buffer.new)) source.old source.new }
     ensures cause { IfErr result (λ fault. IsCaused fault.kind source.old source.new) }
+    ensures fetch_cause { IfErr result (λ fault. IsFetchCause fault.kind source.old source.new) }
     ensures place { IfErr result (λ fault. IsAtStore fault.kind fault.offset fault.size) }
     ensures good { (file : List ℕ) → IsGood source.old.store file → IfErr result (λ fault. IsOfSource fault.kind → ⊥) }
 {
@@ -146,11 +157,14 @@ pub(crate) fn read_item<S: Store>(
     ensures item { (file : List ℕ) → source.old.store.content ≡ Some file → (stream : ℕ)
         → (kind ≡ Kind.Memory64 → offset ≡ range_offset file stream index)
         → Answers (item_at file (length buffer.new) entry index stream at kind) (step_item source.old.size buffer.new) result }
-    ensures held { IfOk result (IsStepHeld (length buffer.new)) }
+    ensures held { IfOk result (IsStepHeld source.old.size (length buffer.new)) }
+    ensures ranges { IfOk result (λ step. count_told step ≡ ranges_by kind 1) }
     ensures passed { IfOk result (λ step. (next : ℕ) → passed_by step next ≡ next) }
+    ensures stays { IfOk result (λ step. (e : Entry) → current_by step e ≡ e) }
     ensures length { length buffer.new ≡ length buffer.old }
     ensures fetches { FetchesAtMost (record_size kind + (4 + length buffer.new)) source.old source.new }
     ensures cause { IfErr result (λ fault. IsCaused fault.kind source.old source.new) }
+    ensures fetch_cause { IfErr result (λ fault. IsFetchCause fault.kind source.old source.new) }
     ensures place { IfErr result (λ fault. IsAtStore fault.kind fault.offset fault.size) }
     ensures good { (file : List ℕ) → IsGood source.old.store file → IfErr result (λ fault. IsOfSource fault.kind → ⊥) }
 {

@@ -55,7 +55,7 @@ fn lent_name(buffer: &[u8], name: NameRead) -> Name<'_>
 
 /// The item, its name lent from the buffer, in a file of `size` bytes.
 pub(crate) fn lent_item(step: Step, buffer: &[u8], size: u64) -> Item<'_>
-    requires { IsStepHeld (length buffer.now) step }
+    requires { IsStepHeld size (length buffer.now) step }
     ensures { plain result ≡ step_item size buffer.now step }
 {
     match step {

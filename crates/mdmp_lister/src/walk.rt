@@ -1,16 +1,19 @@
 //! The walk over the entries of a file, without its public face.
-ghost use Rattle.std.specs.Prelude.{◌≡◌, ◌+◌, ◌*◌, ◌^◌, ◌≤◌, ◌<◌, ◌-◌, ℕ, List, None, Some, IfOk, IfErr, IfSome, IsTrue, false, OnOk, OnSome, MatchResult, vec_len};
+ghost use Rattle.std.specs.Prelude.{◌≡◌, ◌+◌, ◌*◌, ◌^◌, ◌≤◌, ◌<◌, ◌-◌, ℕ, List, None, Some, IfOk, IfErr, IfSome, IsOk, IsTrue, false, OnOk, OnSome, MatchResult, vec_len};
 ghost use Rattle.mdmp_source.specs.Store.{IsGood};
-ghost use Rattle.mdmp_source.specs.Source.{FetchesAtMost, FetchesSome};
-ghost use Rattle.mdmp_lister.specs.Opening.{IsHandedBack, IsOpenRefusal, IsRefusalOf, IsUnread, IsUnreadFor, directory_refusal};
-ghost use Rattle.mdmp_lister.specs.Reading.{IsCaused, IsOfSource, IsStoreFault};
-ghost use Rattle.mdmp_lister.specs.Stages.{IsStageAfter, IsStageAfterRun, ends, fault_stage, stop_after, stop_given, stop_of};
-ghost use Rattle.mdmp_lister.specs.Steps.{IsStepHeld, passed_by, step_item};
-ghost use Rattle.mdmp_lister.specs.Handing.{GivesAll, Handed};
+ghost use Rattle.mdmp_source.specs.Source.{FetchesAtMost, HasFaultCause};
+ghost use Rattle.mdmp_source.specs.declared.fault.SourceFault.{SourceFault};
+ghost use Rattle.mdmp_lister.specs.Opening.{IsHandedBack, IsDirectoryRefusal, IsOpenRefusal, IsUnread, IsUnreadFor, directory_refusal};
+ghost use Rattle.mdmp_lister.specs.Reading.{IsCaused, IsChangeOf, IsNoChange, IsOfSource, IsStoreFault};
+ghost use Rattle.mdmp_lister.specs.Stages.{IsStageAfter, ends, fault_stage, stop_after, stop_given, stop_of};
+ghost use Rattle.mdmp_lister.specs.Steps.{CurrentAfter, IsStepHeld, current_by, passed_by, step_item};
+ghost use Rattle.mdmp_lister.specs.Counts.{range_count};
+ghost use Rattle.mdmp_lister.specs.Owing.{HasRoom, count_answered, ranges_by, count_given, count_told};
 ghost use Rattle.mdmp_lister.specs.Listing.{list_fault, with_item};
 ghost use Rattle.mdmp_lister.specs.Items.{plain};
 
 use crate::choice::Choice;
+use crate::counting::count_ranges;
 use crate::fault::{Fault, FaultKind, ListFault, OpenFault};
 use crate::heading::read_head;
 use crate::item::{Item, StreamItem};
@@ -20,10 +23,9 @@ use crate::opening::{OpenRefused, next_chosen, read_directory, read_header};
 use crate::recording::read_item;
 use crate::shape::Shape;
 use crate::shaping::{location_fault, record_at};
-use crate::sink::{RunFault, Sink, Stopped};
 use crate::stage::Stage;
 use crate::step::{Step, lent_item};
-use mdmp_source::{Location, Source, Store};
+use mdmp_source::{Location, Source, SourceFault, Store};
 use mdmp_wire::{Entry, Header};
 use std::alloc::Allocator;
 
@@ -45,7 +47,6 @@ pub(crate) struct Walk<S: Store + Drop, A: Allocator + Copy> {
 }
 
 impl<S: Store + Drop, A: Allocator + Copy> Walk<S, A> {
-    ghost use Rattle.mdmp_lister.specs.declared.item.Item.{Item};
     ghost use Rattle.mdmp_lister.specs.Walk.{Advances, FaultStays, IsListing, IsNewWalk, IsSound, Keeps, PassesTo, SameEntry, SameRoom, current_of, left_of, rest_of, work_of};
 
     /// Reads the header and the directory of a file, and takes all the memory that a walk needs.
@@ -59,10 +60,11 @@ impl<S: Store + Drop, A: Allocator + Copy> Walk<S, A> {
         ensures new { IfOk result (IsNewWalk source choice limits) }
         ensures handed_back { IfErr result (λ refused. IsHandedBack source refused.fault refused.source) }
         ensures opens { (file : List ℕ) → source.store.content ≡ Some file
-            → MatchResult result (λ _. directory_refusal file ≡ None) (λ refused. IsRefusalOf file refused.fault) }
+            → MatchResult result (λ _. directory_refusal file ≡ None) (λ refused. IsDirectoryRefusal file refused.fault) }
         ensures good { (file : List ℕ) → IsGood source.store file → IfErr result (λ refused. IsUnread refused.fault → ⊥) }
         ensures refusal { IfErr result (λ refused. IsOpenRefusal source.size refused.fault) }
         ensures short { source.size < 32 → MatchResult result (λ _. ⊥) (λ refused. refused.fault ≡ OpenFault.TooShort source.size) }
+        ensures memory { IfErr result (λ refused. refused.fault ≡ OpenFault.Memory → FetchesAtMost 32 source refused.source) }
         ensures cause { IfErr result (λ refused. IsUnreadFor refused.fault source refused.source) }
     {
         let header = match read_header(&mut source) {
@@ -98,15 +100,37 @@ impl<S: Store + Drop, A: Allocator + Copy> Walk<S, A> {
         })
     }
 
-    /// Gives the next step, or the fault that is next.
-    pub(crate) fn advance(&mut self) -> Result<Option<Step>, ListFault>
+    /// How many ranges the chosen memory lists have, by their heads.
+    pub(crate) fn count_ranges(&mut self) -> Result<u128, SourceFault>
         requires { IsSound self.old }
         ensures sound { IsSound self.new }
+        ensures same { SameEntry self.old self.new }
+        ensures stage { self.new.stage ≡ self.old.stage }
+        ensures fetches { FetchesAtMost (16 * vec_len self.old.entries) self.old.source self.new.source }
+        ensures count { (file : List ℕ) → self.old.source.store.content ≡ Some file → IfOk result (λ count. count ≡ range_count file self.old.choice) }
+        ensures cause { HasFaultCause result self.old.source self.new.source }
+        ensures good { (file : List ℕ) → IsGood self.old.source.store file → IsOk result }
+    {
+        count_ranges(
+            &mut self.source,
+            &mut self.window,
+            &self.entries,
+            &self.choice,
+        )
+    }
+
+    /// Gives the next step, or the fault that is next. A memory list whose head counts more than
+    /// `room` ranges has changed since the file was opened.
+    pub(crate) fn advance(&mut self, room: usize) -> Result<Option<Step>, ListFault>
+        requires sound { IsSound self.old }
+        requires room { HasRoom room 0 self.old }
+        ensures sound { IsSound self.new }
+        ensures room { HasRoom room (count_answered result) self.new }
         ensures same { SameRoom self.old self.new }
         ensures fetches { FetchesAtMost (16 + (168 + (4 + vec_len self.old.name))) self.old.source self.new.source }
         ensures listing { (file : List ℕ) → self.old.source.store.content ≡ Some file
             → Advances self.old.source.size self.new.name.items (left_of self.old file) result (left_of self.new file) }
-        ensures held { IfOk result (λ given. IfSome given (IsStepHeld (vec_len self.new.name))) }
+        ensures held { IfOk result (λ given. IfSome given (IsStepHeld self.old.source.size (vec_len self.new.name))) }
         ensures stage { stop_of self.new.stage ≡ stop_after result }
         ensures failed { IfErr result (λ fault. self.new.stage ≡ fault_stage fault) }
         ensures passed { PassesTo result self.old.next self.new.next }
@@ -114,6 +138,9 @@ impl<S: Store + Drop, A: Allocator + Copy> Walk<S, A> {
         ensures repeats { (stop : _) → stop_of self.old.stage ≡ Some stop → (self.new ≡ self.old) × (stop_after result ≡ Some stop) }
         ensures cause { stop_of self.old.stage ≡ None → IfErr result (λ fault. IsCaused fault.kind self.old.source self.new.source) }
         ensures place { stop_of self.old.stage ≡ None → IfErr result IsStoreFault }
+        ensures number { stop_of self.old.stage ≡ None → IfErr result (λ fault. fault.entry + 1 ≡ self.old.next) }
+        ensures changed { stop_of self.old.stage ≡ None → IfErr result (λ fault. IsChangeOf self.old.current fault.kind) }
+        ensures current { CurrentAfter result self.old.current self.new.current }
         ensures rests { work_of self.new ≤ work_of self.old }
         ensures good { (file : List ℕ) → IsGood self.old.source.store file → IfErr result (λ fault. IsOfSource fault.kind → ⊥) }
     {
@@ -121,45 +148,16 @@ impl<S: Store + Drop, A: Allocator + Copy> Walk<S, A> {
             Stage::Bad(fault) | Stage::Failed(fault) => Err(fault),
             Stage::Ended => Ok(None),
             Stage::Head => {
-                self.read_head()?;
+                self.read_head(room)?;
                 self.step()
             }
             Stage::Between | Stage::Records { .. } => self.step(),
         }
     }
 
-    /// Hands all that is left to a sink.
-    pub(crate) fn list_into<K: Sink>(&mut self, sink: &mut K) -> Result<(), RunFault>
-        requires { IsSound self.old }
-        ensures sound { IsSound self.new }
-        ensures same { SameRoom self.old self.new }
-        ensures fetches { FetchesSome self.old.source self.new.source }
-        ensures runs { (xs : List Item) × (Handed K.step sink.old xs result sink.new
-            × ((file : List ℕ) → self.old.source.store.content ≡ Some file → GivesAll (left_of self.old file) xs result (left_of self.new file))) }
-        ensures stage { IsStageAfterRun result self.new.stage }
-        ensures cause { stop_of self.old.stage ≡ None
-            → IfErr result (λ r. (fault : _) → r ≡ RunFault.At fault → IsCaused fault.kind self.old.source self.new.source) }
-        ensures good { (file : List ℕ) → IsGood self.old.source.store file
-            → IfErr result (λ r. (fault : _) → r ≡ RunFault.At fault → IsOfSource fault.kind → ⊥) }
-    {
-        loop {
-            match self.advance() {
-                Ok(Some(step)) => {
-                    let item = self.item(step);
-                    match sink.take(&item) {
-                        Ok(()) => {}
-                        Err(Stopped) => return Err(RunFault::Stopped),
-                    }
-                }
-                Ok(None) => return Ok(()),
-                Err(fault) => return Err(RunFault::At(fault)),
-            }
-        }
-    }
-
     /// The item that a step tells, its name lent.
     pub(crate) fn item(&self, step: Step) -> Item<'_>
-        requires { IsStepHeld (vec_len self.now.name) step }
+        requires { IsStepHeld self.now.source.size (vec_len self.now.name) step }
         ensures { plain result ≡ step_item self.now.source.size self.now.name.items step }
     {
         lent_item(step, &self.name, self.source.size())
@@ -179,6 +177,8 @@ impl<S: Store + Drop, A: Allocator + Copy> Walk<S, A> {
         ensures sound { IsSound self.new }
         ensures skips { ends self.old.stage ≡ false → self.new ≡ record self.old { stage = Stage.Between } }
         ensures stays { IsTrue (ends self.old.stage) → self.new ≡ self.old }
+        ensures unbegun { self.old.next ≡ 0 → self.new ≡ self.old }
+        ensures room { (room : ℕ) → HasRoom room 0 self.old → HasRoom room 0 self.new }
         ensures rests { work_of self.new ≤ work_of self.old }
     {
         match self.stage {
@@ -192,17 +192,21 @@ impl<S: Store + Drop, A: Allocator + Copy> Walk<S, A> {
         requires sound { IsSound self.old }
         requires stage { IsListing self.old.stage }
         ensures sound { IsSound self.new }
+        ensures room { (room : ℕ) → HasRoom room 0 self.old → HasRoom room (count_answered result) self.new }
         ensures same { SameRoom self.old self.new }
         ensures fetches { FetchesAtMost (168 + (4 + vec_len self.old.name)) self.old.source self.new.source }
         ensures listing { (file : List ℕ) → self.old.source.store.content ≡ Some file
             → Advances self.old.source.size self.new.name.items (left_of self.old file) result (left_of self.new file) }
-        ensures held { IfOk result (λ given. IfSome given (IsStepHeld (vec_len self.new.name))) }
+        ensures held { IfOk result (λ given. IfSome given (IsStepHeld self.old.source.size (vec_len self.new.name))) }
         ensures stage { stop_of self.new.stage ≡ stop_after result }
         ensures failed { IfErr result (λ fault. self.new.stage ≡ fault_stage fault) }
         ensures passed { PassesTo result self.old.next self.new.next }
         ensures falls { IfOk result (λ given. IfSome given (λ _. work_of self.new < work_of self.old)) }
         ensures cause { IfErr result (λ fault. IsCaused fault.kind self.old.source self.new.source) }
         ensures place { IfErr result IsStoreFault }
+        ensures number { IfErr result (λ fault. fault.entry + 1 ≡ self.old.next) }
+        ensures changed { IfErr result (λ fault. IsNoChange fault.kind) }
+        ensures current { CurrentAfter result self.old.current self.new.current }
         ensures rests { work_of self.new ≤ work_of self.old }
         ensures good { (file : List ℕ) → IsGood self.old.source.store file → IfErr result (λ fault. IsOfSource fault.kind → ⊥) }
     {
@@ -217,11 +221,14 @@ impl<S: Store + Drop, A: Allocator + Copy> Walk<S, A> {
         }
     }
 
-    /// Reads where the records of the current entry stand.
-    fn read_head(&mut self) -> Result<(), ListFault>
+    /// Reads where the records of the current entry stand. A memory list that counts more than `room`
+    /// ranges has changed since the file was opened.
+    fn read_head(&mut self, room: usize) -> Result<(), ListFault>
         requires sound { IsSound self.old }
+        requires room { HasRoom room 0 self.old }
         requires head { self.old.stage ≡ Stage.Head }
         ensures sound { IsSound self.new }
+        ensures room { HasRoom room 0 self.new }
         ensures same { SameEntry self.old self.new }
         ensures name { self.new.name ≡ self.old.name }
         ensures fetches { FetchesAtMost 16 self.old.source self.new.source }
@@ -231,6 +238,8 @@ impl<S: Store + Drop, A: Allocator + Copy> Walk<S, A> {
         ensures falls { OnOk result (work_of self.new < work_of self.old) }
         ensures cause { IfErr result (λ fault. IsCaused fault.kind self.old.source self.new.source) }
         ensures place { IfErr result IsStoreFault }
+        ensures number { IfErr result (λ fault. fault.entry + 1 ≡ self.old.next) }
+        ensures changed { IfErr result (λ fault. IsChangeOf self.old.current fault.kind) }
         ensures rests { work_of self.new ≤ work_of self.old }
         ensures good { (file : List ℕ) → IsGood self.old.source.store file → IfErr result (λ fault. IsOfSource fault.kind → ⊥) }
     {
@@ -249,6 +258,9 @@ impl<S: Store + Drop, A: Allocator + Copy> Walk<S, A> {
             kind,
         ) {
             Ok(head) => {
+                if ranges_by(kind, head.shape.count) > room as u64 {
+                    return self.stop_at(told(number, None, changed(self.current.location.rva)));
+                }
                 self.stage = Stage::Records {
                     kind,
                     shape: head.shape,
@@ -273,18 +285,23 @@ impl<S: Store + Drop, A: Allocator + Copy> Walk<S, A> {
         requires stage { self.old.stage ≡ Stage.Records kind shape index offset }
         requires left { index < shape.count }
         ensures sound { IsSound self.new }
+        ensures room { (room : ℕ) → HasRoom room 0 self.old
+            → MatchResult result (λ step. HasRoom room (count_told step) self.new) (λ _. HasRoom room 0 self.new) }
         ensures same { SameEntry self.old self.new }
         ensures fetches { FetchesAtMost (168 + (4 + vec_len self.old.name)) self.old.source self.new.source }
         ensures entry { (file : List ℕ) → self.old.source.store.content ≡ Some file → MatchResult result
             (λ step. current_of self.old file ≡ with_item (step_item self.old.source.size self.new.name.items step) (current_of self.new file))
             (λ fault. FaultStays (current_of self.old file) fault (current_of self.new file)) }
         ensures records { IfOk result (λ _. IsListing self.new.stage) }
-        ensures held { IfOk result (IsStepHeld (vec_len self.new.name)) }
+        ensures held { IfOk result (IsStepHeld self.old.source.size (vec_len self.new.name)) }
         ensures passed { IfOk result (λ step. passed_by step self.old.next ≡ self.old.next) }
+        ensures stays { IfOk result (λ step. current_by step self.old.current ≡ self.old.current) }
         ensures stage { IsStageAfter result self.new.stage }
         ensures falls { OnOk result (work_of self.new < work_of self.old) }
         ensures cause { IfErr result (λ fault. IsCaused fault.kind self.old.source self.new.source) }
         ensures place { IfErr result IsStoreFault }
+        ensures number { IfErr result (λ fault. fault.entry + 1 ≡ self.old.next) }
+        ensures changed { IfErr result (λ fault. IsNoChange fault.kind) }
         ensures rests { work_of self.new ≤ work_of self.old }
         ensures good { (file : List ℕ) → IsGood self.old.source.store file → IfErr result (λ fault. IsOfSource fault.kind → ⊥) }
     {
@@ -323,14 +340,16 @@ impl<S: Store + Drop, A: Allocator + Copy> Walk<S, A> {
     fn next_stream(&mut self) -> Option<Step>
         requires { IsSound self.old }
         ensures sound { IsSound self.new }
+        ensures room { (room : ℕ) → HasRoom room 0 self.old → HasRoom room (count_given result) self.new }
         ensures same { SameRoom self.old self.new }
         ensures source { self.new.source ≡ self.old.source }
         ensures name { self.new.name ≡ self.old.name }
         ensures listing { (file : List ℕ) → self.old.source.store.content ≡ Some file
             → Advances self.old.source.size self.new.name.items (rest_of self.old file) (Ok result) (left_of self.new file) }
-        ensures held { IfSome result (IsStepHeld (vec_len self.new.name)) }
+        ensures held { IfSome result (IsStepHeld self.old.source.size (vec_len self.new.name)) }
         ensures passed { IfSome result (λ step. self.new.next ≡ passed_by step self.old.next) }
         ensures stage { stop_of self.new.stage ≡ stop_given result }
+        ensures current { CurrentAfter (Ok result) self.old.current self.new.current }
         ensures falls { IfSome result (λ _. work_of self.new < work_of self.old) }
         ensures rests { work_of self.new ≤ work_of self.old }
     {
@@ -363,6 +382,28 @@ impl<S: Store + Drop, A: Allocator + Copy> Walk<S, A> {
     }
 }
 
+/// How many of `count` records of a kind tell a range.
+fn ranges_by(kind: Kind, count: u64) -> u64
+    ensures { result ≡ ranges_by kind count }
+{
+    match kind {
+        Kind::Memory | Kind::Memory64 => count,
+        _ => 0,
+    }
+}
+
+/// The fault of a list at `rva` whose head does not agree with what was read before.
+fn changed(rva: u32) -> Fault
+    ensures { result ≡ record { kind = FaultKind.Source (SourceFault.Changed rva); offset = rva; size = 0 } }
+{
+    let at = u64::from(rva);
+    Fault {
+        kind: FaultKind::Source(SourceFault::Changed { at }),
+        offset: at,
+        size: 0,
+    }
+}
+
 /// Memory was refused.
 fn want_of_memory<S: Store + Drop>(source: Source<S>) -> OpenRefused<S>
     ensures { result ≡ record { fault = OpenFault.Memory; source = source } }
@@ -378,6 +419,7 @@ fn want_of_memory<S: Store + Drop>(source: Source<S>) -> OpenRefused<S>
 fn told(entry: u32, index: Option<u64>, fault: Fault) -> ListFault
     ensures of_file { (IsOfSource fault.kind → ⊥) → result ≡ list_fault entry index fault }
     ensures kind { result.kind ≡ fault.kind }
+    ensures entry { result.entry ≡ entry }
     ensures place { (result.offset ≡ fault.offset) × (result.size ≡ fault.size) }
     ensures of_store { IsOfSource fault.kind → result.index ≡ None }
 {

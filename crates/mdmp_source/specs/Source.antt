@@ -1,9 +1,10 @@
 -- What a source is, and what a fetch does to it.
-use Rattle.std.specs.Prelude.{◌≡◌, ◌≤◌, ◌+◌, ℕ, Result, IfErr}
+use Rattle.std.specs.Prelude.{◌≡◌, ◌≤◌, ◌+◌, ℕ, None, Result, IfErr}
 use Rattle.mdmp_source.specs.Count.{raised, HasRisen}
 use Rattle.mdmp_source.specs.Store.{StoreState}
 use Rattle.mdmp_source.specs.Fault.{HasCause}
 use Rattle.mdmp_source.specs.declared.fault.SourceFault.{SourceFault}
+use Rattle.mdmp_source.specs.declared.fault.SourceFault.TheVariants.{Changed}
 
 -- a source as its callers see it
 pub record SourceState : Type 0 where
@@ -31,6 +32,13 @@ abbrev pub HasFaultCause : {T : Type 0} → Result T SourceFault → SourceState
 HasFaultCause result old new = IfErr result (λ fault. HasCause fault
     (HasRisen old.store.counts.failures new.store.counts.failures)
     (HasRisen old.store.counts.empties new.store.counts.empties))
+
+-- a fault of some fetches has its cause in them, or tells that a store whose content is not known has changed
+abbrev pub IsCausedBy : SourceFault → SourceState → SourceState → Type 0
+IsCausedBy (Changed at) old new = old.store.content ≡ None
+IsCausedBy fault old new = HasCause fault
+    (HasRisen old.store.counts.failures new.store.counts.failures)
+    (HasRisen old.store.counts.empties new.store.counts.empties)
 
 -- some fetches later, of however many bytes
 pub record FetchesSome (old new : SourceState) : Type 0 where

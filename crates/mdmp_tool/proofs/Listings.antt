@@ -9,7 +9,7 @@ use Rattle.mdmp_lister.specs.declared.choice.Choice.TheVariants.{All}
 use Rattle.mdmp_lister.specs.declared.fault.OpenFault.{OpenFault}
 use Rattle.mdmp_lister.specs.declared.fault.OpenFault.TheVariants as opening
 use Rattle.mdmp_lister.specs.Listing.{Run, listing}
-use Rattle.mdmp_lister.specs.Opening.{IsRefusalOf, directory_refusal}
+use Rattle.mdmp_lister.specs.Opening.{IsRefusalOf, opening_fault}
 use Rattle.mdmp_tool.specs.declared.fault.ToolFault.{ToolFault}
 use Rattle.mdmp_tool.specs.declared.fault.ToolFault.TheVariants.{Opening, List as BadList, Source, Out, Memory}
 use Rattle.mdmp_tool.specs.Lines.{dump_line}
@@ -18,7 +18,7 @@ use Rattle.mdmp_tool.specs.Text.{run_text, list_text, unless_refused}
 use Rattle.mdmp_tool.specs.Runs.{ListsRun, ListsFile, Lists}
 
 -- the text of a file that can be listed
-list_text-opened : (F : List ℕ) (limit : ℕ) → directory_refusal F ≡ None → list_text F limit ≡ dump_line (header_at F 0) ++ run_text (listing F All limit)
+list_text-opened : (F : List ℕ) (limit : ℕ) → opening_fault F All ≡ None → list_text F limit ≡ dump_line (header_at F 0) ++ run_text (listing F All limit)
 list_text-opened F limit opened = ap (λ f. unless_refused f (dump_line (header_at F 0) ++ run_text (listing F All limit))) opened
 
 -- the items behind the line of the header
@@ -35,7 +35,7 @@ ListsFile-behind h run before now after (Err (Opening f)) head ends = ends
 ListsFile-behind h run before now after (Err Memory) head ends = ends
 
 -- a file that was opened
-pub Lists-opened : (F : List ℕ) (limit : ℕ) (before after : OutState) (r : Result (Unit {0}) ToolFault) → directory_refusal F ≡ None
+pub Lists-opened : (F : List ℕ) (limit : ℕ) (before after : OutState) (r : Result (Unit {0}) ToolFault) → opening_fault F All ≡ None
     → ListsFile (header_at F 0) (listing F All limit) before r after → Lists F limit before r after
 Lists-opened F limit before after (Ok x) opened listed = record { opened = opened; ends = listed.0; text = rw (list_text-opened F limit opened) listed.1 }
 Lists-opened F limit before after (Err (BadList f)) opened listed = record { opened = opened; ends = listed.0; text = rw (list_text-opened F limit opened) listed.1 }
@@ -45,7 +45,7 @@ Lists-opened F limit before after (Err (Opening f)) opened ends = absurd ends
 Lists-opened F limit before after (Err Memory) opened ends = absurd ends
 
 -- and one that was not: nothing is written
-pub Lists-unopened : (F : List ℕ) (limit : ℕ) (before : OutState) (fault : OpenFault) → IsRefusalOf F fault → Lists F limit before (Err (opening_told fault)) before
+pub Lists-unopened : (F : List ℕ) (limit : ℕ) (before : OutState) (fault : OpenFault) → IsRefusalOf F All fault → Lists F limit before (Err (opening_told fault)) before
 Lists-unopened F limit before (opening.Source f) refused = inl (PutsAll-nothing before)
 Lists-unopened F limit before (opening.Memory) opened = record { opened = opened; nothing = PutsAll-nothing before }
 Lists-unopened F limit before (opening.TooShort size) refused = record { refused = refused; nothing = PutsAll-nothing before }

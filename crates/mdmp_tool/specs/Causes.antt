@@ -1,9 +1,8 @@
 -- Why a call ended with a fault, of whatever file.
 use Rattle.std.specs.Prelude.{◌≡◌, ℕ, Result, Err}
 use Rattle.mdmp_source.specs.Count.{HasRisen}
-use Rattle.mdmp_source.specs.Fault.{HasCause}
 use Rattle.mdmp_source.specs.Output.{OutState}
-use Rattle.mdmp_source.specs.Source.{SourceState}
+use Rattle.mdmp_source.specs.Source.{SourceState, IsCausedBy}
 use Rattle.mdmp_lister.specs.declared.fault.OpenFault.{OpenFault}
 use Rattle.mdmp_lister.specs.declared.fault.OpenFault.TheVariants as opening
 use Rattle.mdmp_lister.specs.Opening.{IsOpenRefusal}
@@ -16,11 +15,10 @@ abbrev pub IsNoSourceFault : {T : Type 0} → Result T ToolFault → Type 0
 IsNoSourceFault (Err (Source fault)) = ⊥
 IsNoSourceFault _ = Unit {0}
 
--- a source's fault has its cause in this call: the store failed, or it answered no bytes
+-- a source's fault has its cause in this call: the store failed, or it answered no bytes, or has changed, which one of
+-- known content does not
 abbrev pub HasSourceCause : {T : Type 0} → SourceState → Result T ToolFault → SourceState → Type 0
-HasSourceCause old (Err (Source fault)) new = HasCause fault
-    (HasRisen old.store.counts.failures new.store.counts.failures)
-    (HasRisen old.store.counts.empties new.store.counts.empties)
+HasSourceCause old (Err (Source fault)) new = IsCausedBy fault old new
 HasSourceCause old _ new = Unit {0}
 
 -- the output is at fault only where it refused

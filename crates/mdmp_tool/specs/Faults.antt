@@ -26,6 +26,7 @@ status_of (tool.Memory) = 3
 abbrev pub source_text : SourceFault → List ℕ
 source_text (source.Failed at) = concat (codes "store failed at " ∷ decimal at ∷ [])
 source_text (source.ShortRead at) = concat (codes "store ended at " ∷ decimal at ∷ [])
+source_text (source.Changed at) = concat (codes "store changed at " ∷ decimal at ∷ [])
 
 abbrev pub output_text : List ℕ
 output_text = codes "output failed"

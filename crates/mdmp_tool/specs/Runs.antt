@@ -5,7 +5,7 @@ use Rattle.mdmp_lister.specs.declared.choice.Choice.TheVariants.{All}
 use Rattle.mdmp_lister.specs.declared.fault.ListFault.{ListFault}
 use Rattle.mdmp_lister.specs.declared.fault.OpenFault.{OpenFault}
 use Rattle.mdmp_lister.specs.Listing.{Run, listing}
-use Rattle.mdmp_lister.specs.Opening.{directory_refusal}
+use Rattle.mdmp_lister.specs.Opening.{directory_refusal, opening_fault}
 use Rattle.mdmp_lister.specs.Reading.{IsOfSource}
 use Rattle.mdmp_tool.specs.declared.fault.ToolFault.{ToolFault}
 use Rattle.mdmp_tool.specs.declared.fault.ToolFault.TheVariants.{Opening, List as BadList, Source, Out, Memory}
@@ -50,23 +50,23 @@ IsOfRun _ = Unit {0}
 
 -- F can be listed, its listing has this fault or none, and the text was written
 pub record IsWritten (F : List ℕ) (limit : ℕ) (fault : Option ListFault) (before : OutState) (after : OutState) : Type 0 where
-  pub opened : directory_refusal F ≡ None
+  pub opened : opening_fault F All ≡ None
   pub ends : (listing F All limit).fault ≡ fault
   pub text : PutsAll before (list_text F limit) after
 
 -- F is refused, and nothing was written
 pub record IsRefused (F : List ℕ) (fault : OpenFault) (before : OutState) (after : OutState) : Type 0 where
-  pub refused : directory_refusal F ≡ Some fault
+  pub refused : opening_fault F All ≡ Some fault
   pub nothing : PutsAll before [] after
 
--- F can be listed, and nothing was written
+-- the header and the directory of F are good, and nothing was written
 pub record IsUnstarted (F : List ℕ) (before : OutState) (after : OutState) : Type 0 where
   pub opened : directory_refusal F ≡ None
   pub nothing : PutsAll before [] after
 
 -- F can be listed, and the first part of the text was written
 pub record IsBegun (F : List ℕ) (limit : ℕ) (before : OutState) (after : OutState) : Type 0 where
-  pub opened : directory_refusal F ≡ None
+  pub opened : opening_fault F All ≡ None
   pub short : StopsShort before (list_text F limit) after
 
 -- a run of `list` over F: its text, whole or up to the first fault; nothing where F is refused, or where the store is at

@@ -5,7 +5,7 @@ use Rattle.mdmp_wire.specs.Header.{header_at}
 use Rattle.mdmp_lister.specs.declared.choice.Choice.TheVariants.{All}
 use Rattle.mdmp_lister.specs.declared.fault.OpenFault.{OpenFault}
 use Rattle.mdmp_lister.specs.Listing.{Run, listing}
-use Rattle.mdmp_lister.specs.Opening.{directory_refusal}
+use Rattle.mdmp_lister.specs.Opening.{opening_fault}
 use Rattle.mdmp_tool.specs.ItemLines.{item_line}
 use Rattle.mdmp_tool.specs.Lines.{dump_line}
 
@@ -20,4 +20,4 @@ unless_refused (Some fault) text = []
 
 -- the dump line, and a line for each item of the listing, whose names of more than `limit` bytes are told by their length
 abbrev pub list_text : List ℕ → ℕ → List ℕ
-list_text F limit = unless_refused (directory_refusal F) (dump_line (header_at F 0) ++ run_text (listing F All limit))
+list_text F limit = unless_refused (opening_fault F All) (dump_line (header_at F 0) ++ run_text (listing F All limit))

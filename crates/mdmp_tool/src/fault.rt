@@ -12,7 +12,7 @@ pub enum ToolFault {
     Opening(OpenFault),
     /// An entry or a record of the file has a fault.
     List(ListFault),
-    /// Bytes of the file were not obtained.
+    /// Bytes of the file were not obtained, or do not agree with what was read before.
     Source(SourceFault),
     /// The output failed, or took nothing.
     Out,

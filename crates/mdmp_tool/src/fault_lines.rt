@@ -35,6 +35,10 @@ fn put_source_fault<O: Out>(fault: &SourceFault, out: &mut O) -> Result<(), OutF
             out,
             &[Piece::Text("store ended at "), Piece::Decimal(*at)],
         ),
+        SourceFault::Changed { at } => put_error_line(
+            out,
+            &[Piece::Text("store changed at "), Piece::Decimal(*at)],
+        ),
     }
 }
 

@@ -1,5 +1,4 @@
 //! The lister beside the plain one.
-ghost use Rattle.std.specs.Prelude.{◌<◌, length};
 
 use crate::tests::files::{FAULTY, MEMORY64, SYSTEM, THRICE, file};
 use crate::{Choice, FaultKind, Item, Limits, ListFault, Lister, Name, OpenFault, list_file};

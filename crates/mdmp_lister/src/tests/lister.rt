@@ -1,5 +1,4 @@
 //! The lister's calls, one by one, and over stores that fail.
-ghost use Rattle.std.specs.Prelude.{◌<◌, length};
 
 use crate::tests::alike::{fault, is_end, listed_alike, opened, over, stream, thread};
 use crate::tests::files::{FAULTY, MEMORY64, SYSTEM, THRICE, file};

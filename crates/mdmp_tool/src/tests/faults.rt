@@ -74,6 +74,11 @@ fn faults_have_a_status_and_a_line(rt: HostRuntime) -> Result<(), Fail> {
             3,
             "store ended at 0",
         ),
+        (
+            ToolFault::Source(SourceFault::Changed { at: 44 }),
+            3,
+            "store changed at 44",
+        ),
         (ToolFault::Out, 3, "output failed"),
         (ToolFault::Memory, 3, "out of memory"),
     ];

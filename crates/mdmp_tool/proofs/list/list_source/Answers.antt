@@ -22,6 +22,6 @@ pub returns-clause-fetches : goal.returns-clause-fetches
 returns-clause-fetches g c =
     let more = c.list_file-answer.ensures.fetches in
     rw c.into_source.ensures (record {
-      count = 32 + 12 * c.in-Ok.lister.header.number_of_streams + more.count;
+      count = 32 + 28 * c.in-Ok.lister.header.number_of_streams + more.count;
       fetches = fetches_then _ _ _ _ _ c.in-Ok.ensures.new.fetches more.fetches;
     })

@@ -1,14 +1,76 @@
-use Rattle.mdmp_lister.specs.Handing.{GivesAll}
-use Rattle.mdmp_lister.specs.Walk.{left_of}
-use Rattle.mdmp_lister.proofs.Advancing.{runs_then}
+use Rattle.std.proofs.Common.{◌≡◌, ◌∷◌, [], ◌++◌, ◌∙◌, Some, None, sym, ap, arith}
+use Rattle.std.specs.Prelude.{slice_get}
+use Rattle.mdmp_lister.specs.Items.{plain}
+use Rattle.mdmp_lister.specs.Lister.{ListerState, tail}
+use Rattle.mdmp_lister.proofs.Advancing.{current_after-plain, passed_after-plain}
+use Rattle.mdmp_lister.proofs.Handing.{current_behind-more, give_all-next, passed_behind-more, same_lister-then, Taken-more, TakenToStop-end}
+use Rattle.mdmp_lister.proofs.Mapping.{ranges_of-more}
 use Rattle.mdmp_lister.proofs.lister.Lister.list_into.Goals as goal
 
-pub returns-clause-runs : goal.returns-clause-runs
-returns-clause-runs g c =
-    let w = c.self.inside.walk in
-    let n = c.list_into.new.self in
-    let run = c.list_into.ensures.runs in
-    rw (← c.self.view_is) (
-      run.0,
-      (run.1.0, runs_then (left_of w) (left_of n) (λ left rest. GivesAll left run.0 c.list_into.result rest) w.source.store.content n.source.store.content c.list_into.ensures.fetches.fetches.same_content run.1.1),
+pub returns-in-Ok-None-clause-same : goal.returns-in-Ok-None-clause-same
+returns-in-Ok-None-clause-same g c = same_lister-then _ _ _ c.loop-item.invariant.same c.next.follows.holds-at-none.same
+
+pub returns-in-Err-clause-same : goal.returns-in-Err-clause-same
+returns-in-Err-clause-same g c = same_lister-then _ _ _ c.loop-item.invariant.same c.next.follows.holds-at-none.same
+
+pub returns-in-Err-take-clause-same : goal.returns-in-Err-take-clause-same
+returns-in-Err-take-clause-same g c = same_lister-then _ _ _ c.loop-item.invariant.same c.next.follows.holds-at-none.same
+
+pub returns-in-Err-take-clause-runs : goal.returns-in-Err-take-clause-runs
+returns-in-Err-take-clause-runs g c =
+    let run = c.loop-item.invariant.given in
+    let holds = c.next.follows.holds-at-none in
+    let item = plain c.in-Ok-Some.item in (
+      run.0 ++ item ∷ [],
+      (
+        TakenToStop-end g.K.Sink.step item run.0 c.args.sink.now c.loop-item.sink c.take.new.self run.1.0 c.in-Err-take.ensures,
+        (
+          passed_behind-more run.0 item _ _ _ run.1.1.0 (rw (c.in-Ok-Some.is, c.in-Ok-Some.field-0-is) at holds.passed ∙ sym (passed_after-plain c.in-Ok-Some.item _)),
+          (
+            current_behind-more run.0 item _ _ _ run.1.1.1.0 (rw (c.in-Ok-Some.is, c.in-Ok-Some.field-0-is) at holds.current ∙ sym (current_after-plain c.in-Ok-Some.item _)),
+            (
+              ranges_of-more _ _ _ run.0 c.in-Ok-Some.item run.1.1.1.1.0 (rw (c.in-Ok-Some.is, c.in-Ok-Some.field-0-is) at holds.ranges),
+              λ left known.
+                  let rest = run.1.1.1.1.1 left known in
+                  let first : slice_get rest.0.items 0 ≡ Some item = rw c.in-Ok-Some.field-0-is at (c.in-Ok-Some.ensures.gives rest.0 rest.1.0) in
+                  (tail rest.0, (rw (c.in-Ok-Some.is, c.in-Ok-Some.field-0-is, rest.1.0) at holds.left, give_all-next left run.0 item rest.0 rest.1.1 first)),
+            ),
+          ),
+        ),
+      ),
     )
+
+pub loop-item-preserved : goal.loop-item-preserved
+loop-item-preserved g c =
+    let so_far = c.loop-item.invariant in
+    let run = so_far.given in
+    let holds = c.next.follows.holds-at-none in
+    let item = plain c.in-Ok-Some.item in
+    record {
+      same = same_lister-then _ _ _ so_far.same holds.same;
+      going = λ unstopped. rw (c.in-Ok-Some.is, c.in-Ok-Some.field-0-is) at holds.stop;
+      stays = λ stop same.
+          let stopped : c.loop-item.self.stop ≡ Some stop = ap (λ (l : ListerState). l.stop) (so_far.stays stop same).0 ∙ same in
+          let answer : None ≡ Some stop = rw c.in-Ok-Some.field-0-is at (c.in-Ok-Some.ensures.repeats stop stopped) in
+          absurd (cc);
+      rests = omega (arith, so_far.rests, holds.rests);
+      given = (
+        run.0 ++ item ∷ [],
+        (
+          Taken-more g.K.Sink.step item run.0 c.args.sink.now c.loop-item.sink c.take.new.self run.1.0 c.in-Ok.ensures,
+          (
+            passed_behind-more run.0 item _ _ _ run.1.1.0 (rw (c.in-Ok-Some.is, c.in-Ok-Some.field-0-is) at holds.passed ∙ sym (passed_after-plain c.in-Ok-Some.item _)),
+            (
+              current_behind-more run.0 item _ _ _ run.1.1.1.0 (rw (c.in-Ok-Some.is, c.in-Ok-Some.field-0-is) at holds.current ∙ sym (current_after-plain c.in-Ok-Some.item _)),
+              (
+                ranges_of-more _ _ _ run.0 c.in-Ok-Some.item run.1.1.1.1.0 (rw (c.in-Ok-Some.is, c.in-Ok-Some.field-0-is) at holds.ranges),
+                λ left known.
+                    let rest = run.1.1.1.1.1 left known in
+                    let first : slice_get rest.0.items 0 ≡ Some item = rw c.in-Ok-Some.field-0-is at (c.in-Ok-Some.ensures.gives rest.0 rest.1.0) in
+                    (tail rest.0, (rw (c.in-Ok-Some.is, c.in-Ok-Some.field-0-is, rest.1.0) at holds.left, give_all-next left run.0 item rest.0 rest.1.1 first)),
+              ),
+            ),
+          ),
+        ),
+      );
+    }

@@ -1,10 +1,12 @@
-use Rattle.std.proofs.Common.{◌≡◌, ℕ, List, Some, slice_get, refl, sym, ap, ◌∙◌}
+use Rattle.std.proofs.Common.{◌≡◌, ◌++◌, ℕ, List, Some, None, slice_get, refl, sym, ap, ◌∙◌}
+use Rattle.std.proofs.lemmas.List.{append-nil}
 use Rattle.mdmp_lister.specs.Items.{plain}
 use Rattle.mdmp_lister.specs.Lister.{tail}
 use Rattle.mdmp_lister.specs.Listing.{Run, nothing, with_item}
 use Rattle.mdmp_lister.specs.Stages.{stop_after}
 use Rattle.mdmp_lister.specs.Walk.{left_of}
-use Rattle.mdmp_lister.proofs.Advancing.{option_map-then, of_run, passes}
+use Rattle.mdmp_lister.proofs.Advancing.{becomes, option_map-then, of_run, passes}
+use Rattle.mdmp_lister.proofs.Mapping.{mapped_step, placed-held, ranges-given}
 use Rattle.mdmp_lister.proofs.lister.Lister.next.Goals as goal
 
 pub returns-in-None : goal.returns-in-None
@@ -22,10 +24,14 @@ returns-in-None g c =
           left = option_map-then (left_of w) (left_of n) (λ run. run) w.source.store.content (λ file known. (none file known).1 ∙ sym (none file known).0) n.source.store.content c.advance.ensures.fetches.same_content;
           stop = rw c.in-None.is at c.in_ok-advance.ensures.stage;
           passed = tt;
+          ranges = sym (append-nil c.self.inside.map.ranges);
           falls = tt;
           repeats = λ stop same. rw (c.advance.ensures.repeats stop same).0 refl;
           cause = λ _. tt;
           place = λ _. tt;
+          entry = λ _. tt;
+          changed = λ _. tt;
+          current = rw c.in-None.is at c.in_ok-advance.ensures.current;
           rests = c.advance.ensures.rests;
         },
       ),
@@ -52,11 +58,15 @@ returns-in-Some g c =
           same = record { header_is = c.advance.ensures.same.header_is; choice = c.advance.ensures.same.choice; limit = c.advance.ensures.same.name; fetches = record { count = _; fetches = c.advance.ensures.fetches } };
           left = option_map-then (left_of w) (left_of n) tail w.source.store.content (λ file known. sym (ap tail (given file known))) n.source.store.content c.advance.ensures.fetches.same_content;
           stop = rw c.in-Some.is at c.in_ok-advance.ensures.stage;
+          ranges = rw c.push_range.ensures (ap (λ rs. c.self.inside.map.ranges ++ rs) (ranges-given n.source.size n.name.items c.in-Some.step c.item.result c.item.ensures));
           passed = passes n.source.size n.name.items _ c.item.result w.next n.next c.item.ensures (rw c.in-Some.is at c.in_ok-advance.ensures.passed);
           falls = rw c.in-Some.is at c.in_ok-advance.ensures.falls;
-          repeats = λ stop same. rw (c.advance.ensures.repeats stop same).0 refl;
+          repeats = λ stop same. let a : stop_after c.advance.result ≡ Some stop = (c.advance.ensures.repeats stop same).1 in let b = c.in_ok-advance.was in let d = c.in-Some.is in let none : None ≡ Some stop = rw (b, d) at a in absurd (cc);
           cause = λ _. tt;
           place = λ _. tt;
+          entry = λ _. tt;
+          changed = λ _. tt;
+          current = becomes n.source.size n.name.items _ c.item.result w.current n.current c.item.ensures (rw c.in-Some.is at c.in_ok-advance.ensures.current);
           rests = c.advance.ensures.rests;
         },
       ),
@@ -67,3 +77,12 @@ returns-in-Some g c =
         repeats = λ stop same. let a : stop_after c.advance.result ≡ Some stop = (c.advance.ensures.repeats stop same).1 in let b = c.in_ok-advance.was in let d = c.in-Some.is in rw (b, d) at a;
       },
     )
+
+pub push_range-requires-clause-placed : goal.push_range-requires-clause-placed
+push_range-requires-clause-placed g c = placed-held _ _ c.in-Some.step (rw c.in-Some.is at c.in_ok-advance.ensures.held)
+
+pub invariant_of-self-in-Some : goal.invariant_of-self-in-Some
+invariant_of-self-in-Some g c =
+    let given = rw c.in-Some.is at c.in_ok-advance.ensures.held in
+    let room = rw (c.free.ensures.value, c.in-Some.is) at c.in_ok-advance.ensures.room in
+    rw c.push_range.ensures (mapped_step c.self.inside.walk c.advance.new.self c.self.inside.map _ c.in-Some.step c.self.invariant c.advance.ensures.sound c.advance.ensures.fetches.same_size room given)

@@ -1,5 +1,12 @@
-use Rattle.mdmp_lister.proofs.Advancing.{IsNewLister-open}
+use Rattle.std.proofs.Common.{◌+◌, ◌*◌, ◌∙◌, arith, vec_len}
+use Rattle.mdmp_lister.proofs.Refusals.{IsHandedBack-begun}
 use Rattle.mdmp_lister.proofs.lister.Lister.open.Goals as goal
 
-pub returns-in-Ok-clause-new : goal.returns-in-Ok-clause-new
-returns-in-Ok-clause-new g c = IsNewLister-open c.args.source c.args.choice c.args.limits c.in-Ok.walk c.in-Ok.ensures.sound c.in-Ok.ensures.new
+pub returns-in-Err-with_room-clause-handed_back : goal.returns-in-Err-with_room-clause-handed_back
+returns-in-Err-with_room-clause-handed_back g c =
+    let w = c.in-Ok.walk in
+    let new = c.in-Ok.ensures.new in
+    rw c.refused-in-Err-with_room.ensures (
+    IsHandedBack-begun c.args.source w.source c.count_ranges.new.self.source _ w.header (32 + 12 * w.header.number_of_streams) (16 * vec_len w.entries) new.fetches c.count_ranges.ensures.fetches (omega (arith, new.entries)) new.inside
+    (λ file known. (c.in-Ok.ensures.opens file known, c.in-Ok.ensures.sound.header_is file (new.fetches.same_content ∙ known))) (λ of. of)
+    )

@@ -35,10 +35,11 @@ pub returns-in-Err-clause-sound : goal.returns-in-Err-clause-sound
 returns-in-Err-clause-sound g c =
     let w = c.args.self.now in
     let f = c.told.result in
+    let reading : IsReading w.source.size w.next w.current c.args.kind c.args.shape c.args.index c.args.offset = rw c.requires.stage at c.requires.sound.staged in
     rw c.stop_at.ensures.stage (
     IsSound-after _ w _ c.requires.sound c.read_item.ensures.fetches
     (search rules)
-    (fault_stage-staged w.source.size w.next w.current f)
+    (fault_stage-staged w.source.size w.next w.current f reading.begun)
     (λ file known. fault_stage-offset file w.current f)
     (λ end. absurd (fault_stage-going f end))
     (λ file good. fault_stage-unfailed f (λ of. c.in-Err.ensures.good file good (rw c.told.ensures.kind at of)))

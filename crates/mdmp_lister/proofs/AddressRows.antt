@@ -1,0 +1,33 @@
+-- Worked reads of addresses, computed by the definitions.
+use Rattle.std.proofs.Common.{◌≡◌, ℕ, true, false, List, [], ◌∷◌, Some, None, refl}
+use Rattle.mdmp_map.specs.declared.range.Range.{Range}
+use Rattle.mdmp_lister.specs.Addresses.{cells, cells_at, held_at}
+
+abbrev range_of : ℕ → ℕ → ℕ → Range
+range_of start length offset = record { start = start; length = length; offset = offset }
+
+abbrev file : List ℕ
+file = 10 ∷ 11 ∷ 12 ∷ 13 ∷ 14 ∷ 15 ∷ []
+
+-- the second overlaps the first
+abbrev overlapping : List Range
+overlapping = range_of 0x1000 2 0 ∷ range_of 0x1001 3 3 ∷ []
+
+overlapping-cells : cells_at file overlapping 0xfff 6 ≡ None ∷ Some 10 ∷ Some 11 ∷ Some 14 ∷ Some 15 ∷ None ∷ []
+overlapping-cells = refl
+
+overlapping-known : held_at overlapping 0xfff 6 ≡ false ∷ true ∷ true ∷ true ∷ true ∷ false ∷ []
+overlapping-known = refl
+
+-- one that passes the last address, and one of the first addresses
+abbrev at_the_end : List Range
+at_the_end = range_of 0xFFFFFFFFFFFFFFFE 4 1 ∷ range_of 0 2 0 ∷ []
+
+at_the_end-cells : cells_at file at_the_end 0xFFFFFFFFFFFFFFFD 5 ≡ None ∷ Some 11 ∷ Some 12 ∷ None ∷ None ∷ []
+at_the_end-cells = refl
+
+none-cells : cells_at file at_the_end 0xFFFFFFFFFFFFFFFD 0 ≡ []
+none-cells = refl
+
+known_bytes : cells (0 ∷ 11 ∷ []) (false ∷ true ∷ []) ≡ None ∷ Some 11 ∷ []
+known_bytes = refl

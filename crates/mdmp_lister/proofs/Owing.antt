@@ -1,0 +1,31 @@
+-- A list whose head was read while the file was opened counts no more ranges than there is room for.
+use Rattle.std.proofs.Common.{◌≡◌, ◌≤◌, arith, refl, ℕ, List, length, Option, Some, None, Ok}
+use Rattle.mdmp_wire.specs.declared.entry.Entry.{Entry}
+use Rattle.mdmp_lister.specs.declared.kind.Kind.{Kind}
+use Rattle.mdmp_lister.specs.declared.kind.Kind.TheVariants as kinds
+use Rattle.mdmp_lister.specs.declared.shape.Shape.{Shape}
+use Rattle.mdmp_lister.specs.declared.stage.Stage.TheVariants.{Head}
+use Rattle.mdmp_lister.specs.declared.walk.Walk.{Walk}
+use Rattle.mdmp_lister.specs.Counts.{ranges_in}
+use Rattle.mdmp_lister.specs.Owing.{HasRoom, ranges_by}
+use Rattle.mdmp_lister.specs.Shapes.{kind_of, location_fault, shape_of}
+
+ranges_in-shape : (F : List ℕ) (e : Entry) (kind : Kind) (shape : Shape) → location_fault (length F) e ≡ None → kind_of e.stream_type ≡ Some kind
+    → shape_of F e.location.rva e.location.size kind ≡ Ok shape → ranges_in F e (kind_of e.stream_type) ≡ ranges_by kind shape.count
+ranges_in-shape F e kinds.Memory shape whole known shaped = rw (known, whole, known, shaped) refl
+ranges_in-shape F e kinds.Memory64 shape whole known shaped = rw (known, whole, known, shaped) refl
+ranges_in-shape F e _ shape whole known shaped = rw known refl
+
+module _ {S A : Type 0} (w : Walk S A) (room : ℕ) (kind : Kind) (shape : Shape) where
+  pub ranges-counted : (file : List ℕ) → HasRoom room 0 w → w.stage ≡ Head → w.source.store.content ≡ Some file → w.source.size ≡ length file
+      → location_fault w.source.size w.current ≡ None → kind_of w.current.stream_type ≡ Some kind
+      → shape_of file w.current.location.rva w.current.location.size kind ≡ Ok shape → ranges_by kind shape.count ≤ room
+  ranges-counted file has head known size whole is shaped =
+      let owed = rw head at (has.owed file known) in
+      let counted = ranges_in-shape file w.current kind shape (rw (← size) whole) is shaped in
+      omega (arith, owed, counted)
+
+-- what is of no file is not known
+pub unknown : (content : Option (List ℕ)) → ((file : List ℕ) → content ≡ Some file → ⊥) → content ≡ None
+unknown None never = refl
+unknown (Some file) never = absurd (never file refl)

@@ -1,0 +1,35 @@
+-- What is read of the dumped process's memory. A cell is the byte of an address, or none where no range holds the
+-- address.
+use Rattle.std.specs.Prelude.{◌≡◌, ◌+◌, ℕ, Bool, if◌then◌else◌, List, Option, Some, None, is_some, length, map, unwrap_or}
+use Rattle.std.specs.List.{range_with_len, zip}
+use Rattle.mdmp_map.specs.declared.range.Range.{Range}
+use Rattle.mdmp_map.specs.Ranges.{byte_at, first_range}
+
+-- whether a range holds the address
+abbrev pub is_held : List Range → ℕ → Bool
+is_held ranges address = is_some (first_range ranges address)
+
+-- the same of so many addresses, from this one on
+abbrev pub held_at : List Range → ℕ → ℕ → List Bool
+held_at ranges address count = map (λ i. is_held ranges (address + i)) (range_with_len 0 count)
+
+-- the cells of so many addresses, from this one on, where the file is F
+abbrev pub cells_at : List ℕ → List Range → ℕ → ℕ → List (Option ℕ)
+cells_at F ranges address count = map (λ i. byte_at F ranges (address + i)) (range_with_len 0 count)
+
+-- a byte, where it is known
+abbrev pub cell : ℕ → Bool → Option ℕ
+cell byte is_known = if is_known then Some byte else None
+
+-- some bytes, beside each of which stands whether it is known
+abbrev pub cells : List ℕ → List Bool → List (Option ℕ)
+cells bytes known = map (λ (byte, is_known). cell byte is_known) (zip bytes known)
+
+-- these are the bytes of the addresses from this one on, and whether each is known
+pub record ReadsCells (content : Option (List ℕ)) (ranges : List Range) (address : ℕ) (bytes : List ℕ) (known : List Bool) : Type 0 where
+  -- a byte is known exactly where a range holds its address
+  pub held : known ≡ held_at ranges address (length bytes)
+  -- one that is not known is 0
+  pub zeros : bytes ≡ map (λ c. unwrap_or c 0) (cells bytes known)
+  -- one that is known is the file's, where its content is known
+  pub of_file : (F : List ℕ) → content ≡ Some F → cells bytes known ≡ cells_at F ranges address (length bytes)
