@@ -1,7 +1,11 @@
 pub mod BlockLemmas
+pub mod HexLemmas
+pub mod HexRows
+pub mod Hexing
 pub mod ItemRows
 pub mod Listings
 pub mod PlainLines
 pub mod Printing
 pub mod Rows
 pub mod Telling
+pub mod WordLemmas

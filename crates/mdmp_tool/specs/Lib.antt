@@ -1,6 +1,9 @@
 pub mod Blockwise
 pub mod Causes
 pub mod Faults
+pub mod HexRuns
+pub mod HexText
+pub mod HexWords
 pub mod ItemLines
 pub mod Lines
 pub mod Pieces

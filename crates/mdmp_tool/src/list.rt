@@ -16,7 +16,7 @@ use std::alloc::Allocator;
 
 /// What a run answered, and the source that it read.
 #[derive(Drop)]
-pub struct Listed<S: Store + Drop> {
+pub struct Answered<S: Store + Drop> {
     /// Whether all lines were printed, or why not.
     pub answer: Result<(), ToolFault>,
     /// The source, whose counts tell the cause of its faults.
@@ -43,7 +43,7 @@ pub fn run_list<S: Store + Drop, A: Allocator + Copy, O: Out>(
     ensures out_cause { HasOutCause (O.state out.old) result (O.state out.new) }
 {
     let _ = pdb;
-    let Listed { answer, source: _ } = list_source(alloc, Source::new(store), limits, out);
+    let Answered { answer, source: _ } = list_source(alloc, Source::new(store), limits, out);
     answer
 }
 
@@ -53,7 +53,7 @@ pub fn list_source<S: Store + Drop, A: Allocator + Copy, O: Out>(
     source: Source<S>,
     limits: Limits,
     out: &mut O,
-) -> Listed<S>
+) -> Answered<S>
     ensures lists { (file : List ℕ) → source.store.content ≡ Some file → Lists file limits.name (O.state out.old) result.answer (O.state out.new) }
     ensures good { (file : List ℕ) → IsGood source.store file → IsNoSourceFault result.answer }
     ensures refusal { IsRefusal source.size result.answer }
@@ -65,14 +65,14 @@ pub fn list_source<S: Store + Drop, A: Allocator + Copy, O: Out>(
     let mut lister = match Lister::open(alloc, source, limits, Choice::All) {
         Ok(lister) => lister,
         Err(refused) => {
-            return Listed {
+            return Answered {
                 answer: Err(told_opening(refused.fault)),
                 source: refused.source,
             };
         }
     };
     let answer = list_file(&mut lister, out);
-    Listed {
+    Answered {
         answer,
         source: lister.into_source(),
     }
@@ -123,7 +123,7 @@ fn list_items<S: Store + Drop, A: Allocator + Copy, O: Out>(
 }
 
 /// A fault of the opening, as a command tells it.
-fn told_opening(fault: OpenFault) -> ToolFault
+pub(crate) fn told_opening(fault: OpenFault) -> ToolFault
     ensures { result ≡ opening_told fault }
 {
     match fault {
@@ -134,7 +134,7 @@ fn told_opening(fault: OpenFault) -> ToolFault
 }
 
 /// A fault of the listing, as a command tells it.
-fn told_fault(fault: ListFault) -> ToolFault
+pub(crate) fn told_fault(fault: ListFault) -> ToolFault
     ensures { result ≡ list_told fault }
 {
     match fault.kind {

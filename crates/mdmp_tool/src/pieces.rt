@@ -20,6 +20,7 @@ pub(crate) enum Piece<'a> {
     Text(&'a str),
     Decimal(u64),
     WideDecimal(u128),
+    Hex2(u8),
     Hex4(u32),
     Hex8(u32),
     Hex16(u64),
@@ -187,6 +188,11 @@ pub(crate) fn put_piece<O: Out>(out: &mut O, piece: Piece<'_>) -> Result<(), Out
         Piece::Text(text) => put_text(out, text),
         Piece::Decimal(number) => put_decimal(out, number),
         Piece::WideDecimal(number) => put_wide_decimal(out, number),
+        Piece::Hex2(number) => {
+            let mut digits = [0; 2];
+            hex_digits(u64::from(number), &mut digits);
+            write_all(out, &digits)
+        }
         Piece::Hex4(number) => {
             let mut digits = [0; 4];
             hex_digits(u64::from(number), &mut digits);

@@ -1,8 +1,14 @@
 mod blocks;
 mod faults;
 mod files;
+mod hex;
+mod hex_commands;
+mod hex_lines;
+mod hex_stores;
+mod hex_words;
 mod item_lines;
 mod list;
+mod memory_files;
 mod names;
 mod ranges;
 mod records;

@@ -3,7 +3,7 @@ use Rattle.std.specs.Prelude.{codes}
 use Rattle.std.specs.List.{concat}
 use Rattle.mdmp_tool.specs.Words.{unopened}
 use Rattle.mdmp_tool.proofs.Telling.{IsTold-put}
-use Rattle.mdmp_tool.proofs.words.list.Goals as goal
+use Rattle.mdmp_tool.proofs.words.run.Goals as goal
 
 pub returns-in_default : goal.returns-in_default
 returns-in_default g c = unopened (record {

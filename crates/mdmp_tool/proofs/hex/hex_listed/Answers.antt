@@ -1,0 +1,17 @@
+use Rattle.std.proofs.Common.{◌≡◌, ◌∙◌, ◌+◌, length, arith}
+use Rattle.mdmp_source.specs.SourceLaws.{fetches_then}
+use Rattle.mdmp_tool.proofs.Hexing.{HexesRun-printed}
+use Rattle.mdmp_tool.proofs.hex.hex_listed.Goals as goal
+
+pub returns-clause-hexes : goal.returns-clause-hexes
+returns-clause-hexes g c = λ file known left given.
+    let listed = c.in-Ok.ensures.lists left given in
+    let room : length c.put_memory.new.bytes ≡ c.args.length = grind (arith, c.put_memory.auto.bytes, c.deref_mut.ensures, c.in-Ok-vec.ensures) in
+    let printed = c.put_memory.ensures.hexes file (c.list_ranges.ensures.fetches.fetches.same_content ∙ known) in
+    HexesRun-printed file c.list_ranges.new.lister.ranges left c.args.address c.args.length _ _ c.put_memory.result listed.0 listed.1 (rw room at printed)
+
+pub returns-clause-fetches : goal.returns-clause-fetches
+returns-clause-fetches g c =
+    let first = c.list_ranges.ensures.fetches in
+    let more = c.put_memory.ensures.fetches in
+    record { count = first.count + more.count; fetches = fetches_then _ _ _ _ _ first.fetches more.fetches }

@@ -1,0 +1,185 @@
+//! The command `hex`.
+ghost use Rattle.std.specs.Prelude.{◌≡◌, ◌≤◌, ◌<◌, ◌+◌, ℕ, List, [], Some, None, Err, IfErr, MatchResult, length};
+ghost use Rattle.mdmp_map.specs.Ranges.{address_end};
+ghost use Rattle.mdmp_source.specs.Store.{IsGood};
+ghost use Rattle.mdmp_source.specs.Source.{FetchesSome};
+ghost use Rattle.mdmp_lister.specs.Listing.{Run};
+ghost use Rattle.mdmp_lister.specs.Ranges.{ranges_of};
+ghost use Rattle.mdmp_lister.specs.Reading.{IsCaused, IsOfSource};
+ghost use Rattle.mdmp_tool.specs.Causes.{IsNoSourceFault, HasSourceCause, HasOutCause, IsRefusal};
+ghost use Rattle.mdmp_tool.specs.HexRuns.{Hexes, HexesMemory, HexesRun, IsBehindOpening, IsQuiet};
+ghost use Rattle.mdmp_tool.specs.HexWords.{length_limit};
+
+use crate::fault::ToolFault;
+use crate::hex_lines::put_hex_lines;
+use crate::list::{Answered, told_fault, told_opening};
+use mdmp_lister::{Choice, Item, Limits, ListFault, Lister, OpenFault, RunFault, Sink, Stopped};
+use mdmp_source::{Out, OutFailed, Source, Store};
+use std::alloc::Allocator;
+
+/// Prints memory of the dumped process: `length` bytes from the address `address` on, sixteen on a
+/// line, and `??` for each that no range of the file's memory lists holds.
+///
+/// Where the file is refused, or one of its memory lists has a fault, nothing is written, nor is
+/// after a fault of the store or want of memory. After a fault of the output the first part of the
+/// text went out. Memory is taken before the first byte of output.
+pub fn run_hex<S: Store + Drop, A: Allocator + Copy, O: Out>(
+    alloc: A,
+    store: S,
+    limits: Limits,
+    address: u64,
+    length: u32,
+    out: &mut O,
+) -> Result<(), ToolFault>
+    requires within { address + length ≤ address_end }
+    requires limited { length ≤ length_limit }
+    ensures hexes { (file : List ℕ) → (S.state store).content ≡ Some file → Hexes file limits.name address length (O.state out.old) result (O.state out.new) }
+    ensures good { (file : List ℕ) → IsGood (S.state store) file → IsNoSourceFault result }
+    ensures refusal { IsRefusal (S.state store).size result }
+    ensures short { (S.state store).size < 32 → result ≡ Err (ToolFault.Opening (OpenFault.TooShort (S.state store).size)) }
+    ensures quiet { IsQuiet (O.state out.old) result (O.state out.new) }
+    ensures out_cause { HasOutCause (O.state out.old) result (O.state out.new) }
+{
+    let Answered { answer, source: _ } = hex_source(
+        alloc,
+        Source::new(store),
+        limits,
+        address,
+        length,
+        out,
+    );
+    answer
+}
+
+/// Does what `run_hex` does, and hands the source back, whose counts tell the cause of its faults.
+pub fn hex_source<S: Store + Drop, A: Allocator + Copy, O: Out>(
+    alloc: A,
+    source: Source<S>,
+    limits: Limits,
+    address: u64,
+    length: u32,
+    out: &mut O,
+) -> Answered<S>
+    requires within { address + length ≤ address_end }
+    requires limited { length ≤ length_limit }
+    ensures hexes { (file : List ℕ) → source.store.content ≡ Some file → Hexes file limits.name address length (O.state out.old) result.answer (O.state out.new) }
+    ensures good { (file : List ℕ) → IsGood source.store file → IsNoSourceFault result.answer }
+    ensures refusal { IsRefusal source.size result.answer }
+    ensures short { source.size < 32 → result.answer ≡ Err (ToolFault.Opening (OpenFault.TooShort source.size)) }
+    ensures source_cause { HasSourceCause source result.answer result.source }
+    ensures fetches { FetchesSome source result.source }
+    ensures quiet { IsQuiet (O.state out.old) result.answer (O.state out.new) }
+    ensures out_cause { HasOutCause (O.state out.old) result.answer (O.state out.new) }
+{
+    let mut lister = match Lister::open(alloc, source, limits, Choice::memory_lists()) {
+        Ok(lister) => lister,
+        Err(refused) => {
+            return Answered {
+                answer: Err(told_opening(refused.fault)),
+                source: refused.source,
+            };
+        }
+    };
+    let answer = hex_listed(alloc, &mut lister, address, length, out);
+    Answered {
+        answer,
+        source: lister.into_source(),
+    }
+}
+
+/// Lists the ranges that are left, and prints the bytes of some addresses by them.
+fn hex_listed<S: Store + Drop, A: Allocator + Copy, O: Out>(
+    alloc: A,
+    lister: &mut Lister<S, A>,
+    address: u64,
+    length: u32,
+    out: &mut O,
+) -> Result<(), ToolFault>
+    requires going { lister.old.stop ≡ None }
+    requires none { lister.old.ranges ≡ [] }
+    requires within { address + length ≤ address_end }
+    ensures hexes { (file : List ℕ) → lister.old.source.store.content ≡ Some file → (left : Run) → lister.old.left ≡ Some left
+        → HexesRun file left address length (O.state out.old) result (O.state out.new) }
+    ensures good { (file : List ℕ) → IsGood lister.old.source.store file → IsNoSourceFault result }
+    ensures kind { IsBehindOpening result }
+    ensures source_cause { HasSourceCause lister.old.source result lister.new.source }
+    ensures fetches { FetchesSome lister.old.source lister.new.source }
+    ensures quiet { IsQuiet (O.state out.old) result (O.state out.new) }
+    ensures out_cause { HasOutCause (O.state out.old) result (O.state out.new) }
+{
+    match list_ranges(lister) {
+        Ok(()) => {}
+        Err(fault) => return Err(told_fault(fault)),
+    }
+    let Ok(mut bytes) = vec![in alloc; 0; length as usize] else {
+        return Err(ToolFault::Memory);
+    };
+    let Ok(mut known) = vec![in alloc; false; length as usize] else {
+        return Err(ToolFault::Memory);
+    };
+    put_memory(lister, address, &mut bytes, &mut known, out)
+}
+
+/// Reads memory by the ranges that were listed into two buffers, and prints it.
+fn put_memory<S: Store + Drop, A: Allocator + Copy, O: Out>(
+    lister: &mut Lister<S, A>,
+    address: u64,
+    bytes: &mut [u8],
+    known: &mut [bool],
+    out: &mut O,
+) -> Result<(), ToolFault>
+    requires same { length bytes.old ≡ length known.old }
+    requires within { address + length bytes.old ≤ address_end }
+    ensures hexes { (file : List ℕ) → lister.old.source.store.content ≡ Some file
+        → HexesMemory file lister.old.ranges address (length bytes.new) (O.state out.old) result (O.state out.new) }
+    ensures good { (file : List ℕ) → IsGood lister.old.source.store file → IsNoSourceFault result }
+    ensures kind { IsBehindOpening result }
+    ensures source_cause { HasSourceCause lister.old.source result lister.new.source }
+    ensures fetches { FetchesSome lister.old.source lister.new.source }
+    ensures quiet { IsQuiet (O.state out.old) result (O.state out.new) }
+    ensures out_cause { HasOutCause (O.state out.old) result (O.state out.new) }
+{
+    match lister.read_address(address, bytes, known) {
+        Ok(()) => {}
+        Err(fault) => return Err(ToolFault::Source(fault)),
+    }
+    match put_hex_lines(out, address, bytes, known) {
+        Ok(()) => Ok(()),
+        Err(OutFailed) => Err(ToolFault::Out),
+    }
+}
+
+/// Lists the ranges that are left, up to the first fault.
+fn list_ranges<S: Store + Drop, A: Allocator + Copy>(
+    lister: &mut Lister<S, A>,
+) -> Result<(), ListFault>
+    requires going { lister.old.stop ≡ None }
+    requires none { lister.old.ranges ≡ [] }
+    ensures lists { (left : Run) → lister.old.left ≡ Some left → MatchResult result
+        (λ _. (left.fault ≡ None) × (lister.new.ranges ≡ ranges_of left.items))
+        (λ fault. (IsOfSource fault.kind → ⊥) → left.fault ≡ Some fault) }
+    ensures good { (file : List ℕ) → IsGood lister.old.source.store file → IfErr result (λ fault. IsOfSource fault.kind → ⊥) }
+    ensures cause { IfErr result (λ fault. IsCaused fault.kind lister.old.source lister.new.source) }
+    ensures fetches { FetchesSome lister.old.source lister.new.source }
+{
+    match lister.list_into(&mut Unseen) {
+        Ok(()) => Ok(()),
+        Err(RunFault::At(fault)) => Err(fault),
+        // This sink never stops.
+        Err(RunFault::Stopped) => Ok(()),
+    }
+}
+
+/// A sink that takes each item and looks at none: the lister keeps the ranges.
+#[derive(Drop)]
+struct Unseen;
+
+impl Sink for Unseen {
+    ghost use Rattle.std.specs.Prelude.{Ok};
+
+    ghost step = { λ old item result new. result ≡ Ok tt };
+
+    fn take(&mut self, _item: &Item<'_>) -> Result<(), Stopped> {
+        Ok(())
+    }
+}
