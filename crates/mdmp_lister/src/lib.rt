@@ -69,6 +69,3 @@ pub use crate::shaping::shape_of;
 pub use crate::sink::{RunFault, Sink, Stopped};
 pub use crate::stop_at::StopAt;
 pub use crate::verdict::Verdict;
-
-#[cfg(test)]
-mod tests;

@@ -22,6 +22,3 @@ pub use crate::finding::place_of;
 pub use crate::map::AddressMap;
 pub use crate::place::Place;
 pub use crate::range::Range;
-
-#[cfg(test)]
-mod tests;

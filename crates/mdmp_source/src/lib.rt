@@ -41,6 +41,3 @@ pub use crate::range::inside;
 pub use crate::source::Source;
 pub use crate::store::{Store, StoreFailed, Tally};
 pub use crate::write_out::WriteOut;
-
-#[cfg(test)]
-mod tests;

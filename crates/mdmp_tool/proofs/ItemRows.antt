@@ -86,6 +86,20 @@ thread-line : item_line (items.Thread (thread_item 292 0 3 (record {
 unfolding digits hex
 thread-line = refl
 
+-- one whose numbers are all different: each stands in its place
+thread-fields : item_line (items.Thread (thread_item 18 9 1 (record {
+  thread_id = 2;
+  suspend_count = 3;
+  priority_class = 4;
+  priority = 5;
+  teb = 6;
+  stack = record { start_of_memory_range = 7; memory = location 8 9 };
+  thread_context = location 10 11;
+})))
+    ≡ codes "thread 1 id 2 suspend 3 class 4 priority 5 teb 0x0000000000000006 stack 0x0000000000000007 inside 8@9 context outside 10@11\n"
+unfolding digits hex
+thread-fields = refl
+
 module-line : item_line (items.Module (module_item 156 0 0 (record {
   base_of_image = 0x140000000;
   size_of_image = 4096;

@@ -28,6 +28,3 @@ pub use crate::hex::{hex_source, run_hex};
 pub use crate::list::{Answered, list_source, run_list};
 pub use crate::words::run_words;
 pub use mdmp_lister::{FaultKind, Limits, ListFault, OpenFault};
-
-#[cfg(test)]
-mod tests;

@@ -59,6 +59,3 @@ pub use crate::units_ref::UnitsRef;
 pub use crate::unloaded::UnloadedRecord;
 pub use crate::unloaded_list::UnloadedList;
 pub use crate::version::VersionInfo;
-
-#[cfg(test)]
-mod tests;

@@ -1,0 +1,63 @@
+//! The bytes of small files.
+use std::alloc::Global;
+use std::test::Fail;
+
+/// A system, whose name is that of its service pack.
+pub const SYSTEM: [u8; 136] =
+    *b"MDMP\x93\xa7\0\0\x01\0\0\0\x20\0\0\0\0\0\0\0\0\0\0\0\0\0\0\0\0\0\0\0\
+\x07\0\0\0\x38\0\0\0\x2c\0\0\0\
+\x09\0\x06\0\x03\0\x04\x01\x06\0\0\0\x01\0\0\0\xb1\x1d\0\0\x02\0\0\0\x64\0\0\0\0\x01\0\0\
+\0\0\0\0\0\0\0\0\0\0\0\0\0\0\0\0\0\0\0\0\0\0\0\0\
+\x1c\0\0\0S\0e\0r\0v\0i\0c\0e\0 \0P\0a\0c\0k\0 \x001\0\0\0\0\0";
+
+/// Two ranges of 64-bit memory, the second outside the file.
+pub const MEMORY64: [u8; 98] =
+    *b"MDMP\x93\xa7\0\0\x01\0\0\0\x20\0\0\0\0\0\0\0\0\0\0\0\0\0\0\0\0\0\0\0\
+\x09\0\0\0\x30\0\0\0\x2c\0\0\0\
+\x02\0\0\0\0\0\0\0\x5c\0\0\0\0\0\0\0\
+\0\x10\0\0\0\0\0\0\x04\0\0\0\0\0\0\0\
+\0\x20\0\0\0\0\0\0\x04\0\0\0\0\0\0\0ABCDEF";
+
+/// A system, a module whose name lies outside, and a comment that does.
+pub const FAULTY: [u32; 51] = [
+    7, 56, 68, 4, 112, 124, 10, 5, 236, // the directory
+    0, 0, 0, 0, 0, 0, 0, 0, 0, 0, 0, 0, 0, 0, // the system
+    1, 0, 0, 0, 0, 0, 4294967295, 0, 0, 0, 0, 0, 0, 0, 0, 0, 0, 0, 0, 0, 0, 0, 0, 0, 0, 0, 0, 0,
+];
+
+/// Three entries that name one list of one thread.
+pub const THRICE: [u32; 22] = [
+    3, 52, 68, 3, 52, 68, 3, 52, 68, // the directory
+    1, 7, 0, 0, 0, 0, 0, 0, 0, 0, 0, 0, 0, // one thread
+];
+
+/// A memory list of two ranges that overlap, and behind it `ABCD` of the first and `wxyz` of the
+/// second.
+pub const OVERLAPPING: [u32; 14] = [
+    5, 36, 44, 2, 0x1000, 0, 4, 80, 0x1002, 0, 4, 84, 0x44434241, 0x7a797877,
+];
+
+/// A file of these numbers, each of four bytes, behind a header that names so many entries at 32.
+pub fn file(rt: &HostRuntime, entries: u32, numbers: &[u32]) -> Result<Vec<u8, Global>, Fail> {
+    let mut file = Vec::new(rt.alloc());
+    for number in [0x504d444d, 0xa793, entries, 32, 0, 0, 0, 0] {
+        file.extend_from_slice(&u32::to_le_bytes(number))?;
+    }
+    for number in numbers {
+        file.extend_from_slice(&number.to_le_bytes())?;
+    }
+    Ok(file)
+}
+
+/// A file of 16,384 entries that name one memory list of so many ranges without bytes.
+pub fn crowded(rt: &HostRuntime, ranges: u16) -> Result<Vec<u8, Global>, Fail> {
+    let mut numbers = Vec::new(rt.alloc());
+    for _ in 0..16384 {
+        numbers.extend_from_slice(&[5, 4 + 16 * u32::from(ranges), 196640])?;
+    }
+    numbers.push(u32::from(ranges))?;
+    for _ in 0..ranges {
+        numbers.extend_from_slice(&[0; 4])?;
+    }
+    file(rt, 16384, &numbers)
+}

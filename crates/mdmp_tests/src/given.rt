@@ -1,0 +1,222 @@
+//! What a lister gives, as plain values.
+use mdmp_lister::{Item, ListFault, Lister, Name};
+use mdmp_source::{Extent, Store};
+use mdmp_wire::MemoryInfoRecord;
+use std::alloc::{AllocError, Allocator};
+
+/// A short text: how many bytes it has, and the first sixteen, with zeros behind them.
+#[derive(Clone, Copy, Debug, PartialEq, Eq)]
+pub struct Text {
+    pub len: usize,
+    pub bytes: [u8; 16],
+}
+
+/// The name of an item.
+#[derive(Clone, Copy, Debug, PartialEq, Eq)]
+pub enum Named {
+    NoName,
+    Text(Text),
+    Long(u32),
+}
+
+/// Telling numbers of an item, by its kind.
+#[derive(Clone, Copy, Debug, PartialEq, Eq)]
+pub enum What {
+    Stream {
+        stream_type: u32,
+        size: u32,
+        rva: u32,
+    },
+    Thread {
+        id: u32,
+        stack: Extent,
+        context: Extent,
+    },
+    Module {
+        base: u64,
+        codeview: Extent,
+        misc: Extent,
+    },
+    Unloaded {
+        base: u64,
+    },
+    Exception {
+        thread: u32,
+        code: u32,
+        context: Extent,
+    },
+    System {
+        processors: u8,
+        build: u32,
+    },
+    MemoryInfo(MemoryInfoRecord),
+    Range {
+        start: u64,
+        size: u64,
+        extent: Extent,
+        offset: u128,
+    },
+}
+
+/// An item. That of an entry has the index 0, and where a kind has no name it has none.
+#[derive(Clone, Copy, Debug, PartialEq, Eq)]
+pub struct Given {
+    pub entry: u32,
+    pub index: u64,
+    pub what: What,
+    pub name: Named,
+}
+
+/// A text as a name.
+pub fn spelled(text: &str) -> Named {
+    let from = text.as_bytes();
+    let mut bytes = [0; 16];
+    for i in 0..from.len().min(16) {
+        bytes[i] = from[i];
+    }
+    Named::Text(Text {
+        len: from.len(),
+        bytes,
+    })
+}
+
+/// The entry of the directory with this number, and the three numbers that stand there.
+pub fn stream(entry: u32, stream_type: u32, size: u32, rva: u32) -> Given {
+    let what = What::Stream {
+        stream_type,
+        size,
+        rva,
+    };
+    nameless(entry, 0, what)
+}
+
+/// A thread without a stack and a context.
+pub fn thread(entry: u32, id: u32) -> Given {
+    let what = What::Thread {
+        id,
+        stack: Extent::Empty,
+        context: Extent::Empty,
+    };
+    nameless(entry, 0, what)
+}
+
+/// A range of the first entry.
+pub fn range(index: u64, start: u64, size: u64, extent: Extent, offset: u128) -> Given {
+    let what = What::Range {
+        start,
+        size,
+        extent,
+        offset,
+    };
+    nameless(0, index, what)
+}
+
+/// An unloaded module of the first entry.
+pub fn unloaded(index: u64, base: u64, name: Named) -> Given {
+    with_name(0, index, What::Unloaded { base }, name)
+}
+
+/// The system of the first entry.
+pub fn system(processors: u8, build: u32, name: Named) -> Given {
+    with_name(0, 0, What::System { processors, build }, name)
+}
+
+/// An item of a kind that has no name.
+pub fn nameless(entry: u32, index: u64, what: What) -> Given {
+    with_name(entry, index, what, Named::NoName)
+}
+
+fn with_name(entry: u32, index: u64, what: What, name: Named) -> Given {
+    Given {
+        entry,
+        index,
+        what,
+        name,
+    }
+}
+
+/// A name as a plain value.
+pub fn plain_name(rt: &HostRuntime, name: &Name<'_>) -> Result<Named, AllocError> {
+    match name {
+        Name::NoName => Ok(Named::NoName),
+        Name::Units(units) => {
+            let utf8 = units.to_utf8(rt.alloc())?;
+            Ok(spelled(utf8.as_str()))
+        }
+        Name::Long(bytes) => Ok(Named::Long(*bytes)),
+    }
+}
+
+/// An item as a plain value.
+fn plain(rt: &HostRuntime, item: &Item<'_>) -> Result<Given, AllocError> {
+    match item {
+        Item::Stream(item) => {
+            let location = item.location;
+            let stream_type = item.stream_type;
+            Ok(stream(item.entry, stream_type, location.size, location.rva))
+        }
+        Item::Thread(item) => {
+            let what = What::Thread {
+                id: item.fields.thread_id,
+                stack: item.stack,
+                context: item.context,
+            };
+            Ok(nameless(item.entry, item.index, what))
+        }
+        Item::Module(item) => {
+            let what = What::Module {
+                base: item.fields.base_of_image,
+                codeview: item.codeview,
+                misc: item.misc,
+            };
+            let name = plain_name(rt, &item.name)?;
+            Ok(with_name(item.entry, item.index, what, name))
+        }
+        Item::Unloaded(item) => {
+            let base = item.fields.base_of_image;
+            let name = plain_name(rt, &item.name)?;
+            Ok(with_name(item.entry, item.index, What::Unloaded { base }, name))
+        }
+        Item::Exception(item) => {
+            let what = What::Exception {
+                thread: item.fields.thread_id,
+                code: item.fields.exception_code,
+                context: item.context,
+            };
+            Ok(nameless(item.entry, item.index, what))
+        }
+        Item::System(item) => {
+            let what = What::System {
+                processors: item.fields.number_of_processors,
+                build: item.fields.build_number,
+            };
+            let name = plain_name(rt, &item.name)?;
+            Ok(with_name(item.entry, item.index, what, name))
+        }
+        Item::MemoryInfo(item) => {
+            let what = What::MemoryInfo(item.fields);
+            Ok(nameless(item.entry, item.index, what))
+        }
+        Item::Range(item) => {
+            let what = What::Range {
+                start: item.start,
+                size: item.size,
+                extent: item.extent,
+                offset: item.offset,
+            };
+            Ok(nameless(item.entry, item.index, what))
+        }
+    }
+}
+
+/// What the next call of a lister answers.
+pub fn next_of<S: Store + Drop, A: Allocator + Copy>(
+    rt: &HostRuntime,
+    lister: &mut Lister<S, A>,
+) -> Result<Result<Option<Given>, ListFault>, AllocError> {
+    match lister.next() {
+        Ok(Some(item)) => Ok(Ok(Some(plain(rt, &item)?))),
+        Ok(None) => Ok(Ok(None)),
+        Err(fault) => Ok(Err(fault)),
+    }
+}

@@ -1,0 +1,13 @@
+//! Tests of `mdmp_lister`.
+mod addresses;
+mod calls;
+mod choices;
+mod counts;
+mod faults;
+mod listings;
+mod memory;
+mod names;
+mod ranges;
+mod records;
+mod shapes;
+mod stores;

@@ -1,0 +1,102 @@
+//! What is read of the dumped process's memory.
+use crate::files::{MEMORY64, OVERLAPPING, file};
+use crate::given::{range, stream};
+use crate::script::{
+    Call, LEAST, Played, ends, gives, has_room, other_in_bytes, other_in_numbers, play, read_fails,
+    reads, runs,
+};
+use mdmp_lister::Choice;
+use mdmp_source::{Extent, PatchyStore, SourceFault};
+use std::test::Fail;
+
+#[test]
+fn nothing_is_known_before_a_range_is_given(rt: HostRuntime) -> Result<(), Fail> {
+    let script = [
+        reads(0x1000, [0; 2], [false; 2]),
+        gives(stream(0, 5, 36, 44)),
+        reads(0x1000, [0; 2], [false; 2]),
+        gives(range(0, 0x1000, 4, Extent::Inside, 80)),
+        reads(0x1003, [b'D', 0], [true, false]),
+        gives(range(1, 0x1002, 4, Extent::Inside, 84)),
+        reads(0x1003, *b"Dy", [true; 2]),
+        reads(0x1003, [], []),
+    ];
+    let other = other_in_numbers(&rt, LEAST, 1, &OVERLAPPING, &script)?;
+    assert_eq!(rt; other, None);
+    Ok(())
+}
+
+#[test]
+fn range_that_was_given_first_decides(rt: HostRuntime) -> Result<(), Fail> {
+    // The descriptors as they stand, and exchanged.
+    let mut exchanged = OVERLAPPING;
+    exchanged[4..12].copy_from_slice(&[0x1002, 0, 4, 84, 0x1000, 0, 4, 80]);
+    let known = [false, true, true, true, true, true, true, false];
+    for (numbers, bytes) in [(OVERLAPPING, *b"\0ABCDyz\0"), (exchanged, *b"\0ABwxyz\0")] {
+        let script = [runs(u64::MAX, None, 3), reads(0xfff, bytes, known)];
+        let other = other_in_numbers(&rt, LEAST, 1, &numbers, &script)?;
+        assert_eq!(rt; other, None);
+    }
+    Ok(())
+}
+
+#[test]
+fn range_outside_the_file_is_not_known(rt: HostRuntime) -> Result<(), Fail> {
+    // The file has two bytes where the second range should stand.
+    let script = [
+        runs(u64::MAX, None, 3),
+        reads(0x1000, *b"ABCD", [true; 4]),
+        reads(0x2000, [0; 2], [false; 2]),
+    ];
+    let other = other_in_bytes(&rt, LEAST, &MEMORY64, &script)?;
+    assert_eq!(rt; other, None);
+    Ok(())
+}
+
+#[test]
+fn addresses_do_not_wrap(rt: HostRuntime) -> Result<(), Fail> {
+    // A range of 16 bytes, of which eight have an address.
+    let numbers = [
+        5, 20, 44, 1, 0xfffffff8, 0xffffffff, 16, 64, // and then ABCDEFGHIJKLMNOP
+        0x44434241, 0x48474645, 0x4c4b4a49, 0x504f4e4d,
+    ];
+    let mut known = [true; 9];
+    known[8] = false;
+    let script = [
+        runs(u64::MAX, None, 2),
+        has_room(1, 0),
+        reads(0xfffffffffffffff8, *b"ABCDEFGH\0", known),
+        reads(u64::MAX, *b"H\0", [true, false]),
+        reads(0, [0; 8], [false; 8]),
+    ];
+    let other = other_in_numbers(&rt, LEAST, 1, &numbers, &script)?;
+    assert_eq!(rt; other, None);
+    Ok(())
+}
+
+/// Plays a script over a store of these ranges whose one call fails.
+fn played(rt: &HostRuntime, fail_at: u64, script: &[Call]) -> Result<Played, Fail> {
+    let file = file(rt, 1, &OVERLAPPING)?;
+    let store = PatchyStore::new(&file, &[4096], Some(fail_at));
+    play(rt, store, LEAST, Choice::All, script)
+}
+
+#[test]
+fn store_fault_of_a_read_changes_no_item(rt: HostRuntime) -> Result<(), Fail> {
+    // Header, entry and count are read by calls 0 to 2, the count again and a record by 3 and 4.
+    for (fail_at, at) in [(5, 80), (6, 81), (8, 83)] {
+        let script = [
+            gives(stream(0, 5, 36, 44)),
+            gives(range(0, 0x1000, 4, Extent::Inside, 80)),
+            read_fails(0x1000, 4, SourceFault::Failed { at }),
+            has_room(1, 1),
+            gives(range(1, 0x1002, 4, Extent::Inside, 84)),
+            reads(0x1002, *b"CDyz", [true; 4]),
+            ends(),
+            has_room(2, 0),
+        ];
+        let played = played(&rt, fail_at, &script)?;
+        assert_eq!(rt; played.other, None);
+    }
+    Ok(())
+}

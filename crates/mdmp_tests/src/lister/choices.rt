@@ -1,0 +1,62 @@
+//! Limits, and which entries are listed.
+use mdmp_lister::{Choice, Kind, Limits, TypeSet};
+use std::test::Fail;
+
+#[test]
+fn limits_have_bounds(rt: HostRuntime) {
+    assert!(rt; Limits::new(167, 0).is_none());
+    assert!(rt; Limits::new((1 << 30) + 1, 0).is_none());
+    assert!(rt; Limits::new(168, (1 << 30) + 1).is_none());
+    assert!(rt; Limits::new(168, 0).is_some());
+    assert!(rt; Limits::new(1 << 30, 1 << 30).is_some());
+    let standard = Limits::default();
+    assert_eq!(rt; (standard.window, standard.name), (65536, 4096));
+}
+
+/// Whether these types are a set, which has them in order.
+fn is_set(types: &[u32]) -> bool {
+    match TypeSet::new(types) {
+        Some(set) => set.types() == types,
+        None => false,
+    }
+}
+
+#[test]
+fn one_to_sixteen_types_are_a_set(rt: HostRuntime) {
+    let types: [u32; 17] = [3, 4, 5, 6, 7, 9, 14, 16, 0, 10, 11, 12, 13, 15, 17, 3, 24];
+    assert!(rt; TypeSet::new(&[]).is_none());
+    assert!(rt; TypeSet::new(&types).is_none());
+    for count in [1, 16] {
+        assert!(rt; is_set(&types[..count]), "of {count}");
+    }
+}
+
+#[test]
+fn choice_has_its_types(rt: HostRuntime) -> Result<(), Fail> {
+    let choice = Choice::Types(TypeSet::new(&[7, 0, 7]).ok_or("types")?);
+    assert!(rt; choice.has(7));
+    assert!(rt; choice.has(0));
+    assert!(rt; !choice.has(3));
+    assert!(rt; Choice::All.has(u32::MAX));
+    Ok(())
+}
+
+#[test]
+fn eight_stream_types_have_a_kind(rt: HostRuntime) {
+    let known = [
+        (3, Kind::Threads),
+        (4, Kind::Modules),
+        (5, Kind::Memory),
+        (6, Kind::Exception),
+        (7, Kind::System),
+        (9, Kind::Memory64),
+        (14, Kind::Unloaded),
+        (16, Kind::MemoryInfo),
+    ];
+    for (stream_type, kind) in known {
+        assert_eq!(rt; Kind::of_type(stream_type), Some(kind));
+    }
+    for stream_type in [0, 1, 8, 10, 15, 24, 0x10000, u32::MAX] {
+        assert!(rt; Kind::of_type(stream_type).is_none());
+    }
+}

@@ -1,0 +1,157 @@
+//! Where the records of a stream stand.
+use mdmp_lister::{Fault, FaultKind, Kind, Shape, shape_of};
+use mdmp_source::Location;
+
+/// The shape of a stream of so many bytes at 4, whose head is these bytes.
+fn shape(kind: Kind, size: u32, head: [u8; 16]) -> Result<Shape, Fault> {
+    let mut file = [0; 4096];
+    for i in 0..16 {
+        file[4 + i] = head[i];
+    }
+    if size > 4092 {
+        return shape_of(&file, Location { size: 0, rva: 0 }, kind);
+    }
+    shape_of(&file, Location { size, rva: 4 }, kind)
+}
+
+/// The head of a list: three numbers, and a fourth that is 0.
+fn head(first: u32, stride: u32, count: u32) -> [u8; 16] {
+    let first = first.to_le_bytes();
+    let stride = stride.to_le_bytes();
+    let count = count.to_le_bytes();
+    let mut bytes = [0; 16];
+    for i in 0..4 {
+        bytes[i] = first[i];
+        bytes[4 + i] = stride[i];
+        bytes[8 + i] = count[i];
+    }
+    bytes
+}
+
+fn stands(first: u64, stride: u64, count: u64) -> Result<Shape, Fault> {
+    Ok(Shape {
+        first,
+        stride,
+        count,
+    })
+}
+
+fn bad(kind: FaultKind, offset: u64, size: u64) -> Result<Shape, Fault> {
+    Err(Fault { kind, offset, size })
+}
+
+#[test]
+fn list_is_padded_where_four_bytes_are_left(rt: HostRuntime) {
+    let one = head(1, 0, 0);
+    for (kind, size, head, expected) in [
+        (Kind::Threads, 52, one, stands(4, 48, 1)),
+        (Kind::Threads, 56, one, stands(8, 48, 1)),
+        (Kind::Threads, 60, one, stands(4, 48, 1)),
+        (Kind::Threads, 51, one, bad(FaultKind::BadCount, 4, 1)),
+        (Kind::Threads, 3, one, bad(FaultKind::ShortStream, 4, 3)),
+        (Kind::Modules, 116, one, stands(8, 108, 1)),
+        (Kind::Memory, 24, one, stands(8, 16, 1)),
+        (Kind::Memory, 8, head(0, 0, 0), stands(8, 16, 0)),
+    ] {
+        assert_eq!(rt; shape(kind, size, head), expected);
+    }
+}
+
+#[test]
+fn single_records_have_no_count(rt: HostRuntime) {
+    let any = head(9, 9, 9);
+    for (kind, size, head, expected) in [
+        (Kind::Exception, 168, any, stands(0, 168, 1)),
+        (
+            Kind::Exception,
+            167,
+            any,
+            bad(FaultKind::ShortStream, 4, 167),
+        ),
+        (Kind::System, 56, any, stands(0, 56, 1)),
+        (Kind::System, 55, any, bad(FaultKind::ShortStream, 4, 55)),
+    ] {
+        assert_eq!(rt; shape(kind, size, head), expected);
+    }
+}
+
+#[test]
+fn sized_lists_say_where_their_records_stand(rt: HostRuntime) {
+    for (kind, size, head, expected) in [
+        (Kind::Unloaded, 2012, head(12, 1000, 2), stands(12, 1000, 2)),
+        (Kind::Unloaded, 44, head(20, 24, 1), stands(20, 24, 1)),
+        (
+            Kind::Unloaded,
+            11,
+            head(12, 24, 1),
+            bad(FaultKind::ShortStream, 4, 11),
+        ),
+        (
+            Kind::Unloaded,
+            36,
+            head(11, 24, 1),
+            bad(FaultKind::BadHeaderSize, 4, 11),
+        ),
+        (
+            Kind::Unloaded,
+            36,
+            head(37, 24, 0),
+            bad(FaultKind::BadHeaderSize, 4, 37),
+        ),
+        (
+            Kind::Unloaded,
+            36,
+            head(12, 23, 1),
+            bad(FaultKind::BadEntrySize, 8, 23),
+        ),
+        (Kind::Unloaded, 36, head(12, 23, 0), stands(12, 23, 0)),
+        (
+            Kind::Unloaded,
+            36,
+            head(12, 24, 2),
+            bad(FaultKind::BadCount, 12, 2),
+        ),
+        (Kind::MemoryInfo, 64, head(16, 48, 1), stands(16, 48, 1)),
+        (
+            Kind::MemoryInfo,
+            64,
+            head(16, 47, 1),
+            bad(FaultKind::BadEntrySize, 8, 47),
+        ),
+    ] {
+        assert_eq!(rt; shape(kind, size, head), expected);
+    }
+}
+
+#[test]
+fn stream_of_no_bytes_is_too_short_wherever_it_is(rt: HostRuntime) {
+    let nowhere = Location {
+        size: 0,
+        rva: u32::MAX,
+    };
+    let shape = shape_of(b"", nowhere, Kind::Threads);
+    assert_eq!(rt; shape, bad(FaultKind::ShortStream, 4294967295, 0));
+}
+
+#[test]
+fn counts_are_compared_without_wrapping(rt: HostRuntime) {
+    let mut most = head(16, u32::MAX, u32::MAX);
+    for i in 12..16 {
+        most[i] = 0xff;
+    }
+    let count = FaultKind::BadCount;
+    for (kind, size, head, expected) in [
+        (Kind::MemoryInfo, 16, most, bad(count, 12, u64::MAX)),
+        (Kind::Memory64, 16, [0xff; 16], bad(count, 4, u64::MAX)),
+        (Kind::Threads, 4, [0xff; 16], bad(count, 4, 4294967295)),
+        (Kind::Memory64, 48, head(2, 0, 92), stands(16, 16, 2)),
+        (
+            Kind::Memory64,
+            15,
+            head(0, 0, 0),
+            bad(FaultKind::ShortStream, 4, 15),
+        ),
+    ] {
+        assert_eq!(rt; shape(kind, size, head), expected);
+    }
+}

@@ -1,0 +1,74 @@
+//! Where addresses stand by some ranges.
+ghost use Rattle.std.specs.Prelude.{All};
+ghost use Rattle.mdmp_map.specs.Ranges.{IsPlaced};
+
+use super::{Row, place};
+use mdmp_map::{Range, place_of};
+use std::process::Abort;
+
+/// These ranges place each address as its row says.
+fn assert_places(rt: &impl Abort, ranges: &[Range], rows: &[Row])
+    requires { All IsPlaced ranges.now }
+{
+    for (address, expected) in rows {
+        assert_eq!(rt; place_of(ranges, *address), *expected, "at {address}");
+    }
+}
+
+#[test]
+fn first_of_two_ranges_decides(rt: HostRuntime) {
+    let ranges = [
+        Range {
+            start: 0x1000,
+            length: 4,
+            offset: 80,
+        },
+        Range {
+            start: 0x1002,
+            length: 4,
+            offset: 84,
+        },
+    ];
+    let rows = [
+        (0x1000, place(80, 4)),
+        (0x1002, place(82, 2)),
+        (0x1004, place(86, 2)),
+        (0xfff, None),
+        (0x1006, None),
+    ];
+    assert_places(&rt, &ranges, &rows);
+}
+
+#[test]
+fn range_given_first_cuts_one_that_begins_before_it(rt: HostRuntime) {
+    let ranges = [
+        Range {
+            start: 0x1002,
+            length: 4,
+            offset: 84,
+        },
+        Range {
+            start: 0x1000,
+            length: 4,
+            offset: 80,
+        },
+    ];
+    let rows = [(0x1000, place(80, 2)), (0x1002, place(84, 4))];
+    assert_places(&rt, &ranges, &rows);
+}
+
+#[test]
+fn addresses_end_and_do_not_wrap(rt: HostRuntime) {
+    let ranges = [Range {
+        start: 0xFFFF_FFFF_FFFF_FFF8,
+        length: 16,
+        offset: 44,
+    }];
+    let rows = [(0xFFFF_FFFF_FFFF_FFF8, place(44, 8)), (0, None)];
+    assert_places(&rt, &ranges, &rows);
+}
+
+#[test]
+fn no_range_holds_nothing(rt: HostRuntime) {
+    assert_places(&rt, &[], &[(0, None)]);
+}

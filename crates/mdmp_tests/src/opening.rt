@@ -1,0 +1,86 @@
+//! Listers that are opened, and how many items they give.
+use mdmp_lister::{
+    Choice, FaultKind, Limits, ListFault, Lister, OpenFault, OpenRefused, RunFault, StopAt, TypeSet,
+};
+use mdmp_source::{Source, Store};
+use std::alloc::Allocator;
+use std::test::Fail;
+
+/// All items and how many ranges of memory were mapped, or why there is no lister.
+#[derive(Clone, Copy, Debug, PartialEq, Eq)]
+pub enum Outcome {
+    Listed {
+        fault: Option<RunFault>,
+        items: u64,
+        mapped: usize,
+    },
+    Refused(OpenFault),
+}
+
+/// Each entry, or those of these types.
+pub fn chosen(types: &[u32]) -> Result<Choice, Fail> {
+    if types.is_empty() {
+        return Ok(Choice::All);
+    }
+    Ok(Choice::Types(TypeSet::new(types).ok_or("types")?))
+}
+
+/// A fault of the first entry.
+pub fn fault(index: Option<u64>, kind: FaultKind, offset: u64, size: u64) -> ListFault {
+    ListFault {
+        entry: 0,
+        index,
+        kind,
+        offset,
+        size,
+    }
+}
+
+/// Opens a lister and closes it again: why it was refused, and the source.
+pub fn open_and_close<S: Store + Drop, A: Allocator + Copy>(
+    alloc: A,
+    source: Source<S>,
+    limits: Limits,
+    choice: Choice,
+) -> (Option<OpenFault>, Source<S>) {
+    match Lister::open(alloc, source, limits, choice) {
+        Ok(lister) => (None, lister.into_source()),
+        Err(refused) => {
+            let OpenRefused { fault, source } = refused;
+            (Some(fault), source)
+        }
+    }
+}
+
+/// Hands all items to a sink, and then the source back.
+pub fn run_over<S: Store + Drop, A: Allocator + Copy>(
+    alloc: A,
+    source: Source<S>,
+    limits: Limits,
+    choice: Choice,
+) -> (Outcome, Source<S>) {
+    let mut lister = match Lister::open(alloc, source, limits, choice) {
+        Ok(lister) => lister,
+        Err(refused) => {
+            let OpenRefused { fault, source } = refused;
+            return (Outcome::Refused(fault), source);
+        }
+    };
+    let mut sink = StopAt::new(u64::MAX);
+    let fault = lister.list_into(&mut sink).err();
+    let outcome = Outcome::Listed {
+        fault,
+        items: sink.calls(),
+        mapped: lister.map().len(),
+    };
+    (outcome, lister.into_source())
+}
+
+/// What a listing without a fault comes to.
+pub fn all(items: u64, mapped: usize) -> Outcome {
+    Outcome::Listed {
+        fault: None,
+        items,
+        mapped,
+    }
+}

@@ -1,0 +1,260 @@
+//! The calls of one lister in a row, and what each is to answer.
+use crate::files::file;
+use crate::given::{Given, next_of};
+use crate::opening::chosen;
+use mdmp_lister::{Choice, Limits, ListFault, Lister, RunFault, StopAt};
+use mdmp_map::Place;
+use mdmp_source::{MemoryStore, Source, SourceFault, Store};
+use std::alloc::{AllocError, Global};
+use std::test::Fail;
+
+/// The least window, and no room for a name.
+pub const LEAST: Limits = Limits {
+    window: 168,
+    name: 0,
+};
+
+/// The least window, and the room for a name that the program has.
+pub const NAMED: Limits = Limits {
+    window: 168,
+    name: 4096,
+};
+
+/// A call of a lister.
+#[derive(Clone, Copy, Debug, PartialEq, Eq)]
+pub enum Step {
+    /// How many entries its header counts.
+    Entries,
+    /// The next item.
+    Next,
+    /// Skip the entry.
+    Skip,
+    /// Hand what is left to a new sink, which stops at this call.
+    NewSink(u64),
+    /// Hand what is left to the sink of the step before.
+    SameSink,
+    /// How many ranges the map has, and has room for.
+    Room,
+    /// Where the map finds an address.
+    Find(u64),
+    /// Read so many bytes of memory at an address, at most sixteen.
+    Read(u64, usize),
+}
+
+/// What a call answers.
+#[derive(Clone, Copy, Debug, PartialEq, Eq)]
+pub enum Answer {
+    Done,
+    Entries(u32),
+    Item(Given),
+    End,
+    Fault(ListFault),
+    /// How a run ended, and how often its sink was called so far.
+    Ran(Option<RunFault>, u64),
+    Room { len: usize, free: usize },
+    Place(Option<Place>),
+    /// What was read, with zeros behind it, and which of its bytes are known.
+    Memory([u8; 16], [bool; 16]),
+    Failed(SourceFault),
+}
+
+/// A call and its answer.
+#[derive(Clone, Copy, Debug, PartialEq, Eq)]
+pub struct Call {
+    pub step: Step,
+    pub answer: Answer,
+}
+
+/// What came of a script.
+#[derive(Clone, Copy, Debug, PartialEq, Eq)]
+pub struct Played {
+    /// The first call that answered something else, by its number, and what it answered.
+    pub other: Option<(usize, Answer)>,
+    /// The size of the source that was handed back.
+    pub size: u64,
+}
+
+fn called(step: Step, answer: Answer) -> Call {
+    Call { step, answer }
+}
+
+pub fn entries(count: u32) -> Call {
+    called(Step::Entries, Answer::Entries(count))
+}
+
+pub fn gives(item: Given) -> Call {
+    called(Step::Next, Answer::Item(item))
+}
+
+pub fn ends() -> Call {
+    called(Step::Next, Answer::End)
+}
+
+pub fn fails(fault: ListFault) -> Call {
+    called(Step::Next, Answer::Fault(fault))
+}
+
+pub fn skips() -> Call {
+    called(Step::Skip, Answer::Done)
+}
+
+/// A run into a new sink that stops at this call.
+pub fn runs(stop_at: u64, fault: Option<RunFault>, calls: u64) -> Call {
+    called(Step::NewSink(stop_at), Answer::Ran(fault, calls))
+}
+
+/// A further run into the same sink.
+pub fn runs_on(fault: Option<RunFault>, calls: u64) -> Call {
+    called(Step::SameSink, Answer::Ran(fault, calls))
+}
+
+pub fn has_room(len: usize, free: usize) -> Call {
+    called(Step::Room, Answer::Room { len, free })
+}
+
+pub fn finds(address: u64, offset: u64, left: u64) -> Call {
+    let place = Place { offset, left };
+    called(Step::Find(address), Answer::Place(Some(place)))
+}
+
+pub fn finds_nothing(address: u64) -> Call {
+    called(Step::Find(address), Answer::Place(None))
+}
+
+/// These bytes, and which of them are known.
+pub fn reads<const N: usize>(address: u64, bytes: [u8; N], known: [bool; N]) -> Call {
+    let mut out = [0; 16];
+    let mut is_known = [false; 16];
+    for i in 0..N {
+        if i < 16 {
+            out[i] = bytes[i];
+            is_known[i] = known[i];
+        }
+    }
+    called(Step::Read(address, N), Answer::Memory(out, is_known))
+}
+
+pub fn read_fails(address: u64, len: usize, fault: SourceFault) -> Call {
+    called(Step::Read(address, len), Answer::Failed(fault))
+}
+
+fn next_answer<S: Store + Drop>(
+    rt: &HostRuntime,
+    lister: &mut Lister<S, Global>,
+) -> Result<Answer, AllocError> {
+    match next_of(rt, lister)? {
+        Ok(Some(item)) => Ok(Answer::Item(item)),
+        Ok(None) => Ok(Answer::End),
+        Err(fault) => Ok(Answer::Fault(fault)),
+    }
+}
+
+fn run<S: Store + Drop>(lister: &mut Lister<S, Global>, sink: &mut StopAt) -> Answer {
+    let fault = lister.list_into(sink).err();
+    Answer::Ran(fault, sink.calls())
+}
+
+fn read<S: Store + Drop>(lister: &mut Lister<S, Global>, address: u64, len: usize) -> Answer {
+    let len = len.min(16);
+    // What stands there before is no answer.
+    let mut out = [0xee; 16];
+    let mut known = [address % 2 == 0; 16];
+    if let Err(fault) = lister.read_address(address, &mut out[..len], &mut known[..len]) {
+        return Answer::Failed(fault);
+    }
+    for i in len..16 {
+        out[i] = 0;
+        known[i] = false;
+    }
+    Answer::Memory(out, known)
+}
+
+fn answer_of<S: Store + Drop>(
+    rt: &HostRuntime,
+    lister: &mut Lister<S, Global>,
+    sink: &mut StopAt,
+    step: Step,
+) -> Result<Answer, AllocError> {
+    let answer = match step {
+        Step::Entries => Answer::Entries(lister.header().number_of_streams),
+        Step::Next => next_answer(rt, lister)?,
+        Step::Skip => {
+            lister.skip_entry();
+            Answer::Done
+        }
+        Step::NewSink(stop_at) => {
+            *sink = StopAt::new(stop_at);
+            run(lister, sink)
+        }
+        Step::SameSink => run(lister, sink),
+        Step::Room => Answer::Room {
+            len: lister.map().len(),
+            free: lister.map().free(),
+        },
+        Step::Find(address) => Answer::Place(lister.map().find(address)),
+        Step::Read(address, len) => read(lister, address, len),
+    };
+    Ok(answer)
+}
+
+/// Plays a script over a lister of a store, up to the first call that answers something else.
+pub fn play<S: Store + Drop>(
+    rt: &HostRuntime,
+    store: S,
+    limits: Limits,
+    choice: Choice,
+    script: &[Call],
+) -> Result<Played, Fail> {
+    let Ok(mut lister) = Lister::open(rt.alloc(), Source::new(store), limits, choice) else {
+        return Err(Fail::from("open"));
+    };
+    let mut sink = StopAt::new(u64::MAX);
+    let mut other = None;
+    for i in 0..script.len() {
+        let call = script[i];
+        let answer = answer_of(rt, &mut lister, &mut sink, call.step)?;
+        if answer != call.answer {
+            other = Some((i, answer));
+            break;
+        }
+    }
+    let size = lister.into_source().size();
+    Ok(Played { other, size })
+}
+
+/// Plays a script over a lister of each entry of a file: the first call that answers something else.
+pub fn other_in_bytes(
+    rt: &HostRuntime,
+    limits: Limits,
+    file: &[u8],
+    script: &[Call],
+) -> Result<Option<(usize, Answer)>, Fail> {
+    let played = play(rt, MemoryStore::new(file), limits, Choice::All, script)?;
+    Ok(played.other)
+}
+
+/// The same over a file with so many entries and these numbers.
+pub fn other_in_numbers(
+    rt: &HostRuntime,
+    limits: Limits,
+    entries: u32,
+    numbers: &[u32],
+    script: &[Call],
+) -> Result<Option<(usize, Answer)>, Fail> {
+    let file = file(rt, entries, numbers)?;
+    other_in_bytes(rt, limits, &file, script)
+}
+
+/// The same over the entries of these types alone.
+pub fn other_of_chosen(
+    rt: &HostRuntime,
+    limits: Limits,
+    entries: u32,
+    numbers: &[u32],
+    types: &[u32],
+    script: &[Call],
+) -> Result<Option<(usize, Answer)>, Fail> {
+    let file = file(rt, entries, numbers)?;
+    let played = play(rt, MemoryStore::new(&file), limits, chosen(types)?, script)?;
+    Ok(played.other)
+}

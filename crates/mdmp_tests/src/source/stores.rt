@@ -1,0 +1,111 @@
+//! Stores, and fetches from them.
+use mdmp_source::{
+    FileStore, MemoryStore, PatchyStore, Source, SourceFault, Store, StoreFailed, Tally,
+};
+use std::fs;
+use std::process::Abort;
+use std::test::Fail;
+
+/// Four bytes at 1, through the bound.
+fn four_at_one<S: Store>(rt: &impl Abort, source: &mut Source<S>) -> Result<[u8; 4], SourceFault> {
+    assert!(rt; source.size() >= 5);
+    let mut bytes = [0; 4];
+    source.fetch(1, &mut bytes)?;
+    Ok(bytes)
+}
+
+/// A source over this store.
+fn source_of<S: Store>(store: S) -> Source<S> {
+    Source::new(store)
+}
+
+/// A store of these bytes.
+fn memory(bytes: &[u8]) -> MemoryStore<'_> {
+    MemoryStore::new(bytes)
+}
+
+/// The source was fetched from so often, and was asked for so many bytes.
+fn assert_counts<S: Store>(rt: &impl Abort, source: &Source<S>, calls: u128, fetched: u128) {
+    assert_eq!(rt; source.calls(), calls);
+    assert_eq!(rt; source.fetched(), fetched);
+}
+
+/// A source of these bytes, as a patchy store gives them.
+fn patchy<'a>(
+    rt: &impl Abort,
+    bytes: &'a [u8],
+    caps: &'a [usize],
+    fail_at: Option<u64>,
+) -> Source<PatchyStore<'a>> {
+    assert!(rt; !caps.is_empty());
+    Source::new(PatchyStore::new(bytes, caps, fail_at))
+}
+
+#[test]
+fn memory_store_gives_its_bytes(rt: HostRuntime) -> Result<(), Fail> {
+    let mut source = source_of(memory(b"abcdef"));
+    assert_eq!(rt; source.size(), 6);
+    assert_eq!(rt; four_at_one(&rt, &mut source)?, *b"bcde");
+    assert_counts(&rt, &source, 1, 4);
+    assert_eq!(rt; source.into_store().size(), 6);
+    Ok(())
+}
+
+#[test]
+fn patchy_store_fails_once(rt: HostRuntime) {
+    let mut source = patchy(&rt, b"abcdef", &[1], Some(2));
+    assert_eq!(rt;
+        four_at_one(&rt, &mut source),
+        Err(SourceFault::Failed { at: 3 })
+    );
+    assert_eq!(rt; four_at_one(&rt, &mut source), Ok(*b"bcde"));
+    assert_counts(&rt, &source, 2, 8);
+}
+
+#[test]
+fn patchy_store_answers_nothing(rt: HostRuntime) {
+    let mut source = patchy(&rt, b"abcdef", &[3, 0], None);
+    assert_eq!(rt;
+        four_at_one(&rt, &mut source),
+        Err(SourceFault::ShortRead { at: 4 })
+    );
+}
+
+#[test]
+fn tally_counts_answers(rt: HostRuntime) {
+    let mut tally = Tally::new();
+    for (answer, len) in [(Ok(3), 4), (Ok(0), 4), (Ok(0), 0), (Err(StoreFailed), 4)] {
+        tally.count(&answer, len);
+    }
+    let counted = Tally {
+        calls: 4,
+        failures: 1,
+        empties: 1,
+    };
+    assert_eq!(rt; tally, counted);
+}
+
+#[test]
+fn lent_store_is_had_back(rt: HostRuntime) -> Result<(), Fail> {
+    let mut store = memory(b"abcdef");
+    {
+        let mut source = source_of(&mut store);
+        assert_eq!(rt; four_at_one(&rt, &mut source)?, *b"bcde");
+    }
+    let mut byte = [0];
+    assert_eq!(rt; store.read_at(5, &mut byte), Ok(1));
+    assert_eq!(rt; byte, *b"f");
+    Ok(())
+}
+
+#[test]
+fn file_store_open_succeeds(rt: HostRuntime) -> Result<(), Fail> {
+    fs::write(&rt, "six", "abcdef")?;
+    let store = FileStore::open(&rt, "six").ok().ok_or("open")?;
+    let mut source = source_of(store);
+    assert_eq!(rt; source.size(), 6);
+    assert_eq!(rt; four_at_one(&rt, &mut source)?, *b"bcde");
+    fs::remove_file(&rt, "six")?;
+    assert!(rt; FileStore::open(&rt, "six").is_err());
+    Ok(())
+}

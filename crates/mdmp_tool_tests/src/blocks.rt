@@ -1,0 +1,51 @@
+//! `list` and `hex` to an output that gathers blocks.
+use crate::files::{FAULTY, bad_name, faulty_file};
+use crate::memory_files::{WIDE_TEXT, wide_file};
+use crate::runs::{FOUR, Room, assert_printed, hex_blocks, list_blocks, start_of};
+use mdmp_tool::ToolFault;
+use std::test::Fail;
+
+/// An output that takes all, by nine bytes a call.
+const BY_NINE: Room = Room { all: 1000, call: 9 };
+
+#[test]
+fn blocks_bring_the_same_text(rt: HostRuntime) -> Result<(), Fail> {
+    let bytes = faulty_file(rt.alloc())?;
+    for block in [1, 7, 100, 1000] {
+        let listed = list_blocks(rt.alloc(), &bytes, block, BY_NINE)?;
+        assert_printed(
+            &rt,
+            &listed.printed,
+            Some(ToolFault::List(bad_name())),
+            FAULTY,
+        );
+    }
+    Ok(())
+}
+
+#[test]
+fn refused_last_block_is_told_in_place_of_the_fault(rt: HostRuntime) -> Result<(), Fail> {
+    let bytes = faulty_file(rt.alloc())?;
+    let room = Room {
+        all: 100,
+        call: 100,
+    };
+    let listed = list_blocks(rt.alloc(), &bytes, 1000, room)?;
+    let start = start_of(FAULTY, 100)?;
+    assert_printed(&rt, &listed.printed, Some(ToolFault::Out), start);
+    // The header, three entries, the system, the count of the modules and the first one.
+    assert_eq!(rt; listed.fetched, 236);
+    Ok(())
+}
+
+#[test]
+fn blocks_bring_the_same_bytes(rt: HostRuntime) -> Result<(), Fail> {
+    let bytes = wide_file(rt.alloc())?;
+    for block in [1, 7, 100] {
+        let counted = hex_blocks(rt.alloc(), &bytes, FOUR, block, BY_NINE)?;
+        assert_printed(&rt, &counted.printed, None, WIDE_TEXT);
+        // The header, an entry, the head of the list, the list, and four bytes.
+        assert_eq!(rt; counted.fetched, 112);
+    }
+    Ok(())
+}

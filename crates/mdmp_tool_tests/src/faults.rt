@@ -1,0 +1,136 @@
+//! What is said of faults.
+use crate::files::bad_name;
+use crate::runs::{BY_WHOLE, Room, told};
+use mdmp_source::SourceFault;
+use mdmp_tool::{FaultKind, ListFault, OpenFault, ToolFault, status};
+use std::alloc::Global;
+use std::process::Abort;
+use std::test::Fail;
+
+/// Asserts what is said of a fault, and that an output of nine bytes has the first part of it.
+fn assert_told(rt: &impl Abort, alloc: Global, fault: &ToolFault, text: &str) -> Result<(), Fail> {
+    let line = format!(in alloc; "mdmp: {text}\n")?;
+    let (whole, is_whole) = told(alloc, fault, Room { all: 1000, call: 1 })?;
+    assert!(rt; is_whole);
+    assert_eq!(rt; whole.as_str(), line.as_str());
+    let (start, is_whole) = told(alloc, fault, Room { all: 9, call: 1000 })?;
+    assert!(rt; !is_whole);
+    assert_eq!(rt; start.len(), 9);
+    assert!(rt; line.as_str().starts_with(start.as_str()));
+    Ok(())
+}
+
+#[test]
+fn faults_have_a_status_and_a_line(rt: HostRuntime) -> Result<(), Fail> {
+    let outside = ListFault {
+        entry: 2,
+        index: None,
+        kind: FaultKind::StreamOutside,
+        offset: 236,
+        size: 5,
+    };
+    let mut last = outside;
+    last.index = Some(18446744073709551615);
+    last.kind = FaultKind::NameOdd;
+    let source = SourceFault::Failed {
+        at: 18446744073709551615,
+    };
+    let directory = OpenFault::DirectoryOutside {
+        offset: 32,
+        size: 12,
+    };
+    let rows = [
+        (
+            ToolFault::Opening(OpenFault::TooShort { size: 0 }),
+            1,
+            "file of 0 bytes is too short",
+        ),
+        (
+            ToolFault::Opening(OpenFault::BadSignature),
+            1,
+            "bad signature",
+        ),
+        (
+            ToolFault::Opening(OpenFault::BadVersion { low: 0xa794 }),
+            1,
+            "bad version 0xa794",
+        ),
+        (
+            ToolFault::Opening(directory),
+            1,
+            "directory outside the file: offset 32 size 12",
+        ),
+        (
+            ToolFault::Opening(OpenFault::TooManyRanges { count: 268451840 }),
+            1,
+            "too many memory ranges: 268451840",
+        ),
+        (
+            ToolFault::List(outside),
+            1,
+            "entry 2: stream outside the file: offset 236 size 5",
+        ),
+        (
+            ToolFault::List(bad_name()),
+            1,
+            "entry 1 item 0: name length outside the file: offset 4294967295 size 4",
+        ),
+        (
+            ToolFault::List(last),
+            1,
+            "entry 2 item 18446744073709551615: odd name length: offset 236 size 5",
+        ),
+        (
+            ToolFault::Source(source),
+            3,
+            "store failed at 18446744073709551615",
+        ),
+        (
+            ToolFault::Source(SourceFault::ShortRead { at: 0 }),
+            3,
+            "store ended at 0",
+        ),
+        (
+            ToolFault::Source(SourceFault::Changed { at: 44 }),
+            3,
+            "store changed at 44",
+        ),
+        (ToolFault::Out, 3, "output failed"),
+        (ToolFault::Memory, 3, "out of memory"),
+    ];
+    for (fault, code, text) in rows {
+        assert_eq!(rt; status(&fault), code);
+        assert_told(&rt, rt.alloc(), &fault, text)?;
+    }
+    Ok(())
+}
+
+#[test]
+fn each_kind_of_fault_has_its_words(rt: HostRuntime) -> Result<(), Fail> {
+    let rows = [
+        (FaultKind::StreamOutside, "stream outside the file"),
+        (FaultKind::ShortStream, "stream too short"),
+        (FaultKind::BadHeaderSize, "bad header size"),
+        (FaultKind::BadEntrySize, "bad entry size"),
+        (FaultKind::BadCount, "bad count"),
+        (FaultKind::NameLengthOutside, "name length outside the file"),
+        (FaultKind::NameOdd, "odd name length"),
+        (FaultKind::NameUnitsOutside, "name outside the file"),
+    ];
+    for (kind, words) in rows {
+        let fault = ListFault {
+            entry: 3,
+            index: None,
+            kind,
+            offset: 52,
+            size: 18446744073709551615,
+        };
+        let (told_line, is_told) = told(rt.alloc(), &ToolFault::List(fault), BY_WHOLE)?;
+        assert!(rt; is_told);
+        let line = format!(in rt.alloc();
+            "mdmp: entry 3: {words}: offset 52 size 18446744073709551615\n"
+        )?;
+        assert_eq!(rt; told_line.as_str(), line.as_str());
+    }
+    Ok(())
+}

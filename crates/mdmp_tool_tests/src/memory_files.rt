@@ -1,0 +1,134 @@
+//! Files that hold memory of a process.
+use crate::files::numbers;
+use std::alloc::{AllocError, Global};
+
+/// A file of 98 bytes with a 64-bit list of two ranges of four bytes, at 0x1000 and at 0x2000. The
+/// bytes of the first are `ABCD`, and of the second only `EF` are left.
+pub fn wide_file(alloc: Global) -> Result<Vec<u8>, AllocError> {
+    let list = [2, 0, 92, 0, 0x1000, 0, 4, 0, 0x2000, 0, 4, 0];
+    let mut words = [0; 17];
+    words[..3].copy_from_slice(&[9, 48, 44]);
+    words[3..15].copy_from_slice(&list);
+    words[15..].copy_from_slice(&[0x4443_4241, 0x4645]);
+    let mut bytes = numbers(alloc, 1, &words)?;
+    bytes.truncate(98);
+    Ok(bytes)
+}
+
+/// What `hex` prints of the four bytes at 0x1000.
+pub const WIDE_TEXT: &str = "0x0000000000001000: 41 42 43 44\n";
+
+/// A range of a memory list: where it begins, and where its four bytes stand.
+#[derive(Clone, Copy)]
+pub struct Piece {
+    pub start: u32,
+    pub rva: u32,
+}
+
+/// `ABCD`, at 0x1000.
+pub const LOW: Piece = Piece {
+    start: 0x1000,
+    rva: 80,
+};
+
+/// `wxyz`, at 0x1002.
+pub const HIGH: Piece = Piece {
+    start: 0x1002,
+    rva: 84,
+};
+
+/// A file of 88 bytes with a memory list of two ranges that says it has this many.
+pub fn memory_file(
+    alloc: Global,
+    count: u32,
+    first: Piece,
+    second: Piece,
+) -> Result<Vec<u8>, AllocError> {
+    let words = [
+        5,
+        36,
+        44,
+        count,
+        first.start,
+        0,
+        4,
+        first.rva,
+        second.start,
+        0,
+        4,
+        second.rva,
+        0x4443_4241,
+        0x7a79_7877,
+    ];
+    numbers(alloc, 1, &words)
+}
+
+/// A file with a 64-bit list of one range, of sixteen bytes at 0xfffffffffffffff8.
+pub fn last_file(alloc: Global) -> Result<Vec<u8>, AllocError> {
+    let words = [
+        9,
+        32,
+        44,
+        1,
+        0,
+        76,
+        0, // one range, whose bytes begin at 76
+        0xffff_fff8,
+        0xffff_ffff,
+        16,
+        0,
+        0x0302_0100,
+        0x0706_0504,
+        0x0b0a_0908,
+        0x0f0e_0d0c,
+    ];
+    numbers(alloc, 1, &words)
+}
+
+/// A file with a list of one thread that is a byte too short for it.
+pub fn short_threads_file(alloc: Global) -> Result<Vec<u8>, AllocError> {
+    let mut words = [0; 16];
+    words[..4].copy_from_slice(&[3, 51, 44, 1]);
+    numbers(alloc, 1, &words)
+}
+
+/// A file with a 64-bit list of three ranges, of which two have the greatest size.
+pub fn endless_ranges_file(alloc: Global) -> Result<Vec<u8>, AllocError> {
+    let most = u32::MAX;
+    let words = [
+        9, 64, 44, 3, 0, 108, 0, // three ranges, whose bytes begin at 108
+        0x1000, 0, most, most, 0x2000, 0, most, most, 0x3000, 0, 1, 0,
+    ];
+    numbers(alloc, 1, &words)
+}
+
+/// A range of a memory list: where it begins, how many bytes it has, and where they stand.
+#[derive(Clone, Copy)]
+pub struct Range {
+    pub start: u64,
+    pub size: u32,
+    pub rva: u32,
+}
+
+/// A range without bytes.
+pub const NO_RANGE: Range = Range {
+    start: 0,
+    size: 0,
+    rva: 0,
+};
+
+/// A file with a memory list of two ranges, and these bytes from 80 on.
+pub fn two_ranges_file(
+    alloc: Global,
+    ranges: &[Range; 2],
+    bytes: &[u8],
+) -> Result<Vec<u8>, AllocError> {
+    let mut file = numbers(alloc, 1, &[5, 36, 44, 2])?;
+    for range in ranges {
+        file.extend_from_slice(&range.start.to_le_bytes())?;
+        file.extend_from_slice(&range.size.to_le_bytes())?;
+        file.extend_from_slice(&range.rva.to_le_bytes())?;
+    }
+    file.extend_from_slice(bytes)?;
+    Ok(file)
+}

@@ -1,0 +1,94 @@
+//! Command lines, over files that the tests write.
+use crate::files::{FAULTY, SYSTEM_TEXT, faulty_file, head, system_file};
+use crate::runs::{BY_SEVEN, BY_WHOLE, Room, assert_ended, run, run_with, start_of, write_file};
+use linked_list_allocator::LocalHeap;
+use std::alloc::Global;
+use std::rt::Files;
+use std::test::Fail;
+
+/// Writes the files of these command lines.
+fn write_files(rt: &impl Files, alloc: Global) -> Result<(), Fail> {
+    write_file(rt, "empty.dmp", head(0, 0xffff_ffff).as_slice())?;
+    write_file(rt, "short.dmp", [0u8; 31].as_slice())?;
+    write_file(rt, "system.dmp", system_file(alloc)?.as_slice())?;
+    write_file(rt, "faulty.dmp", faulty_file(alloc)?.as_slice())?;
+    Ok(())
+}
+
+#[test]
+fn run_words_succeeds(rt: HostRuntime) -> Result<(), Fail> {
+    write_files(&rt, rt.alloc())?;
+    let empty =
+        "dump version 0x0000 streams 0 directory 4294967295 checksum 0 time 0 flags 0x0000000000000000\n";
+    let rows: [(&[&str], u8, &str, &str); 10] = [
+        (&["list", "empty.dmp"], 0, empty, ""),
+        (&["list", "system.dmp"], 0, SYSTEM_TEXT, ""),
+        (
+            &["list", "short.dmp"],
+            1,
+            "",
+            "mdmp: file of 31 bytes is too short\n",
+        ),
+        (
+            &["list", "/dev/null"],
+            1,
+            "",
+            "mdmp: file of 0 bytes is too short\n",
+        ),
+        (
+            &["list", "faulty.dmp"],
+            1,
+            FAULTY,
+            "mdmp: entry 1 item 0: name length outside the file: offset 4294967295 size 4\n",
+        ),
+        (&["list", "none.dmp"], 3, "", "mdmp: cannot open none.dmp\n"),
+        (&[], 2, "", "mdmp: bad command line\n"),
+        (&["list"], 2, "", "mdmp: bad command line\n"),
+        (&["print", "empty.dmp"], 2, "", "mdmp: bad command line\n"),
+        (
+            &["list", "empty.dmp", "more"],
+            2,
+            "",
+            "mdmp: bad command line\n",
+        ),
+    ];
+    for (words, code, printed, told) in rows {
+        let told_all = run(&rt, rt.alloc(), words)?;
+        assert_ended(&rt, words, &told_all, code, printed, told);
+        // An output that takes nothing of the fault's line changes nothing.
+        let none = Room { all: 0, call: 7 };
+        let told_none = run_with(&rt, rt.alloc(), rt.alloc(), words, BY_SEVEN, none)?;
+        assert_ended(&rt, words, &told_none, code, printed, "");
+    }
+    Ok(())
+}
+
+#[test]
+fn words_tell_a_failing_output_and_want_of_memory(rt: HostRuntime) -> Result<(), Fail> {
+    write_file(&rt, "faulty.dmp", faulty_file(rt.alloc())?.as_slice())?;
+    let words = ["list", "faulty.dmp"];
+    let full = Room {
+        all: 100,
+        call: 100,
+    };
+    let ended = run_with(&rt, rt.alloc(), rt.alloc(), &words, full, BY_WHOLE)?;
+    let start = start_of(FAULTY, 100)?;
+    assert_ended(&rt, &words, &ended, 3, start, "mdmp: output failed\n");
+    // The growths are the block of output and the window of 65536 bytes each, the directory of 36, and
+    // the name of 4096.
+    for (size, code, told) in [
+        (0, 3, "mdmp: out of memory\n"),
+        (131120, 3, "mdmp: out of memory\n"),
+        (
+            135216,
+            1,
+            "mdmp: entry 1 item 0: name length outside the file: offset 4294967295 size 4\n",
+        ),
+    ] {
+        let heap = LocalHeap::new(rt.alloc(), size)?;
+        let ended = run_with(&rt, rt.alloc(), &heap, &words, BY_WHOLE, BY_WHOLE)?;
+        assert_eq!(rt; ended.status, code, "at {size}");
+        assert_eq!(rt; ended.told.as_str(), told, "at {size}");
+    }
+    Ok(())
+}
