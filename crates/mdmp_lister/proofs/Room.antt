@@ -1,12 +1,11 @@
 -- Room for the records of a stream.
-use Rattle.std.proofs.Common.{◌≤◌, ◌<◌, ◌+◌, ◌*◌, inl, inr, ℕ, suc, List, length, arith, mul-suc, mul_comm}
+use Rattle.std.proofs.Common.{◌≤◌, ◌<◌, ◌+◌, ◌*◌, inl, inr, ℕ, suc, arith, mul-suc, mul_comm}
 use Rattle.std.proofs.Math.Nat.{mul-le-mul_left}
 use Rattle.mdmp_lister.specs.declared.kind.Kind.{Kind}
 use Rattle.mdmp_lister.specs.declared.kind.Kind.TheVariants as kinds
 use Rattle.mdmp_lister.specs.declared.shape.Shape.{Shape}
 use Rattle.mdmp_source.specs.Range.{IsInside}
 use Rattle.mdmp_lister.specs.Shapes.{FitsIn, record_size}
-use Rattle.mdmp_lister.specs.Plain.{HasRecords}
 
 -- record k of n, each of r bytes and s bytes apart, ends where they all do at the latest
 record_room : (k n s r : ℕ) → k < n → r ≤ s → k * s + r ≤ n * s
@@ -35,14 +34,3 @@ record-inside z at size kind shape k whole fits lt =
     let wide : record_size kind ≤ shape.stride = fits.stride (omega (arith, lt)) in
     ends_inside at size z shape.first shape.count shape.stride k (record_size kind) whole fits.records
     (record_room k shape.count shape.stride (record_size kind) lt wide) (least_record kind)
-
--- the records of a stream that lies inside a file do
-pub HasRecords-FitsIn : (F : List ℕ) (at size : ℕ) (kind : Kind) (shape : Shape) → IsInside at size (length F) → FitsIn size kind shape → HasRecords F at kind shape
-HasRecords-FitsIn F at size kind shape whole fits = record {
-  room = λ k lt. record-inside (length F) at size kind shape k whole fits lt;
-  behind = λ k lt.
-      let least = least_record kind in
-      let wide : record_size kind ≤ shape.stride = fits.stride (omega (arith, lt)) in
-      let apart : 16 ≤ shape.stride = omega (arith, least, wide) in
-      omega (arith, mul-le-mul_left k apart, mul_comm k 16, least);
-}

@@ -12,7 +12,6 @@ pub mod Mapping
 pub mod Names
 pub mod Opening
 pub mod Owing
-pub mod Plain
 pub mod Ranges
 pub mod Reading
 pub mod Shapes

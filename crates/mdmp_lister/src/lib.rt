@@ -9,9 +9,10 @@
 //! and `Opening` (which files can't be listed at all).
 //!
 //! [`Lister`] lists a file through a window, one item at a time or all of them into a [`Sink`];
-//! [`Choice`] says which entries are listed and [`Limits`] how much memory that may take.
-//! [`list_file`] lists a file that is wholly in memory, slow and obvious; [`name_at`] and [`shape_of`]
-//! are two steps of it.
+//! [`Choice`] says which entries are listed, [`Limits`] how long the window and a name may be. The
+//! ranges of memory that were given are kept in a map: [`Lister::read_address`] reads memory by it.
+//! [`name_at`] and [`shape_of`] read a name and where the records of a stream stand, of a file that is
+//! wholly in memory.
 //!
 //! ```text
 //! let source = Source::new(FileStore::open(rt, "crash.dmp")?);
@@ -38,7 +39,6 @@ mod limits;
 mod lister;
 mod name;
 mod opening;
-mod plain;
 mod reading;
 mod recording;
 mod shape;
@@ -62,7 +62,6 @@ pub use crate::limits::Limits;
 pub use crate::lister::Lister;
 pub use crate::name::Name;
 pub use crate::opening::OpenRefused;
-pub use crate::plain::{Listing, list_file, opening_fault};
 pub use crate::reading::name_at;
 pub use crate::shape::Shape;
 pub use crate::shaping::shape_of;

@@ -1,4 +1,5 @@
-//! How much memory a lister may hold.
+//! How long a lister's window and a name may be. The directory takes 12 bytes for each entry on top,
+//! and the map 24 for each range.
 ghost use Rattle.std.specs.Prelude.{◌≤◌};
 
 /// How many bytes a lister holds for the file's records, and for a name.

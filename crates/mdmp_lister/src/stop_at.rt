@@ -7,8 +7,8 @@ use crate::sink::{Sink, Stopped};
 use std::marker::Model;
 
 /// A sink that answers at one call alone that it wants no more: at call `stop_at`, counted from 0.
-/// It counts its calls, up to the greatest `u64` (a sink that is to stop there stops at each later call), and keeps no item. It is for tests of what hands
-/// items to a sink.
+/// It counts its calls, up to the greatest `u64` (a sink that is to stop there stops at each later
+/// call), and keeps no item. It is for tests of what hands items to a sink.
 #[derive(Drop)]
 pub struct StopAt {
     stop_at: u64,

@@ -1,14 +1,14 @@
 //! Lists the real dumps of the folder data, one after the other, as the command does, and counts
-//! the items that the plain lister gives.
+//! their items.
 #![tactic(auto)]
 
-use mdmp_lister::{Choice, list_file};
-use mdmp_source::{FileStore, Source, Store, WriteOut};
+use mdmp_lister::{Choice, Limits, Lister, StopAt};
+use mdmp_source::{FileStore, Source, WriteOut};
 use mdmp_tool::run_words;
 use std::io::Write;
 use std::process::ExitCode;
 
-/// The dumps, each under the name of the program that wrote it.
+/// The dumps, each named for the program that wrote it.
 const DUMPS: [&str; 6] = [
     "crashpad-one.dmp",
     "lldb19-crash-stack.dmp",
@@ -19,17 +19,12 @@ const DUMPS: [&str; 6] = [
 ];
 
 /// How many items a dump has, or none where it can't be listed to its end.
-fn items_of(rt: &HostRuntime, dump: &str) -> Option<usize> {
-    let store = FileStore::open(rt, dump).ok()?;
-    let mut source = Source::new(store);
-    let mut file = Vec::new(rt.alloc());
-    file.resize(source.size() as usize, 0).ok()?;
-    source.fetch(0, &mut file).ok()?;
-    let listing = list_file(rt.alloc(), &file, &Choice::All, 4096).ok()?;
-    if listing.fault().is_some() {
-        return None;
-    }
-    Some(listing.items().len())
+fn items_of(rt: &HostRuntime, dump: &str) -> Option<u64> {
+    let source = Source::new(FileStore::open(rt, dump).ok()?);
+    let mut lister = Lister::open(rt.alloc(), source, Limits::default(), Choice::All).ok()?;
+    let mut items = StopAt::new(u64::MAX);
+    lister.list_into(&mut items).ok()?;
+    Some(items.calls())
 }
 
 fn main(rt: HostRuntime) -> ExitCode {
