@@ -91,7 +91,7 @@ module _ {S A : Type 0} (source : SourceState) (choice : Choice) (limits : Limit
       rw (new.stage, new.next, new.choice_is, new.name, all) refl
 
   -- and then counted its ranges, by the heads of lists
-  pub IsNewLister-counted : (counted : SourceState) → IsSound w → IsNewWalk source choice limits w → FetchesAtMost (16 * vec_len w.entries) w.source counted
+  pub IsNewLister-counted : (counted : SourceState) → IsSound w → IsNewWalk source choice limits w → FetchesAtMost (16 * vec_len w.entries) w.meter.source counted
       → IsNewLister source choice limits.name (record {
         source = counted;
         header = w.header;
@@ -107,7 +107,7 @@ module _ {S A : Type 0} (source : SourceState) (choice : Choice) (limits : Limit
   IsNewLister-counted counted sound new more =
       let few : 32 + 12 * w.header.number_of_streams + 16 * vec_len w.entries ≤ 32 + 28 * w.header.number_of_streams = omega (arith, new.entries) in
       record {
-        fetches = FetchesAtMost-within _ _ source counted few (fetches_then (32 + 12 * w.header.number_of_streams) (16 * vec_len w.entries) source w.source counted new.fetches more);
+        fetches = FetchesAtMost-within _ _ source counted few (fetches_then (32 + 12 * w.header.number_of_streams) (16 * vec_len w.entries) source w.meter.source counted new.fetches more);
         header_is = λ file known. sound.header_is file (new.fetches.same_content ∙ known);
         choice_is = new.choice_is;
         limit_is = new.name;

@@ -10,9 +10,11 @@ pub mod Files
 pub mod Handing
 pub mod LawsLemmas
 pub mod Mapping
+pub mod Metering
 pub mod NamedItems
 pub mod Offsets
 pub mod Owing
+pub mod Paying
 pub mod Refusals
 pub mod Room
 pub mod Rows

@@ -14,6 +14,7 @@ use Rattle.mdmp_lister.specs.declared.step.Step.{Step}
 use Rattle.mdmp_lister.specs.declared.step.Step.TheVariants as step
 use Rattle.mdmp_lister.specs.declared.walk.Walk.{Walk}
 use Rattle.mdmp_lister.specs.Items.{plain}
+use Rattle.mdmp_lister.specs.Paying.{IsBounded}
 use Rattle.mdmp_lister.specs.Mapping.{IsMapped, IsStepPlaced, ranges_of_step}
 use Rattle.mdmp_lister.specs.Owing.{HasRoom, count_told}
 use Rattle.mdmp_lister.specs.Ranges.{IsRangeIn, range_of, ranges_of}
@@ -52,33 +53,39 @@ module _ {S A : Type 0} where
   less_room w room has = record { ahead = omega (arith, has.ahead); owed = λ file known. omega (arith, has.owed file known) }
 
   -- where nothing was pushed
-  unmapped : (w new : Walk S A) (map : MapState) (given : ℕ) → IsMapped w map → IsSound new → new.source.size ≡ w.source.size → HasRoom (free_of map) given new
+  unmapped : (w new : Walk S A) (map : MapState) (given : ℕ) → IsMapped w map → IsSound new → new.meter.source.size ≡ w.meter.source.size → HasRoom (free_of map) given new → IsBounded new
       → IsMapped new (record map { ranges = map.ranges ++ [] })
-  unmapped w new map given old sound size room = rw (append-nil map.ranges) (record {
+  unmapped w new map given old sound size room bounded = rw (append-nil map.ranges) (record {
     sound = sound;
     room = same_room new (free_of map) given room;
     inside = rw size old.inside;
+    bounded = bounded;
   })
 
   -- where a range was
-  mapped : (w new : Walk S A) (map : MapState) (r : Range) → IsMapped w map → IsSound new → new.source.size ≡ w.source.size → HasRoom (free_of map) 1 new
-      → IsWithin w.source.size r → IsMapped new (record map { ranges = map.ranges ++ r ∷ [] })
-  mapped w new map r old sound size room within =
+  mapped : (w new : Walk S A) (map : MapState) (r : Range) → IsMapped w map → IsSound new → new.meter.source.size ≡ w.meter.source.size → HasRoom (free_of map) 1 new → IsBounded new
+      → IsWithin w.meter.source.size r → IsMapped new (record map { ranges = map.ranges ++ r ∷ [] })
+  mapped w new map r old sound size room bounded within =
       let free : map.room - length (map.ranges ++ r ∷ []) ≡ free_of map - 1 = omega (arith, length-append map.ranges (r ∷ [])) in
       record {
         sound = sound;
         room = rw free (less_room new (free_of map) room);
-        inside = rw size (All-append (IsWithin w.source.size) map.ranges (r ∷ []) old.inside (All-cons (IsWithin w.source.size) r [] within (All-nil (IsWithin w.source.size))));
+        inside = rw size (All-append (IsWithin w.meter.source.size) map.ranges (r ∷ []) old.inside (All-cons (IsWithin w.meter.source.size) r [] within (All-nil (IsWithin w.meter.source.size))));
+        bounded = bounded;
       }
 
-  mapped_range : (w new : Walk S A) (map : MapState) (r : RangeItem) (e : Extent) → r.extent ≡ e → IsMapped w map → IsSound new → new.source.size ≡ w.source.size
-      → HasRoom (free_of map) 1 new → IsRangeIn w.source.size r → IsMapped new (record map { ranges = map.ranges ++ ranges_of_step (step.Range r) })
-  mapped_range w new map r extents.Inside is old sound size room held = rw is (mapped w new map _ old sound size room (held is).1.0)
-  mapped_range w new map r extents.Empty is old sound size room held = rw is (unmapped w new map 1 old sound size room)
-  mapped_range w new map r extents.Absent is old sound size room held = rw is (unmapped w new map 1 old sound size room)
-  mapped_range w new map r extents.Outside is old sound size room held = rw is (unmapped w new map 1 old sound size room)
+  mapped_range : (w new : Walk S A) (map : MapState) (r : RangeItem) (e : Extent) → r.extent ≡ e → IsMapped w map → IsSound new → new.meter.source.size ≡ w.meter.source.size
+      → HasRoom (free_of map) 1 new → IsBounded new → IsRangeIn w.meter.source.size r → IsMapped new (record map { ranges = map.ranges ++ ranges_of_step (step.Range r) })
+  mapped_range w new map r extents.Inside is old sound size room bounded held = rw is (mapped w new map _ old sound size room bounded (held is).1.0)
+  mapped_range w new map r extents.Empty is old sound size room bounded held = rw is (unmapped w new map 1 old sound size room bounded)
+  mapped_range w new map r extents.Absent is old sound size room bounded held = rw is (unmapped w new map 1 old sound size room bounded)
+  mapped_range w new map r extents.Outside is old sound size room bounded held = rw is (unmapped w new map 1 old sound size room bounded)
 
-  pub mapped_step : (w new : Walk S A) (map : MapState) (room : ℕ) (s : Step) → IsMapped w map → IsSound new → new.source.size ≡ w.source.size
-      → HasRoom (free_of map) (count_told s) new → IsStepHeld w.source.size room s → IsMapped new (record map { ranges = map.ranges ++ ranges_of_step s })
-  mapped_step w new map room (step.Range r) old sound size has held = mapped_range w new map r r.extent refl old sound size has held
-  mapped_step w new map room _ old sound size has held = unmapped w new map 0 old sound size has
+  pub mapped_step : (w new : Walk S A) (map : MapState) (room : ℕ) (s : Step) → IsMapped w map → IsSound new → new.meter.source.size ≡ w.meter.source.size
+      → HasRoom (free_of map) (count_told s) new → IsBounded new → IsStepHeld w.meter.source.size room s → IsMapped new (record map { ranges = map.ranges ++ ranges_of_step s })
+  mapped_step w new map room (step.Range r) old sound size has bounded held = mapped_range w new map r r.extent refl old sound size has bounded held
+  mapped_step w new map room _ old sound size has bounded held = unmapped w new map 0 old sound size has bounded
+
+  -- where nothing was given
+  pub kept : (w new : Walk S A) (map : MapState) → IsMapped w map → IsSound new → new.meter.source.size ≡ w.meter.source.size → HasRoom (free_of map) 0 new → IsBounded new → IsMapped new map
+  kept w new map old sound size room bounded = record { sound = sound; room = room; inside = rw size old.inside; bounded = bounded }

@@ -1,11 +1,16 @@
 -- A list whose head was read while the file was opened counts no more ranges than there is room for.
-use Rattle.std.proofs.Common.{◌≡◌, ◌≤◌, arith, refl, ℕ, List, length, Option, Some, None, Ok}
+use Rattle.std.proofs.Common.{◌≡◌, ◌≤◌, ◌<◌, arith, refl, ℕ, List, length, Option, Some, None, Ok}
 use Rattle.mdmp_wire.specs.declared.entry.Entry.{Entry}
 use Rattle.mdmp_lister.specs.declared.kind.Kind.{Kind}
 use Rattle.mdmp_lister.specs.declared.kind.Kind.TheVariants as kinds
 use Rattle.mdmp_lister.specs.declared.shape.Shape.{Shape}
 use Rattle.mdmp_lister.specs.declared.stage.Stage.TheVariants.{Head}
 use Rattle.mdmp_lister.specs.declared.walk.Walk.{Walk}
+use Rattle.mdmp_source.specs.Source.{SourceState}
+use Rattle.mdmp_source.specs.declared.fault.SourceFault.TheVariants.{Changed}
+use Rattle.mdmp_lister.specs.declared.fault.FaultKind.TheVariants.{Source}
+use Rattle.mdmp_lister.specs.declared.fault.ListFault.{ListFault}
+use Rattle.mdmp_lister.specs.Reading.{IsRanged, IsToldIn}
 use Rattle.mdmp_lister.specs.Counts.{ranges_in}
 use Rattle.mdmp_lister.specs.Owing.{HasRoom, ranges_by}
 use Rattle.mdmp_lister.specs.Shapes.{kind_of, location_fault, shape_of}
@@ -17,8 +22,8 @@ ranges_in-shape F e kinds.Memory64 shape whole known shaped = rw (known, whole, 
 ranges_in-shape F e _ shape whole known shaped = rw known refl
 
 module _ {S A : Type 0} (w : Walk S A) (room : ℕ) (kind : Kind) (shape : Shape) where
-  pub ranges-counted : (file : List ℕ) → HasRoom room 0 w → w.stage ≡ Head → w.source.store.content ≡ Some file → w.source.size ≡ length file
-      → location_fault w.source.size w.current ≡ None → kind_of w.current.stream_type ≡ Some kind
+  pub ranges-counted : (file : List ℕ) → HasRoom room 0 w → w.stage ≡ Head → w.meter.source.store.content ≡ Some file → w.meter.source.size ≡ length file
+      → location_fault w.meter.source.size w.current ≡ None → kind_of w.current.stream_type ≡ Some kind
       → shape_of file w.current.location.rva w.current.location.size kind ≡ Ok shape → ranges_by kind shape.count ≤ room
   ranges-counted file has head known size whole is shaped =
       let owed = rw head at (has.owed file known) in
@@ -29,3 +34,14 @@ module _ {S A : Type 0} (w : Walk S A) (room : ℕ) (kind : Kind) (shape : Shape
 pub unknown : (content : Option (List ℕ)) → ((file : List ℕ) → content ≡ Some file → ⊥) → content ≡ None
 unknown None never = refl
 unknown (Some file) never = absurd (never file refl)
+
+-- a list that tells ranges is a memory list
+pub ranged : (known : Option Kind) (kind : Kind) (count room : ℕ) → known ≡ Some kind → room < ranges_by kind count → IsRanged known
+ranged known kinds.Memory count room is some = rw is tt
+ranged known kinds.Memory64 count room is some = rw is tt
+ranged known _ count room is some = absurd (omega (arith, some))
+
+-- that a store has changed is told at the list's RVA
+pub told_changed : (e : Entry) (f : ListFault) (old new : SourceState) → f.kind ≡ Source (Changed e.location.rva) → (f.offset ≡ e.location.rva) × (f.size ≡ 0) → f.index ≡ None
+    → old.store.content ≡ None → IsRanged (kind_of e.stream_type) → IsToldIn e f old new
+told_changed e f old new kind place none unknown list = record { by = rw kind (unknown, (refl, list)); placed = rw kind (place.0, (place.1, none)) }

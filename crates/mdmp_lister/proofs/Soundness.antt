@@ -26,11 +26,11 @@ IsGood-after n old new file fetches good = record {
 }
 
 module _ {S A : Type 0} (n : ℕ) (old new : Walk S A) where
-  pub IsSound-after : IsSound old → FetchesAtMost n old.source new.source → SameEntry old new
-      → IsStaged old.source.size old.next old.current new.stage
-      → ((file : List ℕ) → old.source.store.content ≡ Some file → IsOffset file old.current new.stage)
+  pub IsSound-after : IsSound old → FetchesAtMost n old.meter.source new.meter.source → SameEntry old new
+      → IsStaged old.meter.source.size old.next old.current new.stage
+      → ((file : List ℕ) → old.meter.source.store.content ≡ Some file → IsOffset file old.current new.stage)
       → (new.stage ≡ Ended → old.next ≡ vec_len old.entries)
-      → ((file : List ℕ) → IsGood old.source.store file → failure_of new.stage ≡ None)
+      → ((file : List ℕ) → IsGood old.meter.source.store file → failure_of new.stage ≡ None)
       → IsSound new
   IsSound-after sound fetches same staged offset ended unfailed = record {
     sized = rw (fetches.same_content, fetches.same_size) sound.sized;
@@ -43,7 +43,7 @@ module _ {S A : Type 0} (n : ℕ) (old new : Walk S A) where
     ended = λ end. rw (same.room.entries, same.next) (ended end);
     directory = λ file known. rw same.room.entries (sound.directory file (sym fetches.same_content ∙ known));
     header_is = λ file known. same.room.header_is ∙ sound.header_is file (sym fetches.same_content ∙ known);
-    unfailed = λ file good. unfailed file (IsGood-before n old.source new.source file fetches good);
+    unfailed = λ file good. unfailed file (IsGood-before n old.meter.source new.meter.source file fetches good);
   }
 
 -- ---- the stage behind a fault

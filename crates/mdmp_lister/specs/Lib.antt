@@ -9,9 +9,11 @@ pub mod Laws
 pub mod Lister
 pub mod Listing
 pub mod Mapping
+pub mod Meter
 pub mod Names
 pub mod Opening
 pub mod Owing
+pub mod Paying
 pub mod Ranges
 pub mod Reading
 pub mod Shapes

@@ -15,7 +15,7 @@ use Rattle.mdmp_map.specs.declared.range.Range.{Range}
 use Rattle.mdmp_lister.specs.Items.{plain}
 use Rattle.mdmp_lister.specs.Listing.{Run, nothing, only_fault, listing, listing_from}
 use Rattle.mdmp_lister.specs.Ranges.{ranges_of}
-use Rattle.mdmp_lister.specs.Reading.{IsCaused, IsChangeOf, IsOfSource, IsStoreFault}
+use Rattle.mdmp_lister.specs.Reading.{IsOfSource, IsToldIn}
 use Rattle.mdmp_lister.specs.Stages.{stop_after}
 
 pub record ListerState : Type 0 where
@@ -122,12 +122,8 @@ pub record Leaves (old : ListerState) (result : Result (Option Item) ListFault) 
   pub falls : IfOk result (λ given. IfSome given (λ item. new.work < old.work))
   -- an answer that is given again changes nothing
   pub repeats : (stop : Option ListFault) → old.stop ≡ Some stop → new ≡ old
-  -- and another fault of the store has its cause in this call
-  pub cause : old.stop ≡ None → IfErr result (λ f. IsCaused f.kind old.source new.source)
-  -- it has no index, the offset at which the store is at fault, and no size
-  pub place : old.stop ≡ None → IfErr result IsStoreFault
-  -- a store has changed where the head of a memory list counts more ranges than it did when the file was opened
-  pub changed : old.stop ≡ None → IfErr result (λ f. IsChangeOf old.current f.kind)
+  -- and another fault of the store is told in this call, of no item
+  pub told : old.stop ≡ None → IfErr result (λ f. IsToldIn old.current f old.source new.source)
   -- a fault stands in the entry whose Stream item was given last
   pub entry : old.stop ≡ None → IfErr result (λ f. f.entry + 1 ≡ old.passed)
   pub rests : new.work ≤ old.work

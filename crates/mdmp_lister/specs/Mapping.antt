@@ -8,6 +8,7 @@ use Rattle.mdmp_lister.specs.declared.step.Step.{Step}
 use Rattle.mdmp_lister.specs.declared.step.Step.TheVariants as step
 use Rattle.mdmp_lister.specs.declared.walk.Walk.{Walk}
 use Rattle.mdmp_lister.specs.Owing.{HasRoom}
+use Rattle.mdmp_lister.specs.Paying.{IsBounded}
 use Rattle.mdmp_lister.specs.Ranges.{IsRangeIn, ranges_of}
 use Rattle.mdmp_lister.specs.Walk.{IsSound}
 
@@ -25,4 +26,5 @@ IsStepPlaced s = Unit {0}
 pub record IsMapped {S A : Type 0} (w : Walk S A) (map : MapState) : Type 0 where
   pub sound : IsSound w
   pub room : HasRoom (free_of map) 0 w
-  pub inside : All (IsWithin w.source.size) map.ranges
+  pub inside : All (IsWithin w.meter.source.size) map.ranges
+  pub bounded : IsBounded w

@@ -1,8 +1,6 @@
 -- Whether a file can be listed at all.
 use Rattle.std.specs.Prelude.{◌≡◌, ◌≤◌, ◌<◌, false, ℕ, ◌+◌, ◌*◌, ◌^◌, List, length, Option, Some, None, Result, Ok, Err, nat_lt, if◌then◌else◌}
-use Rattle.mdmp_source.specs.Count.{HasRisen}
-use Rattle.mdmp_source.specs.Fault.{HasCause}
-use Rattle.mdmp_source.specs.Source.{SourceState, FetchesAtMost}
+use Rattle.mdmp_source.specs.Source.{SourceState, FetchesAtMost, IsTold}
 use Rattle.mdmp_wire.specs.declared.header.Header.{Header}
 use Rattle.mdmp_source.specs.Range.{is_inside}
 use Rattle.mdmp_wire.specs.declared.header_fault.HeaderFault.{HeaderFault}
@@ -64,11 +62,9 @@ abbrev pub IsUnread : OpenFault → Type 0
 IsUnread (Source fault) = Unit {0}
 IsUnread fault = ⊥
 
--- a fault of the store has its cause in this call
+-- a fault of the store is told by the last fetch of this call
 abbrev pub IsUnreadFor : OpenFault → SourceState → SourceState → Type 0
-IsUnreadFor (Source fault) old new = HasCause fault
-    (HasRisen old.store.counts.failures new.store.counts.failures)
-    (HasRisen old.store.counts.empties new.store.counts.empties)
+IsUnreadFor (Source fault) old new = IsTold fault old new
 IsUnreadFor fault old new = Unit {0}
 
 -- a fault of a file's header or directory, or want of memory where they have none, or a fault of the store

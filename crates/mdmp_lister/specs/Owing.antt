@@ -46,5 +46,5 @@ count_answered (Err f) = 0
 -- known, those of the lists behind it, once `given` more were given
 pub record HasRoom {S A : Type 0} (room given : ℕ) (w : Walk S A) : Type 0 where
   pub ahead : ranges_ahead w.stage + given ≤ room
-  pub owed : (file : List ℕ) → w.source.store.content ≡ Some file
+  pub owed : (file : List ℕ) → w.meter.source.store.content ≡ Some file
       → ranges_owed file w.current w.stage + ranges_of_all file (chosen_from file w.choice w.next) + given ≤ room

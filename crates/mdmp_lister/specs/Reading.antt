@@ -1,8 +1,7 @@
 -- What is read of a file through a source.
 use Rattle.std.specs.Prelude.{◌≡◌, ◌≤◌, ◌%◌, ℕ, List, Option, Some, None, Result, Ok, Err, take}
-use Rattle.mdmp_source.specs.Count.{HasRisen}
-use Rattle.mdmp_source.specs.Fault.{HasCause, fault_at}
-use Rattle.mdmp_source.specs.Source.{SourceState, IsCausedBy}
+use Rattle.mdmp_source.specs.Fault.{fault_at}
+use Rattle.mdmp_source.specs.Source.{SourceState, IsTold}
 use Rattle.mdmp_wire.specs.Units.{units_over}
 use Rattle.mdmp_source.specs.declared.fault.SourceFault.TheVariants.{Changed}
 use Rattle.mdmp_wire.specs.declared.entry.Entry.{Entry}
@@ -30,18 +29,10 @@ abbrev pub Answers : {X Y : Type 0} → Result X Fault → (Y → X) → Result 
 Answers wanted value (Ok y) = wanted ≡ Ok (value y)
 Answers wanted value (Err fault) = (IsOfSource fault.kind → ⊥) → wanted ≡ Err fault
 
--- a fault of the store has its cause in this call: the store failed, or it answered no bytes, or has changed, which
--- one of known content does not
-abbrev pub IsCaused : FaultKind → SourceState → SourceState → Type 0
-IsCaused (Source fault) old new = IsCausedBy fault old new
-IsCaused kind old new = Unit {0}
-
--- a fault of the store that is of these two: it failed, or it answered no bytes
-abbrev pub IsFetchCause : FaultKind → SourceState → SourceState → Type 0
-IsFetchCause (Source fault) old new = HasCause fault
-    (HasRisen old.store.counts.failures new.store.counts.failures)
-    (HasRisen old.store.counts.empties new.store.counts.empties)
-IsFetchCause kind old new = Unit {0}
+-- a fault of the store is what the last fetch of these told, at the place where the store is at fault, and has no size
+abbrev pub IsToldOf : FaultKind → ℕ → ℕ → SourceState → SourceState → Type 0
+IsToldOf (Source fault) offset size old new = IsTold fault old new × ((offset ≡ fault_at fault) × (size ≡ 0))
+IsToldOf kind offset size old new = Unit {0}
 
 -- a memory list
 abbrev pub IsRanged : Option Kind → Type 0
@@ -49,24 +40,21 @@ IsRanged (Some Memory) = Unit {0}
 IsRanged (Some Memory64) = Unit {0}
 IsRanged kind = ⊥
 
--- where the store has changed, that was told by the head of this entry's memory list, at its RVA
-abbrev pub IsChangeOf : Entry → FaultKind → Type 0
-IsChangeOf e (Source (Changed at)) = (at ≡ e.location.rva) × IsRanged (kind_of e.stream_type)
-IsChangeOf e kind = Unit {0}
+-- a fault of the store, of no item of this entry: what the last fetch of these told, or that the store has changed,
+-- which one of known content does not, and which the head of a memory list tells, at its RVA
+abbrev pub IsToldBy : Entry → FaultKind → SourceState → SourceState → Type 0
+IsToldBy e (Source (Changed at)) old new = (old.store.content ≡ None) × ((at ≡ e.location.rva) × IsRanged (kind_of e.stream_type))
+IsToldBy e (Source fault) old new = IsTold fault old new
+IsToldBy e kind old new = Unit {0}
 
--- it has not changed
-abbrev pub IsNoChange : FaultKind → Type 0
-IsNoChange (Source (Changed at)) = ⊥
-IsNoChange kind = Unit {0}
+-- and it names the place at which the store is at fault, no size and no item
+abbrev pub IsPlaced : FaultKind → ListFault → Type 0
+IsPlaced (Source fault) f = (f.offset ≡ fault_at fault) × ((f.size ≡ 0) × (f.index ≡ None))
+IsPlaced kind f = Unit {0}
 
--- it names the place at which the store is at fault, and no size
-abbrev pub IsAtStore : FaultKind → ℕ → ℕ → Type 0
-IsAtStore (Source fault) offset size = (offset ≡ fault_at fault) × (size ≡ 0)
-IsAtStore kind offset size = Unit {0}
-
--- and no item
-abbrev pub IsStoreFault : ListFault → Type 0
-IsStoreFault f = IsAtStore f.kind f.offset f.size × (IsOfSource f.kind → f.index ≡ None)
+pub record IsToldIn (e : Entry) (f : ListFault) (old new : SourceState) : Type 0 where
+  pub by : IsToldBy e f.kind old new
+  pub placed : IsPlaced f.kind f
 
 -- ---- names
 

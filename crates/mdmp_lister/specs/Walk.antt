@@ -66,17 +66,17 @@ module _ {S A : Type 0} where
   work_of w = (vec_len w.entries - w.next) * 2 ^ 66 + stage_work w.stage
 
   pub record IsSound (w : Walk S A) : Type 0 where
-    pub sized : IsSizeOf w.source.store.content w.source.size
+    pub sized : IsSizeOf w.meter.source.store.content w.meter.source.size
     pub window : 168 ≤ vec_len w.window
     pub small : vec_len w.name < 2 ^ 32
     pub few : vec_len w.entries < 2 ^ 32
     pub placed : w.next ≤ vec_len w.entries
-    pub staged : IsStaged w.source.size w.next w.current w.stage
-    pub offset : (file : List ℕ) → w.source.store.content ≡ Some file → IsOffset file w.current w.stage
+    pub staged : IsStaged w.meter.source.size w.next w.current w.stage
+    pub offset : (file : List ℕ) → w.meter.source.store.content ≡ Some file → IsOffset file w.current w.stage
     pub ended : w.stage ≡ Ended → w.next ≡ vec_len w.entries
-    pub directory : (file : List ℕ) → w.source.store.content ≡ Some file → IsDirectory file w.entries.items
-    pub header_is : (file : List ℕ) → w.source.store.content ≡ Some file → w.header ≡ header_at file 0
-    pub unfailed : (file : List ℕ) → IsGood w.source.store file → failure_of w.stage ≡ None
+    pub directory : (file : List ℕ) → w.meter.source.store.content ≡ Some file → IsDirectory file w.entries.items
+    pub header_is : (file : List ℕ) → w.meter.source.store.content ≡ Some file → w.header ≡ header_at file 0
+    pub unfailed : (file : List ℕ) → IsGood w.meter.source.store file → failure_of w.stage ≡ None
 
   -- no list is longer or shorter, and what was read of the file's head stays
   pub record SameRoom (old new : Walk S A) : Type 0 where
@@ -94,7 +94,11 @@ module _ {S A : Type 0} where
 
   -- a walk that was opened over a source, and has given nothing
   pub record IsNewWalk (source : SourceState) (choice : Choice) (limits : Limits) (w : Walk S A) : Type 0 where
-    pub fetches : FetchesAtMost (32 + 12 * w.header.number_of_streams) source w.source
+    pub fetches : FetchesAtMost (32 + 12 * w.header.number_of_streams) source w.meter.source
+    pub fetched : w.meter.fetched ≤ 32 + 12 * w.header.number_of_streams
+    pub names : w.meter.names ≡ 0
+    pub aside : w.meter.aside ≡ 0
+    pub start : w.meter.start ≡ source.fetched
     pub entries : vec_len w.entries ≡ w.header.number_of_streams
     pub inside : 12 * w.header.number_of_streams ≤ source.size
     pub choice_is : w.choice ≡ choice

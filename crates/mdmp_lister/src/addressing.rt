@@ -1,29 +1,32 @@
 //! What is read of the dumped process's memory.
-ghost use Rattle.std.specs.Prelude.{◌≡◌, ℕ, List, Some, length, All, IfOk, IsOk, OnOk, is_some};
+ghost use Rattle.std.specs.Prelude.{◌≡◌, ℕ, List, Some, length, All, IfErr, IfOk, IsOk, OnOk, is_some};
 ghost use Rattle.mdmp_source.specs.Store.{IsGood};
-ghost use Rattle.mdmp_source.specs.Source.{FetchesAtMost, HasFaultCause};
+ghost use Rattle.mdmp_source.specs.Source.{FetchesAtMost, IsTold};
 ghost use Rattle.mdmp_map.specs.Ranges.{IsWithin, byte_at};
+ghost use Rattle.mdmp_lister.specs.Meter.{SpendsAside};
 ghost use Rattle.mdmp_lister.specs.Addresses.{ReadsCells, is_held};
 
+use crate::meter::Meter;
 use mdmp_map::AddressMap;
-use mdmp_source::{Source, SourceFault, Store};
+use mdmp_source::{SourceFault, Store};
 use std::alloc::Allocator;
 
 /// The byte of an address of the dumped process, or none where no range of the map holds it. No range
 /// holds an address of 2^64 or more.
 #[tactic(auto, using(crate::proofs::Addresses::first_range_past))]
 fn read_byte<S: Store, A: Allocator>(
-    source: &mut Source<S>,
+    meter: &mut Meter<S>,
     map: &AddressMap<A>,
     address: u128,
 ) -> Result<Option<u8>, SourceFault>
-    requires { All (IsWithin source.old.size) map.now.ranges }
+    requires { All (IsWithin meter.old.source.size) map.now.ranges }
     ensures held { IfOk result (λ byte. is_some byte ≡ is_held map.now.ranges address) }
-    ensures byte { (file : List ℕ) → source.old.store.content ≡ Some file
+    ensures byte { (file : List ℕ) → meter.old.source.store.content ≡ Some file
         → IfOk result (λ byte. byte ≡ byte_at file map.now.ranges address) }
-    ensures fetches { FetchesAtMost 1 source.old source.new }
-    ensures cause { HasFaultCause result source.old source.new }
-    ensures good { (file : List ℕ) → IsGood source.old.store file → IsOk result }
+    ensures fetches { FetchesAtMost 1 meter.old.source meter.new.source }
+    ensures aside { SpendsAside 1 meter.old meter.new }
+    ensures told { IfErr result (λ fault. IsTold fault meter.old.source meter.new.source) }
+    ensures good { (file : List ℕ) → IsGood meter.old.source.store file → IsOk result }
 {
     let Ok(address) = u64::try_from(address) else {
         return Ok(None);
@@ -32,7 +35,7 @@ fn read_byte<S: Store, A: Allocator>(
         None => Ok(None),
         Some(place) => {
             let mut byte = [0];
-            source.fetch(place.offset, &mut byte)?;
+            meter.fetch_aside(place.offset, &mut byte)?;
             Ok(Some(byte[0]))
         }
     }
@@ -41,22 +44,24 @@ fn read_byte<S: Store, A: Allocator>(
 /// Reads the memory of the dumped process from an address on, as far as the ranges of the map hold it.
 /// Where one holds an address, its byte is put into `out`, and `known` is true there; else both are 0
 /// and false. After a fault they may hold anything. It fetches one byte at a time.
+#[tactic(auto, using(mdmp_source::specs::SourceLaws::told_later))]
 pub(crate) fn read_addresses<S: Store, A: Allocator>(
-    source: &mut Source<S>,
+    meter: &mut Meter<S>,
     map: &AddressMap<A>,
     address: u64,
     out: &mut [u8],
     known: &mut [bool],
 ) -> Result<(), SourceFault>
     requires same { length out.old ≡ length known.old }
-    requires inside { All (IsWithin source.old.size) map.now.ranges }
-    ensures cells { OnOk result (ReadsCells source.old.store.content map.now.ranges address out.new known.new) }
-    ensures fetches { FetchesAtMost (length out.new) source.old source.new }
-    ensures cause { HasFaultCause result source.old source.new }
-    ensures good { (file : List ℕ) → IsGood source.old.store file → IsOk result }
+    requires inside { All (IsWithin meter.old.source.size) map.now.ranges }
+    ensures cells { OnOk result (ReadsCells meter.old.source.store.content map.now.ranges address out.new known.new) }
+    ensures fetches { FetchesAtMost (length out.new) meter.old.source meter.new.source }
+    ensures aside { SpendsAside (length out.new) meter.old meter.new }
+    ensures told { IfErr result (λ fault. IsTold fault meter.old.source meter.new.source) }
+    ensures good { (file : List ℕ) → IsGood meter.old.source.store file → IsOk result }
 {
     for index in 0..out.len() {
-        let byte = read_byte(source, map, u128::from(address) + index as u128)?;
+        let byte = read_byte(meter, map, u128::from(address) + index as u128)?;
         out[index] = byte.unwrap_or(0);
         known[index] = byte.is_some();
     }

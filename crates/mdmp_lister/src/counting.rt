@@ -1,42 +1,45 @@
 //! How many ranges the memory lists of a file have, read through a source.
-ghost use Rattle.std.specs.Prelude.{◌≡◌, ◌≤◌, ◌<◌, ◌*◌, ◌^◌, ℕ, List, Some, length, IfOk, IsOk};
+ghost use Rattle.std.specs.Prelude.{◌≡◌, ◌≤◌, ◌<◌, ◌*◌, ◌^◌, ℕ, List, Some, length, IfErr, IfOk, IsOk};
 ghost use Rattle.mdmp_source.specs.Store.{IsGood};
-ghost use Rattle.mdmp_source.specs.Source.{FetchesAtMost, HasFaultCause};
+ghost use Rattle.mdmp_source.specs.Source.{FetchesAtMost, IsTold};
 ghost use Rattle.mdmp_lister.specs.Counts.{range_count, ranges_in};
 ghost use Rattle.mdmp_lister.specs.Directory.{IsDirectory};
+ghost use Rattle.mdmp_lister.specs.Meter.{Books};
 ghost use Rattle.mdmp_lister.specs.Shapes.{kind_of};
 
 use crate::choice::Choice;
 use crate::fault::FaultKind;
 use crate::heading::read_head;
 use crate::kind::Kind;
+use crate::meter::Meter;
 use crate::shaping::location_fault;
-use mdmp_source::{Source, SourceFault, Store};
+use mdmp_source::{SourceFault, Store};
 use mdmp_wire::Entry;
 
 /// How many ranges an entry has: those of a memory list that lies inside the file and whose shape
 /// has no fault; any other entry has none. Of a list that is long enough its head is fetched, of
 /// anything else nothing.
 fn ranges_of_entry<S: Store>(
-    source: &mut Source<S>,
+    meter: &mut Meter<S>,
     window: &mut [u8],
     entry: Entry,
 ) -> Result<u64, SourceFault>
     requires { 168 ≤ length window.old }
-    ensures count { (file : List ℕ) → source.old.store.content ≡ Some file
+    ensures count { (file : List ℕ) → meter.old.source.store.content ≡ Some file
         → IfOk result (λ count. count ≡ ranges_in file entry (kind_of entry.stream_type)) }
-    ensures fetches { FetchesAtMost 16 source.old source.new }
-    ensures cause { HasFaultCause result source.old source.new }
-    ensures good { (file : List ℕ) → IsGood source.old.store file → IsOk result }
+    ensures fetches { FetchesAtMost 16 meter.old.source meter.new.source }
+    ensures books { Books 16 meter.old meter.new }
+    ensures told { IfErr result (λ fault. IsTold fault meter.old.source meter.new.source) }
+    ensures good { (file : List ℕ) → IsGood meter.old.source.store file → IsOk result }
 {
     let kind = match Kind::of_type(entry.stream_type) {
         Some(kind @ (Kind::Memory | Kind::Memory64)) => kind,
         _ => return Ok(0),
     };
-    if location_fault(entry, source.size()).is_some() {
+    if location_fault(entry, meter.size()).is_some() {
         return Ok(0);
     }
-    match read_head(source, window, entry.location, kind) {
+    match read_head(meter, window, entry.location, kind) {
         Ok(head) => Ok(head.shape.count),
         Err(fault) => match fault.kind {
             FaultKind::Source(fault) => Err(fault),
@@ -46,26 +49,28 @@ fn ranges_of_entry<S: Store>(
 }
 
 /// How many ranges the chosen memory lists of a directory have together.
+#[tactic(auto, using(mdmp_source::specs::SourceLaws::told_later))]
 pub(crate) fn count_ranges<S: Store>(
-    source: &mut Source<S>,
+    meter: &mut Meter<S>,
     window: &mut [u8],
     entries: &[Entry],
     choice: &Choice,
 ) -> Result<u128, SourceFault>
     requires window { 168 ≤ length window.old }
     requires few { length entries.now < 2 ^ 32 }
-    ensures count { (file : List ℕ) → source.old.store.content ≡ Some file
+    ensures count { (file : List ℕ) → meter.old.source.store.content ≡ Some file
         → IsDirectory file entries.now → IfOk result (λ count. count ≡ range_count file choice.now) }
-    ensures fetches { FetchesAtMost (16 * length entries.now) source.old source.new }
-    ensures cause { HasFaultCause result source.old source.new }
-    ensures good { (file : List ℕ) → IsGood source.old.store file → IsOk result }
+    ensures fetches { FetchesAtMost (16 * length entries.now) meter.old.source meter.new.source }
+    ensures books { Books (16 * length entries.now) meter.old meter.new }
+    ensures told { IfErr result (λ fault. IsTold fault meter.old.source meter.new.source) }
+    ensures good { (file : List ℕ) → IsGood meter.old.source.store file → IsOk result }
 {
     let mut total = 0;
     for entry in entries {
         if !choice.has(entry.stream_type) {
             continue;
         }
-        total += u128::from(ranges_of_entry(source, window, *entry)?);
+        total += u128::from(ranges_of_entry(meter, window, *entry)?);
     }
     Ok(total)
 }

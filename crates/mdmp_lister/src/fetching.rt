@@ -1,14 +1,17 @@
 //! What is read of a file through its source, one fetch at a time.
-ghost use Rattle.std.specs.Prelude.{◌≡◌, ◌≤◌, ◌<◌, ◌+◌, ◌*◌, ◌^◌, ℕ, List, Some, length, take, IfOk, IfErr, IsOk, OnOk};
+ghost use Rattle.std.specs.Prelude.{◌≡◌, ◌≤◌, ◌<◌, ◌+◌, ◌*◌, ◌^◌, ℕ, List, Some, length, take, IfOk, IfErr, IsOk, OnOk, nat_lt};
+ghost use Rattle.mdmp_source.specs.Count.{raised_if};
 ghost use Rattle.mdmp_source.specs.Range.{IsInside, bytes_at};
 ghost use Rattle.mdmp_source.specs.Store.{IsGood, IsSizeOf};
 ghost use Rattle.mdmp_source.specs.Source.{FetchesAtMost};
 ghost use Rattle.mdmp_source.specs.Fault.{fault_at};
+ghost use Rattle.mdmp_lister.specs.Meter.{Books, Spends, name_cost};
 ghost use Rattle.mdmp_lister.specs.Names.{name_at};
-ghost use Rattle.mdmp_lister.specs.Reading.{Answers, IsAtStore, IsCaused, IsHeld, IsFetchCause, IsOfSource, name_read};
+ghost use Rattle.mdmp_lister.specs.Reading.{Answers, IsHeld, IsOfSource, IsToldOf, name_read};
 
 use crate::fault::{Fault, FaultKind};
-use mdmp_source::{Source, SourceFault, Store, inside};
+use crate::meter::Meter;
+use mdmp_source::{SourceFault, Store, inside};
 use mdmp_wire::Record;
 
 /// The name of a record, whose units were read into the front of a buffer.
@@ -38,18 +41,16 @@ fn of_source(fault: SourceFault) -> Fault
 }
 
 /// Fetches the bytes at `at` into `out`.
-#[tactic(auto, using(mdmp_source::specs::SourceLaws::fault_of_fetches))]
-fn fetch<S: Store>(source: &mut Source<S>, at: u64, out: &mut [u8]) -> Result<(), Fault>
-    requires { IsInside at (length out.old) source.old.size }
-    ensures bytes { (file : List ℕ) → source.old.store.content ≡ Some file → OnOk result (out.new ≡ bytes_at file at (length out.new)) }
+fn fetch<S: Store>(meter: &mut Meter<S>, at: u64, out: &mut [u8]) -> Result<(), Fault>
+    requires { IsInside at (length out.old) meter.old.source.size }
+    ensures bytes { (file : List ℕ) → meter.old.source.store.content ≡ Some file → OnOk result (out.new ≡ bytes_at file at (length out.new)) }
     ensures fault { IfErr result (λ fault. IsOfSource fault.kind) }
-    ensures fetches { FetchesAtMost (length out.new) source.old source.new }
-    ensures cause { IfErr result (λ fault. IsCaused fault.kind source.old source.new) }
-    ensures fetch_cause { IfErr result (λ fault. IsFetchCause fault.kind source.old source.new) }
-    ensures place { IfErr result (λ fault. IsAtStore fault.kind fault.offset fault.size) }
-    ensures good { (file : List ℕ) → IsGood source.old.store file → IsOk result }
+    ensures fetches { FetchesAtMost (length out.new) meter.old.source meter.new.source }
+    ensures books { Books (length out.new) meter.old meter.new }
+    ensures told { IfErr result (λ fault. IsToldOf fault.kind fault.offset fault.size meter.old.source meter.new.source) }
+    ensures good { (file : List ℕ) → IsGood meter.old.source.store file → IsOk result }
 {
-    match source.fetch(at, out) {
+    match meter.fetch(at, out) {
         Ok(()) => Ok(()),
         Err(fault) => Err(of_source(fault)),
     }
@@ -57,43 +58,41 @@ fn fetch<S: Store>(source: &mut Source<S>, at: u64, out: &mut [u8]) -> Result<()
 
 /// Fetches `count` bytes at `at` into the front of a buffer.
 fn fetch_front<S: Store>(
-    source: &mut Source<S>,
+    meter: &mut Meter<S>,
     at: u64,
     buffer: &mut [u8],
     count: usize,
 ) -> Result<(), Fault>
     requires room { count ≤ length buffer.old }
-    requires inside { IsInside at count source.old.size }
-    ensures bytes { (file : List ℕ) → source.old.store.content ≡ Some file → OnOk result (take count buffer.new ≡ bytes_at file at count) }
+    requires inside { IsInside at count meter.old.source.size }
+    ensures bytes { (file : List ℕ) → meter.old.source.store.content ≡ Some file → OnOk result (take count buffer.new ≡ bytes_at file at count) }
     ensures length { length buffer.new ≡ length buffer.old }
     ensures fault { IfErr result (λ fault. IsOfSource fault.kind) }
-    ensures fetches { FetchesAtMost count source.old source.new }
-    ensures cause { IfErr result (λ fault. IsCaused fault.kind source.old source.new) }
-    ensures fetch_cause { IfErr result (λ fault. IsFetchCause fault.kind source.old source.new) }
-    ensures place { IfErr result (λ fault. IsAtStore fault.kind fault.offset fault.size) }
-    ensures good { (file : List ℕ) → IsGood source.old.store file → IsOk result }
+    ensures fetches { FetchesAtMost count meter.old.source meter.new.source }
+    ensures books { Books count meter.old meter.new }
+    ensures told { IfErr result (λ fault. IsToldOf fault.kind fault.offset fault.size meter.old.source meter.new.source) }
+    ensures good { (file : List ℕ) → IsGood meter.old.source.store file → IsOk result }
 {
-    fetch(source, at, &mut buffer[..count])
+    fetch(meter, at, &mut buffer[..count])
 }
 
 /// The record at `at`, whose bytes pass through the front of the window.
 pub(crate) fn read<R: Record, S: Store>(
-    source: &mut Source<S>,
+    meter: &mut Meter<S>,
     window: &mut [u8],
     at: u64,
 ) -> Result<R, Fault>
-    requires inside { at + R.SIZE ≤ source.old.size }
+    requires inside { at + R.SIZE ≤ meter.old.source.size }
     requires room { R.SIZE ≤ length window.old }
-    ensures value { (file : List ℕ) → source.old.store.content ≡ Some file → IfOk result (λ value. R.at file at ≡ value) }
+    ensures value { (file : List ℕ) → meter.old.source.store.content ≡ Some file → IfOk result (λ value. R.at file at ≡ value) }
     ensures fault { IfErr result (λ fault. IsOfSource fault.kind) }
-    ensures fetches { FetchesAtMost R.SIZE source.old source.new }
-    ensures cause { IfErr result (λ fault. IsCaused fault.kind source.old source.new) }
-    ensures fetch_cause { IfErr result (λ fault. IsFetchCause fault.kind source.old source.new) }
-    ensures place { IfErr result (λ fault. IsAtStore fault.kind fault.offset fault.size) }
-    ensures good { (file : List ℕ) → IsGood source.old.store file → IsOk result }
+    ensures fetches { FetchesAtMost R.SIZE meter.old.source meter.new.source }
+    ensures books { Books R.SIZE meter.old meter.new }
+    ensures told { IfErr result (λ fault. IsToldOf fault.kind fault.offset fault.size meter.old.source meter.new.source) }
+    ensures good { (file : List ℕ) → IsGood meter.old.source.store file → IsOk result }
 {
     let size = R::SIZE;
-    match fetch_front(source, at, window, size) {
+    match fetch_front(meter, at, window, size) {
         Ok(()) => Ok(R::read(&window[..size])),
         Err(fault) => Err(fault),
     }
@@ -101,29 +100,31 @@ pub(crate) fn read<R: Record, S: Store>(
 
 /// The name at `rva`, its units into the front of a buffer as long as the limit, or its fault: a
 /// length outside the file, an odd one, units outside. The units of a longer name are not fetched.
-#[tactic(auto, unfolding(crate::specs::Names::name_at, mdmp_wire::specs::Number::bytes_at))]
+#[tactic(auto, using(crate::proofs::Fetches::told_of_later), unfolding(crate::specs::Names::name_at, mdmp_wire::specs::Number::bytes_at))]
 pub(crate) fn read_name<S: Store>(
-    source: &mut Source<S>,
+    meter: &mut Meter<S>,
     window: &mut [u8],
     buffer: &mut [u8],
     rva: u32,
 ) -> Result<NameRead, Fault>
     requires small { length buffer.old < 2 ^ 32 }
     requires window { 4 ≤ length window.old }
-    ensures name { (file : List ℕ) → source.old.store.content ≡ Some file
+    ensures name { (file : List ℕ) → meter.old.source.store.content ≡ Some file
         → Answers (name_at file rva (length buffer.new)) (name_read buffer.new) result }
     ensures held { IfOk result (IsHeld (length buffer.new)) }
-    ensures fetches { FetchesAtMost (4 + length buffer.new) source.old source.new }
-    ensures cause { IfErr result (λ fault. IsCaused fault.kind source.old source.new) }
-    ensures fetch_cause { IfErr result (λ fault. IsFetchCause fault.kind source.old source.new) }
-    ensures place { IfErr result (λ fault. IsAtStore fault.kind fault.offset fault.size) }
-    ensures good { (file : List ℕ) → IsGood source.old.store file → IfErr result (λ fault. IsOfSource fault.kind → ⊥) }
+    ensures fetches { FetchesAtMost (4 + length buffer.new) meter.old.source meter.new.source }
+    ensures spends { Spends 0 (length buffer.new) meter.old meter.new }
+    ensures reached { meter.new.names ≡ raised_if (nat_lt 0 rva) meter.old.names }
+    ensures cost { IfOk result (λ name. meter.new.fetched ≤ meter.old.fetched + name_cost name) }
+    ensures told { IfErr result (λ fault. IsToldOf fault.kind fault.offset fault.size meter.old.source meter.new.source) }
+    ensures good { (file : List ℕ) → IsGood meter.old.source.store file → IfErr result (λ fault. IsOfSource fault.kind → ⊥) }
 {
-    let size = source.size();
+    let size = meter.size();
     let at = u64::from(rva);
     if rva == 0 {
         return Ok(NameRead::NoName);
     }
+    meter.reach_name();
     if !inside(at, 4, size) {
         return Err(Fault {
             kind: FaultKind::NameLengthOutside,
@@ -131,7 +132,7 @@ pub(crate) fn read_name<S: Store>(
             size: 4,
         });
     }
-    let length: u32 = match read(source, window, at) {
+    let length: u32 = match read(meter, window, at) {
         Ok(length) => length,
         Err(fault) => return Err(fault),
     };
@@ -153,7 +154,7 @@ pub(crate) fn read_name<S: Store>(
     if buffer.len() < length as usize {
         return Ok(NameRead::Long(length));
     }
-    match fetch_front(source, at + 4, buffer, length as usize) {
+    match fetch_front(meter, at + 4, buffer, length as usize) {
         Ok(()) => Ok(NameRead::Units(length)),
         Err(fault) => Err(fault),
     }

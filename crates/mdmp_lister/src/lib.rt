@@ -37,6 +37,7 @@ mod kind;
 mod laws;
 mod limits;
 mod lister;
+mod meter;
 mod name;
 mod opening;
 mod reading;

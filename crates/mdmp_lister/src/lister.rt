@@ -5,12 +5,12 @@ ghost use Rattle.std.specs.Io.BufRead.{Rests};
 ghost use Rattle.mdmp_source.specs.Store.{IsGood};
 ghost use Rattle.mdmp_lister.specs.Opening.{IsHandedBack, IsOpenRefusal, IsRefusalOf, IsUnread, IsUnreadFor, opening_fault};
 ghost use Rattle.mdmp_map.specs.Map.{free_of};
-ghost use Rattle.mdmp_source.specs.Source.{FetchesAtMost, HasFaultCause};
+ghost use Rattle.mdmp_source.specs.Source.{FetchesAtMost, IsTold};
 ghost use Rattle.mdmp_lister.specs.Addresses.{ReadsCells};
 ghost use Rattle.mdmp_lister.specs.Mapping.{IsStepPlaced, ranges_of_step};
 ghost use Rattle.mdmp_lister.specs.Owing.{count_told};
 ghost use Rattle.mdmp_lister.specs.Ranges.{ranges_of};
-ghost use Rattle.mdmp_lister.specs.Reading.{IsCaused, IsChangeOf, IsOfSource, IsStoreFault};
+ghost use Rattle.mdmp_lister.specs.Reading.{IsOfSource, IsToldIn};
 ghost use Rattle.mdmp_lister.specs.Stages.{stop_after, stop_after_run};
 
 use crate::addressing::read_addresses;
@@ -52,14 +52,14 @@ impl<S: Store + Drop, A: Allocator + Copy> Model for Lister<S, A> {
     ghost Value = { ListerState };
 
     ghost view = { λ l. record {
-      source = l.walk.source;
+      source = l.walk.meter.source;
       header = l.walk.header;
       choice = l.walk.choice;
       limit = vec_len l.walk.name;
       passed = l.walk.next;
       current = l.walk.current;
       ranges = l.map.ranges;
-      left = option_map (left_of l.walk) l.walk.source.store.content;
+      left = option_map (left_of l.walk) l.walk.meter.source.store.content;
       stop = stop_of l.walk.stage;
       work = work_of l.walk;
     } };
@@ -80,6 +80,7 @@ impl<S: Store + Drop, A: Allocator + Copy> Lister<S, A> {
     ///
     /// A refusal hands the source back: the fault of the header or of the place of the directory, too
     /// many ranges, want of memory, or that the store failed.
+    #[tactic(auto, using(crate::proofs::Paying::bounded_new))]
     pub fn open(
         alloc: A,
         source: Source<S>,
@@ -172,12 +173,9 @@ impl<S: Store + Drop, A: Allocator + Copy> Lister<S, A> {
         ensures falls { result ≡ Err RunFault.Stopped → self.new.work < self.old.work }
         ensures rests { self.new.work ≤ self.old.work }
         ensures same { IsSameLister self.old self.new }
-        ensures cause { self.old.stop ≡ None
-            → IfErr result (λ r. (fault : _) → r ≡ RunFault.At fault → IsCaused fault.kind self.old.source self.new.source) }
-        ensures place { self.old.stop ≡ None
-            → IfErr result (λ r. (fault : _) → r ≡ RunFault.At fault → IsStoreFault fault × (fault.entry + 1 ≡ self.new.passed)) }
-        ensures changed { self.old.stop ≡ None
-            → IfErr result (λ r. (fault : _) → r ≡ RunFault.At fault → IsChangeOf self.new.current fault.kind) }
+        ensures told { self.old.stop ≡ None
+            → IfErr result (λ r. (fault : _) → r ≡ RunFault.At fault
+                → IsToldIn self.new.current fault self.old.source self.new.source × (fault.entry + 1 ≡ self.new.passed)) }
         ensures good { (file : List ℕ) → IsGood self.old.source.store file
             → IfErr result (λ r. (fault : _) → r ≡ RunFault.At fault → IsOfSource fault.kind → ⊥) }
     {
@@ -214,10 +212,10 @@ impl<S: Store + Drop, A: Allocator + Copy> Lister<S, A> {
         ensures cells { OnOk result (ReadsCells self.old.source.store.content self.old.ranges address out.new known.new) }
         ensures same { self.new ≡ record self.old { source = self.new.source } }
         ensures fetches { FetchesAtMost (length out.new) self.old.source self.new.source }
-        ensures cause { HasFaultCause result self.old.source self.new.source }
+        ensures told { IfErr result (λ fault. IsTold fault self.old.source self.new.source) }
         ensures good { (file : List ℕ) → IsGood self.old.source.store file → IsOk result }
     {
-        read_addresses(&mut self.walk.source, &self.map, address, out, known)
+        read_addresses(&mut self.walk.meter, &self.map, address, out, known)
     }
 
     /// Hands the source back.
@@ -234,7 +232,7 @@ fn refused<S: Store + Drop, A: Allocator + Copy>(
     fault: OpenFault,
     walk: Walk<S, A>,
 ) -> OpenRefused<S>
-    ensures { result ≡ record { fault = fault; source = walk.source } }
+    ensures { result ≡ record { fault = fault; source = walk.meter.source } }
 {
     OpenRefused {
         fault,

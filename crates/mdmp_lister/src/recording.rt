@@ -2,9 +2,10 @@
 ghost use Rattle.std.specs.Prelude.{◌≡◌, ◌≤◌, ◌<◌, ◌+◌, ◌*◌, ◌^◌, ℕ, List, Some, length, IfOk, IfErr};
 ghost use Rattle.mdmp_source.specs.Store.{IsGood, IsSizeOf};
 ghost use Rattle.mdmp_source.specs.Source.{FetchesAtMost};
+ghost use Rattle.mdmp_lister.specs.Meter.{Spends};
 ghost use Rattle.mdmp_lister.specs.Shapes.{record_size};
 ghost use Rattle.mdmp_lister.specs.Items.{item_at, range_offset};
-ghost use Rattle.mdmp_lister.specs.Reading.{Answers, IsAtStore, IsCaused, IsFetchCause, IsOfSource};
+ghost use Rattle.mdmp_lister.specs.Reading.{Answers, IsOfSource, IsToldOf};
 ghost use Rattle.mdmp_lister.specs.Owing.{ranges_by, count_told};
 ghost use Rattle.mdmp_wire.specs.declared.entry.Entry.{Entry};
 ghost use Rattle.mdmp_lister.specs.Steps.{IsStepHeld, current_by, passed_by, step_item};
@@ -13,41 +14,41 @@ use crate::fault::Fault;
 use crate::fetching::{read, read_name};
 use crate::item::{ExceptionItem, MemoryInfoItem, RangeItem, ThreadItem};
 use crate::kind::Kind;
+use crate::meter::Meter;
 use crate::step::Step;
-use mdmp_source::{Source, Store};
+use mdmp_source::{Store};
 use mdmp_wire::{ModuleRecord, Record, SystemRecord, UnloadedRecord};
 
 /// The item of a module, or the fault of its name.
-#[tactic(auto, using(crate::proofs::NamedItems::module_read))]
+#[tactic(auto, using(crate::proofs::NamedItems::module_read, crate::proofs::Fetches::told_of_later))]
 fn read_module<S: Store>(
-    source: &mut Source<S>,
+    meter: &mut Meter<S>,
     window: &mut [u8],
     buffer: &mut [u8],
     entry: u32,
     index: u64,
     at: u64,
 ) -> Result<Step, Fault>
-    requires sized { IsSizeOf source.old.store.content source.old.size }
-    requires inside { at + 108 ≤ source.old.size }
+    requires sized { IsSizeOf meter.old.source.store.content meter.old.source.size }
+    requires inside { at + 108 ≤ meter.old.source.size }
     requires window { 168 ≤ length window.old }
     requires small { length buffer.old < 2 ^ 32 }
-    ensures item { (file : List ℕ) → source.old.store.content ≡ Some file → (stream : ℕ)
-        → Answers (item_at file (length buffer.new) entry index stream at Kind.Modules) (step_item source.old.size buffer.new) result }
-    ensures held { IfOk result (IsStepHeld source.old.size (length buffer.new)) }
+    ensures item { (file : List ℕ) → meter.old.source.store.content ≡ Some file → (stream : ℕ)
+        → Answers (item_at file (length buffer.new) entry index stream at Kind.Modules) (step_item meter.old.source.size buffer.new) result }
+    ensures held { IfOk result (IsStepHeld meter.old.source.size (length buffer.new)) }
     ensures ranges { IfOk result (λ step. count_told step ≡ 0) }
     ensures passed { IfOk result (λ step. (next : ℕ) → passed_by step next ≡ next) }
     ensures stays { IfOk result (λ step. (e : Entry) → current_by step e ≡ e) }
-    ensures fetches { FetchesAtMost (108 + (4 + length buffer.new)) source.old source.new }
-    ensures cause { IfErr result (λ fault. IsCaused fault.kind source.old source.new) }
-    ensures fetch_cause { IfErr result (λ fault. IsFetchCause fault.kind source.old source.new) }
-    ensures place { IfErr result (λ fault. IsAtStore fault.kind fault.offset fault.size) }
-    ensures good { (file : List ℕ) → IsGood source.old.store file → IfErr result (λ fault. IsOfSource fault.kind → ⊥) }
+    ensures fetches { FetchesAtMost (108 + (4 + length buffer.new)) meter.old.source meter.new.source }
+    ensures spends { Spends 108 (length buffer.new) meter.old meter.new }
+    ensures told { IfErr result (λ fault. IsToldOf fault.kind fault.offset fault.size meter.old.source meter.new.source) }
+    ensures good { (file : List ℕ) → IsGood meter.old.source.store file → IfErr result (λ fault. IsOfSource fault.kind → ⊥) }
 {
-    let fields: ModuleRecord = match read(source, window, at) {
+    let fields: ModuleRecord = match read(meter, window, at) {
         Ok(fields) => fields,
         Err(fault) => return Err(fault),
     };
-    match read_name(source, window, buffer, fields.module_name_rva) {
+    match read_name(meter, window, buffer, fields.module_name_rva) {
         Ok(name) => Ok(Step::Module {
             entry,
             index,
@@ -59,35 +60,34 @@ fn read_module<S: Store>(
 }
 
 /// The item of a module that was unloaded, or the fault of its name.
-#[tactic(auto, using(crate::proofs::NamedItems::unloaded_read))]
+#[tactic(auto, using(crate::proofs::NamedItems::unloaded_read, crate::proofs::Fetches::told_of_later))]
 fn read_unloaded<S: Store>(
-    source: &mut Source<S>,
+    meter: &mut Meter<S>,
     window: &mut [u8],
     buffer: &mut [u8],
     entry: u32,
     index: u64,
     at: u64,
 ) -> Result<Step, Fault>
-    requires inside { at + 24 ≤ source.old.size }
+    requires inside { at + 24 ≤ meter.old.source.size }
     requires window { 168 ≤ length window.old }
     requires small { length buffer.old < 2 ^ 32 }
-    ensures item { (file : List ℕ) → source.old.store.content ≡ Some file → (stream : ℕ)
-        → Answers (item_at file (length buffer.new) entry index stream at Kind.Unloaded) (step_item source.old.size buffer.new) result }
-    ensures held { IfOk result (IsStepHeld source.old.size (length buffer.new)) }
+    ensures item { (file : List ℕ) → meter.old.source.store.content ≡ Some file → (stream : ℕ)
+        → Answers (item_at file (length buffer.new) entry index stream at Kind.Unloaded) (step_item meter.old.source.size buffer.new) result }
+    ensures held { IfOk result (IsStepHeld meter.old.source.size (length buffer.new)) }
     ensures ranges { IfOk result (λ step. count_told step ≡ 0) }
     ensures passed { IfOk result (λ step. (next : ℕ) → passed_by step next ≡ next) }
     ensures stays { IfOk result (λ step. (e : Entry) → current_by step e ≡ e) }
-    ensures fetches { FetchesAtMost (24 + (4 + length buffer.new)) source.old source.new }
-    ensures cause { IfErr result (λ fault. IsCaused fault.kind source.old source.new) }
-    ensures fetch_cause { IfErr result (λ fault. IsFetchCause fault.kind source.old source.new) }
-    ensures place { IfErr result (λ fault. IsAtStore fault.kind fault.offset fault.size) }
-    ensures good { (file : List ℕ) → IsGood source.old.store file → IfErr result (λ fault. IsOfSource fault.kind → ⊥) }
+    ensures fetches { FetchesAtMost (24 + (4 + length buffer.new)) meter.old.source meter.new.source }
+    ensures spends { Spends 24 (length buffer.new) meter.old meter.new }
+    ensures told { IfErr result (λ fault. IsToldOf fault.kind fault.offset fault.size meter.old.source meter.new.source) }
+    ensures good { (file : List ℕ) → IsGood meter.old.source.store file → IfErr result (λ fault. IsOfSource fault.kind → ⊥) }
 {
-    let fields: UnloadedRecord = match read(source, window, at) {
+    let fields: UnloadedRecord = match read(meter, window, at) {
         Ok(fields) => fields,
         Err(fault) => return Err(fault),
     };
-    match read_name(source, window, buffer, fields.module_name_rva) {
+    match read_name(meter, window, buffer, fields.module_name_rva) {
         Ok(name) => Ok(Step::Unloaded {
             entry,
             index,
@@ -99,35 +99,34 @@ fn read_unloaded<S: Store>(
 }
 
 /// The item of the system, or the fault of its name.
-#[tactic(auto, using(crate::proofs::NamedItems::system_read))]
+#[tactic(auto, using(crate::proofs::NamedItems::system_read, crate::proofs::Fetches::told_of_later))]
 fn read_system<S: Store>(
-    source: &mut Source<S>,
+    meter: &mut Meter<S>,
     window: &mut [u8],
     buffer: &mut [u8],
     entry: u32,
     index: u64,
     at: u64,
 ) -> Result<Step, Fault>
-    requires inside { at + 56 ≤ source.old.size }
+    requires inside { at + 56 ≤ meter.old.source.size }
     requires window { 168 ≤ length window.old }
     requires small { length buffer.old < 2 ^ 32 }
-    ensures item { (file : List ℕ) → source.old.store.content ≡ Some file → (stream : ℕ)
-        → Answers (item_at file (length buffer.new) entry index stream at Kind.System) (step_item source.old.size buffer.new) result }
-    ensures held { IfOk result (IsStepHeld source.old.size (length buffer.new)) }
+    ensures item { (file : List ℕ) → meter.old.source.store.content ≡ Some file → (stream : ℕ)
+        → Answers (item_at file (length buffer.new) entry index stream at Kind.System) (step_item meter.old.source.size buffer.new) result }
+    ensures held { IfOk result (IsStepHeld meter.old.source.size (length buffer.new)) }
     ensures ranges { IfOk result (λ step. count_told step ≡ 0) }
     ensures passed { IfOk result (λ step. (next : ℕ) → passed_by step next ≡ next) }
     ensures stays { IfOk result (λ step. (e : Entry) → current_by step e ≡ e) }
-    ensures fetches { FetchesAtMost (56 + (4 + length buffer.new)) source.old source.new }
-    ensures cause { IfErr result (λ fault. IsCaused fault.kind source.old source.new) }
-    ensures fetch_cause { IfErr result (λ fault. IsFetchCause fault.kind source.old source.new) }
-    ensures place { IfErr result (λ fault. IsAtStore fault.kind fault.offset fault.size) }
-    ensures good { (file : List ℕ) → IsGood source.old.store file → IfErr result (λ fault. IsOfSource fault.kind → ⊥) }
+    ensures fetches { FetchesAtMost (56 + (4 + length buffer.new)) meter.old.source meter.new.source }
+    ensures spends { Spends 56 (length buffer.new) meter.old meter.new }
+    ensures told { IfErr result (λ fault. IsToldOf fault.kind fault.offset fault.size meter.old.source meter.new.source) }
+    ensures good { (file : List ℕ) → IsGood meter.old.source.store file → IfErr result (λ fault. IsOfSource fault.kind → ⊥) }
 {
-    let fields: SystemRecord = match read(source, window, at) {
+    let fields: SystemRecord = match read(meter, window, at) {
         Ok(fields) => fields,
         Err(fault) => return Err(fault),
     };
-    match read_name(source, window, buffer, fields.csd_version_rva) {
+    match read_name(meter, window, buffer, fields.csd_version_rva) {
         Ok(name) => Ok(Step::System {
             entry,
             index,
@@ -141,7 +140,7 @@ fn read_system<S: Store>(
 /// The item of the record at `at`, or the fault of its name. The bytes of a range of a 64-bit memory
 /// list stand at `offset`.
 pub(crate) fn read_item<S: Store>(
-    source: &mut Source<S>,
+    meter: &mut Meter<S>,
     window: &mut [u8],
     buffer: &mut [u8],
     kind: Kind,
@@ -150,46 +149,45 @@ pub(crate) fn read_item<S: Store>(
     at: u64,
     offset: u128,
 ) -> Result<Step, Fault>
-    requires sized { IsSizeOf source.old.store.content source.old.size }
-    requires inside { at + record_size kind ≤ source.old.size }
+    requires sized { IsSizeOf meter.old.source.store.content meter.old.source.size }
+    requires inside { at + record_size kind ≤ meter.old.source.size }
     requires window { 168 ≤ length window.old }
     requires small { length buffer.old < 2 ^ 32 }
-    ensures item { (file : List ℕ) → source.old.store.content ≡ Some file → (stream : ℕ)
+    ensures item { (file : List ℕ) → meter.old.source.store.content ≡ Some file → (stream : ℕ)
         → (kind ≡ Kind.Memory64 → offset ≡ range_offset file stream index)
-        → Answers (item_at file (length buffer.new) entry index stream at kind) (step_item source.old.size buffer.new) result }
-    ensures held { IfOk result (IsStepHeld source.old.size (length buffer.new)) }
+        → Answers (item_at file (length buffer.new) entry index stream at kind) (step_item meter.old.source.size buffer.new) result }
+    ensures held { IfOk result (IsStepHeld meter.old.source.size (length buffer.new)) }
     ensures ranges { IfOk result (λ step. count_told step ≡ ranges_by kind 1) }
     ensures passed { IfOk result (λ step. (next : ℕ) → passed_by step next ≡ next) }
     ensures stays { IfOk result (λ step. (e : Entry) → current_by step e ≡ e) }
     ensures length { length buffer.new ≡ length buffer.old }
-    ensures fetches { FetchesAtMost (record_size kind + (4 + length buffer.new)) source.old source.new }
-    ensures cause { IfErr result (λ fault. IsCaused fault.kind source.old source.new) }
-    ensures fetch_cause { IfErr result (λ fault. IsFetchCause fault.kind source.old source.new) }
-    ensures place { IfErr result (λ fault. IsAtStore fault.kind fault.offset fault.size) }
-    ensures good { (file : List ℕ) → IsGood source.old.store file → IfErr result (λ fault. IsOfSource fault.kind → ⊥) }
+    ensures fetches { FetchesAtMost (record_size kind + (4 + length buffer.new)) meter.old.source meter.new.source }
+    ensures spends { Spends (record_size kind) (length buffer.new) meter.old meter.new }
+    ensures told { IfErr result (λ fault. IsToldOf fault.kind fault.offset fault.size meter.old.source meter.new.source) }
+    ensures good { (file : List ℕ) → IsGood meter.old.source.store file → IfErr result (λ fault. IsOfSource fault.kind → ⊥) }
 {
-    let size = source.size();
+    let size = meter.size();
     match kind {
-        Kind::Threads => match read(source, window, at) {
+        Kind::Threads => match read(meter, window, at) {
             Ok(fields) => Ok(Step::Thread(ThreadItem::new(entry, index, fields, size))),
             Err(fault) => Err(fault),
         },
-        Kind::Modules => read_module(source, window, buffer, entry, index, at),
-        Kind::Memory => match read(source, window, at) {
+        Kind::Modules => read_module(meter, window, buffer, entry, index, at),
+        Kind::Memory => match read(meter, window, at) {
             Ok(fields) => Ok(Step::Range(RangeItem::new(entry, index, fields, size))),
             Err(fault) => Err(fault),
         },
-        Kind::Exception => match read(source, window, at) {
+        Kind::Exception => match read(meter, window, at) {
             Ok(fields) => Ok(Step::Exception(ExceptionItem::new(entry, index, fields, size))),
             Err(fault) => Err(fault),
         },
-        Kind::System => read_system(source, window, buffer, entry, index, at),
-        Kind::Memory64 => match read(source, window, at) {
+        Kind::System => read_system(meter, window, buffer, entry, index, at),
+        Kind::Memory64 => match read(meter, window, at) {
             Ok(fields) => Ok(Step::Range(RangeItem::at(entry, index, fields, offset, size))),
             Err(fault) => Err(fault),
         },
-        Kind::Unloaded => read_unloaded(source, window, buffer, entry, index, at),
-        Kind::MemoryInfo => match read(source, window, at) {
+        Kind::Unloaded => read_unloaded(meter, window, buffer, entry, index, at),
+        Kind::MemoryInfo => match read(meter, window, at) {
             Ok(fields) => Ok(Step::MemoryInfo(MemoryInfoItem {
                 entry,
                 index,

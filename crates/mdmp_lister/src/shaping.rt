@@ -60,6 +60,7 @@ pub(crate) fn counted(at: Location, kind: Kind, count: u32) -> Result<Shape, Fau
     ensures shape { result ≡ counted at.rva at.size (record_size kind) count }
     ensures fits { IfOk result (λ shape. shape.first + shape.count * shape.stride ≤ at.size) }
     ensures stride { IfOk result (λ shape. shape.stride ≡ record_size kind) }
+    ensures first { IfOk result (λ shape. 4 ≤ shape.first) }
 {
     let size = u128::from(at.size);
     let stride = u64::from(kind.record_size());
@@ -114,6 +115,7 @@ pub(crate) fn sized(
     ensures shape { result ≡ sized at.rva at.size (head_size kind) (record_size kind) header_size entry_size count }
     ensures fits { IfOk result (λ shape. shape.first + shape.count * shape.stride ≤ at.size) }
     ensures stride { IfOk result (λ shape. 0 < shape.count → record_size kind ≤ shape.stride) }
+    ensures first { IfOk result (λ shape. head_size kind ≤ shape.first) }
 {
     let start = u64::from(at.rva);
     if header_size < kind.head_size() || at.size < header_size {

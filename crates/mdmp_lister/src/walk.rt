@@ -1,14 +1,16 @@
 //! The walk over the entries of a file, without its public face.
 ghost use Rattle.std.specs.Prelude.{◌≡◌, ◌+◌, ◌*◌, ◌^◌, ◌≤◌, ◌<◌, ◌-◌, ℕ, List, None, Some, IfOk, IfErr, IfSome, IsOk, IsTrue, false, OnOk, OnSome, MatchResult, vec_len};
 ghost use Rattle.mdmp_source.specs.Store.{IsGood};
-ghost use Rattle.mdmp_source.specs.Source.{FetchesAtMost, HasFaultCause};
+ghost use Rattle.mdmp_source.specs.Source.{FetchesAtMost, IsTold};
 ghost use Rattle.mdmp_source.specs.declared.fault.SourceFault.{SourceFault};
 ghost use Rattle.mdmp_lister.specs.Opening.{IsHandedBack, IsDirectoryRefusal, IsOpenRefusal, IsUnread, IsUnreadFor, directory_refusal};
-ghost use Rattle.mdmp_lister.specs.Reading.{IsCaused, IsChangeOf, IsNoChange, IsOfSource, IsStoreFault};
+ghost use Rattle.mdmp_lister.specs.Reading.{IsOfSource, IsToldIn};
 ghost use Rattle.mdmp_lister.specs.Stages.{IsStageAfter, ends, fault_stage, stop_after, stop_given, stop_of};
 ghost use Rattle.mdmp_lister.specs.Steps.{CurrentAfter, IsStepHeld, current_by, passed_by, step_item};
 ghost use Rattle.mdmp_lister.specs.Counts.{range_count};
 ghost use Rattle.mdmp_lister.specs.Owing.{HasRoom, count_answered, ranges_by, count_given, count_told};
+ghost use Rattle.mdmp_lister.specs.Meter.{Books};
+ghost use Rattle.mdmp_lister.specs.Paying.{IsPaid};
 ghost use Rattle.mdmp_lister.specs.Listing.{list_fault, with_item};
 ghost use Rattle.mdmp_lister.specs.Items.{plain};
 
@@ -19,6 +21,7 @@ use crate::heading::read_head;
 use crate::item::{Item, StreamItem};
 use crate::kind::Kind;
 use crate::limits::Limits;
+use crate::meter::Meter;
 use crate::opening::{OpenRefused, next_chosen, read_directory, read_header};
 use crate::recording::read_item;
 use crate::shape::Shape;
@@ -32,7 +35,7 @@ use std::alloc::Allocator;
 /// The state of a listing.
 #[derive(Drop)]
 pub(crate) struct Walk<S: Store + Drop, A: Allocator + Copy> {
-    pub(crate) source: Source<S>,
+    pub(crate) meter: Meter<S>,
     pub(crate) header: Header,
     pub(crate) entries: Vec<Entry, A>,
     pub(crate) choice: Choice,
@@ -52,7 +55,7 @@ impl<S: Store + Drop, A: Allocator + Copy> Walk<S, A> {
     /// Reads the header and the directory of a file, and takes all the memory that a walk needs.
     pub(crate) fn open(
         alloc: A,
-        mut source: Source<S>,
+        source: Source<S>,
         limits: Limits,
         choice: Choice,
     ) -> Result<Self, OpenRefused<S>>
@@ -67,25 +70,26 @@ impl<S: Store + Drop, A: Allocator + Copy> Walk<S, A> {
         ensures memory { IfErr result (λ refused. refused.fault ≡ OpenFault.Memory → FetchesAtMost 32 source refused.source) }
         ensures cause { IfErr result (λ refused. IsUnreadFor refused.fault source refused.source) }
     {
-        let header = match read_header(&mut source) {
+        let mut meter = Meter::new(source);
+        let header = match read_header(&mut meter) {
             Ok(header) => header,
-            Err(fault) => return Err(OpenRefused { fault, source }),
+            Err(fault) => return Err(refused(fault, meter)),
         };
         let Ok(mut entries) = Vec::with_capacity(alloc, header.number_of_streams as usize) else {
-            return Err(want_of_memory(source));
+            return Err(refused(OpenFault::Memory, meter));
         };
         let Ok(mut window) = vec![in alloc; 0; limits.window as usize] else {
-            return Err(want_of_memory(source));
+            return Err(refused(OpenFault::Memory, meter));
         };
         let Ok(name) = vec![in alloc; 0; limits.name as usize] else {
-            return Err(want_of_memory(source));
+            return Err(refused(OpenFault::Memory, meter));
         };
-        match read_directory(&mut source, &mut window, header, &mut entries) {
+        match read_directory(&mut meter, &mut window, header, &mut entries) {
             Ok(()) => {}
-            Err(fault) => return Err(OpenRefused { fault, source }),
+            Err(fault) => return Err(refused(fault, meter)),
         }
         Ok(Walk {
-            source,
+            meter,
             header,
             entries,
             choice,
@@ -106,13 +110,14 @@ impl<S: Store + Drop, A: Allocator + Copy> Walk<S, A> {
         ensures sound { IsSound self.new }
         ensures same { SameEntry self.old self.new }
         ensures stage { self.new.stage ≡ self.old.stage }
-        ensures fetches { FetchesAtMost (16 * vec_len self.old.entries) self.old.source self.new.source }
-        ensures count { (file : List ℕ) → self.old.source.store.content ≡ Some file → IfOk result (λ count. count ≡ range_count file self.old.choice) }
-        ensures cause { HasFaultCause result self.old.source self.new.source }
-        ensures good { (file : List ℕ) → IsGood self.old.source.store file → IsOk result }
+        ensures fetches { FetchesAtMost (16 * vec_len self.old.entries) self.old.meter.source self.new.meter.source }
+        ensures books { Books (16 * vec_len self.old.entries) self.old.meter self.new.meter }
+        ensures count { (file : List ℕ) → self.old.meter.source.store.content ≡ Some file → IfOk result (λ count. count ≡ range_count file self.old.choice) }
+        ensures told { IfErr result (λ fault. IsTold fault self.old.meter.source self.new.meter.source) }
+        ensures good { (file : List ℕ) → IsGood self.old.meter.source.store file → IsOk result }
     {
         count_ranges(
-            &mut self.source,
+            &mut self.meter,
             &mut self.window,
             &self.entries,
             &self.choice,
@@ -121,28 +126,28 @@ impl<S: Store + Drop, A: Allocator + Copy> Walk<S, A> {
 
     /// Gives the next step, or the fault that is next. A memory list whose head counts more than
     /// `room` ranges has changed since the file was opened.
+    #[tactic(auto, using(crate::proofs::Fetches::told_in_later))]
     pub(crate) fn advance(&mut self, room: usize) -> Result<Option<Step>, ListFault>
         requires sound { IsSound self.old }
         requires room { HasRoom room 0 self.old }
         ensures sound { IsSound self.new }
         ensures room { HasRoom room (count_answered result) self.new }
         ensures same { SameRoom self.old self.new }
-        ensures fetches { FetchesAtMost (16 + (168 + (4 + vec_len self.old.name))) self.old.source self.new.source }
-        ensures listing { (file : List ℕ) → self.old.source.store.content ≡ Some file
-            → Advances self.old.source.size self.new.name.items (left_of self.old file) result (left_of self.new file) }
-        ensures held { IfOk result (λ given. IfSome given (IsStepHeld self.old.source.size (vec_len self.new.name))) }
+        ensures fetches { FetchesAtMost (16 + (168 + (4 + vec_len self.old.name))) self.old.meter.source self.new.meter.source }
+        ensures paid { (allowed before : ℕ) → IsPaid allowed before self.old → IsPaid allowed before self.new }
+        ensures listing { (file : List ℕ) → self.old.meter.source.store.content ≡ Some file
+            → Advances self.old.meter.source.size self.new.name.items (left_of self.old file) result (left_of self.new file) }
+        ensures held { IfOk result (λ given. IfSome given (IsStepHeld self.old.meter.source.size (vec_len self.new.name))) }
         ensures stage { stop_of self.new.stage ≡ stop_after result }
         ensures failed { IfErr result (λ fault. self.new.stage ≡ fault_stage fault) }
         ensures passed { PassesTo result self.old.next self.new.next }
         ensures falls { IfOk result (λ given. IfSome given (λ _. work_of self.new < work_of self.old)) }
         ensures repeats { (stop : _) → stop_of self.old.stage ≡ Some stop → (self.new ≡ self.old) × (stop_after result ≡ Some stop) }
-        ensures cause { stop_of self.old.stage ≡ None → IfErr result (λ fault. IsCaused fault.kind self.old.source self.new.source) }
-        ensures place { stop_of self.old.stage ≡ None → IfErr result IsStoreFault }
+        ensures told { stop_of self.old.stage ≡ None → IfErr result (λ fault. IsToldIn self.old.current fault self.old.meter.source self.new.meter.source) }
         ensures number { stop_of self.old.stage ≡ None → IfErr result (λ fault. fault.entry + 1 ≡ self.old.next) }
-        ensures changed { stop_of self.old.stage ≡ None → IfErr result (λ fault. IsChangeOf self.old.current fault.kind) }
         ensures current { CurrentAfter result self.old.current self.new.current }
         ensures rests { work_of self.new ≤ work_of self.old }
-        ensures good { (file : List ℕ) → IsGood self.old.source.store file → IfErr result (λ fault. IsOfSource fault.kind → ⊥) }
+        ensures good { (file : List ℕ) → IsGood self.old.meter.source.store file → IfErr result (λ fault. IsOfSource fault.kind → ⊥) }
     {
         match self.stage {
             Stage::Bad(fault) | Stage::Failed(fault) => Err(fault),
@@ -157,18 +162,18 @@ impl<S: Store + Drop, A: Allocator + Copy> Walk<S, A> {
 
     /// The item that a step tells, its name lent.
     pub(crate) fn item(&self, step: Step) -> Item<'_>
-        requires { IsStepHeld self.now.source.size (vec_len self.now.name) step }
-        ensures { plain result ≡ step_item self.now.source.size self.now.name.items step }
+        requires { IsStepHeld self.now.meter.source.size (vec_len self.now.name) step }
+        ensures { plain result ≡ step_item self.now.meter.source.size self.now.name.items step }
     {
-        lent_item(step, &self.name, self.source.size())
+        lent_item(step, &self.name, self.meter.size())
     }
 
     /// Hands the source back.
     pub(crate) fn into_source(self) -> Source<S>
-        ensures { result ≡ self.source }
+        ensures { result ≡ self.meter.source }
     {
-        let Walk { source, .. } = self;
-        source
+        let Walk { meter, .. } = self;
+        meter.into_source()
     }
 
     /// Drops what is left of the current entry.
@@ -178,6 +183,7 @@ impl<S: Store + Drop, A: Allocator + Copy> Walk<S, A> {
         ensures skips { ends self.old.stage ≡ false → self.new ≡ record self.old { stage = Stage.Between } }
         ensures stays { IsTrue (ends self.old.stage) → self.new ≡ self.old }
         ensures unbegun { self.old.next ≡ 0 → self.new ≡ self.old }
+        ensures paid { (allowed before : ℕ) → IsPaid allowed before self.old → IsPaid allowed before self.new }
         ensures room { (room : ℕ) → HasRoom room 0 self.old → HasRoom room 0 self.new }
         ensures rests { work_of self.new ≤ work_of self.old }
     {
@@ -194,21 +200,20 @@ impl<S: Store + Drop, A: Allocator + Copy> Walk<S, A> {
         ensures sound { IsSound self.new }
         ensures room { (room : ℕ) → HasRoom room 0 self.old → HasRoom room (count_answered result) self.new }
         ensures same { SameRoom self.old self.new }
-        ensures fetches { FetchesAtMost (168 + (4 + vec_len self.old.name)) self.old.source self.new.source }
-        ensures listing { (file : List ℕ) → self.old.source.store.content ≡ Some file
-            → Advances self.old.source.size self.new.name.items (left_of self.old file) result (left_of self.new file) }
-        ensures held { IfOk result (λ given. IfSome given (IsStepHeld self.old.source.size (vec_len self.new.name))) }
+        ensures fetches { FetchesAtMost (168 + (4 + vec_len self.old.name)) self.old.meter.source self.new.meter.source }
+        ensures paid { (allowed before : ℕ) → IsPaid allowed before self.old → IsPaid allowed before self.new }
+        ensures listing { (file : List ℕ) → self.old.meter.source.store.content ≡ Some file
+            → Advances self.old.meter.source.size self.new.name.items (left_of self.old file) result (left_of self.new file) }
+        ensures held { IfOk result (λ given. IfSome given (IsStepHeld self.old.meter.source.size (vec_len self.new.name))) }
         ensures stage { stop_of self.new.stage ≡ stop_after result }
         ensures failed { IfErr result (λ fault. self.new.stage ≡ fault_stage fault) }
         ensures passed { PassesTo result self.old.next self.new.next }
         ensures falls { IfOk result (λ given. IfSome given (λ _. work_of self.new < work_of self.old)) }
-        ensures cause { IfErr result (λ fault. IsCaused fault.kind self.old.source self.new.source) }
-        ensures place { IfErr result IsStoreFault }
+        ensures told { IfErr result (λ fault. IsToldIn self.old.current fault self.old.meter.source self.new.meter.source) }
         ensures number { IfErr result (λ fault. fault.entry + 1 ≡ self.old.next) }
-        ensures changed { IfErr result (λ fault. IsNoChange fault.kind) }
         ensures current { CurrentAfter result self.old.current self.new.current }
         ensures rests { work_of self.new ≤ work_of self.old }
-        ensures good { (file : List ℕ) → IsGood self.old.source.store file → IfErr result (λ fault. IsOfSource fault.kind → ⊥) }
+        ensures good { (file : List ℕ) → IsGood self.old.meter.source.store file → IfErr result (λ fault. IsOfSource fault.kind → ⊥) }
     {
         match self.stage {
             Stage::Records {
@@ -231,20 +236,19 @@ impl<S: Store + Drop, A: Allocator + Copy> Walk<S, A> {
         ensures room { HasRoom room 0 self.new }
         ensures same { SameEntry self.old self.new }
         ensures name { self.new.name ≡ self.old.name }
-        ensures fetches { FetchesAtMost 16 self.old.source self.new.source }
-        ensures entry { (file : List ℕ) → self.old.source.store.content ≡ Some file → Keeps (current_of self.old file) result (current_of self.new file) }
+        ensures fetches { FetchesAtMost 16 self.old.meter.source self.new.meter.source }
+        ensures paid { (allowed before : ℕ) → IsPaid allowed before self.old → IsPaid allowed before self.new }
+        ensures entry { (file : List ℕ) → self.old.meter.source.store.content ≡ Some file → Keeps (current_of self.old file) result (current_of self.new file) }
         ensures records { IfOk result (λ _. IsListing self.new.stage) }
         ensures stage { IsStageAfter result self.new.stage }
         ensures falls { OnOk result (work_of self.new < work_of self.old) }
-        ensures cause { IfErr result (λ fault. IsCaused fault.kind self.old.source self.new.source) }
-        ensures place { IfErr result IsStoreFault }
+        ensures told { IfErr result (λ fault. IsToldIn self.old.current fault self.old.meter.source self.new.meter.source) }
         ensures number { IfErr result (λ fault. fault.entry + 1 ≡ self.old.next) }
-        ensures changed { IfErr result (λ fault. IsChangeOf self.old.current fault.kind) }
         ensures rests { work_of self.new ≤ work_of self.old }
-        ensures good { (file : List ℕ) → IsGood self.old.source.store file → IfErr result (λ fault. IsOfSource fault.kind → ⊥) }
+        ensures good { (file : List ℕ) → IsGood self.old.meter.source.store file → IfErr result (λ fault. IsOfSource fault.kind → ⊥) }
     {
         let number = (self.next - 1) as u32;
-        if let Some(fault) = location_fault(self.current, self.source.size()) {
+        if let Some(fault) = location_fault(self.current, self.meter.size()) {
             return self.stop_at(told(number, None, fault));
         }
         let Some(kind) = Kind::of_type(self.current.stream_type) else {
@@ -252,7 +256,7 @@ impl<S: Store + Drop, A: Allocator + Copy> Walk<S, A> {
             return Ok(());
         };
         match read_head(
-            &mut self.source,
+            &mut self.meter,
             &mut self.window,
             self.current.location,
             kind,
@@ -288,22 +292,21 @@ impl<S: Store + Drop, A: Allocator + Copy> Walk<S, A> {
         ensures room { (room : ℕ) → HasRoom room 0 self.old
             → MatchResult result (λ step. HasRoom room (count_told step) self.new) (λ _. HasRoom room 0 self.new) }
         ensures same { SameEntry self.old self.new }
-        ensures fetches { FetchesAtMost (168 + (4 + vec_len self.old.name)) self.old.source self.new.source }
-        ensures entry { (file : List ℕ) → self.old.source.store.content ≡ Some file → MatchResult result
-            (λ step. current_of self.old file ≡ with_item (step_item self.old.source.size self.new.name.items step) (current_of self.new file))
+        ensures fetches { FetchesAtMost (168 + (4 + vec_len self.old.name)) self.old.meter.source self.new.meter.source }
+        ensures paid { (allowed before : ℕ) → IsPaid allowed before self.old → IsPaid allowed before self.new }
+        ensures entry { (file : List ℕ) → self.old.meter.source.store.content ≡ Some file → MatchResult result
+            (λ step. current_of self.old file ≡ with_item (step_item self.old.meter.source.size self.new.name.items step) (current_of self.new file))
             (λ fault. FaultStays (current_of self.old file) fault (current_of self.new file)) }
         ensures records { IfOk result (λ _. IsListing self.new.stage) }
-        ensures held { IfOk result (IsStepHeld self.old.source.size (vec_len self.new.name)) }
+        ensures held { IfOk result (IsStepHeld self.old.meter.source.size (vec_len self.new.name)) }
         ensures passed { IfOk result (λ step. passed_by step self.old.next ≡ self.old.next) }
         ensures stays { IfOk result (λ step. current_by step self.old.current ≡ self.old.current) }
         ensures stage { IsStageAfter result self.new.stage }
         ensures falls { OnOk result (work_of self.new < work_of self.old) }
-        ensures cause { IfErr result (λ fault. IsCaused fault.kind self.old.source self.new.source) }
-        ensures place { IfErr result IsStoreFault }
+        ensures told { IfErr result (λ fault. IsToldIn self.old.current fault self.old.meter.source self.new.meter.source) }
         ensures number { IfErr result (λ fault. fault.entry + 1 ≡ self.old.next) }
-        ensures changed { IfErr result (λ fault. IsNoChange fault.kind) }
         ensures rests { work_of self.new ≤ work_of self.old }
-        ensures good { (file : List ℕ) → IsGood self.old.source.store file → IfErr result (λ fault. IsOfSource fault.kind → ⊥) }
+        ensures good { (file : List ℕ) → IsGood self.old.meter.source.store file → IfErr result (λ fault. IsOfSource fault.kind → ⊥) }
     {
         let number = (self.next - 1) as u32;
         let at = record_at(
@@ -311,10 +314,10 @@ impl<S: Store + Drop, A: Allocator + Copy> Walk<S, A> {
             kind,
             shape,
             index,
-            self.source.size(),
+            self.meter.size(),
         );
         match read_item(
-            &mut self.source,
+            &mut self.meter,
             &mut self.window,
             &mut self.name,
             kind,
@@ -342,11 +345,12 @@ impl<S: Store + Drop, A: Allocator + Copy> Walk<S, A> {
         ensures sound { IsSound self.new }
         ensures room { (room : ℕ) → HasRoom room 0 self.old → HasRoom room (count_given result) self.new }
         ensures same { SameRoom self.old self.new }
-        ensures source { self.new.source ≡ self.old.source }
+        ensures meter { self.new.meter ≡ self.old.meter }
+        ensures paid { (allowed before : ℕ) → IsPaid allowed before self.old → IsPaid allowed before self.new }
         ensures name { self.new.name ≡ self.old.name }
-        ensures listing { (file : List ℕ) → self.old.source.store.content ≡ Some file
-            → Advances self.old.source.size self.new.name.items (rest_of self.old file) (Ok result) (left_of self.new file) }
-        ensures held { IfSome result (IsStepHeld self.old.source.size (vec_len self.new.name)) }
+        ensures listing { (file : List ℕ) → self.old.meter.source.store.content ≡ Some file
+            → Advances self.old.meter.source.size self.new.name.items (rest_of self.old file) (Ok result) (left_of self.new file) }
+        ensures held { IfSome result (IsStepHeld self.old.meter.source.size (vec_len self.new.name)) }
         ensures passed { IfSome result (λ step. self.new.next ≡ passed_by step self.old.next) }
         ensures stage { stop_of self.new.stage ≡ stop_given result }
         ensures current { CurrentAfter (Ok result) self.old.current self.new.current }
@@ -404,13 +408,13 @@ fn changed(rva: u32) -> Fault
     }
 }
 
-/// Memory was refused.
-fn want_of_memory<S: Store + Drop>(source: Source<S>) -> OpenRefused<S>
-    ensures { result ≡ record { fault = OpenFault.Memory; source = source } }
+/// A file is refused.
+fn refused<S: Store + Drop>(fault: OpenFault, meter: Meter<S>) -> OpenRefused<S>
+    ensures { result ≡ record { fault = fault; source = meter.source } }
 {
     OpenRefused {
-        fault: OpenFault::Memory,
-        source,
+        fault,
+        source: meter.into_source(),
     }
 }
 

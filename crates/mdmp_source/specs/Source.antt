@@ -1,10 +1,11 @@
 -- What a source is, and what a fetch does to it.
-use Rattle.std.specs.Prelude.{◌≡◌, ◌≤◌, ◌+◌, ℕ, None, Result, IfErr}
+use Rattle.std.specs.Prelude.{◌≡◌, ◌≤◌, ◌+◌, ℕ, None, Option, Some, Result, Ok, Err, IfErr}
 use Rattle.mdmp_source.specs.Count.{raised, HasRisen}
 use Rattle.mdmp_source.specs.Store.{StoreState}
-use Rattle.mdmp_source.specs.Fault.{HasCause}
+use Rattle.mdmp_source.specs.Fault.{HasCause, fault_at}
 use Rattle.mdmp_source.specs.declared.fault.SourceFault.{SourceFault}
-use Rattle.mdmp_source.specs.declared.fault.SourceFault.TheVariants.{Changed}
+use Rattle.mdmp_source.specs.declared.fault.SourceFault.TheVariants.{Failed, ShortRead, Changed}
+use Rattle.mdmp_source.specs.declared.store.Tally.{Tally}
 
 -- a source as its callers see it
 pub record SourceState : Type 0 where
@@ -13,6 +14,8 @@ pub record SourceState : Type 0 where
   -- bytes fetched, and calls of `fetch`; both stop at the greatest u128
   pub fetched : ℕ
   pub calls : ℕ
+  -- the fault that the last `fetch` answered, or none
+  pub fault : Option SourceFault
 
 -- some fetches later: the same file, of which at most n bytes were asked
 pub record FetchesAtMost (n : ℕ) (old new : SourceState) : Type 0 where
@@ -32,6 +35,27 @@ abbrev pub HasFaultCause : {T : Type 0} → Result T SourceFault → SourceState
 HasFaultCause result old new = IfErr result (λ fault. HasCause fault
     (HasRisen old.store.counts.failures new.store.counts.failures)
     (HasRisen old.store.counts.empties new.store.counts.empties))
+
+-- the fault of an answer
+abbrev pub fault_of : {T : Type 0} → Result T SourceFault → Option SourceFault
+fault_of (Ok x) = None
+fault_of (Err fault) = Some fault
+
+-- one call of the store failed in a fetch that answers `Failed`, one gave no bytes in one that answers `ShortRead`, and no
+-- other
+abbrev pub FailsOnce : {T : Type 0} → Result T SourceFault → Tally → Tally → Type 0
+FailsOnce (Ok x) old new = (new.failures ≡ old.failures) × (new.empties ≡ old.empties)
+FailsOnce (Err (Failed at)) old new = (new.failures ≡ raised old.failures 1) × (new.empties ≡ old.empties)
+FailsOnce (Err (ShortRead at)) old new = (new.failures ≡ old.failures) × (new.empties ≡ raised old.empties 1)
+FailsOnce (Err (Changed at)) old new = ⊥
+
+-- the last of some fetches answered this fault: it has its cause in them, and names where the store gave nothing last
+pub record IsTold (fault : SourceFault) (old new : SourceState) : Type 0 where
+  pub last : new.fault ≡ Some fault
+  pub place : fault_at fault ≡ new.store.counts.place
+  pub cause : HasCause fault
+      (HasRisen old.store.counts.failures new.store.counts.failures)
+      (HasRisen old.store.counts.empties new.store.counts.empties)
 
 -- a fault of some fetches has its cause in them, or tells that a store whose content is not known has changed
 abbrev pub IsCausedBy : SourceFault → SourceState → SourceState → Type 0

@@ -1,8 +1,8 @@
 -- Fetches one after another.
-use Rattle.std.proofs.Common.{◌+◌, ◌∙◌, ℕ, arith}
+use Rattle.std.proofs.Common.{◌≤◌, ◌+◌, ◌∙◌, ℕ, arith}
 use Rattle.mdmp_source.specs.Count.{HasRisen}
 use Rattle.mdmp_source.specs.Fault.{HasCause}
-use Rattle.mdmp_source.specs.Source.{SourceState, FetchesAtMost, IsCausedBy}
+use Rattle.mdmp_source.specs.Source.{SourceState, FetchesAtMost, IsCausedBy, IsTold}
 use Rattle.mdmp_source.specs.declared.fault.SourceFault.{SourceFault}
 use Rattle.mdmp_source.specs.declared.fault.SourceFault.TheVariants.{Failed, ShortRead, Changed}
 
@@ -27,3 +27,22 @@ pub fault_of_fetches : (fault : SourceFault) (old new : SourceState)
 fault_of_fetches (Failed at) old new cause = cause
 fault_of_fetches (ShortRead at) old new cause = cause
 fault_of_fetches (Changed at) old new cause = absurd cause
+
+-- what has risen since a later state has risen since an earlier one
+risen_later : (a b c : ℕ) → a ≤ b → HasRisen b c → HasRisen a c
+risen_later a b c le risen = omega (arith, le, risen)
+
+cause_later : (fault : SourceFault) (n : ℕ) (a b c : SourceState) → FetchesAtMost n a b
+    → HasCause fault (HasRisen b.store.counts.failures c.store.counts.failures) (HasRisen b.store.counts.empties c.store.counts.empties)
+    → HasCause fault (HasRisen a.store.counts.failures c.store.counts.failures) (HasRisen a.store.counts.empties c.store.counts.empties)
+cause_later (Failed at) n a b c first cause = risen_later a.store.counts.failures b.store.counts.failures c.store.counts.failures first.failures cause
+cause_later (ShortRead at) n a b c first cause = risen_later a.store.counts.empties b.store.counts.empties c.store.counts.empties first.empties cause
+cause_later (Changed at) n a b c first cause = cause
+
+-- a fault that is told behind some fetches is told by them all
+pub told_later : (fault : SourceFault) (n : ℕ) (a b c : SourceState) → FetchesAtMost n a b → IsTold fault b c → IsTold fault a c
+told_later fault n a b c first told = record {
+  last = told.last;
+  place = told.place;
+  cause = cause_later fault n a b c first told.cause;
+}

@@ -1,5 +1,5 @@
 -- What a store is, and what its calls say.
-use Rattle.std.specs.Prelude.{◌≡◌, ◌≢◌, ◌<◌, ◌&&◌, ◌==◌, ℕ, Bool, false, List, Option, Result, Some, Ok, Err, IsTrue, length, take, IfOk, IfSome, is_err, nat_lt}
+use Rattle.std.specs.Prelude.{◌≡◌, ◌≢◌, ◌<◌, ◌&&◌, ◌==◌, ℕ, Bool, false, List, Option, Result, Some, Ok, Err, IsTrue, length, take, IfOk, IfSome, is_err, nat_lt, if◌then◌else◌}
 use Rattle.mdmp_source.specs.Count.{raised, raised_if}
 use Rattle.mdmp_source.specs.Range.{bytes_at}
 use Rattle.mdmp_source.specs.declared.store.Tally.{Tally}
@@ -24,7 +24,7 @@ pub record IsGood (store : StoreState) (file : List ℕ) : Type 0 where
 pub record IsNew (store : StoreState) (content : Option (List ℕ)) (is_reliable : Bool) : Type 0 where
   pub same_content : store.content ≡ content
   pub same_reliable : store.is_reliable ≡ is_reliable
-  pub no_calls : store.counts ≡ record { calls = 0; failures = 0; empties = 0 }
+  pub no_calls : store.counts ≡ record { calls = 0; failures = 0; empties = 0; place = 0 }
 
 -- a known content has this length
 abbrev pub IsSizeOf : Option (List ℕ) → ℕ → Type 0
@@ -43,14 +43,20 @@ abbrev pub is_empty_answer : {E : Type 0} → Result ℕ E → ℕ → Bool
 is_empty_answer (Ok k) asked = (k == 0) && nat_lt 0 asked
 is_empty_answer (Err e) asked = false
 
--- the counts after a call with this answer
-abbrev pub counted : {E : Type 0} → Tally → Result ℕ E → ℕ → Tally
-counted before result asked = record {
+-- where the last call gave nothing, once a call at this place gave this answer
+abbrev pub place_after : {E : Type 0} → Result ℕ E → ℕ → ℕ → ℕ → ℕ
+place_after (Ok k) at asked before = if (k == 0) && nat_lt 0 asked then at else before
+place_after (Err e) at asked before = at
+
+-- the counts after a call at this place with this answer
+abbrev pub counted : {E : Type 0} → Tally → Result ℕ E → ℕ → ℕ → Tally
+counted before result at asked = record {
   calls = raised before.calls 1;
   failures = raised_if (is_err result) before.failures;
   empties = raised_if (is_empty_answer result asked) before.empties;
+  place = place_after result at asked before.place;
 }
 
--- the store after a call with this answer: its content stays
-abbrev pub after_call : {E : Type 0} → StoreState → Result ℕ E → ℕ → StoreState
-after_call before result asked = record before { counts = counted before.counts result asked }
+-- the store after a call at this place with this answer: its content stays
+abbrev pub after_call : {E : Type 0} → StoreState → Result ℕ E → ℕ → ℕ → StoreState
+after_call before result at asked = record before { counts = counted before.counts result at asked }

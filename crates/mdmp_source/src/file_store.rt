@@ -50,7 +50,7 @@ impl<F: Read + Seek> Store for FileStore<F> {
 
     fn read_at(&mut self, at: u64, out: &mut [u8]) -> Result<usize, StoreFailed> {
         let answer = read_from(&mut self.file, at, out);
-        self.tally.count(&answer, out.len());
+        self.tally.count(&answer, at, out.len());
         answer
     }
 }

@@ -43,7 +43,7 @@ impl Store for MemoryStore<'_> {
 
     fn read_at(&mut self, at: u64, out: &mut [u8]) -> Result<usize, StoreFailed> {
         let answer = Ok(copy_at(self.bytes, at, out));
-        self.tally.count(&answer, out.len());
+        self.tally.count(&answer, at, out.len());
         answer
     }
 }

@@ -63,7 +63,7 @@ impl Store for PatchyStore<'_> {
             let room = out.len().min(cap);
             Ok(copy_at(self.bytes, at, &mut out[..room]))
         };
-        self.tally.count(&answer, out.len());
+        self.tally.count(&answer, at, out.len());
         answer
     }
 }

@@ -1,9 +1,9 @@
 //! Whole fetches from a store, counted.
-ghost use Rattle.std.specs.Prelude.{◌≡◌, ◌≤◌, ◌<◌, ◌+◌, ◌^◌, Some, List, ℕ, length, IfSome, IfErr, IsSome, IsOk, IsTrue, OnOk, OnErr};
+ghost use Rattle.std.specs.Prelude.{◌≡◌, ◌≤◌, ◌<◌, ◌+◌, ◌^◌, None, Some, List, ℕ, length, IfSome, IfErr, IsSome, IsOk, IsTrue, OnOk, OnErr};
 ghost use Rattle.mdmp_source.specs.Count.{raised, HasRisen};
 ghost use Rattle.mdmp_source.specs.Range.{IsInside, IsObtained, bytes_at};
 ghost use Rattle.mdmp_source.specs.Store.{StoreState, IsSizeOf, IsGood};
-ghost use Rattle.mdmp_source.specs.Source.{SourceState, FetchesAtMost, HasFaultCause};
+ghost use Rattle.mdmp_source.specs.Source.{SourceState, FailsOnce, FetchesAtMost, IsTold, fault_of};
 ghost use Rattle.mdmp_source.specs.Fault.{fault_at, HasCause};
 
 use crate::fault::SourceFault;
@@ -20,6 +20,8 @@ pub struct Source<S: Store> {
     size: u64,
     fetched: u128,
     calls: u128,
+    /// What the last fetch answered.
+    fault: Option<SourceFault>,
 }
 
 impl<S: Store> Model for Source<S> {
@@ -30,6 +32,7 @@ impl<S: Store> Model for Source<S> {
       size = s.size;
       fetched = s.fetched;
       calls = s.calls;
+      fault = s.fault;
     } };
 
     ghost invariant = { λ s. IsSizeOf (S.state s.store).content s.size };
@@ -42,6 +45,7 @@ impl<S: Store> Source<S> {
         ensures size { result.size ≡ result.store.size }
         ensures content { IsSizeOf result.store.content result.size }
         ensures counts { (result.fetched ≡ 0) × (result.calls ≡ 0) }
+        ensures fault { result.fault ≡ None }
     {
         let size = store.size();
         Source {
@@ -49,6 +53,7 @@ impl<S: Store> Source<S> {
             size,
             fetched: 0,
             calls: 0,
+            fault: None,
         }
     }
 
@@ -83,6 +88,7 @@ impl<S: Store> Source<S> {
             size: _,
             fetched: _,
             calls: _,
+            fault: _,
         } = self;
         store
     }
@@ -96,19 +102,24 @@ impl<S: Store> Source<S> {
         ensures always { (file : List ℕ) → IsGood self.old.store file → IsOk result }
 
         // Each fault has its cause in this call, and says which byte was not obtained.
-        ensures cause { HasFaultCause result self.old self.new }
+        ensures last { self.new.fault ≡ fault_of result }
+        ensures told { IfErr result (λ fault. IsTold fault self.old self.new) }
         ensures fault_at { IfErr result (λ fault. (at ≤ fault_at fault) × (fault_at fault < at + length out.new)) }
         ensures obtained { IfErr result (λ fault. IsObtained self.old.store.content at (fault_at fault) out.new) }
 
+        ensures once { FailsOnce result self.old.store.counts self.new.store.counts }
+
         ensures fetches { FetchesAtMost (length out.new) self.old self.new }
-        ensures fetched { OnOk result (self.new.fetched ≡ raised self.old.fetched (length out.new)) }
+        ensures fetched { self.new.fetched ≡ raised self.old.fetched (length out.new) }
         ensures calls { self.new.calls ≡ raised self.old.calls 1 }
     {
         self.calls = self.calls.saturating_add(1);
         self.fetched = self.fetched.saturating_add(out.len() as u128);
         // The proof learns here that the size fits its type.
         let _size = self.size;
-        fill(&mut self.store, at, out)
+        let answer = fill(&mut self.store, at, out);
+        self.fault = answer.err();
+        answer
     }
 }
 
@@ -119,6 +130,8 @@ fn fill<S: Store>(store: &mut S, at: u64, out: &mut [u8]) -> Result<(), SourceFa
     ensures cause { IfErr result (λ fault. HasCause fault
         (HasRisen (S.state store.old).counts.failures (S.state store.new).counts.failures)
         (HasRisen (S.state store.old).counts.empties (S.state store.new).counts.empties)) }
+    ensures once { FailsOnce result (S.state store.old).counts (S.state store.new).counts }
+    ensures place { IfErr result (λ fault. fault_at fault ≡ (S.state store.new).counts.place) }
     ensures at { IfErr result (λ fault. (at ≤ fault_at fault) × (fault_at fault < at + length out.new)) }
     ensures obtained { IfErr result (λ fault. IsObtained (S.state store.old).content at (fault_at fault) out.new) }
     ensures content { (S.state store.new).content ≡ (S.state store.old).content }

@@ -15,6 +15,8 @@ pub struct Tally {
     pub failures: u128,
     /// Calls that answered no bytes where some were asked for.
     pub empties: u128,
+    /// The offset that the last of those two was asked for, 0 before the first.
+    pub place: u64,
 }
 
 impl Tally {
@@ -23,23 +25,30 @@ impl Tally {
 
     /// No calls yet.
     pub fn new() -> Self
-        ensures { result ≡ record { calls = 0; failures = 0; empties = 0 } }
+        ensures { result ≡ record { calls = 0; failures = 0; empties = 0; place = 0 } }
     {
         Tally {
             calls: 0,
             failures: 0,
             empties: 0,
+            place: 0,
         }
     }
 
-    /// Counts a call that was asked for `asked` bytes and gave this answer.
-    pub fn count(&mut self, answer: &Result<usize, StoreFailed>, asked: usize)
-        ensures { self.new ≡ counted self.old answer.now asked }
+    /// Counts a call that was asked for `asked` bytes at the offset `at` and gave this answer.
+    pub fn count(&mut self, answer: &Result<usize, StoreFailed>, at: u64, asked: usize)
+        ensures { self.new ≡ counted self.old answer.now at asked }
     {
         self.calls = self.calls.saturating_add(1);
         match answer {
-            Err(_) => self.failures = self.failures.saturating_add(1),
-            Ok(0) if asked > 0 => self.empties = self.empties.saturating_add(1),
+            Err(_) => {
+                self.failures = self.failures.saturating_add(1);
+                self.place = at;
+            }
+            Ok(0) if asked > 0 => {
+                self.empties = self.empties.saturating_add(1);
+                self.place = at;
+            }
             Ok(_) => {}
         }
     }
@@ -66,7 +75,7 @@ pub trait Store {
     fn read_at(&mut self, at: u64, out: &mut [u8]) -> Result<usize, StoreFailed>
         ensures bound { IfOk result (λ k. k ≤ length out.new) }
         ensures bytes { GivesContent (state self.old).content at result out.new }
-        ensures state { state self.new ≡ after_call (state self.old) result (length out.new) }
+        ensures state { state self.new ≡ after_call (state self.old) result at (length out.new) }
         ensures never_fails { IsTrue (state self.old).is_reliable → IsOk result }
         ensures gives { IsTrue (state self.old).is_reliable → 0 < length out.new → GivesSome (state self.old).content at result };
 }

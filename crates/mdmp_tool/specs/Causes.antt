@@ -1,8 +1,10 @@
 -- Why a call ended with a fault, of whatever file.
-use Rattle.std.specs.Prelude.{◌≡◌, ℕ, Result, Err}
+use Rattle.std.specs.Prelude.{◌≡◌, ℕ, None, Result, Err}
 use Rattle.mdmp_source.specs.Count.{HasRisen}
 use Rattle.mdmp_source.specs.Output.{OutState}
-use Rattle.mdmp_source.specs.Source.{SourceState, IsCausedBy}
+use Rattle.mdmp_source.specs.Source.{SourceState, IsTold}
+use Rattle.mdmp_source.specs.declared.fault.SourceFault.{SourceFault}
+use Rattle.mdmp_source.specs.declared.fault.SourceFault.TheVariants.{Changed}
 use Rattle.mdmp_lister.specs.declared.fault.OpenFault.{OpenFault}
 use Rattle.mdmp_lister.specs.declared.fault.OpenFault.TheVariants as opening
 use Rattle.mdmp_lister.specs.Opening.{IsOpenRefusal}
@@ -15,10 +17,15 @@ abbrev pub IsNoSourceFault : {T : Type 0} → Result T ToolFault → Type 0
 IsNoSourceFault (Err (Source fault)) = ⊥
 IsNoSourceFault _ = Unit {0}
 
--- a source's fault has its cause in this call: the store failed, or it answered no bytes, or has changed, which one of
--- known content does not
+-- the fault is the last that the source answered, and names where its store gave nothing in this call; or the store has
+-- changed, which one of known content does not
+abbrev pub IsLastTold : SourceFault → SourceState → SourceState → Type 0
+IsLastTold (Changed at) old new = old.store.content ≡ None
+IsLastTold fault old new = IsTold fault old new
+
+-- a source's fault is told as the source answered it, and has its cause in this call
 abbrev pub HasSourceCause : {T : Type 0} → SourceState → Result T ToolFault → SourceState → Type 0
-HasSourceCause old (Err (Source fault)) new = IsCausedBy fault old new
+HasSourceCause old (Err (Source fault)) new = IsLastTold fault old new
 HasSourceCause old _ new = Unit {0}
 
 -- the output is at fault only where it refused

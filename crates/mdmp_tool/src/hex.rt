@@ -5,7 +5,7 @@ ghost use Rattle.mdmp_source.specs.Store.{IsGood};
 ghost use Rattle.mdmp_source.specs.Source.{FetchesSome};
 ghost use Rattle.mdmp_lister.specs.Listing.{Run};
 ghost use Rattle.mdmp_lister.specs.Ranges.{ranges_of};
-ghost use Rattle.mdmp_lister.specs.Reading.{IsCaused, IsOfSource};
+ghost use Rattle.mdmp_lister.specs.Reading.{IsOfSource, IsToldIn};
 ghost use Rattle.mdmp_tool.specs.Causes.{IsNoSourceFault, HasSourceCause, HasOutCause, IsRefusal};
 ghost use Rattle.mdmp_tool.specs.HexRuns.{Hexes, HexesMemory, HexesRun, IsBehindOpening, IsQuiet};
 ghost use Rattle.mdmp_tool.specs.HexWords.{length_limit};
@@ -159,7 +159,7 @@ fn list_ranges<S: Store + Drop, A: Allocator + Copy>(
         (λ _. (left.fault ≡ None) × (lister.new.ranges ≡ ranges_of left.items))
         (λ fault. (IsOfSource fault.kind → ⊥) → left.fault ≡ Some fault) }
     ensures good { (file : List ℕ) → IsGood lister.old.source.store file → IfErr result (λ fault. IsOfSource fault.kind → ⊥) }
-    ensures cause { IfErr result (λ fault. IsCaused fault.kind lister.old.source lister.new.source) }
+    ensures told { IfErr result (λ fault. IsToldIn lister.new.current fault lister.old.source lister.new.source) }
     ensures fetches { FetchesSome lister.old.source lister.new.source }
 {
     match lister.list_into(&mut Unseen) {

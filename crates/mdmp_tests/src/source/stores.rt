@@ -74,13 +74,22 @@ fn patchy_store_answers_nothing(rt: HostRuntime) {
 #[test]
 fn tally_counts_answers(rt: HostRuntime) {
     let mut tally = Tally::new();
-    for (answer, len) in [(Ok(3), 4), (Ok(0), 4), (Ok(0), 0), (Err(StoreFailed), 4)] {
-        tally.count(&answer, len);
+    // A call that asks for nothing and gets it has no place.
+    for (answer, at, len, place) in [
+        (Ok(3), 1, 4, 0),
+        (Ok(0), 5, 4, 5),
+        (Ok(0), 6, 0, 5),
+        (Err(StoreFailed), 7, 4, 7),
+        (Ok(4), 8, 4, 7),
+    ] {
+        tally.count(&answer, at, len);
+        assert_eq!(rt; tally.place, place, "at {at}");
     }
     let counted = Tally {
-        calls: 4,
+        calls: 5,
         failures: 1,
         empties: 1,
+        place: 7,
     };
     assert_eq!(rt; tally, counted);
 }

@@ -1,4 +1,4 @@
-use Rattle.std.proofs.Common.{◌∙◌, arith}
+use Rattle.std.proofs.Common.{◌∙◌, arith, rules}
 use Rattle.mdmp_source.specs.SourceLaws.{fetches_then}
 use Rattle.mdmp_lister.proofs.Addresses.{ReadsCells-more}
 use Rattle.mdmp_lister.proofs.addressing.read_addresses.Goals as goal
@@ -10,7 +10,8 @@ loop-index-preserved g c =
     let this = c.in_ok-byte.ensures in
     record {
       read = rw (c.unwrap_or.ensures, c.is_some.ensures)
-          (ReadsCells-more c.args.source.now.store.content c.args.map.now.ranges c.args.address c.loop-index.out c.loop-index.known i c.in_ok-byte.byte
+          (ReadsCells-more c.args.meter.now.source.store.content c.args.map.now.ranges c.args.address c.loop-index.out c.loop-index.known i c.in_ok-byte.byte
           (omega arith) (omega arith) before.read (rw (← c.from.ensures) this.held) (λ F is. rw (← c.from.ensures) (this.byte F (before.fetches.same_content ∙ is))));
-      fetches = fetches_then i 1 c.args.source.now c.loop-index.source c.read_byte.new.source before.fetches c.read_byte.ensures.fetches;
+      aside = search rules;
+      fetches = fetches_then i 1 c.args.meter.now.source c.loop-index.meter.source c.read_byte.new.meter.source before.fetches c.read_byte.ensures.fetches;
     }

@@ -10,6 +10,7 @@ no_entry = record { stream_type = 0; location = record { size = 0; rva = 0 } }
 pub loop-entry-preserved-then-not-has : goal.loop-entry-preserved-then-not-has
 loop-entry-preserved-then-not-has g c = record {
   fetches = search rules;
+  books = search rules;
   counted = λ file known dir.
       let at = c.loop-entry.entry-index in
       let lt : at < entry_count file = omega (arith, dir.count, c.loop-entry-test.true) in
@@ -22,6 +23,7 @@ loop-entry-preserved-then-not-has g c = record {
 pub loop-entry-preserved : goal.loop-entry-preserved
 loop-entry-preserved g c = record {
   fetches = search rules;
+  books = search rules;
   counted = λ file known dir.
       let at = c.loop-entry.entry-index in
       let lt : at < entry_count file = omega (arith, dir.count, c.loop-entry-test.true) in

@@ -3,13 +3,15 @@ use Rattle.mdmp_source.specs.Source.{FetchesAtMost}
 use Rattle.mdmp_lister.specs.Counts.{range_count, ranges_of_all}
 use Rattle.mdmp_lister.specs.Directory.{IsDirectory}
 use Rattle.mdmp_lister.specs.Listing.{chosen_from}
+use Rattle.mdmp_lister.specs.Meter.{Books}
 use Rattle.mdmp_lister.proofs.counting.count_ranges.Given as goal
 
 -- the ranges of the first entries were counted
 abbrev pub invariant-loop-entry : goal.invariant-loop-entry
 invariant-loop-entry g l = record {
-  fetches : FetchesAtMost (16 * l.entry-index) l.initial.source l.source;
-  counted : (file : List ℕ) → l.initial.source.store.content ≡ Some file → IsDirectory file l.entries
+  fetches : FetchesAtMost (16 * l.entry-index) l.initial.meter.source l.meter.source;
+  books : Books (16 * l.entry-index) l.initial.meter l.meter;
+  counted : (file : List ℕ) → l.initial.meter.source.store.content ≡ Some file → IsDirectory file l.entries
       → l.total + ranges_of_all file (chosen_from file l.choice l.entry-index) ≡ range_count file l.choice;
   bound : l.total ≤ 2 ^ 64 * l.entry-index;
 }

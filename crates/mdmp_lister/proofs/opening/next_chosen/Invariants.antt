@@ -1,6 +1,7 @@
-use Rattle.std.proofs.Common.{◌≡◌, ◌-◌, ◌≤◌, ℕ, List, length}
+use Rattle.std.proofs.Common.{◌≡◌, ◌-◌, ◌≤◌, ℕ, List, drop, length}
 use Rattle.mdmp_lister.specs.Directory.{IsDirectory}
 use Rattle.mdmp_lister.specs.Listing.{chosen_from}
+use Rattle.mdmp_lister.specs.Paying.{cost_of}
 use Rattle.mdmp_lister.proofs.opening.next_chosen.Given as goal
 
 -- the entries passed are not chosen
@@ -9,6 +10,7 @@ invariant-loop-at l = record {
   risen : l.fn.from ≤ l.at;
   placed : l.at ≤ length l.entries;
   passed : (file : List ℕ) → IsDirectory file l.entries → chosen_from file l.choice l.fn.from ≡ chosen_from file l.choice l.at;
+  costs : (size : ℕ) → cost_of l.choice size (drop l.at l.entries) ≤ cost_of l.choice size (drop l.fn.from l.entries);
 }
 
 abbrev pub decreases-loop-at : goal.decreases-loop-at

@@ -6,11 +6,13 @@ use Rattle.mdmp_wire.specs.Header.{header_at}
 use Rattle.mdmp_lister.specs.Listing.{entry_count, entry_of}
 use Rattle.mdmp_lister.proofs.Directory.{entry_inside, each-more, each-none}
 use Rattle.mdmp_lister.proofs.Fetches.{FetchesAtMost-none, FetchesAtMost-within, IsGood-later, IsUnreadFor-later}
+use Rattle.mdmp_lister.proofs.Metering.{Books-none, Books-then, Books-within}
 use Rattle.mdmp_lister.proofs.opening.read_directory.Goals as goal
 
 pub loop-number-init : goal.loop-number-init
 loop-number-init g c = record {
-  fetches = FetchesAtMost-none c.args.source.now;
+  fetches = FetchesAtMost-none c.args.meter.now.source;
+  books = Books-none c.args.meter.now;
   len = c.requires.none;
   room = c.requires.room;
   count = ap length c.requires.empty;
@@ -19,24 +21,24 @@ loop-number-init g c = record {
 
 pub read_entry-requires-clause-inside : goal.read_entry-requires-clause-inside
 read_entry-requires-clause-inside g c =
-    let whole = entry_inside c.args.header.stream_directory_rva c.args.header.number_of_streams c.args.source.now.size c.loop-number.number c.requires.inside c.loop-number-test.true in
+    let whole = entry_inside c.args.header.stream_directory_rva c.args.header.number_of_streams c.args.meter.now.source.size c.loop-number.number c.requires.inside c.loop-number-test.true in
     omega (arith, whole, c.loop-number.invariant.fetches.same_size, c.from-first.ensures, c.from.ensures)
 
 pub returns-in-Err-clause-cause : goal.returns-in-Err-clause-cause
 returns-in-Err-clause-cause g c =
-    IsUnreadFor-later c.in-Err.fault (12 * c.loop-number.number) c.args.source.now c.loop-number.source c.read_entry.new.source c.loop-number.invariant.fetches c.in-Err.ensures.cause
+    IsUnreadFor-later c.in-Err.fault (12 * c.loop-number.number) c.args.meter.now.source c.loop-number.meter.source c.read_entry.new.meter.source c.loop-number.invariant.fetches c.in-Err.ensures.cause
 
 pub returns-in-Err-clause-fetches : goal.returns-in-Err-clause-fetches
 returns-in-Err-clause-fetches g c =
     let n = c.loop-number.number in
     let count = c.args.header.number_of_streams in
     let le : 12 * n + 12 ≤ 12 * count = omega (arith, c.loop-number-test.true) in
-    FetchesAtMost-within (12 * n + 12) (12 * count) c.args.source.now c.read_entry.new.source le
-    (fetches_then (12 * n) 12 c.args.source.now c.loop-number.source c.read_entry.new.source c.loop-number.invariant.fetches c.read_entry.ensures.fetches)
+    FetchesAtMost-within (12 * n + 12) (12 * count) c.args.meter.now.source c.read_entry.new.meter.source le
+    (fetches_then (12 * n) 12 c.args.meter.now.source c.loop-number.meter.source c.read_entry.new.meter.source c.loop-number.invariant.fetches c.read_entry.ensures.fetches)
 
 pub returns-in-Err-clause-good : goal.returns-in-Err-clause-good
 returns-in-Err-clause-good g c = λ file good.
-    c.in-Err.ensures.good file (IsGood-later file (12 * c.loop-number.number) c.args.source.now c.loop-number.source c.loop-number.invariant.fetches good)
+    c.in-Err.ensures.good file (IsGood-later file (12 * c.loop-number.number) c.args.meter.now.source c.loop-number.meter.source c.loop-number.invariant.fetches good)
 
 pub push_reserved-requires : goal.push_reserved-requires
 push_reserved-requires g c = omega (arith, c.loop-number.invariant.len, c.loop-number.invariant.room, c.loop-number-test.true)
@@ -47,8 +49,9 @@ loop-number-preserved g c =
     let n = c.loop-number.number in
     let step : 12 * n + 12 ≤ 12 * (n + 1) = omega arith in
     record {
-      fetches = FetchesAtMost-within (12 * n + 12) (12 * (n + 1)) c.args.source.now c.read_entry.new.source step
-          (fetches_then (12 * n) 12 c.args.source.now c.loop-number.source c.read_entry.new.source i.fetches c.read_entry.ensures.fetches);
+      fetches = FetchesAtMost-within (12 * n + 12) (12 * (n + 1)) c.args.meter.now.source c.read_entry.new.meter.source step
+          (fetches_then (12 * n) 12 c.args.meter.now.source c.loop-number.meter.source c.read_entry.new.meter.source i.fetches c.read_entry.ensures.fetches);
+      books = Books-then (12 * n) 12 (12 * (n + 1)) c.args.meter.now c.loop-number.meter c.read_entry.new.meter step i.books c.read_entry.ensures.books;
       len = c.push_reserved.ensures.len ∙ ap (λ m. m + 1) i.len;
       room = rw c.push_reserved.ensures.capacity i.room;
       count = rw (c.push_reserved.ensures.items, length-append) (omega (arith, i.count));
@@ -75,4 +78,16 @@ returns-clause-directory g c = λ file known same.
 pub returns-clause-fetches : goal.returns-clause-fetches
 returns-clause-fetches g c =
     let le : 12 * c.loop-number.number ≤ 12 * c.args.header.number_of_streams = omega (arith, c.loop-number.auto.number-end) in
-    FetchesAtMost-within (12 * c.loop-number.number) (12 * c.args.header.number_of_streams) c.args.source.now c.loop-number.source le c.loop-number.invariant.fetches
+    FetchesAtMost-within (12 * c.loop-number.number) (12 * c.args.header.number_of_streams) c.args.meter.now.source c.loop-number.meter.source le c.loop-number.invariant.fetches
+
+pub returns-in-Err-clause-books : goal.returns-in-Err-clause-books
+returns-in-Err-clause-books g c =
+    let n = c.loop-number.number in
+    let count = c.args.header.number_of_streams in
+    let le : 12 * n + 12 ≤ 12 * count = omega (arith, c.loop-number-test.true) in
+    Books-then (12 * n) 12 (12 * count) c.args.meter.now c.loop-number.meter c.read_entry.new.meter le c.loop-number.invariant.books c.read_entry.ensures.books
+
+pub returns-clause-books : goal.returns-clause-books
+returns-clause-books g c =
+    let le : 12 * c.loop-number.number ≤ 12 * c.args.header.number_of_streams = omega (arith, c.loop-number.auto.number-end) in
+    Books-within (12 * c.loop-number.number) (12 * c.args.header.number_of_streams) c.args.meter.now c.loop-number.meter le c.loop-number.invariant.books

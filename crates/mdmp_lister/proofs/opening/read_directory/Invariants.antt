@@ -3,15 +3,17 @@ use Rattle.mdmp_source.specs.Source.{FetchesAtMost}
 use Rattle.mdmp_wire.specs.declared.entry.Entry.{Entry}
 use Rattle.mdmp_wire.specs.Header.{header_at}
 use Rattle.mdmp_lister.specs.Listing.{entry_of}
+use Rattle.mdmp_lister.specs.Meter.{Books}
 use Rattle.mdmp_lister.proofs.opening.read_directory.Given as goal
 
 -- the first entries were fetched
 abbrev pub invariant-loop-number : goal.invariant-loop-number
 invariant-loop-number g l = record {
-  fetches : FetchesAtMost (12 * l.number) l.initial.source l.source;
+  fetches : FetchesAtMost (12 * l.number) l.initial.meter.source l.meter.source;
+  books : Books (12 * l.number) l.initial.meter l.meter;
   len : vec_len l.entries ≡ l.number;
   room : l.fn.header.number_of_streams ≤ vec_capacity l.entries;
   count : length l.entries.items ≡ l.number;
-  each : (file : List ℕ) → l.initial.source.store.content ≡ Some file → l.fn.header ≡ header_at file 0
+  each : (file : List ℕ) → l.initial.meter.source.store.content ≡ Some file → l.fn.header ≡ header_at file 0
       → (i : ℕ) (d : Entry) → i < length l.entries.items → get_or l.entries.items i d ≡ entry_of file i;
 }

@@ -15,3 +15,6 @@ returns-in_ok-read_head-in-Head-clause-room g c = c.step.ensures.room c.args.roo
 
 pub returns-in-Between-clause-room : goal.returns-in-Between-clause-room
 returns-in-Between-clause-room g c = c.step-in-Between.ensures.room c.args.room c.requires.room
+
+pub returns-in_ok-read_head-in-Head-clause-paid : goal.returns-in_ok-read_head-in-Head-clause-paid
+returns-in_ok-read_head-in-Head-clause-paid g c = λ allowed before paid. c.step.ensures.paid allowed before (c.read_head.ensures.paid allowed before paid)

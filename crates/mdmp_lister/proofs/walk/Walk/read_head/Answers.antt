@@ -1,7 +1,11 @@
 use Rattle.std.proofs.Common.{◌≡◌, ◌<◌, ℕ, List, Some, arith, refl, rules}
 use Rattle.mdmp_lister.specs.Items.{sizes_before}
-use Rattle.mdmp_lister.proofs.Owing.{ranges-counted, unknown}
+use Rattle.mdmp_lister.proofs.Owing.{ranged, ranges-counted, told_changed, unknown}
 use Rattle.mdmp_lister.proofs.Soundness.{IsSound-after, fault_stage-staged, fault_stage-offset, fault_stage-going, fault_stage-unfailed}
+use Rattle.mdmp_source.specs.Range.{IsInside}
+use Rattle.mdmp_lister.specs.Meter.{head_spent}
+use Rattle.mdmp_lister.specs.Shapes.{kind_of}
+use Rattle.mdmp_lister.proofs.Paying.{entry_cost-listed, fault_stage-owed, fault_stage-work, head_paid, paid_headed, spent_within}
 use Rattle.mdmp_lister.proofs.walk.Walk.read_head.Given as given
 use Rattle.mdmp_lister.proofs.walk.Walk.read_head.Goals as goal
 
@@ -18,7 +22,7 @@ returns-else-ranges_by-room-clause-sound g c =
     (λ file good. refl)
 
 -- where the file is known, the list counts as many ranges as it did when the file was opened
-never : (g : given.Over) (c : goal.After-stop_at-then-ranges_by-room g) → (file : List ℕ) → c.args.self.now.source.store.content ≡ Some file → ⊥
+never : (g : given.Over) (c : goal.After-stop_at-then-ranges_by-room g) → (file : List ℕ) → c.args.self.now.meter.source.store.content ≡ Some file → ⊥
 never g c file known =
     let counted = ranges-counted c.args.self.now c.args.room c.in-Some-of_type.kind c.in-Ok.head.shape file c.requires.room c.requires.head known (rw known at c.requires.sound.sized)
     (search rules) (search rules) (c.in-Ok.ensures.shape file known) in
@@ -33,15 +37,63 @@ returns-then-ranges_by-room-clause-sound g c =
     rw c.stop_at-then-ranges_by-room.ensures.stage (
     IsSound-after 16 w _ c.requires.sound c.read_head.ensures.fetches
     (search rules)
-    (fault_stage-staged w.source.size w.next w.current f begun)
+    (fault_stage-staged w.meter.source.size w.next w.current f begun)
     (λ file known. fault_stage-offset file w.current f)
     (λ end. absurd (fault_stage-going f end))
     (λ file good. fault_stage-unfailed f (λ of. never g c file good.known))
     )
 
-pub returns-then-ranges_by-room-clause-cause : goal.returns-then-ranges_by-room-clause-cause
-returns-then-ranges_by-room-clause-cause g c =
-    rw (c.stop_at-then-ranges_by-room.ensures.fault, c.told-then-ranges_by-room.ensures.kind, c.changed.ensures) (unknown c.args.self.now.source.store.content (never g c))
+pub returns-then-ranges_by-room-clause-told : goal.returns-then-ranges_by-room-clause-told
+returns-then-ranges_by-room-clause-told g c =
+    let w = c.args.self.now in
+    let k = c.told-then-ranges_by-room.ensures.kind in
+    let place = c.told-then-ranges_by-room.ensures.place in
+    let is = c.changed.ensures in
+    let kind = rw is at k in
+    rw c.stop_at-then-ranges_by-room.ensures.fault
+    (told_changed w.current c.told-then-ranges_by-room.result w.meter.source c.stop_at-then-ranges_by-room.new.self.meter.source kind (rw is at place) (c.told-then-ranges_by-room.ensures.of_store (rw is tt))
+    (unknown w.meter.source.store.content (never g c))
+    (ranged _ c.in-Some-of_type.kind c.in-Ok.head.shape.count c.args.room (search rules) (omega (arith, c.ranges_by.ensures, c.if-ranges_by-room.true))))
 
 pub returns-then-ranges_by-room-clause-good : goal.returns-then-ranges_by-room-clause-good
 returns-then-ranges_by-room-clause-good g c = λ file good. rw c.stop_at-then-ranges_by-room.ensures.fault (λ of. never g c file good.known)
+
+pub returns-else-ranges_by-room-clause-paid : goal.returns-else-ranges_by-room-clause-paid
+returns-else-ranges_by-room-clause-paid g c = λ allowed before paid.
+    let w = c.args.self.now in
+    let at = w.current.location in
+    let kind = c.in-Some-of_type.kind in
+    let known : kind_of w.current.stream_type ≡ Some kind = search rules in
+    let inside : IsInside at.rva at.size w.meter.source.size = search rules in
+    paid_headed allowed before (head_spent at.size kind) w _ paid c.read_head.ensures.books (search rules) c.read_head.ensures.fetches.same_size
+    (rw (c.requires.head, entry_cost-listed w.meter.source.size w.current kind known inside)
+        (head_paid at.size kind c.in-Ok.head.shape c.in-Ok.ensures.fits c.in-Ok.ensures.head))
+    (rw c.requires.head (omega (arith, c.read_head.type_inv)))
+
+pub returns-then-ranges_by-room-clause-paid : goal.returns-then-ranges_by-room-clause-paid
+returns-then-ranges_by-room-clause-paid g c = λ allowed before paid.
+    let w = c.args.self.now in
+    let at = w.current.location in
+    let f = c.told-then-ranges_by-room.result in
+    let kind = c.in-Some-of_type.kind in
+    let known : kind_of w.current.stream_type ≡ Some kind = search rules in
+    let inside : IsInside at.rva at.size w.meter.source.size = search rules in
+    rw c.stop_at-then-ranges_by-room.ensures.stage (
+    paid_headed allowed before (head_spent at.size kind) w _ paid c.read_head.ensures.books (search rules) c.read_head.ensures.fetches.same_size
+    (rw (fault_stage-owed w.meter.source.size w.current f, c.requires.head, entry_cost-listed w.meter.source.size w.current kind known inside) (omega (arith, spent_within at.size kind)))
+    (rw (fault_stage-work f, c.requires.head) (omega arith))
+    )
+
+pub returns-in-Err-clause-paid : goal.returns-in-Err-clause-paid
+returns-in-Err-clause-paid g c = λ allowed before paid.
+    let w = c.args.self.now in
+    let at = w.current.location in
+    let f = c.told-in-Err.result in
+    let kind = c.in-Some-of_type.kind in
+    let known : kind_of w.current.stream_type ≡ Some kind = search rules in
+    let inside : IsInside at.rva at.size w.meter.source.size = search rules in
+    rw c.stop_at-in-Err.ensures.stage (
+    paid_headed allowed before (head_spent at.size kind) w _ paid c.read_head.ensures.books (search rules) c.read_head.ensures.fetches.same_size
+    (rw (fault_stage-owed w.meter.source.size w.current f, c.requires.head, entry_cost-listed w.meter.source.size w.current kind known inside) (omega (arith, spent_within at.size kind)))
+    (rw (fault_stage-work f, c.requires.head) (omega arith))
+    )

@@ -4,12 +4,14 @@ use Rattle.mdmp_lister.specs.Walk.{IsReading, FaultStays, current_of}
 use Rattle.mdmp_lister.proofs.Bodies.{records-given, records-faulted, fault_stage-left, take-lent}
 use Rattle.mdmp_lister.proofs.Offsets.{range-next}
 use Rattle.mdmp_lister.proofs.Soundness.{IsSound-after, fault_stage-staged, fault_stage-offset, fault_stage-going, fault_stage-unfailed}
+use Rattle.mdmp_lister.specs.Shapes.{record_size}
+use Rattle.mdmp_lister.proofs.Paying.{fault_stage-owed, fault_stage-work, paid_named, record_less}
 use Rattle.mdmp_lister.proofs.walk.Walk.read_record.Goals as goal
 
 pub returns-in-Ok-clause-sound : goal.returns-in-Ok-clause-sound
 returns-in-Ok-clause-sound g c =
     let w = c.args.self.now in
-    let reading : IsReading w.source.size w.next w.current c.args.kind c.args.shape c.args.index c.args.offset = rw c.requires.stage at c.requires.sound.staged in
+    let reading : IsReading w.meter.source.size w.next w.current c.args.kind c.args.shape c.args.index c.args.offset = rw c.requires.stage at c.requires.sound.staged in
     IsSound-after _ w _ c.requires.sound c.read_item.ensures.fetches
     (search rules)
     (record { begun = reading.begun; within = omega (arith, c.requires.left); inside = reading.inside; fits = reading.fits; ranges = reading.ranges; bound = omega (arith, c.offset_behind.ensures.bound, reading.bound) })
@@ -35,11 +37,11 @@ pub returns-in-Err-clause-sound : goal.returns-in-Err-clause-sound
 returns-in-Err-clause-sound g c =
     let w = c.args.self.now in
     let f = c.told.result in
-    let reading : IsReading w.source.size w.next w.current c.args.kind c.args.shape c.args.index c.args.offset = rw c.requires.stage at c.requires.sound.staged in
+    let reading : IsReading w.meter.source.size w.next w.current c.args.kind c.args.shape c.args.index c.args.offset = rw c.requires.stage at c.requires.sound.staged in
     rw c.stop_at.ensures.stage (
     IsSound-after _ w _ c.requires.sound c.read_item.ensures.fetches
     (search rules)
-    (fault_stage-staged w.source.size w.next w.current f reading.begun)
+    (fault_stage-staged w.meter.source.size w.next w.current f reading.begun)
     (λ file known. fault_stage-offset file w.current f)
     (λ end. absurd (fault_stage-going f end))
     (λ file good. fault_stage-unfailed f (λ of. c.in-Err.ensures.good file good (rw c.told.ensures.kind at of)))
@@ -62,3 +64,21 @@ returns-in-Err-clause-entry g c = λ file known.
 
 pub returns-in-Err-clause-good : goal.returns-in-Err-clause-good
 returns-in-Err-clause-good g c = λ file good. rw c.stop_at.ensures.fault (λ of. c.in-Err.ensures.good file good (rw c.told.ensures.kind at of))
+
+pub returns-in-Ok-clause-paid : goal.returns-in-Ok-clause-paid
+returns-in-Ok-clause-paid g c = λ allowed before paid.
+    let w = c.args.self.now in
+    let room : length c.read_item.new.buffer ≡ vec_len w.name = c.in-Ok.ensures.length ∙ c.deref_mut-2.ensures.len in
+    paid_named allowed before (record_size c.args.kind) w _ paid (rw room at c.read_item.ensures.spends) (search rules) c.read_item.ensures.fetches.same_size
+    (rw c.requires.stage (record_less c.args.shape.count c.args.index (record_size c.args.kind) c.requires.left)) (rw c.requires.stage (omega (arith, c.requires.left)))
+
+pub returns-in-Err-clause-paid : goal.returns-in-Err-clause-paid
+returns-in-Err-clause-paid g c = λ allowed before paid.
+    let w = c.args.self.now in
+    let f = c.told.result in
+    let room : length c.read_item.new.buffer ≡ vec_len w.name = c.in-Err.ensures.length ∙ c.deref_mut-2.ensures.len in
+    rw c.stop_at.ensures.stage (
+    paid_named allowed before (record_size c.args.kind) w _ paid (rw room at c.read_item.ensures.spends) (search rules) c.read_item.ensures.fetches.same_size
+    (rw (fault_stage-owed w.meter.source.size w.current f, c.requires.stage) (omega (arith, record_less c.args.shape.count c.args.index (record_size c.args.kind) c.requires.left)))
+    (rw (fault_stage-work f, c.requires.stage) (omega (arith, c.requires.left)))
+    )

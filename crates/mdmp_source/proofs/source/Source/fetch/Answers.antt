@@ -1,7 +1,7 @@
 use Rattle.std.proofs.Common.{arith, ap, ⊎_elim}
 use Rattle.mdmp_source.proofs.source.Source.fetch.Goals as goal
 
-pub fill-requires : goal.fill-requires
-fill-requires g c =
+pub fill-answer-requires : goal.fill-answer-requires
+fill-answer-requires g c =
     let same_size = ap (λ s. s.size) c.self.view_is in
     ⊎_elim (λ none. omega (arith, same_size)) (λ within. omega (arith, same_size)) c.requires

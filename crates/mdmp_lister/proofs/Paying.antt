@@ -1,0 +1,146 @@
+-- A walk pays for what it fetches.
+use Rattle.std.proofs.Common.{◌≡◌, ◌≤◌, ◌<◌, ◌+◌, ◌-◌, ◌*◌, ◌^◌, ◌∙◌, ℕ, zero, suc, List, Option, Some, None, inl, inr, arith, refl, sym, subst, ap, true, false, length, drop, get_or, vec_len, add-one, drop-cons, drop_of_length-le}
+use Rattle.std.proofs.lemmas.Grind.{common_steps}
+use Rattle.std.proofs.Math.Nat.{mul-le-mul_left}
+use Rattle.mdmp_source.specs.Range.{IsInside, is_inside}
+use Rattle.mdmp_source.specs.Source.{SourceState}
+use Rattle.mdmp_lister.specs.declared.limits.Limits.{Limits}
+use Rattle.mdmp_wire.specs.declared.entry.Entry.{Entry}
+use Rattle.mdmp_lister.specs.declared.choice.Choice.{Choice}
+use Rattle.mdmp_lister.specs.declared.fault.FaultKind.{FaultKind}
+use Rattle.mdmp_lister.specs.declared.fault.FaultKind.TheVariants.{Source}
+use Rattle.mdmp_lister.specs.declared.fault.ListFault.{ListFault}
+use Rattle.mdmp_lister.specs.declared.kind.Kind.{Kind}
+use Rattle.mdmp_lister.specs.declared.kind.Kind.TheVariants as kinds
+use Rattle.mdmp_lister.specs.declared.shape.Shape.{Shape}
+use Rattle.mdmp_lister.specs.declared.stage.Stage.TheVariants.{Between}
+use Rattle.mdmp_lister.specs.declared.walk.Walk.{Walk}
+use Rattle.mdmp_lister.specs.Listing.{is_chosen}
+use Rattle.mdmp_lister.specs.Meter.{Books, Spends, head_cost, head_spent}
+use Rattle.mdmp_lister.specs.Paying.{IsBounded, IsPaid, cost_of, entry_cost, owed_of}
+use Rattle.mdmp_lister.specs.Shapes.{FitsIn, head_size, kind_of, record_size}
+use Rattle.mdmp_lister.specs.Stages.{fault_stage, stage_by}
+use Rattle.mdmp_lister.specs.Walk.{IsNewWalk, IsSound, SameEntry, SameRoom, stage_work, work_of}
+
+-- ---- the stage behind a fault
+
+stage_by-owed : (size : ℕ) (e : Entry) (f : ListFault) (kind : FaultKind) → owed_of size e (stage_by kind f) ≡ 0
+stage_by-owed size e f (Source fault) = refl
+stage_by-owed size e f _ = refl
+
+pub fault_stage-owed : (size : ℕ) (e : Entry) (f : ListFault) → owed_of size e (fault_stage f) ≡ 0
+fault_stage-owed size e f = stage_by-owed size e f f.kind
+
+stage_by-work : (f : ListFault) (kind : FaultKind) → stage_work (stage_by kind f) ≡ 0
+stage_by-work f (Source fault) = refl
+stage_by-work f _ = refl
+
+pub fault_stage-work : (f : ListFault) → stage_work (fault_stage f) ≡ 0
+fault_stage-work f = stage_by-work f f.kind
+
+-- ---- a walk whose entry stays
+
+module _ {S A : Type 0} (allowed before spent : ℕ) (old new : Walk S A) where
+  pub paid_named : IsPaid allowed before old → Spends spent (vec_len old.name) old.meter new.meter → SameEntry old new → new.meter.source.size ≡ old.meter.source.size
+      → owed_of old.meter.source.size old.current new.stage + spent ≤ owed_of old.meter.source.size old.current old.stage → stage_work new.stage < stage_work old.stage
+      → IsPaid allowed before new
+  paid_named paid spends same size owed falls =
+      let pays = spends.paid (omega (arith, paid.names, falls)) in
+      record {
+        bytes = rw (same.room.choice, same.room.entries, same.room.name, same.next, same.current, size) (omega (arith, paid.bytes, pays, owed));
+        names = rw (same.room.entries, same.next) (omega (arith, paid.names, spends.one_name, falls));
+      }
+
+  pub paid_headed : IsPaid allowed before old → Books spent old.meter new.meter → SameEntry old new → new.meter.source.size ≡ old.meter.source.size
+      → owed_of old.meter.source.size old.current new.stage + spent ≤ owed_of old.meter.source.size old.current old.stage → stage_work new.stage ≤ stage_work old.stage
+      → IsPaid allowed before new
+  paid_headed paid books same size owed falls = record {
+    bytes = rw (same.room.choice, same.room.entries, same.room.name, same.next, same.current, size, books.same_names) (omega (arith, paid.bytes, books.fetched, owed));
+    names = rw (same.room.entries, same.next, books.same_names) (omega (arith, paid.names, falls));
+  }
+
+-- ---- what a record and a head cost
+
+-- a record less
+pub record_less : (n k r : ℕ) → k < n → (n - (k + 1)) * r + r ≤ (n - k) * r
+record_less n k r lt =
+    let one : n - k ≡ suc (n - (k + 1)) = omega (arith, lt) in
+    rw one (omega arith)
+
+-- the head and the records of a stream are no more than all of it
+pub head_room : (size : ℕ) (kind : Kind) (shape : Shape) → FitsIn size kind shape → head_cost kind ≤ shape.first → shape.count * record_size kind + head_cost kind ≤ size
+head_room size kind shape fits first = rooms shape.count shape.stride fits.records fits.stride where
+  rooms : (count stride : ℕ) → shape.first + count * stride ≤ size → (0 < count → record_size kind ≤ stride) → count * record_size kind + head_cost kind ≤ size
+  rooms zero stride records wide = omega (arith, records, first)
+  rooms (suc n) stride records wide = omega (arith, records, first, mul-le-mul_left (suc n) (wide (omega arith)))
+
+least_head : (kind : Kind) → head_cost kind ≤ head_size kind
+least_head kinds.Threads = omega arith
+least_head kinds.Modules = omega arith
+least_head kinds.Memory = omega arith
+least_head kinds.Exception = omega arith
+least_head kinds.System = omega arith
+least_head kinds.Memory64 = omega arith
+least_head kinds.Unloaded = omega arith
+least_head kinds.MemoryInfo = omega arith
+
+less_none : (n : ℕ) → n - 0 ≡ n
+less_none n = omega arith
+
+spent_most : (size : ℕ) (kind : Kind) → head_spent size kind ≤ head_cost kind
+spent_most size kind = grind (arith, common_steps)
+
+-- the same, of the head that was read and all records behind it
+pub head_paid : (size : ℕ) (kind : Kind) (shape : Shape) → FitsIn size kind shape → head_cost kind ≤ shape.first → (shape.count - 0) * record_size kind + head_spent size kind ≤ size
+head_paid size kind shape fits first = rw (less_none shape.count) (omega (arith, head_room size kind shape fits first, spent_most size kind))
+
+-- what is fetched of a head is no more than the stream
+pub spent_within : (size : ℕ) (kind : Kind) → head_spent size kind ≤ size
+spent_within size kind = grind (arith, common_steps, least_head kind)
+
+-- ---- entries
+
+pub entry_cost-listed : (size : ℕ) (e : Entry) (kind : Kind) → kind_of e.stream_type ≡ Some kind → IsInside e.location.rva e.location.size size → entry_cost size e ≡ e.location.size
+unfolding entry_cost
+entry_cost-listed size e kind known (inl none) = rw (known, none) refl
+entry_cost-listed size e kind known (inr within) = grind (arith, common_steps, known, within)
+
+module _ (choice : Choice) (size at : ℕ) (es : List Entry) (d : Entry) (h : at < length es) where
+  pub cost_of-passed : cost_of choice size (drop (at + 1) es) ≤ cost_of choice size (drop at es)
+  unfolding cost_of
+  cost_of-passed = rw (add-one at, drop-cons es at d h) (omega arith)
+
+  pub cost_of-chosen : is_chosen choice (get_or es at d).stream_type ≡ true
+      → entry_cost size (get_or es at d) + cost_of choice size (drop (at + 1) es) ≤ cost_of choice size (drop at es)
+  unfolding cost_of
+  cost_of-chosen e = rw (add-one at, drop-cons es at d h, e) (omega arith)
+
+pub cost_of-end : (choice : Choice) (size at : ℕ) (es : List Entry) → length es ≤ at → cost_of choice size (drop at es) ≡ 0
+unfolding cost_of
+cost_of-end choice size at es over = rw drop_of_length-le refl
+
+-- ---- the bound
+
+module _ {S A : Type 0} (allowed : ℕ) (w : Walk S A) where
+  -- a walk that has given nothing
+  pub paid_new : w.stage ≡ Between → w.meter.names ≡ 0 → vec_len w.entries < 2 ^ 32
+      → w.meter.fetched + cost_of w.choice w.meter.source.size (drop w.next w.entries.items) ≤ allowed → IsPaid allowed 0 w
+  paid_new between none few fetched = record { bytes = rw (between, none) (omega (arith, fetched)); names = rw (between, none) (omega (arith, few)) }
+
+  -- what any walk has fetched
+  pub paid_bound : IsPaid allowed 0 w → w.meter.fetched ≤ allowed + w.meter.names * (vec_len w.name + 4)
+  paid_bound paid = omega (arith, paid.bytes)
+
+module _ {S A : Type 0} (old new : Walk S A) where
+  pub bounded_then : IsBounded old → ((allowed before : ℕ) → IsPaid allowed before old → IsPaid allowed before new) → SameRoom old new → new.meter.source.size ≡ old.meter.source.size → IsBounded new
+  bounded_then bounded pays same size =
+      let was : 32 + 28 * vec_len new.entries + cost_of new.choice new.meter.source.size new.entries.items ≡ 32 + 28 * vec_len old.entries + cost_of old.choice old.meter.source.size old.entries.items =
+      rw (same.entries, same.choice, size) refl in
+      subst (λ allowed. IsPaid allowed 0 new) (sym was) (pays _ 0 bounded)
+
+  pub bounded_new : (source : SourceState) (choice : Choice) (limits : Limits) → IsNewWalk source choice limits old → Books (16 * vec_len old.entries) old.meter new.meter
+      → SameEntry old new → new.stage ≡ old.stage → IsSound new → IsBounded new
+  bounded_new source choice limits opened books same stage sound =
+      let first = same.next ∙ opened.next in
+      paid_new _ new (stage ∙ opened.stage) (books.same_names ∙ opened.names) sound.few
+      (rw (first, same.room.entries) (omega (arith, books.fetched, opened.fetched, opened.entries)))

@@ -1,0 +1,44 @@
+-- What a walk may still fetch.
+use Rattle.std.specs.Prelude.{◌≡◌, ◌≤◌, ◌<◌, ◌+◌, ◌-◌, ◌*◌, ◌^◌, ◌&&◌, ℕ, List, [], ◌∷◌, Option, Some, None, drop, get_or, vec_len, if◌then◌else◌}
+use Rattle.mdmp_source.specs.Range.{is_inside}
+use Rattle.mdmp_wire.specs.declared.entry.Entry.{Entry}
+use Rattle.mdmp_lister.specs.declared.choice.Choice.{Choice}
+use Rattle.mdmp_lister.specs.declared.stage.Stage.{Stage}
+use Rattle.mdmp_lister.specs.declared.stage.Stage.TheVariants.{Head, Records}
+use Rattle.mdmp_lister.specs.declared.walk.Walk.{Walk}
+use Rattle.mdmp_lister.specs.Listing.{is_chosen}
+use Rattle.mdmp_lister.specs.Shapes.{is_known, record_size}
+use Rattle.mdmp_lister.specs.Walk.{work_of}
+
+-- the bytes that the listing of an entry may fetch, those of names left out: all of a stream of a known type that lies
+-- inside a file of `size` bytes, else none
+unfoldable pub entry_cost : ℕ → Entry → ℕ
+entry_cost size e = if is_known e.stream_type && is_inside e.location.rva e.location.size size then e.location.size else 0
+
+-- the same of the chosen ones of some entries
+unfoldable pub cost_of : Choice → ℕ → List Entry → ℕ
+cost_of choice size [] = 0
+cost_of choice size (e ∷ es) = (if is_chosen choice e.stream_type then entry_cost size e else 0) + cost_of choice size es
+
+-- what the first chosen entry from number `from` on costs, and those behind it
+abbrev pub CostsFrom : Choice → ℕ → ℕ → Option ℕ → List Entry → Type 0
+CostsFrom choice size from None entries = Unit {0}
+CostsFrom choice size from (Some at) entries =
+    (d : Entry) → entry_cost size (get_or entries at d) + cost_of choice size (drop (at + 1) entries) ≤ cost_of choice size (drop from entries)
+
+-- and what is left of the current one: all of it before its head is read, then the records
+abbrev pub owed_of : ℕ → Entry → Stage → ℕ
+owed_of size e Head = entry_cost size e
+owed_of size e (Records kind shape index offset) = (shape.count - index) * record_size kind
+owed_of size e stage = 0
+
+-- what was fetched and may still be is allowed, with a name and its length for each of the names reached behind the
+-- first `before`; and those that may still be can be counted
+pub record IsPaid {S A : Type 0} (allowed before : ℕ) (w : Walk S A) : Type 0 where
+  pub bytes : w.meter.fetched + (owed_of w.meter.source.size w.current w.stage + cost_of w.choice w.meter.source.size (drop w.next w.entries.items))
+      + before * (vec_len w.name + 4) ≤ allowed + w.meter.names * (vec_len w.name + 4)
+  pub names : w.meter.names + work_of w < 2 ^ 128
+
+-- what was fetched and may still be is within the bound, by the entries of the directory
+abbrev pub IsBounded : {S A : Type 0} → Walk S A → Type 0
+IsBounded w = IsPaid (32 + 28 * vec_len w.entries + cost_of w.choice w.meter.source.size w.entries.items) 0 w

@@ -1,0 +1,119 @@
+//! A source that is read for a listing, which counts what the listing fetches.
+ghost use Rattle.std.specs.Prelude.{◌≡◌, ◌≤◌, ◌+◌, ◌^◌, List, ℕ, Some, length, IfErr, IsOk, IfSome, OnOk};
+ghost use Rattle.mdmp_source.specs.Count.{raised};
+ghost use Rattle.mdmp_source.specs.Range.{IsInside, bytes_at};
+ghost use Rattle.mdmp_source.specs.Store.{IsGood, IsSizeOf};
+ghost use Rattle.mdmp_source.specs.Source.{FetchesAtMost, IsTold};
+ghost use Rattle.mdmp_lister.specs.Meter.{IsBooked, MeterState};
+
+use mdmp_source::{Source, SourceFault, Store};
+use std::marker::Model;
+
+/// A source that is read for a listing. Beside the counts of the source itself, which go on, it counts
+/// what was fetched since it was made: for the listing, and aside.
+#[derive(Drop)]
+pub(crate) struct Meter<S: Store> {
+    source: Source<S>,
+    fetched: u128,
+    calls: u128,
+    names: u128,
+    aside: u128,
+    /// What the source's own count of bytes was at first.
+    start: u128,
+}
+
+impl<S: Store> Model for Meter<S> {
+    ghost Value = { MeterState };
+
+    ghost view = { λ m. record {
+      source = m.source;
+      fetched = m.fetched;
+      calls = m.calls;
+      names = m.names;
+      aside = m.aside;
+      start = m.start;
+    } };
+
+    ghost invariant = { λ m. m.source.fetched ≡ raised m.start (m.fetched + m.aside) };
+}
+
+impl<S: Store> Meter<S> {
+    /// A meter through which nothing was fetched.
+    pub(crate) fn new(source: Source<S>) -> Self
+        ensures value { result ≡ record { source = source; fetched = 0; calls = 0; names = 0; aside = 0; start = source.fetched } }
+        ensures booked { IsBooked result }
+    {
+        let start = source.fetched();
+        Meter {
+            source,
+            fetched: 0,
+            calls: 0,
+            names: 0,
+            aside: 0,
+            start,
+        }
+    }
+
+    /// The number of bytes in the file.
+    pub(crate) fn size(&self) -> u64
+        ensures value { result ≡ self.now.source.size }
+        ensures content { IsSizeOf self.now.source.store.content result }
+    {
+        self.source.size()
+    }
+
+    /// Fetches for the listing.
+    pub(crate) fn fetch(&mut self, at: u64, out: &mut [u8]) -> Result<(), SourceFault>
+        requires { IsInside at (length out.old) self.old.source.size }
+        ensures bytes { OnOk result (IfSome self.old.source.store.content (λ file. out.new ≡ bytes_at file at (length out.new))) }
+        ensures good { (file : List ℕ) → IsGood self.old.source.store file → IsOk result }
+        ensures told { IfErr result (λ fault. IsTold fault self.old.source self.new.source) }
+        ensures fetches { FetchesAtMost (length out.new) self.old.source self.new.source }
+        ensures counts { self.new ≡ record self.old {
+          source = self.new.source;
+          fetched = raised self.old.fetched (length out.new);
+          calls = raised self.old.calls 1;
+        } }
+    {
+        self.fetched = self.fetched.saturating_add(out.len() as u128);
+        self.calls = self.calls.saturating_add(1);
+        self.source.fetch(at, out)
+    }
+
+    /// Fetches what is not of the listing.
+    pub(crate) fn fetch_aside(&mut self, at: u64, out: &mut [u8]) -> Result<(), SourceFault>
+        requires { IsInside at (length out.old) self.old.source.size }
+        ensures bytes { OnOk result (IfSome self.old.source.store.content (λ file. out.new ≡ bytes_at file at (length out.new))) }
+        ensures good { (file : List ℕ) → IsGood self.old.source.store file → IsOk result }
+        ensures told { IfErr result (λ fault. IsTold fault self.old.source self.new.source) }
+        ensures fetches { FetchesAtMost (length out.new) self.old.source self.new.source }
+        ensures counts { self.new ≡ record self.old { source = self.new.source; aside = raised self.old.aside (length out.new) } }
+    {
+        self.aside = self.aside.saturating_add(out.len() as u128);
+        self.source.fetch(at, out)
+    }
+
+    /// Counts a name that was reached.
+    pub(crate) fn reach_name(&mut self)
+        ensures { self.new ≡ record self.old { names = raised self.old.names 1 } }
+    {
+        self.names = self.names.saturating_add(1);
+    }
+
+    /// The bytes fetched for the listing.
+    pub(crate) fn fetched(&self) -> u128
+        ensures value { result ≡ self.now.fetched }
+        ensures booked { IsBooked self.now }
+    {
+        self.fetched
+    }
+
+    /// Hands the source back.
+    pub(crate) fn into_source(self) -> Source<S>
+        ensures value { result ≡ self.source }
+        ensures booked { IsBooked self }
+    {
+        let Meter { source, .. } = self;
+        source
+    }
+}
