@@ -1,13 +1,15 @@
 -- What some fetches leave to those behind them.
-use Rattle.std.proofs.Common.{◌≤◌, ◌+◌, ◌∙◌, ℕ, List, arith, refl, sym}
-use Rattle.mdmp_source.specs.Source.{SourceState, FetchesAtMost, FetchesSome, IsTold}
+use Rattle.std.proofs.Common.{◌≡◌, ◌≤◌, ◌+◌, ◌∙◌, ℕ, List, Err, ap, arith, refl, sym}
+use Rattle.mdmp_source.specs.Count.{raised}
+use Rattle.mdmp_source.specs.Source.{SourceState, FailsOnce, FetchesAtMost, IsTold}
+use Rattle.mdmp_source.specs.declared.fault.SourceFault.{SourceFault}
 use Rattle.mdmp_source.specs.SourceLaws.{fetches_then, told_later}
 use Rattle.mdmp_source.specs.Store.{IsGood}
 use Rattle.mdmp_wire.specs.declared.entry.Entry.{Entry}
 use Rattle.mdmp_lister.specs.declared.fault.FaultKind.{FaultKind}
 use Rattle.mdmp_lister.specs.declared.fault.FaultKind.TheVariants as kinds
 use Rattle.mdmp_lister.specs.declared.fault.ListFault.{ListFault}
-use Rattle.mdmp_lister.specs.Reading.{IsToldBy, IsToldIn, IsToldOf}
+use Rattle.mdmp_lister.specs.Reading.{IsSteady, IsToldBy, IsToldIn, IsToldOf}
 use Rattle.mdmp_source.specs.declared.fault.SourceFault.TheVariants.{Failed, ShortRead, Changed}
 use Rattle.mdmp_lister.specs.declared.fault.OpenFault.{OpenFault}
 use Rattle.mdmp_lister.specs.declared.fault.OpenFault.TheVariants.{TooShort, BadSignature, BadVersion, DirectoryOutside, Source, Memory, TooManyRanges}
@@ -45,18 +47,24 @@ FetchesAtMost-within m n a b le f = record {
 pub IsGood-later : (F : List ℕ) (n : ℕ) (a b : SourceState) → FetchesAtMost n a b → IsGood a.store F → IsGood b.store F
 IsGood-later F n a b f good = record { known = f.same_content ∙ good.known; reliable = rw f.same_reliable good.reliable }
 
--- a fault that has its cause behind some fetches has its cause in them all
-pub IsUnreadFor-later : (fault : OpenFault) (n : ℕ) (a b c : SourceState) → FetchesAtMost n a b → IsUnreadFor fault b c → IsUnreadFor fault a c
-IsUnreadFor-later (Source fault) n a b c f told = told_later fault n a b c f told
-IsUnreadFor-later (TooShort size) n a b c f cause = cause
-IsUnreadFor-later BadSignature n a b c f cause = cause
-IsUnreadFor-later (BadVersion low) n a b c f cause = cause
-IsUnreadFor-later (DirectoryOutside offset size) n a b c f cause = cause
-IsUnreadFor-later Memory n a b c f cause = cause
-IsUnreadFor-later (TooManyRanges count) n a b c f cause = cause
+pub IsSteady-then : (a b c : SourceState) → IsSteady a b → IsSteady b c → IsSteady a c
+IsSteady-then a b c first then = (then.0 ∙ first.0, then.1 ∙ first.1)
 
-pub FetchesSome-then : (n : ℕ) (a b c : SourceState) → FetchesSome a b → FetchesAtMost n b c → FetchesSome a c
-FetchesSome-then n a b c first then = record { count = first.count + n; fetches = fetches_then first.count n a b c first.fetches then }
+-- one call at fault behind fetches of which none was is the only one of them all
+pub once_later : (fault : SourceFault) (a b c : SourceState) → IsSteady a b → FailsOnce {T = Unit {0}} (Err fault) b.store.counts c.store.counts → FailsOnce {T = Unit {0}} (Err fault) a.store.counts c.store.counts
+once_later (Failed at) a b c first once = (once.0 ∙ ap (λ n. raised n 1) first.0, once.1 ∙ first.1)
+once_later (ShortRead at) a b c first once = (once.0 ∙ first.0, once.1 ∙ ap (λ n. raised n 1) first.1)
+once_later (Changed at) a b c first once = once
+
+-- a fault that has its cause behind some fetches has its cause in them all
+pub IsUnreadFor-later : (fault : OpenFault) (n : ℕ) (a b c : SourceState) → FetchesAtMost n a b → IsSteady a b → IsUnreadFor fault b c → IsUnreadFor fault a c
+IsUnreadFor-later (Source fault) n a b c f steady told = (told_later fault n a b c f told.0, once_later fault a b c steady told.1)
+IsUnreadFor-later (TooShort size) n a b c f steady cause = IsSteady-then a b c steady cause
+IsUnreadFor-later BadSignature n a b c f steady cause = IsSteady-then a b c steady cause
+IsUnreadFor-later (BadVersion low) n a b c f steady cause = IsSteady-then a b c steady cause
+IsUnreadFor-later (DirectoryOutside offset size) n a b c f steady cause = IsSteady-then a b c steady cause
+IsUnreadFor-later Memory n a b c f steady cause = IsSteady-then a b c steady cause
+IsUnreadFor-later (TooManyRanges count) n a b c f steady cause = IsSteady-then a b c steady cause
 
 -- ---- faults that are told
 

@@ -1,12 +1,19 @@
 -- A run, one item longer.
-use Rattle.std.proofs.Common.{◌≡◌, List, [], ◌∷◌, ◌++◌, ℕ, Some, ap, Result, Ok, Err, inl, inr, refl, subst, ◌∙◌, append_assoc}
+use Rattle.std.proofs.Common.{◌≡◌, ◌≤◌, ◌+◌, ◌-◌, List, [], ◌∷◌, ◌++◌, ℕ, Some, ap, arith, Result, Ok, Err, inl, inr, refl, subst, ◌∙◌, append_assoc}
+use Rattle.std.proofs.lemmas.List.Sums.{sum_by-append, sum_by-cons}
+use Rattle.mdmp_source.specs.Source.{SourceState, FetchesAtMost}
+use Rattle.mdmp_source.specs.SourceLaws.{fetches_then}
 use Rattle.mdmp_wire.specs.declared.entry.Entry.{Entry}
 use Rattle.mdmp_lister.specs.declared.item.Item.{Item}
 use Rattle.mdmp_lister.specs.declared.sink.Stopped.{Stopped}
 use Rattle.mdmp_lister.specs.Handing.{Taken, TakenToStop, current_behind, give_all, passed_behind}
 use Rattle.std.specs.Prelude.{drop, slice_get}
+use Rattle.mdmp_lister.specs.declared.fault.ListFault.{ListFault}
+use Rattle.mdmp_lister.specs.Costs.{fault_cost, head_given, item_cost, items_cost}
+use Rattle.mdmp_lister.specs.Items.{plain}
+use Rattle.mdmp_lister.proofs.Costs.{head_given-plain, item_cost-plain}
+use Rattle.mdmp_lister.proofs.Fetches.{FetchesAtMost-none, FetchesAtMost-within}
 use Rattle.mdmp_lister.specs.Lister.{IsSameLister, ListerState, current_after, passed_after, tail}
-use Rattle.mdmp_lister.proofs.Fetches.{FetchesSome-then}
 use Rattle.mdmp_lister.specs.Listing.{Run, with_item}
 
 pub give_all-more : (old : Run) (xs : List Item) (x : Item) (rest new : Run) → old ≡ give_all xs rest → rest ≡ with_item x new → old ≡ give_all (xs ++ x ∷ []) new
@@ -41,7 +48,53 @@ module _ {K X : Type 0} (step : K → X → Result (Unit {0}) Stopped → K → 
 pub same_lister-then : (a b c : ListerState) → IsSameLister a b → IsSameLister b c → IsSameLister a c
 same_lister-then a b c first then = record {
   header_is = then.header_is ∙ first.header_is;
+  entries = then.entries ∙ first.entries;
+  rooms = then.rooms ∙ first.rooms;
   choice = then.choice ∙ first.choice;
   limit = then.limit ∙ first.limit;
-  fetches = FetchesSome-then then.fetches.count a.source b.source c.source first.fetches then.fetches.fetches;
 }
+
+-- ---- what a run fetches
+
+-- what was fetched for some items, where `left` bytes of a head are not fetched yet
+pub record HasCost (head : ℕ) (old : SourceState) (xs : List Item) (left : ℕ) (new : SourceState) : Type 0 where
+  pub fetches : FetchesAtMost (head + items_cost old.size xs - left) old new
+  pub within : left ≤ head + items_cost old.size xs
+
+pub HasCost-none : (head : ℕ) (a : SourceState) → HasCost head a [] head a
+HasCost-none head a = record {
+  fetches = FetchesAtMost-within 0 (head + items_cost a.size [] - head) a a (omega arith) (FetchesAtMost-none a);
+  within = omega arith;
+}
+
+items_cost-more : (z : ℕ) (xs : List Item) (x : Item) → items_cost z (xs ++ plain x ∷ []) ≡ items_cost z xs + (item_cost x + head_given z x)
+items_cost-more z xs x =
+    let f : Item → ℕ = λ y. item_cost y + head_given z y in
+    sum_by-append f xs (plain x ∷ []) ∙ rw (sum_by-cons f (plain x) [], item_cost-plain x, head_given-plain z x) (omega arith)
+
+module _ (head : ℕ) (old mid new : SourceState) (xs : List Item) (left : ℕ) (so_far : HasCost head old xs left mid) where
+  pub HasCost-more : (more : ℕ) (x : Item) → FetchesAtMost (left + item_cost x) mid new → more ≡ head_given mid.size x → HasCost head old (xs ++ plain x ∷ []) more new
+  HasCost-more more x next begins =
+      let z = old.size in
+      let all = items_cost-more z xs x in
+      let begun : more ≡ head_given z x = begins ∙ ap (λ y. head_given y x) so_far.fetches.same_size in
+      record {
+        fetches = FetchesAtMost-within _ (head + items_cost z (xs ++ plain x ∷ []) - more) old new (omega (arith, all, begun, so_far.within))
+            (fetches_then (head + items_cost z xs - left) (left + item_cost x) old mid new so_far.fetches next);
+        within = omega (arith, all, begun);
+      }
+
+  -- and for the last answer
+  pub HasCost-end : (n : ℕ) → FetchesAtMost (left + n) mid new → FetchesAtMost (head + items_cost old.size xs + n) old new
+  HasCost-end n last =
+      FetchesAtMost-within _ (head + items_cost old.size xs + n) old new (omega (arith, so_far.within))
+      (fetches_then (head + items_cost old.size xs - left) (left + n) old mid new so_far.fetches last)
+
+  pub HasCost-fault : (limit was : ℕ) (e now : Entry) (f : ListFault) → was ≡ limit → now ≡ e → FetchesAtMost (left + fault_cost was now f) mid new
+      → FetchesAtMost (head + items_cost old.size xs + fault_cost limit e f) old new
+  HasCost-fault limit was e now f same entry last =
+      let cost : fault_cost was now f ≡ fault_cost limit e f = ap (λ n. fault_cost n now f) same ∙ ap (λ d. fault_cost limit d f) entry in
+      HasCost-end (fault_cost limit e f) (subst (λ n. FetchesAtMost (left + n) mid new) cost last)
+
+pub HasCost-most : (head : ℕ) (old new : SourceState) (xs : List Item) (left : ℕ) → HasCost head old xs left new → FetchesAtMost (head + items_cost old.size xs + 0) old new
+HasCost-most head old new xs left cost = FetchesAtMost-within _ _ old new (omega (arith, cost.within)) cost.fetches

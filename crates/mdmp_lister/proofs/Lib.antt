@@ -2,12 +2,14 @@ pub mod AddressRows
 pub mod Addresses
 pub mod Advancing
 pub mod Bodies
+pub mod Costs
 pub mod Directory
 pub mod Ending
 pub mod Entries
 pub mod Fetches
 pub mod Files
 pub mod Handing
+pub mod Heads
 pub mod LawsLemmas
 pub mod Mapping
 pub mod Metering

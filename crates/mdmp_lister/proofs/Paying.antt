@@ -16,7 +16,8 @@ use Rattle.mdmp_lister.specs.declared.shape.Shape.{Shape}
 use Rattle.mdmp_lister.specs.declared.stage.Stage.TheVariants.{Between}
 use Rattle.mdmp_lister.specs.declared.walk.Walk.{Walk}
 use Rattle.mdmp_lister.specs.Listing.{is_chosen}
-use Rattle.mdmp_lister.specs.Meter.{Books, Spends, head_cost, head_spent}
+use Rattle.mdmp_lister.specs.Heads.{head_cost, head_spent, heads_ahead}
+use Rattle.mdmp_lister.specs.Meter.{Books, Spends}
 use Rattle.mdmp_lister.specs.Paying.{IsBounded, IsPaid, cost_of, entry_cost, owed_of}
 use Rattle.mdmp_lister.specs.Shapes.{FitsIn, head_size, kind_of, record_size}
 use Rattle.mdmp_lister.specs.Stages.{fault_stage, stage_by}
@@ -134,13 +135,14 @@ module _ {S A : Type 0} (allowed : ℕ) (w : Walk S A) where
 module _ {S A : Type 0} (old new : Walk S A) where
   pub bounded_then : IsBounded old → ((allowed before : ℕ) → IsPaid allowed before old → IsPaid allowed before new) → SameRoom old new → new.meter.source.size ≡ old.meter.source.size → IsBounded new
   bounded_then bounded pays same size =
-      let was : 32 + 28 * vec_len new.entries + cost_of new.choice new.meter.source.size new.entries.items ≡ 32 + 28 * vec_len old.entries + cost_of old.choice old.meter.source.size old.entries.items =
+      let was : 32 + 12 * vec_len new.entries + heads_ahead new.choice new.meter.source.size new.entries.items + cost_of new.choice new.meter.source.size new.entries.items
+          ≡ 32 + 12 * vec_len old.entries + heads_ahead old.choice old.meter.source.size old.entries.items + cost_of old.choice old.meter.source.size old.entries.items =
       rw (same.entries, same.choice, size) refl in
       subst (λ allowed. IsPaid allowed 0 new) (sym was) (pays _ 0 bounded)
 
-  pub bounded_new : (source : SourceState) (choice : Choice) (limits : Limits) → IsNewWalk source choice limits old → Books (16 * vec_len old.entries) old.meter new.meter
-      → SameEntry old new → new.stage ≡ old.stage → IsSound new → IsBounded new
-  bounded_new source choice limits opened books same stage sound =
+  pub bounded_new : (source : SourceState) (choice : Choice) (limits : Limits) → IsNewWalk source choice limits old → Books (heads_ahead old.choice old.meter.source.size old.entries.items) old.meter new.meter
+      → new.meter.source.size ≡ old.meter.source.size → SameEntry old new → new.stage ≡ old.stage → IsSound new → IsBounded new
+  bounded_new source choice limits opened books size same stage sound =
       let first = same.next ∙ opened.next in
       paid_new _ new (stage ∙ opened.stage) (books.same_names ∙ opened.names) sound.few
-      (rw (first, same.room.entries) (omega (arith, books.fetched, opened.fetched, opened.entries)))
+      (rw (first, same.room.entries, same.room.choice, size) (omega (arith, books.fetched, opened.fetched, opened.entries)))

@@ -1,15 +1,19 @@
 -- The first fault of a file's header and directory, from the bytes of its header.
-use Rattle.std.proofs.Common.{◌≡◌, ◌≤◌, ◌+◌, ◌*◌, inl, inr, refl, subst, ℕ, List, length, Option, Some, None, arith, sym, ◌∙◌, ap}
+use Rattle.std.proofs.Common.{◌≡◌, ◌≤◌, ◌+◌, ◌*◌, [], inl, inr, refl, subst, ℕ, List, length, Option, Some, None, arith, sym, ◌∙◌, ap}
 use Rattle.std.specs.Prelude.{nat_lt, true, false, if◌then◌else◌}
 use Rattle.std.proofs.lemmas.Grind.{common_steps}
+use Rattle.mdmp_source.specs.Count.{raised}
 use Rattle.mdmp_source.specs.Range.{IsInside, bytes_at, is_inside}
 use Rattle.mdmp_source.specs.Source.{SourceState, FetchesAtMost}
 use Rattle.mdmp_source.specs.SourceLaws.{fetches_then}
+use Rattle.mdmp_wire.specs.declared.entry.Entry.{Entry}
 use Rattle.mdmp_wire.specs.declared.header.Header.{Header}
 use Rattle.mdmp_wire.specs.declared.header_fault.HeaderFault.{HeaderFault}
 use Rattle.mdmp_wire.specs.Header.{header_at, header_at-part}
 use Rattle.mdmp_wire.specs.HeaderFault.{fault_of, header_fault}
 use Rattle.mdmp_lister.specs.declared.choice.Choice.{Choice}
+use Rattle.mdmp_lister.specs.Directory.{AreFirst}
+use Rattle.mdmp_lister.specs.Heads.{heads_ahead}
 use Rattle.mdmp_lister.specs.declared.fault.OpenFault.{OpenFault}
 use Rattle.mdmp_lister.specs.declared.fault.OpenFault.TheVariants.{TooShort, BadSignature, BadVersion, DirectoryOutside, TooManyRanges, Source, Memory}
 use Rattle.mdmp_lister.proofs.Fetches.{FetchesAtMost-within}
@@ -54,11 +58,15 @@ directory_refusal-outside F bytes h size len room whole fetched good read outsid
 -- ---- sources that are handed back
 
 -- of a file whose directory was not begun
-pub IsHandedBack-head : (old new : SourceState) (fault : OpenFault) → FetchesAtMost 32 old new → ((size : ℕ) → fault ≡ TooShort size → new ≡ old) → IsHandedBack old fault new
-IsHandedBack-head old new fault fetches short = record {
-  entries = 0;
+pub IsHandedBack-head : (choice : Choice) (old new : SourceState) (fault : OpenFault) → FetchesAtMost 32 old new → new.calls ≤ raised old.calls 1
+    → ((size : ℕ) → fault ≡ TooShort size → new ≡ old) → IsHandedBack choice old fault new
+IsHandedBack-head choice old new fault fetches calls short = record {
+  asked = 0;
+  entries = [];
+  obtained = omega arith;
   fetches = fetches;
-  known = λ file known. omega arith;
+  calls = calls;
+  known = λ file known. (omega arith, λ i d over. absurd (omega (arith, over)));
   inside = omega arith;
   begun = λ some. absurd (omega (arith, some));
   early = λ of. refl;
@@ -69,19 +77,24 @@ pub not_of_head : (fault : OpenFault) → IsUnread fault → IsOfHead fault → 
 not_of_head (Source f) unread of = of
 not_of_head fault unread of = unread
 
--- of one whose directory was, and the heads of its lists
-pub IsHandedBack-begun : (old mid new : SourceState) (fault : OpenFault) (header : Header) (m n : ℕ) → FetchesAtMost m old mid → FetchesAtMost n mid new → m + n ≤ 32 + 28 * header.number_of_streams
-    → 12 * header.number_of_streams ≤ old.size
-    → ((file : List ℕ) → old.store.content ≡ Some file → (directory_refusal file ≡ None) × (header ≡ header_at file 0)) → (IsOfHead fault → ⊥) → IsHandedBack old fault new
-IsHandedBack-begun old mid new fault header m n first more few within read late = record {
-  entries = header.number_of_streams;
-  fetches = FetchesAtMost-within (m + n) (32 + 28 * header.number_of_streams) old new few (fetches_then m n old mid new first more);
-  known = λ file known. let same = ap (λ h. h.number_of_streams) (read file known).1 in omega (arith, same);
-  inside = within;
-  begun = λ some file known. (read file known).0;
-  early = λ of. absurd (late of);
-  short = λ size same. absurd (late (subst IsOfHead (sym same) tt));
-}
+-- of one whose directory was, by fetches of the header and then of more
+module _ (choice : Choice) (old mid new : SourceState) (fault : OpenFault) (header : Header) (entries : List Entry) where
+  pub IsHandedBack-begun : (m n : ℕ) → FetchesAtMost m old mid → FetchesAtMost n mid new → m + n ≤ 32 + 12 * header.number_of_streams + heads_ahead choice old.size entries
+      → length entries ≤ header.number_of_streams → new.calls ≤ raised old.calls (1 + header.number_of_streams + length entries) → 12 * header.number_of_streams ≤ old.size
+      → ((file : List ℕ) → old.store.content ≡ Some file → (directory_refusal file ≡ None) × (header ≡ header_at file 0))
+      → ((file : List ℕ) → old.store.content ≡ Some file → AreFirst file entries) → (IsOfHead fault → ⊥) → IsHandedBack choice old fault new
+  IsHandedBack-begun m n first more few obtained calls within read firsts late = record {
+    asked = header.number_of_streams;
+    entries = entries;
+    obtained = obtained;
+    fetches = FetchesAtMost-within (m + n) (32 + 12 * header.number_of_streams + heads_ahead choice old.size entries) old new few (fetches_then m n old mid new first more);
+    calls = calls;
+    known = λ file known. let same = ap (λ (h : Header). h.number_of_streams) (read file known).1 in (omega (arith, same), firsts file known);
+    inside = within;
+    begun = λ some file known. (read file known).0;
+    early = λ of. absurd (late of);
+    short = λ size same. absurd (late (subst IsOfHead (sym same) tt));
+  }
 
 -- the room of a directory that lies inside a file
 pub directory_room : (rva count size : ℕ) → IsInside rva (12 * count) size → 12 * count ≤ size

@@ -4,7 +4,11 @@ use Rattle.mdmp_wire.specs.declared.entry.Entry.{Entry}
 use Rattle.mdmp_lister.specs.declared.choice.Choice.{Choice}
 use Rattle.mdmp_lister.specs.Listing.{chosen_from, entry_count, entry_of}
 
--- these are the entries of the directory of F, in order
+-- these are the first entries of the directory of F, in order
+abbrev pub AreFirst : List ℕ → List Entry → Type 0
+AreFirst F entries = (i : ℕ) (d : Entry) → i < length entries → get_or entries i d ≡ entry_of F i
+
+-- and these all of them
 pub record IsDirectory (F : List ℕ) (entries : List Entry) : Type 0 where
   pub count : length entries ≡ entry_count F
   pub each : (i : ℕ) (d : Entry) → i < length entries → get_or entries i d ≡ entry_of F i

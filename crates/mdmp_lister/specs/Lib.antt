@@ -1,9 +1,11 @@
 pub mod Addresses
 pub mod Bounds
+pub mod Costs
 pub mod Counts
 pub mod Directory
 pub mod Extents
 pub mod Handing
+pub mod Heads
 pub mod Items
 pub mod Laws
 pub mod Lister

@@ -1,7 +1,8 @@
 -- What a contract sees of a lister.
-use Rattle.std.specs.Prelude.{◌≡◌, ◌≤◌, ◌<◌, ◌+◌, ◌*◌, ℕ, List, [], ◌∷◌, ◌++◌, drop, slice_get, Bool, true, false, Option, None, Some, Result, Ok, Err, IfOk, IfErr, IfSome}
+use Rattle.std.specs.Prelude.{◌≡◌, ◌≤◌, ◌<◌, ◌+◌, ◌*◌, ℕ, length, List, [], ◌∷◌, ◌++◌, drop, slice_get, Bool, true, false, Option, None, Some, Result, Ok, Err, IfOk, IfErr, IfSome}
 use Rattle.std.specs.Option.{option_map}
-use Rattle.mdmp_source.specs.Source.{SourceState, FetchesAtMost, FetchesSome}
+use Rattle.mdmp_source.specs.Count.{raised}
+use Rattle.mdmp_source.specs.Source.{SourceState, FetchesAtMost}
 use Rattle.mdmp_wire.specs.declared.entry.Entry.{Entry}
 use Rattle.mdmp_wire.specs.declared.header.Header.{Header}
 use Rattle.mdmp_wire.specs.Header.{header_at}
@@ -12,19 +13,33 @@ use Rattle.mdmp_lister.specs.declared.fault.ListFault.{ListFault}
 use Rattle.mdmp_lister.specs.declared.item.Item.{Item}
 use Rattle.mdmp_lister.specs.declared.item.Item.TheVariants.{Stream}
 use Rattle.mdmp_map.specs.declared.range.Range.{Range}
+use Rattle.mdmp_lister.specs.declared.limits.Limits.{Limits}
+use Rattle.mdmp_lister.specs.Costs.{answer_cost, head_behind}
+use Rattle.mdmp_lister.specs.Counts.{range_count}
+use Rattle.mdmp_lister.specs.Directory.{IsDirectory}
+use Rattle.mdmp_lister.specs.Heads.{heads_ahead}
 use Rattle.mdmp_lister.specs.Items.{plain}
 use Rattle.mdmp_lister.specs.Listing.{Run, nothing, only_fault, listing, listing_from}
 use Rattle.mdmp_lister.specs.Ranges.{ranges_of}
-use Rattle.mdmp_lister.specs.Reading.{IsOfSource, IsToldIn}
+use Rattle.mdmp_lister.specs.Reading.{IsOfSource, IsSteady, IsToldIn}
 use Rattle.mdmp_lister.specs.Stages.{stop_after}
+
+-- what a lister has room for: entries of the directory, bytes of its window, and ranges
+pub record Rooms : Type 0 where
+  pub entries : ℕ
+  pub window : ℕ
+  pub ranges : ℕ
 
 pub record ListerState : Type 0 where
   -- the file is the source's content, where that is known
   pub source : SourceState
   pub header : Header
+  -- the directory, as it was read
+  pub entries : List Entry
   pub choice : Choice
-  -- names of more bytes are told by their length
+  -- names of more bytes are told by their length; it has room for so many
   pub limit : ℕ
+  pub rooms : Rooms
   -- the number of the first entry behind the one whose Stream item was given last; behind the end, how many there are
   pub passed : ℕ
   -- the entry whose Stream item was given last
@@ -35,6 +50,8 @@ pub record ListerState : Type 0 where
   pub left : Option Run
   -- the end or the fault with which each request is answered from now on, where there is one
   pub stop : Option (Option ListFault)
+  -- the bytes of the current entry's head, where that is not read yet
+  pub head : ℕ
   -- a number that falls with each item
   pub work : ℕ
 
@@ -94,26 +111,39 @@ is_for_good (Some None) = true
 is_for_good (Some (Some f)) = is_of_source f.kind
 
 -- a lister that was opened over a source, and has given nothing
-pub record IsNewLister (source : SourceState) (choice : Choice) (limit : ℕ) (new : ListerState) : Type 0 where
-  pub fetches : FetchesAtMost (32 + 28 * new.header.number_of_streams) source new.source
+pub record IsNewLister (source : SourceState) (choice : Choice) (limits : Limits) (new : ListerState) : Type 0 where
+  -- the header was fetched, the directory, and the heads of the chosen memory lists
+  pub fetches : FetchesAtMost (32 + 12 * new.header.number_of_streams + heads_ahead choice source.size new.entries) source new.source
+  pub calls : new.source.calls ≤ raised source.calls (1 + 2 * new.header.number_of_streams)
+  pub steady : IsSteady source new.source
   pub header_is : (file : List ℕ) → source.store.content ≡ Some file → new.header ≡ header_at file 0
+  pub directory : (file : List ℕ) → source.store.content ≡ Some file → IsDirectory file new.entries
+  pub count : length new.entries ≡ new.header.number_of_streams
   pub choice_is : new.choice ≡ choice
-  pub limit_is : new.limit ≡ limit
+  pub limit_is : new.limit ≡ limits.name
+  pub entry_room : new.rooms.entries ≡ new.header.number_of_streams
+  pub window_room : new.rooms.window ≡ limits.window
+  pub range_room : (file : List ℕ) → source.store.content ≡ Some file → new.rooms.ranges ≡ range_count file choice
   pub passed : new.passed ≡ 0
   pub ranges : new.ranges ≡ []
-  pub left : new.left ≡ option_map (λ file. listing file choice limit) source.store.content
+  pub left : new.left ≡ option_map (λ file. listing file choice limits.name) source.store.content
+  pub head : new.head ≡ 0
   pub stop : new.stop ≡ None
 
 -- what no call changes
 pub record IsSameLister (old new : ListerState) : Type 0 where
   pub header_is : new.header ≡ old.header
+  pub entries : new.entries ≡ old.entries
   pub choice : new.choice ≡ old.choice
   pub limit : new.limit ≡ old.limit
-  pub fetches : FetchesSome old.source new.source
+  pub rooms : new.rooms ≡ old.rooms
 
 -- what a request for the next item leaves
 pub record Leaves (old : ListerState) (result : Result (Option Item) ListFault) (new : ListerState) : Type 0 where
   pub same : IsSameLister old new
+  -- the current entry's head, where that was not read yet, and the record and name of the item
+  pub fetches : FetchesAtMost (old.head + answer_cost old.limit old.current result) old.source new.source
+  pub head : new.head ≡ head_behind old.source.size result
   pub left : new.left ≡ option_map (left_after result) old.left
   pub stop : new.stop ≡ stop_after result
   pub passed : Passes result old.passed new.passed

@@ -1,12 +1,7 @@
 -- What a listing has fetched, beside its source.
-use Rattle.std.specs.Prelude.{◌≡◌, ◌≤◌, ◌<◌, ◌+◌, ◌*◌, ◌^◌, ℕ, nat_lt, if◌then◌else◌}
+use Rattle.std.specs.Prelude.{◌≡◌, ◌≤◌, ◌<◌, ◌+◌, ◌*◌, ◌^◌, ℕ}
 use Rattle.mdmp_source.specs.Count.{raised}
 use Rattle.mdmp_source.specs.Source.{SourceState}
-use Rattle.mdmp_lister.specs.declared.fetching.NameRead.{NameRead}
-use Rattle.mdmp_lister.specs.declared.fetching.NameRead.TheVariants.{NoName, Units, Long}
-use Rattle.mdmp_lister.specs.declared.kind.Kind.{Kind}
-use Rattle.mdmp_lister.specs.declared.kind.Kind.TheVariants as kinds
-use Rattle.mdmp_lister.specs.Shapes.{head_size}
 
 -- a source that is read for a listing, as those who read through it see it
 pub record MeterState : Type 0 where
@@ -42,27 +37,6 @@ pub record Spends (n limit : ℕ) (old new : MeterState) : Type 0 where
   pub one_name : new.names ≤ old.names + 1
   pub same_aside : new.aside ≡ old.aside
   pub same_start : new.start ≡ old.start
-
--- the bytes of a name that was read: none of one that is not there, its length alone of a long one
-abbrev pub name_cost : NameRead → ℕ
-name_cost NoName = 0
-name_cost (Units bytes) = 4 + bytes
-name_cost (Long bytes) = 4
-
--- the bytes of a head: a single record has none
-abbrev pub head_cost : Kind → ℕ
-head_cost kinds.Threads = 4
-head_cost kinds.Modules = 4
-head_cost kinds.Memory = 4
-head_cost kinds.Exception = 0
-head_cost kinds.System = 0
-head_cost kinds.Memory64 = 16
-head_cost kinds.Unloaded = 12
-head_cost kinds.MemoryInfo = 16
-
--- those that are fetched of a stream of so many bytes: none of one that is too short
-abbrev pub head_spent : ℕ → Kind → ℕ
-head_spent size kind = if nat_lt size (head_size kind) then 0 else head_cost kind
 
 -- some fetches aside, of at most n bytes
 pub record SpendsAside (n : ℕ) (old new : MeterState) : Type 0 where

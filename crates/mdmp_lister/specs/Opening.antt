@@ -1,6 +1,8 @@
 -- Whether a file can be listed at all.
 use Rattle.std.specs.Prelude.{◌≡◌, ◌≤◌, ◌<◌, false, ℕ, ◌+◌, ◌*◌, ◌^◌, List, length, Option, Some, None, Result, Ok, Err, nat_lt, if◌then◌else◌}
-use Rattle.mdmp_source.specs.Source.{SourceState, FetchesAtMost, IsTold}
+use Rattle.mdmp_source.specs.Count.{raised}
+use Rattle.mdmp_source.specs.Source.{SourceState, FailsOnce, FetchesAtMost, IsTold}
+use Rattle.mdmp_wire.specs.declared.entry.Entry.{Entry}
 use Rattle.mdmp_wire.specs.declared.header.Header.{Header}
 use Rattle.mdmp_source.specs.Range.{is_inside}
 use Rattle.mdmp_wire.specs.declared.header_fault.HeaderFault.{HeaderFault}
@@ -10,7 +12,10 @@ use Rattle.mdmp_wire.specs.HeaderFault.{header_fault}
 use Rattle.mdmp_lister.specs.declared.choice.Choice.{Choice}
 use Rattle.mdmp_lister.specs.declared.fault.OpenFault.{OpenFault}
 use Rattle.mdmp_lister.specs.declared.fault.OpenFault.TheVariants.{TooShort, BadSignature, BadVersion, DirectoryOutside, TooManyRanges, Source, Memory}
+use Rattle.mdmp_lister.specs.Directory.{AreFirst}
+use Rattle.mdmp_lister.specs.Heads.{heads_ahead}
 use Rattle.mdmp_lister.specs.Listing.{entry_count}
+use Rattle.mdmp_lister.specs.Reading.{IsSteady}
 use Rattle.mdmp_lister.specs.Counts.{range_count}
 
 -- the most ranges that a lister takes
@@ -62,10 +67,14 @@ abbrev pub IsUnread : OpenFault → Type 0
 IsUnread (Source fault) = Unit {0}
 IsUnread fault = ⊥
 
--- a fault of the store is told by the last fetch of this call
+-- a fault of the store is told by the last fetch of this call, the only one at fault; where another is told none was
 abbrev pub IsUnreadFor : OpenFault → SourceState → SourceState → Type 0
-IsUnreadFor (Source fault) old new = IsTold fault old new
-IsUnreadFor fault old new = Unit {0}
+IsUnreadFor (Source fault) old new = IsTold fault old new × FailsOnce {T = Unit {0}} (Err fault) old.store.counts new.store.counts
+IsUnreadFor fault old new = IsSteady old new
+
+abbrev pub IsUnreadAs : {T : Type 0} → Result T OpenFault → SourceState → SourceState → Type 0
+IsUnreadAs (Ok x) old new = IsSteady old new
+IsUnreadAs (Err fault) old new = IsUnreadFor fault old new
 
 -- a fault of a file's header or directory, or want of memory where they have none, or a fault of the store
 abbrev pub IsDirectoryRefusal : List ℕ → OpenFault → Type 0
@@ -88,16 +97,19 @@ IsOfHead (BadVersion low) = Unit {0}
 IsOfHead (DirectoryOutside offset size) = Unit {0}
 IsOfHead fault = ⊥
 
--- the source of a file that was refused: its header was fetched, and at most so many entries of its directory, each with
--- the head of its list
-pub record IsHandedBack (old : SourceState) (fault : OpenFault) (new : SourceState) : Type 0 where
-  pub entries : ℕ
-  pub fetches : FetchesAtMost (32 + 28 * entries) old new
-  pub known : (file : List ℕ) → old.store.content ≡ Some file → entries ≤ entry_count file
-  pub inside : 12 * entries ≤ old.size
+-- the source of a file that was refused: its header was fetched, and so many entries of its directory were asked for; of
+-- those that were obtained the heads of chosen memory lists
+pub record IsHandedBack (choice : Choice) (old : SourceState) (fault : OpenFault) (new : SourceState) : Type 0 where
+  pub asked : ℕ
+  pub entries : List Entry
+  pub obtained : length entries ≤ asked
+  pub fetches : FetchesAtMost (32 + 12 * asked + heads_ahead choice old.size entries) old new
+  pub calls : new.calls ≤ raised old.calls (1 + asked + length entries)
+  pub known : (file : List ℕ) → old.store.content ≡ Some file → (asked ≤ entry_count file) × AreFirst file entries
+  pub inside : 12 * asked ≤ old.size
   -- none but of a file whose header and place of the directory are good, and not even the header of a file that is too short
-  pub begun : 0 < entries → (file : List ℕ) → old.store.content ≡ Some file → directory_refusal file ≡ None
-  pub early : IsOfHead fault → entries ≡ 0
+  pub begun : 0 < asked → (file : List ℕ) → old.store.content ≡ Some file → directory_refusal file ≡ None
+  pub early : IsOfHead fault → asked ≡ 0
   pub short : (size : ℕ) → fault ≡ TooShort size → new ≡ old
 
 -- a file of `size` bytes may be refused so, whatever its bytes

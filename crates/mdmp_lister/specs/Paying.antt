@@ -6,6 +6,7 @@ use Rattle.mdmp_lister.specs.declared.choice.Choice.{Choice}
 use Rattle.mdmp_lister.specs.declared.stage.Stage.{Stage}
 use Rattle.mdmp_lister.specs.declared.stage.Stage.TheVariants.{Head, Records}
 use Rattle.mdmp_lister.specs.declared.walk.Walk.{Walk}
+use Rattle.mdmp_lister.specs.Heads.{heads_ahead}
 use Rattle.mdmp_lister.specs.Listing.{is_chosen}
 use Rattle.mdmp_lister.specs.Shapes.{is_known, record_size}
 use Rattle.mdmp_lister.specs.Walk.{work_of}
@@ -39,6 +40,9 @@ pub record IsPaid {S A : Type 0} (allowed before : ℕ) (w : Walk S A) : Type 0 
       + before * (vec_len w.name + 4) ≤ allowed + w.meter.names * (vec_len w.name + 4)
   pub names : w.meter.names + work_of w < 2 ^ 128
 
--- what was fetched and may still be is within the bound, by the entries of the directory
+-- what was fetched and may still be is within the bound, by the entries of the directory: the header, they, the heads
+-- that are fetched twice, and the streams
 abbrev pub IsBounded : {S A : Type 0} → Walk S A → Type 0
-IsBounded w = IsPaid (32 + 28 * vec_len w.entries + cost_of w.choice w.meter.source.size w.entries.items) 0 w
+IsBounded w =
+    let z = w.meter.source.size in
+    IsPaid (32 + 12 * vec_len w.entries + heads_ahead w.choice z w.entries.items + cost_of w.choice z w.entries.items) 0 w

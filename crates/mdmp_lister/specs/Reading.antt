@@ -1,7 +1,7 @@
 -- What is read of a file through a source.
 use Rattle.std.specs.Prelude.{◌≡◌, ◌≤◌, ◌%◌, ℕ, List, Option, Some, None, Result, Ok, Err, take}
 use Rattle.mdmp_source.specs.Fault.{fault_at}
-use Rattle.mdmp_source.specs.Source.{SourceState, IsTold}
+use Rattle.mdmp_source.specs.Source.{SourceState, FailsOnce, IsTold}
 use Rattle.mdmp_wire.specs.Units.{units_over}
 use Rattle.mdmp_source.specs.declared.fault.SourceFault.TheVariants.{Changed}
 use Rattle.mdmp_wire.specs.declared.entry.Entry.{Entry}
@@ -23,6 +23,19 @@ use Rattle.mdmp_lister.specs.declared.fetching.NameRead.TheVariants as read
 abbrev pub IsOfSource : FaultKind → Type 0
 IsOfSource (Source fault) = Unit {0}
 IsOfSource kind = ⊥
+
+-- no call of the store failed or gave nothing in some fetches
+abbrev pub IsSteady : SourceState → SourceState → Type 0
+IsSteady old new = (new.store.counts.failures ≡ old.store.counts.failures) × (new.store.counts.empties ≡ old.store.counts.empties)
+
+-- but one, where a fault of the store is told
+abbrev pub FailsBy : FaultKind → SourceState → SourceState → Type 0
+FailsBy (Source fault) old new = FailsOnce {T = Unit {0}} (Err fault) old.store.counts new.store.counts
+FailsBy kind old new = IsSteady old new
+
+abbrev pub FailsAs : {T : Type 0} → Result T Fault → SourceState → SourceState → Type 0
+FailsAs (Ok x) old new = IsSteady old new
+FailsAs (Err fault) old new = FailsBy fault.kind old new
 
 -- an answer is the wanted one, or a fault of the store stands in its place
 abbrev pub Answers : {X Y : Type 0} → Result X Fault → (Y → X) → Result Y Fault → Type 0

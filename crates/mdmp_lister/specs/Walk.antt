@@ -1,5 +1,6 @@
 -- What is left of a walk.
-use Rattle.std.specs.Prelude.{◌≡◌, ◌≤◌, ◌<◌, ◌+◌, ◌-◌, ◌*◌, ◌^◌, ℕ, List, Option, None, Some, Result, Ok, Err, vec_len}
+use Rattle.std.specs.Prelude.{◌≡◌, ◌≤◌, ◌<◌, ◌+◌, ◌-◌, ◌*◌, ◌^◌, ℕ, List, Option, None, Some, Result, Ok, Err, vec_capacity, vec_len}
+use Rattle.mdmp_source.specs.Count.{raised}
 use Rattle.mdmp_source.specs.Range.{IsInside}
 use Rattle.mdmp_source.specs.Source.{SourceState, FetchesAtMost}
 use Rattle.mdmp_source.specs.Store.{IsGood, IsSizeOf}
@@ -18,8 +19,8 @@ use Rattle.mdmp_lister.specs.declared.walk.Walk.{Walk}
 use Rattle.mdmp_lister.specs.Directory.{IsDirectory}
 use Rattle.mdmp_lister.specs.Items.{range_offset}
 use Rattle.mdmp_lister.specs.Listing.{Run, nothing, only_fault, with_item, joined, items_from, body_of, listing_from}
-use Rattle.mdmp_lister.specs.Reading.{IsOfSource}
-use Rattle.mdmp_lister.specs.Shapes.{FitsIn}
+use Rattle.mdmp_lister.specs.Reading.{IsOfSource, IsSteady}
+use Rattle.mdmp_lister.specs.Shapes.{FitsIn, kind_of}
 use Rattle.mdmp_lister.specs.Stages.{failure_of}
 use Rattle.mdmp_lister.specs.Steps.{passed_by, step_item}
 
@@ -35,6 +36,7 @@ left_of_entry F limit number e (Failed f) = only_fault f
 -- the records of an entry are read from `index` on, in a file of `size` bytes
 pub record IsReading (size next : ℕ) (e : Entry) (kind : Kind) (shape : Shape) (index offset : ℕ) : Type 0 where
   pub begun : 0 < next
+  pub known : kind_of e.stream_type ≡ Some kind
   pub within : index ≤ shape.count
   pub inside : IsInside e.location.rva e.location.size size
   pub fits : FitsIn e.location.size kind shape
@@ -95,11 +97,14 @@ module _ {S A : Type 0} where
   -- a walk that was opened over a source, and has given nothing
   pub record IsNewWalk (source : SourceState) (choice : Choice) (limits : Limits) (w : Walk S A) : Type 0 where
     pub fetches : FetchesAtMost (32 + 12 * w.header.number_of_streams) source w.meter.source
+    pub calls : w.meter.source.calls ≤ raised source.calls (1 + w.header.number_of_streams)
+    pub steady : IsSteady source w.meter.source
     pub fetched : w.meter.fetched ≤ 32 + 12 * w.header.number_of_streams
     pub names : w.meter.names ≡ 0
     pub aside : w.meter.aside ≡ 0
     pub start : w.meter.start ≡ source.fetched
     pub entries : vec_len w.entries ≡ w.header.number_of_streams
+    pub room : vec_capacity w.entries ≡ w.header.number_of_streams
     pub inside : 12 * w.header.number_of_streams ≤ source.size
     pub choice_is : w.choice ≡ choice
     pub window : vec_len w.window ≡ limits.window

@@ -1,9 +1,11 @@
 //! How many ranges the memory lists of a file have, read through a source.
 ghost use Rattle.std.specs.Prelude.{◌≡◌, ◌≤◌, ◌<◌, ◌*◌, ◌^◌, ℕ, List, Some, length, IfErr, IfOk, IsOk};
+ghost use Rattle.mdmp_source.specs.Count.{raised};
 ghost use Rattle.mdmp_source.specs.Store.{IsGood};
-ghost use Rattle.mdmp_source.specs.Source.{FetchesAtMost, IsTold};
+ghost use Rattle.mdmp_source.specs.Source.{FailsOnce, FetchesAtMost, IsTold};
 ghost use Rattle.mdmp_lister.specs.Counts.{range_count, ranges_in};
 ghost use Rattle.mdmp_lister.specs.Directory.{IsDirectory};
+ghost use Rattle.mdmp_lister.specs.Heads.{ahead_of, heads_ahead};
 ghost use Rattle.mdmp_lister.specs.Meter.{Books};
 ghost use Rattle.mdmp_lister.specs.Shapes.{kind_of};
 
@@ -27,8 +29,10 @@ fn ranges_of_entry<S: Store>(
     requires { 168 ≤ length window.old }
     ensures count { (file : List ℕ) → meter.old.source.store.content ≡ Some file
         → IfOk result (λ count. count ≡ ranges_in file entry (kind_of entry.stream_type)) }
-    ensures fetches { FetchesAtMost 16 meter.old.source meter.new.source }
-    ensures books { Books 16 meter.old meter.new }
+    ensures fetches { FetchesAtMost (ahead_of meter.old.source.size entry) meter.old.source meter.new.source }
+    ensures books { Books (ahead_of meter.old.source.size entry) meter.old meter.new }
+    ensures calls { meter.new.source.calls ≤ raised meter.old.source.calls 1 }
+    ensures once { FailsOnce result meter.old.source.store.counts meter.new.source.store.counts }
     ensures told { IfErr result (λ fault. IsTold fault meter.old.source meter.new.source) }
     ensures good { (file : List ℕ) → IsGood meter.old.source.store file → IsOk result }
 {
@@ -60,8 +64,10 @@ pub(crate) fn count_ranges<S: Store>(
     requires few { length entries.now < 2 ^ 32 }
     ensures count { (file : List ℕ) → meter.old.source.store.content ≡ Some file
         → IsDirectory file entries.now → IfOk result (λ count. count ≡ range_count file choice.now) }
-    ensures fetches { FetchesAtMost (16 * length entries.now) meter.old.source meter.new.source }
-    ensures books { Books (16 * length entries.now) meter.old meter.new }
+    ensures fetches { FetchesAtMost (heads_ahead choice.now meter.old.source.size entries.now) meter.old.source meter.new.source }
+    ensures books { Books (heads_ahead choice.now meter.old.source.size entries.now) meter.old meter.new }
+    ensures calls { meter.new.source.calls ≤ raised meter.old.source.calls (length entries.now) }
+    ensures once { FailsOnce result meter.old.source.store.counts meter.new.source.store.counts }
     ensures told { IfErr result (λ fault. IsTold fault meter.old.source meter.new.source) }
     ensures good { (file : List ℕ) → IsGood meter.old.source.store file → IsOk result }
 {

@@ -1,13 +1,14 @@
 //! What is read of a file through its source, one fetch at a time.
 ghost use Rattle.std.specs.Prelude.{◌≡◌, ◌≤◌, ◌<◌, ◌+◌, ◌*◌, ◌^◌, ℕ, List, Some, length, take, IfOk, IfErr, IsOk, OnOk, nat_lt};
-ghost use Rattle.mdmp_source.specs.Count.{raised_if};
+ghost use Rattle.mdmp_source.specs.Count.{raised, raised_if};
 ghost use Rattle.mdmp_source.specs.Range.{IsInside, bytes_at};
 ghost use Rattle.mdmp_source.specs.Store.{IsGood, IsSizeOf};
 ghost use Rattle.mdmp_source.specs.Source.{FetchesAtMost};
 ghost use Rattle.mdmp_source.specs.Fault.{fault_at};
-ghost use Rattle.mdmp_lister.specs.Meter.{Books, Spends, name_cost};
+ghost use Rattle.mdmp_lister.specs.Costs.{name_spent, read_cost};
+ghost use Rattle.mdmp_lister.specs.Meter.{Books, Spends};
 ghost use Rattle.mdmp_lister.specs.Names.{name_at};
-ghost use Rattle.mdmp_lister.specs.Reading.{Answers, IsHeld, IsOfSource, IsToldOf, name_read};
+ghost use Rattle.mdmp_lister.specs.Reading.{Answers, FailsAs, IsHeld, IsOfSource, IsToldOf, name_read};
 
 use crate::fault::{Fault, FaultKind};
 use crate::meter::Meter;
@@ -47,6 +48,8 @@ fn fetch<S: Store>(meter: &mut Meter<S>, at: u64, out: &mut [u8]) -> Result<(), 
     ensures fault { IfErr result (λ fault. IsOfSource fault.kind) }
     ensures fetches { FetchesAtMost (length out.new) meter.old.source meter.new.source }
     ensures books { Books (length out.new) meter.old meter.new }
+    ensures calls { meter.new.source.calls ≤ raised meter.old.source.calls 1 }
+    ensures once { FailsAs result meter.old.source meter.new.source }
     ensures told { IfErr result (λ fault. IsToldOf fault.kind fault.offset fault.size meter.old.source meter.new.source) }
     ensures good { (file : List ℕ) → IsGood meter.old.source.store file → IsOk result }
 {
@@ -70,6 +73,8 @@ fn fetch_front<S: Store>(
     ensures fault { IfErr result (λ fault. IsOfSource fault.kind) }
     ensures fetches { FetchesAtMost count meter.old.source meter.new.source }
     ensures books { Books count meter.old meter.new }
+    ensures calls { meter.new.source.calls ≤ raised meter.old.source.calls 1 }
+    ensures once { FailsAs result meter.old.source meter.new.source }
     ensures told { IfErr result (λ fault. IsToldOf fault.kind fault.offset fault.size meter.old.source meter.new.source) }
     ensures good { (file : List ℕ) → IsGood meter.old.source.store file → IsOk result }
 {
@@ -88,6 +93,8 @@ pub(crate) fn read<R: Record, S: Store>(
     ensures fault { IfErr result (λ fault. IsOfSource fault.kind) }
     ensures fetches { FetchesAtMost R.SIZE meter.old.source meter.new.source }
     ensures books { Books R.SIZE meter.old meter.new }
+    ensures calls { meter.new.source.calls ≤ raised meter.old.source.calls 1 }
+    ensures once { FailsAs result meter.old.source meter.new.source }
     ensures told { IfErr result (λ fault. IsToldOf fault.kind fault.offset fault.size meter.old.source meter.new.source) }
     ensures good { (file : List ℕ) → IsGood meter.old.source.store file → IsOk result }
 {
@@ -100,7 +107,7 @@ pub(crate) fn read<R: Record, S: Store>(
 
 /// The name at `rva`, its units into the front of a buffer as long as the limit, or its fault: a
 /// length outside the file, an odd one, units outside. The units of a longer name are not fetched.
-#[tactic(auto, using(crate::proofs::Fetches::told_of_later), unfolding(crate::specs::Names::name_at, mdmp_wire::specs::Number::bytes_at))]
+#[tactic(auto, using(crate::proofs::Fetches::told_of_later, crate::proofs::Costs::source_name_cost), unfolding(crate::specs::Names::name_at, mdmp_wire::specs::Number::bytes_at))]
 pub(crate) fn read_name<S: Store>(
     meter: &mut Meter<S>,
     window: &mut [u8],
@@ -112,10 +119,10 @@ pub(crate) fn read_name<S: Store>(
     ensures name { (file : List ℕ) → meter.old.source.store.content ≡ Some file
         → Answers (name_at file rva (length buffer.new)) (name_read buffer.new) result }
     ensures held { IfOk result (IsHeld (length buffer.new)) }
-    ensures fetches { FetchesAtMost (4 + length buffer.new) meter.old.source meter.new.source }
+    ensures fetches { FetchesAtMost (name_spent (length buffer.new) result) meter.old.source meter.new.source }
     ensures spends { Spends 0 (length buffer.new) meter.old meter.new }
     ensures reached { meter.new.names ≡ raised_if (nat_lt 0 rva) meter.old.names }
-    ensures cost { IfOk result (λ name. meter.new.fetched ≤ meter.old.fetched + name_cost name) }
+    ensures cost { IfOk result (λ name. meter.new.fetched ≤ meter.old.fetched + read_cost name) }
     ensures told { IfErr result (λ fault. IsToldOf fault.kind fault.offset fault.size meter.old.source meter.new.source) }
     ensures good { (file : List ℕ) → IsGood meter.old.source.store file → IfErr result (λ fault. IsOfSource fault.kind → ⊥) }
 {

@@ -1,13 +1,15 @@
 //! The head of a stream, read through a source.
 ghost use Rattle.std.specs.Prelude.{◌≡◌, ◌≤◌, ◌<◌, ◌+◌, ◌*◌, ◌^◌, ℕ, List, Some, length, IfOk, IfErr};
 ghost use Rattle.std.specs.Result.{result_map_both};
+ghost use Rattle.mdmp_source.specs.Count.{raised};
 ghost use Rattle.mdmp_source.specs.Range.{IsInside};
 ghost use Rattle.mdmp_source.specs.Store.{IsGood};
 ghost use Rattle.mdmp_source.specs.Source.{FetchesAtMost};
 ghost use Rattle.mdmp_wire.specs.Number.{number_at};
-ghost use Rattle.mdmp_lister.specs.Meter.{Books, head_cost, head_spent};
+ghost use Rattle.mdmp_lister.specs.Heads.{head_cost, head_spent};
+ghost use Rattle.mdmp_lister.specs.Meter.{Books};
 ghost use Rattle.mdmp_lister.specs.Shapes.{FitsIn, head_size, shape_of};
-ghost use Rattle.mdmp_lister.specs.Reading.{Answers, IsOfSource, IsToldOf};
+ghost use Rattle.mdmp_lister.specs.Reading.{Answers, FailsAs, IsOfSource, IsToldOf};
 
 use crate::fault::Fault;
 use crate::fetching::read;
@@ -45,8 +47,10 @@ pub(crate) fn read_head<S: Store>(
         → kind ≡ Kind.Memory64 → IfOk result (λ head. head.base ≡ number_at file (at.rva + 8) 8) }
     ensures fits { IfOk result (λ head. FitsIn at.size kind head.shape) }
     ensures ranges { kind ≡ Kind.Memory64 → IfOk result (λ head. (head.shape.first ≡ 16) × (head.shape.stride ≡ 16)) }
-    ensures fetches { FetchesAtMost 16 meter.old.source meter.new.source }
+    ensures fetches { FetchesAtMost (head_spent at.size kind) meter.old.source meter.new.source }
     ensures books { Books (head_spent at.size kind) meter.old meter.new }
+    ensures calls { meter.new.source.calls ≤ raised meter.old.source.calls 1 }
+    ensures once { FailsAs result meter.old.source meter.new.source }
     ensures head { IfOk result (λ head. head_cost kind ≤ head.shape.first) }
     ensures told { IfErr result (λ fault. IsToldOf fault.kind fault.offset fault.size meter.old.source meter.new.source) }
     ensures good { (file : List ℕ) → IsGood meter.old.source.store file → IfErr result (λ fault. IsOfSource fault.kind → ⊥) }

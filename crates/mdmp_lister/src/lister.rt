@@ -1,12 +1,14 @@
 //! The lister.
-ghost use Rattle.std.specs.Prelude.{◌≡◌, ◌≤◌, ◌<◌, ◌+◌, ◌*◌, ◌++◌, ◌⊎◌, ℕ, List, None, Some, IfOk, IfErr, IsOk, IsTrue, OnOk, length, false, MatchResult};
+ghost use Rattle.std.specs.Prelude.{◌≡◌, ◌≤◌, ◌<◌, ◌+◌, ◌*◌, ◌++◌, ◌⊎◌, ℕ, List, None, Some, All, IfOk, IfErr, IsOk, IsTrue, OnOk, length, false, MatchResult};
 ghost use Rattle.std.specs.Borrow.{sem};
 ghost use Rattle.std.specs.Io.BufRead.{Rests};
 ghost use Rattle.mdmp_source.specs.Store.{IsGood};
 ghost use Rattle.mdmp_lister.specs.Opening.{IsHandedBack, IsOpenRefusal, IsRefusalOf, IsUnread, IsUnreadFor, opening_fault};
 ghost use Rattle.mdmp_map.specs.Map.{free_of};
+ghost use Rattle.mdmp_map.specs.Ranges.{IsWithin};
 ghost use Rattle.mdmp_source.specs.Source.{FetchesAtMost, IsTold};
 ghost use Rattle.mdmp_lister.specs.Addresses.{ReadsCells};
+ghost use Rattle.mdmp_lister.specs.Costs.{end_cost, items_cost};
 ghost use Rattle.mdmp_lister.specs.Mapping.{IsStepPlaced, ranges_of_step};
 ghost use Rattle.mdmp_lister.specs.Owing.{count_told};
 ghost use Rattle.mdmp_lister.specs.Ranges.{ranges_of};
@@ -43,7 +45,8 @@ const MOST_RANGES: u128 = 1 << 28;
 
 impl<S: Store + Drop, A: Allocator + Copy> Model for Lister<S, A> {
     ghost use Rattle.std.specs.Option.{option_map};
-    ghost use Rattle.std.specs.Prelude.{vec_len};
+    ghost use Rattle.std.specs.Prelude.{vec_capacity, vec_len};
+    ghost use Rattle.mdmp_lister.specs.Costs.{head_left};
     ghost use Rattle.mdmp_lister.specs.Lister.{ListerState};
     ghost use Rattle.mdmp_lister.specs.Stages.{stop_of};
     ghost use Rattle.mdmp_lister.specs.Mapping.{IsMapped};
@@ -54,13 +57,16 @@ impl<S: Store + Drop, A: Allocator + Copy> Model for Lister<S, A> {
     ghost view = { λ l. record {
       source = l.walk.meter.source;
       header = l.walk.header;
+      entries = l.walk.entries.items;
       choice = l.walk.choice;
       limit = vec_len l.walk.name;
+      rooms = record { entries = vec_capacity l.walk.entries; window = vec_len l.walk.window; ranges = l.map.room };
       passed = l.walk.next;
       current = l.walk.current;
       ranges = l.map.ranges;
       left = option_map (left_of l.walk) l.walk.meter.source.store.content;
       stop = stop_of l.walk.stage;
+      head = head_left l.walk.meter.source.size l.walk.current l.walk.stage;
       work = work_of l.walk;
     } };
 
@@ -89,8 +95,8 @@ impl<S: Store + Drop, A: Allocator + Copy> Lister<S, A> {
     ) -> Result<Lister<S, A>, OpenRefused<S>>
         ensures opens { (file : List ℕ) → source.store.content ≡ Some file
             → MatchResult result (λ _. opening_fault file choice ≡ None) (λ refused. IsRefusalOf file choice refused.fault) }
-        ensures new { IfOk result (IsNewLister source choice limits.name) }
-        ensures handed_back { IfErr result (λ refused. IsHandedBack source refused.fault refused.source) }
+        ensures new { IfOk result (IsNewLister source choice limits) }
+        ensures handed_back { IfErr result (λ refused. IsHandedBack choice source refused.fault refused.source) }
         ensures good { (file : List ℕ) → IsGood source.store file → IfErr result (λ refused. IsUnread refused.fault → ⊥) }
         ensures refusal { IfErr result (λ refused. IsOpenRefusal source.size refused.fault) }
         ensures short { source.size < 32 → MatchResult result (λ _. ⊥) (λ refused. refused.fault ≡ OpenFault.TooShort source.size) }
@@ -145,7 +151,7 @@ impl<S: Store + Drop, A: Allocator + Copy> Lister<S, A> {
     /// the end and after a fault of the store it changes nothing.
     pub fn skip_entry(&mut self)
         ensures skips { is_for_good self.old.stop ≡ false
-            → (self.new.left ≡ listing_behind self.old self.old.passed) × (self.new.stop ≡ None) }
+            → (self.new.left ≡ listing_behind self.old self.old.passed) × (self.new.stop ≡ None) × (self.new.head ≡ 0) }
         ensures stays { IsTrue (is_for_good self.old.stop) → self.new ≡ self.old }
         ensures unbegun { self.old.passed ≡ 0 → self.new ≡ self.old }
         ensures source { self.new.source ≡ self.old.source }
@@ -166,7 +172,8 @@ impl<S: Store + Drop, A: Allocator + Copy> Lister<S, A> {
             × (PassesAll xs result self.old.passed self.new.passed
             × ((self.new.current ≡ current_behind xs self.old.current)
             × ((self.new.ranges ≡ self.old.ranges ++ ranges_of xs)
-            × ((left : _) → self.old.left ≡ Some left → (rest : Run) × ((self.new.left ≡ Some rest) × GivesAll left xs result rest)))))) }
+            × (((left : _) → self.old.left ≡ Some left → (rest : Run) × ((self.new.left ≡ Some rest) × GivesAll left xs result rest))
+            × FetchesAtMost (self.old.head + items_cost self.old.source.size xs + end_cost self.old.limit (current_behind xs self.old.current) result) self.old.source self.new.source))))) }
         ensures stop { self.new.stop ≡ stop_after_run result }
         ensures repeats { (stop : _) → self.old.stop ≡ Some stop
             → (self.new ≡ self.old) × ((stop_after_run result ≡ Some stop) × (sink.new ≡ sink.old)) }
@@ -193,7 +200,8 @@ impl<S: Store + Drop, A: Allocator + Copy> Lister<S, A> {
 
     /// The ranges of memory inside the file that were given so far, in order.
     pub fn map(&self) -> &AddressMap<A>
-        ensures { result.now.ranges ≡ self.now.ranges }
+        ensures map { result.now ≡ record { ranges = self.now.ranges; room = self.now.rooms.ranges } }
+        ensures within { All (IsWithin self.now.source.size) self.now.ranges }
     {
         &self.map
     }

@@ -3,7 +3,7 @@ ghost use Rattle.std.specs.Prelude.{◌≡◌, ◌≤◌, ◌+◌, ◌^◌, List
 ghost use Rattle.mdmp_source.specs.Count.{raised};
 ghost use Rattle.mdmp_source.specs.Range.{IsInside, bytes_at};
 ghost use Rattle.mdmp_source.specs.Store.{IsGood, IsSizeOf};
-ghost use Rattle.mdmp_source.specs.Source.{FetchesAtMost, IsTold};
+ghost use Rattle.mdmp_source.specs.Source.{FailsOnce, FetchesAtMost, IsTold};
 ghost use Rattle.mdmp_lister.specs.Meter.{IsBooked, MeterState};
 
 use mdmp_source::{Source, SourceFault, Store};
@@ -74,6 +74,8 @@ impl<S: Store> Meter<S> {
           fetched = raised self.old.fetched (length out.new);
           calls = raised self.old.calls 1;
         } }
+        ensures calls { self.new.source.calls ≡ raised self.old.source.calls 1 }
+        ensures once { FailsOnce result self.old.source.store.counts self.new.source.store.counts }
     {
         self.fetched = self.fetched.saturating_add(out.len() as u128);
         self.calls = self.calls.saturating_add(1);

@@ -1,5 +1,6 @@
 //! The header and the directory of a file, read through a source.
 ghost use Rattle.std.specs.Prelude.{◌≡◌, ◌≤◌, ◌<◌, ◌+◌, ◌*◌, ℕ, List, [], Some, length, IfOk, IfErr, IsOk, OnOk, IfSome, vec_len, vec_capacity};
+ghost use Rattle.mdmp_source.specs.Count.{raised};
 ghost use Rattle.mdmp_source.specs.Range.{IsInside};
 ghost use Rattle.mdmp_source.specs.Store.{IsGood, IsSizeOf};
 ghost use Rattle.mdmp_source.specs.Source.{FetchesAtMost};
@@ -8,7 +9,7 @@ ghost use Rattle.mdmp_wire.specs.Header.{header_at};
 ghost use Rattle.mdmp_lister.specs.Directory.{IsDirectory, IsFirstChosen};
 ghost use Rattle.mdmp_lister.specs.Meter.{Books};
 ghost use Rattle.mdmp_lister.specs.Paying.{CostsFrom};
-ghost use Rattle.mdmp_lister.specs.Opening.{Finds, IsOpenRefusal, IsUnread, IsUnreadFor};
+ghost use Rattle.mdmp_lister.specs.Opening.{Finds, IsOpenRefusal, IsUnread, IsUnreadAs};
 
 use crate::choice::Choice;
 use crate::fault::OpenFault;
@@ -31,9 +32,10 @@ pub(crate) fn read_header<S: Store>(meter: &mut Meter<S>) -> Result<Header, Open
     ensures sized { IsSizeOf meter.old.source.store.content meter.old.source.size }
     ensures finds { (file : List ℕ) → meter.old.source.store.content ≡ Some file → Finds file result }
     ensures good { (file : List ℕ) → IsGood meter.old.source.store file → IfErr result (λ fault. IsUnread fault → ⊥) }
-    ensures cause { IfErr result (λ fault. IsUnreadFor fault meter.old.source meter.new.source) }
+    ensures cause { IsUnreadAs result meter.old.source meter.new.source }
     ensures fetches { FetchesAtMost 32 meter.old.source meter.new.source }
     ensures books { Books 32 meter.old meter.new }
+    ensures calls { meter.new.source.calls ≤ raised meter.old.source.calls 1 }
     ensures refusal { IfErr result (IsOpenRefusal meter.old.source.size) }
     ensures short { meter.old.source.size < 32 → result ≡ Err (OpenFault.TooShort meter.old.source.size) }
     // A file that is too short is not touched.
@@ -71,9 +73,10 @@ fn read_entry<S: Store>(
     requires window { 12 ≤ length window.old }
     ensures value { (file : List ℕ) → meter.old.source.store.content ≡ Some file → IfOk result (λ entry. entry ≡ entry_at file at) }
     ensures fault { IfErr result IsUnread }
-    ensures cause { IfErr result (λ fault. IsUnreadFor fault meter.old.source meter.new.source) }
+    ensures cause { IsUnreadAs result meter.old.source meter.new.source }
     ensures fetches { FetchesAtMost 12 meter.old.source meter.new.source }
     ensures books { Books 12 meter.old meter.new }
+    ensures calls { meter.new.source.calls ≤ raised meter.old.source.calls 1 }
     ensures good { (file : List ℕ) → IsGood meter.old.source.store file → IsOk result }
 {
     let bytes = &mut window[..Entry::SIZE];
@@ -96,11 +99,13 @@ pub(crate) fn read_directory<S: Store, A: Allocator>(
     requires empty { entries.old.items ≡ [] }
     requires room { header.number_of_streams ≤ vec_capacity entries.old }
     ensures count { OnOk result (vec_len entries.new ≡ header.number_of_streams) }
+    ensures capacity { vec_capacity entries.new ≡ vec_capacity entries.old }
     ensures directory { (file : List ℕ) → meter.old.source.store.content ≡ Some file → header ≡ header_at file 0 → OnOk result (IsDirectory file entries.new.items) }
     ensures fault { IfErr result IsUnread }
-    ensures cause { IfErr result (λ fault. IsUnreadFor fault meter.old.source meter.new.source) }
+    ensures cause { IsUnreadAs result meter.old.source meter.new.source }
     ensures fetches { FetchesAtMost (12 * header.number_of_streams) meter.old.source meter.new.source }
     ensures books { Books (12 * header.number_of_streams) meter.old meter.new }
+    ensures calls { meter.new.source.calls ≤ raised meter.old.source.calls header.number_of_streams }
     ensures good { (file : List ℕ) → IsGood meter.old.source.store file → IsOk result }
 {
     let first = u64::from(header.stream_directory_rva);

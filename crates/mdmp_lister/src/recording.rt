@@ -2,6 +2,7 @@
 ghost use Rattle.std.specs.Prelude.{◌≡◌, ◌≤◌, ◌<◌, ◌+◌, ◌*◌, ◌^◌, ℕ, List, Some, length, IfOk, IfErr};
 ghost use Rattle.mdmp_source.specs.Store.{IsGood, IsSizeOf};
 ghost use Rattle.mdmp_source.specs.Source.{FetchesAtMost};
+ghost use Rattle.mdmp_lister.specs.Costs.{head_told, record_spent};
 ghost use Rattle.mdmp_lister.specs.Meter.{Spends};
 ghost use Rattle.mdmp_lister.specs.Shapes.{record_size};
 ghost use Rattle.mdmp_lister.specs.Items.{item_at, range_offset};
@@ -39,7 +40,8 @@ fn read_module<S: Store>(
     ensures ranges { IfOk result (λ step. count_told step ≡ 0) }
     ensures passed { IfOk result (λ step. (next : ℕ) → passed_by step next ≡ next) }
     ensures stays { IfOk result (λ step. (e : Entry) → current_by step e ≡ e) }
-    ensures fetches { FetchesAtMost (108 + (4 + length buffer.new)) meter.old.source meter.new.source }
+    ensures begins { IfOk result (λ step. (z : ℕ) → head_told z step ≡ 0) }
+    ensures fetches { FetchesAtMost (record_spent (length buffer.new) Kind.Modules result) meter.old.source meter.new.source }
     ensures spends { Spends 108 (length buffer.new) meter.old meter.new }
     ensures told { IfErr result (λ fault. IsToldOf fault.kind fault.offset fault.size meter.old.source meter.new.source) }
     ensures good { (file : List ℕ) → IsGood meter.old.source.store file → IfErr result (λ fault. IsOfSource fault.kind → ⊥) }
@@ -78,7 +80,8 @@ fn read_unloaded<S: Store>(
     ensures ranges { IfOk result (λ step. count_told step ≡ 0) }
     ensures passed { IfOk result (λ step. (next : ℕ) → passed_by step next ≡ next) }
     ensures stays { IfOk result (λ step. (e : Entry) → current_by step e ≡ e) }
-    ensures fetches { FetchesAtMost (24 + (4 + length buffer.new)) meter.old.source meter.new.source }
+    ensures begins { IfOk result (λ step. (z : ℕ) → head_told z step ≡ 0) }
+    ensures fetches { FetchesAtMost (record_spent (length buffer.new) Kind.Unloaded result) meter.old.source meter.new.source }
     ensures spends { Spends 24 (length buffer.new) meter.old meter.new }
     ensures told { IfErr result (λ fault. IsToldOf fault.kind fault.offset fault.size meter.old.source meter.new.source) }
     ensures good { (file : List ℕ) → IsGood meter.old.source.store file → IfErr result (λ fault. IsOfSource fault.kind → ⊥) }
@@ -117,7 +120,8 @@ fn read_system<S: Store>(
     ensures ranges { IfOk result (λ step. count_told step ≡ 0) }
     ensures passed { IfOk result (λ step. (next : ℕ) → passed_by step next ≡ next) }
     ensures stays { IfOk result (λ step. (e : Entry) → current_by step e ≡ e) }
-    ensures fetches { FetchesAtMost (56 + (4 + length buffer.new)) meter.old.source meter.new.source }
+    ensures begins { IfOk result (λ step. (z : ℕ) → head_told z step ≡ 0) }
+    ensures fetches { FetchesAtMost (record_spent (length buffer.new) Kind.System result) meter.old.source meter.new.source }
     ensures spends { Spends 56 (length buffer.new) meter.old meter.new }
     ensures told { IfErr result (λ fault. IsToldOf fault.kind fault.offset fault.size meter.old.source meter.new.source) }
     ensures good { (file : List ℕ) → IsGood meter.old.source.store file → IfErr result (λ fault. IsOfSource fault.kind → ⊥) }
@@ -160,8 +164,9 @@ pub(crate) fn read_item<S: Store>(
     ensures ranges { IfOk result (λ step. count_told step ≡ ranges_by kind 1) }
     ensures passed { IfOk result (λ step. (next : ℕ) → passed_by step next ≡ next) }
     ensures stays { IfOk result (λ step. (e : Entry) → current_by step e ≡ e) }
+    ensures begins { IfOk result (λ step. (z : ℕ) → head_told z step ≡ 0) }
     ensures length { length buffer.new ≡ length buffer.old }
-    ensures fetches { FetchesAtMost (record_size kind + (4 + length buffer.new)) meter.old.source meter.new.source }
+    ensures fetches { FetchesAtMost (record_spent (length buffer.new) kind result) meter.old.source meter.new.source }
     ensures spends { Spends (record_size kind) (length buffer.new) meter.old meter.new }
     ensures told { IfErr result (λ fault. IsToldOf fault.kind fault.offset fault.size meter.old.source meter.new.source) }
     ensures good { (file : List ℕ) → IsGood meter.old.source.store file → IfErr result (λ fault. IsOfSource fault.kind → ⊥) }

@@ -1,7 +1,8 @@
 //! The walk over the entries of a file, without its public face.
 ghost use Rattle.std.specs.Prelude.{◌≡◌, ◌+◌, ◌*◌, ◌^◌, ◌≤◌, ◌<◌, ◌-◌, ℕ, List, None, Some, IfOk, IfErr, IfSome, IsOk, IsTrue, false, OnOk, OnSome, MatchResult, vec_len};
+ghost use Rattle.mdmp_source.specs.Count.{raised};
 ghost use Rattle.mdmp_source.specs.Store.{IsGood};
-ghost use Rattle.mdmp_source.specs.Source.{FetchesAtMost, IsTold};
+ghost use Rattle.mdmp_source.specs.Source.{FailsOnce, FetchesAtMost, IsTold};
 ghost use Rattle.mdmp_source.specs.declared.fault.SourceFault.{SourceFault};
 ghost use Rattle.mdmp_lister.specs.Opening.{IsHandedBack, IsDirectoryRefusal, IsOpenRefusal, IsUnread, IsUnreadFor, directory_refusal};
 ghost use Rattle.mdmp_lister.specs.Reading.{IsOfSource, IsToldIn};
@@ -9,6 +10,8 @@ ghost use Rattle.mdmp_lister.specs.Stages.{IsStageAfter, ends, fault_stage, stop
 ghost use Rattle.mdmp_lister.specs.Steps.{CurrentAfter, IsStepHeld, current_by, passed_by, step_item};
 ghost use Rattle.mdmp_lister.specs.Counts.{range_count};
 ghost use Rattle.mdmp_lister.specs.Owing.{HasRoom, count_answered, ranges_by, count_given, count_told};
+ghost use Rattle.mdmp_lister.specs.Costs.{given_spent, head_left, head_told, step_spent};
+ghost use Rattle.mdmp_lister.specs.Heads.{head_of, heads_ahead};
 ghost use Rattle.mdmp_lister.specs.Meter.{Books};
 ghost use Rattle.mdmp_lister.specs.Paying.{IsPaid};
 ghost use Rattle.mdmp_lister.specs.Listing.{list_fault, with_item};
@@ -61,7 +64,7 @@ impl<S: Store + Drop, A: Allocator + Copy> Walk<S, A> {
     ) -> Result<Self, OpenRefused<S>>
         ensures sound { IfOk result IsSound }
         ensures new { IfOk result (IsNewWalk source choice limits) }
-        ensures handed_back { IfErr result (λ refused. IsHandedBack source refused.fault refused.source) }
+        ensures handed_back { IfErr result (λ refused. IsHandedBack choice source refused.fault refused.source) }
         ensures opens { (file : List ℕ) → source.store.content ≡ Some file
             → MatchResult result (λ _. directory_refusal file ≡ None) (λ refused. IsDirectoryRefusal file refused.fault) }
         ensures good { (file : List ℕ) → IsGood source.store file → IfErr result (λ refused. IsUnread refused.fault → ⊥) }
@@ -110,8 +113,10 @@ impl<S: Store + Drop, A: Allocator + Copy> Walk<S, A> {
         ensures sound { IsSound self.new }
         ensures same { SameEntry self.old self.new }
         ensures stage { self.new.stage ≡ self.old.stage }
-        ensures fetches { FetchesAtMost (16 * vec_len self.old.entries) self.old.meter.source self.new.meter.source }
-        ensures books { Books (16 * vec_len self.old.entries) self.old.meter self.new.meter }
+        ensures fetches { FetchesAtMost (heads_ahead self.old.choice self.old.meter.source.size self.old.entries.items) self.old.meter.source self.new.meter.source }
+        ensures books { Books (heads_ahead self.old.choice self.old.meter.source.size self.old.entries.items) self.old.meter self.new.meter }
+        ensures calls { self.new.meter.source.calls ≤ raised self.old.meter.source.calls (vec_len self.old.entries) }
+        ensures once { FailsOnce result self.old.meter.source.store.counts self.new.meter.source.store.counts }
         ensures count { (file : List ℕ) → self.old.meter.source.store.content ≡ Some file → IfOk result (λ count. count ≡ range_count file self.old.choice) }
         ensures told { IfErr result (λ fault. IsTold fault self.old.meter.source self.new.meter.source) }
         ensures good { (file : List ℕ) → IsGood self.old.meter.source.store file → IsOk result }
@@ -133,7 +138,9 @@ impl<S: Store + Drop, A: Allocator + Copy> Walk<S, A> {
         ensures sound { IsSound self.new }
         ensures room { HasRoom room (count_answered result) self.new }
         ensures same { SameRoom self.old self.new }
-        ensures fetches { FetchesAtMost (16 + (168 + (4 + vec_len self.old.name))) self.old.meter.source self.new.meter.source }
+        ensures fetches { FetchesAtMost (head_left self.old.meter.source.size self.old.current self.old.stage + given_spent (vec_len self.old.name) self.old.current result)
+            self.old.meter.source self.new.meter.source }
+        ensures begins { IfOk result (λ given. IfSome given (λ step. head_left self.new.meter.source.size self.new.current self.new.stage ≡ head_told self.old.meter.source.size step)) }
         ensures paid { (allowed before : ℕ) → IsPaid allowed before self.old → IsPaid allowed before self.new }
         ensures listing { (file : List ℕ) → self.old.meter.source.store.content ≡ Some file
             → Advances self.old.meter.source.size self.new.name.items (left_of self.old file) result (left_of self.new file) }
@@ -200,7 +207,8 @@ impl<S: Store + Drop, A: Allocator + Copy> Walk<S, A> {
         ensures sound { IsSound self.new }
         ensures room { (room : ℕ) → HasRoom room 0 self.old → HasRoom room (count_answered result) self.new }
         ensures same { SameRoom self.old self.new }
-        ensures fetches { FetchesAtMost (168 + (4 + vec_len self.old.name)) self.old.meter.source self.new.meter.source }
+        ensures fetches { FetchesAtMost (given_spent (vec_len self.old.name) self.old.current result) self.old.meter.source self.new.meter.source }
+        ensures begins { IfOk result (λ given. IfSome given (λ step. head_left self.new.meter.source.size self.new.current self.new.stage ≡ head_told self.old.meter.source.size step)) }
         ensures paid { (allowed before : ℕ) → IsPaid allowed before self.old → IsPaid allowed before self.new }
         ensures listing { (file : List ℕ) → self.old.meter.source.store.content ≡ Some file
             → Advances self.old.meter.source.size self.new.name.items (left_of self.old file) result (left_of self.new file) }
@@ -236,7 +244,7 @@ impl<S: Store + Drop, A: Allocator + Copy> Walk<S, A> {
         ensures room { HasRoom room 0 self.new }
         ensures same { SameEntry self.old self.new }
         ensures name { self.new.name ≡ self.old.name }
-        ensures fetches { FetchesAtMost 16 self.old.meter.source self.new.meter.source }
+        ensures fetches { FetchesAtMost (head_of self.old.meter.source.size self.old.current) self.old.meter.source self.new.meter.source }
         ensures paid { (allowed before : ℕ) → IsPaid allowed before self.old → IsPaid allowed before self.new }
         ensures entry { (file : List ℕ) → self.old.meter.source.store.content ≡ Some file → Keeps (current_of self.old file) result (current_of self.new file) }
         ensures records { IfOk result (λ _. IsListing self.new.stage) }
@@ -292,7 +300,8 @@ impl<S: Store + Drop, A: Allocator + Copy> Walk<S, A> {
         ensures room { (room : ℕ) → HasRoom room 0 self.old
             → MatchResult result (λ step. HasRoom room (count_told step) self.new) (λ _. HasRoom room 0 self.new) }
         ensures same { SameEntry self.old self.new }
-        ensures fetches { FetchesAtMost (168 + (4 + vec_len self.old.name)) self.old.meter.source self.new.meter.source }
+        ensures fetches { FetchesAtMost (step_spent (vec_len self.old.name) self.old.current result) self.old.meter.source self.new.meter.source }
+        ensures begins { IfOk result (λ step. head_left self.new.meter.source.size self.new.current self.new.stage ≡ head_told self.old.meter.source.size step) }
         ensures paid { (allowed before : ℕ) → IsPaid allowed before self.old → IsPaid allowed before self.new }
         ensures entry { (file : List ℕ) → self.old.meter.source.store.content ≡ Some file → MatchResult result
             (λ step. current_of self.old file ≡ with_item (step_item self.old.meter.source.size self.new.name.items step) (current_of self.new file))
@@ -351,6 +360,7 @@ impl<S: Store + Drop, A: Allocator + Copy> Walk<S, A> {
         ensures listing { (file : List ℕ) → self.old.meter.source.store.content ≡ Some file
             → Advances self.old.meter.source.size self.new.name.items (rest_of self.old file) (Ok result) (left_of self.new file) }
         ensures held { IfSome result (IsStepHeld self.old.meter.source.size (vec_len self.new.name)) }
+        ensures begins { IfSome result (λ step. head_left self.new.meter.source.size self.new.current self.new.stage ≡ head_told self.old.meter.source.size step) }
         ensures passed { IfSome result (λ step. self.new.next ≡ passed_by step self.old.next) }
         ensures stage { stop_of self.new.stage ≡ stop_given result }
         ensures current { CurrentAfter (Ok result) self.old.current self.new.current }

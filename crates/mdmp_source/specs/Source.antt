@@ -30,12 +30,6 @@ pub record FetchesAtMost (n : ℕ) (old new : SourceState) : Type 0 where
   pub fetched : new.fetched ≤ raised old.fetched n
   pub no_fewer : old.fetched ≤ new.fetched
 
--- a fault of this call has its cause in this call
-abbrev pub HasFaultCause : {T : Type 0} → Result T SourceFault → SourceState → SourceState → Type 0
-HasFaultCause result old new = IfErr result (λ fault. HasCause fault
-    (HasRisen old.store.counts.failures new.store.counts.failures)
-    (HasRisen old.store.counts.empties new.store.counts.empties))
-
 -- the fault of an answer
 abbrev pub fault_of : {T : Type 0} → Result T SourceFault → Option SourceFault
 fault_of (Ok x) = None
@@ -56,13 +50,6 @@ pub record IsTold (fault : SourceFault) (old new : SourceState) : Type 0 where
   pub cause : HasCause fault
       (HasRisen old.store.counts.failures new.store.counts.failures)
       (HasRisen old.store.counts.empties new.store.counts.empties)
-
--- a fault of some fetches has its cause in them, or tells that a store whose content is not known has changed
-abbrev pub IsCausedBy : SourceFault → SourceState → SourceState → Type 0
-IsCausedBy (Changed at) old new = old.store.content ≡ None
-IsCausedBy fault old new = HasCause fault
-    (HasRisen old.store.counts.failures new.store.counts.failures)
-    (HasRisen old.store.counts.empties new.store.counts.empties)
 
 -- some fetches later, of however many bytes
 pub record FetchesSome (old new : SourceState) : Type 0 where

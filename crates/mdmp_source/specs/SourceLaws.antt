@@ -2,7 +2,7 @@
 use Rattle.std.proofs.Common.{◌≤◌, ◌+◌, ◌∙◌, ℕ, arith}
 use Rattle.mdmp_source.specs.Count.{HasRisen}
 use Rattle.mdmp_source.specs.Fault.{HasCause}
-use Rattle.mdmp_source.specs.Source.{SourceState, FetchesAtMost, IsCausedBy, IsTold}
+use Rattle.mdmp_source.specs.Source.{SourceState, FetchesAtMost, IsTold}
 use Rattle.mdmp_source.specs.declared.fault.SourceFault.{SourceFault}
 use Rattle.mdmp_source.specs.declared.fault.SourceFault.TheVariants.{Failed, ShortRead, Changed}
 
@@ -20,13 +20,6 @@ fetches_then m n a b c first then = record {
   fetched = omega (arith, first.fetched, then.fetched);
   no_fewer = omega (arith, first.no_fewer, then.no_fewer);
 }
-
--- a fault of one fetch is one of some fetches
-pub fault_of_fetches : (fault : SourceFault) (old new : SourceState)
-    → HasCause fault (HasRisen old.store.counts.failures new.store.counts.failures) (HasRisen old.store.counts.empties new.store.counts.empties) → IsCausedBy fault old new
-fault_of_fetches (Failed at) old new cause = cause
-fault_of_fetches (ShortRead at) old new cause = cause
-fault_of_fetches (Changed at) old new cause = absurd cause
 
 -- what has risen since a later state has risen since an earlier one
 risen_later : (a b c : ℕ) → a ≤ b → HasRisen b c → HasRisen a c

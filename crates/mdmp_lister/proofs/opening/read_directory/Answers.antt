@@ -1,11 +1,11 @@
-use Rattle.std.proofs.Common.{◌≡◌, ◌≤◌, ◌+◌, ◌*◌, ◌∙◌, ap, arith, length, length-append}
+use Rattle.std.proofs.Common.{◌≡◌, ◌≤◌, ◌+◌, ◌*◌, ◌∙◌, ap, arith, length, length-append, refl}
 use Rattle.mdmp_source.specs.SourceLaws.{fetches_then}
 use Rattle.mdmp_wire.specs.declared.header.Header.{Header}
 use Rattle.mdmp_wire.specs.Entry.{entry_at}
 use Rattle.mdmp_wire.specs.Header.{header_at}
 use Rattle.mdmp_lister.specs.Listing.{entry_count, entry_of}
 use Rattle.mdmp_lister.proofs.Directory.{entry_inside, each-more, each-none}
-use Rattle.mdmp_lister.proofs.Fetches.{FetchesAtMost-none, FetchesAtMost-within, IsGood-later, IsUnreadFor-later}
+use Rattle.mdmp_lister.proofs.Fetches.{FetchesAtMost-none, FetchesAtMost-within, IsGood-later, IsSteady-then, IsUnreadFor-later}
 use Rattle.mdmp_lister.proofs.Metering.{Books-none, Books-then, Books-within}
 use Rattle.mdmp_lister.proofs.opening.read_directory.Goals as goal
 
@@ -13,6 +13,9 @@ pub loop-number-init : goal.loop-number-init
 loop-number-init g c = record {
   fetches = FetchesAtMost-none c.args.meter.now.source;
   books = Books-none c.args.meter.now;
+  calls = omega arith;
+  steady = (refl, refl);
+  capacity = refl;
   len = c.requires.none;
   room = c.requires.room;
   count = ap length c.requires.empty;
@@ -26,7 +29,7 @@ read_entry-requires-clause-inside g c =
 
 pub returns-in-Err-clause-cause : goal.returns-in-Err-clause-cause
 returns-in-Err-clause-cause g c =
-    IsUnreadFor-later c.in-Err.fault (12 * c.loop-number.number) c.args.meter.now.source c.loop-number.meter.source c.read_entry.new.meter.source c.loop-number.invariant.fetches c.in-Err.ensures.cause
+    IsUnreadFor-later c.in-Err.fault (12 * c.loop-number.number) c.args.meter.now.source c.loop-number.meter.source c.read_entry.new.meter.source c.loop-number.invariant.fetches c.loop-number.invariant.steady c.in-Err.ensures.cause
 
 pub returns-in-Err-clause-fetches : goal.returns-in-Err-clause-fetches
 returns-in-Err-clause-fetches g c =
@@ -52,6 +55,9 @@ loop-number-preserved g c =
       fetches = FetchesAtMost-within (12 * n + 12) (12 * (n + 1)) c.args.meter.now.source c.read_entry.new.meter.source step
           (fetches_then (12 * n) 12 c.args.meter.now.source c.loop-number.meter.source c.read_entry.new.meter.source i.fetches c.read_entry.ensures.fetches);
       books = Books-then (12 * n) 12 (12 * (n + 1)) c.args.meter.now c.loop-number.meter c.read_entry.new.meter step i.books c.read_entry.ensures.books;
+      calls = omega (arith, i.calls, c.read_entry.ensures.calls);
+      steady = IsSteady-then c.args.meter.now.source c.loop-number.meter.source c.read_entry.new.meter.source i.steady c.in-Ok.ensures.cause;
+      capacity = c.push_reserved.ensures.capacity ∙ i.capacity;
       len = c.push_reserved.ensures.len ∙ ap (λ m. m + 1) i.len;
       room = rw c.push_reserved.ensures.capacity i.room;
       count = rw (c.push_reserved.ensures.items, length-append) (omega (arith, i.count));

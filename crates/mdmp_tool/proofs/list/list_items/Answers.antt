@@ -9,17 +9,15 @@ use Rattle.mdmp_tool.proofs.list.list_items.Goals as goal
 pub returns-in-Ok-None-clause-fetches : goal.returns-in-Ok-None-clause-fetches
 returns-in-Ok-None-clause-fetches g c =
     let so_far = c.loop-item.invariant.source in
-    let more = c.next.follows.holds-at-none.same.fetches in
-    record { count = so_far.count + more.count; fetches = fetches_then _ _ _ _ _ so_far.fetches more.fetches }
+    record { count = so_far.count + _; fetches = fetches_then _ _ _ _ _ so_far.fetches c.next.follows.holds-at-none.fetches }
 
 pub loop-item-preserved : goal.loop-item-preserved
 loop-item-preserved g c =
     let so_far = c.loop-item.invariant.source in
     let holds = c.next.follows.holds-at-none in
-    let more = holds.same.fetches in
     record {
       going = rw (c.in-Ok-Some.is, c.in-Ok-Some.field-0-is) at holds.stop;
-      source = record { count = so_far.count + more.count; fetches = fetches_then _ _ _ _ _ so_far.fetches more.fetches };
+      source = record { count = so_far.count + _; fetches = fetches_then _ _ _ _ _ so_far.fetches holds.fetches };
       steady = c.in-Ok.ensures.steady ∙ c.loop-item.invariant.steady;
       printed = λ run known.
           let printed = c.loop-item.invariant.printed run known in
@@ -37,11 +35,9 @@ returns-in-Err-put_item_line-clause-lists g c = λ run known.
 pub returns-in-Err-put_item_line-clause-fetches : goal.returns-in-Err-put_item_line-clause-fetches
 returns-in-Err-put_item_line-clause-fetches g c =
     let so_far = c.loop-item.invariant.source in
-    let more = c.next.follows.holds-at-none.same.fetches in
-    record { count = so_far.count + more.count; fetches = fetches_then _ _ _ _ _ so_far.fetches more.fetches }
+    record { count = so_far.count + _; fetches = fetches_then _ _ _ _ _ so_far.fetches c.next.follows.holds-at-none.fetches }
 
 pub returns-in-Err-clause-fetches : goal.returns-in-Err-clause-fetches
 returns-in-Err-clause-fetches g c =
     let so_far = c.loop-item.invariant.source in
-    let more = c.next.follows.holds-at-none.same.fetches in
-    record { count = so_far.count + more.count; fetches = fetches_then _ _ _ _ _ so_far.fetches more.fetches }
+    record { count = so_far.count + _; fetches = fetches_then _ _ _ _ _ so_far.fetches c.next.follows.holds-at-none.fetches }

@@ -1,4 +1,4 @@
-use Rattle.std.proofs.Common.{◌≡◌, ◌∙◌, ◌+◌, ◌*◌, Some, ap, subst}
+use Rattle.std.proofs.Common.{◌≡◌, ◌∙◌, ◌+◌, Some, ap, subst}
 use Rattle.std.specs.Option.{option_map}
 use Rattle.mdmp_source.specs.SourceLaws.{fetches_then}
 use Rattle.mdmp_wire.specs.declared.header.Header.{Header}
@@ -22,6 +22,11 @@ pub returns-clause-fetches : goal.returns-clause-fetches
 returns-clause-fetches g c =
     let more = c.list_file-answer.ensures.fetches in
     rw c.into_source.ensures (record {
-      count = 32 + 28 * c.in-Ok.lister.header.number_of_streams + more.count;
+      count = _ + more.count;
       fetches = fetches_then _ _ _ _ _ c.in-Ok.ensures.new.fetches more.fetches;
     })
+
+pub returns-clause-good : goal.returns-clause-good
+returns-clause-good g c = λ file good.
+    let opened = c.in-Ok.ensures.new.fetches in
+    c.list_file-answer.ensures.good file (record { known = opened.same_content ∙ good.known; reliable = rw opened.same_reliable good.reliable })

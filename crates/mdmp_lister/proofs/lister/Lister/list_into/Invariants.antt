@@ -5,6 +5,7 @@ use Rattle.mdmp_lister.specs.Handing.{Taken, current_behind, give_all, passed_be
 use Rattle.mdmp_lister.specs.Lister.{IsSameLister}
 use Rattle.mdmp_lister.specs.Listing.{Run}
 use Rattle.mdmp_lister.specs.Ranges.{ranges_of}
+use Rattle.mdmp_lister.proofs.Handing.{HasCost}
 use Rattle.mdmp_lister.proofs.lister.Lister.list_into.Given as goal
 
 -- some items were given, and the sink took them
@@ -18,7 +19,8 @@ invariant-loop-item g l = record {
       × ((l.self.passed ≡ passed_behind xs l.initial.self.passed)
       × ((l.self.current ≡ current_behind xs l.initial.self.current)
       × ((l.self.ranges ≡ l.initial.self.ranges ++ ranges_of xs)
-      × ((left : Run) → l.initial.self.left ≡ Some left → (rest : Run) × ((l.self.left ≡ Some rest) × (left ≡ give_all xs rest)))))));
+      × (((left : Run) → l.initial.self.left ≡ Some left → (rest : Run) × ((l.self.left ≡ Some rest) × (left ≡ give_all xs rest)))
+      × HasCost l.initial.self.head l.initial.self.source xs l.self.head l.self.source)))));
 }
 
 abbrev pub decreases-loop-item : goal.decreases-loop-item

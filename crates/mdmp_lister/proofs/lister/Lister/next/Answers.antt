@@ -1,11 +1,14 @@
-use Rattle.std.proofs.Common.{◌≡◌, ◌++◌, ℕ, List, Some, None, slice_get, refl, sym, ap, ◌∙◌}
+use Rattle.std.proofs.Common.{◌≡◌, ◌++◌, ℕ, List, Err, Some, None, slice_get, refl, rules, sym, ap, ◌∙◌}
 use Rattle.std.proofs.lemmas.List.{append-nil}
 use Rattle.mdmp_lister.specs.Items.{plain}
 use Rattle.mdmp_lister.specs.Lister.{tail}
-use Rattle.mdmp_lister.specs.Listing.{Run, nothing, with_item}
+use Rattle.mdmp_lister.specs.Listing.{Run, nothing, only_fault, with_item}
+use Rattle.mdmp_lister.specs.Reading.{IsOfSource}
 use Rattle.mdmp_lister.specs.Stages.{stop_after}
 use Rattle.mdmp_lister.specs.Walk.{left_of}
-use Rattle.mdmp_lister.proofs.Advancing.{becomes, option_map-then, of_run, passes}
+use Rattle.mdmp_lister.proofs.Advancing.{becomes, option_map-then, of_run, passes, same_entries, same_rooms}
+use Rattle.mdmp_lister.proofs.Costs.{head_given-step, head_left-stopped, item_cost-step}
+use Rattle.mdmp_lister.proofs.Ending.{left_of-fault}
 use Rattle.mdmp_lister.proofs.Mapping.{kept, mapped_step, placed-held, ranges-given}
 use Rattle.mdmp_lister.proofs.Paying.{bounded_then}
 use Rattle.mdmp_lister.proofs.lister.Lister.next.Goals as goal
@@ -21,7 +24,9 @@ returns-in-None g c =
         refl,
         λ _. tt,
         record {
-          same = record { header_is = c.advance.ensures.same.header_is; choice = c.advance.ensures.same.choice; limit = c.advance.ensures.same.name; fetches = record { count = _; fetches = c.advance.ensures.fetches } };
+          same = record { header_is = c.advance.ensures.same.header_is; choice = c.advance.ensures.same.choice; limit = c.advance.ensures.same.name; entries = same_entries w n c.advance.ensures.same; rooms = same_rooms w n c.self.inside.map.room c.advance.ensures.same };
+          fetches = rw c.in-None.is at c.in_ok-advance.ensures.fetches;
+          head = head_left-stopped n.meter.source.size n.current n.stage None (rw c.in-None.is at c.in_ok-advance.ensures.stage);
           left = option_map-then (left_of w) (left_of n) (λ run. run) w.meter.source.store.content (λ file known. (none file known).1 ∙ sym (none file known).0) n.meter.source.store.content c.advance.ensures.fetches.same_content;
           stop = rw c.in-None.is at c.in_ok-advance.ensures.stage;
           passed = tt;
@@ -54,7 +59,9 @@ returns-in-Some g c =
         refl,
         λ _. tt,
         record {
-          same = record { header_is = c.advance.ensures.same.header_is; choice = c.advance.ensures.same.choice; limit = c.advance.ensures.same.name; fetches = record { count = _; fetches = c.advance.ensures.fetches } };
+          same = record { header_is = c.advance.ensures.same.header_is; choice = c.advance.ensures.same.choice; limit = c.advance.ensures.same.name; entries = same_entries w n c.advance.ensures.same; rooms = rw c.push_range.ensures (same_rooms w n c.self.inside.map.room c.advance.ensures.same) };
+          fetches = rw (item_cost-step w.meter.source.size n.meter.source.size n.name.items c.in-Some.step c.item.result (rw n.name.ok.0 at (rw c.in-Some.is at c.in_ok-advance.ensures.held)) c.item.ensures) (rw c.in-Some.is at c.in_ok-advance.ensures.fetches);
+          head = (rw c.in-Some.is at c.in_ok-advance.ensures.begins) ∙ sym (head_given-step w.meter.source.size n.meter.source.size n.name.items c.in-Some.step c.item.result c.item.ensures);
           left = option_map-then (left_of w) (left_of n) tail w.meter.source.store.content (λ file known. sym (ap tail (given file known))) n.meter.source.store.content c.advance.ensures.fetches.same_content;
           stop = rw c.in-Some.is at c.in_ok-advance.ensures.stage;
           ranges = rw c.push_range.ensures (ap (λ rs. c.self.inside.map.ranges ++ rs) (ranges-given n.meter.source.size n.name.items c.in-Some.step c.item.result c.item.ensures));
@@ -74,6 +81,41 @@ returns-in-Some g c =
         repeats = λ stop same. let a : stop_after c.advance.result ≡ Some stop = (c.advance.ensures.repeats stop same).1 in let b = c.in_ok-advance.was in let d = c.in-Some.is in rw (b, d) at a;
       },
     )
+
+pub returns-in_err-advance : goal.returns-in_err-advance
+returns-in_err-advance g c =
+    let w = c.self.inside.walk in
+    let n = c.advance.new.self in
+    let e = c.in_err-advance.ensures in
+    let f = c.in_err-advance.field-0.0 in
+    let is : c.from_residual.result ≡ Err f = search rules in
+    rw (← c.self.view_is) (rw is (
+      (
+        refl,
+        λ _. tt,
+        record {
+          same = record { header_is = e.same.header_is; choice = e.same.choice; limit = e.same.name; entries = same_entries w n e.same; rooms = same_rooms w n c.self.inside.map.room e.same };
+          fetches = e.fetches;
+          head = head_left-stopped n.meter.source.size n.current n.stage (Some f) e.stage;
+          left = option_map-then (left_of w) (left_of n) (λ _. only_fault f) w.meter.source.store.content (λ file known. left_of-fault n file f e.failed) n.meter.source.store.content e.fetches.same_content;
+          stop = e.stage;
+          passed = e.passed;
+          ranges = sym (append-nil c.self.inside.map.ranges);
+          falls = tt;
+          repeats = λ stop same. rw (e.repeats stop same).0 refl;
+          told = e.told;
+          entry = e.number;
+          current = e.current;
+          rests = e.rests;
+        },
+      ),
+      record {
+        gives = of_run (left_of w) (λ left. (IsOfSource f.kind → ⊥) → left ≡ only_fault f) w.meter.source.store.content (λ file known not. (e.listing file known not).0);
+        leaves = tt;
+        good = e.good;
+        repeats = λ stop same. (e.repeats stop same).1;
+      },
+    ))
 
 pub push_range-requires-clause-placed : goal.push_range-requires-clause-placed
 push_range-requires-clause-placed g c = placed-held _ _ c.in-Some.step (rw c.in-Some.is at c.in_ok-advance.ensures.held)

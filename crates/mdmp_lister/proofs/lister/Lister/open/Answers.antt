@@ -1,12 +1,20 @@
-use Rattle.std.proofs.Common.{◌+◌, ◌*◌, ◌∙◌, arith, vec_len}
-use Rattle.mdmp_lister.proofs.Refusals.{IsHandedBack-begun}
+use Rattle.mdmp_lister.proofs.Advancing.{IsHandedBack-counted, IsNewLister-counted}
 use Rattle.mdmp_lister.proofs.lister.Lister.open.Goals as goal
+
+pub returns-in-Err-count_ranges-clause-handed_back : goal.returns-in-Err-count_ranges-clause-handed_back
+returns-in-Err-count_ranges-clause-handed_back g c =
+    let counted = c.count_ranges.ensures in
+    rw c.refused.ensures
+    (IsHandedBack-counted c.args.source c.args.choice c.args.limits c.in-Ok.walk c.count_ranges.new.self _ c.in-Ok.ensures.sound c.in-Ok.ensures.new counted.fetches counted.calls c.in-Ok.ensures.opens (λ of. of))
+
+pub returns-then-count-gt-MOST_RANGES-clause-handed_back : goal.returns-then-count-gt-MOST_RANGES-clause-handed_back
+returns-then-count-gt-MOST_RANGES-clause-handed_back g c =
+    let counted = c.count_ranges.ensures in
+    rw c.refused-then-count-gt-MOST_RANGES.ensures
+    (IsHandedBack-counted c.args.source c.args.choice c.args.limits c.in-Ok.walk c.count_ranges.new.self _ c.in-Ok.ensures.sound c.in-Ok.ensures.new counted.fetches counted.calls c.in-Ok.ensures.opens (λ of. of))
 
 pub returns-in-Err-with_room-clause-handed_back : goal.returns-in-Err-with_room-clause-handed_back
 returns-in-Err-with_room-clause-handed_back g c =
-    let w = c.in-Ok.walk in
-    let new = c.in-Ok.ensures.new in
-    rw c.refused-in-Err-with_room.ensures (
-    IsHandedBack-begun c.args.source w.meter.source c.count_ranges.new.self.meter.source _ w.header (32 + 12 * w.header.number_of_streams) (16 * vec_len w.entries) new.fetches c.count_ranges.ensures.fetches (omega (arith, new.entries)) new.inside
-    (λ file known. (c.in-Ok.ensures.opens file known, c.in-Ok.ensures.sound.header_is file (new.fetches.same_content ∙ known))) (λ of. of)
-    )
+    let counted = c.count_ranges.ensures in
+    rw c.refused-in-Err-with_room.ensures
+    (IsHandedBack-counted c.args.source c.args.choice c.args.limits c.in-Ok.walk c.count_ranges.new.self _ c.in-Ok.ensures.sound c.in-Ok.ensures.new counted.fetches counted.calls c.in-Ok.ensures.opens (λ of. of))

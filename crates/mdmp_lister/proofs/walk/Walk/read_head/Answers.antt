@@ -3,9 +3,10 @@ use Rattle.mdmp_lister.specs.Items.{sizes_before}
 use Rattle.mdmp_lister.proofs.Owing.{ranged, ranges-counted, told_changed, unknown}
 use Rattle.mdmp_lister.proofs.Soundness.{IsSound-after, fault_stage-staged, fault_stage-offset, fault_stage-going, fault_stage-unfailed}
 use Rattle.mdmp_source.specs.Range.{IsInside}
-use Rattle.mdmp_lister.specs.Meter.{head_spent}
+use Rattle.mdmp_lister.specs.Heads.{head_spent}
 use Rattle.mdmp_lister.specs.Shapes.{kind_of}
 use Rattle.mdmp_lister.proofs.Paying.{entry_cost-listed, fault_stage-owed, fault_stage-work, head_paid, paid_headed, spent_within}
+use Rattle.mdmp_lister.proofs.Heads.{head_of-is}
 use Rattle.mdmp_lister.proofs.walk.Walk.read_head.Given as given
 use Rattle.mdmp_lister.proofs.walk.Walk.read_head.Goals as goal
 
@@ -14,9 +15,9 @@ unfolding sizes_before
 returns-else-ranges_by-room-clause-sound g c =
     let begun : 0 < c.args.self.now.next = rw c.requires.head at c.requires.sound.staged in
     let base = c.from.ensures in
-    IsSound-after 16 c.args.self.now _ c.requires.sound c.read_head.ensures.fetches
+    IsSound-after _ c.args.self.now _ c.requires.sound c.read_head.ensures.fetches
     (search rules)
-    (record { begun = begun; within = omega arith; inside = search rules; fits = c.in-Ok.ensures.fits; ranges = c.in-Ok.ensures.ranges; bound = omega (arith, base, c.from.type_inv, c.read_head.type_inv) })
+    (record { begun = begun; known = search rules; within = omega arith; inside = search rules; fits = c.in-Ok.ensures.fits; ranges = c.in-Ok.ensures.ranges; bound = omega (arith, base, c.from.type_inv, c.read_head.type_inv) })
     (λ file known kind. omega (arith, base, c.in-Ok.ensures.base file known kind))
     (λ end. cc)
     (λ file good. refl)
@@ -35,7 +36,7 @@ returns-then-ranges_by-room-clause-sound g c =
     let f = c.told-then-ranges_by-room.result in
     let begun : 0 < w.next = rw c.requires.head at c.requires.sound.staged in
     rw c.stop_at-then-ranges_by-room.ensures.stage (
-    IsSound-after 16 w _ c.requires.sound c.read_head.ensures.fetches
+    IsSound-after _ w _ c.requires.sound c.read_head.ensures.fetches
     (search rules)
     (fault_stage-staged w.meter.source.size w.next w.current f begun)
     (λ file known. fault_stage-offset file w.current f)
@@ -97,3 +98,27 @@ returns-in-Err-clause-paid g c = λ allowed before paid.
     (rw (fault_stage-owed w.meter.source.size w.current f, c.requires.head, entry_cost-listed w.meter.source.size w.current kind known inside) (omega (arith, spent_within at.size kind)))
     (rw (fault_stage-work f, c.requires.head) (omega arith))
     )
+
+pub returns-else-ranges_by-room-clause-fetches : goal.returns-else-ranges_by-room-clause-fetches
+returns-else-ranges_by-room-clause-fetches g c =
+    let w = c.args.self.now in
+    let kind = c.in-Some-of_type.kind in
+    let known : kind_of w.current.stream_type ≡ Some kind = search rules in
+    let inside : IsInside w.current.location.rva w.current.location.size w.meter.source.size = search rules in
+    rw (head_of-is w.meter.source.size w.current kind known inside) c.read_head.ensures.fetches
+
+pub returns-then-ranges_by-room-clause-fetches : goal.returns-then-ranges_by-room-clause-fetches
+returns-then-ranges_by-room-clause-fetches g c =
+    let w = c.args.self.now in
+    let kind = c.in-Some-of_type.kind in
+    let known : kind_of w.current.stream_type ≡ Some kind = search rules in
+    let inside : IsInside w.current.location.rva w.current.location.size w.meter.source.size = search rules in
+    rw (c.stop_at-then-ranges_by-room.ensures.stage, head_of-is w.meter.source.size w.current kind known inside) c.read_head.ensures.fetches
+
+pub returns-in-Err-clause-fetches : goal.returns-in-Err-clause-fetches
+returns-in-Err-clause-fetches g c =
+    let w = c.args.self.now in
+    let kind = c.in-Some-of_type.kind in
+    let known : kind_of w.current.stream_type ≡ Some kind = search rules in
+    let inside : IsInside w.current.location.rva w.current.location.size w.meter.source.size = search rules in
+    rw (c.stop_at-in-Err.ensures.stage, head_of-is w.meter.source.size w.current kind known inside) c.read_head.ensures.fetches

@@ -2,6 +2,8 @@ use Rattle.std.proofs.Common.{◌≡◌, ◌-◌, ◌∙◌, length, arith, sym,
 use Rattle.mdmp_lister.specs.Reading.{IsOfSource}
 use Rattle.mdmp_lister.specs.Walk.{IsReading, FaultStays, current_of}
 use Rattle.mdmp_lister.proofs.Bodies.{records-given, records-faulted, fault_stage-left, take-lent}
+use Rattle.mdmp_lister.proofs.Costs.{fault_cost-told}
+use Rattle.mdmp_lister.proofs.Fetches.{FetchesAtMost-within}
 use Rattle.mdmp_lister.proofs.Offsets.{range-next}
 use Rattle.mdmp_lister.proofs.Soundness.{IsSound-after, fault_stage-staged, fault_stage-offset, fault_stage-going, fault_stage-unfailed}
 use Rattle.mdmp_lister.specs.Shapes.{record_size}
@@ -14,7 +16,7 @@ returns-in-Ok-clause-sound g c =
     let reading : IsReading w.meter.source.size w.next w.current c.args.kind c.args.shape c.args.index c.args.offset = rw c.requires.stage at c.requires.sound.staged in
     IsSound-after _ w _ c.requires.sound c.read_item.ensures.fetches
     (search rules)
-    (record { begun = reading.begun; within = omega (arith, c.requires.left); inside = reading.inside; fits = reading.fits; ranges = reading.ranges; bound = omega (arith, c.offset_behind.ensures.bound, reading.bound) })
+    (record { begun = reading.begun; known = reading.known; within = omega (arith, c.requires.left); inside = reading.inside; fits = reading.fits; ranges = reading.ranges; bound = omega (arith, c.offset_behind.ensures.bound, reading.bound) })
     (λ file known kind.
     let here = (rw c.requires.stage at (c.requires.sound.offset file known)) in
     let places = reading.ranges kind in
@@ -82,3 +84,17 @@ returns-in-Err-clause-paid g c = λ allowed before paid.
     (rw (fault_stage-owed w.meter.source.size w.current f, c.requires.stage) (omega (arith, record_less c.args.shape.count c.args.index (record_size c.args.kind) c.requires.left)))
     (rw (fault_stage-work f, c.requires.stage) (omega (arith, c.requires.left)))
     )
+
+pub returns-in-Ok-clause-fetches : goal.returns-in-Ok-clause-fetches
+returns-in-Ok-clause-fetches g c = c.in-Ok.ensures.fetches
+
+pub returns-in-Err-clause-fetches : goal.returns-in-Err-clause-fetches
+returns-in-Err-clause-fetches g c =
+    let w = c.args.self.now in
+    let f = c.told.result in
+    let reading : IsReading w.meter.source.size w.next w.current c.args.kind c.args.shape c.args.index c.args.offset = rw c.requires.stage at c.requires.sound.staged in
+    let room : length c.read_item.new.buffer ≡ vec_len w.name = c.in-Err.ensures.length ∙ c.deref_mut-2.ensures.len in
+    rw (c.stop_at.ensures.stage, c.stop_at.ensures.fault)
+    (FetchesAtMost-within _ _ w.meter.source c.read_item.new.meter.source
+    (fault_cost-told (vec_len w.name) w.current c.args.kind _ c.args.index c.in-Err.fault f reading.known c.told.ensures.kind c.told.ensures.of_file)
+    (rw room at c.in-Err.ensures.fetches))

@@ -1,0 +1,90 @@
+-- What was fetched for an item, by its step.
+use Rattle.std.proofs.Common.{◌≡◌, ◌≤◌, ◌+◌, ◌∙◌, ℕ, List, Option, Some, None, Ok, Err, arith, refl, ap, sym, length, length-take}
+use Rattle.std.specs.Prelude.{take}
+use Rattle.mdmp_wire.specs.declared.entry.Entry.{Entry}
+use Rattle.mdmp_lister.specs.declared.fault.Fault.{Fault}
+use Rattle.mdmp_lister.specs.declared.fault.FaultKind.{FaultKind}
+use Rattle.mdmp_lister.specs.declared.fault.FaultKind.TheVariants.{Source}
+use Rattle.mdmp_lister.specs.declared.fault.ListFault.{ListFault}
+use Rattle.mdmp_lister.specs.declared.fetching.NameRead.{NameRead}
+use Rattle.mdmp_lister.specs.declared.fetching.NameRead.TheVariants as read
+use Rattle.mdmp_lister.specs.declared.item.Item.{Item}
+use Rattle.mdmp_lister.specs.declared.item.Item.TheVariants as items
+use Rattle.mdmp_lister.specs.declared.kind.Kind.{Kind}
+use Rattle.mdmp_lister.specs.declared.name.Name.{Name}
+use Rattle.mdmp_lister.specs.declared.name.Name.TheVariants.{NoName, Units, Long}
+use Rattle.mdmp_lister.specs.declared.stage.Stage.{Stage}
+use Rattle.mdmp_lister.specs.declared.stage.Stage.TheVariants.{Head, Ended, Bad, Failed, Between, Records}
+use Rattle.mdmp_lister.specs.declared.step.Step.{Step}
+use Rattle.mdmp_lister.specs.declared.step.Step.TheVariants as step
+use Rattle.mdmp_lister.specs.Costs.{bad_name_cost, fault_by, fault_cost, head_given, head_left, head_told, item_cost, name_cost, read_cost, record_cost, size_by, step_cost}
+use Rattle.mdmp_lister.specs.Items.{plain}
+use Rattle.mdmp_lister.specs.Listing.{list_fault}
+use Rattle.mdmp_lister.specs.Names.{plain_name}
+use Rattle.mdmp_lister.specs.Reading.{IsHeld, IsOfSource, name_read}
+use Rattle.mdmp_lister.specs.Shapes.{kind_of, record_size}
+use Rattle.mdmp_lister.specs.Stages.{stop_of}
+use Rattle.mdmp_lister.specs.Steps.{IsStepHeld, step_item}
+
+-- a name that the store keeps from being read
+pub source_name_cost : (limit : ℕ) (kind : FaultKind) → IsOfSource kind → bad_name_cost limit kind ≡ 4 + limit
+source_name_cost limit (Source fault) of = refl
+source_name_cost limit _ of = absurd of
+
+-- ---- items and their steps
+
+name_cost-plain : (name : Name) → name_cost (plain_name name) ≡ name_cost name
+name_cost-plain NoName = refl
+name_cost-plain (Units units) = refl
+name_cost-plain (Long bytes) = refl
+
+pub item_cost-plain : (x : Item) → item_cost (plain x) ≡ item_cost x
+item_cost-plain (items.Module m) = rw (name_cost-plain m.name) refl
+item_cost-plain (items.Unloaded u) = rw (name_cost-plain u.name) refl
+item_cost-plain (items.System s) = rw (name_cost-plain s.name) refl
+item_cost-plain _ = refl
+
+name_cost-read : (buffer : List ℕ) (name : NameRead) → IsHeld (length buffer) name → name_cost (name_read buffer name) ≡ read_cost name
+name_cost-read buffer read.NoName held = refl
+name_cost-read buffer (read.Long bytes) held = refl
+name_cost-read buffer (read.Units bytes) held = let room : bytes ≤ length buffer = held.0 in rw length-take (omega (arith, room))
+
+item_cost-read : (z y : ℕ) (buffer : List ℕ) (s : Step) → IsStepHeld z (length buffer) s → item_cost (step_item y buffer s) ≡ step_cost s
+item_cost-read z y buffer (step.Module e k fields name) held = rw (name_cost-read buffer name held) refl
+item_cost-read z y buffer (step.Unloaded e k fields name) held = rw (name_cost-read buffer name held) refl
+item_cost-read z y buffer (step.System e k fields name) held = rw (name_cost-read buffer name held) refl
+item_cost-read z y buffer _ held = refl
+
+-- an item costs what its step does
+pub item_cost-step : (z y : ℕ) (buffer : List ℕ) (s : Step) (x : Item) → IsStepHeld z (length buffer) s → plain x ≡ step_item y buffer s → item_cost x ≡ step_cost s
+item_cost-step z y buffer s x held same = sym (item_cost-plain x) ∙ ap item_cost same ∙ item_cost-read z y buffer s held
+
+pub head_given-plain : (z : ℕ) (x : Item) → head_given z (plain x) ≡ head_given z x
+head_given-plain z (items.Stream x) = refl
+head_given-plain z _ = refl
+
+head_given-read : (z y : ℕ) (buffer : List ℕ) (s : Step) → head_given z (step_item y buffer s) ≡ head_told z s
+head_given-read z y buffer (step.Stream x) = refl
+head_given-read z y buffer _ = refl
+
+-- and begins the same head
+pub head_given-step : (z y : ℕ) (buffer : List ℕ) (s : Step) (x : Item) → plain x ≡ step_item y buffer s → head_given z x ≡ head_told z s
+head_given-step z y buffer s x same = sym (head_given-plain z x) ∙ ap (head_given z) same ∙ head_given-read z y buffer s
+
+-- ---- faults
+
+-- no head is left where a walk has stopped
+pub head_left-stopped : (z : ℕ) (e : Entry) (stage : Stage) (stop : Option ListFault) → stop_of stage ≡ Some stop → head_left z e stage ≡ 0
+head_left-stopped z e Head stop stopped = absurd (cc)
+head_left-stopped z e _ stop stopped = refl
+
+told_by : (limit size k : ℕ) (kind : FaultKind) (index : Option ℕ) → ((IsOfSource kind → ⊥) → index ≡ Some k) → size + bad_name_cost limit kind ≤ fault_by limit size kind index
+told_by limit size k (Source fault) index of = omega arith
+told_by limit size k _ index of = let is = of (λ s. s) in rw is (omega arith)
+
+-- the fault of a record, as a listing tells it
+pub fault_cost-told : (limit : ℕ) (e : Entry) (kind : Kind) (entry k : ℕ) (fault : Fault) (f : ListFault) → kind_of e.stream_type ≡ Some kind → f.kind ≡ fault.kind
+    → ((IsOfSource fault.kind → ⊥) → f ≡ list_fault entry (Some k) fault) → record_size kind + bad_name_cost limit fault.kind ≤ fault_cost limit e f
+fault_cost-told limit e kind entry k fault f known same of =
+    let size : record_cost e ≡ record_size kind = ap size_by known in
+    rw (size, same) (told_by limit (record_size kind) k fault.kind f.index (λ not. ap (λ (g : ListFault). g.index) (of not)))

@@ -1,0 +1,58 @@
+-- The heads that are fetched as a file is opened, one by one.
+use Rattle.std.proofs.Common.{◌≡◌, ◌≤◌, ◌<◌, ◌+◌, ◌⊎◌, ℕ, List, Some, true, inl, inr, refl, subst, sym, length, get_or, take}
+use Rattle.std.proofs.lemmas.Grind.{common_steps}
+use Rattle.std.proofs.Common.{arith}
+use Rattle.std.proofs.lemmas.List.Sums.{sum_by_more, sum_by_more_le, sum_by-take-le}
+use Rattle.mdmp_source.specs.Range.{IsInside}
+use Rattle.mdmp_source.specs.Source.{SourceState, FetchesAtMost}
+use Rattle.mdmp_wire.specs.declared.entry.Entry.{Entry}
+use Rattle.mdmp_lister.specs.declared.choice.Choice.{Choice}
+use Rattle.mdmp_lister.specs.declared.kind.Kind.{Kind}
+use Rattle.mdmp_lister.specs.declared.kind.Kind.TheVariants as kinds
+use Rattle.mdmp_lister.specs.Heads.{ahead_of, chosen_ahead, head_inside, head_of, head_spent, heads_ahead}
+use Rattle.mdmp_lister.specs.Listing.{is_chosen}
+use Rattle.mdmp_lister.specs.Meter.{Books, MeterState}
+use Rattle.mdmp_lister.specs.Shapes.{kind_of}
+
+-- a stream that lies inside
+head_inside-is : (z : ℕ) (e : Entry) (kind : Kind) → IsInside e.location.rva e.location.size z → head_inside z e kind ≡ head_spent e.location.size kind
+head_inside-is z e kind (inl none) = rw none refl
+head_inside-is z e kind (inr within) = grind (arith, common_steps, within)
+
+pub head_of-is : (z : ℕ) (e : Entry) (kind : Kind) → kind_of e.stream_type ≡ Some kind → IsInside e.location.rva e.location.size z
+    → head_of z e ≡ head_spent e.location.size kind
+unfolding head_of
+head_of-is z e kind known inside = rw known (head_inside-is z e kind inside)
+
+-- of a memory list it is fetched ahead
+ahead_of-is : (z : ℕ) (e : Entry) (kind : Kind) → (kind ≡ kinds.Memory) ⊎ (kind ≡ kinds.Memory64) → kind_of e.stream_type ≡ Some kind → IsInside e.location.rva e.location.size z
+    → head_spent e.location.size kind ≡ ahead_of z e
+unfolding ahead_of
+ahead_of-is z e kind (inl list) known inside = rw (known, list) (sym (head_inside-is z e kinds.Memory inside))
+ahead_of-is z e kind (inr list) known inside = rw (known, list) (sym (head_inside-is z e kinds.Memory64 inside))
+
+module _ (z : ℕ) (e : Entry) (kind : Kind) (list : (kind ≡ kinds.Memory) ⊎ (kind ≡ kinds.Memory64)) (known : kind_of e.stream_type ≡ Some kind) (inside : IsInside e.location.rva e.location.size z) where
+  pub fetches-ahead : (old new : SourceState) → FetchesAtMost (head_spent e.location.size kind) old new → FetchesAtMost (ahead_of z e) old new
+  fetches-ahead old new fetches = subst (λ n. FetchesAtMost n old new) (ahead_of-is z e kind list known inside) fetches
+
+  pub books-ahead : (old new : MeterState) → Books (head_spent e.location.size kind) old new → Books (ahead_of z e) old new
+  books-ahead old new books = subst (λ n. Books n old new) (ahead_of-is z e kind list known inside) books
+
+module _ (choice : Choice) (z at : ℕ) (es : List Entry) (d : Entry) (h : at < length es) where
+  -- one more entry, and its head where it is chosen
+  pub heads-more : heads_ahead choice z (take at es) ≤ heads_ahead choice z (take (at + 1) es)
+  heads-more = rw (sum_by_more (chosen_ahead choice z) es at d h) (omega arith)
+
+  pub heads-chosen : is_chosen choice (get_or es at d).stream_type ≡ true
+      → heads_ahead choice z (take at es) + ahead_of z (get_or es at d) ≤ heads_ahead choice z (take (at + 1) es)
+  unfolding chosen_ahead
+  heads-chosen chosen =
+      let cost : chosen_ahead choice z (get_or es at d) ≡ ahead_of z (get_or es at d) = rw chosen refl in
+      rw (sum_by_more (chosen_ahead choice z) es at d h, cost) (omega arith)
+
+  pub heads-chosen_most : is_chosen choice (get_or es at d).stream_type ≡ true
+      → heads_ahead choice z (take at es) + ahead_of z (get_or es at d) ≤ heads_ahead choice z es
+  heads-chosen_most chosen = omega (arith, heads-chosen chosen, sum_by-take-le (chosen_ahead choice z) es (at + 1))
+
+pub heads-most : (choice : Choice) (z at : ℕ) (es : List Entry) → heads_ahead choice z (take at es) ≤ heads_ahead choice z es
+heads-most choice z at es = sum_by-take-le (chosen_ahead choice z) es at

@@ -1,0 +1,56 @@
+-- What is fetched of the heads of streams.
+use Rattle.std.specs.Prelude.{ℕ, List, Option, Some, None, nat_lt, sum_by, if◌then◌else◌}
+use Rattle.mdmp_source.specs.Range.{is_inside}
+use Rattle.mdmp_wire.specs.declared.entry.Entry.{Entry}
+use Rattle.mdmp_lister.specs.declared.choice.Choice.{Choice}
+use Rattle.mdmp_lister.specs.declared.kind.Kind.{Kind}
+use Rattle.mdmp_lister.specs.declared.kind.Kind.TheVariants as kinds
+use Rattle.mdmp_lister.specs.Listing.{is_chosen}
+use Rattle.mdmp_lister.specs.Shapes.{head_size, kind_of}
+
+-- the bytes of a head: a single record has none
+abbrev pub head_cost : Kind → ℕ
+head_cost kinds.Threads = 4
+head_cost kinds.Modules = 4
+head_cost kinds.Memory = 4
+head_cost kinds.Exception = 0
+head_cost kinds.System = 0
+head_cost kinds.Memory64 = 16
+head_cost kinds.Unloaded = 12
+head_cost kinds.MemoryInfo = 16
+
+-- those that are fetched of a stream of so many bytes: none of one that is too short
+abbrev pub head_spent : ℕ → Kind → ℕ
+head_spent size kind = if nat_lt size (head_size kind) then 0 else head_cost kind
+
+-- those of an entry of this kind in a file of z bytes: none of a stream that does not lie inside
+abbrev pub head_inside : ℕ → Entry → Kind → ℕ
+head_inside z e kind = if is_inside e.location.rva e.location.size z then head_spent e.location.size kind else 0
+
+-- an unused entry has no head, and neither has an opaque stream
+abbrev pub head_by : ℕ → Entry → Option Kind → ℕ
+head_by z e (Some kind) = head_inside z e kind
+head_by z e None = 0
+
+-- what is fetched of an entry before its first record is
+unfoldable pub head_of : ℕ → Entry → ℕ
+head_of z e = head_by z e (kind_of e.stream_type)
+
+-- ---- as a file is opened
+
+-- the heads of memory lists, and no others
+abbrev pub ahead_by : ℕ → Entry → Option Kind → ℕ
+ahead_by z e (Some kinds.Memory) = head_inside z e kinds.Memory
+ahead_by z e (Some kinds.Memory64) = head_inside z e kinds.Memory64
+ahead_by z e kind = 0
+
+unfoldable pub ahead_of : ℕ → Entry → ℕ
+ahead_of z e = ahead_by z e (kind_of e.stream_type)
+
+-- of those that are chosen
+unfoldable pub chosen_ahead : Choice → ℕ → Entry → ℕ
+chosen_ahead choice z e = if is_chosen choice e.stream_type then ahead_of z e else 0
+
+-- of some entries together
+abbrev pub heads_ahead : Choice → ℕ → List Entry → ℕ
+heads_ahead choice z entries = sum_by (chosen_ahead choice z) entries
