@@ -1,6 +1,5 @@
 -- What was fetched for an item, by its step.
-use Rattle.std.proofs.Common.{◌≡◌, ◌≤◌, ◌+◌, ◌∙◌, ℕ, List, Option, Some, None, Ok, Err, arith, refl, ap, sym, length, length-take}
-use Rattle.std.specs.Prelude.{take}
+use Rattle.std.proofs.Common.{◌≡◌, ◌≤◌, ◌+◌, ◌∙◌, ℕ, List, Option, Some, arith, refl, ap, sym, length, length-take}
 use Rattle.mdmp_wire.specs.declared.entry.Entry.{Entry}
 use Rattle.mdmp_lister.specs.declared.fault.Fault.{Fault}
 use Rattle.mdmp_lister.specs.declared.fault.FaultKind.{FaultKind}
@@ -14,7 +13,7 @@ use Rattle.mdmp_lister.specs.declared.kind.Kind.{Kind}
 use Rattle.mdmp_lister.specs.declared.name.Name.{Name}
 use Rattle.mdmp_lister.specs.declared.name.Name.TheVariants.{NoName, Units, Long}
 use Rattle.mdmp_lister.specs.declared.stage.Stage.{Stage}
-use Rattle.mdmp_lister.specs.declared.stage.Stage.TheVariants.{Head, Ended, Bad, Failed, Between, Records}
+use Rattle.mdmp_lister.specs.declared.stage.Stage.TheVariants.{Head}
 use Rattle.mdmp_lister.specs.declared.step.Step.{Step}
 use Rattle.mdmp_lister.specs.declared.step.Step.TheVariants as step
 use Rattle.mdmp_lister.specs.Costs.{bad_name_cost, fault_by, fault_cost, head_given, head_left, head_told, item_cost, name_cost, read_cost, record_cost, size_by, step_cost}
@@ -24,7 +23,7 @@ use Rattle.mdmp_lister.specs.Names.{plain_name}
 use Rattle.mdmp_lister.specs.Reading.{IsHeld, IsOfSource, name_read}
 use Rattle.mdmp_lister.specs.Shapes.{kind_of, record_size}
 use Rattle.mdmp_lister.specs.Stages.{stop_of}
-use Rattle.mdmp_lister.specs.Steps.{IsStepHeld, step_item}
+use Rattle.mdmp_lister.specs.Steps.{IsNameHeld, step_item}
 
 -- a name that the store keeps from being read
 pub source_name_cost : (limit : ℕ) (kind : FaultKind) → IsOfSource kind → bad_name_cost limit kind ≡ 4 + limit
@@ -49,15 +48,15 @@ name_cost-read buffer read.NoName held = refl
 name_cost-read buffer (read.Long bytes) held = refl
 name_cost-read buffer (read.Units bytes) held = let room : bytes ≤ length buffer = held.0 in rw length-take (omega (arith, room))
 
-item_cost-read : (z y : ℕ) (buffer : List ℕ) (s : Step) → IsStepHeld z (length buffer) s → item_cost (step_item y buffer s) ≡ step_cost s
-item_cost-read z y buffer (step.Module e k fields name) held = rw (name_cost-read buffer name held) refl
-item_cost-read z y buffer (step.Unloaded e k fields name) held = rw (name_cost-read buffer name held) refl
-item_cost-read z y buffer (step.System e k fields name) held = rw (name_cost-read buffer name held) refl
-item_cost-read z y buffer _ held = refl
+item_cost-read : (z : ℕ) (buffer : List ℕ) (s : Step) → IsNameHeld (length buffer) s → item_cost (step_item z buffer s) ≡ step_cost s
+item_cost-read z buffer (step.Module e k fields name) held = rw (name_cost-read buffer name held) refl
+item_cost-read z buffer (step.Unloaded e k fields name) held = rw (name_cost-read buffer name held) refl
+item_cost-read z buffer (step.System e k fields name) held = rw (name_cost-read buffer name held) refl
+item_cost-read z buffer _ held = refl
 
 -- an item costs what its step does
-pub item_cost-step : (z y : ℕ) (buffer : List ℕ) (s : Step) (x : Item) → IsStepHeld z (length buffer) s → plain x ≡ step_item y buffer s → item_cost x ≡ step_cost s
-item_cost-step z y buffer s x held same = sym (item_cost-plain x) ∙ ap item_cost same ∙ item_cost-read z y buffer s held
+pub item_cost-step : (z : ℕ) (buffer : List ℕ) (s : Step) (x : Item) → IsNameHeld (length buffer) s → plain x ≡ step_item z buffer s → item_cost x ≡ step_cost s
+item_cost-step z buffer s x held same = sym (item_cost-plain x) ∙ ap item_cost same ∙ item_cost-read z buffer s held
 
 pub head_given-plain : (z : ℕ) (x : Item) → head_given z (plain x) ≡ head_given z x
 head_given-plain z (items.Stream x) = refl

@@ -1,9 +1,9 @@
 -- What some fetches leave to those behind them.
-use Rattle.std.proofs.Common.{◌≡◌, ◌≤◌, ◌+◌, ◌∙◌, ℕ, List, Err, ap, arith, refl, sym}
+use Rattle.std.proofs.Common.{◌≤◌, ◌∙◌, ℕ, List, Err, ap, arith, refl, sym}
 use Rattle.mdmp_source.specs.Count.{raised}
-use Rattle.mdmp_source.specs.Source.{SourceState, FailsOnce, FetchesAtMost, IsTold}
+use Rattle.mdmp_source.specs.Source.{SourceState, FailsOnce, FetchesAtMost}
 use Rattle.mdmp_source.specs.declared.fault.SourceFault.{SourceFault}
-use Rattle.mdmp_source.specs.SourceLaws.{fetches_then, told_later}
+use Rattle.mdmp_source.specs.SourceLaws.{told_later}
 use Rattle.mdmp_source.specs.Store.{IsGood}
 use Rattle.mdmp_wire.specs.declared.entry.Entry.{Entry}
 use Rattle.mdmp_lister.specs.declared.fault.FaultKind.{FaultKind}

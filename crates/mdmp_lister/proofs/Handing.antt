@@ -1,16 +1,19 @@
 -- A run, one item longer.
-use Rattle.std.proofs.Common.{◌≡◌, ◌≤◌, ◌+◌, ◌-◌, List, [], ◌∷◌, ◌++◌, ℕ, Some, ap, arith, Result, Ok, Err, inl, inr, refl, subst, ◌∙◌, append_assoc}
+use Rattle.std.proofs.Common.{◌≡◌, ◌≤◌, ◌+◌, ◌-◌, List, [], ◌∷◌, ◌++◌, ℕ, Some, ap, arith, Result, Ok, Err, inl, inr, refl, subst, sym, ◌∙◌, append_assoc}
 use Rattle.std.proofs.lemmas.List.Sums.{sum_by-append, sum_by-cons}
 use Rattle.mdmp_source.specs.Source.{SourceState, FetchesAtMost}
 use Rattle.mdmp_source.specs.SourceLaws.{fetches_then}
 use Rattle.mdmp_wire.specs.declared.entry.Entry.{Entry}
 use Rattle.mdmp_lister.specs.declared.item.Item.{Item}
 use Rattle.mdmp_lister.specs.declared.sink.Stopped.{Stopped}
-use Rattle.mdmp_lister.specs.Handing.{Taken, TakenToStop, current_behind, give_all, passed_behind}
+use Rattle.mdmp_lister.specs.Handing.{AllClassed, Taken, TakenToStop, current_behind, give_all, passed_behind}
 use Rattle.std.specs.Prelude.{drop, slice_get}
 use Rattle.mdmp_lister.specs.declared.fault.ListFault.{ListFault}
+use Rattle.mdmp_lister.specs.Classes.{IsClassed}
 use Rattle.mdmp_lister.specs.Costs.{fault_cost, head_given, item_cost, items_cost}
 use Rattle.mdmp_lister.specs.Items.{plain}
+use Rattle.mdmp_lister.proofs.Advancing.{current_after-plain}
+use Rattle.mdmp_lister.proofs.Classes.{classed-plain}
 use Rattle.mdmp_lister.proofs.Costs.{head_given-plain, item_cost-plain}
 use Rattle.mdmp_lister.proofs.Fetches.{FetchesAtMost-none, FetchesAtMost-within}
 use Rattle.mdmp_lister.specs.Lister.{IsSameLister, ListerState, current_after, passed_after, tail}
@@ -35,6 +38,12 @@ passed_behind-more (y ∷ ys) x old mid new behind next = passed_behind-more ys 
 pub current_behind-more : (xs : List Item) (x : Item) (old mid new : Entry) → mid ≡ current_behind xs old → new ≡ current_after x mid → new ≡ current_behind (xs ++ x ∷ []) old
 current_behind-more [] x old mid new behind now = now ∙ ap (current_after x) behind
 current_behind-more (y ∷ ys) x old mid new behind now = current_behind-more ys x (current_after y old) mid new behind now
+
+-- what one more item names is classed, in the entry that it stands in
+pub AllClassed-more : (z : ℕ) (xs : List Item) (x : Item) (e mid new : Entry) → AllClassed z e xs → mid ≡ current_behind xs e → new ≡ current_after x mid → IsClassed z new x → AllClassed z e (xs ++ plain x ∷ [])
+AllClassed-more z [] x e mid new so_far behind now classed =
+    (subst (λ (d : Entry). IsClassed z d (plain x)) (now ∙ ap (current_after x) behind ∙ sym (current_after-plain x e)) (classed-plain z new x classed), tt)
+AllClassed-more z (y ∷ ys) x e mid new so_far behind now classed = (so_far.0, AllClassed-more z ys x (current_after y e) mid new so_far.1 behind now classed)
 
 module _ {K X : Type 0} (step : K → X → Result (Unit {0}) Stopped → K → Type 0) (x : X) where
   pub Taken-more : (xs : List X) (k m new : K) → Taken step k xs m → step m x (Ok tt) new → Taken step k (xs ++ x ∷ []) new

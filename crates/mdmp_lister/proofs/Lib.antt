@@ -2,6 +2,7 @@ pub mod AddressRows
 pub mod Addresses
 pub mod Advancing
 pub mod Bodies
+pub mod Classes
 pub mod Costs
 pub mod Directory
 pub mod Ending

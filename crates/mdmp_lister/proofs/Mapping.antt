@@ -1,5 +1,5 @@
 -- The map of the ranges that a walk gave, one step longer.
-use Rattle.std.proofs.Common.{◌≡◌, ◌-◌, ◌∙◌, ◌++◌, ◌∷◌, [], arith, refl, sym, ap, ℕ, List, length}
+use Rattle.std.proofs.Common.{◌≡◌, ◌-◌, ◌∙◌, ◌++◌, ◌∷◌, [], arith, refl, sym, ap, ℕ, List, Option, length}
 use Rattle.std.proofs.lemmas.List.{append-nil, append_assoc, length-append}
 use Rattle.std.proofs.lemmas.List.Elements.{All-append, All-nil, All-cons, filter_map-append}
 use Rattle.mdmp_source.specs.declared.location.Extent.{Extent}
@@ -10,6 +10,7 @@ use Rattle.mdmp_map.specs.Ranges.{IsWithin}
 use Rattle.mdmp_lister.specs.declared.item.Item.{Item}
 use Rattle.mdmp_lister.specs.declared.item.Item.TheVariants as items
 use Rattle.mdmp_lister.specs.declared.item.RangeItem.{RangeItem}
+use Rattle.mdmp_lister.specs.declared.kind.Kind.{Kind}
 use Rattle.mdmp_lister.specs.declared.step.Step.{Step}
 use Rattle.mdmp_lister.specs.declared.step.Step.TheVariants as step
 use Rattle.mdmp_lister.specs.declared.walk.Walk.{Walk}
@@ -18,7 +19,7 @@ use Rattle.mdmp_lister.specs.Paying.{IsBounded}
 use Rattle.mdmp_lister.specs.Mapping.{IsMapped, IsStepPlaced, ranges_of_step}
 use Rattle.mdmp_lister.specs.Owing.{HasRoom, count_told}
 use Rattle.mdmp_lister.specs.Ranges.{IsRangeIn, range_of, ranges_of}
-use Rattle.mdmp_lister.specs.Steps.{IsStepHeld, step_item}
+use Rattle.mdmp_lister.specs.Steps.{IsStepClassed, step_item}
 use Rattle.mdmp_lister.specs.Walk.{IsSound}
 
 -- ---- the ranges of an item are those of its step
@@ -41,9 +42,9 @@ ranges_of-more old mid new xs x so_far next =
 
 -- ---- the map stays one of the walk
 
-pub placed-held : (z room : ℕ) (s : Step) → IsStepHeld z room s → IsStepPlaced s
-placed-held z room (step.Range r) held = λ inside. let parts = held inside in (parts.0, (parts.1.1, parts.1.1))
-placed-held z room _ held = tt
+pub placed-classed : (z : ℕ) (kind : Option Kind) (s : Step) → IsStepClassed z kind s → IsStepPlaced s
+placed-classed z kind (step.Range r) classed = λ inside. let parts = classed.0 inside in (parts.0, (parts.1.1, parts.1.1))
+placed-classed z kind _ classed = tt
 
 module _ {S A : Type 0} where
   same_room : (w : Walk S A) (room given : ℕ) → HasRoom room given w → HasRoom room 0 w
@@ -81,10 +82,10 @@ module _ {S A : Type 0} where
   mapped_range w new map r extents.Absent is old sound size room bounded held = rw is (unmapped w new map 1 old sound size room bounded)
   mapped_range w new map r extents.Outside is old sound size room bounded held = rw is (unmapped w new map 1 old sound size room bounded)
 
-  pub mapped_step : (w new : Walk S A) (map : MapState) (room : ℕ) (s : Step) → IsMapped w map → IsSound new → new.meter.source.size ≡ w.meter.source.size
-      → HasRoom (free_of map) (count_told s) new → IsBounded new → IsStepHeld w.meter.source.size room s → IsMapped new (record map { ranges = map.ranges ++ ranges_of_step s })
-  mapped_step w new map room (step.Range r) old sound size has bounded held = mapped_range w new map r r.extent refl old sound size has bounded held
-  mapped_step w new map room _ old sound size has bounded held = unmapped w new map 0 old sound size has bounded
+  pub mapped_step : (w new : Walk S A) (map : MapState) (kind : Option Kind) (s : Step) → IsMapped w map → IsSound new → new.meter.source.size ≡ w.meter.source.size
+      → HasRoom (free_of map) (count_told s) new → IsBounded new → IsStepClassed w.meter.source.size kind s → IsMapped new (record map { ranges = map.ranges ++ ranges_of_step s })
+  mapped_step w new map kind (step.Range r) old sound size has bounded classed = mapped_range w new map r r.extent refl old sound size has bounded classed.0
+  mapped_step w new map kind _ old sound size has bounded classed = unmapped w new map 0 old sound size has bounded
 
   -- where nothing was given
   pub kept : (w new : Walk S A) (map : MapState) → IsMapped w map → IsSound new → new.meter.source.size ≡ w.meter.source.size → HasRoom (free_of map) 0 new → IsBounded new → IsMapped new map

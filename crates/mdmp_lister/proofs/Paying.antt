@@ -1,8 +1,8 @@
 -- A walk pays for what it fetches.
-use Rattle.std.proofs.Common.{◌≡◌, ◌≤◌, ◌<◌, ◌+◌, ◌-◌, ◌*◌, ◌^◌, ◌∙◌, ℕ, zero, suc, List, Option, Some, None, inl, inr, arith, refl, sym, subst, ap, true, false, length, drop, get_or, vec_len, add-one, drop-cons, drop_of_length-le}
+use Rattle.std.proofs.Common.{◌≡◌, ◌≤◌, ◌<◌, ◌+◌, ◌-◌, ◌*◌, ◌^◌, ◌∙◌, ℕ, zero, suc, List, Some, inl, inr, arith, refl, sym, subst, true, length, drop, get_or, vec_len, add-one, drop-cons, drop_of_length-le}
 use Rattle.std.proofs.lemmas.Grind.{common_steps}
 use Rattle.std.proofs.Math.Nat.{mul-le-mul_left}
-use Rattle.mdmp_source.specs.Range.{IsInside, is_inside}
+use Rattle.mdmp_source.specs.Range.{IsInside}
 use Rattle.mdmp_source.specs.Source.{SourceState}
 use Rattle.mdmp_lister.specs.declared.limits.Limits.{Limits}
 use Rattle.mdmp_wire.specs.declared.entry.Entry.{Entry}
@@ -21,7 +21,7 @@ use Rattle.mdmp_lister.specs.Meter.{Books, Spends}
 use Rattle.mdmp_lister.specs.Paying.{IsBounded, IsPaid, cost_of, entry_cost, owed_of}
 use Rattle.mdmp_lister.specs.Shapes.{FitsIn, head_size, kind_of, record_size}
 use Rattle.mdmp_lister.specs.Stages.{fault_stage, stage_by}
-use Rattle.mdmp_lister.specs.Walk.{IsNewWalk, IsSound, SameEntry, SameRoom, stage_work, work_of}
+use Rattle.mdmp_lister.specs.Walk.{IsNewWalk, IsSound, SameEntry, SameRoom, stage_work}
 
 -- ---- the stage behind a fault
 
@@ -136,7 +136,7 @@ module _ {S A : Type 0} (old new : Walk S A) where
   pub bounded_then : IsBounded old → ((allowed before : ℕ) → IsPaid allowed before old → IsPaid allowed before new) → SameRoom old new → new.meter.source.size ≡ old.meter.source.size → IsBounded new
   bounded_then bounded pays same size =
       let was : 32 + 12 * vec_len new.entries + heads_ahead new.choice new.meter.source.size new.entries.items + cost_of new.choice new.meter.source.size new.entries.items
-          ≡ 32 + 12 * vec_len old.entries + heads_ahead old.choice old.meter.source.size old.entries.items + cost_of old.choice old.meter.source.size old.entries.items =
+      ≡ 32 + 12 * vec_len old.entries + heads_ahead old.choice old.meter.source.size old.entries.items + cost_of old.choice old.meter.source.size old.entries.items =
       rw (same.entries, same.choice, size) refl in
       subst (λ allowed. IsPaid allowed 0 new) (sym was) (pays _ 0 bounded)
 

@@ -5,6 +5,7 @@ use Rattle.mdmp_lister.specs.declared.item.Item.{Item}
 use Rattle.mdmp_lister.specs.declared.sink.RunFault.{RunFault}
 use Rattle.mdmp_lister.specs.declared.sink.RunFault.TheVariants as run
 use Rattle.mdmp_lister.specs.declared.sink.Stopped.{Stopped}
+use Rattle.mdmp_lister.specs.Classes.{IsClassed}
 use Rattle.mdmp_lister.specs.Lister.{current_after, passed_after}
 use Rattle.mdmp_lister.specs.Listing.{Run, nothing, only_fault}
 use Rattle.mdmp_lister.specs.Reading.{IsOfSource}
@@ -35,6 +36,11 @@ PassesAll xs (Err fault) old new = new ≡ passed_behind xs old
 abbrev pub current_behind : List Item → Entry → Entry
 current_behind [] e = e
 current_behind (x ∷ xs) e = current_behind xs (current_after x e)
+
+-- what these items name is classed, of each in the entry that it stands in, in a file of z bytes
+abbrev pub AllClassed : ℕ → Entry → List Item → Type 0
+AllClassed z e [] = Unit {0}
+AllClassed z e (x ∷ xs) = IsClassed z (current_after x e) x × AllClassed z (current_after x e) xs
 
 module _ {K X : Type 0} (step : K → X → Result (Unit {0}) Stopped → K → Type 0) where
   -- the sink took all of xs

@@ -1,5 +1,6 @@
 pub mod Addresses
 pub mod Bounds
+pub mod Classes
 pub mod Costs
 pub mod Counts
 pub mod Directory

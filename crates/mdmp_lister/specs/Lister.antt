@@ -14,6 +14,7 @@ use Rattle.mdmp_lister.specs.declared.item.Item.{Item}
 use Rattle.mdmp_lister.specs.declared.item.Item.TheVariants.{Stream}
 use Rattle.mdmp_map.specs.declared.range.Range.{Range}
 use Rattle.mdmp_lister.specs.declared.limits.Limits.{Limits}
+use Rattle.mdmp_lister.specs.Classes.{IsClassed}
 use Rattle.mdmp_lister.specs.Costs.{answer_cost, head_behind}
 use Rattle.mdmp_lister.specs.Counts.{range_count}
 use Rattle.mdmp_lister.specs.Directory.{IsDirectory}
@@ -148,6 +149,8 @@ pub record Leaves (old : ListerState) (result : Result (Option Item) ListFault) 
   pub stop : new.stop ≡ stop_after result
   pub passed : Passes result old.passed new.passed
   pub current : IsCurrent result old.current new.current
+  -- what the item names is classed by the file's size
+  pub classed : IfOk result (λ given. IfSome given (IsClassed old.source.size new.current))
   pub ranges : new.ranges ≡ old.ranges ++ ranges_answered result
   pub falls : IfOk result (λ given. IfSome given (λ item. new.work < old.work))
   -- an answer that is given again changes nothing

@@ -6,6 +6,8 @@ use Rattle.mdmp_lister.specs.declared.item.Item.{Item}
 use Rattle.mdmp_lister.specs.declared.item.Item.TheVariants as items
 use Rattle.mdmp_lister.specs.declared.step.Step.{Step}
 use Rattle.mdmp_lister.specs.declared.step.Step.TheVariants as step
+use Rattle.mdmp_lister.specs.declared.kind.Kind.{Kind}
+use Rattle.mdmp_lister.specs.Classes.{IsExceptionClassed, IsRangeClassed, IsThreadClassed}
 use Rattle.mdmp_lister.specs.Ranges.{IsRangeIn}
 use Rattle.mdmp_lister.specs.Items.{module_item, system_item, unloaded_item}
 use Rattle.mdmp_lister.specs.Reading.{IsHeld, name_read}
@@ -21,13 +23,23 @@ step_item z buffer (step.System e k fields name) = items.System (system_item e k
 step_item z buffer (step.MemoryInfo x) = items.MemoryInfo x
 step_item z buffer (step.Range x) = items.Range x
 
--- its name fits in `room` bytes, and a range that is said to lie inside the file of z bytes does
-abbrev pub IsStepHeld : ℕ → ℕ → Step → Type 0
-IsStepHeld z room (step.Module e k fields name) = IsHeld room name
-IsStepHeld z room (step.Unloaded e k fields name) = IsHeld room name
-IsStepHeld z room (step.System e k fields name) = IsHeld room name
-IsStepHeld z room (step.Range r) = IsRangeIn z r
-IsStepHeld z room x = Unit {0}
+-- its name fits in `room` bytes
+abbrev pub IsNameHeld : ℕ → Step → Type 0
+IsNameHeld room (step.Module e k fields name) = IsHeld room name
+IsNameHeld room (step.Unloaded e k fields name) = IsHeld room name
+IsNameHeld room (step.System e k fields name) = IsHeld room name
+IsNameHeld room x = Unit {0}
+
+-- its parts have the classes of their locations in a file of z bytes, in a stream of this kind, and a range that is said
+-- to lie inside does
+abbrev pub IsStepClassed : ℕ → Option Kind → Step → Type 0
+IsStepClassed z kind (step.Thread t) = IsThreadClassed z t
+IsStepClassed z kind (step.Exception x) = IsExceptionClassed z x
+IsStepClassed z kind (step.Range r) = IsRangeIn z r × IsRangeClassed z kind r
+IsStepClassed z kind x = Unit {0}
+
+abbrev pub IsStepHeld : ℕ → ℕ → Option Kind → Step → Type 0
+IsStepHeld z room kind s = IsNameHeld room s × IsStepClassed z kind s
 
 -- the number of the first entry behind the current one, once a step was given
 abbrev pub passed_by : Step → ℕ → ℕ

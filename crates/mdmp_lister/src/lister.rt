@@ -76,7 +76,7 @@ impl<S: Store + Drop, A: Allocator + Copy> Model for Lister<S, A> {
 impl<S: Store + Drop, A: Allocator + Copy> Lister<S, A> {
     ghost use Rattle.mdmp_lister.specs.contracts.lister.Lister.{the_row};
     ghost use Rattle.mdmp_lister.specs.declared.item.Item.{Item};
-    ghost use Rattle.mdmp_lister.specs.Handing.{GivesAll, current_behind, Handed, PassesAll};
+    ghost use Rattle.mdmp_lister.specs.Handing.{AllClassed, GivesAll, current_behind, Handed, PassesAll};
     ghost use Rattle.mdmp_lister.specs.Listing.{Run};
     ghost use Rattle.mdmp_lister.specs.Lister.{Gives, IsNewLister, IsSameLister, Leaves, is_for_good, listing_behind};
 
@@ -171,9 +171,10 @@ impl<S: Store + Drop, A: Allocator + Copy> Lister<S, A> {
         ensures runs { (xs : List Item) × (Handed K.step sink.old xs result sink.new
             × (PassesAll xs result self.old.passed self.new.passed
             × ((self.new.current ≡ current_behind xs self.old.current)
+            × (AllClassed self.old.source.size self.old.current xs
             × ((self.new.ranges ≡ self.old.ranges ++ ranges_of xs)
             × (((left : _) → self.old.left ≡ Some left → (rest : Run) × ((self.new.left ≡ Some rest) × GivesAll left xs result rest))
-            × FetchesAtMost (self.old.head + items_cost self.old.source.size xs + end_cost self.old.limit (current_behind xs self.old.current) result) self.old.source self.new.source))))) }
+            × FetchesAtMost (self.old.head + items_cost self.old.source.size xs + end_cost self.old.limit (current_behind xs self.old.current) result) self.old.source self.new.source)))))) }
         ensures stop { self.new.stop ≡ stop_after_run result }
         ensures repeats { (stop : _) → self.old.stop ≡ Some stop
             → (self.new ≡ self.old) × ((stop_after_run result ≡ Some stop) × (sink.new ≡ sink.old)) }
@@ -182,7 +183,7 @@ impl<S: Store + Drop, A: Allocator + Copy> Lister<S, A> {
         ensures same { IsSameLister self.old self.new }
         ensures told { self.old.stop ≡ None
             → IfErr result (λ r. (fault : _) → r ≡ RunFault.At fault
-                → IsToldIn self.new.current fault self.old.source self.new.source × (fault.entry + 1 ≡ self.new.passed)) }
+            → IsToldIn self.new.current fault self.old.source self.new.source × (fault.entry + 1 ≡ self.new.passed)) }
         ensures good { (file : List ℕ) → IsGood self.old.source.store file
             → IfErr result (λ r. (fault : _) → r ≡ RunFault.At fault → IsOfSource fault.kind → ⊥) }
     {

@@ -17,7 +17,7 @@ use crate::item::{ExceptionItem, MemoryInfoItem, RangeItem, ThreadItem};
 use crate::kind::Kind;
 use crate::meter::Meter;
 use crate::step::Step;
-use mdmp_source::{Store};
+use mdmp_source::Store;
 use mdmp_wire::{ModuleRecord, Record, SystemRecord, UnloadedRecord};
 
 /// The item of a module, or the fault of its name.
@@ -36,7 +36,7 @@ fn read_module<S: Store>(
     requires small { length buffer.old < 2 ^ 32 }
     ensures item { (file : List ℕ) → meter.old.source.store.content ≡ Some file → (stream : ℕ)
         → Answers (item_at file (length buffer.new) entry index stream at Kind.Modules) (step_item meter.old.source.size buffer.new) result }
-    ensures held { IfOk result (IsStepHeld meter.old.source.size (length buffer.new)) }
+    ensures held { IfOk result (IsStepHeld meter.old.source.size (length buffer.new) (Some Kind.Modules)) }
     ensures ranges { IfOk result (λ step. count_told step ≡ 0) }
     ensures passed { IfOk result (λ step. (next : ℕ) → passed_by step next ≡ next) }
     ensures stays { IfOk result (λ step. (e : Entry) → current_by step e ≡ e) }
@@ -76,7 +76,7 @@ fn read_unloaded<S: Store>(
     requires small { length buffer.old < 2 ^ 32 }
     ensures item { (file : List ℕ) → meter.old.source.store.content ≡ Some file → (stream : ℕ)
         → Answers (item_at file (length buffer.new) entry index stream at Kind.Unloaded) (step_item meter.old.source.size buffer.new) result }
-    ensures held { IfOk result (IsStepHeld meter.old.source.size (length buffer.new)) }
+    ensures held { IfOk result (IsStepHeld meter.old.source.size (length buffer.new) (Some Kind.Unloaded)) }
     ensures ranges { IfOk result (λ step. count_told step ≡ 0) }
     ensures passed { IfOk result (λ step. (next : ℕ) → passed_by step next ≡ next) }
     ensures stays { IfOk result (λ step. (e : Entry) → current_by step e ≡ e) }
@@ -116,7 +116,7 @@ fn read_system<S: Store>(
     requires small { length buffer.old < 2 ^ 32 }
     ensures item { (file : List ℕ) → meter.old.source.store.content ≡ Some file → (stream : ℕ)
         → Answers (item_at file (length buffer.new) entry index stream at Kind.System) (step_item meter.old.source.size buffer.new) result }
-    ensures held { IfOk result (IsStepHeld meter.old.source.size (length buffer.new)) }
+    ensures held { IfOk result (IsStepHeld meter.old.source.size (length buffer.new) (Some Kind.System)) }
     ensures ranges { IfOk result (λ step. count_told step ≡ 0) }
     ensures passed { IfOk result (λ step. (next : ℕ) → passed_by step next ≡ next) }
     ensures stays { IfOk result (λ step. (e : Entry) → current_by step e ≡ e) }
@@ -160,7 +160,7 @@ pub(crate) fn read_item<S: Store>(
     ensures item { (file : List ℕ) → meter.old.source.store.content ≡ Some file → (stream : ℕ)
         → (kind ≡ Kind.Memory64 → offset ≡ range_offset file stream index)
         → Answers (item_at file (length buffer.new) entry index stream at kind) (step_item meter.old.source.size buffer.new) result }
-    ensures held { IfOk result (IsStepHeld meter.old.source.size (length buffer.new)) }
+    ensures held { IfOk result (IsStepHeld meter.old.source.size (length buffer.new) (Some kind)) }
     ensures ranges { IfOk result (λ step. count_told step ≡ ranges_by kind 1) }
     ensures passed { IfOk result (λ step. (next : ℕ) → passed_by step next ≡ next) }
     ensures stays { IfOk result (λ step. (e : Entry) → current_by step e ≡ e) }

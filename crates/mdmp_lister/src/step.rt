@@ -3,7 +3,7 @@ ghost use Rattle.std.specs.Prelude.{◌≡◌, length};
 ghost use Rattle.mdmp_lister.specs.Items.{plain};
 ghost use Rattle.mdmp_lister.specs.Names.{plain_name};
 ghost use Rattle.mdmp_lister.specs.Reading.{IsHeld, name_read};
-ghost use Rattle.mdmp_lister.specs.Steps.{IsStepHeld, step_item};
+ghost use Rattle.mdmp_lister.specs.Steps.{IsNameHeld, step_item};
 
 use crate::fetching::NameRead;
 use crate::item::{
@@ -55,7 +55,7 @@ fn lent_name(buffer: &[u8], name: NameRead) -> Name<'_>
 
 /// The item, its name lent from the buffer, in a file of `size` bytes.
 pub(crate) fn lent_item(step: Step, buffer: &[u8], size: u64) -> Item<'_>
-    requires { IsStepHeld size (length buffer.now) step }
+    requires { IsNameHeld (length buffer.now) step }
     ensures { plain result ≡ step_item size buffer.now step }
 {
     match step {

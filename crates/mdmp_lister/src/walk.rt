@@ -7,7 +7,7 @@ ghost use Rattle.mdmp_source.specs.declared.fault.SourceFault.{SourceFault};
 ghost use Rattle.mdmp_lister.specs.Opening.{IsHandedBack, IsDirectoryRefusal, IsOpenRefusal, IsUnread, IsUnreadFor, directory_refusal};
 ghost use Rattle.mdmp_lister.specs.Reading.{IsOfSource, IsToldIn};
 ghost use Rattle.mdmp_lister.specs.Stages.{IsStageAfter, ends, fault_stage, stop_after, stop_given, stop_of};
-ghost use Rattle.mdmp_lister.specs.Steps.{CurrentAfter, IsStepHeld, current_by, passed_by, step_item};
+ghost use Rattle.mdmp_lister.specs.Steps.{CurrentAfter, IsNameHeld, IsStepHeld, current_by, passed_by, step_item};
 ghost use Rattle.mdmp_lister.specs.Counts.{range_count};
 ghost use Rattle.mdmp_lister.specs.Owing.{HasRoom, count_answered, ranges_by, count_given, count_told};
 ghost use Rattle.mdmp_lister.specs.Costs.{given_spent, head_left, head_told, step_spent};
@@ -16,6 +16,7 @@ ghost use Rattle.mdmp_lister.specs.Meter.{Books};
 ghost use Rattle.mdmp_lister.specs.Paying.{IsPaid};
 ghost use Rattle.mdmp_lister.specs.Listing.{list_fault, with_item};
 ghost use Rattle.mdmp_lister.specs.Items.{plain};
+ghost use Rattle.mdmp_lister.specs.Shapes.{kind_of};
 
 use crate::choice::Choice;
 use crate::counting::count_ranges;
@@ -144,7 +145,7 @@ impl<S: Store + Drop, A: Allocator + Copy> Walk<S, A> {
         ensures paid { (allowed before : ℕ) → IsPaid allowed before self.old → IsPaid allowed before self.new }
         ensures listing { (file : List ℕ) → self.old.meter.source.store.content ≡ Some file
             → Advances self.old.meter.source.size self.new.name.items (left_of self.old file) result (left_of self.new file) }
-        ensures held { IfOk result (λ given. IfSome given (IsStepHeld self.old.meter.source.size (vec_len self.new.name))) }
+        ensures held { IfOk result (λ given. IfSome given (IsStepHeld self.old.meter.source.size (vec_len self.new.name) (kind_of self.new.current.stream_type))) }
         ensures stage { stop_of self.new.stage ≡ stop_after result }
         ensures failed { IfErr result (λ fault. self.new.stage ≡ fault_stage fault) }
         ensures passed { PassesTo result self.old.next self.new.next }
@@ -169,7 +170,7 @@ impl<S: Store + Drop, A: Allocator + Copy> Walk<S, A> {
 
     /// The item that a step tells, its name lent.
     pub(crate) fn item(&self, step: Step) -> Item<'_>
-        requires { IsStepHeld self.now.meter.source.size (vec_len self.now.name) step }
+        requires { IsNameHeld (vec_len self.now.name) step }
         ensures { plain result ≡ step_item self.now.meter.source.size self.now.name.items step }
     {
         lent_item(step, &self.name, self.meter.size())
@@ -212,7 +213,7 @@ impl<S: Store + Drop, A: Allocator + Copy> Walk<S, A> {
         ensures paid { (allowed before : ℕ) → IsPaid allowed before self.old → IsPaid allowed before self.new }
         ensures listing { (file : List ℕ) → self.old.meter.source.store.content ≡ Some file
             → Advances self.old.meter.source.size self.new.name.items (left_of self.old file) result (left_of self.new file) }
-        ensures held { IfOk result (λ given. IfSome given (IsStepHeld self.old.meter.source.size (vec_len self.new.name))) }
+        ensures held { IfOk result (λ given. IfSome given (IsStepHeld self.old.meter.source.size (vec_len self.new.name) (kind_of self.new.current.stream_type))) }
         ensures stage { stop_of self.new.stage ≡ stop_after result }
         ensures failed { IfErr result (λ fault. self.new.stage ≡ fault_stage fault) }
         ensures passed { PassesTo result self.old.next self.new.next }
@@ -307,7 +308,7 @@ impl<S: Store + Drop, A: Allocator + Copy> Walk<S, A> {
             (λ step. current_of self.old file ≡ with_item (step_item self.old.meter.source.size self.new.name.items step) (current_of self.new file))
             (λ fault. FaultStays (current_of self.old file) fault (current_of self.new file)) }
         ensures records { IfOk result (λ _. IsListing self.new.stage) }
-        ensures held { IfOk result (IsStepHeld self.old.meter.source.size (vec_len self.new.name)) }
+        ensures held { IfOk result (IsStepHeld self.old.meter.source.size (vec_len self.new.name) (kind_of self.new.current.stream_type)) }
         ensures passed { IfOk result (λ step. passed_by step self.old.next ≡ self.old.next) }
         ensures stays { IfOk result (λ step. current_by step self.old.current ≡ self.old.current) }
         ensures stage { IsStageAfter result self.new.stage }
@@ -318,13 +319,7 @@ impl<S: Store + Drop, A: Allocator + Copy> Walk<S, A> {
         ensures good { (file : List ℕ) → IsGood self.old.meter.source.store file → IfErr result (λ fault. IsOfSource fault.kind → ⊥) }
     {
         let number = (self.next - 1) as u32;
-        let at = record_at(
-            self.current.location,
-            kind,
-            shape,
-            index,
-            self.meter.size(),
-        );
+        let at = record_at(self.current.location, kind, shape, index, self.meter.size());
         match read_item(
             &mut self.meter,
             &mut self.window,
@@ -359,7 +354,7 @@ impl<S: Store + Drop, A: Allocator + Copy> Walk<S, A> {
         ensures name { self.new.name ≡ self.old.name }
         ensures listing { (file : List ℕ) → self.old.meter.source.store.content ≡ Some file
             → Advances self.old.meter.source.size self.new.name.items (rest_of self.old file) (Ok result) (left_of self.new file) }
-        ensures held { IfSome result (IsStepHeld self.old.meter.source.size (vec_len self.new.name)) }
+        ensures held { IfSome result (IsStepHeld self.old.meter.source.size (vec_len self.new.name) (kind_of self.new.current.stream_type)) }
         ensures begins { IfSome result (λ step. head_left self.new.meter.source.size self.new.current self.new.stage ≡ head_told self.old.meter.source.size step) }
         ensures passed { IfSome result (λ step. self.new.next ≡ passed_by step self.old.next) }
         ensures stage { stop_of self.new.stage ≡ stop_given result }

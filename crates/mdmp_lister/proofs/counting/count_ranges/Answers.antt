@@ -109,6 +109,6 @@ returns-clause-books g c =
     Books-within _ _ c.args.meter.now c.loop-entry.meter (heads-most c.args.choice.now c.args.meter.now.source.size c.loop-entry.entry-index c.args.entries.now) c.loop-entry.invariant.books
 
 pub returns-in_err-ranges_of_entry-clause-once : goal.returns-in_err-ranges_of_entry-clause-once
-returns-in_err-ranges_of_entry-clause-once g c = 
+returns-in_err-ranges_of_entry-clause-once g c =
     let is : c.from_residual.result ≡ Err c.in_err-ranges_of_entry.field-0.0 = search rules in
     rw is (once_later c.in_err-ranges_of_entry.field-0.0 c.args.meter.now.source c.loop-entry.meter.source c.ranges_of_entry.new.meter.source c.loop-entry.invariant.steady c.in_err-ranges_of_entry.ensures.once)

@@ -6,7 +6,7 @@ use Rattle.mdmp_lister.specs.Handing.{give_all}
 use Rattle.mdmp_lister.specs.Lister.{ListerState, tail}
 use Rattle.mdmp_lister.specs.Listing.{only_fault}
 use Rattle.mdmp_lister.proofs.Advancing.{current_after-plain, passed_after-plain}
-use Rattle.mdmp_lister.proofs.Handing.{HasCost-fault, HasCost-more, HasCost-most, HasCost-none, current_behind-more, give_all-next, passed_behind-more, same_lister-then, Taken-more, TakenToStop-end}
+use Rattle.mdmp_lister.proofs.Handing.{AllClassed-more, HasCost-fault, HasCost-more, HasCost-most, HasCost-none, current_behind-more, give_all-next, passed_behind-more, same_lister-then, Taken-more, TakenToStop-end}
 use Rattle.mdmp_lister.proofs.Mapping.{ranges_of-more}
 use Rattle.mdmp_lister.proofs.lister.Lister.list_into.Goals as goal
 
@@ -16,7 +16,7 @@ loop-item-init g c = record {
   going = λ none. none;
   stays = λ stop same. (refl, refl);
   rests = omega arith;
-  given = ([], (refl, (refl, (refl, (sym (append-nil c.args.self.now.ranges), (λ left known. (left, (known, refl)), HasCost-none c.args.self.now.head c.args.self.now.source))))));
+  given = ([], (refl, (refl, (refl, (tt, (sym (append-nil c.args.self.now.ranges), (λ left known. (left, (known, refl)), HasCost-none c.args.self.now.head c.args.self.now.source)))))));
 }
 
 pub returns-in-Ok-None-clause-same : goal.returns-in-Ok-None-clause-same
@@ -32,7 +32,11 @@ pub returns-in-Err-take-clause-runs : goal.returns-in-Err-take-clause-runs
 returns-in-Err-take-clause-runs g c =
     let run = c.loop-item.invariant.given in
     let holds = c.next.follows.holds-at-none in
-    let item = plain c.in-Ok-Some.item in (
+    let item = plain c.in-Ok-Some.item in
+    let all_classed =
+    AllClassed-more _ run.0 c.in-Ok-Some.item _ _ c.next.follows.lender-at-none.current run.1.1.1.1.0 run.1.1.1.0 (rw (c.in-Ok-Some.is, c.in-Ok-Some.field-0-is) at holds.current)
+    (rw (run.1.1.1.1.1.1.1.fetches.same_size, c.in-Ok-Some.is, c.in-Ok-Some.field-0-is) at holds.classed)
+    in (
       run.0 ++ item ∷ [],
       (
         TakenToStop-end g.K.Sink.step item run.0 c.args.sink.now c.loop-item.sink c.take.new.self run.1.0 c.in-Err-take.ensures,
@@ -41,13 +45,16 @@ returns-in-Err-take-clause-runs g c =
           (
             current_behind-more run.0 item _ _ _ run.1.1.1.0 (rw (c.in-Ok-Some.is, c.in-Ok-Some.field-0-is) at holds.current ∙ sym (current_after-plain c.in-Ok-Some.item _)),
             (
-              ranges_of-more _ _ _ run.0 c.in-Ok-Some.item run.1.1.1.1.0 (rw (c.in-Ok-Some.is, c.in-Ok-Some.field-0-is) at holds.ranges),
+              all_classed,
               (
-                λ left known.
-                    let rest = run.1.1.1.1.1.0 left known in
-                    let first : slice_get rest.0.items 0 ≡ Some item = rw c.in-Ok-Some.field-0-is at (c.in-Ok-Some.ensures.gives rest.0 rest.1.0) in
-                    (tail rest.0, (rw (c.in-Ok-Some.is, c.in-Ok-Some.field-0-is, rest.1.0) at holds.left, give_all-next left run.0 item rest.0 rest.1.1 first)),
-                HasCost-most _ _ _ _ _ (HasCost-more _ _ _ _ run.0 _ run.1.1.1.1.1.1 _ c.in-Ok-Some.item (rw (c.in-Ok-Some.is, c.in-Ok-Some.field-0-is) at holds.fetches) (rw (c.in-Ok-Some.is, c.in-Ok-Some.field-0-is) at holds.head)),
+                ranges_of-more _ _ _ run.0 c.in-Ok-Some.item run.1.1.1.1.1.0 (rw (c.in-Ok-Some.is, c.in-Ok-Some.field-0-is) at holds.ranges),
+                (
+                  λ left known.
+                      let rest = run.1.1.1.1.1.1.0 left known in
+                      let first : slice_get rest.0.items 0 ≡ Some item = rw c.in-Ok-Some.field-0-is at (c.in-Ok-Some.ensures.gives rest.0 rest.1.0) in
+                      (tail rest.0, (rw (c.in-Ok-Some.is, c.in-Ok-Some.field-0-is, rest.1.0) at holds.left, give_all-next left run.0 item rest.0 rest.1.1 first)),
+                  HasCost-most _ _ _ _ _ (HasCost-more _ _ _ _ run.0 _ run.1.1.1.1.1.1.1 _ c.in-Ok-Some.item (rw (c.in-Ok-Some.is, c.in-Ok-Some.field-0-is) at holds.fetches) (rw (c.in-Ok-Some.is, c.in-Ok-Some.field-0-is) at holds.head)),
+                ),
               ),
             ),
           ),
@@ -61,6 +68,10 @@ loop-item-preserved g c =
     let run = so_far.given in
     let holds = c.next.follows.holds-at-none in
     let item = plain c.in-Ok-Some.item in
+    let all_classed =
+    AllClassed-more _ run.0 c.in-Ok-Some.item _ _ c.next.follows.lender-at-none.current run.1.1.1.1.0 run.1.1.1.0 (rw (c.in-Ok-Some.is, c.in-Ok-Some.field-0-is) at holds.current)
+    (rw (run.1.1.1.1.1.1.1.fetches.same_size, c.in-Ok-Some.is, c.in-Ok-Some.field-0-is) at holds.classed)
+    in
     record {
       same = same_lister-then _ _ _ so_far.same holds.same;
       going = λ unstopped. rw (c.in-Ok-Some.is, c.in-Ok-Some.field-0-is) at holds.stop;
@@ -78,13 +89,16 @@ loop-item-preserved g c =
             (
               current_behind-more run.0 item _ _ _ run.1.1.1.0 (rw (c.in-Ok-Some.is, c.in-Ok-Some.field-0-is) at holds.current ∙ sym (current_after-plain c.in-Ok-Some.item _)),
               (
-                ranges_of-more _ _ _ run.0 c.in-Ok-Some.item run.1.1.1.1.0 (rw (c.in-Ok-Some.is, c.in-Ok-Some.field-0-is) at holds.ranges),
+                all_classed,
                 (
-                  λ left known.
-                      let rest = run.1.1.1.1.1.0 left known in
-                      let first : slice_get rest.0.items 0 ≡ Some item = rw c.in-Ok-Some.field-0-is at (c.in-Ok-Some.ensures.gives rest.0 rest.1.0) in
-                      (tail rest.0, (rw (c.in-Ok-Some.is, c.in-Ok-Some.field-0-is, rest.1.0) at holds.left, give_all-next left run.0 item rest.0 rest.1.1 first)),
-                  HasCost-more _ _ _ _ run.0 _ run.1.1.1.1.1.1 _ c.in-Ok-Some.item (rw (c.in-Ok-Some.is, c.in-Ok-Some.field-0-is) at holds.fetches) (rw (c.in-Ok-Some.is, c.in-Ok-Some.field-0-is) at holds.head),
+                  ranges_of-more _ _ _ run.0 c.in-Ok-Some.item run.1.1.1.1.1.0 (rw (c.in-Ok-Some.is, c.in-Ok-Some.field-0-is) at holds.ranges),
+                  (
+                    λ left known.
+                        let rest = run.1.1.1.1.1.1.0 left known in
+                        let first : slice_get rest.0.items 0 ≡ Some item = rw c.in-Ok-Some.field-0-is at (c.in-Ok-Some.ensures.gives rest.0 rest.1.0) in
+                        (tail rest.0, (rw (c.in-Ok-Some.is, c.in-Ok-Some.field-0-is, rest.1.0) at holds.left, give_all-next left run.0 item rest.0 rest.1.1 first)),
+                    HasCost-more _ _ _ _ run.0 _ run.1.1.1.1.1.1.1 _ c.in-Ok-Some.item (rw (c.in-Ok-Some.is, c.in-Ok-Some.field-0-is) at holds.fetches) (rw (c.in-Ok-Some.is, c.in-Ok-Some.field-0-is) at holds.head),
+                  ),
                 ),
               ),
             ),
@@ -107,12 +121,15 @@ returns-in-Err-clause-runs g c =
           (
             (rw c.in-Err.is at holds.current) ∙ run.1.1.1.0,
             (
-              (rw c.in-Err.is at holds.ranges) ∙ append-nil _ ∙ run.1.1.1.1.0,
+              run.1.1.1.1.0,
               (
-                λ left known.
-                    let rest = run.1.1.1.1.1.0 left known in
-                    (only_fault f, (rw (c.in-Err.is, rest.1.0) at holds.left, ((rest.0, rest.1.1), (λ not. rest.1.1 ∙ ap (give_all run.0) (c.in-Err.ensures.gives rest.0 rest.1.0 not), refl)))),
-                HasCost-fault _ _ _ _ run.0 _ run.1.1.1.1.1.1 _ _ _ _ f so_far.same.limit run.1.1.1.0 (rw c.in-Err.is at holds.fetches),
+                (rw c.in-Err.is at holds.ranges) ∙ append-nil _ ∙ run.1.1.1.1.1.0,
+                (
+                  λ left known.
+                      let rest = run.1.1.1.1.1.1.0 left known in
+                      (only_fault f, (rw (c.in-Err.is, rest.1.0) at holds.left, ((rest.0, rest.1.1), (λ not. rest.1.1 ∙ ap (give_all run.0) (c.in-Err.ensures.gives rest.0 rest.1.0 not), refl)))),
+                  HasCost-fault _ _ _ _ run.0 _ run.1.1.1.1.1.1.1 _ _ _ _ f so_far.same.limit run.1.1.1.0 (rw c.in-Err.is at holds.fetches),
+                ),
               ),
             ),
           ),

@@ -7,9 +7,10 @@ use Rattle.mdmp_lister.specs.Reading.{IsOfSource}
 use Rattle.mdmp_lister.specs.Stages.{stop_after}
 use Rattle.mdmp_lister.specs.Walk.{left_of}
 use Rattle.mdmp_lister.proofs.Advancing.{becomes, option_map-then, of_run, passes, same_entries, same_rooms}
+use Rattle.mdmp_lister.proofs.Classes.{classed-given}
 use Rattle.mdmp_lister.proofs.Costs.{head_given-step, head_left-stopped, item_cost-step}
 use Rattle.mdmp_lister.proofs.Ending.{left_of-fault}
-use Rattle.mdmp_lister.proofs.Mapping.{kept, mapped_step, placed-held, ranges-given}
+use Rattle.mdmp_lister.proofs.Mapping.{kept, mapped_step, placed-classed, ranges-given}
 use Rattle.mdmp_lister.proofs.Paying.{bounded_then}
 use Rattle.mdmp_lister.proofs.lister.Lister.next.Goals as goal
 
@@ -35,6 +36,7 @@ returns-in-None g c =
           repeats = λ stop same. rw (c.advance.ensures.repeats stop same).0 refl;
           told = λ _. tt;
           entry = λ _. tt;
+          classed = tt;
           current = rw c.in-None.is at c.in_ok-advance.ensures.current;
           rests = c.advance.ensures.rests;
         },
@@ -52,6 +54,7 @@ returns-in-Some g c =
     let w = c.self.inside.walk in
     let n = c.advance.new.self in
     let size = c.advance.ensures.fetches.same_size in
+    let held = rw c.in-Some.is at c.in_ok-advance.ensures.held in
     let given : (file : List ℕ) → w.meter.source.store.content ≡ Some file → left_of w file ≡ with_item (plain c.item.result) (left_of n file) =
     λ file known. rw (c.item.ensures, size) (rw c.in-Some.is at (c.in_ok-advance.ensures.listing file known)) in
     rw (← c.self.view_is) (
@@ -60,7 +63,7 @@ returns-in-Some g c =
         λ _. tt,
         record {
           same = record { header_is = c.advance.ensures.same.header_is; choice = c.advance.ensures.same.choice; limit = c.advance.ensures.same.name; entries = same_entries w n c.advance.ensures.same; rooms = rw c.push_range.ensures (same_rooms w n c.self.inside.map.room c.advance.ensures.same) };
-          fetches = rw (item_cost-step w.meter.source.size n.meter.source.size n.name.items c.in-Some.step c.item.result (rw n.name.ok.0 at (rw c.in-Some.is at c.in_ok-advance.ensures.held)) c.item.ensures) (rw c.in-Some.is at c.in_ok-advance.ensures.fetches);
+          fetches = rw (item_cost-step n.meter.source.size n.name.items c.in-Some.step c.item.result (rw n.name.ok.0 at held.0) c.item.ensures) (rw c.in-Some.is at c.in_ok-advance.ensures.fetches);
           head = (rw c.in-Some.is at c.in_ok-advance.ensures.begins) ∙ sym (head_given-step w.meter.source.size n.meter.source.size n.name.items c.in-Some.step c.item.result c.item.ensures);
           left = option_map-then (left_of w) (left_of n) tail w.meter.source.store.content (λ file known. sym (ap tail (given file known))) n.meter.source.store.content c.advance.ensures.fetches.same_content;
           stop = rw c.in-Some.is at c.in_ok-advance.ensures.stage;
@@ -70,6 +73,7 @@ returns-in-Some g c =
           repeats = λ stop same. let a : stop_after c.advance.result ≡ Some stop = (c.advance.ensures.repeats stop same).1 in let b = c.in_ok-advance.was in let d = c.in-Some.is in let none : None ≡ Some stop = rw (b, d) at a in absurd (cc);
           told = λ _. tt;
           entry = λ _. tt;
+          classed = classed-given w.meter.source.size n.name.items n.current c.in-Some.step c.item.result (rw size at c.item.ensures) held.1;
           current = becomes n.meter.source.size n.name.items _ c.item.result w.current n.current c.item.ensures (rw c.in-Some.is at c.in_ok-advance.ensures.current);
           rests = c.advance.ensures.rests;
         },
@@ -105,6 +109,7 @@ returns-in_err-advance g c =
           repeats = λ stop same. rw (e.repeats stop same).0 refl;
           told = e.told;
           entry = e.number;
+          classed = tt;
           current = e.current;
           rests = e.rests;
         },
@@ -118,14 +123,14 @@ returns-in_err-advance g c =
     ))
 
 pub push_range-requires-clause-placed : goal.push_range-requires-clause-placed
-push_range-requires-clause-placed g c = placed-held _ _ c.in-Some.step (rw c.in-Some.is at c.in_ok-advance.ensures.held)
+push_range-requires-clause-placed g c = placed-classed _ _ c.in-Some.step (rw c.in-Some.is at c.in_ok-advance.ensures.held).1
 
 pub invariant_of-self-in-Some : goal.invariant_of-self-in-Some
 invariant_of-self-in-Some g c =
     let given = rw c.in-Some.is at c.in_ok-advance.ensures.held in
     let room = rw (c.free.ensures.value, c.in-Some.is) at c.in_ok-advance.ensures.room in
     rw c.push_range.ensures (mapped_step c.self.inside.walk c.advance.new.self c.self.inside.map _ c.in-Some.step c.self.invariant c.advance.ensures.sound c.advance.ensures.fetches.same_size room
-    (bounded_then c.self.inside.walk c.advance.new.self c.self.invariant.bounded c.advance.ensures.paid c.advance.ensures.same c.advance.ensures.fetches.same_size) given)
+    (bounded_then c.self.inside.walk c.advance.new.self c.self.invariant.bounded c.advance.ensures.paid c.advance.ensures.same c.advance.ensures.fetches.same_size) given.1)
 
 pub invariant_of-self : goal.invariant_of-self
 invariant_of-self g c =

@@ -1,4 +1,4 @@
-use Rattle.mdmp_lister.proofs.Advancing.{IsHandedBack-counted, IsNewLister-counted}
+use Rattle.mdmp_lister.proofs.Advancing.{IsHandedBack-counted}
 use Rattle.mdmp_lister.proofs.lister.Lister.open.Goals as goal
 
 pub returns-in-Err-count_ranges-clause-handed_back : goal.returns-in-Err-count_ranges-clause-handed_back

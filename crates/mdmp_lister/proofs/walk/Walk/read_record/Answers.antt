@@ -98,3 +98,10 @@ returns-in-Err-clause-fetches g c =
     (FetchesAtMost-within _ _ w.meter.source c.read_item.new.meter.source
     (fault_cost-told (vec_len w.name) w.current c.args.kind _ c.args.index c.in-Err.fault f reading.known c.told.ensures.kind c.told.ensures.of_file)
     (rw room at c.in-Err.ensures.fetches))
+
+pub returns-in-Ok-clause-held : goal.returns-in-Ok-clause-held
+returns-in-Ok-clause-held g c =
+    let w = c.args.self.now in
+    let reading : IsReading w.meter.source.size w.next w.current c.args.kind c.args.shape c.args.index c.args.offset = rw c.requires.stage at c.requires.sound.staged in
+    let room : length c.read_item.new.buffer ≡ vec_len w.name = c.in-Ok.ensures.length ∙ c.deref_mut-2.ensures.len in
+    rw reading.known (rw room at c.in-Ok.ensures.held)
