@@ -3,6 +3,7 @@ pub mod Blocks
 pub mod Count
 pub mod Extent
 pub mod Fault
+pub mod Files
 pub mod Output
 pub mod OutputLaws
 pub mod Patchy
@@ -10,3 +11,4 @@ pub mod Range
 pub mod Source
 pub mod SourceLaws
 pub mod Store
+pub mod TwoFaces

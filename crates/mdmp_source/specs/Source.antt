@@ -1,5 +1,5 @@
 -- What a source is, and what a fetch does to it.
-use Rattle.std.specs.Prelude.{◌≡◌, ◌≤◌, ◌+◌, ℕ, None, Option, Some, Result, Ok, Err, IfErr}
+use Rattle.std.specs.Prelude.{◌≡◌, ◌≤◌, ◌+◌, ℕ, None, Option, Some, Result, Ok, Err}
 use Rattle.mdmp_source.specs.Count.{raised, HasRisen}
 use Rattle.mdmp_source.specs.Store.{StoreState}
 use Rattle.mdmp_source.specs.Fault.{HasCause, fault_at}

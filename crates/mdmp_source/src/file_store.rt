@@ -1,13 +1,16 @@
 //! A file of the system.
 ghost use Rattle.std.specs.Prelude.{◌≤◌, length, IfOk};
+ghost use Rattle.mdmp_source.specs.Files.{ReadsAt};
 
 use crate::store::{Store, StoreFailed, Tally};
 use std::fs;
-use std::fs::OpenFile;
+use std::fs::{Metadata, OpenFile};
 use std::io::{Read, Seek, SeekFrom};
 use std::rt::Files;
 
 /// An open file of the system, whose size is taken once. No contract knows its bytes.
+///
+/// A call of `read_at` is one seek and one read, and fails where either does.
 #[derive(Drop)]
 pub struct FileStore<F> {
     file: F,
@@ -16,7 +19,8 @@ pub struct FileStore<F> {
 }
 
 impl<F: Read + Seek + OpenFile + Drop> FileStore<F> {
-    ghost use Rattle.std.specs.Prelude.{IfOk, None, false};
+    ghost use Rattle.std.specs.Prelude.{◌≡◌, IfOk, None, false};
+    ghost use Rattle.std.specs.Fs.{metadata_len};
     ghost use Rattle.mdmp_source.specs.Store.{IsNew};
 
     /// Opens the file at `path` for reading. Every refusal of the system is `StoreFailed`.
@@ -24,18 +28,28 @@ impl<F: Read + Seek + OpenFile + Drop> FileStore<F> {
         ensures { IfOk result (λ store. IsNew (⟦<FileStore<F> as Store>⟧.state store) None false) }
     {
         let file = fs::open(rt, path).map_err(|_| StoreFailed)?;
-        let size = file.metadata().map_err(|_| StoreFailed)?.len();
-        Ok(FileStore {
+        let metadata = file.metadata().map_err(|_| StoreFailed)?;
+        Ok(FileStore::of_size(file, &metadata))
+    }
+
+    /// A store over an open file of this metadata.
+    fn of_size(file: F, metadata: &Metadata) -> Self
+        ensures new { IsNew (⟦<FileStore<F> as Store>⟧.state result) None false }
+        ensures size { result.size ≡ metadata_len metadata.now }
+        ensures file { result.file ≡ file }
+    {
+        FileStore {
             file,
-            size,
+            size: metadata.len(),
             tally: Tally::new(),
-        })
+        }
     }
 }
 
 impl<F: Read + Seek> Store for FileStore<F> {
-    ghost use Rattle.std.specs.Prelude.{None, false};
-    ghost use Rattle.mdmp_source.specs.Store.{StoreState};
+    ghost use Rattle.std.specs.Prelude.{◌≡◌, ◌≤◌, IfOk, None, false, length};
+    ghost use Rattle.mdmp_source.specs.Files.{ReadsAt};
+    ghost use Rattle.mdmp_source.specs.Store.{StoreState, counted};
 
     ghost state = { λ s. record {
       content = None;
@@ -48,7 +62,14 @@ impl<F: Read + Seek> Store for FileStore<F> {
         self.size
     }
 
-    fn read_at(&mut self, at: u64, out: &mut [u8]) -> Result<usize, StoreFailed> {
+    fn read_at(&mut self, at: u64, out: &mut [u8]) -> Result<usize, StoreFailed>
+        ensures bound { IfOk result (λ k. k ≤ length out.new) }
+        ensures state { self.new ≡ record self.old {
+          file = self.new.file;
+          tally = counted self.old.tally result at (length out.new);
+        } }
+        ensures file { ReadsAt F.stream_position F.remaining self.old.file at result out.new self.new.file }
+    {
         let answer = read_from(&mut self.file, at, out);
         self.tally.count(&answer, at, out.len());
         answer
@@ -57,7 +78,8 @@ impl<F: Read + Seek> Store for FileStore<F> {
 
 /// Reads some of the bytes at `at` into the front of `out`.
 fn read_from<F: Read + Seek>(file: &mut F, at: u64, out: &mut [u8]) -> Result<usize, StoreFailed>
-    ensures { IfOk result (λ k. k ≤ length out.new) }
+    ensures bound { IfOk result (λ k. k ≤ length out.new) }
+    ensures file { ReadsAt F.stream_position F.remaining file.old at result out.new file.new }
 {
     file.seek(SeekFrom::Start(at)).map_err(|_| StoreFailed)?;
     file.read(out).map_err(|_| StoreFailed)

@@ -2,9 +2,9 @@
 //!
 //! A [`Store`] gives the bytes of a file, a few at a time, and a [`Source`] makes whole fetches of
 //! it and counts them. An [`Out`] takes the bytes of a text or a dump. The stores are
-//! [`MemoryStore`], [`FileStore`] and, for tests, [`PatchyStore`]; the outputs are [`WriteOut`] over
-//! any writer of std, [`BlockOut`], which gathers many small writes into blocks, and, for tests,
-//! [`PatchyOut`].
+//! [`MemoryStore`], [`FileStore`] and, for tests, [`PatchyStore`] and [`TwoFaces`]; the outputs are
+//! [`WriteOut`] over any writer of std, [`BlockOut`], which gathers many small writes into blocks,
+//! and, for tests, [`PatchyOut`].
 //!
 //! Beside them stand the tests of place that every layer above makes: [`inside`], and the class of
 //! a [`Location`].
@@ -27,6 +27,7 @@ mod patchy_store;
 mod range;
 mod source;
 mod store;
+mod two_faces;
 mod write_out;
 
 pub use crate::block_out::BlockOut;
@@ -40,4 +41,5 @@ pub use crate::patchy_store::PatchyStore;
 pub use crate::range::inside;
 pub use crate::source::Source;
 pub use crate::store::{Store, StoreFailed, Tally};
+pub use crate::two_faces::TwoFaces;
 pub use crate::write_out::WriteOut;

@@ -28,7 +28,6 @@ impl<'a> MemoryStore<'a> {
 
 impl Store for MemoryStore<'_> {
     ghost use Rattle.std.specs.Prelude.{Some, true, length};
-    ghost use Rattle.mdmp_source.specs.Store.{StoreState};
 
     ghost state = { λ s. record {
       content = Some s.bytes.now;

@@ -1,6 +1,6 @@
 //! An output in memory that takes few bytes a call, and may fail once: for tests.
 ghost use Rattle.std.specs.Prelude.{◌≡◌, ◌≤◌, [], IfOk, vec_len, vec_capacity};
-ghost use Rattle.mdmp_source.specs.Patchy.{PatchyState};
+ghost use Rattle.mdmp_source.specs.Patchy.{PatchyOutState};
 
 use crate::output::{Out, OutFailed, failures_after};
 use std::alloc::{AllocError, Allocator};
@@ -19,13 +19,14 @@ pub struct PatchyOut<A: Allocator> {
 }
 
 impl<A: Allocator> Model for PatchyOut<A> {
-    ghost Value = { PatchyState };
+    ghost Value = { PatchyOutState };
 
     ghost view = { λ o. record {
       taken = o.taken.items;
       room = o.room;
       cap = o.cap;
       fail_at = o.fail_at;
+      calls = o.calls;
       failures = o.failures;
     } };
 
@@ -40,7 +41,7 @@ impl<A: Allocator> PatchyOut<A> {
         cap: usize,
         fail_at: Option<u64>,
     ) -> Result<Self, AllocError>
-        ensures { IfOk result (λ out. out ≡ record { taken = []; room = room; cap = cap; fail_at = fail_at; failures = 0 }) }
+        ensures { IfOk result (λ out. out ≡ record { taken = []; room = room; cap = cap; fail_at = fail_at; calls = 0; failures = 0 }) }
     {
         Ok(PatchyOut {
             taken: Vec::with_capacity(alloc, room)?,
@@ -61,12 +62,25 @@ impl<A: Allocator> PatchyOut<A> {
 }
 
 impl<A: Allocator> Out for PatchyOut<A> {
-    ghost use Rattle.std.specs.Prelude.{Some};
+    ghost use Rattle.std.specs.Prelude.{◌≡◌, ◌++◌, ◌||◌, Some, IfOk, MatchResult, is_err, length, take};
+    ghost use Rattle.mdmp_source.specs.Count.{raised, raised_if};
     ghost use Rattle.mdmp_source.specs.Output.{OutState};
+    ghost use Rattle.mdmp_source.specs.Patchy.{is_failing_call, taken_count};
+    ghost use Rattle.mdmp_source.specs.Store.{is_empty_answer};
 
     ghost state = { λ o. record { taken = Some o.taken; failures = o.failures } };
 
-    fn write(&mut self, bytes: &[u8]) -> Result<usize, OutFailed> {
+    fn write(&mut self, bytes: &[u8]) -> Result<usize, OutFailed>
+        ensures fails { is_err result ≡ is_failing_call self.old.fail_at self.old.calls }
+        ensures count { IfOk result (λ k. k ≡ taken_count self.old (length bytes.now)) }
+        ensures took { MatchResult result (λ k. self.new.taken ≡ self.old.taken ++ take k bytes.now)
+            (λ _. self.new.taken ≡ self.old.taken) }
+        ensures others { self.new ≡ record self.old {
+          taken = self.new.taken;
+          calls = raised self.old.calls 1;
+          failures = raised_if (is_err result || is_empty_answer result (length bytes.now)) self.old.failures;
+        } }
+    {
         let call = self.calls;
         self.calls = call.saturating_add(1);
         let answer = if self

@@ -1,8 +1,10 @@
 //! A file in memory that gives few bytes a call, and may fail once: for tests.
 ghost use Rattle.std.specs.Prelude.{◌<◌, length};
+ghost use Rattle.mdmp_source.specs.Patchy.{PatchyStoreState};
 
 use crate::memory_store::copy_at;
 use crate::store::{Store, StoreFailed, Tally};
+use std::marker::Model;
 
 /// A file in memory whose call k, counted from 0, reads at most `caps[k % caps.len()]` bytes, and
 /// whose call `fail_at` alone fails. It is for tests of what stands above a store.
@@ -12,7 +14,19 @@ pub struct PatchyStore<'a> {
     caps: &'a [usize],
     fail_at: Option<u64>,
     tally: Tally,
-    ghost some_caps: { 0 < length caps.now },
+}
+
+impl<'a> Model for PatchyStore<'a> {
+    ghost Value = { PatchyStoreState };
+
+    ghost view = { λ s. record {
+      bytes = s.bytes.now;
+      caps = s.caps.now;
+      fail_at = s.fail_at;
+      counts = s.tally;
+    } };
+
+    ghost invariant = { λ s. 0 < length s.caps.now };
 }
 
 impl<'a> PatchyStore<'a> {
@@ -20,10 +34,12 @@ impl<'a> PatchyStore<'a> {
     ghost use Rattle.std.specs.List.{list_all};
     ghost use Rattle.mdmp_source.specs.Store.{IsNew};
 
-    /// A store of these bytes, which is good where no cap is 0 and no call fails.
+    /// A store of these bytes, which has had no call, and is good where no cap is 0 and no call
+    /// fails.
     pub fn new(bytes: &'a [u8], caps: &'a [usize], fail_at: Option<u64>) -> Self
         requires { 0 < length caps.now }
-        ensures { IsNew (⟦<PatchyStore<'a> as Store>⟧.state result) (Some bytes.now)
+        ensures patches { (result.caps ≡ caps.now) × (result.fail_at ≡ fail_at) }
+        ensures state { IsNew (⟦<PatchyStore<'a> as Store>⟧.state result) (Some bytes.now)
             (is_none fail_at && list_all (λ cap. nat_lt 0 cap) caps.now) }
     {
         PatchyStore {
@@ -36,22 +52,26 @@ impl<'a> PatchyStore<'a> {
 }
 
 impl Store for PatchyStore<'_> {
-    ghost use Rattle.std.specs.Prelude.{◌&&◌, Some, is_none, nat_lt, length};
-    ghost use Rattle.std.specs.List.{list_all};
-    ghost use Rattle.mdmp_source.specs.Store.{StoreState};
+    ghost use Rattle.std.specs.Prelude.{◌≡◌, ◌≤◌, ◌<◌, Some, IfOk, IsOk, IsTrue, is_err, length};
+    ghost use Rattle.mdmp_source.specs.Store.{GivesContent, GivesSome, counted};
+    ghost use Rattle.mdmp_source.specs.Patchy.{state_of, is_failing_call, given_count};
 
-    ghost state = { λ s. record {
-      content = Some s.bytes.now;
-      size = length s.bytes.now;
-      is_reliable = is_none s.fail_at && list_all (λ cap. nat_lt 0 cap) s.caps.now;
-      counts = s.tally;
-    } };
+    ghost state = { state_of };
 
     fn size(&self) -> u64 {
         self.bytes.len() as u64
     }
 
-    fn read_at(&mut self, at: u64, out: &mut [u8]) -> Result<usize, StoreFailed> {
+    fn read_at(&mut self, at: u64, out: &mut [u8]) -> Result<usize, StoreFailed>
+        ensures bound { IfOk result (λ k. k ≤ length out.new) }
+        ensures bytes { GivesContent (Some self.old.bytes) at result out.new }
+        ensures state { self.new ≡ record self.old { counts = counted self.old.counts result at (length out.new) } }
+        ensures never_fails { IsTrue (state_of self.old).is_reliable → IsOk result }
+        ensures gives { IsTrue (state_of self.old).is_reliable → 0 < length out.new → GivesSome (Some self.old.bytes) at result }
+        // What this store says beside any other.
+        ensures fails { is_err result ≡ is_failing_call self.old.fail_at self.old.counts.calls }
+        ensures count { IfOk result (λ k. k ≡ given_count self.old at (length out.new)) }
+    {
         let call = self.tally.calls;
         let answer = if self
             .fail_at

@@ -1,8 +1,8 @@
 //! Whole fetches from a store, counted.
-ghost use Rattle.std.specs.Prelude.{◌≡◌, ◌≤◌, ◌<◌, ◌+◌, ◌^◌, None, Some, List, ℕ, length, IfSome, IfErr, IsSome, IsOk, IsTrue, OnOk, OnErr};
+ghost use Rattle.std.specs.Prelude.{◌≡◌, ◌≤◌, ◌<◌, ◌+◌, ◌^◌, None, List, ℕ, length, IfSome, IfErr, IsOk, IsTrue, OnOk};
 ghost use Rattle.mdmp_source.specs.Count.{raised, HasRisen};
 ghost use Rattle.mdmp_source.specs.Range.{IsInside, IsObtained, bytes_at};
-ghost use Rattle.mdmp_source.specs.Store.{StoreState, IsSizeOf, IsGood};
+ghost use Rattle.mdmp_source.specs.Store.{IsSizeOf, IsGood};
 ghost use Rattle.mdmp_source.specs.Source.{SourceState, FailsOnce, FetchesAtMost, IsTold, fault_of};
 ghost use Rattle.mdmp_source.specs.Fault.{fault_at, HasCause};
 

@@ -1,5 +1,5 @@
 //! Where the bytes of a file come from.
-ghost use Rattle.std.specs.Prelude.{◌≡◌, ◌≢◌, ◌≤◌, ◌<◌, ℕ, List, Option, Ok, length, IfOk, IsOk, IsTrue};
+ghost use Rattle.std.specs.Prelude.{◌≡◌, ◌≤◌, ◌<◌, Ok, length, IfOk, IsOk, IsTrue};
 
 /// A store refused a call.
 #[derive(Clone, Copy, Debug, PartialEq, Eq)]

@@ -1,6 +1,7 @@
 //! Tests of `mdmp_lister`.
 mod addresses;
 mod calls;
+mod changes;
 mod choices;
 mod counts;
 mod faults;

@@ -3,6 +3,7 @@ mod blocks;
 mod outputs;
 mod places;
 mod stores;
+mod test_stores;
 
 use mdmp_source::{Out, OutFailed, PatchyOut, write_all};
 use std::alloc::{AllocError, Global};

@@ -165,3 +165,14 @@ fn most_ranges_are_not_too_many(rt: HostRuntime) -> Result<(), Fail> {
     assert_eq!(rt; source.fetched(), 32 + 16 * 16384);
     Ok(())
 }
+
+#[test]
+fn directory_of_many_entries_is_opened(rt: HostRuntime) -> Result<(), Fail> {
+    let mut numbers = Vec::new(rt.alloc());
+    numbers.resize(300_000, 0)?;
+    let unused = file(&rt, 100_000, &numbers)?;
+    let source = Source::new(MemoryStore::new(&unused));
+    let (outcome, _) = run_over(rt.alloc(), source, LEAST, Choice::All);
+    assert_eq!(rt; outcome, all(100_000, 0));
+    Ok(())
+}

@@ -1,0 +1,24 @@
+-- The store that changes, which tests use.
+use Rattle.std.specs.Prelude.{ℕ, List, None, true, length, nat_lt, if◌then◌else◌}
+use Rattle.mdmp_source.specs.Store.{StoreState}
+use Rattle.mdmp_source.specs.declared.store.Tally.{Tally}
+
+-- such a store as its callers see it: its two contents, the call from which on it gives the second, and its calls so far
+pub record TwoFacesState : Type 0 where
+  pub first : List ℕ
+  pub second : List ℕ
+  pub turn : ℕ
+  pub counts : Tally
+
+-- the same as any store: it never fails, and no content is known
+abbrev pub state_of : TwoFacesState → StoreState
+state_of s = record {
+  content = None;
+  size = length s.first;
+  is_reliable = true;
+  counts = s.counts;
+}
+
+-- the content that the next call reads
+abbrev pub face_of : TwoFacesState → List ℕ
+face_of s = if nat_lt s.counts.calls s.turn then s.first else s.second

@@ -1,0 +1,64 @@
+//! A lister over a store that changes while it is read.
+use crate::files::file;
+use crate::given::{range, stream};
+use crate::opening::{fault, open_and_close};
+use crate::script::{Call, LEAST, ends, fails, gives, has_room, play};
+use mdmp_lister::{Choice, FaultKind};
+use mdmp_source::{Extent, Source, SourceFault, TwoFaces};
+use std::alloc::Global;
+use std::test::Fail;
+
+/// A memory list of 36 bytes that counts so many ranges, and eight bytes of memory.
+fn counting(rt: &HostRuntime, ranges: u32) -> Result<Vec<u8, Global>, Fail> {
+    file(
+        rt,
+        1,
+        &[5, 36, 44, ranges, 0x1000, 0, 4, 80, 0x2000, 0, 4, 84, 0, 0],
+    )
+}
+
+/// How many calls of its store opening this file takes.
+fn reads_of_open(rt: &HostRuntime, file: &[u8]) -> u64 {
+    let source = Source::new(TwoFaces::new(file, file, u64::MAX));
+    let (_, source) = open_and_close(rt.alloc(), source, LEAST, Choice::All);
+    source.into_store().reads()
+}
+
+/// Plays a script over a store whose list counts first `first` ranges, and `second` from the first
+/// call behind the opening on: whether each call answers as told.
+fn plays(rt: &HostRuntime, first: u32, second: u32, script: &[Call]) -> Result<bool, Fail> {
+    let first = counting(rt, first)?;
+    let second = counting(rt, second)?;
+    if first.len() != second.len() {
+        return Err(Fail::from("length"));
+    }
+    let turn = reads_of_open(rt, &first);
+    let store = TwoFaces::new(&first, &second, turn);
+    let played = play(rt, store, LEAST, Choice::All, script)?;
+    Ok(played.other.is_none())
+}
+
+#[test]
+fn list_that_counts_more_ranges_than_before_has_changed(rt: HostRuntime) -> Result<(), Fail> {
+    let changed = FaultKind::Source(SourceFault::Changed { at: 44 });
+    let script = [
+        has_room(0, 1),
+        gives(stream(0, 5, 36, 44)),
+        fails(fault(None, changed, 44, 0)),
+        fails(fault(None, changed, 44, 0)),
+    ];
+    assert!(rt; plays(&rt, 1, 2, &script)?);
+    Ok(())
+}
+
+#[test]
+fn list_that_counts_fewer_ranges_than_before_is_listed(rt: HostRuntime) -> Result<(), Fail> {
+    let script = [
+        has_room(0, 2),
+        gives(stream(0, 5, 36, 44)),
+        gives(range(0, 0x1000, 4, Extent::Inside, 80)),
+        ends(),
+    ];
+    assert!(rt; plays(&rt, 2, 1, &script)?);
+    Ok(())
+}
