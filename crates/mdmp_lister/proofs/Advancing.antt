@@ -1,9 +1,8 @@
 -- What a step says of what is left.
-use Rattle.std.proofs.Common.{◌≡◌, ◌≤◌, ◌+◌, ◌*◌, ◌-◌, [], arith, ℕ, List, Option, None, Some, refl, sym, subst, ap, ◌∙◌, vec_capacity, vec_len}
+use Rattle.std.proofs.Common.{◌≡◌, ◌≤◌, ◌+◌, ◌*◌, ◌-◌, arith, ℕ, List, Option, None, Some, refl, sym, subst, ap, ◌∙◌, vec_capacity, vec_len}
 use Rattle.std.specs.Option.{option_map}
 use Rattle.mdmp_source.specs.Count.{raised}
 use Rattle.mdmp_source.specs.Source.{SourceState, FetchesAtMost}
-use Rattle.mdmp_source.specs.SourceLaws.{fetches_then}
 use Rattle.mdmp_wire.specs.declared.entry.Entry.{Entry}
 use Rattle.mdmp_lister.specs.declared.choice.Choice.{Choice}
 use Rattle.mdmp_lister.specs.declared.limits.Limits.{Limits}
@@ -13,19 +12,14 @@ use Rattle.mdmp_lister.specs.declared.item.Item.TheVariants as items
 use Rattle.mdmp_lister.specs.declared.step.Step.{Step}
 use Rattle.mdmp_lister.specs.declared.step.Step.TheVariants as step
 use Rattle.mdmp_lister.specs.declared.fault.OpenFault.{OpenFault}
-use Rattle.mdmp_lister.specs.Costs.{head_left}
-use Rattle.mdmp_lister.specs.Counts.{range_count}
 use Rattle.mdmp_lister.specs.Heads.{heads_ahead}
 use Rattle.mdmp_lister.specs.Items.{plain}
 use Rattle.mdmp_lister.specs.Opening.{IsHandedBack, IsOfHead, directory_refusal}
-use Rattle.mdmp_lister.specs.Lister.{IsNewLister, Rooms, current_after, passed_after}
-use Rattle.mdmp_lister.specs.Listing.{Run, entry_count, listing}
-use Rattle.mdmp_lister.specs.Stages.{stop_of}
+use Rattle.mdmp_lister.specs.Lister.{Rooms, current_after, passed_after}
+use Rattle.mdmp_lister.specs.Listing.{Run}
 use Rattle.mdmp_lister.specs.Steps.{current_by, passed_by, step_item}
-use Rattle.mdmp_lister.proofs.Fetches.{IsSteady-then}
 use Rattle.mdmp_lister.proofs.Refusals.{IsHandedBack-begun}
-use Rattle.mdmp_lister.specs.Reading.{IsSteady}
-use Rattle.mdmp_lister.specs.Walk.{IsNewWalk, IsSound, SameEntry, SameRoom, left_of, work_of}
+use Rattle.mdmp_lister.specs.Walk.{IsNewWalk, IsSound, SameRoom}
 
 -- what is left now follows from what was left, of each file
 pub option_map-then : (old new : List ℕ → Run) (f : Run → Run) (content : Option (List ℕ)) → ((file : List ℕ) → content ≡ Some file → new file ≡ f (old file))
@@ -99,16 +93,7 @@ module _ {S A : Type 0} where
 
 -- ---- a walk that was opened
 
-option_map-same : (f g : List ℕ → Run) (content : Option (List ℕ)) → ((file : List ℕ) → f file ≡ g file) → option_map f content ≡ option_map g content
-option_map-same f g None each = refl
-option_map-same f g (Some file) each = ap Some (each file)
-
 module _ {S A : Type 0} (source : SourceState) (choice : Choice) (limits : Limits) (w n : Walk S A) where
-  left-new : IsNewWalk source choice limits w → SameRoom w n → n.next ≡ w.next → n.stage ≡ w.stage → (file : List ℕ) → left_of n file ≡ listing file choice limits.name
-  left-new new same next stage file =
-      let all : entry_count file - 0 ≡ entry_count file = omega arith in
-      rw (stage, new.stage, next, new.next, same.choice, new.choice_is, same.name, new.name, all) refl
-
   -- the heads by which its ranges were counted
   counted-heads : IsNewWalk source choice limits w → FetchesAtMost (heads_ahead w.choice w.meter.source.size w.entries.items) w.meter.source n.meter.source
       → FetchesAtMost (heads_ahead choice source.size w.entries.items) w.meter.source n.meter.source
@@ -117,51 +102,7 @@ module _ {S A : Type 0} (source : SourceState) (choice : Choice) (limits : Limit
       ap (λ (c : Choice). heads_ahead c w.meter.source.size w.entries.items) new.choice_is ∙ ap (λ z. heads_ahead choice z w.entries.items) new.fetches.same_size in
       subst (λ k. FetchesAtMost k w.meter.source n.meter.source) same more
 
-  -- and then counted its ranges, by the heads of lists
-  pub IsNewLister-counted : (room : ℕ) → IsSound n → IsNewWalk source choice limits w → SameEntry w n → n.stage ≡ w.stage
-      → FetchesAtMost (heads_ahead w.choice w.meter.source.size w.entries.items) w.meter.source n.meter.source → n.meter.source.calls ≤ raised w.meter.source.calls (vec_len w.entries) → IsSteady w.meter.source n.meter.source
-      → ((file : List ℕ) → source.store.content ≡ Some file → room ≡ range_count file choice)
-      → IsNewLister source choice limits (record {
-        source = n.meter.source;
-        header = n.header;
-        entries = n.entries.items;
-        choice = n.choice;
-        limit = vec_len n.name;
-        rooms = record { entries = vec_capacity n.entries; window = vec_len n.window; ranges = room };
-        passed = n.next;
-        current = n.current;
-        ranges = [];
-        left = option_map (left_of n) n.meter.source.store.content;
-        stop = stop_of n.stage;
-        head = head_left n.meter.source.size n.current n.stage;
-        work = work_of n;
-      })
-  IsNewLister-counted room sound new same stage more calls steady counted =
-      let content = more.same_content ∙ new.fetches.same_content in
-      let ok = w.entries.ok.0 in
-      record {
-        fetches = rw (same.room.header_is, same.room.entries)
-            (fetches_then (32 + 12 * w.header.number_of_streams) (heads_ahead choice source.size w.entries.items) source w.meter.source n.meter.source new.fetches (counted-heads new more));
-        calls = rw same.room.header_is (omega (arith, calls, new.calls, new.entries));
-        steady = IsSteady-then source w.meter.source n.meter.source new.steady steady;
-        header_is = λ file known. sound.header_is file (content ∙ known);
-        directory = λ file known. sound.directory file (content ∙ known);
-        count = rw (same.room.header_is, same.room.entries) (omega (arith, ok, new.entries));
-        choice_is = same.room.choice ∙ new.choice_is;
-        limit_is = same.room.name ∙ new.name;
-        entry_room = rw (same.room.header_is, same.room.entries) new.room;
-        window_room = same.room.window ∙ new.window;
-        range_room = counted;
-        passed = same.next ∙ new.next;
-        ranges = refl;
-        left =
-            option_map-same (left_of n) (λ file. listing file choice limits.name) n.meter.source.store.content (left-new new same.room same.next stage)
-            ∙ ap (option_map (λ file. listing file choice limits.name)) content;
-        head = rw (stage, new.stage) refl;
-        stop = rw (stage, new.stage) refl;
-      }
-
-  -- and is refused then
+  -- a file that is refused then
   pub IsHandedBack-counted : (fault : OpenFault) → IsSound w → IsNewWalk source choice limits w → FetchesAtMost (heads_ahead w.choice w.meter.source.size w.entries.items) w.meter.source n.meter.source
       → n.meter.source.calls ≤ raised w.meter.source.calls (vec_len w.entries) → ((file : List ℕ) → source.store.content ≡ Some file → directory_refusal file ≡ None) → (IsOfHead fault → ⊥)
       → IsHandedBack choice source fault n.meter.source

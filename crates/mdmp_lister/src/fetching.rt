@@ -1,8 +1,8 @@
 //! What is read of a file through its source, one fetch at a time.
-ghost use Rattle.std.specs.Prelude.{◌≡◌, ◌≤◌, ◌<◌, ◌+◌, ◌*◌, ◌^◌, ℕ, List, Some, length, take, IfOk, IfErr, IsOk, OnOk, nat_lt};
+ghost use Rattle.std.specs.Prelude.{◌≡◌, ◌≤◌, ◌<◌, ◌+◌, ◌^◌, ℕ, List, Some, length, take, IfOk, IfErr, IsOk, OnOk, nat_lt};
 ghost use Rattle.mdmp_source.specs.Count.{raised, raised_if};
 ghost use Rattle.mdmp_source.specs.Range.{IsInside, bytes_at};
-ghost use Rattle.mdmp_source.specs.Store.{IsGood, IsSizeOf};
+ghost use Rattle.mdmp_source.specs.Store.{IsGood};
 ghost use Rattle.mdmp_source.specs.Source.{FetchesAtMost};
 ghost use Rattle.mdmp_source.specs.Fault.{fault_at};
 ghost use Rattle.mdmp_lister.specs.Costs.{name_spent, read_cost};

@@ -1,6 +1,5 @@
 //! The head of a stream, read through a source.
-ghost use Rattle.std.specs.Prelude.{◌≡◌, ◌≤◌, ◌<◌, ◌+◌, ◌*◌, ◌^◌, ℕ, List, Some, length, IfOk, IfErr};
-ghost use Rattle.std.specs.Result.{result_map_both};
+ghost use Rattle.std.specs.Prelude.{◌≡◌, ◌≤◌, ◌<◌, ◌+◌, ℕ, List, Some, length, IfOk, IfErr};
 ghost use Rattle.mdmp_source.specs.Count.{raised};
 ghost use Rattle.mdmp_source.specs.Range.{IsInside};
 ghost use Rattle.mdmp_source.specs.Store.{IsGood};
@@ -8,7 +7,7 @@ ghost use Rattle.mdmp_source.specs.Source.{FetchesAtMost};
 ghost use Rattle.mdmp_wire.specs.Number.{number_at};
 ghost use Rattle.mdmp_lister.specs.Heads.{head_cost, head_spent};
 ghost use Rattle.mdmp_lister.specs.Meter.{Books};
-ghost use Rattle.mdmp_lister.specs.Shapes.{FitsIn, head_size, shape_of};
+ghost use Rattle.mdmp_lister.specs.Shapes.{FitsIn, shape_of};
 ghost use Rattle.mdmp_lister.specs.Reading.{Answers, FailsAs, IsOfSource, IsToldOf};
 
 use crate::fault::Fault;

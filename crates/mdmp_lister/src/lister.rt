@@ -82,10 +82,11 @@ impl<S: Store + Drop, A: Allocator + Copy> Lister<S, A> {
 
     /// Opens a file. Its header is read; memory is taken for the directory, the window and a name; the
     /// directory is read, and the ranges of the chosen memory lists are counted by their heads; then
-    /// memory is taken for the map of ranges. No later call takes any.
+    /// memory is taken for the map of ranges. No later call takes any. Of an entry that is not chosen,
+    /// lists no memory, lies outside the file or is too short for its head nothing is fetched.
     ///
     /// A refusal hands the source back: the fault of the header or of the place of the directory, too
-    /// many ranges, want of memory, or that the store failed.
+    /// many ranges, want of memory, or that the store failed, behind which nothing more is fetched.
     #[tactic(auto, using(crate::proofs::Paying::bounded_new))]
     pub fn open(
         alloc: A,
@@ -132,6 +133,9 @@ impl<S: Store + Drop, A: Allocator + Copy> Lister<S, A> {
     /// of the file is answered again until its entry is skipped, a fault of the store for good. A
     /// range that lies inside the file is put into the map. A store has changed where the head of a
     /// memory list, read again, counts more ranges than the map has room left.
+    ///
+    /// It fetches the record and its name, of a name over the limit its length alone, and before the
+    /// first record of an entry the head of the stream.
     pub fn next(&mut self) -> Result<Option<Item<'_>>, ListFault>
         ensures gives { (left : _) → self.old.left ≡ Some left → Gives left result }
         ensures* leaves { sem 𝓛 (Rests (the_row S.row A.row S.Store A.Allocator) self.entry (Leaves self.old result)) }

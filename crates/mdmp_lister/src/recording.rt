@@ -1,5 +1,5 @@
 //! The item of a record, read through a source.
-ghost use Rattle.std.specs.Prelude.{◌≡◌, ◌≤◌, ◌<◌, ◌+◌, ◌*◌, ◌^◌, ℕ, List, Some, length, IfOk, IfErr};
+ghost use Rattle.std.specs.Prelude.{◌≡◌, ◌≤◌, ◌<◌, ◌+◌, ◌^◌, ℕ, List, Some, length, IfOk, IfErr};
 ghost use Rattle.mdmp_source.specs.Store.{IsGood, IsSizeOf};
 ghost use Rattle.mdmp_source.specs.Source.{FetchesAtMost};
 ghost use Rattle.mdmp_lister.specs.Costs.{head_told, record_spent};

@@ -1,5 +1,5 @@
 //! The walk over the entries of a file, without its public face.
-ghost use Rattle.std.specs.Prelude.{◌≡◌, ◌+◌, ◌*◌, ◌^◌, ◌≤◌, ◌<◌, ◌-◌, ℕ, List, None, Some, IfOk, IfErr, IfSome, IsOk, IsTrue, false, OnOk, OnSome, MatchResult, vec_len};
+ghost use Rattle.std.specs.Prelude.{◌≡◌, ◌+◌, ◌^◌, ◌≤◌, ◌<◌, ◌-◌, ℕ, List, None, Some, IfOk, IfErr, IfSome, IsOk, IsTrue, false, OnOk, MatchResult, vec_len};
 ghost use Rattle.mdmp_source.specs.Count.{raised};
 ghost use Rattle.mdmp_source.specs.Store.{IsGood};
 ghost use Rattle.mdmp_source.specs.Source.{FailsOnce, FetchesAtMost, IsTold};
