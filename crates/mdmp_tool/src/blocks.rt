@@ -69,7 +69,7 @@ pub fn hex_in_blocks<S: Store + Drop, A: Allocator + Copy, O: Out, B: Allocator>
 }
 
 /// Writes what is pending after a run, and answers what the run did, or the output's fault where the
-/// inner output refuses. Where the run ended because the output had refused, nothing more is written.
+/// inner output refuses.
 fn flushed<S: Store + Drop, O: Out, B: Allocator>(
     listed: Answered<S>,
     blocks: &mut BlockOut<O, B>,
