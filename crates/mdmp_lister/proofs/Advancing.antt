@@ -14,6 +14,7 @@ use Rattle.mdmp_lister.specs.declared.step.Step.TheVariants as step
 use Rattle.mdmp_lister.specs.declared.fault.OpenFault.{OpenFault}
 use Rattle.mdmp_lister.specs.Heads.{heads_ahead}
 use Rattle.mdmp_lister.specs.Items.{plain}
+use Rattle.mdmp_lister.specs.Meter.{Books, counts_of}
 use Rattle.mdmp_lister.specs.Opening.{IsHandedBack, IsOfHead, directory_refusal}
 use Rattle.mdmp_lister.specs.Lister.{Rooms, current_after, passed_after}
 use Rattle.mdmp_lister.specs.Listing.{Run}

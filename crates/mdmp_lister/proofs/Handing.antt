@@ -6,12 +6,14 @@ use Rattle.mdmp_source.specs.SourceLaws.{fetches_then}
 use Rattle.mdmp_wire.specs.declared.entry.Entry.{Entry}
 use Rattle.mdmp_lister.specs.declared.item.Item.{Item}
 use Rattle.mdmp_lister.specs.declared.sink.Stopped.{Stopped}
-use Rattle.mdmp_lister.specs.Handing.{AllClassed, Taken, TakenToStop, current_behind, give_all, passed_behind}
+use Rattle.mdmp_lister.specs.Handing.{AllClassed, Taken, TakenToStop, current_behind, give_all, names_of_all, passed_behind}
 use Rattle.std.specs.Prelude.{drop, slice_get}
 use Rattle.mdmp_lister.specs.declared.fault.ListFault.{ListFault}
 use Rattle.mdmp_lister.specs.Classes.{IsClassed}
 use Rattle.mdmp_lister.specs.Costs.{fault_cost, head_given, item_cost, items_cost}
+use Rattle.mdmp_lister.specs.Counts.{names_of}
 use Rattle.mdmp_lister.specs.Items.{plain}
+use Rattle.mdmp_lister.proofs.Naming.{names_of-plain}
 use Rattle.mdmp_lister.proofs.Advancing.{current_after-plain}
 use Rattle.mdmp_lister.proofs.Classes.{classed-plain}
 use Rattle.mdmp_lister.proofs.Costs.{head_given-plain, item_cost-plain}
@@ -61,7 +63,16 @@ same_lister-then a b c first then = record {
   rooms = then.rooms ∙ first.rooms;
   choice = then.choice ∙ first.choice;
   limit = then.limit ∙ first.limit;
+  aside = then.aside ∙ first.aside;
+  start = then.start ∙ first.start;
 }
+
+-- one item more, and its name
+pub names_of_all-more : (xs : List Item) (x : Item) (old mid new : ℕ) → mid ≡ old + names_of_all xs → new ≡ mid + names_of x → new ≡ old + names_of_all (xs ++ plain x ∷ [])
+names_of_all-more xs x old mid new so_far next =
+    let all = sum_by-append names_of xs (plain x ∷ []) in
+    let one = sum_by-cons names_of (plain x) [] in
+    omega (arith, so_far, next, all, one, names_of-plain x)
 
 -- ---- what a run fetches
 

@@ -12,9 +12,12 @@ pub mod Files
 pub mod Handing
 pub mod Heads
 pub mod LawsLemmas
+pub mod Listed
 pub mod Mapping
 pub mod Metering
 pub mod NamedItems
+pub mod Naming
+pub mod Numbers
 pub mod Offsets
 pub mod Owing
 pub mod Paying

@@ -1,5 +1,5 @@
 -- The map of the ranges that a walk gave, one step longer.
-use Rattle.std.proofs.Common.{◌≡◌, ◌-◌, ◌∙◌, ◌++◌, ◌∷◌, [], arith, refl, sym, ap, ℕ, List, Option, length}
+use Rattle.std.proofs.Common.{◌≡◌, ◌-◌, ◌∙◌, ◌++◌, ◌∷◌, [], arith, refl, sym, ap, ℕ, List, Option, Some, length}
 use Rattle.std.proofs.lemmas.List.{append-nil, append_assoc, length-append}
 use Rattle.std.proofs.lemmas.List.Elements.{All-append, All-nil, All-cons, filter_map-append}
 use Rattle.mdmp_source.specs.declared.location.Extent.{Extent}
@@ -20,7 +20,9 @@ use Rattle.mdmp_lister.specs.Mapping.{IsMapped, IsStepPlaced, ranges_of_step}
 use Rattle.mdmp_lister.specs.Owing.{HasRoom, count_told}
 use Rattle.mdmp_lister.specs.Ranges.{IsRangeIn, range_of, ranges_of}
 use Rattle.mdmp_lister.specs.Steps.{IsStepClassed, step_item}
-use Rattle.mdmp_lister.specs.Walk.{IsSound}
+use Rattle.mdmp_lister.specs.Counts.{range_count}
+use Rattle.mdmp_source.specs.Source.{FetchesAtMost}
+use Rattle.mdmp_lister.specs.Walk.{IsSound, SameRoom}
 
 -- ---- the ranges of an item are those of its step
 
@@ -53,40 +55,55 @@ module _ {S A : Type 0} where
   less_room : (w : Walk S A) (room : ℕ) → HasRoom room 1 w → HasRoom (room - 1) 0 w
   less_room w room has = record { ahead = omega (arith, has.ahead); owed = λ file known. omega (arith, has.owed file known) }
 
+  -- of the same file with the same choice
+  pub record IsSameFile (old new : Walk S A) : Type 0 where
+    pub size : new.meter.source.size ≡ old.meter.source.size
+    pub content : new.meter.source.store.content ≡ old.meter.source.store.content
+    pub choice : new.choice ≡ old.choice
+
+  pub same_file : (n : ℕ) (old new : Walk S A) → FetchesAtMost n old.meter.source new.meter.source → SameRoom old new → IsSameFile old new
+  same_file n old new fetches same = record { size = fetches.same_size; content = fetches.same_content; choice = same.choice }
+
+  counted_then : (w new : Walk S A) (room : ℕ) → IsSameFile w new → ((file : List ℕ) → w.meter.source.store.content ≡ Some file → room ≡ range_count file w.choice)
+      → (file : List ℕ) → new.meter.source.store.content ≡ Some file → room ≡ range_count file new.choice
+  counted_then w new room same counted file known = counted file (sym same.content ∙ known) ∙ ap (range_count file) (sym same.choice)
+
   -- where nothing was pushed
-  unmapped : (w new : Walk S A) (map : MapState) (given : ℕ) → IsMapped w map → IsSound new → new.meter.source.size ≡ w.meter.source.size → HasRoom (free_of map) given new → IsBounded new
+  unmapped : (w new : Walk S A) (map : MapState) (given : ℕ) → IsMapped w map → IsSound new → IsSameFile w new → HasRoom (free_of map) given new → IsBounded new
       → IsMapped new (record map { ranges = map.ranges ++ [] })
-  unmapped w new map given old sound size room bounded = rw (append-nil map.ranges) (record {
+  unmapped w new map given old sound same room bounded = rw (append-nil map.ranges) (record {
     sound = sound;
     room = same_room new (free_of map) given room;
-    inside = rw size old.inside;
+    inside = rw same.size old.inside;
     bounded = bounded;
+    counted = counted_then w new map.room same old.counted;
   })
 
   -- where a range was
-  mapped : (w new : Walk S A) (map : MapState) (r : Range) → IsMapped w map → IsSound new → new.meter.source.size ≡ w.meter.source.size → HasRoom (free_of map) 1 new → IsBounded new
+  mapped : (w new : Walk S A) (map : MapState) (r : Range) → IsMapped w map → IsSound new → IsSameFile w new → HasRoom (free_of map) 1 new → IsBounded new
       → IsWithin w.meter.source.size r → IsMapped new (record map { ranges = map.ranges ++ r ∷ [] })
-  mapped w new map r old sound size room bounded within =
+  mapped w new map r old sound same room bounded within =
       let free : map.room - length (map.ranges ++ r ∷ []) ≡ free_of map - 1 = omega (arith, length-append map.ranges (r ∷ [])) in
       record {
         sound = sound;
         room = rw free (less_room new (free_of map) room);
-        inside = rw size (All-append (IsWithin w.meter.source.size) map.ranges (r ∷ []) old.inside (All-cons (IsWithin w.meter.source.size) r [] within (All-nil (IsWithin w.meter.source.size))));
+        inside = rw same.size (All-append (IsWithin w.meter.source.size) map.ranges (r ∷ []) old.inside (All-cons (IsWithin w.meter.source.size) r [] within (All-nil (IsWithin w.meter.source.size))));
         bounded = bounded;
+        counted = counted_then w new map.room same old.counted;
       }
 
-  mapped_range : (w new : Walk S A) (map : MapState) (r : RangeItem) (e : Extent) → r.extent ≡ e → IsMapped w map → IsSound new → new.meter.source.size ≡ w.meter.source.size
+  mapped_range : (w new : Walk S A) (map : MapState) (r : RangeItem) (e : Extent) → r.extent ≡ e → IsMapped w map → IsSound new → IsSameFile w new
       → HasRoom (free_of map) 1 new → IsBounded new → IsRangeIn w.meter.source.size r → IsMapped new (record map { ranges = map.ranges ++ ranges_of_step (step.Range r) })
-  mapped_range w new map r extents.Inside is old sound size room bounded held = rw is (mapped w new map _ old sound size room bounded (held is).1.0)
-  mapped_range w new map r extents.Empty is old sound size room bounded held = rw is (unmapped w new map 1 old sound size room bounded)
-  mapped_range w new map r extents.Absent is old sound size room bounded held = rw is (unmapped w new map 1 old sound size room bounded)
-  mapped_range w new map r extents.Outside is old sound size room bounded held = rw is (unmapped w new map 1 old sound size room bounded)
+  mapped_range w new map r extents.Inside is old sound same room bounded held = rw is (mapped w new map _ old sound same room bounded (held is).1.0)
+  mapped_range w new map r extents.Empty is old sound same room bounded held = rw is (unmapped w new map 1 old sound same room bounded)
+  mapped_range w new map r extents.Absent is old sound same room bounded held = rw is (unmapped w new map 1 old sound same room bounded)
+  mapped_range w new map r extents.Outside is old sound same room bounded held = rw is (unmapped w new map 1 old sound same room bounded)
 
-  pub mapped_step : (w new : Walk S A) (map : MapState) (kind : Option Kind) (s : Step) → IsMapped w map → IsSound new → new.meter.source.size ≡ w.meter.source.size
+  pub mapped_step : (w new : Walk S A) (map : MapState) (kind : Option Kind) (s : Step) → IsMapped w map → IsSound new → IsSameFile w new
       → HasRoom (free_of map) (count_told s) new → IsBounded new → IsStepClassed w.meter.source.size kind s → IsMapped new (record map { ranges = map.ranges ++ ranges_of_step s })
-  mapped_step w new map kind (step.Range r) old sound size has bounded classed = mapped_range w new map r r.extent refl old sound size has bounded classed.0
-  mapped_step w new map kind _ old sound size has bounded classed = unmapped w new map 0 old sound size has bounded
+  mapped_step w new map kind (step.Range r) old sound same has bounded classed = mapped_range w new map r r.extent refl old sound same has bounded classed.0
+  mapped_step w new map kind _ old sound same has bounded classed = unmapped w new map 0 old sound same has bounded
 
   -- where nothing was given
-  pub kept : (w new : Walk S A) (map : MapState) → IsMapped w map → IsSound new → new.meter.source.size ≡ w.meter.source.size → HasRoom (free_of map) 0 new → IsBounded new → IsMapped new map
-  kept w new map old sound size room bounded = record { sound = sound; room = room; inside = rw size old.inside; bounded = bounded }
+  pub kept : (w new : Walk S A) (map : MapState) → IsMapped w map → IsSound new → IsSameFile w new → HasRoom (free_of map) 0 new → IsBounded new → IsMapped new map
+  kept w new map old sound same room bounded = record { sound = sound; room = room; inside = rw same.size old.inside; bounded = bounded; counted = counted_then w new map.room same old.counted }

@@ -21,7 +21,8 @@ use Rattle.mdmp_lister.specs.Meter.{Books, Spends}
 use Rattle.mdmp_lister.specs.Paying.{IsBounded, IsPaid, cost_of, entry_cost, owed_of}
 use Rattle.mdmp_lister.specs.Shapes.{FitsIn, head_size, kind_of, record_size}
 use Rattle.mdmp_lister.specs.Stages.{fault_stage, stage_by}
-use Rattle.mdmp_lister.specs.Walk.{IsNewWalk, IsSound, SameEntry, SameRoom, stage_work}
+use Rattle.mdmp_lister.proofs.Room.{least_record}
+use Rattle.mdmp_lister.specs.Walk.{IsNewWalk, IsSound, SameEntry, SameRoom, stage_work, work_of}
 
 -- ---- the stage behind a fault
 
@@ -98,6 +99,15 @@ head_paid size kind shape fits first = rw (less_none shape.count) (omega (arith,
 -- what is fetched of a head is no more than the stream
 pub spent_within : (size : ℕ) (kind : Kind) → head_spent size kind ≤ size
 spent_within size kind = grind (arith, common_steps, least_head kind)
+
+-- a stream has fewer than 2^32 records
+pub few_records : (size : ℕ) (kind : Kind) (shape : Shape) → size < 2 ^ 32 → FitsIn size kind shape → shape.count < 2 ^ 32
+few_records size kind shape small fits = few shape.count shape.stride fits.records fits.stride where
+  few : (count stride : ℕ) → shape.first + count * stride ≤ size → (0 < count → record_size kind ≤ stride) → count < 2 ^ 32
+  few zero stride records wide = omega arith
+  few (suc n) stride records wide =
+      let one : 1 ≤ stride = omega (arith, wide (omega arith), least_record kind) in
+      omega (arith, small, records, mul-le-mul_left (suc n) one)
 
 -- ---- entries
 

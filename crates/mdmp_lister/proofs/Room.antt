@@ -13,7 +13,7 @@ record_room k n s r lt le =
     let more : suc k ≤ n = omega (arith, lt) in
     omega (arith, mul-le-mul_left s more, mul-suc s k, mul_comm s k, mul_comm s n, le)
 
-least_record : (kind : Kind) → 16 ≤ record_size kind
+pub least_record : (kind : Kind) → 16 ≤ record_size kind
 least_record kinds.Threads = omega arith
 least_record kinds.Modules = omega arith
 least_record kinds.Memory = omega arith

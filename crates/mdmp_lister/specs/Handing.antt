@@ -1,11 +1,12 @@
 -- What a run hands to a sink.
-use Rattle.std.specs.Prelude.{◌≡◌, ◌⊎◌, ℕ, List, [], ◌∷◌, ◌++◌, Result, Ok, Err}
+use Rattle.std.specs.Prelude.{◌≡◌, ◌≤◌, ◌+◌, ◌⊎◌, sum_by, ℕ, List, [], ◌∷◌, ◌++◌, Result, Ok, Err}
 use Rattle.mdmp_wire.specs.declared.entry.Entry.{Entry}
 use Rattle.mdmp_lister.specs.declared.item.Item.{Item}
 use Rattle.mdmp_lister.specs.declared.sink.RunFault.{RunFault}
 use Rattle.mdmp_lister.specs.declared.sink.RunFault.TheVariants as run
 use Rattle.mdmp_lister.specs.declared.sink.Stopped.{Stopped}
 use Rattle.mdmp_lister.specs.Classes.{IsClassed}
+use Rattle.mdmp_lister.specs.Counts.{names_of}
 use Rattle.mdmp_lister.specs.Lister.{current_after, passed_after}
 use Rattle.mdmp_lister.specs.Listing.{Run, nothing, only_fault}
 use Rattle.mdmp_lister.specs.Reading.{IsOfSource}
@@ -41,6 +42,15 @@ current_behind (x ∷ xs) e = current_behind xs (current_after x e)
 abbrev pub AllClassed : ℕ → Entry → List Item → Type 0
 AllClassed z e [] = Unit {0}
 AllClassed z e (x ∷ xs) = IsClassed z (current_after x e) x × AllClassed z (current_after x e) xs
+
+-- how many names some items have
+abbrev pub names_of_all : List Item → ℕ
+names_of_all xs = sum_by names_of xs
+
+-- those names were reached, and at a fault maybe one more
+abbrev pub NamesAll : List Item → Result (Unit {0}) RunFault → ℕ → ℕ → Type 0
+NamesAll xs (Err (run.At f)) old new = (old + names_of_all xs ≤ new) × (new ≤ old + names_of_all xs + 1)
+NamesAll xs result old new = new ≡ old + names_of_all xs
 
 module _ {K X : Type 0} (step : K → X → Result (Unit {0}) Stopped → K → Type 0) where
   -- the sink took all of xs

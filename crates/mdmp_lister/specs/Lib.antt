@@ -14,10 +14,12 @@ pub mod Listing
 pub mod Mapping
 pub mod Meter
 pub mod Names
+pub mod Numbers
 pub mod Opening
 pub mod Owing
 pub mod Paying
 pub mod Ranges
+pub mod Reaching
 pub mod Reading
 pub mod Shapes
 pub mod Stages

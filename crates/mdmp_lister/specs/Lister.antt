@@ -16,11 +16,12 @@ use Rattle.mdmp_map.specs.declared.range.Range.{Range}
 use Rattle.mdmp_lister.specs.declared.limits.Limits.{Limits}
 use Rattle.mdmp_lister.specs.Classes.{IsClassed}
 use Rattle.mdmp_lister.specs.Costs.{answer_cost, head_behind}
-use Rattle.mdmp_lister.specs.Counts.{range_count}
+use Rattle.mdmp_lister.specs.Counts.{most_names_in, names_in, range_count}
 use Rattle.mdmp_lister.specs.Directory.{IsDirectory}
 use Rattle.mdmp_lister.specs.Heads.{heads_ahead}
 use Rattle.mdmp_lister.specs.Items.{plain}
 use Rattle.mdmp_lister.specs.Listing.{Run, nothing, only_fault, listing, listing_from}
+use Rattle.mdmp_lister.specs.Meter.{IsBegun, MeterCounts, Moves}
 use Rattle.mdmp_lister.specs.Ranges.{ranges_of}
 use Rattle.mdmp_lister.specs.Reading.{IsOfSource, IsSteady, IsToldIn}
 use Rattle.mdmp_lister.specs.Stages.{stop_after}
@@ -34,6 +35,8 @@ pub record Rooms : Type 0 where
 pub record ListerState : Type 0 where
   -- the file is the source's content, where that is known
   pub source : SourceState
+  -- what was fetched since it was opened
+  pub counts : MeterCounts
   pub header : Header
   -- the directory, as it was read
   pub entries : List Entry
@@ -127,23 +130,32 @@ pub record IsNewLister (source : SourceState) (choice : Choice) (limits : Limits
   pub range_room : (file : List ℕ) → source.store.content ≡ Some file → new.rooms.ranges ≡ range_count file choice
   pub passed : new.passed ≡ 0
   pub ranges : new.ranges ≡ []
+  pub counts : IsBegun source new.counts
   pub left : new.left ≡ option_map (λ file. listing file choice limits.name) source.store.content
   pub head : new.head ≡ 0
   pub stop : new.stop ≡ None
 
--- what no call changes
+-- what no listing changes
 pub record IsSameLister (old new : ListerState) : Type 0 where
   pub header_is : new.header ≡ old.header
   pub entries : new.entries ≡ old.entries
   pub choice : new.choice ≡ old.choice
   pub limit : new.limit ≡ old.limit
   pub rooms : new.rooms ≡ old.rooms
+  pub aside : new.counts.aside ≡ old.counts.aside
+  pub start : new.counts.start ≡ old.counts.start
 
 -- what a request for the next item leaves
 pub record Leaves (old : ListerState) (result : Result (Option Item) ListFault) (new : ListerState) : Type 0 where
   pub same : IsSameLister old new
   -- the current entry's head, where that was not read yet, and the record and name of the item
   pub fetches : FetchesAtMost (old.head + answer_cost old.limit old.current result) old.source new.source
+  -- and at most one name was reached
+  pub counts : Moves 1 old.counts new.counts
+  -- just those that items have, where no fault stands
+  pub names : IfOk result (λ given. new.counts.names ≡ old.counts.names + names_in (Ok given))
+  -- and at a fault that is first answered that of a name, or maybe one where the store failed
+  pub names_at_fault : old.stop ≡ None → IfErr result (λ f. (old.counts.names + names_in (Err f) ≤ new.counts.names) × (new.counts.names ≤ old.counts.names + most_names_in (Err f)))
   pub head : new.head ≡ head_behind old.source.size result
   pub left : new.left ≡ option_map (left_after result) old.left
   pub stop : new.stop ≡ stop_after result

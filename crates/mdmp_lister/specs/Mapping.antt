@@ -1,5 +1,5 @@
 -- A walk and the map of the ranges that it gave.
-use Rattle.std.specs.Prelude.{◌-◌, ◌^◌, List, [], ◌∷◌, All}
+use Rattle.std.specs.Prelude.{◌≡◌, ◌-◌, ◌^◌, ℕ, List, [], ◌∷◌, All, Some}
 use Rattle.mdmp_map.specs.declared.range.Range.{Range}
 use Rattle.mdmp_map.specs.Map.{MapState, free_of}
 use Rattle.mdmp_map.specs.Ranges.{IsWithin}
@@ -7,6 +7,7 @@ use Rattle.mdmp_lister.specs.declared.item.Item.TheVariants as items
 use Rattle.mdmp_lister.specs.declared.step.Step.{Step}
 use Rattle.mdmp_lister.specs.declared.step.Step.TheVariants as step
 use Rattle.mdmp_lister.specs.declared.walk.Walk.{Walk}
+use Rattle.mdmp_lister.specs.Counts.{range_count}
 use Rattle.mdmp_lister.specs.Owing.{HasRoom}
 use Rattle.mdmp_lister.specs.Paying.{IsBounded}
 use Rattle.mdmp_lister.specs.Ranges.{IsRangeIn, ranges_of}
@@ -28,3 +29,5 @@ pub record IsMapped {S A : Type 0} (w : Walk S A) (map : MapState) : Type 0 wher
   pub room : HasRoom (free_of map) 0 w
   pub inside : All (IsWithin w.meter.source.size) map.ranges
   pub bounded : IsBounded w
+  -- where the file is known, it was made for the ranges of its chosen lists
+  pub counted : (file : List ℕ) → w.meter.source.store.content ≡ Some file → map.room ≡ range_count file w.choice

@@ -15,6 +15,17 @@ pub record MeterState : Type 0 where
   -- what the source's own count of bytes was when the listing began
   pub start : ℕ
 
+-- what was counted, without the source
+pub record MeterCounts : Type 0 where
+  pub fetched : ℕ
+  pub calls : ℕ
+  pub names : ℕ
+  pub aside : ℕ
+  pub start : ℕ
+
+abbrev pub counts_of : MeterState → MeterCounts
+counts_of m = record { fetched = m.fetched; calls = m.calls; names = m.names; aside = m.aside; start = m.start }
+
 -- each byte that the source counted since then is booked
 abbrev pub IsBooked : MeterState → Type 0
 IsBooked m = m.source.fetched ≡ raised m.start (m.fetched + m.aside)
@@ -38,8 +49,23 @@ pub record Spends (n limit : ℕ) (old new : MeterState) : Type 0 where
   pub same_aside : new.aside ≡ old.aside
   pub same_start : new.start ≡ old.start
 
+-- what was counted rose, the names by at most n, and nothing was fetched aside
+pub record Moves (n : ℕ) (old new : MeterCounts) : Type 0 where
+  pub more : old.fetched ≤ new.fetched
+  pub more_calls : old.calls ≤ new.calls
+  pub more_names : old.names ≤ new.names
+  pub most_names : new.names ≤ old.names + n
+  pub same_aside : new.aside ≡ old.aside
+  pub same_start : new.start ≡ old.start
+
+-- a count that has begun over a source, of no name and of nothing aside
+pub record IsBegun (source : SourceState) (new : MeterCounts) : Type 0 where
+  pub names : new.names ≡ 0
+  pub aside : new.aside ≡ 0
+  pub start : new.start ≡ source.fetched
+
 -- some fetches aside, of at most n bytes
-pub record SpendsAside (n : ℕ) (old new : MeterState) : Type 0 where
+pub record SpendsAside (n : ℕ) (old new : MeterCounts) : Type 0 where
   pub aside : new.aside ≤ old.aside + n
   pub more : old.aside ≤ new.aside
   pub same_fetched : new.fetched ≡ old.fetched

@@ -38,7 +38,7 @@ owed_of size e stage = 0
 pub record IsPaid {S A : Type 0} (allowed before : ℕ) (w : Walk S A) : Type 0 where
   pub bytes : w.meter.fetched + (owed_of w.meter.source.size w.current w.stage + cost_of w.choice w.meter.source.size (drop w.next w.entries.items))
       + before * (vec_len w.name + 4) ≤ allowed + w.meter.names * (vec_len w.name + 4)
-  pub names : w.meter.names + work_of w < 2 ^ 128
+  pub names : w.meter.names + work_of w < 2 ^ 66
 
 -- what was fetched and may still be is within the bound, by the entries of the directory: the header, they, the heads
 -- that are fetched twice, and the streams

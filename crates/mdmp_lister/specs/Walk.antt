@@ -58,14 +58,14 @@ IsOffset F e (Records kind shape index offset) = kind ≡ Memory64 → offset �
 IsOffset F e stage = Unit {0}
 
 abbrev pub stage_work : Stage → ℕ
-stage_work Head = 2 ^ 64
+stage_work Head = 2 ^ 32
 stage_work (Records kind shape index offset) = shape.count - index
 stage_work stage = 0
 
 module _ {S A : Type 0} where
   -- how many calls may still give an item, at most
   abbrev pub work_of : Walk S A → ℕ
-  work_of w = (vec_len w.entries - w.next) * 2 ^ 66 + stage_work w.stage
+  work_of w = (vec_len w.entries - w.next) * 2 ^ 33 + stage_work w.stage
 
   pub record IsSound (w : Walk S A) : Type 0 where
     pub sized : IsSizeOf w.meter.source.store.content w.meter.source.size

@@ -3,7 +3,7 @@ ghost use Rattle.std.specs.Prelude.{◌≡◌, ℕ, List, Some, length, All, IfE
 ghost use Rattle.mdmp_source.specs.Store.{IsGood};
 ghost use Rattle.mdmp_source.specs.Source.{FetchesAtMost, IsTold};
 ghost use Rattle.mdmp_map.specs.Ranges.{IsWithin, byte_at};
-ghost use Rattle.mdmp_lister.specs.Meter.{SpendsAside};
+ghost use Rattle.mdmp_lister.specs.Meter.{SpendsAside, counts_of};
 ghost use Rattle.mdmp_lister.specs.Addresses.{ReadsCells, is_held};
 
 use crate::meter::Meter;
@@ -24,7 +24,7 @@ fn read_byte<S: Store, A: Allocator>(
     ensures byte { (file : List ℕ) → meter.old.source.store.content ≡ Some file
         → IfOk result (λ byte. byte ≡ byte_at file map.now.ranges address) }
     ensures fetches { FetchesAtMost 1 meter.old.source meter.new.source }
-    ensures aside { SpendsAside 1 meter.old meter.new }
+    ensures aside { SpendsAside 1 (counts_of meter.old) (counts_of meter.new) }
     ensures told { IfErr result (λ fault. IsTold fault meter.old.source meter.new.source) }
     ensures good { (file : List ℕ) → IsGood meter.old.source.store file → IsOk result }
 {
@@ -56,7 +56,7 @@ pub(crate) fn read_addresses<S: Store, A: Allocator>(
     requires inside { All (IsWithin meter.old.source.size) map.now.ranges }
     ensures cells { OnOk result (ReadsCells meter.old.source.store.content map.now.ranges address out.new known.new) }
     ensures fetches { FetchesAtMost (length out.new) meter.old.source meter.new.source }
-    ensures aside { SpendsAside (length out.new) meter.old meter.new }
+    ensures aside { SpendsAside (length out.new) (counts_of meter.old) (counts_of meter.new) }
     ensures told { IfErr result (λ fault. IsTold fault meter.old.source meter.new.source) }
     ensures good { (file : List ℕ) → IsGood meter.old.source.store file → IsOk result }
 {

@@ -8,6 +8,7 @@ ghost use Rattle.mdmp_source.specs.Fault.{fault_at};
 ghost use Rattle.mdmp_lister.specs.Costs.{name_spent, read_cost};
 ghost use Rattle.mdmp_lister.specs.Meter.{Books, Spends};
 ghost use Rattle.mdmp_lister.specs.Names.{name_at};
+ghost use Rattle.mdmp_lister.specs.Reaching.{Reaches, ReachesAtFault, read_once};
 ghost use Rattle.mdmp_lister.specs.Reading.{Answers, FailsAs, IsHeld, IsOfSource, IsToldOf, name_read};
 
 use crate::fault::{Fault, FaultKind};
@@ -107,7 +108,7 @@ pub(crate) fn read<R: Record, S: Store>(
 
 /// The name at `rva`, its units into the front of a buffer as long as the limit, or its fault: a
 /// length outside the file, an odd one, units outside. The units of a longer name are not fetched.
-#[tactic(auto, using(crate::proofs::Fetches::told_of_later, crate::proofs::Costs::source_name_cost), unfolding(crate::specs::Names::name_at, mdmp_wire::specs::Number::bytes_at))]
+#[tactic(auto, using(crate::proofs::Fetches::told_of_later, crate::proofs::Costs::source_name_cost, crate::proofs::Naming::source_reached), unfolding(crate::specs::Names::name_at, mdmp_wire::specs::Number::bytes_at))]
 pub(crate) fn read_name<S: Store>(
     meter: &mut Meter<S>,
     window: &mut [u8],
@@ -122,6 +123,8 @@ pub(crate) fn read_name<S: Store>(
     ensures fetches { FetchesAtMost (name_spent (length buffer.new) result) meter.old.source meter.new.source }
     ensures spends { Spends 0 (length buffer.new) meter.old meter.new }
     ensures reached { meter.new.names ≡ raised_if (nat_lt 0 rva) meter.old.names }
+    ensures named { IfOk result (λ name. Reaches (read_once name) meter.old meter.new) }
+    ensures at_fault { IfErr result (λ fault. ReachesAtFault fault.kind meter.old meter.new) }
     ensures cost { IfOk result (λ name. meter.new.fetched ≤ meter.old.fetched + read_cost name) }
     ensures told { IfErr result (λ fault. IsToldOf fault.kind fault.offset fault.size meter.old.source meter.new.source) }
     ensures good { (file : List ℕ) → IsGood meter.old.source.store file → IfErr result (λ fault. IsOfSource fault.kind → ⊥) }

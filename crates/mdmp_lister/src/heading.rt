@@ -1,5 +1,5 @@
 //! The head of a stream, read through a source.
-ghost use Rattle.std.specs.Prelude.{◌≡◌, ◌≤◌, ◌<◌, ◌+◌, ℕ, List, Some, length, IfOk, IfErr};
+ghost use Rattle.std.specs.Prelude.{◌≡◌, ◌≤◌, ◌<◌, ◌+◌, ◌^◌, ℕ, List, Some, length, IfOk, IfErr};
 ghost use Rattle.mdmp_source.specs.Count.{raised};
 ghost use Rattle.mdmp_source.specs.Range.{IsInside};
 ghost use Rattle.mdmp_source.specs.Store.{IsGood};
@@ -7,7 +7,8 @@ ghost use Rattle.mdmp_source.specs.Source.{FetchesAtMost};
 ghost use Rattle.mdmp_wire.specs.Number.{number_at};
 ghost use Rattle.mdmp_lister.specs.Heads.{head_cost, head_spent};
 ghost use Rattle.mdmp_lister.specs.Meter.{Books};
-ghost use Rattle.mdmp_lister.specs.Shapes.{FitsIn, shape_of};
+ghost use Rattle.mdmp_lister.specs.Shapes.{FitsIn, head_size, shape_of};
+ghost use Rattle.mdmp_lister.specs.Reaching.{ReachesAtFault};
 ghost use Rattle.mdmp_lister.specs.Reading.{Answers, FailsAs, IsOfSource, IsToldOf};
 
 use crate::fault::Fault;
@@ -31,7 +32,7 @@ pub(crate) struct Head {
 
 /// Where the records of a stream stand, or its first fault: too short for its head, a bad header
 /// size, a bad entry size, a bad count.
-#[tactic(auto, unfolding(crate::specs::Shapes::shape_of))]
+#[tactic(auto, using(crate::proofs::Paying::few_records, crate::proofs::Naming::source_reached), unfolding(crate::specs::Shapes::shape_of))]
 pub(crate) fn read_head<S: Store>(
     meter: &mut Meter<S>,
     window: &mut [u8],
@@ -45,9 +46,11 @@ pub(crate) fn read_head<S: Store>(
     ensures base { (file : List ℕ) → meter.old.source.store.content ≡ Some file
         → kind ≡ Kind.Memory64 → IfOk result (λ head. head.base ≡ number_at file (at.rva + 8) 8) }
     ensures fits { IfOk result (λ head. FitsIn at.size kind head.shape) }
+    ensures few { IfOk result (λ head. head.shape.count < 2 ^ 32) }
     ensures ranges { kind ≡ Kind.Memory64 → IfOk result (λ head. (head.shape.first ≡ 16) × (head.shape.stride ≡ 16)) }
     ensures fetches { FetchesAtMost (head_spent at.size kind) meter.old.source meter.new.source }
     ensures books { Books (head_spent at.size kind) meter.old meter.new }
+    ensures at_fault { IfErr result (λ fault. ReachesAtFault fault.kind meter.old meter.new) }
     ensures calls { meter.new.source.calls ≤ raised meter.old.source.calls 1 }
     ensures once { FailsAs result meter.old.source meter.new.source }
     ensures head { IfOk result (λ head. head_cost kind ≤ head.shape.first) }

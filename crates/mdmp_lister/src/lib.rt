@@ -29,6 +29,7 @@
 mod addressing;
 mod choice;
 mod counting;
+mod counts;
 mod fault;
 mod fetching;
 mod heading;
@@ -52,6 +53,7 @@ mod verdict;
 mod walk;
 
 pub use crate::choice::{Choice, TypeSet};
+pub use crate::counts::Counts;
 pub use crate::fault::{Fault, FaultKind, ListFault, OpenFault};
 pub use crate::item::{
     ExceptionItem, Item, MemoryInfoItem, ModuleItem, RangeItem, StreamItem, SystemItem, ThreadItem,

@@ -2,6 +2,7 @@
 ghost use Rattle.std.specs.Prelude.{◌≡◌, ◌≤◌, ◌<◌, ◌+◌, ◌*◌, ◌++◌, ◌⊎◌, ℕ, List, None, Some, All, IfOk, IfErr, IsOk, IsTrue, OnOk, length, false, MatchResult};
 ghost use Rattle.std.specs.Borrow.{sem};
 ghost use Rattle.std.specs.Io.BufRead.{Rests};
+ghost use Rattle.mdmp_source.specs.Count.{raised};
 ghost use Rattle.mdmp_source.specs.Store.{IsGood};
 ghost use Rattle.mdmp_lister.specs.Opening.{IsHandedBack, IsOpenRefusal, IsRefusalOf, IsUnread, IsUnreadFor, opening_fault};
 ghost use Rattle.mdmp_map.specs.Map.{free_of};
@@ -9,7 +10,9 @@ ghost use Rattle.mdmp_map.specs.Ranges.{IsWithin};
 ghost use Rattle.mdmp_source.specs.Source.{FetchesAtMost, IsTold};
 ghost use Rattle.mdmp_lister.specs.Addresses.{ReadsCells};
 ghost use Rattle.mdmp_lister.specs.Costs.{end_cost, items_cost};
+ghost use Rattle.mdmp_lister.specs.Meter.{SpendsAside};
 ghost use Rattle.mdmp_lister.specs.Mapping.{IsStepPlaced, ranges_of_step};
+ghost use Rattle.mdmp_lister.specs.Numbers.{AreBounds, AreOfFile, numbers_of};
 ghost use Rattle.mdmp_lister.specs.Owing.{count_told};
 ghost use Rattle.mdmp_lister.specs.Ranges.{ranges_of};
 ghost use Rattle.mdmp_lister.specs.Reading.{IsOfSource, IsToldIn};
@@ -17,6 +20,7 @@ ghost use Rattle.mdmp_lister.specs.Stages.{stop_after, stop_after_run};
 
 use crate::addressing::read_addresses;
 use crate::choice::Choice;
+use crate::counts::{Counts, listed_bytes};
 use crate::fault::{ListFault, OpenFault};
 use crate::item::Item;
 use crate::limits::Limits;
@@ -48,6 +52,7 @@ impl<S: Store + Drop, A: Allocator + Copy> Model for Lister<S, A> {
     ghost use Rattle.std.specs.Prelude.{vec_capacity, vec_len};
     ghost use Rattle.mdmp_lister.specs.Costs.{head_left};
     ghost use Rattle.mdmp_lister.specs.Lister.{ListerState};
+    ghost use Rattle.mdmp_lister.specs.Meter.{counts_of};
     ghost use Rattle.mdmp_lister.specs.Stages.{stop_of};
     ghost use Rattle.mdmp_lister.specs.Mapping.{IsMapped};
     ghost use Rattle.mdmp_lister.specs.Walk.{left_of, work_of};
@@ -56,6 +61,7 @@ impl<S: Store + Drop, A: Allocator + Copy> Model for Lister<S, A> {
 
     ghost view = { λ l. record {
       source = l.walk.meter.source;
+      counts = counts_of l.walk.meter;
       header = l.walk.header;
       entries = l.walk.entries.items;
       choice = l.walk.choice;
@@ -76,7 +82,7 @@ impl<S: Store + Drop, A: Allocator + Copy> Model for Lister<S, A> {
 impl<S: Store + Drop, A: Allocator + Copy> Lister<S, A> {
     ghost use Rattle.mdmp_lister.specs.contracts.lister.Lister.{the_row};
     ghost use Rattle.mdmp_lister.specs.declared.item.Item.{Item};
-    ghost use Rattle.mdmp_lister.specs.Handing.{AllClassed, GivesAll, current_behind, Handed, PassesAll};
+    ghost use Rattle.mdmp_lister.specs.Handing.{AllClassed, GivesAll, current_behind, Handed, NamesAll, PassesAll};
     ghost use Rattle.mdmp_lister.specs.Listing.{Run};
     ghost use Rattle.mdmp_lister.specs.Lister.{Gives, IsNewLister, IsSameLister, Leaves, is_for_good, listing_behind};
 
@@ -129,6 +135,28 @@ impl<S: Store + Drop, A: Allocator + Copy> Lister<S, A> {
         self.walk.header
     }
 
+    /// The numbers that bound what it holds and what it has fetched. It takes nothing and changes
+    /// nothing.
+    pub fn counts(&self) -> Counts
+        ensures value { result ≡ numbers_of self.now }
+        ensures of_file { (file : List ℕ) → self.now.source.store.content ≡ Some file → AreOfFile file self.now.choice result }
+        ensures bounds { AreBounds self.now result }
+    {
+        let walk = &self.walk;
+        let entries = walk.entries.len() as u128;
+        let ranges = self.map.len() as u128 + self.map.free() as u128;
+        Counts {
+            s: entries,
+            r: ranges,
+            n: listed_bytes(&walk.entries, &walk.choice, walk.meter.size()),
+            m: walk.meter.names(),
+            held: walk.window.len() as u128 + 12 * entries + 24 * ranges + walk.name.len() as u128,
+            fetched: walk.meter.fetched(),
+            calls: walk.meter.calls(),
+            aside: walk.meter.aside(),
+        }
+    }
+
     /// The next item, whose name is lent until the next call, or none behind the last one. A fault
     /// of the file is answered again until its entry is skipped, a fault of the store for good. A
     /// range that lies inside the file is put into the map. A store has changed where the head of a
@@ -158,7 +186,7 @@ impl<S: Store + Drop, A: Allocator + Copy> Lister<S, A> {
             → (self.new.left ≡ listing_behind self.old self.old.passed) × (self.new.stop ≡ None) × (self.new.head ≡ 0) }
         ensures stays { IsTrue (is_for_good self.old.stop) → self.new ≡ self.old }
         ensures unbegun { self.old.passed ≡ 0 → self.new ≡ self.old }
-        ensures source { self.new.source ≡ self.old.source }
+        ensures source { (self.new.source ≡ self.old.source) × (self.new.counts ≡ self.old.counts) }
         ensures same { IsSameLister self.old self.new }
         ensures passed { self.new.passed ≡ self.old.passed }
         ensures current { self.new.current ≡ self.old.current }
@@ -178,7 +206,8 @@ impl<S: Store + Drop, A: Allocator + Copy> Lister<S, A> {
             × (AllClassed self.old.source.size self.old.current xs
             × ((self.new.ranges ≡ self.old.ranges ++ ranges_of xs)
             × (((left : _) → self.old.left ≡ Some left → (rest : Run) × ((self.new.left ≡ Some rest) × GivesAll left xs result rest))
-            × FetchesAtMost (self.old.head + items_cost self.old.source.size xs + end_cost self.old.limit (current_behind xs self.old.current) result) self.old.source self.new.source)))))) }
+            × (NamesAll xs result self.old.counts.names self.new.counts.names
+            × FetchesAtMost (self.old.head + items_cost self.old.source.size xs + end_cost self.old.limit (current_behind xs self.old.current) result) self.old.source self.new.source))))))) }
         ensures stop { self.new.stop ≡ stop_after_run result }
         ensures repeats { (stop : _) → self.old.stop ≡ Some stop
             → (self.new ≡ self.old) × ((stop_after_run result ≡ Some stop) × (sink.new ≡ sink.old)) }
@@ -223,7 +252,8 @@ impl<S: Store + Drop, A: Allocator + Copy> Lister<S, A> {
     ) -> Result<(), SourceFault>
         requires { length out.old ≡ length known.old }
         ensures cells { OnOk result (ReadsCells self.old.source.store.content self.old.ranges address out.new known.new) }
-        ensures same { self.new ≡ record self.old { source = self.new.source } }
+        ensures same { self.new ≡ record self.old { source = self.new.source; counts = self.new.counts } }
+        ensures aside { SpendsAside (length out.new) self.old.counts self.new.counts }
         ensures fetches { FetchesAtMost (length out.new) self.old.source self.new.source }
         ensures told { IfErr result (λ fault. IsTold fault self.old.source self.new.source) }
         ensures good { (file : List ℕ) → IsGood self.old.source.store file → IsOk result }
@@ -233,7 +263,8 @@ impl<S: Store + Drop, A: Allocator + Copy> Lister<S, A> {
 
     /// Hands the source back.
     pub fn into_source(self) -> Source<S>
-        ensures { result ≡ self.source }
+        ensures value { result ≡ self.source }
+        ensures booked { result.fetched ≡ raised self.counts.start (self.counts.fetched + self.counts.aside) }
     {
         let Lister { walk, map: _ } = self;
         walk.into_source()

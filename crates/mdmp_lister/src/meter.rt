@@ -110,6 +110,27 @@ impl<S: Store> Meter<S> {
         self.fetched
     }
 
+    /// The calls of `fetch` for the listing.
+    pub(crate) fn calls(&self) -> u128
+        ensures { result ≡ self.now.calls }
+    {
+        self.calls
+    }
+
+    /// The names that were reached.
+    pub(crate) fn names(&self) -> u128
+        ensures { result ≡ self.now.names }
+    {
+        self.names
+    }
+
+    /// The bytes fetched aside.
+    pub(crate) fn aside(&self) -> u128
+        ensures { result ≡ self.now.aside }
+    {
+        self.aside
+    }
+
     /// Hands the source back.
     pub(crate) fn into_source(self) -> Source<S>
         ensures value { result ≡ self.source }

@@ -6,6 +6,7 @@ ghost use Rattle.mdmp_lister.specs.Costs.{head_told, record_spent};
 ghost use Rattle.mdmp_lister.specs.Meter.{Spends};
 ghost use Rattle.mdmp_lister.specs.Shapes.{record_size};
 ghost use Rattle.mdmp_lister.specs.Items.{item_at, range_offset};
+ghost use Rattle.mdmp_lister.specs.Reaching.{Reaches, ReachesAtFault, told_once};
 ghost use Rattle.mdmp_lister.specs.Reading.{Answers, IsOfSource, IsToldOf};
 ghost use Rattle.mdmp_lister.specs.Owing.{ranges_by, count_told};
 ghost use Rattle.mdmp_wire.specs.declared.entry.Entry.{Entry};
@@ -21,7 +22,7 @@ use mdmp_source::Store;
 use mdmp_wire::{ModuleRecord, Record, SystemRecord, UnloadedRecord};
 
 /// The item of a module, or the fault of its name.
-#[tactic(auto, using(crate::proofs::NamedItems::module_read, crate::proofs::Fetches::told_of_later))]
+#[tactic(auto, using(crate::proofs::NamedItems::module_read, crate::proofs::Fetches::told_of_later, crate::proofs::Naming::source_reached))]
 fn read_module<S: Store>(
     meter: &mut Meter<S>,
     window: &mut [u8],
@@ -42,6 +43,8 @@ fn read_module<S: Store>(
     ensures stays { IfOk result (λ step. (e : Entry) → current_by step e ≡ e) }
     ensures begins { IfOk result (λ step. (z : ℕ) → head_told z step ≡ 0) }
     ensures fetches { FetchesAtMost (record_spent (length buffer.new) Kind.Modules result) meter.old.source meter.new.source }
+    ensures named { IfOk result (λ step. Reaches (told_once step) meter.old meter.new) }
+    ensures at_fault { IfErr result (λ fault. ReachesAtFault fault.kind meter.old meter.new) }
     ensures spends { Spends 108 (length buffer.new) meter.old meter.new }
     ensures told { IfErr result (λ fault. IsToldOf fault.kind fault.offset fault.size meter.old.source meter.new.source) }
     ensures good { (file : List ℕ) → IsGood meter.old.source.store file → IfErr result (λ fault. IsOfSource fault.kind → ⊥) }
@@ -62,7 +65,7 @@ fn read_module<S: Store>(
 }
 
 /// The item of a module that was unloaded, or the fault of its name.
-#[tactic(auto, using(crate::proofs::NamedItems::unloaded_read, crate::proofs::Fetches::told_of_later))]
+#[tactic(auto, using(crate::proofs::NamedItems::unloaded_read, crate::proofs::Fetches::told_of_later, crate::proofs::Naming::source_reached))]
 fn read_unloaded<S: Store>(
     meter: &mut Meter<S>,
     window: &mut [u8],
@@ -82,6 +85,8 @@ fn read_unloaded<S: Store>(
     ensures stays { IfOk result (λ step. (e : Entry) → current_by step e ≡ e) }
     ensures begins { IfOk result (λ step. (z : ℕ) → head_told z step ≡ 0) }
     ensures fetches { FetchesAtMost (record_spent (length buffer.new) Kind.Unloaded result) meter.old.source meter.new.source }
+    ensures named { IfOk result (λ step. Reaches (told_once step) meter.old meter.new) }
+    ensures at_fault { IfErr result (λ fault. ReachesAtFault fault.kind meter.old meter.new) }
     ensures spends { Spends 24 (length buffer.new) meter.old meter.new }
     ensures told { IfErr result (λ fault. IsToldOf fault.kind fault.offset fault.size meter.old.source meter.new.source) }
     ensures good { (file : List ℕ) → IsGood meter.old.source.store file → IfErr result (λ fault. IsOfSource fault.kind → ⊥) }
@@ -102,7 +107,7 @@ fn read_unloaded<S: Store>(
 }
 
 /// The item of the system, or the fault of its name.
-#[tactic(auto, using(crate::proofs::NamedItems::system_read, crate::proofs::Fetches::told_of_later))]
+#[tactic(auto, using(crate::proofs::NamedItems::system_read, crate::proofs::Fetches::told_of_later, crate::proofs::Naming::source_reached))]
 fn read_system<S: Store>(
     meter: &mut Meter<S>,
     window: &mut [u8],
@@ -122,6 +127,8 @@ fn read_system<S: Store>(
     ensures stays { IfOk result (λ step. (e : Entry) → current_by step e ≡ e) }
     ensures begins { IfOk result (λ step. (z : ℕ) → head_told z step ≡ 0) }
     ensures fetches { FetchesAtMost (record_spent (length buffer.new) Kind.System result) meter.old.source meter.new.source }
+    ensures named { IfOk result (λ step. Reaches (told_once step) meter.old meter.new) }
+    ensures at_fault { IfErr result (λ fault. ReachesAtFault fault.kind meter.old meter.new) }
     ensures spends { Spends 56 (length buffer.new) meter.old meter.new }
     ensures told { IfErr result (λ fault. IsToldOf fault.kind fault.offset fault.size meter.old.source meter.new.source) }
     ensures good { (file : List ℕ) → IsGood meter.old.source.store file → IfErr result (λ fault. IsOfSource fault.kind → ⊥) }
@@ -143,6 +150,7 @@ fn read_system<S: Store>(
 
 /// The item of the record at `at`, or the fault of its name. The bytes of a range of a 64-bit memory
 /// list stand at `offset`.
+#[tactic(auto, using(crate::proofs::Naming::source_reached))]
 pub(crate) fn read_item<S: Store>(
     meter: &mut Meter<S>,
     window: &mut [u8],
@@ -167,6 +175,8 @@ pub(crate) fn read_item<S: Store>(
     ensures begins { IfOk result (λ step. (z : ℕ) → head_told z step ≡ 0) }
     ensures length { length buffer.new ≡ length buffer.old }
     ensures fetches { FetchesAtMost (record_spent (length buffer.new) kind result) meter.old.source meter.new.source }
+    ensures named { IfOk result (λ step. Reaches (told_once step) meter.old meter.new) }
+    ensures at_fault { IfErr result (λ fault. ReachesAtFault fault.kind meter.old meter.new) }
     ensures spends { Spends (record_size kind) (length buffer.new) meter.old meter.new }
     ensures told { IfErr result (λ fault. IsToldOf fault.kind fault.offset fault.size meter.old.source meter.new.source) }
     ensures good { (file : List ℕ) → IsGood meter.old.source.store file → IfErr result (λ fault. IsOfSource fault.kind → ⊥) }

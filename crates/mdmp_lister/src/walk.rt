@@ -5,6 +5,7 @@ ghost use Rattle.mdmp_source.specs.Store.{IsGood};
 ghost use Rattle.mdmp_source.specs.Source.{FailsOnce, FetchesAtMost, IsTold};
 ghost use Rattle.mdmp_source.specs.declared.fault.SourceFault.{SourceFault};
 ghost use Rattle.mdmp_lister.specs.Opening.{IsHandedBack, IsDirectoryRefusal, IsOpenRefusal, IsUnread, IsUnreadFor, directory_refusal};
+ghost use Rattle.mdmp_lister.specs.Reaching.{Reaches, ReachesAtFault, given_once, told_once};
 ghost use Rattle.mdmp_lister.specs.Reading.{IsOfSource, IsToldIn};
 ghost use Rattle.mdmp_lister.specs.Stages.{IsStageAfter, ends, fault_stage, stop_after, stop_given, stop_of};
 ghost use Rattle.mdmp_lister.specs.Steps.{CurrentAfter, IsNameHeld, IsStepHeld, current_by, passed_by, step_item};
@@ -12,7 +13,7 @@ ghost use Rattle.mdmp_lister.specs.Counts.{range_count};
 ghost use Rattle.mdmp_lister.specs.Owing.{HasRoom, count_answered, ranges_by, count_given, count_told};
 ghost use Rattle.mdmp_lister.specs.Costs.{given_spent, head_left, head_told, step_spent};
 ghost use Rattle.mdmp_lister.specs.Heads.{head_of, heads_ahead};
-ghost use Rattle.mdmp_lister.specs.Meter.{Books};
+ghost use Rattle.mdmp_lister.specs.Meter.{Books, IsBooked, Moves, counts_of};
 ghost use Rattle.mdmp_lister.specs.Paying.{IsPaid};
 ghost use Rattle.mdmp_lister.specs.Listing.{list_fault, with_item};
 ghost use Rattle.mdmp_lister.specs.Items.{plain};
@@ -139,6 +140,9 @@ impl<S: Store + Drop, A: Allocator + Copy> Walk<S, A> {
         ensures sound { IsSound self.new }
         ensures room { HasRoom room (count_answered result) self.new }
         ensures same { SameRoom self.old self.new }
+        ensures counts { Moves 1 (counts_of self.old.meter) (counts_of self.new.meter) }
+        ensures at_fault { stop_of self.old.stage ≡ None → IfErr result (λ fault. ReachesAtFault fault.kind self.old.meter self.new.meter) }
+        ensures named { IfOk result (λ given. Reaches (given_once given) self.old.meter self.new.meter) }
         ensures fetches { FetchesAtMost (head_left self.old.meter.source.size self.old.current self.old.stage + given_spent (vec_len self.old.name) self.old.current result)
             self.old.meter.source self.new.meter.source }
         ensures begins { IfOk result (λ given. IfSome given (λ step. head_left self.new.meter.source.size self.new.current self.new.stage ≡ head_told self.old.meter.source.size step)) }
@@ -178,7 +182,8 @@ impl<S: Store + Drop, A: Allocator + Copy> Walk<S, A> {
 
     /// Hands the source back.
     pub(crate) fn into_source(self) -> Source<S>
-        ensures { result ≡ self.meter.source }
+        ensures value { result ≡ self.meter.source }
+        ensures booked { IsBooked self.meter }
     {
         let Walk { meter, .. } = self;
         meter.into_source()
@@ -208,6 +213,9 @@ impl<S: Store + Drop, A: Allocator + Copy> Walk<S, A> {
         ensures sound { IsSound self.new }
         ensures room { (room : ℕ) → HasRoom room 0 self.old → HasRoom room (count_answered result) self.new }
         ensures same { SameRoom self.old self.new }
+        ensures counts { Moves 1 (counts_of self.old.meter) (counts_of self.new.meter) }
+        ensures at_fault { IfErr result (λ fault. ReachesAtFault fault.kind self.old.meter self.new.meter) }
+        ensures named { IfOk result (λ given. Reaches (given_once given) self.old.meter self.new.meter) }
         ensures fetches { FetchesAtMost (given_spent (vec_len self.old.name) self.old.current result) self.old.meter.source self.new.meter.source }
         ensures begins { IfOk result (λ given. IfSome given (λ step. head_left self.new.meter.source.size self.new.current self.new.stage ≡ head_told self.old.meter.source.size step)) }
         ensures paid { (allowed before : ℕ) → IsPaid allowed before self.old → IsPaid allowed before self.new }
@@ -245,6 +253,8 @@ impl<S: Store + Drop, A: Allocator + Copy> Walk<S, A> {
         ensures room { HasRoom room 0 self.new }
         ensures same { SameEntry self.old self.new }
         ensures name { self.new.name ≡ self.old.name }
+        ensures at_fault { IfErr result (λ fault. ReachesAtFault fault.kind self.old.meter self.new.meter) }
+        ensures counts { Moves 0 (counts_of self.old.meter) (counts_of self.new.meter) }
         ensures fetches { FetchesAtMost (head_of self.old.meter.source.size self.old.current) self.old.meter.source self.new.meter.source }
         ensures paid { (allowed before : ℕ) → IsPaid allowed before self.old → IsPaid allowed before self.new }
         ensures entry { (file : List ℕ) → self.old.meter.source.store.content ≡ Some file → Keeps (current_of self.old file) result (current_of self.new file) }
@@ -301,6 +311,9 @@ impl<S: Store + Drop, A: Allocator + Copy> Walk<S, A> {
         ensures room { (room : ℕ) → HasRoom room 0 self.old
             → MatchResult result (λ step. HasRoom room (count_told step) self.new) (λ _. HasRoom room 0 self.new) }
         ensures same { SameEntry self.old self.new }
+        ensures counts { Moves 1 (counts_of self.old.meter) (counts_of self.new.meter) }
+        ensures at_fault { IfErr result (λ fault. ReachesAtFault fault.kind self.old.meter self.new.meter) }
+        ensures named { IfOk result (λ step. Reaches (told_once step) self.old.meter self.new.meter) }
         ensures fetches { FetchesAtMost (step_spent (vec_len self.old.name) self.old.current result) self.old.meter.source self.new.meter.source }
         ensures begins { IfOk result (λ step. head_left self.new.meter.source.size self.new.current self.new.stage ≡ head_told self.old.meter.source.size step) }
         ensures paid { (allowed before : ℕ) → IsPaid allowed before self.old → IsPaid allowed before self.new }

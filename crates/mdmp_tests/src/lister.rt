@@ -1,5 +1,6 @@
 //! Tests of `mdmp_lister`.
 mod addresses;
+mod bounds;
 mod calls;
 mod changes;
 mod choices;

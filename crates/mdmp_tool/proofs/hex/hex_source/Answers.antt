@@ -16,7 +16,7 @@ returns-clause-hexes g c = λ file known.
 pub returns-clause-fetches : goal.returns-clause-fetches
 returns-clause-fetches g c =
     let more = c.hex_listed-answer.ensures.fetches in
-    rw c.into_source.ensures (record {
+    rw c.into_source.ensures.value (record {
       count = _ + more.count;
       fetches = fetches_then _ _ _ _ _ c.in-Ok.ensures.new.fetches more.fetches;
     })

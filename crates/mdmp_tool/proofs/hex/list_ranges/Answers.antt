@@ -13,10 +13,10 @@ pub returns-in-Err-Stopped-clause-lists : goal.returns-in-Err-Stopped-clause-lis
 returns-in-Err-Stopped-clause-lists g c = let run = rw c.in-Err-Stopped.field-0-is at c.in-Err-Stopped.ensures.runs in absurd (never_stopped run.0 _ _ run.1.0)
 
 pub returns-in-Ok-clause-fetches : goal.returns-in-Ok-clause-fetches
-returns-in-Ok-clause-fetches g c = record { count = _; fetches = c.in-Ok.ensures.runs.1.1.1.1.1.1.1 }
+returns-in-Ok-clause-fetches g c = record { count = _; fetches = c.in-Ok.ensures.runs.1.1.1.1.1.1.1.1 }
 
 pub returns-in-Err-At-clause-fetches : goal.returns-in-Err-At-clause-fetches
-returns-in-Err-At-clause-fetches g c = record { count = _; fetches = c.list_into.ensures.runs.1.1.1.1.1.1.1 }
+returns-in-Err-At-clause-fetches g c = record { count = _; fetches = c.list_into.ensures.runs.1.1.1.1.1.1.1.1 }
 
 pub returns-in-Err-Stopped-clause-fetches : goal.returns-in-Err-Stopped-clause-fetches
-returns-in-Err-Stopped-clause-fetches g c = record { count = _; fetches = c.list_into.ensures.runs.1.1.1.1.1.1.1 }
+returns-in-Err-Stopped-clause-fetches g c = record { count = _; fetches = c.list_into.ensures.runs.1.1.1.1.1.1.1.1 }

@@ -21,7 +21,7 @@ returns-clause-lists g c = λ file known.
 pub returns-clause-fetches : goal.returns-clause-fetches
 returns-clause-fetches g c =
     let more = c.list_file-answer.ensures.fetches in
-    rw c.into_source.ensures (record {
+    rw c.into_source.ensures.value (record {
       count = _ + more.count;
       fetches = fetches_then _ _ _ _ _ c.in-Ok.ensures.new.fetches more.fetches;
     })

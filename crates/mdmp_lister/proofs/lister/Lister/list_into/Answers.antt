@@ -6,17 +6,17 @@ use Rattle.mdmp_lister.specs.Handing.{give_all}
 use Rattle.mdmp_lister.specs.Lister.{ListerState, tail}
 use Rattle.mdmp_lister.specs.Listing.{only_fault}
 use Rattle.mdmp_lister.proofs.Advancing.{current_after-plain, passed_after-plain}
-use Rattle.mdmp_lister.proofs.Handing.{AllClassed-more, HasCost-fault, HasCost-more, HasCost-most, HasCost-none, current_behind-more, give_all-next, passed_behind-more, same_lister-then, Taken-more, TakenToStop-end}
+use Rattle.mdmp_lister.proofs.Handing.{AllClassed-more, HasCost-fault, HasCost-more, HasCost-most, HasCost-none, current_behind-more, give_all-next, names_of_all-more, passed_behind-more, same_lister-then, Taken-more, TakenToStop-end}
 use Rattle.mdmp_lister.proofs.Mapping.{ranges_of-more}
 use Rattle.mdmp_lister.proofs.lister.Lister.list_into.Goals as goal
 
 pub loop-item-init : goal.loop-item-init
 loop-item-init g c = record {
-  same = record { header_is = refl; entries = refl; choice = refl; limit = refl; rooms = refl };
+  same = record { header_is = refl; entries = refl; choice = refl; limit = refl; rooms = refl; aside = refl; start = refl };
   going = λ none. none;
   stays = λ stop same. (refl, refl);
   rests = omega arith;
-  given = ([], (refl, (refl, (refl, (tt, (sym (append-nil c.args.self.now.ranges), (λ left known. (left, (known, refl)), HasCost-none c.args.self.now.head c.args.self.now.source)))))));
+  given = ([], (refl, (refl, (refl, (tt, (sym (append-nil c.args.self.now.ranges), (λ left known. (left, (known, refl)), (omega arith, HasCost-none c.args.self.now.head c.args.self.now.source))))))));
 }
 
 pub returns-in-Ok-None-clause-same : goal.returns-in-Ok-None-clause-same
@@ -35,7 +35,7 @@ returns-in-Err-take-clause-runs g c =
     let item = plain c.in-Ok-Some.item in
     let all_classed =
     AllClassed-more _ run.0 c.in-Ok-Some.item _ _ c.next.follows.lender-at-none.current run.1.1.1.1.0 run.1.1.1.0 (rw (c.in-Ok-Some.is, c.in-Ok-Some.field-0-is) at holds.current)
-    (rw (run.1.1.1.1.1.1.1.fetches.same_size, c.in-Ok-Some.is, c.in-Ok-Some.field-0-is) at holds.classed)
+    (rw (run.1.1.1.1.1.1.1.1.fetches.same_size, c.in-Ok-Some.is, c.in-Ok-Some.field-0-is) at holds.classed)
     in (
       run.0 ++ item ∷ [],
       (
@@ -53,7 +53,7 @@ returns-in-Err-take-clause-runs g c =
                       let rest = run.1.1.1.1.1.1.0 left known in
                       let first : slice_get rest.0.items 0 ≡ Some item = rw c.in-Ok-Some.field-0-is at (c.in-Ok-Some.ensures.gives rest.0 rest.1.0) in
                       (tail rest.0, (rw (c.in-Ok-Some.is, c.in-Ok-Some.field-0-is, rest.1.0) at holds.left, give_all-next left run.0 item rest.0 rest.1.1 first)),
-                  HasCost-most _ _ _ _ _ (HasCost-more _ _ _ _ run.0 _ run.1.1.1.1.1.1.1 _ c.in-Ok-Some.item (rw (c.in-Ok-Some.is, c.in-Ok-Some.field-0-is) at holds.fetches) (rw (c.in-Ok-Some.is, c.in-Ok-Some.field-0-is) at holds.head)),
+                  (names_of_all-more run.0 c.in-Ok-Some.item _ _ _ run.1.1.1.1.1.1.1.0 (rw (c.in-Ok-Some.is, c.in-Ok-Some.field-0-is) at holds.names), HasCost-most _ _ _ _ _ (HasCost-more _ _ _ _ run.0 _ run.1.1.1.1.1.1.1.1 _ c.in-Ok-Some.item (rw (c.in-Ok-Some.is, c.in-Ok-Some.field-0-is) at holds.fetches) (rw (c.in-Ok-Some.is, c.in-Ok-Some.field-0-is) at holds.head))),
                 ),
               ),
             ),
@@ -70,7 +70,7 @@ loop-item-preserved g c =
     let item = plain c.in-Ok-Some.item in
     let all_classed =
     AllClassed-more _ run.0 c.in-Ok-Some.item _ _ c.next.follows.lender-at-none.current run.1.1.1.1.0 run.1.1.1.0 (rw (c.in-Ok-Some.is, c.in-Ok-Some.field-0-is) at holds.current)
-    (rw (run.1.1.1.1.1.1.1.fetches.same_size, c.in-Ok-Some.is, c.in-Ok-Some.field-0-is) at holds.classed)
+    (rw (run.1.1.1.1.1.1.1.1.fetches.same_size, c.in-Ok-Some.is, c.in-Ok-Some.field-0-is) at holds.classed)
     in
     record {
       same = same_lister-then _ _ _ so_far.same holds.same;
@@ -97,7 +97,7 @@ loop-item-preserved g c =
                         let rest = run.1.1.1.1.1.1.0 left known in
                         let first : slice_get rest.0.items 0 ≡ Some item = rw c.in-Ok-Some.field-0-is at (c.in-Ok-Some.ensures.gives rest.0 rest.1.0) in
                         (tail rest.0, (rw (c.in-Ok-Some.is, c.in-Ok-Some.field-0-is, rest.1.0) at holds.left, give_all-next left run.0 item rest.0 rest.1.1 first)),
-                    HasCost-more _ _ _ _ run.0 _ run.1.1.1.1.1.1.1 _ c.in-Ok-Some.item (rw (c.in-Ok-Some.is, c.in-Ok-Some.field-0-is) at holds.fetches) (rw (c.in-Ok-Some.is, c.in-Ok-Some.field-0-is) at holds.head),
+                    (names_of_all-more run.0 c.in-Ok-Some.item _ _ _ run.1.1.1.1.1.1.1.0 (rw (c.in-Ok-Some.is, c.in-Ok-Some.field-0-is) at holds.names), HasCost-more _ _ _ _ run.0 _ run.1.1.1.1.1.1.1.1 _ c.in-Ok-Some.item (rw (c.in-Ok-Some.is, c.in-Ok-Some.field-0-is) at holds.fetches) (rw (c.in-Ok-Some.is, c.in-Ok-Some.field-0-is) at holds.head)),
                   ),
                 ),
               ),
@@ -128,7 +128,7 @@ returns-in-Err-clause-runs g c =
                   λ left known.
                       let rest = run.1.1.1.1.1.1.0 left known in
                       (only_fault f, (rw (c.in-Err.is, rest.1.0) at holds.left, ((rest.0, rest.1.1), (λ not. rest.1.1 ∙ ap (give_all run.0) (c.in-Err.ensures.gives rest.0 rest.1.0 not), refl)))),
-                  HasCost-fault _ _ _ _ run.0 _ run.1.1.1.1.1.1.1 _ _ _ _ f so_far.same.limit run.1.1.1.0 (rw c.in-Err.is at holds.fetches),
+                  ((omega (arith, run.1.1.1.1.1.1.1.0, holds.counts.more_names), omega (arith, run.1.1.1.1.1.1.1.0, holds.counts.most_names)), HasCost-fault _ _ _ _ run.0 _ run.1.1.1.1.1.1.1.1 _ _ _ _ f so_far.same.limit run.1.1.1.0 (rw c.in-Err.is at holds.fetches)),
                 ),
               ),
             ),

@@ -1,7 +1,7 @@
-use Rattle.std.proofs.Common.{◌≡◌, ◌≤◌, ◌++◌, List, Option, Some, None}
+use Rattle.std.proofs.Common.{◌≡◌, ◌≤◌, ◌+◌, ◌++◌, List, Option, Some, None}
 use Rattle.mdmp_lister.specs.declared.fault.ListFault.{ListFault}
 use Rattle.mdmp_lister.specs.declared.item.Item.{Item}
-use Rattle.mdmp_lister.specs.Handing.{AllClassed, Taken, current_behind, give_all, passed_behind}
+use Rattle.mdmp_lister.specs.Handing.{AllClassed, Taken, current_behind, give_all, names_of_all, passed_behind}
 use Rattle.mdmp_lister.specs.Lister.{IsSameLister}
 use Rattle.mdmp_lister.specs.Listing.{Run}
 use Rattle.mdmp_lister.specs.Ranges.{ranges_of}
@@ -21,7 +21,8 @@ invariant-loop-item g l = record {
       × (AllClassed l.initial.self.source.size l.initial.self.current xs
       × ((l.self.ranges ≡ l.initial.self.ranges ++ ranges_of xs)
       × (((left : Run) → l.initial.self.left ≡ Some left → (rest : Run) × ((l.self.left ≡ Some rest) × (left ≡ give_all xs rest)))
-      × HasCost l.initial.self.head l.initial.self.source xs l.self.head l.self.source))))));
+      × ((l.self.counts.names ≡ l.initial.self.counts.names + names_of_all xs)
+      × HasCost l.initial.self.head l.initial.self.source xs l.self.head l.self.source)))))));
 }
 
 abbrev pub decreases-loop-item : goal.decreases-loop-item

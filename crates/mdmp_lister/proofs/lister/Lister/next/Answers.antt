@@ -1,4 +1,4 @@
-use Rattle.std.proofs.Common.{◌≡◌, ◌++◌, ℕ, List, Err, Some, None, slice_get, refl, rules, sym, ap, ◌∙◌}
+use Rattle.std.proofs.Common.{arith, ◌≡◌, ◌++◌, ℕ, List, Err, Some, None, slice_get, refl, rules, sym, ap, ◌∙◌}
 use Rattle.std.proofs.lemmas.List.{append-nil}
 use Rattle.mdmp_lister.specs.Items.{plain}
 use Rattle.mdmp_lister.specs.Lister.{tail}
@@ -10,7 +10,8 @@ use Rattle.mdmp_lister.proofs.Advancing.{becomes, option_map-then, of_run, passe
 use Rattle.mdmp_lister.proofs.Classes.{classed-given}
 use Rattle.mdmp_lister.proofs.Costs.{head_given-step, head_left-stopped, item_cost-step}
 use Rattle.mdmp_lister.proofs.Ending.{left_of-fault}
-use Rattle.mdmp_lister.proofs.Mapping.{kept, mapped_step, placed-classed, ranges-given}
+use Rattle.mdmp_lister.proofs.Mapping.{kept, mapped_step, same_file, placed-classed, ranges-given}
+use Rattle.mdmp_lister.proofs.Naming.{faulty_most, names_given}
 use Rattle.mdmp_lister.proofs.Paying.{bounded_then}
 use Rattle.mdmp_lister.proofs.lister.Lister.next.Goals as goal
 
@@ -25,8 +26,11 @@ returns-in-None g c =
         refl,
         λ _. tt,
         record {
-          same = record { header_is = c.advance.ensures.same.header_is; choice = c.advance.ensures.same.choice; limit = c.advance.ensures.same.name; entries = same_entries w n c.advance.ensures.same; rooms = same_rooms w n c.self.inside.map.room c.advance.ensures.same };
+          same = record { aside = c.advance.ensures.counts.same_aside; start = c.advance.ensures.counts.same_start; header_is = c.advance.ensures.same.header_is; choice = c.advance.ensures.same.choice; limit = c.advance.ensures.same.name; entries = same_entries w n c.advance.ensures.same; rooms = same_rooms w n c.self.inside.map.room c.advance.ensures.same };
           fetches = rw c.in-None.is at c.in_ok-advance.ensures.fetches;
+          counts = c.advance.ensures.counts;
+          names_at_fault = λ _. tt;
+          names = let none = rw c.in-None.is at c.in_ok-advance.ensures.named in omega (arith, none);
           head = head_left-stopped n.meter.source.size n.current n.stage None (rw c.in-None.is at c.in_ok-advance.ensures.stage);
           left = option_map-then (left_of w) (left_of n) (λ run. run) w.meter.source.store.content (λ file known. (none file known).1 ∙ sym (none file known).0) n.meter.source.store.content c.advance.ensures.fetches.same_content;
           stop = rw c.in-None.is at c.in_ok-advance.ensures.stage;
@@ -62,8 +66,11 @@ returns-in-Some g c =
         refl,
         λ _. tt,
         record {
-          same = record { header_is = c.advance.ensures.same.header_is; choice = c.advance.ensures.same.choice; limit = c.advance.ensures.same.name; entries = same_entries w n c.advance.ensures.same; rooms = rw c.push_range.ensures (same_rooms w n c.self.inside.map.room c.advance.ensures.same) };
+          same = record { aside = c.advance.ensures.counts.same_aside; start = c.advance.ensures.counts.same_start; header_is = c.advance.ensures.same.header_is; choice = c.advance.ensures.same.choice; limit = c.advance.ensures.same.name; entries = same_entries w n c.advance.ensures.same; rooms = rw c.push_range.ensures (same_rooms w n c.self.inside.map.room c.advance.ensures.same) };
           fetches = rw (item_cost-step n.meter.source.size n.name.items c.in-Some.step c.item.result (rw n.name.ok.0 at held.0) c.item.ensures) (rw c.in-Some.is at c.in_ok-advance.ensures.fetches);
+          counts = c.advance.ensures.counts;
+          names_at_fault = λ _. tt;
+          names = names_given n.meter.source.size n.name.items c.in-Some.step c.item.result w.meter.names n.meter.names c.item.ensures (omega (arith, c.self.invariant.bounded.names)) (rw c.in-Some.is at c.in_ok-advance.ensures.named);
           head = (rw c.in-Some.is at c.in_ok-advance.ensures.begins) ∙ sym (head_given-step w.meter.source.size n.meter.source.size n.name.items c.in-Some.step c.item.result c.item.ensures);
           left = option_map-then (left_of w) (left_of n) tail w.meter.source.store.content (λ file known. sym (ap tail (given file known))) n.meter.source.store.content c.advance.ensures.fetches.same_content;
           stop = rw c.in-Some.is at c.in_ok-advance.ensures.stage;
@@ -98,8 +105,11 @@ returns-in_err-advance g c =
         refl,
         λ _. tt,
         record {
-          same = record { header_is = e.same.header_is; choice = e.same.choice; limit = e.same.name; entries = same_entries w n e.same; rooms = same_rooms w n c.self.inside.map.room e.same };
+          same = record { aside = e.counts.same_aside; start = e.counts.same_start; header_is = e.same.header_is; choice = e.same.choice; limit = e.same.name; entries = same_entries w n e.same; rooms = same_rooms w n c.self.inside.map.room e.same };
           fetches = e.fetches;
+          counts = e.counts;
+          names_at_fault = λ going. let at = e.at_fault going in (omega (arith, at.0, c.self.invariant.bounded.names, faulty_most f.kind), at.1);
+          names = tt;
           head = head_left-stopped n.meter.source.size n.current n.stage (Some f) e.stage;
           left = option_map-then (left_of w) (left_of n) (λ _. only_fault f) w.meter.source.store.content (λ file known. left_of-fault n file f e.failed) n.meter.source.store.content e.fetches.same_content;
           stop = e.stage;
@@ -129,15 +139,15 @@ pub invariant_of-self-in-Some : goal.invariant_of-self-in-Some
 invariant_of-self-in-Some g c =
     let given = rw c.in-Some.is at c.in_ok-advance.ensures.held in
     let room = rw (c.free.ensures.value, c.in-Some.is) at c.in_ok-advance.ensures.room in
-    rw c.push_range.ensures (mapped_step c.self.inside.walk c.advance.new.self c.self.inside.map _ c.in-Some.step c.self.invariant c.advance.ensures.sound c.advance.ensures.fetches.same_size room
+    rw c.push_range.ensures (mapped_step c.self.inside.walk c.advance.new.self c.self.inside.map _ c.in-Some.step c.self.invariant c.advance.ensures.sound (same_file _ _ _ c.advance.ensures.fetches c.advance.ensures.same) room
     (bounded_then c.self.inside.walk c.advance.new.self c.self.invariant.bounded c.advance.ensures.paid c.advance.ensures.same c.advance.ensures.fetches.same_size) given.1)
 
 pub invariant_of-self : goal.invariant_of-self
 invariant_of-self g c =
-    kept c.self.inside.walk c.advance.new.self c.self.inside.map c.self.invariant c.advance.ensures.sound c.advance.ensures.fetches.same_size (rw c.free.ensures.value at c.in_err-advance.ensures.room)
+    kept c.self.inside.walk c.advance.new.self c.self.inside.map c.self.invariant c.advance.ensures.sound (same_file _ _ _ c.advance.ensures.fetches c.advance.ensures.same) (rw c.free.ensures.value at c.in_err-advance.ensures.room)
     (bounded_then c.self.inside.walk c.advance.new.self c.self.invariant.bounded c.advance.ensures.paid c.advance.ensures.same c.advance.ensures.fetches.same_size)
 
 pub invariant_of-self-in-None : goal.invariant_of-self-in-None
 invariant_of-self-in-None g c =
-    kept c.self.inside.walk c.advance.new.self c.self.inside.map c.self.invariant c.advance.ensures.sound c.advance.ensures.fetches.same_size (rw (c.free.ensures.value, c.in-None.is) at c.in_ok-advance.ensures.room)
+    kept c.self.inside.walk c.advance.new.self c.self.inside.map c.self.invariant c.advance.ensures.sound (same_file _ _ _ c.advance.ensures.fetches c.advance.ensures.same) (rw (c.free.ensures.value, c.in-None.is) at c.in_ok-advance.ensures.room)
     (bounded_then c.self.inside.walk c.advance.new.self c.self.invariant.bounded c.advance.ensures.paid c.advance.ensures.same c.advance.ensures.fetches.same_size)

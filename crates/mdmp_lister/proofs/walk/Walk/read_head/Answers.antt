@@ -69,7 +69,7 @@ returns-else-ranges_by-room-clause-paid g c = λ allowed before paid.
     paid_headed allowed before (head_spent at.size kind) w _ paid c.read_head.ensures.books (search rules) c.read_head.ensures.fetches.same_size
     (rw (c.requires.head, entry_cost-listed w.meter.source.size w.current kind known inside)
     (head_paid at.size kind c.in-Ok.head.shape c.in-Ok.ensures.fits c.in-Ok.ensures.head))
-    (rw c.requires.head (omega (arith, c.read_head.type_inv)))
+    (rw c.requires.head (omega (arith, c.in-Ok.ensures.few)))
 
 pub returns-then-ranges_by-room-clause-paid : goal.returns-then-ranges_by-room-clause-paid
 returns-then-ranges_by-room-clause-paid g c = λ allowed before paid.
