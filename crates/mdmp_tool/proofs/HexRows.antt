@@ -105,6 +105,10 @@ grouped-length = refl
 blank-length : length_named (codes " 1") ≡ None
 blank-length = refl
 
+-- a span may have no addresses
+no_bytes-span : span_named (codes "4096") (codes "0") ≡ span 4096 0
+no_bytes-span = refl
+
 -- a span may end at the last address
 last-span : span_named (codes "0xFFFFFFFFFFFFFFF8") (codes "8") ≡ span 0xfffffffffffffff8 8
 last-span = refl
