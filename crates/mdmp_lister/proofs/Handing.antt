@@ -20,6 +20,7 @@ use Rattle.mdmp_lister.proofs.Costs.{head_given-plain, item_cost-plain}
 use Rattle.mdmp_lister.proofs.Fetches.{FetchesAtMost-none, FetchesAtMost-within}
 use Rattle.mdmp_lister.specs.Lister.{IsSameLister, ListerState, current_after, passed_after, tail}
 use Rattle.mdmp_lister.specs.Listing.{Run, with_item}
+use Rattle.mdmp_lister.specs.Ranges.{ranges_of}
 
 pub give_all-more : (old : Run) (xs : List Item) (x : Item) (rest new : Run) → old ≡ give_all xs rest → rest ≡ with_item x new → old ≡ give_all (xs ++ x ∷ []) new
 give_all-more old xs x rest new given next = given ∙ rw (next, append_assoc) refl
@@ -118,3 +119,17 @@ module _ (head : ℕ) (old mid new : SourceState) (xs : List Item) (left : ℕ) 
 
 pub HasCost-most : (head : ℕ) (old new : SourceState) (xs : List Item) (left : ℕ) → HasCost head old xs left new → FetchesAtMost (head + items_cost old.size xs + 0) old new
 HasCost-most head old new xs left cost = FetchesAtMost-within _ _ old new (omega (arith, cost.within)) cost.fetches
+
+-- ---- a run so far
+
+-- some items were given, and the sink took them
+pub record HasGiven {K : Type 0} (step : K → Item → Result (Unit {0}) Stopped → K → Type 0) (old : ListerState) (k : K) (new : ListerState) (l : K) : Type 0 where
+  pub items : List Item
+  pub taken : Taken step k items l
+  pub passed : new.passed ≡ passed_behind items old.passed
+  pub current : new.current ≡ current_behind items old.current
+  pub classed : AllClassed old.source.size old.current items
+  pub ranges : new.ranges ≡ old.ranges ++ ranges_of items
+  pub left : (left : Run) → old.left ≡ Some left → (rest : Run) × ((new.left ≡ Some rest) × (left ≡ give_all items rest))
+  pub names : new.counts.names ≡ old.counts.names + names_of_all items
+  pub cost : HasCost old.head old.source items new.head new.source

@@ -1,15 +1,15 @@
 -- The heads that are fetched as a file is opened, one by one.
-use Rattle.std.proofs.Common.{◌≡◌, ◌≤◌, ◌<◌, ◌+◌, ◌⊎◌, ℕ, List, Some, true, inl, inr, refl, subst, sym, length, get_or, take}
+use Rattle.std.proofs.Common.{◌≡◌, ◌≤◌, ◌<◌, ◌+◌, ◌*◌, ◌⊎◌, ℕ, List, [], ◌∷◌, Bool, Option, Some, true, false, if◌then◌else◌, inl, inr, refl, subst, sym, length, get_or, take}
 use Rattle.std.proofs.lemmas.Grind.{common_steps}
 use Rattle.std.proofs.Common.{arith}
-use Rattle.std.proofs.lemmas.List.Sums.{sum_by_more, sum_by-take-le}
+use Rattle.std.proofs.lemmas.List.Sums.{sum_by-cons, sum_by_more, sum_by-take-le}
 use Rattle.mdmp_source.specs.Range.{IsInside}
 use Rattle.mdmp_source.specs.Source.{SourceState, FetchesAtMost}
 use Rattle.mdmp_wire.specs.declared.entry.Entry.{Entry}
 use Rattle.mdmp_lister.specs.declared.choice.Choice.{Choice}
 use Rattle.mdmp_lister.specs.declared.kind.Kind.{Kind}
 use Rattle.mdmp_lister.specs.declared.kind.Kind.TheVariants as kinds
-use Rattle.mdmp_lister.specs.Heads.{ahead_of, chosen_ahead, head_inside, head_of, head_spent, heads_ahead}
+use Rattle.mdmp_lister.specs.Heads.{ahead_by, ahead_of, chosen_ahead, head_cost, head_inside, head_of, head_spent, heads_ahead}
 use Rattle.mdmp_lister.specs.Listing.{is_chosen}
 use Rattle.mdmp_lister.specs.Meter.{Books, MeterState}
 use Rattle.mdmp_lister.specs.Shapes.{kind_of}
@@ -56,3 +56,29 @@ module _ (choice : Choice) (z at : ℕ) (es : List Entry) (d : Entry) (h : at < 
 
 pub heads-most : (choice : Choice) (z at : ℕ) (es : List Entry) → heads_ahead choice z (take at es) ≤ heads_ahead choice z es
 heads-most choice z at es = sum_by-take-le (chosen_ahead choice z) es at
+
+-- ---- heads are short
+
+if_most : (b : Bool) (n most : ℕ) → n ≤ most → (if b then n else 0) ≤ most
+if_most true n most le = le
+if_most false n most le = omega arith
+
+unless_most : (b : Bool) (n most : ℕ) → n ≤ most → (if b then 0 else n) ≤ most
+unless_most true n most le = omega arith
+unless_most false n most le = le
+
+inside_most : (z : ℕ) (e : Entry) (kind : Kind) → head_cost kind ≤ 16 → head_inside z e kind ≤ 16
+inside_most z e kind few = if_most _ (head_spent e.location.size kind) 16 (unless_most _ (head_cost kind) 16 few)
+
+ahead_most : (z : ℕ) (e : Entry) (kind : Option Kind) → ahead_by z e kind ≤ 16
+ahead_most z e (Some kinds.Memory) = inside_most z e kinds.Memory (omega arith)
+ahead_most z e (Some kinds.Memory64) = inside_most z e kinds.Memory64 (omega arith)
+ahead_most z e _ = omega arith
+
+chosen_most : (choice : Choice) (z : ℕ) (e : Entry) → chosen_ahead choice z e ≤ 16
+unfolding chosen_ahead ahead_of
+chosen_most choice z e = if_most (is_chosen choice e.stream_type) (ahead_by z e (kind_of e.stream_type)) 16 (ahead_most z e (kind_of e.stream_type))
+
+pub heads_few : (choice : Choice) (z : ℕ) (es : List Entry) → heads_ahead choice z es ≤ 16 * length es
+heads_few choice z [] = omega arith
+heads_few choice z (e ∷ es) = omega (arith, sum_by-cons (chosen_ahead choice z) e es, chosen_most choice z e, heads_few choice z es)

@@ -5,44 +5,15 @@ use Rattle.std.proofs.Math.Nat.{mul-le-mul}
 use Rattle.std.proofs.lemmas.List.Sums.{sum_by-cons}
 use Rattle.mdmp_wire.specs.declared.entry.Entry.{Entry}
 use Rattle.mdmp_lister.specs.declared.choice.Choice.{Choice}
-use Rattle.mdmp_lister.specs.declared.kind.Kind.{Kind}
-use Rattle.mdmp_lister.specs.declared.kind.Kind.TheVariants as kinds
 use Rattle.mdmp_lister.specs.declared.walk.Walk.{Walk}
 use Rattle.mdmp_lister.specs.Bounds.{fetch_bound}
 use Rattle.mdmp_lister.specs.Counts.{is_listed, listed, listed_bytes, sizes_of}
 use Rattle.mdmp_lister.specs.Directory.{IsDirectory}
-use Rattle.mdmp_lister.specs.Heads.{ahead_by, ahead_of, chosen_ahead, head_cost, head_inside, head_spent, heads_ahead}
 use Rattle.mdmp_lister.specs.Listing.{Numbered, entries_from, entry_count, entry_of, is_chosen, only_chosen}
 use Rattle.mdmp_lister.specs.Paying.{IsBounded, cost_of, entry_cost}
-use Rattle.mdmp_lister.specs.Shapes.{kind_of}
 use Rattle.mdmp_lister.specs.Walk.{IsSound}
+use Rattle.mdmp_lister.proofs.Heads.{heads_few}
 use Rattle.mdmp_lister.proofs.Paying.{paid_bound}
-
--- ---- heads are short
-
-if_most : (b : Bool) (n most : ℕ) → n ≤ most → (if b then n else 0) ≤ most
-if_most true n most le = le
-if_most false n most le = omega arith
-
-unless_most : (b : Bool) (n most : ℕ) → n ≤ most → (if b then 0 else n) ≤ most
-unless_most true n most le = omega arith
-unless_most false n most le = le
-
-inside_most : (z : ℕ) (e : Entry) (kind : Kind) → head_cost kind ≤ 16 → head_inside z e kind ≤ 16
-inside_most z e kind few = if_most _ (head_spent e.location.size kind) 16 (unless_most _ (head_cost kind) 16 few)
-
-ahead_most : (z : ℕ) (e : Entry) (kind : Option Kind) → ahead_by z e kind ≤ 16
-ahead_most z e (Some kinds.Memory) = inside_most z e kinds.Memory (omega arith)
-ahead_most z e (Some kinds.Memory64) = inside_most z e kinds.Memory64 (omega arith)
-ahead_most z e _ = omega arith
-
-chosen_most : (choice : Choice) (z : ℕ) (e : Entry) → chosen_ahead choice z e ≤ 16
-unfolding chosen_ahead ahead_of
-chosen_most choice z e = if_most (is_chosen choice e.stream_type) (ahead_by z e (kind_of e.stream_type)) 16 (ahead_most z e (kind_of e.stream_type))
-
-pub heads_few : (choice : Choice) (z : ℕ) (es : List Entry) → heads_ahead choice z es ≤ 16 * length es
-heads_few choice z [] = omega arith
-heads_few choice z (e ∷ es) = omega (arith, sum_by-cons (chosen_ahead choice z) e es, chosen_most choice z e, heads_few choice z es)
 
 -- ---- the directory costs what the file's listed streams have
 

@@ -17,6 +17,7 @@ use Rattle.mdmp_lister.specs.Heads.{heads_ahead}
 use Rattle.mdmp_lister.specs.declared.fault.OpenFault.{OpenFault}
 use Rattle.mdmp_lister.specs.declared.fault.OpenFault.TheVariants.{TooShort, BadSignature, BadVersion, DirectoryOutside, TooManyRanges, Source, Memory}
 use Rattle.mdmp_lister.proofs.Fetches.{FetchesAtMost-within}
+use Rattle.mdmp_lister.proofs.Heads.{heads_few}
 use Rattle.mdmp_lister.specs.Opening.{IsDirectoryRefusal, IsHandedBack, IsOfHead, IsRefusalOf, IsUnread, behind_directory, directory_refusal, behind_header}
 
 -- the fault of the directory that a header places in a file of `size` bytes, or none
@@ -65,6 +66,7 @@ IsHandedBack-head choice old new fault fetches calls short = record {
   entries = [];
   obtained = omega arith;
   fetches = fetches;
+  bound = fetches;
   calls = calls;
   known = λ file known. (omega arith, λ i d over. absurd (omega (arith, over)));
   inside = omega arith;
@@ -88,6 +90,7 @@ module _ (choice : Choice) (old mid new : SourceState) (fault : OpenFault) (head
     entries = entries;
     obtained = obtained;
     fetches = FetchesAtMost-within (m + n) (32 + 12 * header.number_of_streams + heads_ahead choice old.size entries) old new few (fetches_then m n old mid new first more);
+    bound = FetchesAtMost-within (m + n) (32 + 28 * header.number_of_streams) old new (omega (arith, few, obtained, heads_few choice old.size entries)) (fetches_then m n old mid new first more);
     calls = calls;
     known = λ file known. let same = ap (λ (h : Header). h.number_of_streams) (read file known).1 in (omega (arith, same), firsts file known);
     inside = within;

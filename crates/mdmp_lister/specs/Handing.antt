@@ -1,14 +1,17 @@
 -- What a run hands to a sink.
-use Rattle.std.specs.Prelude.{◌≡◌, ◌≤◌, ◌+◌, ◌⊎◌, sum_by, ℕ, List, [], ◌∷◌, ◌++◌, Result, Ok, Err}
+use Rattle.std.specs.Prelude.{◌≡◌, ◌≤◌, ◌+◌, ◌⊎◌, sum_by, ℕ, List, [], ◌∷◌, ◌++◌, Option, None, Some, Result, Ok, Err}
+use Rattle.mdmp_source.specs.Source.{FetchesAtMost}
 use Rattle.mdmp_wire.specs.declared.entry.Entry.{Entry}
 use Rattle.mdmp_lister.specs.declared.item.Item.{Item}
 use Rattle.mdmp_lister.specs.declared.sink.RunFault.{RunFault}
 use Rattle.mdmp_lister.specs.declared.sink.RunFault.TheVariants as run
 use Rattle.mdmp_lister.specs.declared.sink.Stopped.{Stopped}
 use Rattle.mdmp_lister.specs.Classes.{IsClassed}
-use Rattle.mdmp_lister.specs.Counts.{names_of}
-use Rattle.mdmp_lister.specs.Lister.{current_after, passed_after}
+use Rattle.mdmp_lister.specs.Costs.{end_cost, items_cost}
+use Rattle.mdmp_lister.specs.Counts.{faulty_name, maybe_name, names_of}
+use Rattle.mdmp_lister.specs.Lister.{ListerState, current_after, passed_after}
 use Rattle.mdmp_lister.specs.Listing.{Run, nothing, only_fault}
+use Rattle.mdmp_lister.specs.Ranges.{ranges_of}
 use Rattle.mdmp_lister.specs.Reading.{IsOfSource}
 
 -- these items, and then a run
@@ -52,6 +55,11 @@ abbrev pub NamesAll : List Item → Result (Unit {0}) RunFault → ℕ → ℕ �
 NamesAll xs (Err (run.At f)) old new = (old + names_of_all xs ≤ new) × (new ≤ old + names_of_all xs + 1)
 NamesAll xs result old new = new ≡ old + names_of_all xs
 
+-- and at a fault that is first answered that of a name, or maybe one where the store failed
+abbrev pub NamesAtEnd : List Item → Result (Unit {0}) RunFault → ℕ → ℕ → Type 0
+NamesAtEnd xs (Err (run.At f)) old new = (old + names_of_all xs + faulty_name f.kind ≤ new) × (new ≤ old + names_of_all xs + maybe_name f.kind)
+NamesAtEnd xs result old new = Unit {0}
+
 module _ {K X : Type 0} (step : K → X → Result (Unit {0}) Stopped → K → Type 0) where
   -- the sink took all of xs
   abbrev pub Taken : K → List X → K → Type 0
@@ -68,3 +76,16 @@ module _ {K X : Type 0} (step : K → X → Result (Unit {0}) Stopped → K → 
   Handed k xs (Ok done) new = Taken k xs new
   Handed k xs (Err (run.At f)) new = Taken k xs new
   Handed k xs (Err run.Stopped) new = TakenToStop k xs new
+
+-- what a run leaves: a sink was handed some items, and the lister has given them
+pub record RunLeaves {K : Type 0} (step : K → Item → Result (Unit {0}) Stopped → K → Type 0) (old : ListerState) (k : K) (result : Result (Unit {0}) RunFault) (new : ListerState) (l : K) : Type 0 where
+  pub items : List Item
+  pub handed : Handed step k items result l
+  pub passed : PassesAll items result old.passed new.passed
+  pub current : new.current ≡ current_behind items old.current
+  pub classed : AllClassed old.source.size old.current items
+  pub ranges : new.ranges ≡ old.ranges ++ ranges_of items
+  pub left : (left : Run) → old.left ≡ Some left → (rest : Run) × ((new.left ≡ Some rest) × GivesAll left items result rest)
+  pub names : NamesAll items result old.counts.names new.counts.names
+  pub names_at_end : old.stop ≡ None → NamesAtEnd items result old.counts.names new.counts.names
+  pub fetches : FetchesAtMost (old.head + items_cost old.source.size items + end_cost old.limit (current_behind items old.current) result) old.source new.source

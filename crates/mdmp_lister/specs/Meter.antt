@@ -2,6 +2,7 @@
 use Rattle.std.specs.Prelude.{◌≡◌, ◌≤◌, ◌<◌, ◌+◌, ◌*◌, ◌^◌, ℕ}
 use Rattle.mdmp_source.specs.Count.{raised}
 use Rattle.mdmp_source.specs.Source.{SourceState}
+use Rattle.mdmp_lister.specs.declared.meter.Amount.{Amount}
 
 -- a source that is read for a listing, as those who read through it see it
 pub record MeterState : Type 0 where
@@ -10,25 +11,29 @@ pub record MeterState : Type 0 where
   pub fetched : ℕ
   pub calls : ℕ
   pub names : ℕ
-  -- the bytes fetched aside
-  pub aside : ℕ
-  -- what the source's own count of bytes was when the listing began
-  pub start : ℕ
+  -- what was fetched aside
+  pub aside : Amount
+  -- what the source's own counts were when the listing began
+  pub start : Amount
 
 -- what was counted, without the source
 pub record MeterCounts : Type 0 where
   pub fetched : ℕ
   pub calls : ℕ
   pub names : ℕ
-  pub aside : ℕ
-  pub start : ℕ
+  pub aside : Amount
+  pub start : Amount
 
 abbrev pub counts_of : MeterState → MeterCounts
 counts_of m = record { fetched = m.fetched; calls = m.calls; names = m.names; aside = m.aside; start = m.start }
 
--- each byte that the source counted since then is booked
-abbrev pub IsBooked : MeterState → Type 0
-IsBooked m = m.source.fetched ≡ raised m.start (m.fetched + m.aside)
+-- each byte and each call that a source counted since then is booked
+pub record IsBookedBy (source : SourceState) (fetched calls : ℕ) (aside start : Amount) : Type 0 where
+  pub bytes : source.fetched ≡ raised start.bytes (fetched + aside.bytes)
+  pub calls_are : source.calls ≡ raised start.calls (calls + aside.calls)
+
+abbrev pub IsBooked : SourceState → MeterCounts → Type 0
+IsBooked source c = IsBookedBy source c.fetched c.calls c.aside c.start
 
 -- some fetches for the listing, of at most n bytes and of no name
 pub record Books (n : ℕ) (old new : MeterState) : Type 0 where
@@ -61,13 +66,13 @@ pub record Moves (n : ℕ) (old new : MeterCounts) : Type 0 where
 -- a count that has begun over a source, of no name and of nothing aside
 pub record IsBegun (source : SourceState) (new : MeterCounts) : Type 0 where
   pub names : new.names ≡ 0
-  pub aside : new.aside ≡ 0
-  pub start : new.start ≡ source.fetched
+  pub aside : new.aside ≡ record { bytes = 0; calls = 0 }
+  pub start : new.start ≡ record { bytes = source.fetched; calls = source.calls }
 
 -- some fetches aside, of at most n bytes
 pub record SpendsAside (n : ℕ) (old new : MeterCounts) : Type 0 where
-  pub aside : new.aside ≤ old.aside + n
-  pub more : old.aside ≤ new.aside
+  pub aside : new.aside.bytes ≤ old.aside.bytes + n
+  pub more : old.aside.bytes ≤ new.aside.bytes
   pub same_fetched : new.fetched ≡ old.fetched
   pub same_calls : new.calls ≡ old.calls
   pub same_names : new.names ≡ old.names

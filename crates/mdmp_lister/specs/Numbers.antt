@@ -1,12 +1,12 @@
 -- The numbers that a lister tells of itself.
 use Rattle.std.specs.Prelude.{◌≡◌, ◌≤◌, ◌<◌, ◌+◌, ◌-◌, ◌*◌, ◌^◌, ℕ, List, length}
-use Rattle.mdmp_source.specs.Count.{raised}
 use Rattle.mdmp_lister.specs.declared.choice.Choice.{Choice}
 use Rattle.mdmp_lister.specs.declared.counts.Counts.{Counts}
 use Rattle.mdmp_lister.specs.Bounds.{fetch_bound, held_bound}
 use Rattle.mdmp_lister.specs.Counts.{listed_bytes, range_count}
 use Rattle.mdmp_lister.specs.Lister.{ListerState}
 use Rattle.mdmp_lister.specs.Listing.{entry_count}
+use Rattle.mdmp_lister.specs.Meter.{IsBooked}
 use Rattle.mdmp_lister.specs.Paying.{cost_of}
 
 -- those of any lister, by the directory that it obtained and the room that it took
@@ -19,7 +19,7 @@ numbers_of v = record {
   held = held_bound v.rooms.window v.limit (length v.entries) v.rooms.ranges;
   fetched = v.counts.fetched;
   calls = v.counts.calls;
-  aside = v.counts.aside;
+  aside = v.counts.aside.bytes;
 }
 
 -- those of a known file are the file's
@@ -32,10 +32,12 @@ pub record AreOfFile (file : List ℕ) (choice : Choice) (c : Counts) : Type 0 w
 abbrev pub bytes_of : ListerState → ℕ
 bytes_of v = v.rooms.window + 12 * length v.entries + 24 * length v.ranges + v.limit
 
--- a lister's lists and fetches stay within the bounds that its numbers tell, and its source's own count has risen by
--- what was fetched or stands at its greatest
+-- a lister's lists and fetches stay within the bounds that its numbers tell, no list has outgrown the room that it took as
+-- the file was opened, and its source's own counts have risen by what was fetched or stand at their greatest
 pub record AreBounds (v : ListerState) (c : Counts) : Type 0 where
   pub held : bytes_of v ≤ c.held
   pub fetched : c.fetched ≤ fetch_bound v.limit c.s c.n c.m
   pub below : c.fetched < 2 ^ 128 - 1
-  pub booked : v.source.fetched ≡ raised v.counts.start (c.fetched + c.aside)
+  pub booked : IsBooked v.source v.counts
+  pub entries : length v.entries ≤ v.rooms.entries
+  pub ranges : length v.ranges ≤ v.rooms.ranges

@@ -104,6 +104,8 @@ pub record IsHandedBack (choice : Choice) (old : SourceState) (fault : OpenFault
   pub entries : List Entry
   pub obtained : length entries ≤ asked
   pub fetches : FetchesAtMost (32 + 12 * asked + heads_ahead choice old.size entries) old new
+  -- at most 16 bytes of each head, so that the bound of what is listed holds here too
+  pub bound : FetchesAtMost (32 + 28 * asked) old new
   pub calls : new.calls ≤ raised old.calls (1 + asked + length entries)
   pub known : (file : List ℕ) → old.store.content ≡ Some file → (asked ≤ entry_count file) × AreFirst file entries
   pub inside : 12 * asked ≤ old.size

@@ -101,8 +101,8 @@ module _ {S A : Type 0} where
     pub steady : IsSteady source w.meter.source
     pub fetched : w.meter.fetched ≤ 32 + 12 * w.header.number_of_streams
     pub names : w.meter.names ≡ 0
-    pub aside : w.meter.aside ≡ 0
-    pub start : w.meter.start ≡ source.fetched
+    pub aside : w.meter.aside ≡ record { bytes = 0; calls = 0 }
+    pub start : w.meter.start ≡ record { bytes = source.fetched; calls = source.calls }
     pub entries : vec_len w.entries ≡ w.header.number_of_streams
     pub room : vec_capacity w.entries ≡ w.header.number_of_streams
     pub inside : 12 * w.header.number_of_streams ≤ source.size

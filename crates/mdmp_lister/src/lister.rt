@@ -2,19 +2,16 @@
 ghost use Rattle.std.specs.Prelude.{◌≡◌, ◌≤◌, ◌<◌, ◌+◌, ◌*◌, ◌++◌, ◌⊎◌, ℕ, List, None, Some, All, IfOk, IfErr, IsOk, IsTrue, OnOk, length, false, MatchResult};
 ghost use Rattle.std.specs.Borrow.{sem};
 ghost use Rattle.std.specs.Io.BufRead.{Rests};
-ghost use Rattle.mdmp_source.specs.Count.{raised};
 ghost use Rattle.mdmp_source.specs.Store.{IsGood};
 ghost use Rattle.mdmp_lister.specs.Opening.{IsHandedBack, IsOpenRefusal, IsRefusalOf, IsUnread, IsUnreadFor, opening_fault};
 ghost use Rattle.mdmp_map.specs.Map.{free_of};
 ghost use Rattle.mdmp_map.specs.Ranges.{IsWithin};
 ghost use Rattle.mdmp_source.specs.Source.{FetchesAtMost, IsTold};
 ghost use Rattle.mdmp_lister.specs.Addresses.{ReadsCells};
-ghost use Rattle.mdmp_lister.specs.Costs.{end_cost, items_cost};
-ghost use Rattle.mdmp_lister.specs.Meter.{SpendsAside};
+ghost use Rattle.mdmp_lister.specs.Meter.{IsBooked, SpendsAside};
 ghost use Rattle.mdmp_lister.specs.Mapping.{IsStepPlaced, ranges_of_step};
 ghost use Rattle.mdmp_lister.specs.Numbers.{AreBounds, AreOfFile, numbers_of};
 ghost use Rattle.mdmp_lister.specs.Owing.{count_told};
-ghost use Rattle.mdmp_lister.specs.Ranges.{ranges_of};
 ghost use Rattle.mdmp_lister.specs.Reading.{IsOfSource, IsToldIn};
 ghost use Rattle.mdmp_lister.specs.Stages.{stop_after, stop_after_run};
 
@@ -81,9 +78,7 @@ impl<S: Store + Drop, A: Allocator + Copy> Model for Lister<S, A> {
 
 impl<S: Store + Drop, A: Allocator + Copy> Lister<S, A> {
     ghost use Rattle.mdmp_lister.specs.contracts.lister.Lister.{the_row};
-    ghost use Rattle.mdmp_lister.specs.declared.item.Item.{Item};
-    ghost use Rattle.mdmp_lister.specs.Handing.{AllClassed, GivesAll, current_behind, Handed, NamesAll, PassesAll};
-    ghost use Rattle.mdmp_lister.specs.Listing.{Run};
+    ghost use Rattle.mdmp_lister.specs.Handing.{RunLeaves};
     ghost use Rattle.mdmp_lister.specs.Lister.{Gives, IsNewLister, IsSameLister, Leaves, is_for_good, listing_behind};
 
     /// Opens a file. Its header is read; memory is taken for the directory, the window and a name; the
@@ -200,14 +195,7 @@ impl<S: Store + Drop, A: Allocator + Copy> Lister<S, A> {
     /// ends the run, and so does a sink that wants no more; the item that it was handed then counts
     /// as given.
     pub fn list_into<K: Sink>(&mut self, sink: &mut K) -> Result<(), RunFault>
-        ensures runs { (xs : List Item) × (Handed K.step sink.old xs result sink.new
-            × (PassesAll xs result self.old.passed self.new.passed
-            × ((self.new.current ≡ current_behind xs self.old.current)
-            × (AllClassed self.old.source.size self.old.current xs
-            × ((self.new.ranges ≡ self.old.ranges ++ ranges_of xs)
-            × (((left : _) → self.old.left ≡ Some left → (rest : Run) × ((self.new.left ≡ Some rest) × GivesAll left xs result rest))
-            × (NamesAll xs result self.old.counts.names self.new.counts.names
-            × FetchesAtMost (self.old.head + items_cost self.old.source.size xs + end_cost self.old.limit (current_behind xs self.old.current) result) self.old.source self.new.source))))))) }
+        ensures runs { RunLeaves K.step self.old sink.old result self.new sink.new }
         ensures stop { self.new.stop ≡ stop_after_run result }
         ensures repeats { (stop : _) → self.old.stop ≡ Some stop
             → (self.new ≡ self.old) × ((stop_after_run result ≡ Some stop) × (sink.new ≡ sink.old)) }
@@ -264,7 +252,7 @@ impl<S: Store + Drop, A: Allocator + Copy> Lister<S, A> {
     /// Hands the source back.
     pub fn into_source(self) -> Source<S>
         ensures value { result ≡ self.source }
-        ensures booked { result.fetched ≡ raised self.counts.start (self.counts.fetched + self.counts.aside) }
+        ensures booked { IsBooked result self.counts }
     {
         let Lister { walk, map: _ } = self;
         walk.into_source()

@@ -4,10 +4,17 @@ ghost use Rattle.mdmp_source.specs.Count.{raised};
 ghost use Rattle.mdmp_source.specs.Range.{IsInside, bytes_at};
 ghost use Rattle.mdmp_source.specs.Store.{IsGood, IsSizeOf};
 ghost use Rattle.mdmp_source.specs.Source.{FailsOnce, FetchesAtMost, IsTold};
-ghost use Rattle.mdmp_lister.specs.Meter.{IsBooked, MeterState};
+ghost use Rattle.mdmp_lister.specs.Meter.{IsBooked, MeterState, counts_of};
 
 use mdmp_source::{Source, SourceFault, Store};
 use std::marker::Model;
+
+/// Bytes fetched, and calls of `fetch`.
+#[derive(Clone, Copy, Debug, PartialEq, Eq)]
+pub(crate) struct Amount {
+    pub bytes: u128,
+    pub calls: u128,
+}
 
 /// A source that is read for a listing. Beside the counts of the source itself, which go on, it counts
 /// what was fetched since it was made: for the listing, and aside.
@@ -17,12 +24,14 @@ pub(crate) struct Meter<S: Store> {
     fetched: u128,
     calls: u128,
     names: u128,
-    aside: u128,
-    /// What the source's own count of bytes was at first.
-    start: u128,
+    aside: Amount,
+    /// What the source's own counts were at first.
+    start: Amount,
 }
 
 impl<S: Store> Model for Meter<S> {
+    ghost use Rattle.mdmp_lister.specs.Meter.{IsBookedBy, MeterState};
+
     ghost Value = { MeterState };
 
     ghost view = { λ m. record {
@@ -34,22 +43,32 @@ impl<S: Store> Model for Meter<S> {
       start = m.start;
     } };
 
-    ghost invariant = { λ m. m.source.fetched ≡ raised m.start (m.fetched + m.aside) };
+    ghost invariant = { λ m. IsBookedBy m.source m.fetched m.calls m.aside m.start };
 }
 
 impl<S: Store> Meter<S> {
     /// A meter through which nothing was fetched.
     pub(crate) fn new(source: Source<S>) -> Self
-        ensures value { result ≡ record { source = source; fetched = 0; calls = 0; names = 0; aside = 0; start = source.fetched } }
-        ensures booked { IsBooked result }
+        ensures value { result ≡ record {
+          source = source;
+          fetched = 0;
+          calls = 0;
+          names = 0;
+          aside = record { bytes = 0; calls = 0 };
+          start = record { bytes = source.fetched; calls = source.calls };
+        } }
+        ensures booked { IsBooked result.source (counts_of result) }
     {
-        let start = source.fetched();
+        let start = Amount {
+            bytes: source.fetched(),
+            calls: source.calls(),
+        };
         Meter {
             source,
             fetched: 0,
             calls: 0,
             names: 0,
-            aside: 0,
+            aside: Amount { bytes: 0, calls: 0 },
             start,
         }
     }
@@ -89,9 +108,12 @@ impl<S: Store> Meter<S> {
         ensures good { (file : List ℕ) → IsGood self.old.source.store file → IsOk result }
         ensures told { IfErr result (λ fault. IsTold fault self.old.source self.new.source) }
         ensures fetches { FetchesAtMost (length out.new) self.old.source self.new.source }
-        ensures counts { self.new ≡ record self.old { source = self.new.source; aside = raised self.old.aside (length out.new) } }
+        ensures counts { self.new ≡ record self.old { source = self.new.source; aside = record { bytes = raised self.old.aside.bytes (length out.new); calls = raised self.old.aside.calls 1 } } }
     {
-        self.aside = self.aside.saturating_add(out.len() as u128);
+        self.aside = Amount {
+            bytes: self.aside.bytes.saturating_add(out.len() as u128),
+            calls: self.aside.calls.saturating_add(1),
+        };
         self.source.fetch(at, out)
     }
 
@@ -105,7 +127,7 @@ impl<S: Store> Meter<S> {
     /// The bytes fetched for the listing.
     pub(crate) fn fetched(&self) -> u128
         ensures value { result ≡ self.now.fetched }
-        ensures booked { IsBooked self.now }
+        ensures booked { IsBooked self.now.source (counts_of self.now) }
     {
         self.fetched
     }
@@ -126,15 +148,15 @@ impl<S: Store> Meter<S> {
 
     /// The bytes fetched aside.
     pub(crate) fn aside(&self) -> u128
-        ensures { result ≡ self.now.aside }
+        ensures { result ≡ self.now.aside.bytes }
     {
-        self.aside
+        self.aside.bytes
     }
 
     /// Hands the source back.
     pub(crate) fn into_source(self) -> Source<S>
         ensures value { result ≡ self.source }
-        ensures booked { IsBooked self }
+        ensures booked { IsBooked self.source (counts_of self) }
     {
         let Meter { source, .. } = self;
         source

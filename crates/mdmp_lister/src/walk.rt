@@ -183,7 +183,7 @@ impl<S: Store + Drop, A: Allocator + Copy> Walk<S, A> {
     /// Hands the source back.
     pub(crate) fn into_source(self) -> Source<S>
         ensures value { result ≡ self.meter.source }
-        ensures booked { IsBooked self.meter }
+        ensures booked { IsBooked self.meter.source (counts_of self.meter) }
     {
         let Walk { meter, .. } = self;
         meter.into_source()

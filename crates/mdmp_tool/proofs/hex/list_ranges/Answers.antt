@@ -5,18 +5,18 @@ use Rattle.mdmp_tool.proofs.hex.list_ranges.Goals as goal
 pub returns-in-Ok-clause-lists : goal.returns-in-Ok-clause-lists
 returns-in-Ok-clause-lists g c = λ left known.
     let run = c.in-Ok.ensures.runs in
-    let rest = run.1.1.1.1.1.1.0 left known in
-    let all = ranges-all left run.0 rest.1.1.0 in
-    (all.0, rw c.requires.none at run.1.1.1.1.1.0 ∙ all.1)
+    let rest = run.left left known in
+    let all = ranges-all left run.items rest.1.1.0 in
+    (all.0, rw c.requires.none at run.ranges ∙ all.1)
 
 pub returns-in-Err-Stopped-clause-lists : goal.returns-in-Err-Stopped-clause-lists
-returns-in-Err-Stopped-clause-lists g c = let run = rw c.in-Err-Stopped.field-0-is at c.in-Err-Stopped.ensures.runs in absurd (never_stopped run.0 _ _ run.1.0)
+returns-in-Err-Stopped-clause-lists g c = let run = rw c.in-Err-Stopped.field-0-is at c.in-Err-Stopped.ensures.runs in absurd (never_stopped run.items _ _ run.handed)
 
 pub returns-in-Ok-clause-fetches : goal.returns-in-Ok-clause-fetches
-returns-in-Ok-clause-fetches g c = record { count = _; fetches = c.in-Ok.ensures.runs.1.1.1.1.1.1.1.1 }
+returns-in-Ok-clause-fetches g c = record { count = _; fetches = c.in-Ok.ensures.runs.fetches }
 
 pub returns-in-Err-At-clause-fetches : goal.returns-in-Err-At-clause-fetches
-returns-in-Err-At-clause-fetches g c = record { count = _; fetches = c.list_into.ensures.runs.1.1.1.1.1.1.1.1 }
+returns-in-Err-At-clause-fetches g c = record { count = _; fetches = c.list_into.ensures.runs.fetches }
 
 pub returns-in-Err-Stopped-clause-fetches : goal.returns-in-Err-Stopped-clause-fetches
-returns-in-Err-Stopped-clause-fetches g c = record { count = _; fetches = c.list_into.ensures.runs.1.1.1.1.1.1.1.1 }
+returns-in-Err-Stopped-clause-fetches g c = record { count = _; fetches = c.list_into.ensures.runs.fetches }

@@ -32,5 +32,7 @@ returns-clause-bounds g c =
       held = omega (arith, entries, c.len.ensures, c.free.ensures.value, c.free.ensures.room, c.len-2.ensures, c.len-3.ensures);
       fetched = rw (c.fetched.ensures.value, entries, listed, c.names.ensures) (fetched_most w sound bounded);
       below = rw c.fetched.ensures.value (fetched_below w sound bounded small);
-      booked = rw (c.fetched.ensures.value, c.aside.ensures) c.fetched.ensures.booked;
+      booked = c.fetched.ensures.booked;
+      entries = omega (arith, entries, w.entries.ok);
+      ranges = omega (arith, c.free.ensures.room);
     })

@@ -4,9 +4,9 @@ use Rattle.std.specs.Prelude.{slice_get}
 use Rattle.mdmp_lister.specs.Items.{plain}
 use Rattle.mdmp_lister.specs.Handing.{give_all}
 use Rattle.mdmp_lister.specs.Lister.{ListerState, tail}
-use Rattle.mdmp_lister.specs.Listing.{only_fault}
+use Rattle.mdmp_lister.specs.Listing.{nothing, only_fault}
 use Rattle.mdmp_lister.proofs.Advancing.{current_after-plain, passed_after-plain}
-use Rattle.mdmp_lister.proofs.Handing.{AllClassed-more, HasCost-fault, HasCost-more, HasCost-most, HasCost-none, current_behind-more, give_all-next, names_of_all-more, passed_behind-more, same_lister-then, Taken-more, TakenToStop-end}
+use Rattle.mdmp_lister.proofs.Handing.{AllClassed-more, HasCost-end, HasCost-fault, HasCost-more, HasCost-most, HasCost-none, current_behind-more, give_all-next, names_of_all-more, passed_behind-more, same_lister-then, Taken-more, TakenToStop-end}
 use Rattle.mdmp_lister.proofs.Mapping.{ranges_of-more}
 use Rattle.mdmp_lister.proofs.lister.Lister.list_into.Goals as goal
 
@@ -16,7 +16,17 @@ loop-item-init g c = record {
   going = λ none. none;
   stays = λ stop same. (refl, refl);
   rests = omega arith;
-  given = ([], (refl, (refl, (refl, (tt, (sym (append-nil c.args.self.now.ranges), (λ left known. (left, (known, refl)), (omega arith, HasCost-none c.args.self.now.head c.args.self.now.source))))))));
+  given = record {
+    items = [];
+    taken = refl;
+    passed = refl;
+    current = refl;
+    classed = tt;
+    ranges = sym (append-nil c.args.self.now.ranges);
+    left = λ left known. (left, (known, refl));
+    names = omega arith;
+    cost = HasCost-none c.args.self.now.head c.args.self.now.source;
+  };
 }
 
 pub returns-in-Ok-None-clause-same : goal.returns-in-Ok-None-clause-same
@@ -32,46 +42,32 @@ pub returns-in-Err-take-clause-runs : goal.returns-in-Err-take-clause-runs
 returns-in-Err-take-clause-runs g c =
     let run = c.loop-item.invariant.given in
     let holds = c.next.follows.holds-at-none in
-    let item = plain c.in-Ok-Some.item in
-    let all_classed =
-    AllClassed-more _ run.0 c.in-Ok-Some.item _ _ c.next.follows.lender-at-none.current run.1.1.1.1.0 run.1.1.1.0 (rw (c.in-Ok-Some.is, c.in-Ok-Some.field-0-is) at holds.current)
-    (rw (run.1.1.1.1.1.1.1.1.fetches.same_size, c.in-Ok-Some.is, c.in-Ok-Some.field-0-is) at holds.classed)
-    in (
-      run.0 ++ item ∷ [],
-      (
-        TakenToStop-end g.K.Sink.step item run.0 c.args.sink.now c.loop-item.sink c.take.new.self run.1.0 c.in-Err-take.ensures,
-        (
-          passed_behind-more run.0 item _ _ _ run.1.1.0 (rw (c.in-Ok-Some.is, c.in-Ok-Some.field-0-is) at holds.passed ∙ sym (passed_after-plain c.in-Ok-Some.item _)),
-          (
-            current_behind-more run.0 item _ _ _ run.1.1.1.0 (rw (c.in-Ok-Some.is, c.in-Ok-Some.field-0-is) at holds.current ∙ sym (current_after-plain c.in-Ok-Some.item _)),
-            (
-              all_classed,
-              (
-                ranges_of-more _ _ _ run.0 c.in-Ok-Some.item run.1.1.1.1.1.0 (rw (c.in-Ok-Some.is, c.in-Ok-Some.field-0-is) at holds.ranges),
-                (
-                  λ left known.
-                      let rest = run.1.1.1.1.1.1.0 left known in
-                      let first : slice_get rest.0.items 0 ≡ Some item = rw c.in-Ok-Some.field-0-is at (c.in-Ok-Some.ensures.gives rest.0 rest.1.0) in
-                      (tail rest.0, (rw (c.in-Ok-Some.is, c.in-Ok-Some.field-0-is, rest.1.0) at holds.left, give_all-next left run.0 item rest.0 rest.1.1 first)),
-                  (names_of_all-more run.0 c.in-Ok-Some.item _ _ _ run.1.1.1.1.1.1.1.0 (rw (c.in-Ok-Some.is, c.in-Ok-Some.field-0-is) at holds.names), HasCost-most _ _ _ _ _ (HasCost-more _ _ _ _ run.0 _ run.1.1.1.1.1.1.1.1 _ c.in-Ok-Some.item (rw (c.in-Ok-Some.is, c.in-Ok-Some.field-0-is) at holds.fetches) (rw (c.in-Ok-Some.is, c.in-Ok-Some.field-0-is) at holds.head))),
-                ),
-              ),
-            ),
-          ),
-        ),
-      ),
-    )
+    let x = c.in-Ok-Some.item in
+    let now = rw (c.in-Ok-Some.is, c.in-Ok-Some.field-0-is) at holds.current in
+    record {
+      items = run.items ++ plain x ∷ [];
+      handed = TakenToStop-end g.K.Sink.step (plain x) run.items c.args.sink.now c.loop-item.sink c.take.new.self run.taken c.in-Err-take.ensures;
+      passed = passed_behind-more run.items (plain x) _ _ _ run.passed (rw (c.in-Ok-Some.is, c.in-Ok-Some.field-0-is) at holds.passed ∙ sym (passed_after-plain x _));
+      current = current_behind-more run.items (plain x) _ _ _ run.current (now ∙ sym (current_after-plain x _));
+      classed = AllClassed-more _ run.items x _ _ c.next.follows.lender-at-none.current run.classed run.current now
+          (rw (run.cost.fetches.same_size, c.in-Ok-Some.is, c.in-Ok-Some.field-0-is) at holds.classed);
+      ranges = ranges_of-more _ _ _ run.items x run.ranges (rw (c.in-Ok-Some.is, c.in-Ok-Some.field-0-is) at holds.ranges);
+      left = λ left known.
+          let rest = run.left left known in
+          let first : slice_get rest.0.items 0 ≡ Some (plain x) = rw c.in-Ok-Some.field-0-is at (c.in-Ok-Some.ensures.gives rest.0 rest.1.0) in
+          (tail rest.0, (rw (c.in-Ok-Some.is, c.in-Ok-Some.field-0-is, rest.1.0) at holds.left, give_all-next left run.items (plain x) rest.0 rest.1.1 first));
+      names = names_of_all-more run.items x _ _ _ run.names (rw (c.in-Ok-Some.is, c.in-Ok-Some.field-0-is) at holds.names);
+      names_at_end = λ _. tt;
+      fetches = HasCost-most _ _ _ _ _ (HasCost-more _ _ _ _ run.items _ run.cost _ x (rw (c.in-Ok-Some.is, c.in-Ok-Some.field-0-is) at holds.fetches) (rw (c.in-Ok-Some.is, c.in-Ok-Some.field-0-is) at holds.head));
+    }
 
 pub loop-item-preserved : goal.loop-item-preserved
 loop-item-preserved g c =
     let so_far = c.loop-item.invariant in
     let run = so_far.given in
     let holds = c.next.follows.holds-at-none in
-    let item = plain c.in-Ok-Some.item in
-    let all_classed =
-    AllClassed-more _ run.0 c.in-Ok-Some.item _ _ c.next.follows.lender-at-none.current run.1.1.1.1.0 run.1.1.1.0 (rw (c.in-Ok-Some.is, c.in-Ok-Some.field-0-is) at holds.current)
-    (rw (run.1.1.1.1.1.1.1.1.fetches.same_size, c.in-Ok-Some.is, c.in-Ok-Some.field-0-is) at holds.classed)
-    in
+    let x = c.in-Ok-Some.item in
+    let now = rw (c.in-Ok-Some.is, c.in-Ok-Some.field-0-is) at holds.current in
     record {
       same = same_lister-then _ _ _ so_far.same holds.same;
       going = λ unstopped. rw (c.in-Ok-Some.is, c.in-Ok-Some.field-0-is) at holds.stop;
@@ -80,31 +76,21 @@ loop-item-preserved g c =
           let answer : None ≡ Some stop = rw c.in-Ok-Some.field-0-is at (c.in-Ok-Some.ensures.repeats stop stopped) in
           absurd (cc);
       rests = omega (arith, so_far.rests, holds.rests);
-      given = (
-        run.0 ++ item ∷ [],
-        (
-          Taken-more g.K.Sink.step item run.0 c.args.sink.now c.loop-item.sink c.take.new.self run.1.0 c.in-Ok.ensures,
-          (
-            passed_behind-more run.0 item _ _ _ run.1.1.0 (rw (c.in-Ok-Some.is, c.in-Ok-Some.field-0-is) at holds.passed ∙ sym (passed_after-plain c.in-Ok-Some.item _)),
-            (
-              current_behind-more run.0 item _ _ _ run.1.1.1.0 (rw (c.in-Ok-Some.is, c.in-Ok-Some.field-0-is) at holds.current ∙ sym (current_after-plain c.in-Ok-Some.item _)),
-              (
-                all_classed,
-                (
-                  ranges_of-more _ _ _ run.0 c.in-Ok-Some.item run.1.1.1.1.1.0 (rw (c.in-Ok-Some.is, c.in-Ok-Some.field-0-is) at holds.ranges),
-                  (
-                    λ left known.
-                        let rest = run.1.1.1.1.1.1.0 left known in
-                        let first : slice_get rest.0.items 0 ≡ Some item = rw c.in-Ok-Some.field-0-is at (c.in-Ok-Some.ensures.gives rest.0 rest.1.0) in
-                        (tail rest.0, (rw (c.in-Ok-Some.is, c.in-Ok-Some.field-0-is, rest.1.0) at holds.left, give_all-next left run.0 item rest.0 rest.1.1 first)),
-                    (names_of_all-more run.0 c.in-Ok-Some.item _ _ _ run.1.1.1.1.1.1.1.0 (rw (c.in-Ok-Some.is, c.in-Ok-Some.field-0-is) at holds.names), HasCost-more _ _ _ _ run.0 _ run.1.1.1.1.1.1.1.1 _ c.in-Ok-Some.item (rw (c.in-Ok-Some.is, c.in-Ok-Some.field-0-is) at holds.fetches) (rw (c.in-Ok-Some.is, c.in-Ok-Some.field-0-is) at holds.head)),
-                  ),
-                ),
-              ),
-            ),
-          ),
-        ),
-      );
+      given = record {
+        items = run.items ++ plain x ∷ [];
+        taken = Taken-more g.K.Sink.step (plain x) run.items c.args.sink.now c.loop-item.sink c.take.new.self run.taken c.in-Ok.ensures;
+        passed = passed_behind-more run.items (plain x) _ _ _ run.passed (rw (c.in-Ok-Some.is, c.in-Ok-Some.field-0-is) at holds.passed ∙ sym (passed_after-plain x _));
+        current = current_behind-more run.items (plain x) _ _ _ run.current (now ∙ sym (current_after-plain x _));
+        classed = AllClassed-more _ run.items x _ _ c.next.follows.lender-at-none.current run.classed run.current now
+            (rw (run.cost.fetches.same_size, c.in-Ok-Some.is, c.in-Ok-Some.field-0-is) at holds.classed);
+        ranges = ranges_of-more _ _ _ run.items x run.ranges (rw (c.in-Ok-Some.is, c.in-Ok-Some.field-0-is) at holds.ranges);
+        left = λ left known.
+            let rest = run.left left known in
+            let first : slice_get rest.0.items 0 ≡ Some (plain x) = rw c.in-Ok-Some.field-0-is at (c.in-Ok-Some.ensures.gives rest.0 rest.1.0) in
+            (tail rest.0, (rw (c.in-Ok-Some.is, c.in-Ok-Some.field-0-is, rest.1.0) at holds.left, give_all-next left run.items (plain x) rest.0 rest.1.1 first));
+        names = names_of_all-more run.items x _ _ _ run.names (rw (c.in-Ok-Some.is, c.in-Ok-Some.field-0-is) at holds.names);
+        cost = HasCost-more _ _ _ _ run.items _ run.cost _ x (rw (c.in-Ok-Some.is, c.in-Ok-Some.field-0-is) at holds.fetches) (rw (c.in-Ok-Some.is, c.in-Ok-Some.field-0-is) at holds.head);
+      };
     }
 
 pub returns-in-Err-clause-runs : goal.returns-in-Err-clause-runs
@@ -112,27 +98,38 @@ returns-in-Err-clause-runs g c =
     let so_far = c.loop-item.invariant in
     let run = so_far.given in
     let holds = c.next.follows.holds-at-none in
-    let f = c.in-Err.fault in (
-      run.0,
-      (
-        run.1.0,
-        (
-          (rw c.in-Err.is at holds.passed) ∙ run.1.1.0,
-          (
-            (rw c.in-Err.is at holds.current) ∙ run.1.1.1.0,
-            (
-              run.1.1.1.1.0,
-              (
-                (rw c.in-Err.is at holds.ranges) ∙ append-nil _ ∙ run.1.1.1.1.1.0,
-                (
-                  λ left known.
-                      let rest = run.1.1.1.1.1.1.0 left known in
-                      (only_fault f, (rw (c.in-Err.is, rest.1.0) at holds.left, ((rest.0, rest.1.1), (λ not. rest.1.1 ∙ ap (give_all run.0) (c.in-Err.ensures.gives rest.0 rest.1.0 not), refl)))),
-                  ((omega (arith, run.1.1.1.1.1.1.1.0, holds.counts.more_names), omega (arith, run.1.1.1.1.1.1.1.0, holds.counts.most_names)), HasCost-fault _ _ _ _ run.0 _ run.1.1.1.1.1.1.1.1 _ _ _ _ f so_far.same.limit run.1.1.1.0 (rw c.in-Err.is at holds.fetches)),
-                ),
-              ),
-            ),
-          ),
-        ),
-      ),
-    )
+    let f = c.in-Err.fault in
+    record {
+      items = run.items;
+      handed = run.taken;
+      passed = (rw c.in-Err.is at holds.passed) ∙ run.passed;
+      current = (rw c.in-Err.is at holds.current) ∙ run.current;
+      classed = run.classed;
+      ranges = (rw c.in-Err.is at holds.ranges) ∙ append-nil _ ∙ run.ranges;
+      left = λ left known.
+          let rest = run.left left known in
+          (only_fault f, (rw (c.in-Err.is, rest.1.0) at holds.left, ((rest.0, rest.1.1), (λ not. rest.1.1 ∙ ap (give_all run.items) (c.in-Err.ensures.gives rest.0 rest.1.0 not), refl))));
+      names = (omega (arith, run.names, holds.counts.more_names), omega (arith, run.names, holds.counts.most_names));
+      names_at_end = λ going. let at = rw c.in-Err.is at (holds.names_at_fault (so_far.going going)) in (omega (arith, run.names, at.0), omega (arith, run.names, at.1));
+      fetches = HasCost-fault _ _ _ _ run.items _ run.cost _ _ _ _ f so_far.same.limit run.current (rw c.in-Err.is at holds.fetches);
+    }
+
+pub returns-in-Ok-None-clause-runs : goal.returns-in-Ok-None-clause-runs
+returns-in-Ok-None-clause-runs g c =
+    let run = c.loop-item.invariant.given in
+    let holds = c.next.follows.holds-at-none in
+    record {
+      items = run.items;
+      handed = run.taken;
+      passed = tt;
+      current = (rw (c.in-Ok-None.is, c.in-Ok-None.field-0-is) at holds.current) ∙ run.current;
+      classed = run.classed;
+      ranges = (rw (c.in-Ok-None.is, c.in-Ok-None.field-0-is) at holds.ranges) ∙ append-nil _ ∙ run.ranges;
+      left = λ left known.
+          let rest = run.left left known in
+          let none : rest.0 ≡ nothing = rw c.in-Ok-None.field-0-is at (c.in-Ok-None.ensures.gives rest.0 rest.1.0) in
+          (rest.0, (rw (c.in-Ok-None.is, c.in-Ok-None.field-0-is, rest.1.0) at holds.left, (rest.1.1 ∙ ap (give_all run.items) none, none)));
+      names = let none = rw (c.in-Ok-None.is, c.in-Ok-None.field-0-is) at holds.names in omega (arith, none, run.names);
+      names_at_end = λ _. tt;
+      fetches = HasCost-end _ _ _ _ run.items _ run.cost 0 (rw (c.in-Ok-None.is, c.in-Ok-None.field-0-is) at holds.fetches);
+    }
