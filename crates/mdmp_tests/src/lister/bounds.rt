@@ -143,3 +143,16 @@ fn store_that_fails_keeps_the_equation_of_the_counts(rt: HostRuntime) -> Result<
     }
     Ok(())
 }
+
+#[test]
+fn calls_for_the_listing_are_counted(rt: HostRuntime) -> Result<(), Fail> {
+    let source = Source::new(MemoryStore::new(&SYSTEM));
+    let mut lister = Lister::open(rt.alloc(), source, NAMED, Choice::All).map_err(|_| "open")?;
+    let opened = lister.counts().calls;
+    let _ = lister.list_into(&mut StopAt::new(u64::MAX));
+    let counts = lister.counts();
+    // The header and the entry; then the record, the length of its name and its units.
+    assert_eq!(rt; (opened, counts.calls), (2, 5));
+    assert_eq!(rt; lister.into_source().calls(), 5);
+    Ok(())
+}
