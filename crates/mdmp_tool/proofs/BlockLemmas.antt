@@ -11,7 +11,7 @@ use Rattle.mdmp_tool.specs.declared.fault.ToolFault.TheVariants.{Opening, List a
 use Rattle.mdmp_tool.specs.Text.{list_text}
 use Rattle.mdmp_tool.specs.Runs.{Lists, StopsShort}
 use Rattle.mdmp_lister.specs.Listing.{listing, memory_lists}
-use Rattle.mdmp_tool.specs.HexRuns.{Hexes, run_hex}
+use Rattle.mdmp_tool.specs.HexRuns.{Hexes, hex_of_run}
 use Rattle.mdmp_tool.specs.Blockwise.{EndsFlushed, HexesThrough, IsFlushed, IsFirstPart, ListsThrough, RefusesWithin, stands, refused}
 
 -- ---- what has been taken, with nothing pending
@@ -174,7 +174,7 @@ pub HexesThrough-flushed : (F : List ℕ) (limit address count : ℕ) (a b c : O
     → HexesThrough F limit address count a s c
 HexesThrough-flushed F limit address count a b c old pending left r s none moved flushed ends hexes = by ends where
   text : List ℕ
-  text = run_hex F (listing F memory_lists limit) address count
+  text = hex_of_run F (listing F memory_lists limit) address count
 
   flush : Flush a b c old pending left
   flush = record { none = none; moved = moved }

@@ -6,7 +6,7 @@ use Rattle.mdmp_lister.specs.Listing.{listing, memory_lists}
 use Rattle.mdmp_lister.specs.Opening.{opening_fault}
 use Rattle.mdmp_tool.specs.declared.fault.ToolFault.{ToolFault}
 use Rattle.mdmp_tool.specs.declared.fault.ToolFault.TheVariants.{Out}
-use Rattle.mdmp_tool.specs.HexRuns.{Hexes, run_hex}
+use Rattle.mdmp_tool.specs.HexRuns.{Hexes, hex_of_run}
 use Rattle.mdmp_tool.specs.Text.{list_text}
 use Rattle.mdmp_tool.specs.Runs.{Lists}
 
@@ -31,7 +31,7 @@ ListsThrough F limit before r after = Lists F limit before r after
 pub record HexesPart (F : List ℕ) (limit address length : ℕ) (before after : OutState) : Type 0 where
   pub opened : opening_fault F memory_lists ≡ None
   pub ends : (listing F memory_lists limit).fault ≡ None
-  pub part : RefusesWithin before (run_hex F (listing F memory_lists limit) address length) after
+  pub part : RefusesWithin before (hex_of_run F (listing F memory_lists limit) address length) after
 
 -- a run of `hex` through blocks; no part of a text is written where the file has a fault
 abbrev pub HexesThrough : List ℕ → ℕ → ℕ → ℕ → OutState → Result (Unit {0}) ToolFault → OutState → Type 0

@@ -18,16 +18,16 @@ HexesMemory F ranges address length before (Err Out) after = PutsPrefix before (
 HexesMemory F ranges address length before (Err _) after = ⊥
 
 -- the bytes of F at so many addresses from this one on, by the ranges of a run
-abbrev pub run_hex : List ℕ → Run → ℕ → ℕ → List ℕ
-run_hex F run address length = hex_text F (ranges_of run.items) address length
+abbrev pub hex_of_run : List ℕ → Run → ℕ → ℕ → List ℕ
+hex_of_run F run address length = hex_text F (ranges_of run.items) address length
 
 -- a run that has no fault: its text was written; on a fault nothing was
 abbrev pub HexesRun : List ℕ → Run → ℕ → ℕ → OutState → Result (Unit {0}) ToolFault → OutState → Type 0
-HexesRun F run address length before (Ok _) after = (run.fault ≡ None) × PutsAll before (run_hex F run address length) after
+HexesRun F run address length before (Ok _) after = (run.fault ≡ None) × PutsAll before (hex_of_run F run address length) after
 HexesRun F run address length before (Err (BadList fault)) after = (run.fault ≡ Some fault) × PutsAll before [] after
 HexesRun F run address length before (Err (Source fault)) after = PutsAll before [] after
 HexesRun F run address length before (Err Memory) after = PutsAll before [] after
-HexesRun F run address length before (Err Out) after = (run.fault ≡ None) × PutsPrefix before (run_hex F run address length) after
+HexesRun F run address length before (Err Out) after = (run.fault ≡ None) × PutsPrefix before (hex_of_run F run address length) after
 HexesRun F run address length before (Err (Opening fault)) after = ⊥
 
 -- the fault, if any, is not the opening's, and one of the listing is the file's own

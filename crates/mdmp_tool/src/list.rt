@@ -71,7 +71,7 @@ pub fn list_source<S: Store + Drop, A: Allocator + Copy, O: Out>(
             };
         }
     };
-    let answer = list_file(&mut lister, out);
+    let answer = put_listing(&mut lister, out);
     Answered {
         answer,
         source: lister.into_source(),
@@ -79,7 +79,7 @@ pub fn list_source<S: Store + Drop, A: Allocator + Copy, O: Out>(
 }
 
 /// Prints the line of the header, and those of the items that are left.
-fn list_file<S: Store + Drop, A: Allocator + Copy, O: Out>(
+fn put_listing<S: Store + Drop, A: Allocator + Copy, O: Out>(
     lister: &mut Lister<S, A>,
     out: &mut O,
 ) -> Result<(), ToolFault>

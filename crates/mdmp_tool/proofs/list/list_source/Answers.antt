@@ -14,13 +14,13 @@ returns-clause-lists g c = λ file known.
     let new = c.in-Ok.ensures.new in
     let left : c.in-Ok.lister.left ≡ Some (listing file All limit) = new.left ∙ ap (option_map (λ F. listing F All limit)) known in
     let before = g.O.Out.state c.args.out.now in
-    let after = g.O.Out.state c.list_file-answer.new.out in
-    Lists-opened file limit before after c.list_file-answer.result (c.in-Ok.ensures.opens file known)
-    (subst (λ (h : Header). ListsFile h (listing file All limit) before c.list_file-answer.result after) (new.header_is file known) (c.list_file-answer.ensures.lists (listing file All limit) left))
+    let after = g.O.Out.state c.put_listing-answer.new.out in
+    Lists-opened file limit before after c.put_listing-answer.result (c.in-Ok.ensures.opens file known)
+    (subst (λ (h : Header). ListsFile h (listing file All limit) before c.put_listing-answer.result after) (new.header_is file known) (c.put_listing-answer.ensures.lists (listing file All limit) left))
 
 pub returns-clause-fetches : goal.returns-clause-fetches
 returns-clause-fetches g c =
-    let more = c.list_file-answer.ensures.fetches in
+    let more = c.put_listing-answer.ensures.fetches in
     rw c.into_source.ensures.value (record {
       count = _ + more.count;
       fetches = fetches_then _ _ _ _ _ c.in-Ok.ensures.new.fetches more.fetches;
@@ -29,4 +29,4 @@ returns-clause-fetches g c =
 pub returns-clause-good : goal.returns-clause-good
 returns-clause-good g c = λ file good.
     let opened = c.in-Ok.ensures.new.fetches in
-    c.list_file-answer.ensures.good file (record { known = opened.same_content ∙ good.known; reliable = rw opened.same_reliable good.reliable })
+    c.put_listing-answer.ensures.good file (record { known = opened.same_content ∙ good.known; reliable = rw opened.same_reliable good.reliable })

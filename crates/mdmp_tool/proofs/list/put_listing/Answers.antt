@@ -5,7 +5,7 @@ use Rattle.mdmp_wire.specs.declared.header.Header.{Header}
 use Rattle.mdmp_tool.specs.Lines.{dump_line}
 use Rattle.mdmp_tool.specs.Text.{run_text}
 use Rattle.mdmp_tool.proofs.Listings.{ListsFile-behind}
-use Rattle.mdmp_tool.proofs.list.list_file.Goals as goal
+use Rattle.mdmp_tool.proofs.list.put_listing.Goals as goal
 
 pub returns-in-Err-clause-lists : goal.returns-in-Err-clause-lists
 returns-in-Err-clause-lists g c = λ left known.
