@@ -4,7 +4,6 @@ use Rattle.std.proofs.lemmas.Grind.{common_steps}
 use Rattle.std.proofs.Common.{arith}
 use Rattle.std.proofs.lemmas.List.Sums.{sum_by-cons, sum_by_more, sum_by-take-le}
 use Rattle.mdmp_source.specs.Range.{IsInside}
-use Rattle.mdmp_source.specs.Source.{SourceState, FetchesAtMost}
 use Rattle.mdmp_wire.specs.declared.entry.Entry.{Entry}
 use Rattle.mdmp_lister.specs.declared.choice.Choice.{Choice}
 use Rattle.mdmp_lister.specs.declared.kind.Kind.{Kind}
@@ -32,11 +31,8 @@ ahead_of-is z e kind (inl list) known inside = rw (known, list) (sym (head_insid
 ahead_of-is z e kind (inr list) known inside = rw (known, list) (sym (head_inside-is z e kinds.Memory64 inside))
 
 module _ (z : ℕ) (e : Entry) (kind : Kind) (list : (kind ≡ kinds.Memory) ⊎ (kind ≡ kinds.Memory64)) (known : kind_of e.stream_type ≡ Some kind) (inside : IsInside e.location.rva e.location.size z) where
-  pub fetches-ahead : (old new : SourceState) → FetchesAtMost (head_spent e.location.size kind) old new → FetchesAtMost (ahead_of z e) old new
-  fetches-ahead old new fetches = subst (λ n. FetchesAtMost n old new) (ahead_of-is z e kind list known inside) fetches
-
-  pub books-ahead : (old new : MeterState) → Books (head_spent e.location.size kind) old new → Books (ahead_of z e) old new
-  books-ahead old new books = subst (λ n. Books n old new) (ahead_of-is z e kind list known inside) books
+  pub books_ahead : (old new : MeterState) → Books 1 (head_spent e.location.size kind) old new → Books 1 (ahead_of z e) old new
+  books_ahead old new books = subst (λ n. Books 1 n old new) (ahead_of-is z e kind list known inside) books
 
 module _ (choice : Choice) (z at : ℕ) (es : List Entry) (d : Entry) (h : at < length es) where
   -- one more entry, and its head where it is chosen

@@ -1,12 +1,25 @@
 -- Fetches for a listing, one behind the other.
 use Rattle.std.proofs.Common.{◌≤◌, ◌+◌, ◌∙◌, ℕ, arith, refl}
+use Rattle.mdmp_source.specs.SourceLaws.{fetches_then}
 use Rattle.mdmp_lister.specs.Meter.{MeterState, Books}
+use Rattle.mdmp_lister.proofs.Fetches.{FetchesAtMost-none, FetchesAtMost-within}
 
-pub Books-none : (a : MeterState) → Books 0 a a
-Books-none a = record { fetched = omega arith; more = omega arith; more_calls = omega arith; same_names = refl; same_aside = refl; same_start = refl }
+pub Books_none : (calls n : ℕ) (a : MeterState) → Books calls n a a
+Books_none calls n a = record {
+  fetches = FetchesAtMost-within 0 n a.source a.source (omega arith) (FetchesAtMost-none a.source);
+  source_calls = omega arith;
+  fetched = omega arith;
+  more = omega arith;
+  more_calls = omega arith;
+  same_names = refl;
+  same_aside = refl;
+  same_start = refl;
+}
 
-pub Books-then : (m n k : ℕ) (a b c : MeterState) → m + n ≤ k → Books m a b → Books n b c → Books k a c
-Books-then m n k a b c le first then = record {
+pub Books-then : (i j calls m n k : ℕ) (a b c : MeterState) → i + j ≤ calls → m + n ≤ k → Books i m a b → Books j n b c → Books calls k a c
+Books-then i j calls m n k a b c few le first then = record {
+  fetches = FetchesAtMost-within (m + n) k a.source c.source le (fetches_then m n a.source b.source c.source first.fetches then.fetches);
+  source_calls = omega (arith, few, first.source_calls, then.source_calls);
   fetched = omega (arith, le, first.fetched, then.fetched);
   more = omega (arith, first.more, then.more);
   more_calls = omega (arith, first.more_calls, then.more_calls);
@@ -15,5 +28,5 @@ Books-then m n k a b c le first then = record {
   same_start = then.same_start ∙ first.same_start;
 }
 
-pub Books-within : (m n : ℕ) (a b : MeterState) → m ≤ n → Books m a b → Books n a b
-Books-within m n a b le books = Books-then m 0 n a b b (omega (arith, le)) books (Books-none b)
+pub Books-within : (i calls m n : ℕ) (a b : MeterState) → i ≤ calls → m ≤ n → Books i m a b → Books calls n a b
+Books-within i calls m n a b few le books = Books-then i 0 calls m 0 n a b b (omega (arith, few)) (omega (arith, le)) books (Books_none 0 0 b)

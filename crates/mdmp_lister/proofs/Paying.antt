@@ -22,7 +22,7 @@ use Rattle.mdmp_lister.specs.Paying.{IsBounded, IsPaid, cost_of, entry_cost, owe
 use Rattle.mdmp_lister.specs.Shapes.{FitsIn, head_size, kind_of, record_size}
 use Rattle.mdmp_lister.specs.Stages.{fault_stage, stage_by}
 use Rattle.mdmp_lister.proofs.Room.{least_record}
-use Rattle.mdmp_lister.specs.Walk.{IsNewWalk, IsSound, SameEntry, SameRoom, stage_work, work_of}
+use Rattle.mdmp_lister.specs.Walk.{IsNewWalk, IsSound, SameEntry, SameRoom, stage_work}
 
 -- ---- the stage behind a fault
 
@@ -53,7 +53,7 @@ module _ {S A : Type 0} (allowed before spent : ℕ) (old new : Walk S A) where
         names = rw (same.room.entries, same.next) (omega (arith, paid.names, spends.one_name, falls));
       }
 
-  pub paid_headed : IsPaid allowed before old → Books spent old.meter new.meter → SameEntry old new → new.meter.source.size ≡ old.meter.source.size
+  pub paid_headed : IsPaid allowed before old → Books 1 spent old.meter new.meter → SameEntry old new → new.meter.source.size ≡ old.meter.source.size
       → owed_of old.meter.source.size old.current new.stage + spent ≤ owed_of old.meter.source.size old.current old.stage → stage_work new.stage ≤ stage_work old.stage
       → IsPaid allowed before new
   paid_headed paid books same size owed falls = record {
@@ -150,7 +150,7 @@ module _ {S A : Type 0} (old new : Walk S A) where
       rw (same.entries, same.choice, size) refl in
       subst (λ allowed. IsPaid allowed 0 new) (sym was) (pays _ 0 bounded)
 
-  pub bounded_new : (source : SourceState) (choice : Choice) (limits : Limits) → IsNewWalk source choice limits old → Books (heads_ahead old.choice old.meter.source.size old.entries.items) old.meter new.meter
+  pub bounded_new : (source : SourceState) (choice : Choice) (limits : Limits) → IsNewWalk source choice limits old → Books (vec_len old.entries) (heads_ahead old.choice old.meter.source.size old.entries.items) old.meter new.meter
       → new.meter.source.size ≡ old.meter.source.size → SameEntry old new → new.stage ≡ old.stage → IsSound new → IsBounded new
   bounded_new source choice limits opened books size same stage sound =
       let first = same.next ∙ opened.next in

@@ -18,7 +18,7 @@ use Rattle.mdmp_lister.specs.declared.fault.OpenFault.{OpenFault}
 use Rattle.mdmp_lister.specs.declared.fault.OpenFault.TheVariants.{TooShort, BadSignature, BadVersion, DirectoryOutside, TooManyRanges, Source, Memory}
 use Rattle.mdmp_lister.proofs.Fetches.{FetchesAtMost-within}
 use Rattle.mdmp_lister.proofs.Heads.{heads_few}
-use Rattle.mdmp_lister.specs.Opening.{IsDirectoryRefusal, IsHandedBack, IsOfHead, IsRefusalOf, IsUnread, behind_directory, directory_refusal, behind_header}
+use Rattle.mdmp_lister.specs.Opening.{IsDirectoryRefusal, IsHandedBack, IsOfHead, IsRefusalOf, behind_directory, directory_refusal, behind_header}
 
 -- the fault of the directory that a header places in a file of `size` bytes, or none
 abbrev placed_fault : Header → ℕ → Option OpenFault
@@ -74,10 +74,6 @@ IsHandedBack-head choice old new fault fetches calls short = record {
   early = λ of. refl;
   short = short;
 }
-
-pub not_of_head : (fault : OpenFault) → IsUnread fault → IsOfHead fault → ⊥
-not_of_head (Source f) unread of = of
-not_of_head fault unread of = unread
 
 -- of one whose directory was, by fetches of the header and then of more
 module _ (choice : Choice) (old mid new : SourceState) (fault : OpenFault) (header : Header) (entries : List Entry) where

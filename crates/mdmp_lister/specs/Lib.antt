@@ -5,6 +5,7 @@ pub mod Costs
 pub mod Counts
 pub mod Directory
 pub mod Extents
+pub mod Fetching
 pub mod Handing
 pub mod Heads
 pub mod Items

@@ -1,7 +1,7 @@
 -- What a listing has fetched, beside its source.
 use Rattle.std.specs.Prelude.{◌≡◌, ◌≤◌, ◌<◌, ◌+◌, ◌*◌, ◌^◌, ℕ}
 use Rattle.mdmp_source.specs.Count.{raised}
-use Rattle.mdmp_source.specs.Source.{SourceState}
+use Rattle.mdmp_source.specs.Source.{SourceState, FetchesAtMost}
 use Rattle.mdmp_lister.specs.declared.meter.Amount.{Amount}
 
 -- a source that is read for a listing, as those who read through it see it
@@ -35,8 +35,10 @@ pub record IsBookedBy (source : SourceState) (fetched calls : ℕ) (aside start 
 abbrev pub IsBooked : SourceState → MeterCounts → Type 0
 IsBooked source c = IsBookedBy source c.fetched c.calls c.aside c.start
 
--- some fetches for the listing, of at most n bytes and of no name
-pub record Books (n : ℕ) (old new : MeterState) : Type 0 where
+-- some fetches for the listing and of no name, in at most so many calls, of at most n bytes together
+pub record Books (calls n : ℕ) (old new : MeterState) : Type 0 where
+  pub fetches : FetchesAtMost n old.source new.source
+  pub source_calls : new.source.calls ≤ raised old.source.calls calls
   pub fetched : new.fetched ≤ old.fetched + n
   pub more : old.fetched ≤ new.fetched
   pub more_calls : old.calls ≤ new.calls
@@ -77,3 +79,8 @@ pub record SpendsAside (n : ℕ) (old new : MeterCounts) : Type 0 where
   pub same_calls : new.calls ≡ old.calls
   pub same_names : new.names ≡ old.names
   pub same_start : new.start ≡ old.start
+
+-- the same of the source that they are fetched from
+pub record BooksAside (n : ℕ) (old new : MeterState) : Type 0 where
+  pub fetches : FetchesAtMost n old.source new.source
+  pub spends : SpendsAside n (counts_of old) (counts_of new)

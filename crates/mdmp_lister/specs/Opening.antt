@@ -1,10 +1,11 @@
 -- Whether a file can be listed at all.
-use Rattle.std.specs.Prelude.{◌≡◌, ◌≤◌, ◌<◌, false, ℕ, ◌+◌, ◌*◌, ◌^◌, List, length, Option, Some, None, Result, Ok, Err, nat_lt, if◌then◌else◌}
+use Rattle.std.specs.Prelude.{◌≡◌, ◌≤◌, ◌<◌, false, ℕ, ◌+◌, ◌*◌, ◌^◌, List, length, Option, Some, None, Result, Ok, Err, IfErr, IfOk, nat_lt, if◌then◌else◌}
 use Rattle.mdmp_source.specs.Count.{raised}
 use Rattle.mdmp_source.specs.Source.{SourceState, FailsOnce, FetchesAtMost, IsTold}
+use Rattle.mdmp_source.specs.declared.fault.SourceFault.{SourceFault}
 use Rattle.mdmp_wire.specs.declared.entry.Entry.{Entry}
 use Rattle.mdmp_wire.specs.declared.header.Header.{Header}
-use Rattle.mdmp_source.specs.Range.{is_inside}
+use Rattle.mdmp_source.specs.Range.{IsInside, is_inside}
 use Rattle.mdmp_wire.specs.declared.header_fault.HeaderFault.{HeaderFault}
 use Rattle.mdmp_wire.specs.declared.header_fault.HeaderFault.TheVariants as header
 use Rattle.mdmp_wire.specs.Header.{header_at}
@@ -72,9 +73,15 @@ abbrev pub IsUnreadFor : OpenFault → SourceState → SourceState → Type 0
 IsUnreadFor (Source fault) old new = IsTold fault old new × FailsOnce {T = Unit {0}} (Err fault) old.store.counts new.store.counts
 IsUnreadFor fault old new = IsSteady old new
 
-abbrev pub IsUnreadAs : {T : Type 0} → Result T OpenFault → SourceState → SourceState → Type 0
-IsUnreadAs (Ok x) old new = IsSteady old new
-IsUnreadAs (Err fault) old new = IsUnreadFor fault old new
+-- the fault of the store that a refusal is
+abbrev pub unread_of : OpenFault → Option SourceFault
+unread_of (Source fault) = Some fault
+unread_of fault = None
+
+-- and that of an answer
+abbrev pub unread_fault : {T : Type 0} → Result T OpenFault → Option SourceFault
+unread_fault (Ok x) = None
+unread_fault (Err fault) = unread_of fault
 
 -- a fault of a file's header or directory, or want of memory where they have none, or a fault of the store
 abbrev pub IsDirectoryRefusal : List ℕ → OpenFault → Type 0
@@ -120,3 +127,11 @@ IsOpenRefusal size (TooShort told) = (told ≡ size) × (size < 32)
 IsOpenRefusal size (DirectoryOutside offset len) = is_inside offset len size ≡ false
 IsOpenRefusal size (TooManyRanges count) = (32 ≤ size) × (most_ranges < count)
 IsOpenRefusal size fault = 32 ≤ size
+
+-- the header of a file was read, whose directory lies inside it, or the file was refused, whatever its bytes
+pub record ReadsHeader (old : SourceState) (result : Result Header OpenFault) (new : SourceState) : Type 0 where
+  pub inside : IfOk result (λ header. IsInside header.stream_directory_rva (12 * header.number_of_streams) old.size)
+  pub refusal : IfErr result (IsOpenRefusal old.size)
+  pub short : old.size < 32 → result ≡ Err (TooShort old.size)
+  -- a file that is too short is not touched
+  pub untouched : (size : ℕ) → result ≡ Err (TooShort size) → new ≡ old

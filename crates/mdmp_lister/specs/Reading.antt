@@ -1,8 +1,10 @@
 -- What is read of a file through a source.
-use Rattle.std.specs.Prelude.{◌≡◌, ◌≤◌, ◌%◌, ℕ, List, Option, Some, None, Result, Ok, Err, take}
+use Rattle.std.specs.Prelude.{◌≡◌, ◌≤◌, ◌%◌, ℕ, List, Option, Some, None, Result, Ok, Err, IfErr, IfSome, take}
 use Rattle.mdmp_source.specs.Fault.{fault_at}
 use Rattle.mdmp_source.specs.Source.{SourceState, FailsOnce, IsTold}
+use Rattle.mdmp_source.specs.Store.{IsGood}
 use Rattle.mdmp_wire.specs.Units.{units_over}
+use Rattle.mdmp_source.specs.declared.fault.SourceFault.{SourceFault}
 use Rattle.mdmp_source.specs.declared.fault.SourceFault.TheVariants.{Changed}
 use Rattle.mdmp_wire.specs.declared.entry.Entry.{Entry}
 use Rattle.mdmp_lister.specs.declared.kind.Kind.{Kind}
@@ -29,23 +31,41 @@ abbrev pub IsSteady : SourceState → SourceState → Type 0
 IsSteady old new = (new.store.counts.failures ≡ old.store.counts.failures) × (new.store.counts.empties ≡ old.store.counts.empties)
 
 -- but one, where a fault of the store is told
-abbrev pub FailsBy : FaultKind → SourceState → SourceState → Type 0
-FailsBy (Source fault) old new = FailsOnce {T = Unit {0}} (Err fault) old.store.counts new.store.counts
-FailsBy kind old new = IsSteady old new
+abbrev pub FailsBy : Option SourceFault → SourceState → SourceState → Type 0
+FailsBy None old new = IsSteady old new
+FailsBy (Some fault) old new = FailsOnce {T = Unit {0}} (Err fault) old.store.counts new.store.counts
 
-abbrev pub FailsAs : {T : Type 0} → Result T Fault → SourceState → SourceState → Type 0
-FailsAs (Ok x) old new = IsSteady old new
-FailsAs (Err fault) old new = FailsBy fault.kind old new
+-- some fetches end with this fault, or with none: it is what the last of them told, no other was at fault, and over a
+-- good store there is none
+pub record IsCaused (fault : Option SourceFault) (old new : SourceState) : Type 0 where
+  pub once : FailsBy fault old new
+  pub told : IfSome fault (λ f. IsTold f old new)
+  pub good : (file : List ℕ) → IsGood old.store file → fault ≡ None
+
+-- the fault of the store that a fault of a listing is
+abbrev pub source_of : FaultKind → Option SourceFault
+source_of (Source fault) = Some fault
+source_of kind = None
+
+-- and that of an answer
+abbrev pub source_fault : {T : Type 0} → Result T Fault → Option SourceFault
+source_fault (Ok x) = None
+source_fault (Err fault) = source_of fault.kind
+
+-- a fault of the store names the place where the store is at fault, and no size
+abbrev pub IsPlacedAt : FaultKind → ℕ → ℕ → Type 0
+IsPlacedAt (Source fault) offset size = (offset ≡ fault_at fault) × (size ≡ 0)
+IsPlacedAt kind offset size = Unit {0}
+
+-- some fetches end with this answer, of which a fault of the store is caused by them and placed
+pub record IsCausedAt {T : Type 0} (result : Result T Fault) (old new : SourceState) : Type 0 where
+  pub caused : IsCaused (source_fault result) old new
+  pub placed : IfErr result (λ fault. IsPlacedAt fault.kind fault.offset fault.size)
 
 -- an answer is the wanted one, or a fault of the store stands in its place
 abbrev pub Answers : {X Y : Type 0} → Result X Fault → (Y → X) → Result Y Fault → Type 0
 Answers wanted value (Ok y) = wanted ≡ Ok (value y)
 Answers wanted value (Err fault) = (IsOfSource fault.kind → ⊥) → wanted ≡ Err fault
-
--- a fault of the store is what the last fetch of these told, at the place where the store is at fault, and has no size
-abbrev pub IsToldOf : FaultKind → ℕ → ℕ → SourceState → SourceState → Type 0
-IsToldOf (Source fault) offset size old new = IsTold fault old new × ((offset ≡ fault_at fault) × (size ≡ 0))
-IsToldOf kind offset size old new = Unit {0}
 
 -- a memory list
 abbrev pub IsRanged : Option Kind → Type 0

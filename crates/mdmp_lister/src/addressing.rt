@@ -1,10 +1,10 @@
 //! What is read of the dumped process's memory.
-ghost use Rattle.std.specs.Prelude.{◌≡◌, ℕ, List, Some, length, All, IfErr, IfOk, IsOk, OnOk, is_some};
-ghost use Rattle.mdmp_source.specs.Store.{IsGood};
-ghost use Rattle.mdmp_source.specs.Source.{FetchesAtMost, IsTold};
+ghost use Rattle.std.specs.Prelude.{◌≡◌, ℕ, List, Some, length, All, IfOk, OnOk, is_some};
+ghost use Rattle.mdmp_source.specs.Source.{fault_of};
 ghost use Rattle.mdmp_map.specs.Ranges.{IsWithin, byte_at};
-ghost use Rattle.mdmp_lister.specs.Meter.{SpendsAside, counts_of};
 ghost use Rattle.mdmp_lister.specs.Addresses.{ReadsCells, is_held};
+ghost use Rattle.mdmp_lister.specs.Meter.{BooksAside};
+ghost use Rattle.mdmp_lister.specs.Reading.{IsCaused};
 
 use crate::meter::Meter;
 use mdmp_map::AddressMap;
@@ -23,10 +23,8 @@ fn read_byte<S: Store, A: Allocator>(
     ensures held { IfOk result (λ byte. is_some byte ≡ is_held map.now.ranges address) }
     ensures byte { (file : List ℕ) → meter.old.source.store.content ≡ Some file
         → IfOk result (λ byte. byte ≡ byte_at file map.now.ranges address) }
-    ensures fetches { FetchesAtMost 1 meter.old.source meter.new.source }
-    ensures aside { SpendsAside 1 (counts_of meter.old) (counts_of meter.new) }
-    ensures told { IfErr result (λ fault. IsTold fault meter.old.source meter.new.source) }
-    ensures good { (file : List ℕ) → IsGood meter.old.source.store file → IsOk result }
+    ensures books { BooksAside 1 meter.old meter.new }
+    ensures caused { IsCaused (fault_of result) meter.old.source meter.new.source }
 {
     let Ok(address) = u64::try_from(address) else {
         return Ok(None);
@@ -44,7 +42,7 @@ fn read_byte<S: Store, A: Allocator>(
 /// Reads the memory of the dumped process from an address on, as far as the ranges of the map hold it.
 /// Where one holds an address, its byte is put into `out`, and `known` is true there; else both are 0
 /// and false. After a fault they may hold anything. It fetches one byte at a time.
-#[tactic(auto, using(mdmp_source::specs::SourceLaws::told_later))]
+#[tactic(auto, using(crate::proofs::Fetches::IsCaused_later))]
 pub(crate) fn read_addresses<S: Store, A: Allocator>(
     meter: &mut Meter<S>,
     map: &AddressMap<A>,
@@ -55,10 +53,8 @@ pub(crate) fn read_addresses<S: Store, A: Allocator>(
     requires same { length out.old ≡ length known.old }
     requires inside { All (IsWithin meter.old.source.size) map.now.ranges }
     ensures cells { OnOk result (ReadsCells meter.old.source.store.content map.now.ranges address out.new known.new) }
-    ensures fetches { FetchesAtMost (length out.new) meter.old.source meter.new.source }
-    ensures aside { SpendsAside (length out.new) (counts_of meter.old) (counts_of meter.new) }
-    ensures told { IfErr result (λ fault. IsTold fault meter.old.source meter.new.source) }
-    ensures good { (file : List ℕ) → IsGood meter.old.source.store file → IsOk result }
+    ensures books { BooksAside (length out.new) meter.old meter.new }
+    ensures caused { IsCaused (fault_of result) meter.old.source meter.new.source }
 {
     for index in 0..out.len() {
         let byte = read_byte(meter, map, u128::from(address) + index as u128)?;

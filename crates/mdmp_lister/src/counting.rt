@@ -1,12 +1,11 @@
 //! How many ranges the memory lists of a file have, read through a source.
-ghost use Rattle.std.specs.Prelude.{◌≡◌, ◌≤◌, ◌<◌, ◌*◌, ◌^◌, ℕ, List, Some, length, IfErr, IfOk, IsOk};
-ghost use Rattle.mdmp_source.specs.Count.{raised};
-ghost use Rattle.mdmp_source.specs.Store.{IsGood};
-ghost use Rattle.mdmp_source.specs.Source.{FailsOnce, FetchesAtMost, IsTold};
+ghost use Rattle.std.specs.Prelude.{◌≡◌, ◌≤◌, ◌<◌, ◌^◌, ℕ, List, Some, length, IfOk};
+ghost use Rattle.mdmp_source.specs.Source.{fault_of};
 ghost use Rattle.mdmp_lister.specs.Counts.{range_count, ranges_in};
 ghost use Rattle.mdmp_lister.specs.Directory.{IsDirectory};
 ghost use Rattle.mdmp_lister.specs.Heads.{ahead_of, heads_ahead};
 ghost use Rattle.mdmp_lister.specs.Meter.{Books};
+ghost use Rattle.mdmp_lister.specs.Reading.{IsCaused};
 ghost use Rattle.mdmp_lister.specs.Shapes.{kind_of};
 
 use crate::choice::Choice;
@@ -21,6 +20,7 @@ use mdmp_wire::Entry;
 /// How many ranges an entry has: those of a memory list that lies inside the file and whose shape
 /// has no fault; any other entry has none. Of a list that is long enough its head is fetched, of
 /// anything else nothing.
+#[tactic(auto, using(crate::proofs::Metering::Books_none))]
 fn ranges_of_entry<S: Store>(
     meter: &mut Meter<S>,
     window: &mut [u8],
@@ -29,12 +29,8 @@ fn ranges_of_entry<S: Store>(
     requires { 168 ≤ length window.old }
     ensures count { (file : List ℕ) → meter.old.source.store.content ≡ Some file
         → IfOk result (λ count. count ≡ ranges_in file entry (kind_of entry.stream_type)) }
-    ensures fetches { FetchesAtMost (ahead_of meter.old.source.size entry) meter.old.source meter.new.source }
-    ensures books { Books (ahead_of meter.old.source.size entry) meter.old meter.new }
-    ensures calls { meter.new.source.calls ≤ raised meter.old.source.calls 1 }
-    ensures once { FailsOnce result meter.old.source.store.counts meter.new.source.store.counts }
-    ensures told { IfErr result (λ fault. IsTold fault meter.old.source meter.new.source) }
-    ensures good { (file : List ℕ) → IsGood meter.old.source.store file → IsOk result }
+    ensures books { Books 1 (ahead_of meter.old.source.size entry) meter.old meter.new }
+    ensures caused { IsCaused (fault_of result) meter.old.source meter.new.source }
 {
     let kind = match Kind::of_type(entry.stream_type) {
         Some(kind @ (Kind::Memory | Kind::Memory64)) => kind,
@@ -53,7 +49,7 @@ fn ranges_of_entry<S: Store>(
 }
 
 /// How many ranges the chosen memory lists of a directory have together.
-#[tactic(auto, using(mdmp_source::specs::SourceLaws::told_later))]
+#[tactic(auto, using(crate::proofs::Fetches::IsCaused_later))]
 pub(crate) fn count_ranges<S: Store>(
     meter: &mut Meter<S>,
     window: &mut [u8],
@@ -64,12 +60,8 @@ pub(crate) fn count_ranges<S: Store>(
     requires few { length entries.now < 2 ^ 32 }
     ensures count { (file : List ℕ) → meter.old.source.store.content ≡ Some file
         → IsDirectory file entries.now → IfOk result (λ count. count ≡ range_count file choice.now) }
-    ensures fetches { FetchesAtMost (heads_ahead choice.now meter.old.source.size entries.now) meter.old.source meter.new.source }
-    ensures books { Books (heads_ahead choice.now meter.old.source.size entries.now) meter.old meter.new }
-    ensures calls { meter.new.source.calls ≤ raised meter.old.source.calls (length entries.now) }
-    ensures once { FailsOnce result meter.old.source.store.counts meter.new.source.store.counts }
-    ensures told { IfErr result (λ fault. IsTold fault meter.old.source meter.new.source) }
-    ensures good { (file : List ℕ) → IsGood meter.old.source.store file → IsOk result }
+    ensures books { Books (length entries.now) (heads_ahead choice.now meter.old.source.size entries.now) meter.old meter.new }
+    ensures caused { IsCaused (fault_of result) meter.old.source meter.new.source }
 {
     let mut total = 0;
     for entry in entries {

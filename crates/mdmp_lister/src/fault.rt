@@ -1,4 +1,5 @@
 //! What is wrong with a file, and where.
+ghost use Rattle.std.specs.Prelude.{◌≡◌};
 
 use mdmp_source::SourceFault;
 
@@ -41,6 +42,28 @@ pub struct Fault {
     pub offset: u64,
     /// A number of bytes, or the number that the kind says.
     pub size: u64,
+}
+
+/// A fault of the store names the first byte that was not obtained, or the first of those that do not
+/// agree.
+impl From<SourceFault> for Fault {
+    ghost use Rattle.mdmp_source.specs.Fault.{fault_at};
+    ghost use Rattle.mdmp_lister.specs.declared.fault.FaultKind.TheVariants.{Source};
+
+    ghost from_gives = { λ fault f. f ≡ record { kind = Source fault; offset = fault_at fault; size = 0 } };
+
+    fn from(fault: SourceFault) -> Fault {
+        let offset = match fault {
+            SourceFault::Failed { at }
+            | SourceFault::ShortRead { at }
+            | SourceFault::Changed { at } => at,
+        };
+        Fault {
+            kind: FaultKind::Source(fault),
+            offset,
+            size: 0,
+        }
+    }
 }
 
 /// The fault at which a listing ends, and the entry that it belongs to.

@@ -1,15 +1,13 @@
 //! The head of a stream, read through a source.
-ghost use Rattle.std.specs.Prelude.{◌≡◌, ◌≤◌, ◌<◌, ◌+◌, ◌^◌, ℕ, List, Some, length, IfOk, IfErr};
-ghost use Rattle.mdmp_source.specs.Count.{raised};
+ghost use Rattle.std.specs.Prelude.{◌≡◌, ◌≤◌, ◌+◌, ℕ, List, Some, length, IfOk, IfErr};
 ghost use Rattle.mdmp_source.specs.Range.{IsInside};
-ghost use Rattle.mdmp_source.specs.Store.{IsGood};
-ghost use Rattle.mdmp_source.specs.Source.{FetchesAtMost};
 ghost use Rattle.mdmp_wire.specs.Number.{number_at};
-ghost use Rattle.mdmp_lister.specs.Heads.{head_cost, head_spent};
+ghost use Rattle.mdmp_lister.specs.Fetching.{IsHeadOf};
+ghost use Rattle.mdmp_lister.specs.Heads.{head_spent};
 ghost use Rattle.mdmp_lister.specs.Meter.{Books};
-ghost use Rattle.mdmp_lister.specs.Shapes.{FitsIn, head_size, shape_of};
+ghost use Rattle.mdmp_lister.specs.Shapes.{shape_of};
 ghost use Rattle.mdmp_lister.specs.Reaching.{ReachesAtFault};
-ghost use Rattle.mdmp_lister.specs.Reading.{Answers, FailsAs, IsOfSource, IsToldOf};
+ghost use Rattle.mdmp_lister.specs.Reading.{Answers, IsCausedAt};
 
 use crate::fault::Fault;
 use crate::fetching::read;
@@ -32,7 +30,7 @@ pub(crate) struct Head {
 
 /// Where the records of a stream stand, or its first fault: too short for its head, a bad header
 /// size, a bad entry size, a bad count.
-#[tactic(auto, using(crate::proofs::Paying::few_records, crate::proofs::Naming::source_reached), unfolding(crate::specs::Shapes::shape_of))]
+#[tactic(auto, using(crate::proofs::Metering::Books_none, crate::proofs::Paying::few_records, crate::proofs::Naming::source_reached), unfolding(crate::specs::Shapes::shape_of))]
 pub(crate) fn read_head<S: Store>(
     meter: &mut Meter<S>,
     window: &mut [u8],
@@ -45,53 +43,44 @@ pub(crate) fn read_head<S: Store>(
         → Answers (shape_of file at.rva at.size kind) (λ head. head.shape) result }
     ensures base { (file : List ℕ) → meter.old.source.store.content ≡ Some file
         → kind ≡ Kind.Memory64 → IfOk result (λ head. head.base ≡ number_at file (at.rva + 8) 8) }
-    ensures fits { IfOk result (λ head. FitsIn at.size kind head.shape) }
-    ensures few { IfOk result (λ head. head.shape.count < 2 ^ 32) }
-    ensures ranges { kind ≡ Kind.Memory64 → IfOk result (λ head. (head.shape.first ≡ 16) × (head.shape.stride ≡ 16)) }
-    ensures fetches { FetchesAtMost (head_spent at.size kind) meter.old.source meter.new.source }
-    ensures books { Books (head_spent at.size kind) meter.old meter.new }
+    ensures head { IfOk result (IsHeadOf at.size kind) }
+    ensures books { Books 1 (head_spent at.size kind) meter.old meter.new }
+    ensures caused { IsCausedAt result meter.old.source meter.new.source }
     ensures at_fault { IfErr result (λ fault. ReachesAtFault fault.kind meter.old meter.new) }
-    ensures calls { meter.new.source.calls ≤ raised meter.old.source.calls 1 }
-    ensures once { FailsAs result meter.old.source meter.new.source }
-    ensures head { IfOk result (λ head. head_cost kind ≤ head.shape.first) }
-    ensures told { IfErr result (λ fault. IsToldOf fault.kind fault.offset fault.size meter.old.source meter.new.source) }
-    ensures good { (file : List ℕ) → IsGood meter.old.source.store file → IfErr result (λ fault. IsOfSource fault.kind → ⊥) }
 {
     if at.size < kind.head_size() {
         return too_short(at);
     }
     let start = u64::from(at.rva);
-    let mut base = 0;
-    let shape = match kind {
-        Kind::Threads | Kind::Modules | Kind::Memory => match read(meter, window, start) {
-            Ok(count) => counted(at, kind, count),
-            Err(fault) => return Err(fault),
-        },
-        Kind::Exception | Kind::System => Ok(single(kind)),
-        Kind::Memory64 => match read::<Memory64List, S>(meter, window, start) {
-            Ok(head) => {
-                base = head.base_rva;
-                ranges64(at, head)
-            }
-            Err(fault) => return Err(fault),
-        },
-        Kind::Unloaded => match read::<UnloadedList, S>(meter, window, start) {
-            Ok(head) => {
-                let count = u64::from(head.number_of_entries);
-                sized(at, kind, head.size_of_header, head.size_of_entry, count)
-            }
-            Err(fault) => return Err(fault),
-        },
-        Kind::MemoryInfo => match read::<MemoryInfoList, S>(meter, window, start) {
-            Ok(head) => {
-                let count = head.number_of_entries;
-                sized(at, kind, head.size_of_header, head.size_of_entry, count)
-            }
-            Err(fault) => return Err(fault),
-        },
-    };
-    match shape {
-        Ok(shape) => Ok(Head { shape, base }),
-        Err(fault) => Err(fault),
+    match kind {
+        Kind::Threads | Kind::Modules | Kind::Memory => {
+            let count = read(meter, window, start)?;
+            let shape = counted(at, kind, count)?;
+            Ok(Head { shape, base: 0 })
+        }
+        Kind::Exception | Kind::System => Ok(Head {
+            shape: single(kind),
+            base: 0,
+        }),
+        Kind::Memory64 => {
+            let head: Memory64List = read(meter, window, start)?;
+            let shape = ranges64(at, head)?;
+            Ok(Head {
+                shape,
+                base: head.base_rva,
+            })
+        }
+        Kind::Unloaded => {
+            let head: UnloadedList = read(meter, window, start)?;
+            let count = u64::from(head.number_of_entries);
+            let shape = sized(at, kind, head.size_of_header, head.size_of_entry, count)?;
+            Ok(Head { shape, base: 0 })
+        }
+        Kind::MemoryInfo => {
+            let head: MemoryInfoList = read(meter, window, start)?;
+            let count = head.number_of_entries;
+            let shape = sized(at, kind, head.size_of_header, head.size_of_entry, count)?;
+            Ok(Head { shape, base: 0 })
+        }
     }
 }

@@ -88,7 +88,7 @@ impl<S: Store + Drop, A: Allocator + Copy> Lister<S, A> {
     ///
     /// A refusal hands the source back: the fault of the header or of the place of the directory, too
     /// many ranges, want of memory, or that the store failed, behind which nothing more is fetched.
-    #[tactic(auto, using(crate::proofs::Paying::bounded_new))]
+    #[tactic(auto, using(crate::proofs::Paying::bounded_new, crate::proofs::Fetches::IsCaused_later))]
     pub fn open(
         alloc: A,
         source: Source<S>,
@@ -232,6 +232,7 @@ impl<S: Store + Drop, A: Allocator + Copy> Lister<S, A> {
     /// so far hold it. Where one holds an address, its byte is put into `out`, and `known` is true
     /// there; else both are 0 and false. After a fault of the store they may hold anything, and what
     /// is listed stays as it was.
+    #[tactic(auto, using(crate::proofs::Fetches::told_caused, crate::proofs::Fetches::good_caused))]
     pub fn read_address(
         &mut self,
         address: u64,

@@ -1,10 +1,11 @@
 //! A source that is read for a listing, which counts what the listing fetches.
-ghost use Rattle.std.specs.Prelude.{◌≡◌, ◌+◌, List, ℕ, length, IfErr, IsOk, IfSome, OnOk};
+ghost use Rattle.std.specs.Prelude.{◌≡◌, List, ℕ, Some, length, OnOk};
 ghost use Rattle.mdmp_source.specs.Count.{raised};
 ghost use Rattle.mdmp_source.specs.Range.{IsInside, bytes_at};
-ghost use Rattle.mdmp_source.specs.Store.{IsGood, IsSizeOf};
-ghost use Rattle.mdmp_source.specs.Source.{FailsOnce, FetchesAtMost, IsTold};
-ghost use Rattle.mdmp_lister.specs.Meter.{IsBooked, MeterState, counts_of};
+ghost use Rattle.mdmp_source.specs.Store.{IsSizeOf};
+ghost use Rattle.mdmp_source.specs.Source.{fault_of};
+ghost use Rattle.mdmp_lister.specs.Meter.{Books, BooksAside, IsBooked, MeterState, counts_of};
+ghost use Rattle.mdmp_lister.specs.Reading.{IsCaused};
 
 use mdmp_source::{Source, SourceFault, Store};
 use std::marker::Model;
@@ -84,17 +85,14 @@ impl<S: Store> Meter<S> {
     /// Fetches for the listing.
     pub(crate) fn fetch(&mut self, at: u64, out: &mut [u8]) -> Result<(), SourceFault>
         requires { IsInside at (length out.old) self.old.source.size }
-        ensures bytes { OnOk result (IfSome self.old.source.store.content (λ file. out.new ≡ bytes_at file at (length out.new))) }
-        ensures good { (file : List ℕ) → IsGood self.old.source.store file → IsOk result }
-        ensures told { IfErr result (λ fault. IsTold fault self.old.source self.new.source) }
-        ensures fetches { FetchesAtMost (length out.new) self.old.source self.new.source }
+        ensures bytes { (file : List ℕ) → self.old.source.store.content ≡ Some file → OnOk result (out.new ≡ bytes_at file at (length out.new)) }
+        ensures books { Books 1 (length out.new) self.old self.new }
+        ensures caused { IsCaused (fault_of result) self.old.source self.new.source }
         ensures counts { self.new ≡ record self.old {
           source = self.new.source;
           fetched = raised self.old.fetched (length out.new);
           calls = raised self.old.calls 1;
         } }
-        ensures calls { self.new.source.calls ≡ raised self.old.source.calls 1 }
-        ensures once { FailsOnce result self.old.source.store.counts self.new.source.store.counts }
     {
         self.fetched = self.fetched.saturating_add(out.len() as u128);
         self.calls = self.calls.saturating_add(1);
@@ -104,11 +102,9 @@ impl<S: Store> Meter<S> {
     /// Fetches what is not of the listing.
     pub(crate) fn fetch_aside(&mut self, at: u64, out: &mut [u8]) -> Result<(), SourceFault>
         requires { IsInside at (length out.old) self.old.source.size }
-        ensures bytes { OnOk result (IfSome self.old.source.store.content (λ file. out.new ≡ bytes_at file at (length out.new))) }
-        ensures good { (file : List ℕ) → IsGood self.old.source.store file → IsOk result }
-        ensures told { IfErr result (λ fault. IsTold fault self.old.source self.new.source) }
-        ensures fetches { FetchesAtMost (length out.new) self.old.source self.new.source }
-        ensures counts { self.new ≡ record self.old { source = self.new.source; aside = record { bytes = raised self.old.aside.bytes (length out.new); calls = raised self.old.aside.calls 1 } } }
+        ensures bytes { (file : List ℕ) → self.old.source.store.content ≡ Some file → OnOk result (out.new ≡ bytes_at file at (length out.new)) }
+        ensures books { BooksAside (length out.new) self.old self.new }
+        ensures caused { IsCaused (fault_of result) self.old.source self.new.source }
     {
         self.aside = Amount {
             bytes: self.aside.bytes.saturating_add(out.len() as u128),

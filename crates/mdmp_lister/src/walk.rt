@@ -1,12 +1,11 @@
 //! The walk over the entries of a file, without its public face.
-ghost use Rattle.std.specs.Prelude.{◌≡◌, ◌+◌, ◌^◌, ◌≤◌, ◌<◌, ◌-◌, ℕ, List, None, Some, IfOk, IfErr, IfSome, IsOk, IsTrue, false, OnOk, MatchResult, vec_len};
-ghost use Rattle.mdmp_source.specs.Count.{raised};
+ghost use Rattle.std.specs.Prelude.{◌≡◌, ◌+◌, ◌^◌, ◌≤◌, ◌<◌, ◌-◌, ℕ, List, None, Some, IfOk, IfErr, IfSome, IsTrue, false, OnOk, MatchResult, vec_len};
 ghost use Rattle.mdmp_source.specs.Store.{IsGood};
-ghost use Rattle.mdmp_source.specs.Source.{FailsOnce, FetchesAtMost, IsTold};
+ghost use Rattle.mdmp_source.specs.Source.{FetchesAtMost, fault_of};
 ghost use Rattle.mdmp_source.specs.declared.fault.SourceFault.{SourceFault};
 ghost use Rattle.mdmp_lister.specs.Opening.{IsHandedBack, IsDirectoryRefusal, IsOpenRefusal, IsUnread, IsUnreadFor, directory_refusal};
 ghost use Rattle.mdmp_lister.specs.Reaching.{Reaches, ReachesAtFault, given_once, told_once};
-ghost use Rattle.mdmp_lister.specs.Reading.{IsOfSource, IsToldIn};
+ghost use Rattle.mdmp_lister.specs.Reading.{IsCaused, IsOfSource, IsToldIn};
 ghost use Rattle.mdmp_lister.specs.Stages.{IsStageAfter, ends, fault_stage, stop_after, stop_given, stop_of};
 ghost use Rattle.mdmp_lister.specs.Steps.{CurrentAfter, IsNameHeld, IsStepHeld, current_by, passed_by, step_item};
 ghost use Rattle.mdmp_lister.specs.Counts.{range_count};
@@ -58,6 +57,7 @@ impl<S: Store + Drop, A: Allocator + Copy> Walk<S, A> {
     ghost use Rattle.mdmp_lister.specs.Walk.{Advances, FaultStays, IsListing, IsNewWalk, IsSound, Keeps, PassesTo, SameEntry, SameRoom, current_of, left_of, rest_of, work_of};
 
     /// Reads the header and the directory of a file, and takes all the memory that a walk needs.
+    #[tactic(auto, using(crate::proofs::Fetches::IsCaused_later, crate::proofs::Fetches::unread_caused, crate::proofs::Fetches::not_unread))]
     pub(crate) fn open(
         alloc: A,
         source: Source<S>,
@@ -91,7 +91,7 @@ impl<S: Store + Drop, A: Allocator + Copy> Walk<S, A> {
         };
         match read_directory(&mut meter, &mut window, header, &mut entries) {
             Ok(()) => {}
-            Err(fault) => return Err(refused(fault, meter)),
+            Err(fault) => return Err(refused(OpenFault::Source(fault), meter)),
         }
         Ok(Walk {
             meter,
@@ -115,13 +115,9 @@ impl<S: Store + Drop, A: Allocator + Copy> Walk<S, A> {
         ensures sound { IsSound self.new }
         ensures same { SameEntry self.old self.new }
         ensures stage { self.new.stage ≡ self.old.stage }
-        ensures fetches { FetchesAtMost (heads_ahead self.old.choice self.old.meter.source.size self.old.entries.items) self.old.meter.source self.new.meter.source }
-        ensures books { Books (heads_ahead self.old.choice self.old.meter.source.size self.old.entries.items) self.old.meter self.new.meter }
-        ensures calls { self.new.meter.source.calls ≤ raised self.old.meter.source.calls (vec_len self.old.entries) }
-        ensures once { FailsOnce result self.old.meter.source.store.counts self.new.meter.source.store.counts }
+        ensures books { Books (vec_len self.old.entries) (heads_ahead self.old.choice self.old.meter.source.size self.old.entries.items) self.old.meter self.new.meter }
         ensures count { (file : List ℕ) → self.old.meter.source.store.content ≡ Some file → IfOk result (λ count. count ≡ range_count file self.old.choice) }
-        ensures told { IfErr result (λ fault. IsTold fault self.old.meter.source self.new.meter.source) }
-        ensures good { (file : List ℕ) → IsGood self.old.meter.source.store file → IsOk result }
+        ensures caused { IsCaused (fault_of result) self.old.meter.source self.new.meter.source }
     {
         count_ranges(
             &mut self.meter,
@@ -245,6 +241,7 @@ impl<S: Store + Drop, A: Allocator + Copy> Walk<S, A> {
 
     /// Reads where the records of the current entry stand. A memory list that counts more than `room`
     /// ranges has changed since the file was opened.
+    #[tactic(auto, using(crate::proofs::Fetches::told_in_caused, crate::proofs::Fetches::not_of_source))]
     fn read_head(&mut self, room: usize) -> Result<(), ListFault>
         requires sound { IsSound self.old }
         requires room { HasRoom room 0 self.old }
@@ -297,6 +294,7 @@ impl<S: Store + Drop, A: Allocator + Copy> Walk<S, A> {
     }
 
     /// Gives a record that is left.
+    #[tactic(auto, using(crate::proofs::Fetches::told_in_caused))]
     fn read_record(
         &mut self,
         kind: Kind,

@@ -1,22 +1,17 @@
-use Rattle.std.proofs.Common.{◌≡◌, ◌≤◌, ◌<◌, ◌*◌, ℕ, List, Some, length, get_or, vec_len, vec_capacity}
-use Rattle.mdmp_source.specs.Count.{raised}
-use Rattle.mdmp_source.specs.Source.{FetchesAtMost}
+use Rattle.std.proofs.Common.{◌≡◌, ◌≤◌, ◌<◌, ◌*◌, ℕ, List, None, Some, length, get_or, vec_capacity}
 use Rattle.mdmp_wire.specs.declared.entry.Entry.{Entry}
 use Rattle.mdmp_wire.specs.Header.{header_at}
 use Rattle.mdmp_lister.specs.Listing.{entry_of}
 use Rattle.mdmp_lister.specs.Meter.{Books}
-use Rattle.mdmp_lister.specs.Reading.{IsSteady}
+use Rattle.mdmp_lister.specs.Reading.{IsCaused}
 use Rattle.mdmp_lister.proofs.opening.read_directory.Given as goal
 
 -- the first entries were fetched
 abbrev pub invariant-loop-number : goal.invariant-loop-number
 invariant-loop-number g l = record {
-  fetches : FetchesAtMost (12 * l.number) l.initial.meter.source l.meter.source;
-  books : Books (12 * l.number) l.initial.meter l.meter;
-  calls : l.meter.source.calls ≤ raised l.initial.meter.source.calls l.number;
-  steady : IsSteady l.initial.meter.source l.meter.source;
+  books : Books l.number (12 * l.number) l.initial.meter l.meter;
+  caused : IsCaused None l.initial.meter.source l.meter.source;
   capacity : vec_capacity l.entries ≡ vec_capacity l.initial.entries;
-  len : vec_len l.entries ≡ l.number;
   room : l.fn.header.number_of_streams ≤ vec_capacity l.entries;
   count : length l.entries.items ≡ l.number;
   each : (file : List ℕ) → l.initial.meter.source.store.content ≡ Some file → l.fn.header ≡ header_at file 0

@@ -3,7 +3,7 @@ use Rattle.mdmp_lister.specs.Reading.{IsOfSource}
 use Rattle.mdmp_lister.specs.Walk.{IsReading, FaultStays, current_of}
 use Rattle.mdmp_lister.proofs.Bodies.{records-given, records-faulted, fault_stage-left, take-lent}
 use Rattle.mdmp_lister.proofs.Costs.{fault_cost-told}
-use Rattle.mdmp_lister.proofs.Fetches.{FetchesAtMost-within}
+use Rattle.mdmp_lister.proofs.Fetches.{FetchesAtMost-within, not_of_source}
 use Rattle.mdmp_lister.proofs.Offsets.{range-next}
 use Rattle.mdmp_lister.proofs.Soundness.{IsSound-after, fault_stage-staged, fault_stage-offset, fault_stage-going, fault_stage-unfailed}
 use Rattle.mdmp_lister.specs.Shapes.{record_size}
@@ -14,7 +14,7 @@ pub returns-in-Ok-clause-sound : goal.returns-in-Ok-clause-sound
 returns-in-Ok-clause-sound g c =
     let w = c.args.self.now in
     let reading : IsReading w.meter.source.size w.next w.current c.args.kind c.args.shape c.args.index c.args.offset = rw c.requires.stage at c.requires.sound.staged in
-    IsSound-after _ w _ c.requires.sound c.read_item.ensures.fetches
+    IsSound-after _ w _ c.requires.sound c.read_item.ensures.reads.fetches
     (search rules)
     (record { begun = reading.begun; known = reading.known; within = omega (arith, c.requires.left); inside = reading.inside; fits = reading.fits; ranges = reading.ranges; bound = omega (arith, c.offset_behind.ensures.bound, reading.bound) })
     (λ file known kind.
@@ -41,12 +41,12 @@ returns-in-Err-clause-sound g c =
     let f = c.told.result in
     let reading : IsReading w.meter.source.size w.next w.current c.args.kind c.args.shape c.args.index c.args.offset = rw c.requires.stage at c.requires.sound.staged in
     rw c.stop_at.ensures.stage (
-    IsSound-after _ w _ c.requires.sound c.read_item.ensures.fetches
+    IsSound-after _ w _ c.requires.sound c.read_item.ensures.reads.fetches
     (search rules)
     (fault_stage-staged w.meter.source.size w.next w.current f reading.begun)
     (λ file known. fault_stage-offset file w.current f)
     (λ end. absurd (fault_stage-going f end))
-    (λ file good. fault_stage-unfailed f (λ of. c.in-Err.ensures.good file good (rw c.told.ensures.kind at of)))
+    (λ file good. fault_stage-unfailed f (λ of. not_of_source c.in-Err.fault.kind (c.in-Err.ensures.reads.caused.caused.good file good) (rw c.told.ensures.kind at of)))
     )
 
 pub returns-in-Err-clause-entry : goal.returns-in-Err-clause-entry
@@ -65,13 +65,13 @@ returns-in-Err-clause-entry g c = λ file known.
     rw c.stop_at.ensures.fault stays
 
 pub returns-in-Err-clause-good : goal.returns-in-Err-clause-good
-returns-in-Err-clause-good g c = λ file good. rw c.stop_at.ensures.fault (λ of. c.in-Err.ensures.good file good (rw c.told.ensures.kind at of))
+returns-in-Err-clause-good g c = λ file good. rw c.stop_at.ensures.fault (λ of. not_of_source c.in-Err.fault.kind (c.in-Err.ensures.reads.caused.caused.good file good) (rw c.told.ensures.kind at of))
 
 pub returns-in-Ok-clause-paid : goal.returns-in-Ok-clause-paid
 returns-in-Ok-clause-paid g c = λ allowed before paid.
     let w = c.args.self.now in
     let room : length c.read_item.new.buffer ≡ vec_len w.name = c.in-Ok.ensures.length ∙ c.deref_mut-2.ensures.len in
-    paid_named allowed before (record_size c.args.kind) w _ paid (rw room at c.read_item.ensures.spends) (search rules) c.read_item.ensures.fetches.same_size
+    paid_named allowed before (record_size c.args.kind) w _ paid (rw room at c.read_item.ensures.reads.spends) (search rules) c.read_item.ensures.reads.fetches.same_size
     (rw c.requires.stage (record_less c.args.shape.count c.args.index (record_size c.args.kind) c.requires.left)) (rw c.requires.stage (omega (arith, c.requires.left)))
 
 pub returns-in-Err-clause-paid : goal.returns-in-Err-clause-paid
@@ -80,13 +80,13 @@ returns-in-Err-clause-paid g c = λ allowed before paid.
     let f = c.told.result in
     let room : length c.read_item.new.buffer ≡ vec_len w.name = c.in-Err.ensures.length ∙ c.deref_mut-2.ensures.len in
     rw c.stop_at.ensures.stage (
-    paid_named allowed before (record_size c.args.kind) w _ paid (rw room at c.read_item.ensures.spends) (search rules) c.read_item.ensures.fetches.same_size
+    paid_named allowed before (record_size c.args.kind) w _ paid (rw room at c.read_item.ensures.reads.spends) (search rules) c.read_item.ensures.reads.fetches.same_size
     (rw (fault_stage-owed w.meter.source.size w.current f, c.requires.stage) (omega (arith, record_less c.args.shape.count c.args.index (record_size c.args.kind) c.requires.left)))
     (rw (fault_stage-work f, c.requires.stage) (omega (arith, c.requires.left)))
     )
 
 pub returns-in-Ok-clause-fetches : goal.returns-in-Ok-clause-fetches
-returns-in-Ok-clause-fetches g c = c.in-Ok.ensures.fetches
+returns-in-Ok-clause-fetches g c = c.in-Ok.ensures.reads.fetches
 
 pub returns-in-Err-clause-fetches : goal.returns-in-Err-clause-fetches
 returns-in-Err-clause-fetches g c =
@@ -97,7 +97,7 @@ returns-in-Err-clause-fetches g c =
     rw (c.stop_at.ensures.stage, c.stop_at.ensures.fault)
     (FetchesAtMost-within _ _ w.meter.source c.read_item.new.meter.source
     (fault_cost-told (vec_len w.name) w.current c.args.kind _ c.args.index c.in-Err.fault f reading.known c.told.ensures.kind c.told.ensures.of_file)
-    (rw room at c.in-Err.ensures.fetches))
+    (rw room at c.in-Err.ensures.reads.fetches))
 
 pub returns-in-Ok-clause-held : goal.returns-in-Ok-clause-held
 returns-in-Ok-clause-held g c =

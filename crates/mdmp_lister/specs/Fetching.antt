@@ -1,0 +1,53 @@
+-- What reading the head of a stream, a name or a record promises.
+use Rattle.std.specs.Prelude.{◌≡◌, ◌≤◌, ◌<◌, ◌+◌, ◌^◌, ℕ, Result, IfErr, IfOk, nat_lt}
+use Rattle.mdmp_source.specs.Count.{raised_if}
+use Rattle.mdmp_source.specs.Source.{FetchesAtMost}
+use Rattle.mdmp_wire.specs.declared.entry.Entry.{Entry}
+use Rattle.mdmp_lister.specs.declared.fault.Fault.{Fault}
+use Rattle.mdmp_lister.specs.declared.fetching.NameRead.{NameRead}
+use Rattle.mdmp_lister.specs.declared.heading.Head.{Head}
+use Rattle.mdmp_lister.specs.declared.kind.Kind.{Kind}
+use Rattle.mdmp_lister.specs.declared.kind.Kind.TheVariants.{Memory64}
+use Rattle.mdmp_lister.specs.declared.step.Step.{Step}
+use Rattle.mdmp_lister.specs.Costs.{head_told, name_spent, read_cost, record_spent}
+use Rattle.mdmp_lister.specs.Heads.{head_cost}
+use Rattle.mdmp_lister.specs.Meter.{MeterState, Spends}
+use Rattle.mdmp_lister.specs.Owing.{count_told, ranges_by}
+use Rattle.mdmp_lister.specs.Reaching.{Reaches, ReachesAtFault, read_once, told_once}
+use Rattle.mdmp_lister.specs.Reading.{IsCausedAt}
+use Rattle.mdmp_lister.specs.Shapes.{FitsIn, record_size}
+use Rattle.mdmp_lister.specs.Steps.{current_by, passed_by}
+
+-- what the head of a stream says, of so many bytes and of this kind
+pub record IsHeadOf (size : ℕ) (kind : Kind) (head : Head) : Type 0 where
+  pub fits : FitsIn size kind head.shape
+  pub few : head.shape.count < 2 ^ 32
+  pub ranges : kind ≡ Memory64 → (head.shape.first ≡ 16) × (head.shape.stride ≡ 16)
+  -- the records stand behind it
+  pub behind : head_cost kind ≤ head.shape.first
+
+-- the name at this RVA was read, where names have at most `limit` bytes
+pub record ReadsName (limit rva : ℕ) (result : Result NameRead Fault) (old new : MeterState) : Type 0 where
+  pub fetches : FetchesAtMost (name_spent limit result) old.source new.source
+  pub spends : Spends 0 limit old new
+  pub cost : IfOk result (λ name. new.fetched ≤ old.fetched + read_cost name)
+  -- one is reached, but at the RVA 0
+  pub reached : new.names ≡ raised_if (nat_lt 0 rva) old.names
+  pub named : IfOk result (λ name. Reaches (read_once name) old new)
+  pub at_fault : IfErr result (λ fault. ReachesAtFault fault.kind old new)
+  pub caused : IsCausedAt result old.source new.source
+
+-- a record of this kind was read, and its name where it has one
+pub record ReadsRecord (limit : ℕ) (kind : Kind) (result : Result Step Fault) (old new : MeterState) : Type 0 where
+  pub fetches : FetchesAtMost (record_spent limit kind result) old.source new.source
+  pub spends : Spends (record_size kind) limit old new
+  pub named : IfOk result (λ step. Reaches (told_once step) old new)
+  pub at_fault : IfErr result (λ fault. ReachesAtFault fault.kind old new)
+  pub caused : IsCausedAt result old.source new.source
+
+-- a step tells a record of this kind, and so begins no entry
+pub record TellsRecord (kind : Kind) (s : Step) : Type 0 where
+  pub ranges : count_told s ≡ ranges_by kind 1
+  pub passed : (next : ℕ) → passed_by s next ≡ next
+  pub stays : (e : Entry) → current_by s e ≡ e
+  pub begins : (z : ℕ) → head_told z s ≡ 0
