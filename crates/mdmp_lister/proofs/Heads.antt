@@ -1,5 +1,5 @@
 -- The heads that are fetched as a file is opened, one by one.
-use Rattle.std.proofs.Common.{◌≡◌, ◌≤◌, ◌<◌, ◌+◌, ◌*◌, ◌⊎◌, ℕ, List, [], ◌∷◌, Bool, Option, Some, true, false, if◌then◌else◌, inl, inr, refl, subst, sym, length, get_or, take}
+use Rattle.std.proofs.Common.{◌≡◌, ◌≤◌, ◌<◌, ◌+◌, ◌*◌, ℕ, List, [], ◌∷◌, Bool, Option, Some, None, true, false, if◌then◌else◌, inl, inr, refl, subst, sym, length, get_or, take}
 use Rattle.std.proofs.lemmas.Grind.{common_steps}
 use Rattle.std.proofs.Common.{arith}
 use Rattle.std.proofs.lemmas.List.Sums.{sum_by-cons, sum_by_more, sum_by-take-le}
@@ -7,11 +7,11 @@ use Rattle.mdmp_source.specs.Range.{IsInside}
 use Rattle.mdmp_wire.specs.declared.entry.Entry.{Entry}
 use Rattle.mdmp_lister.specs.declared.choice.Choice.{Choice}
 use Rattle.mdmp_lister.specs.declared.kind.Kind.{Kind}
-use Rattle.mdmp_lister.specs.declared.kind.Kind.TheVariants as kinds
-use Rattle.mdmp_lister.specs.Heads.{ahead_by, ahead_of, chosen_ahead, head_cost, head_inside, head_of, head_spent, heads_ahead}
+use Rattle.mdmp_lister.specs.Heads.{ahead_by, ahead_of, chosen_ahead, head_inside, head_of, head_spent, heads_ahead}
 use Rattle.mdmp_lister.specs.Listing.{is_chosen}
 use Rattle.mdmp_lister.specs.Meter.{Books, MeterState}
-use Rattle.mdmp_lister.specs.Shapes.{kind_of}
+use Rattle.mdmp_lister.specs.Shapes.{form_of, head_cost, kind_of, lists_ranges}
+use Rattle.mdmp_lister.proofs.Sizes.{most_head}
 
 -- a stream that lies inside
 head_inside-is : (z : ℕ) (e : Entry) (kind : Kind) → IsInside e.location.rva e.location.size z → head_inside z e kind ≡ head_spent e.location.size kind
@@ -24,13 +24,12 @@ unfolding head_of
 head_of-is z e kind known inside = rw known (head_inside-is z e kind inside)
 
 -- of a memory list it is fetched ahead
-ahead_of-is : (z : ℕ) (e : Entry) (kind : Kind) → (kind ≡ kinds.Memory) ⊎ (kind ≡ kinds.Memory64) → kind_of e.stream_type ≡ Some kind → IsInside e.location.rva e.location.size z
+ahead_of-is : (z : ℕ) (e : Entry) (kind : Kind) → lists_ranges kind ≡ true → kind_of e.stream_type ≡ Some kind → IsInside e.location.rva e.location.size z
     → head_spent e.location.size kind ≡ ahead_of z e
 unfolding ahead_of
-ahead_of-is z e kind (inl list) known inside = rw (known, list) (sym (head_inside-is z e kinds.Memory inside))
-ahead_of-is z e kind (inr list) known inside = rw (known, list) (sym (head_inside-is z e kinds.Memory64 inside))
+ahead_of-is z e kind list known inside = rw (known, list) (sym (head_inside-is z e kind inside))
 
-module _ (z : ℕ) (e : Entry) (kind : Kind) (list : (kind ≡ kinds.Memory) ⊎ (kind ≡ kinds.Memory64)) (known : kind_of e.stream_type ≡ Some kind) (inside : IsInside e.location.rva e.location.size z) where
+module _ (z : ℕ) (e : Entry) (kind : Kind) (list : lists_ranges kind ≡ true) (known : kind_of e.stream_type ≡ Some kind) (inside : IsInside e.location.rva e.location.size z) where
   pub books_ahead : (old new : MeterState) → Books 1 (head_spent e.location.size kind) old new → Books 1 (ahead_of z e) old new
   books_ahead old new books = subst (λ n. Books 1 n old new) (ahead_of-is z e kind list known inside) books
 
@@ -63,13 +62,12 @@ unless_most : (b : Bool) (n most : ℕ) → n ≤ most → (if b then 0 else n) 
 unless_most true n most le = omega arith
 unless_most false n most le = le
 
-inside_most : (z : ℕ) (e : Entry) (kind : Kind) → head_cost kind ≤ 16 → head_inside z e kind ≤ 16
-inside_most z e kind few = if_most _ (head_spent e.location.size kind) 16 (unless_most _ (head_cost kind) 16 few)
+inside_most : (z : ℕ) (e : Entry) (kind : Kind) → head_inside z e kind ≤ 16
+inside_most z e kind = if_most _ (head_spent e.location.size kind) 16 (unless_most _ (head_cost (form_of kind)) 16 (most_head (form_of kind)))
 
 ahead_most : (z : ℕ) (e : Entry) (kind : Option Kind) → ahead_by z e kind ≤ 16
-ahead_most z e (Some kinds.Memory) = inside_most z e kinds.Memory (omega arith)
-ahead_most z e (Some kinds.Memory64) = inside_most z e kinds.Memory64 (omega arith)
-ahead_most z e _ = omega arith
+ahead_most z e (Some kind) = if_most (lists_ranges kind) (head_inside z e kind) 16 (inside_most z e kind)
+ahead_most z e None = omega arith
 
 chosen_most : (choice : Choice) (z : ℕ) (e : Entry) → chosen_ahead choice z e ≤ 16
 unfolding chosen_ahead ahead_of

@@ -25,4 +25,5 @@ pub mod Refusals
 pub mod Room
 pub mod Rows
 pub mod Runs
+pub mod Sizes
 pub mod Soundness

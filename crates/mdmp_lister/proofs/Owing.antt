@@ -1,8 +1,8 @@
 -- A list whose head was read while the file was opened counts no more ranges than there is room for.
-use Rattle.std.proofs.Common.{◌≡◌, ◌≤◌, ◌<◌, arith, refl, ℕ, List, length, Option, Some, None, Ok}
+use Rattle.std.proofs.Common.{◌≡◌, ◌≤◌, ◌<◌, arith, refl, ℕ, List, length, Bool, true, false, Option, Some, None, Ok, if◌then◌else◌}
+use Rattle.std.specs.Prelude.{IsTrue}
 use Rattle.mdmp_wire.specs.declared.entry.Entry.{Entry}
 use Rattle.mdmp_lister.specs.declared.kind.Kind.{Kind}
-use Rattle.mdmp_lister.specs.declared.kind.Kind.TheVariants as kinds
 use Rattle.mdmp_lister.specs.declared.shape.Shape.{Shape}
 use Rattle.mdmp_lister.specs.declared.stage.Stage.TheVariants.{Head}
 use Rattle.mdmp_lister.specs.declared.walk.Walk.{Walk}
@@ -11,15 +11,18 @@ use Rattle.mdmp_source.specs.declared.fault.SourceFault.TheVariants.{Changed}
 use Rattle.mdmp_lister.specs.declared.fault.FaultKind.TheVariants.{Source}
 use Rattle.mdmp_lister.specs.declared.fault.ListFault.{ListFault}
 use Rattle.mdmp_lister.specs.Reading.{IsRanged, IsToldIn}
-use Rattle.mdmp_lister.specs.Counts.{ranges_in}
+use Rattle.mdmp_lister.specs.Counts.{ranges_if, ranges_in}
 use Rattle.mdmp_lister.specs.Owing.{HasRoom, ranges_by}
-use Rattle.mdmp_lister.specs.Shapes.{kind_of, location_fault, shape_of}
+use Rattle.mdmp_lister.specs.Shapes.{kind_of, lists_ranges, location_fault, shape_of}
+
+shape-ranges : (F : List ℕ) (e : Entry) (kind : Kind) (shape : Shape) (list : Bool) → location_fault (length F) e ≡ None → kind_of e.stream_type ≡ Some kind
+    → shape_of F e.location.rva e.location.size kind ≡ Ok shape → ranges_if F e list ≡ (if list then shape.count else 0)
+shape-ranges F e kind shape true whole known shaped = rw (whole, known, shaped) refl
+shape-ranges F e kind shape false whole known shaped = refl
 
 ranges_in-shape : (F : List ℕ) (e : Entry) (kind : Kind) (shape : Shape) → location_fault (length F) e ≡ None → kind_of e.stream_type ≡ Some kind
     → shape_of F e.location.rva e.location.size kind ≡ Ok shape → ranges_in F e (kind_of e.stream_type) ≡ ranges_by kind shape.count
-ranges_in-shape F e kinds.Memory shape whole known shaped = rw (known, whole, known, shaped) refl
-ranges_in-shape F e kinds.Memory64 shape whole known shaped = rw (known, whole, known, shaped) refl
-ranges_in-shape F e _ shape whole known shaped = rw known refl
+ranges_in-shape F e kind shape whole known shaped = rw known (shape-ranges F e kind shape (lists_ranges kind) whole known shaped)
 
 module _ {S A : Type 0} (w : Walk S A) (room : ℕ) (kind : Kind) (shape : Shape) where
   pub ranges-counted : (file : List ℕ) → HasRoom room 0 w → w.stage ≡ Head → w.meter.source.store.content ≡ Some file → w.meter.source.size ≡ length file
@@ -37,9 +40,10 @@ unknown (Some file) never = absurd (never file refl)
 
 -- a list that tells ranges is a memory list
 pub ranged : (known : Option Kind) (kind : Kind) (count room : ℕ) → known ≡ Some kind → room < ranges_by kind count → IsRanged known
-ranged known kinds.Memory count room is some = rw is tt
-ranged known kinds.Memory64 count room is some = rw is tt
-ranged known _ count room is some = absurd (omega (arith, some))
+ranged known kind count room is some = rw is (lists (lists_ranges kind) some) where
+  lists : (list : Bool) → room < (if list then count else 0) → IsTrue list
+  lists true some = refl
+  lists false some = absurd (omega (arith, some))
 
 -- that a store has changed is told at the list's RVA
 pub told_changed : (e : Entry) (f : ListFault) (old new : SourceState) → f.kind ≡ Source (Changed e.location.rva) → (f.offset ≡ e.location.rva) × (f.size ≡ 0) → f.index ≡ None

@@ -11,17 +11,16 @@ use Rattle.mdmp_lister.specs.declared.fault.FaultKind.{FaultKind}
 use Rattle.mdmp_lister.specs.declared.fault.FaultKind.TheVariants.{Source}
 use Rattle.mdmp_lister.specs.declared.fault.ListFault.{ListFault}
 use Rattle.mdmp_lister.specs.declared.kind.Kind.{Kind}
-use Rattle.mdmp_lister.specs.declared.kind.Kind.TheVariants as kinds
 use Rattle.mdmp_lister.specs.declared.shape.Shape.{Shape}
 use Rattle.mdmp_lister.specs.declared.stage.Stage.TheVariants.{Between}
 use Rattle.mdmp_lister.specs.declared.walk.Walk.{Walk}
 use Rattle.mdmp_lister.specs.Listing.{is_chosen}
-use Rattle.mdmp_lister.specs.Heads.{head_cost, head_spent, heads_ahead}
+use Rattle.mdmp_lister.specs.Heads.{head_spent, heads_ahead}
 use Rattle.mdmp_lister.specs.Meter.{Books, Spends}
 use Rattle.mdmp_lister.specs.Paying.{IsBounded, IsPaid, cost_of, entry_cost, owed_of}
-use Rattle.mdmp_lister.specs.Shapes.{FitsIn, head_size, kind_of, record_size}
+use Rattle.mdmp_lister.specs.Shapes.{FitsIn, form_of, head_cost, kind_of, record_size}
 use Rattle.mdmp_lister.specs.Stages.{fault_stage, stage_by}
-use Rattle.mdmp_lister.proofs.Room.{least_record}
+use Rattle.mdmp_lister.proofs.Sizes.{least_head, least_record}
 use Rattle.mdmp_lister.specs.Walk.{IsNewWalk, IsSound, SameEntry, SameRoom, stage_work}
 
 -- ---- the stage behind a fault
@@ -70,35 +69,25 @@ record_less n k r lt =
     rw one (omega arith)
 
 -- the head and the records of a stream are no more than all of it
-pub head_room : (size : ℕ) (kind : Kind) (shape : Shape) → FitsIn size kind shape → head_cost kind ≤ shape.first → shape.count * record_size kind + head_cost kind ≤ size
+pub head_room : (size : ℕ) (kind : Kind) (shape : Shape) → FitsIn size kind shape → head_cost (form_of kind) ≤ shape.first → shape.count * record_size kind + head_cost (form_of kind) ≤ size
 head_room size kind shape fits first = rooms shape.count shape.stride fits.records fits.stride where
-  rooms : (count stride : ℕ) → shape.first + count * stride ≤ size → (0 < count → record_size kind ≤ stride) → count * record_size kind + head_cost kind ≤ size
+  rooms : (count stride : ℕ) → shape.first + count * stride ≤ size → (0 < count → record_size kind ≤ stride) → count * record_size kind + head_cost (form_of kind) ≤ size
   rooms zero stride records wide = omega (arith, records, first)
   rooms (suc n) stride records wide = omega (arith, records, first, mul-le-mul_left (suc n) (wide (omega arith)))
-
-least_head : (kind : Kind) → head_cost kind ≤ head_size kind
-least_head kinds.Threads = omega arith
-least_head kinds.Modules = omega arith
-least_head kinds.Memory = omega arith
-least_head kinds.Exception = omega arith
-least_head kinds.System = omega arith
-least_head kinds.Memory64 = omega arith
-least_head kinds.Unloaded = omega arith
-least_head kinds.MemoryInfo = omega arith
 
 less_none : (n : ℕ) → n - 0 ≡ n
 less_none n = omega arith
 
-spent_most : (size : ℕ) (kind : Kind) → head_spent size kind ≤ head_cost kind
+spent_most : (size : ℕ) (kind : Kind) → head_spent size kind ≤ head_cost (form_of kind)
 spent_most size kind = grind (arith, common_steps)
 
 -- the same, of the head that was read and all records behind it
-pub head_paid : (size : ℕ) (kind : Kind) (shape : Shape) → FitsIn size kind shape → head_cost kind ≤ shape.first → (shape.count - 0) * record_size kind + head_spent size kind ≤ size
+pub head_paid : (size : ℕ) (kind : Kind) (shape : Shape) → FitsIn size kind shape → head_cost (form_of kind) ≤ shape.first → (shape.count - 0) * record_size kind + head_spent size kind ≤ size
 head_paid size kind shape fits first = rw (less_none shape.count) (omega (arith, head_room size kind shape fits first, spent_most size kind))
 
 -- what is fetched of a head is no more than the stream
 pub spent_within : (size : ℕ) (kind : Kind) → head_spent size kind ≤ size
-spent_within size kind = grind (arith, common_steps, least_head kind)
+spent_within size kind = grind (arith, common_steps, least_head (form_of kind) (record_size kind))
 
 -- a stream has fewer than 2^32 records
 pub few_records : (size : ℕ) (kind : Kind) (shape : Shape) → size < 2 ^ 32 → FitsIn size kind shape → shape.count < 2 ^ 32

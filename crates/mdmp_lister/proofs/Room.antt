@@ -2,10 +2,10 @@
 use Rattle.std.proofs.Common.{◌≤◌, ◌<◌, ◌+◌, ◌*◌, inl, inr, ℕ, suc, arith, mul-suc, mul_comm}
 use Rattle.std.proofs.Math.Nat.{mul-le-mul_left}
 use Rattle.mdmp_lister.specs.declared.kind.Kind.{Kind}
-use Rattle.mdmp_lister.specs.declared.kind.Kind.TheVariants as kinds
 use Rattle.mdmp_lister.specs.declared.shape.Shape.{Shape}
 use Rattle.mdmp_source.specs.Range.{IsInside}
 use Rattle.mdmp_lister.specs.Shapes.{FitsIn, record_size}
+use Rattle.mdmp_lister.proofs.Sizes.{least_record}
 
 -- record k of n, each of r bytes and s bytes apart, ends where they all do at the latest
 record_room : (k n s r : ℕ) → k < n → r ≤ s → k * s + r ≤ n * s
@@ -13,17 +13,7 @@ record_room k n s r lt le =
     let more : suc k ≤ n = omega (arith, lt) in
     omega (arith, mul-le-mul_left s more, mul-suc s k, mul_comm s k, mul_comm s n, le)
 
-pub least_record : (kind : Kind) → 16 ≤ record_size kind
-least_record kinds.Threads = omega arith
-least_record kinds.Modules = omega arith
-least_record kinds.Memory = omega arith
-least_record kinds.Exception = omega arith
-least_record kinds.System = omega arith
-least_record kinds.Memory64 = omega arith
-least_record kinds.Unloaded = omega arith
-least_record kinds.MemoryInfo = omega arith
-
-ends_inside : (at size z first n s k r : ℕ) → IsInside at size z → first + n * s ≤ size → k * s + r ≤ n * s → 16 ≤ r → at + first + k * s + r ≤ z
+ends_inside : (at size z first n s k r : ℕ) → IsInside at size z → first + n * s ≤ size → k * s + r ≤ n * s → 0 < r → at + first + k * s + r ≤ z
 ends_inside at size z first n s k r (inl none) records room some = omega (arith, none, records, room, some)
 ends_inside at size z first n s k r (inr whole) records room some = omega (arith, whole, records, room)
 

@@ -1,10 +1,9 @@
 -- The numbers that bound a listing. Repeats count.
-use Rattle.std.specs.Prelude.{ℕ, ◌&&◌, List, [], ◌∷◌, ◌++◌, length, map, filter, sum, sum_by, Option, Some, None, Result, Ok, Err, Bool}
+use Rattle.std.specs.Prelude.{ℕ, ◌&&◌, List, [], ◌∷◌, ◌++◌, length, map, filter, sum, sum_by, Option, Some, None, Result, Ok, Err, Bool, true, false}
 use Rattle.mdmp_source.specs.Range.{is_inside}
 use Rattle.mdmp_wire.specs.declared.entry.Entry.{Entry}
 use Rattle.mdmp_lister.specs.declared.choice.Choice.{Choice}
 use Rattle.mdmp_lister.specs.declared.kind.Kind.{Kind}
-use Rattle.mdmp_lister.specs.declared.kind.Kind.TheVariants.{Memory, Memory64}
 use Rattle.mdmp_lister.specs.declared.fault.Fault.{Fault}
 use Rattle.mdmp_lister.specs.declared.fault.FaultKind.{FaultKind}
 use Rattle.mdmp_lister.specs.declared.fault.FaultKind.TheVariants.{NameLengthOutside, NameOdd, NameUnitsOutside, Source}
@@ -13,7 +12,7 @@ use Rattle.mdmp_lister.specs.declared.name.Name.{Name}
 use Rattle.mdmp_lister.specs.declared.name.Name.TheVariants.{NoName}
 use Rattle.mdmp_lister.specs.declared.item.Item.{Item}
 use Rattle.mdmp_lister.specs.declared.item.Item.TheVariants.{Module, Unloaded, System}
-use Rattle.mdmp_lister.specs.Shapes.{kind_of, is_known, record_count}
+use Rattle.mdmp_lister.specs.Shapes.{kind_of, is_known, lists_ranges, record_count}
 use Rattle.mdmp_lister.specs.Listing.{Numbered, Run, chosen}
 
 -- ---- bytes
@@ -44,11 +43,15 @@ abbrev pub good_count : Result ℕ Fault → ℕ
 good_count (Ok count) = count
 good_count (Err f) = 0
 
--- how many ranges an entry of this kind gives: those of a memory list that lies inside and has no fault
+-- how many ranges an entry gives whose records are ranges or not: those of one that lies inside and has no fault
+abbrev pub ranges_if : List ℕ → Entry → Bool → ℕ
+ranges_if F e true = good_count (record_count F e)
+ranges_if F e false = 0
+
+-- how many an entry of this kind gives
 abbrev pub ranges_in : List ℕ → Entry → Option Kind → ℕ
-ranges_in F e (Some Memory) = good_count (record_count F e)
-ranges_in F e (Some Memory64) = good_count (record_count F e)
-ranges_in F e _ = 0
+ranges_in F e (Some kind) = ranges_if F e (lists_ranges kind)
+ranges_in F e None = 0
 
 -- how many ranges some entries give together
 abbrev pub ranges_of_all : List ℕ → List Numbered → ℕ

@@ -10,12 +10,11 @@ use Rattle.mdmp_lister.specs.declared.kind.Kind.{Kind}
 use Rattle.mdmp_lister.specs.declared.kind.Kind.TheVariants.{Memory64}
 use Rattle.mdmp_lister.specs.declared.step.Step.{Step}
 use Rattle.mdmp_lister.specs.Costs.{head_told, name_spent, read_cost, record_spent}
-use Rattle.mdmp_lister.specs.Heads.{head_cost}
 use Rattle.mdmp_lister.specs.Meter.{MeterState, Spends}
 use Rattle.mdmp_lister.specs.Owing.{count_told, ranges_by}
 use Rattle.mdmp_lister.specs.Reaching.{Reaches, ReachesAtFault, read_once, told_once}
 use Rattle.mdmp_lister.specs.Reading.{IsCausedAt}
-use Rattle.mdmp_lister.specs.Shapes.{FitsIn, record_size}
+use Rattle.mdmp_lister.specs.Shapes.{FitsIn, form_of, head_cost, record_size}
 use Rattle.mdmp_lister.specs.Steps.{current_by, passed_by}
 
 -- what the head of a stream says, of so many bytes and of this kind
@@ -24,7 +23,7 @@ pub record IsHeadOf (size : ℕ) (kind : Kind) (head : Head) : Type 0 where
   pub few : head.shape.count < 2 ^ 32
   pub ranges : kind ≡ Memory64 → (head.shape.first ≡ 16) × (head.shape.stride ≡ 16)
   -- the records stand behind it
-  pub behind : head_cost kind ≤ head.shape.first
+  pub behind : head_cost (form_of kind) ≤ head.shape.first
 
 -- the name at this RVA was read, where names have at most `limit` bytes
 pub record ReadsName (limit rva : ℕ) (result : Result NameRead Fault) (old new : MeterState) : Type 0 where

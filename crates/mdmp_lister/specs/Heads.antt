@@ -4,24 +4,12 @@ use Rattle.mdmp_source.specs.Range.{is_inside}
 use Rattle.mdmp_wire.specs.declared.entry.Entry.{Entry}
 use Rattle.mdmp_lister.specs.declared.choice.Choice.{Choice}
 use Rattle.mdmp_lister.specs.declared.kind.Kind.{Kind}
-use Rattle.mdmp_lister.specs.declared.kind.Kind.TheVariants as kinds
 use Rattle.mdmp_lister.specs.Listing.{is_chosen}
-use Rattle.mdmp_lister.specs.Shapes.{head_size, kind_of}
+use Rattle.mdmp_lister.specs.Shapes.{form_of, head_cost, head_size, kind_of, lists_ranges, record_size}
 
--- the bytes of a head: a single record has none
-abbrev pub head_cost : Kind → ℕ
-head_cost kinds.Threads = 4
-head_cost kinds.Modules = 4
-head_cost kinds.Memory = 4
-head_cost kinds.Exception = 0
-head_cost kinds.System = 0
-head_cost kinds.Memory64 = 16
-head_cost kinds.Unloaded = 12
-head_cost kinds.MemoryInfo = 16
-
--- those that are fetched of a stream of so many bytes: none of one that is too short
+-- the bytes that are fetched of a head, of a stream of so many bytes: none of one that is too short
 abbrev pub head_spent : ℕ → Kind → ℕ
-head_spent size kind = if nat_lt size (head_size kind) then 0 else head_cost kind
+head_spent size kind = if nat_lt size (head_size (form_of kind) (record_size kind)) then 0 else head_cost (form_of kind)
 
 -- those of an entry of this kind in a file of z bytes: none of a stream that does not lie inside
 abbrev pub head_inside : ℕ → Entry → Kind → ℕ
@@ -40,9 +28,8 @@ head_of z e = head_by z e (kind_of e.stream_type)
 
 -- the heads of memory lists, and no others
 abbrev pub ahead_by : ℕ → Entry → Option Kind → ℕ
-ahead_by z e (Some kinds.Memory) = head_inside z e kinds.Memory
-ahead_by z e (Some kinds.Memory64) = head_inside z e kinds.Memory64
-ahead_by z e kind = 0
+ahead_by z e (Some kind) = if lists_ranges kind then head_inside z e kind else 0
+ahead_by z e None = 0
 
 unfoldable pub ahead_of : ℕ → Entry → ℕ
 ahead_of z e = ahead_by z e (kind_of e.stream_type)

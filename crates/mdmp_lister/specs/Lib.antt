@@ -10,6 +10,7 @@ pub mod Handing
 pub mod Heads
 pub mod Items
 pub mod Laws
+pub mod Limits
 pub mod Lister
 pub mod Listing
 pub mod Mapping

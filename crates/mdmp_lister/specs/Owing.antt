@@ -1,9 +1,8 @@
 -- How many ranges a walk may still give.
-use Rattle.std.specs.Prelude.{◌≡◌, ◌≤◌, ◌+◌, ◌-◌, ℕ, List, Option, Some, None, Result, Ok, Err}
+use Rattle.std.specs.Prelude.{◌≡◌, ◌≤◌, ◌+◌, ◌-◌, ℕ, List, Option, Some, None, Result, Ok, Err, if◌then◌else◌}
 use Rattle.mdmp_wire.specs.declared.entry.Entry.{Entry}
 use Rattle.mdmp_lister.specs.declared.fault.ListFault.{ListFault}
 use Rattle.mdmp_lister.specs.declared.kind.Kind.{Kind}
-use Rattle.mdmp_lister.specs.declared.kind.Kind.TheVariants.{Memory, Memory64}
 use Rattle.mdmp_lister.specs.declared.stage.Stage.{Stage}
 use Rattle.mdmp_lister.specs.declared.stage.Stage.TheVariants.{Head, Records}
 use Rattle.mdmp_lister.specs.declared.step.Step.{Step}
@@ -11,13 +10,11 @@ use Rattle.mdmp_lister.specs.declared.step.Step.TheVariants.{Range}
 use Rattle.mdmp_lister.specs.declared.walk.Walk.{Walk}
 use Rattle.mdmp_lister.specs.Counts.{ranges_in, ranges_of_all}
 use Rattle.mdmp_lister.specs.Listing.{chosen_from}
-use Rattle.mdmp_lister.specs.Shapes.{kind_of}
+use Rattle.mdmp_lister.specs.Shapes.{kind_of, lists_ranges}
 
 -- how many of n records of this kind tell a range: all or none
 abbrev pub ranges_by : Kind → ℕ → ℕ
-ranges_by Memory n = n
-ranges_by Memory64 n = n
-ranges_by kind n = 0
+ranges_by kind n = if lists_ranges kind then n else 0
 
 -- how many ranges the records that are left of an entry tell, once its head was read
 abbrev pub ranges_ahead : Stage → ℕ

@@ -1,5 +1,5 @@
 -- What is read of a file through a source.
-use Rattle.std.specs.Prelude.{◌≡◌, ◌≤◌, ◌%◌, ℕ, List, Option, Some, None, Result, Ok, Err, IfErr, IfSome, take}
+use Rattle.std.specs.Prelude.{◌≡◌, ◌≤◌, ◌%◌, ℕ, List, Option, Some, None, Result, Ok, Err, IfErr, IfSome, IsTrue, take}
 use Rattle.mdmp_source.specs.Fault.{fault_at}
 use Rattle.mdmp_source.specs.Source.{SourceState, FailsOnce, IsTold}
 use Rattle.mdmp_source.specs.Store.{IsGood}
@@ -8,8 +8,7 @@ use Rattle.mdmp_source.specs.declared.fault.SourceFault.{SourceFault}
 use Rattle.mdmp_source.specs.declared.fault.SourceFault.TheVariants.{Changed}
 use Rattle.mdmp_wire.specs.declared.entry.Entry.{Entry}
 use Rattle.mdmp_lister.specs.declared.kind.Kind.{Kind}
-use Rattle.mdmp_lister.specs.declared.kind.Kind.TheVariants.{Memory, Memory64}
-use Rattle.mdmp_lister.specs.Shapes.{kind_of}
+use Rattle.mdmp_lister.specs.Shapes.{kind_of, lists_ranges}
 use Rattle.mdmp_lister.specs.declared.fault.Fault.{Fault}
 use Rattle.mdmp_lister.specs.declared.fault.FaultKind.{FaultKind}
 use Rattle.mdmp_lister.specs.declared.fault.ListFault.{ListFault}
@@ -69,9 +68,8 @@ Answers wanted value (Err fault) = (IsOfSource fault.kind → ⊥) → wanted �
 
 -- a memory list
 abbrev pub IsRanged : Option Kind → Type 0
-IsRanged (Some Memory) = Unit {0}
-IsRanged (Some Memory64) = Unit {0}
-IsRanged kind = ⊥
+IsRanged (Some kind) = IsTrue (lists_ranges kind)
+IsRanged None = ⊥
 
 -- a fault of the store, of no item of this entry: what the last fetch of these told, or that the store has changed,
 -- which one of known content does not, and which the head of a memory list tells, at its RVA

@@ -1,16 +1,20 @@
--- Where the records of a stream stand.
-use Rattle.std.specs.Prelude.{◌≤◌, ◌<◌, ℕ, ◌+◌, ◌*◌, List, length, Option, Some, None, Result, Ok, Err, Bool, is_some, ◌==◌, ◌||◌, ◌&&◌, nat_lt, if◌then◌else◌}
+-- Which streams have records, and where those stand.
+use Rattle.std.specs.Prelude.{◌≤◌, ◌<◌, ℕ, ◌+◌, ◌*◌, List, length, Option, Some, None, Result, Ok, Err, Bool, true, false, is_some, ◌==◌, ◌||◌, ◌&&◌, nat_lt, if◌then◌else◌}
 use Rattle.mdmp_source.specs.Range.{is_inside}
 use Rattle.mdmp_wire.specs.declared.entry.Entry.{Entry}
 use Rattle.mdmp_wire.specs.Number.{number_at}
 use Rattle.mdmp_wire.specs.Memory64List.{memory64_list_at}
 use Rattle.mdmp_wire.specs.MemoryInfoList.{memory_info_list_at}
 use Rattle.mdmp_wire.specs.UnloadedList.{unloaded_list_at}
+use Rattle.mdmp_lister.specs.declared.form.Form.{Form}
+use Rattle.mdmp_lister.specs.declared.form.Form.TheVariants as forms
 use Rattle.mdmp_lister.specs.declared.kind.Kind.{Kind}
 use Rattle.mdmp_lister.specs.declared.kind.Kind.TheVariants as kinds
 use Rattle.mdmp_lister.specs.declared.shape.Shape.{Shape}
 use Rattle.mdmp_lister.specs.declared.fault.Fault.{Fault}
 use Rattle.mdmp_lister.specs.declared.fault.FaultKind.TheVariants.{StreamOutside, ShortStream, BadHeaderSize, BadEntrySize, BadCount}
+
+-- ---- kinds of streams: the type, the form and the records of each
 
 -- the kind of a stream type whose records are known
 abbrev pub kind_of : ℕ → Option Kind
@@ -28,16 +32,16 @@ kind_of t =
 abbrev pub is_known : ℕ → Bool
 is_known t = is_some (kind_of t)
 
--- how many bytes stand before the records, at least; of a single record it is all
-abbrev pub head_size : Kind → ℕ
-head_size kinds.Threads = 4
-head_size kinds.Modules = 4
-head_size kinds.Memory = 4
-head_size kinds.Exception = 168
-head_size kinds.System = 56
-head_size kinds.Memory64 = 16
-head_size kinds.Unloaded = 12
-head_size kinds.MemoryInfo = 16
+-- what stands before its records
+abbrev pub form_of : Kind → Form
+form_of kinds.Threads = forms.Counted
+form_of kinds.Modules = forms.Counted
+form_of kinds.Memory = forms.Counted
+form_of kinds.Exception = forms.Single
+form_of kinds.System = forms.Single
+form_of kinds.Memory64 = forms.Ranges64
+form_of kinds.Unloaded = forms.Sized32
+form_of kinds.MemoryInfo = forms.Sized64
 
 -- how many bytes a record has
 abbrev pub record_size : Kind → ℕ
@@ -50,6 +54,33 @@ record_size kinds.Memory64 = 16
 record_size kinds.Unloaded = 24
 record_size kinds.MemoryInfo = 48
 
+-- the most bytes that a record of any kind has: those of an exception
+abbrev pub greatest_record : ℕ
+greatest_record = record_size kinds.Exception
+
+-- its records are ranges of memory
+abbrev pub lists_ranges : Kind → Bool
+lists_ranges kinds.Memory = true
+lists_ranges kinds.Memory64 = true
+lists_ranges kind = false
+
+-- ---- heads
+
+-- how many bytes stand before the records of a stream of this form, at least: a single one has no head
+abbrev pub head_cost : Form → ℕ
+head_cost forms.Counted = 4
+head_cost forms.Single = 0
+head_cost forms.Ranges64 = 16
+head_cost forms.Sized32 = 12
+head_cost forms.Sized64 = 16
+
+-- how many bytes such a stream has at least, whose records have so many each: those of its head, or of its one record
+abbrev pub head_size : Form → ℕ → ℕ
+head_size forms.Single record_size = record_size
+head_size form record_size = head_cost form
+
+-- ---- shapes, of streams of `size` bytes at `at`
+
 -- a list of records of the same size behind a u32 that counts them, padded to 8 bytes where the stream has
 -- exactly 4 bytes more than it needs
 abbrev pub counted : ℕ → ℕ → ℕ → ℕ → Result Shape Fault
@@ -61,11 +92,11 @@ counted at size record_size count =
 abbrev pub single : ℕ → Result Shape Fault
 single record_size = Ok (record { first = 0; stride = record_size; count = 1 })
 
--- ranges behind a u64 that counts them and a u64 that says where their bytes begin
-abbrev pub ranges64 : ℕ → ℕ → ℕ → Result Shape Fault
-ranges64 at size count =
-    if nat_lt size (16 + 16 * count) then Err (record { kind = BadCount; offset = at; size = count })
-    else Ok (record { first = 16; stride = 16; count = count })
+-- records of the same size behind a u64 that counts them and a u64 that says where the bytes of ranges begin
+abbrev pub ranges64 : ℕ → ℕ → ℕ → ℕ → Result Shape Fault
+ranges64 at size record_size count =
+    if nat_lt size (16 + count * record_size) then Err (record { kind = BadCount; offset = at; size = count })
+    else Ok (record { first = 16; stride = record_size; count = count })
 
 -- records behind a head that says its own size, theirs, and how many there are
 abbrev pub sized : ℕ → ℕ → ℕ → ℕ → ℕ → ℕ → ℕ → Result Shape Fault
@@ -75,26 +106,27 @@ sized at size head record_size first stride count =
     else if nat_lt size (first + count * stride) then Err (record { kind = BadCount; offset = at + 8; size = count })
     else Ok (record { first = first; stride = stride; count = count })
 
--- the shape of a stream of this kind that has room for its head
-abbrev pub shape_behind_head : List ℕ → ℕ → ℕ → Kind → Result Shape Fault
-shape_behind_head F at size kinds.Threads = counted at size (record_size kinds.Threads) (number_at F at 4)
-shape_behind_head F at size kinds.Modules = counted at size (record_size kinds.Modules) (number_at F at 4)
-shape_behind_head F at size kinds.Memory = counted at size (record_size kinds.Memory) (number_at F at 4)
-shape_behind_head F at size kinds.Exception = single (record_size kinds.Exception)
-shape_behind_head F at size kinds.System = single (record_size kinds.System)
-shape_behind_head F at size kinds.Memory64 = ranges64 at size (memory64_list_at F at).number_of_memory_ranges
-shape_behind_head F at size kinds.Unloaded =
+-- the shape of a stream of this form that has room for its head
+abbrev pub shape_behind_head : List ℕ → ℕ → ℕ → ℕ → Form → Result Shape Fault
+shape_behind_head F at size record_size forms.Counted = counted at size record_size (number_at F at 4)
+shape_behind_head F at size record_size forms.Single = single record_size
+shape_behind_head F at size record_size forms.Ranges64 = ranges64 at size record_size (memory64_list_at F at).number_of_memory_ranges
+shape_behind_head F at size record_size forms.Sized32 =
     let head = unloaded_list_at F at in
-    sized at size (head_size kinds.Unloaded) (record_size kinds.Unloaded) head.size_of_header head.size_of_entry head.number_of_entries
-shape_behind_head F at size kinds.MemoryInfo =
+    sized at size (head_cost forms.Sized32) record_size head.size_of_header head.size_of_entry head.number_of_entries
+shape_behind_head F at size record_size forms.Sized64 =
     let head = memory_info_list_at F at in
-    sized at size (head_size kinds.MemoryInfo) (record_size kinds.MemoryInfo) head.size_of_header head.size_of_entry head.number_of_entries
+    sized at size (head_cost forms.Sized64) record_size head.size_of_header head.size_of_entry head.number_of_entries
 
--- the shape of a stream of this kind, of size bytes at `at`
+-- the shape of a stream of this form, whose records have so many bytes each
+abbrev pub shape_by : List ℕ → ℕ → ℕ → ℕ → Form → Result Shape Fault
+shape_by F at size record_size form =
+    if nat_lt size (head_size form record_size) then Err (record { kind = ShortStream; offset = at; size = size })
+    else shape_behind_head F at size record_size form
+
+-- the shape of a stream of this kind
 unfoldable pub shape_of : List ℕ → ℕ → ℕ → Kind → Result Shape Fault
-shape_of F at size kind =
-    if nat_lt size (head_size kind) then Err (record { kind = ShortStream; offset = at; size = size })
-    else shape_behind_head F at size kind
+shape_of F at size kind = shape_by F at size (record_size kind) (form_of kind)
 
 -- the records of a stream of `size` bytes lie inside it, and no two overlap: a law of every shape
 pub record FitsIn (size : ℕ) (kind : Kind) (shape : Shape) : Type 0 where

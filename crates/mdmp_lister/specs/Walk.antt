@@ -20,7 +20,7 @@ use Rattle.mdmp_lister.specs.Directory.{IsDirectory}
 use Rattle.mdmp_lister.specs.Items.{range_offset}
 use Rattle.mdmp_lister.specs.Listing.{Run, nothing, only_fault, with_item, joined, items_from, body_of, listing_from}
 use Rattle.mdmp_lister.specs.Reading.{IsOfSource, IsSteady}
-use Rattle.mdmp_lister.specs.Shapes.{FitsIn, kind_of}
+use Rattle.mdmp_lister.specs.Shapes.{FitsIn, greatest_record, kind_of}
 use Rattle.mdmp_lister.specs.Stages.{failure_of}
 use Rattle.mdmp_lister.specs.Steps.{passed_by, step_item}
 
@@ -69,7 +69,7 @@ module _ {S A : Type 0} where
 
   pub record IsSound (w : Walk S A) : Type 0 where
     pub sized : IsSizeOf w.meter.source.store.content w.meter.source.size
-    pub window : 168 ≤ vec_len w.window
+    pub window : greatest_record ≤ vec_len w.window
     pub small : vec_len w.name < 2 ^ 32
     pub few : vec_len w.entries < 2 ^ 32
     pub placed : w.next ≤ vec_len w.entries

@@ -6,11 +6,11 @@ ghost use Rattle.mdmp_lister.specs.Directory.{IsDirectory};
 ghost use Rattle.mdmp_lister.specs.Heads.{ahead_of, heads_ahead};
 ghost use Rattle.mdmp_lister.specs.Meter.{Books};
 ghost use Rattle.mdmp_lister.specs.Reading.{IsCaused};
-ghost use Rattle.mdmp_lister.specs.Shapes.{kind_of};
+ghost use Rattle.mdmp_lister.specs.Shapes.{greatest_record, kind_of};
 
 use crate::choice::Choice;
 use crate::fault::FaultKind;
-use crate::heading::read_head;
+use crate::heading::head_at;
 use crate::kind::Kind;
 use crate::meter::Meter;
 use crate::shaping::location_fault;
@@ -26,20 +26,19 @@ fn ranges_of_entry<S: Store>(
     window: &mut [u8],
     entry: Entry,
 ) -> Result<u64, SourceFault>
-    requires { 168 ≤ length window.old }
+    requires { greatest_record ≤ length window.old }
     ensures count { (file : List ℕ) → meter.old.source.store.content ≡ Some file
         → IfOk result (λ count. count ≡ ranges_in file entry (kind_of entry.stream_type)) }
     ensures books { Books 1 (ahead_of meter.old.source.size entry) meter.old meter.new }
     ensures caused { IsCaused (fault_of result) meter.old.source meter.new.source }
 {
-    let kind = match Kind::of_type(entry.stream_type) {
-        Some(kind @ (Kind::Memory | Kind::Memory64)) => kind,
-        _ => return Ok(0),
+    let Some(kind) = Kind::of_type(entry.stream_type) else {
+        return Ok(0);
     };
-    if location_fault(entry, meter.size()).is_some() {
+    if !kind.lists_ranges() || location_fault(entry, meter.size()).is_some() {
         return Ok(0);
     }
-    match read_head(meter, window, entry.location, kind) {
+    match head_at(meter, window, entry.location, kind) {
         Ok(head) => Ok(head.shape.count),
         Err(fault) => match fault.kind {
             FaultKind::Source(fault) => Err(fault),
@@ -56,7 +55,7 @@ pub(crate) fn count_ranges<S: Store>(
     entries: &[Entry],
     choice: &Choice,
 ) -> Result<u128, SourceFault>
-    requires window { 168 ≤ length window.old }
+    requires window { greatest_record ≤ length window.old }
     requires few { length entries.now < 2 ^ 32 }
     ensures count { (file : List ℕ) → meter.old.source.store.content ≡ Some file
         → IsDirectory file entries.now → IfOk result (λ count. count ≡ range_count file choice.now) }

@@ -5,12 +5,13 @@ ghost use Rattle.mdmp_wire.specs.Number.{number_at};
 ghost use Rattle.mdmp_lister.specs.Fetching.{IsHeadOf};
 ghost use Rattle.mdmp_lister.specs.Heads.{head_spent};
 ghost use Rattle.mdmp_lister.specs.Meter.{Books};
-ghost use Rattle.mdmp_lister.specs.Shapes.{shape_of};
+ghost use Rattle.mdmp_lister.specs.Shapes.{greatest_record, shape_of};
 ghost use Rattle.mdmp_lister.specs.Reaching.{ReachesAtFault};
 ghost use Rattle.mdmp_lister.specs.Reading.{Answers, IsCausedAt};
 
 use crate::fault::Fault;
 use crate::fetching::read;
+use crate::form::Form;
 use crate::kind::Kind;
 use crate::meter::Meter;
 use crate::shape::Shape;
@@ -31,14 +32,14 @@ pub(crate) struct Head {
 /// Where the records of a stream stand, or its first fault: too short for its head, a bad header
 /// size, a bad entry size, a bad count.
 #[tactic(auto, using(crate::proofs::Metering::Books_none, crate::proofs::Paying::few_records, crate::proofs::Naming::source_reached), unfolding(crate::specs::Shapes::shape_of))]
-pub(crate) fn read_head<S: Store>(
+pub(crate) fn head_at<S: Store>(
     meter: &mut Meter<S>,
     window: &mut [u8],
     at: Location,
     kind: Kind,
 ) -> Result<Head, Fault>
     requires inside { IsInside at.rva at.size meter.old.source.size }
-    requires window { 168 ≤ length window.old }
+    requires window { greatest_record ≤ length window.old }
     ensures shape { (file : List ℕ) → meter.old.source.store.content ≡ Some file
         → Answers (shape_of file at.rva at.size kind) (λ head. head.shape) result }
     ensures base { (file : List ℕ) → meter.old.source.store.content ≡ Some file
@@ -48,38 +49,52 @@ pub(crate) fn read_head<S: Store>(
     ensures caused { IsCausedAt result meter.old.source meter.new.source }
     ensures at_fault { IfErr result (λ fault. ReachesAtFault fault.kind meter.old meter.new) }
 {
-    if at.size < kind.head_size() {
+    let form = kind.form();
+    let record_size = kind.record_size();
+    if at.size < form.head_size(record_size) {
         return too_short(at);
     }
     let start = u64::from(at.rva);
-    match kind {
-        Kind::Threads | Kind::Modules | Kind::Memory => {
+    match form {
+        Form::Counted => {
             let count = read(meter, window, start)?;
-            let shape = counted(at, kind, count)?;
+            let shape = counted(at, record_size, count)?;
             Ok(Head { shape, base: 0 })
         }
-        Kind::Exception | Kind::System => Ok(Head {
-            shape: single(kind),
+        Form::Single => Ok(Head {
+            shape: single(record_size),
             base: 0,
         }),
-        Kind::Memory64 => {
+        Form::Ranges64 => {
             let head: Memory64List = read(meter, window, start)?;
-            let shape = ranges64(at, head)?;
+            let shape = ranges64(at, record_size, head)?;
             Ok(Head {
                 shape,
                 base: head.base_rva,
             })
         }
-        Kind::Unloaded => {
+        Form::Sized32 => {
             let head: UnloadedList = read(meter, window, start)?;
-            let count = u64::from(head.number_of_entries);
-            let shape = sized(at, kind, head.size_of_header, head.size_of_entry, count)?;
+            let shape = sized(
+                at,
+                form.head_cost(),
+                record_size,
+                head.size_of_header,
+                head.size_of_entry,
+                u64::from(head.number_of_entries),
+            )?;
             Ok(Head { shape, base: 0 })
         }
-        Kind::MemoryInfo => {
+        Form::Sized64 => {
             let head: MemoryInfoList = read(meter, window, start)?;
-            let count = head.number_of_entries;
-            let shape = sized(at, kind, head.size_of_header, head.size_of_entry, count)?;
+            let shape = sized(
+                at,
+                form.head_cost(),
+                record_size,
+                head.size_of_header,
+                head.size_of_entry,
+                head.number_of_entries,
+            )?;
             Ok(Head { shape, base: 0 })
         }
     }

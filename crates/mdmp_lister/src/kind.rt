@@ -1,10 +1,11 @@
-//! Which streams have records here.
+//! Which streams have records here: the type, the form and the records of each.
 ghost use Rattle.std.specs.Prelude.{◌≡◌};
-ghost use Rattle.mdmp_lister.specs.Shapes.{head_size, kind_of, record_size};
+ghost use Rattle.mdmp_lister.specs.Shapes.{form_of, kind_of, lists_ranges, record_size};
 
+use crate::form::Form;
 use mdmp_wire::{
-    Descriptor, Descriptor64, ExceptionRecord, Memory64List, MemoryInfoList, MemoryInfoRecord,
-    ModuleRecord, Record, SystemRecord, ThreadRecord, UnloadedList, UnloadedRecord,
+    Descriptor, Descriptor64, ExceptionRecord, MemoryInfoRecord, ModuleRecord, Record,
+    SystemRecord, ThreadRecord, UnloadedRecord,
 };
 
 /// The streams whose records are listed, with their `MINIDUMP_STREAM_TYPE`. Of an entry of another
@@ -47,16 +48,16 @@ impl Kind {
         }
     }
 
-    /// How many bytes stand before the records, at least; of a single record it is all of it.
-    pub(crate) fn head_size(self) -> u32
-        ensures { result ≡ head_size self }
+    /// What stands before its records.
+    pub(crate) fn form(self) -> Form
+        ensures { result ≡ form_of self }
     {
         match self {
-            Kind::Threads | Kind::Modules | Kind::Memory => 4,
-            Kind::Exception | Kind::System => self.record_size(),
-            Kind::Memory64 => Memory64List::SIZE as u32,
-            Kind::Unloaded => UnloadedList::SIZE as u32,
-            Kind::MemoryInfo => MemoryInfoList::SIZE as u32,
+            Kind::Threads | Kind::Modules | Kind::Memory => Form::Counted,
+            Kind::Exception | Kind::System => Form::Single,
+            Kind::Memory64 => Form::Ranges64,
+            Kind::Unloaded => Form::Sized32,
+            Kind::MemoryInfo => Form::Sized64,
         }
     }
 
@@ -75,5 +76,12 @@ impl Kind {
             Kind::MemoryInfo => MemoryInfoRecord::SIZE,
         };
         size as u32
+    }
+
+    /// Whether its records are ranges of memory.
+    pub(crate) fn lists_ranges(self) -> bool
+        ensures { result ≡ lists_ranges self }
+    {
+        matches!(self, Kind::Memory | Kind::Memory64)
     }
 }

@@ -32,6 +32,7 @@ mod counting;
 mod counts;
 mod fault;
 mod fetching;
+mod form;
 mod heading;
 mod item;
 mod kind;

@@ -27,7 +27,7 @@ use crate::step::Step;
 use crate::walk::Walk;
 use mdmp_map::AddressMap;
 use mdmp_source::{Extent, Source, SourceFault, Store};
-use mdmp_wire::Header;
+use mdmp_wire::{Entry, Header, Record};
 use std::alloc::{AllocError, Allocator};
 use std::marker::Model;
 
@@ -139,13 +139,14 @@ impl<S: Store + Drop, A: Allocator + Copy> Lister<S, A> {
     {
         let walk = &self.walk;
         let entries = walk.entries.len() as u128;
+        let directory = Entry::SIZE as u128 * entries;
         let ranges = self.map.len() as u128 + self.map.free() as u128;
         Counts {
             s: entries,
             r: ranges,
             n: listed_bytes(&walk.entries, &walk.choice, walk.meter.size()),
             m: walk.meter.names(),
-            held: walk.window.len() as u128 + 12 * entries + 24 * ranges + walk.name.len() as u128,
+            held: walk.window.len() as u128 + directory + 24 * ranges + walk.name.len() as u128,
             fetched: walk.meter.fetched(),
             calls: walk.meter.calls(),
             aside: walk.meter.aside(),

@@ -4,7 +4,6 @@ ghost use Rattle.mdmp_source.specs.Range.{IsInside};
 ghost use Rattle.mdmp_lister.specs.Shapes.{
   FitsIn,
   counted,
-  head_size,
   location_fault,
   ranges64,
   record_size,
@@ -14,6 +13,7 @@ ghost use Rattle.mdmp_lister.specs.Shapes.{
 };
 
 use crate::fault::{Fault, FaultKind};
+use crate::form::Form;
 use crate::kind::Kind;
 use crate::shape::Shape;
 use mdmp_source::{Location, inside};
@@ -55,51 +55,50 @@ pub(crate) fn too_short<T: Drop>(at: Location) -> Result<T, Fault>
 }
 
 /// The shape of a list of so many records behind their count.
-pub(crate) fn counted(at: Location, kind: Kind, count: u32) -> Result<Shape, Fault>
+pub(crate) fn counted(at: Location, record_size: u32, count: u32) -> Result<Shape, Fault>
     requires { 4 ≤ at.size }
-    ensures shape { result ≡ counted at.rva at.size (record_size kind) count }
+    ensures shape { result ≡ counted at.rva at.size record_size count }
     ensures fits { IfOk result (λ shape. shape.first + shape.count * shape.stride ≤ at.size) }
-    ensures stride { IfOk result (λ shape. shape.stride ≡ record_size kind) }
+    ensures stride { IfOk result (λ shape. shape.stride ≡ record_size) }
     ensures first { IfOk result (λ shape. 4 ≤ shape.first) }
 {
     let size = u128::from(at.size);
-    let stride = u64::from(kind.record_size());
-    let records = u128::from(count) * u128::from(stride);
+    let records = u128::from(count) * u128::from(record_size);
     if size < 4 + records {
         return fault(FaultKind::BadCount, u64::from(at.rva), u64::from(count));
     }
     let first = if size == 8 + records { 8 } else { 4 };
     Ok(Shape {
         first,
-        stride,
+        stride: u64::from(record_size),
         count: u64::from(count),
     })
 }
 
 /// The shape of a stream that is one record.
-pub(crate) fn single(kind: Kind) -> Shape
-    ensures { single (record_size kind) ≡ Ok result }
+pub(crate) fn single(record_size: u32) -> Shape
+    ensures { single record_size ≡ Ok result }
 {
     Shape {
         first: 0,
-        stride: u64::from(kind.record_size()),
+        stride: u64::from(record_size),
         count: 1,
     }
 }
 
 /// The shape of a 64-bit memory list with this head.
-pub(crate) fn ranges64(at: Location, head: Memory64List) -> Result<Shape, Fault>
-    ensures shape { result ≡ ranges64 at.rva at.size head.number_of_memory_ranges }
+pub(crate) fn ranges64(at: Location, record_size: u32, head: Memory64List) -> Result<Shape, Fault>
+    ensures shape { result ≡ ranges64 at.rva at.size record_size head.number_of_memory_ranges }
     ensures fits { IfOk result (λ shape. shape.first + shape.count * shape.stride ≤ at.size) }
-    ensures places { IfOk result (λ shape. (shape.first ≡ 16) × (shape.stride ≡ 16)) }
+    ensures places { IfOk result (λ shape. (shape.first ≡ 16) × (shape.stride ≡ record_size)) }
 {
     let count = head.number_of_memory_ranges;
-    if u128::from(at.size) < 16 + 16 * u128::from(count) {
+    if u128::from(at.size) < 16 + u128::from(count) * u128::from(record_size) {
         return fault(FaultKind::BadCount, u64::from(at.rva), count);
     }
     Ok(Shape {
         first: 16,
-        stride: 16,
+        stride: u64::from(record_size),
         count,
     })
 }
@@ -107,21 +106,22 @@ pub(crate) fn ranges64(at: Location, head: Memory64List) -> Result<Shape, Fault>
 /// The shape of a list whose head says its own size, that of an entry, and how many there are.
 pub(crate) fn sized(
     at: Location,
-    kind: Kind,
+    head_size: u32,
+    record_size: u32,
     header_size: u32,
     entry_size: u32,
     count: u64,
 ) -> Result<Shape, Fault>
-    ensures shape { result ≡ sized at.rva at.size (head_size kind) (record_size kind) header_size entry_size count }
+    ensures shape { result ≡ sized at.rva at.size head_size record_size header_size entry_size count }
     ensures fits { IfOk result (λ shape. shape.first + shape.count * shape.stride ≤ at.size) }
-    ensures stride { IfOk result (λ shape. 0 < shape.count → record_size kind ≤ shape.stride) }
-    ensures first { IfOk result (λ shape. head_size kind ≤ shape.first) }
+    ensures stride { IfOk result (λ shape. 0 < shape.count → record_size ≤ shape.stride) }
+    ensures first { IfOk result (λ shape. head_size ≤ shape.first) }
 {
     let start = u64::from(at.rva);
-    if header_size < kind.head_size() || at.size < header_size {
+    if header_size < head_size || at.size < header_size {
         return fault(FaultKind::BadHeaderSize, start, u64::from(header_size));
     }
-    if 0 < count && entry_size < kind.record_size() {
+    if 0 < count && entry_size < record_size {
         return fault(FaultKind::BadEntrySize, start + 4, u64::from(entry_size));
     }
     if u128::from(at.size) < u128::from(header_size) + u128::from(count) * u128::from(entry_size) {
@@ -143,34 +143,37 @@ pub fn shape_of(file: &[u8], location: Location, kind: Kind) -> Result<Shape, Fa
     ensures shape { result ≡ shape_of file.now location.rva location.size kind }
     ensures fits { IfOk result (λ shape. FitsIn location.size kind shape) }
 {
-    if location.size < kind.head_size() {
+    let form = kind.form();
+    let record_size = kind.record_size();
+    if location.size < form.head_size(record_size) {
         return too_short(location);
     }
     let at = location.rva as usize;
-    match kind {
-        Kind::Threads | Kind::Modules | Kind::Memory => counted(location, kind, read_at(file, at)),
-        Kind::Exception | Kind::System => Ok(single(kind)),
-        Kind::Memory64 => ranges64(location, read_at(file, at)),
-        Kind::Unloaded => {
+    match form {
+        Form::Counted => counted(location, record_size, read_at(file, at)),
+        Form::Single => Ok(single(record_size)),
+        Form::Ranges64 => ranges64(location, record_size, read_at(file, at)),
+        Form::Sized32 => {
             let head: UnloadedList = read_at(file, at);
             let count = u64::from(head.number_of_entries);
             sized(
                 location,
-                kind,
+                form.head_cost(),
+                record_size,
                 head.size_of_header,
                 head.size_of_entry,
                 count,
             )
         }
-        Kind::MemoryInfo => {
+        Form::Sized64 => {
             let head: MemoryInfoList = read_at(file, at);
-            let count = head.number_of_entries;
             sized(
                 location,
-                kind,
+                form.head_cost(),
+                record_size,
                 head.size_of_header,
                 head.size_of_entry,
-                count,
+                head.number_of_entries,
             )
         }
     }

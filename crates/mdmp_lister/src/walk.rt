@@ -21,7 +21,7 @@ ghost use Rattle.mdmp_lister.specs.Shapes.{kind_of};
 use crate::choice::Choice;
 use crate::counting::count_ranges;
 use crate::fault::{Fault, FaultKind, ListFault, OpenFault};
-use crate::heading::read_head;
+use crate::heading::head_at;
 use crate::item::{Item, StreamItem};
 use crate::kind::Kind;
 use crate::limits::Limits;
@@ -271,7 +271,7 @@ impl<S: Store + Drop, A: Allocator + Copy> Walk<S, A> {
             self.stage = Stage::Between;
             return Ok(());
         };
-        match read_head(
+        match head_at(
             &mut self.meter,
             &mut self.window,
             self.current.location,
@@ -406,10 +406,7 @@ impl<S: Store + Drop, A: Allocator + Copy> Walk<S, A> {
 fn ranges_by(kind: Kind, count: u64) -> u64
     ensures { result ≡ ranges_by kind count }
 {
-    match kind {
-        Kind::Memory | Kind::Memory64 => count,
-        _ => 0,
-    }
+    if kind.lists_ranges() { count } else { 0 }
 }
 
 /// The fault of a list at `rva` whose head does not agree with what was read before.

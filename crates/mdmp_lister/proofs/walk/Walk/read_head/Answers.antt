@@ -15,9 +15,9 @@ unfolding sizes_before
 returns-else-ranges_by-room-clause-sound g c =
     let begun : 0 < c.args.self.now.next = rw c.requires.head at c.requires.sound.staged in
     let base = c.from.ensures in
-    IsSound-after _ c.args.self.now _ c.requires.sound c.read_head.ensures.books.fetches
+    IsSound-after _ c.args.self.now _ c.requires.sound c.head_at.ensures.books.fetches
     (search rules)
-    (record { begun = begun; known = search rules; within = omega arith; inside = search rules; fits = c.in-Ok.ensures.head.fits; ranges = c.in-Ok.ensures.head.ranges; bound = omega (arith, base, c.from.type_inv, c.read_head.type_inv) })
+    (record { begun = begun; known = search rules; within = omega arith; inside = search rules; fits = c.in-Ok.ensures.head.fits; ranges = c.in-Ok.ensures.head.ranges; bound = omega (arith, base, c.from.type_inv, c.head_at.type_inv) })
     (λ file known kind. omega (arith, base, c.in-Ok.ensures.base file known kind))
     (λ end. cc)
     (λ file good. refl)
@@ -36,7 +36,7 @@ returns-then-ranges_by-room-clause-sound g c =
     let f = c.told-then-ranges_by-room.result in
     let begun : 0 < w.next = rw c.requires.head at c.requires.sound.staged in
     rw c.stop_at-then-ranges_by-room.ensures.stage (
-    IsSound-after _ w _ c.requires.sound c.read_head.ensures.books.fetches
+    IsSound-after _ w _ c.requires.sound c.head_at.ensures.books.fetches
     (search rules)
     (fault_stage-staged w.meter.source.size w.next w.current f begun)
     (λ file known. fault_stage-offset file w.current f)
@@ -66,7 +66,7 @@ returns-else-ranges_by-room-clause-paid g c = λ allowed before paid.
     let kind = c.in-Some-of_type.kind in
     let known : kind_of w.current.stream_type ≡ Some kind = search rules in
     let inside : IsInside at.rva at.size w.meter.source.size = search rules in
-    paid_headed allowed before (head_spent at.size kind) w _ paid c.read_head.ensures.books (search rules) c.read_head.ensures.books.fetches.same_size
+    paid_headed allowed before (head_spent at.size kind) w _ paid c.head_at.ensures.books (search rules) c.head_at.ensures.books.fetches.same_size
     (rw (c.requires.head, entry_cost-listed w.meter.source.size w.current kind known inside)
     (head_paid at.size kind c.in-Ok.head.shape c.in-Ok.ensures.head.fits c.in-Ok.ensures.head.behind))
     (rw c.requires.head (omega (arith, c.in-Ok.ensures.head.few)))
@@ -80,7 +80,7 @@ returns-then-ranges_by-room-clause-paid g c = λ allowed before paid.
     let known : kind_of w.current.stream_type ≡ Some kind = search rules in
     let inside : IsInside at.rva at.size w.meter.source.size = search rules in
     rw c.stop_at-then-ranges_by-room.ensures.stage (
-    paid_headed allowed before (head_spent at.size kind) w _ paid c.read_head.ensures.books (search rules) c.read_head.ensures.books.fetches.same_size
+    paid_headed allowed before (head_spent at.size kind) w _ paid c.head_at.ensures.books (search rules) c.head_at.ensures.books.fetches.same_size
     (rw (fault_stage-owed w.meter.source.size w.current f, c.requires.head, entry_cost-listed w.meter.source.size w.current kind known inside) (omega (arith, spent_within at.size kind)))
     (rw (fault_stage-work f, c.requires.head) (omega arith))
     )
@@ -94,7 +94,7 @@ returns-in-Err-clause-paid g c = λ allowed before paid.
     let known : kind_of w.current.stream_type ≡ Some kind = search rules in
     let inside : IsInside at.rva at.size w.meter.source.size = search rules in
     rw c.stop_at-in-Err.ensures.stage (
-    paid_headed allowed before (head_spent at.size kind) w _ paid c.read_head.ensures.books (search rules) c.read_head.ensures.books.fetches.same_size
+    paid_headed allowed before (head_spent at.size kind) w _ paid c.head_at.ensures.books (search rules) c.head_at.ensures.books.fetches.same_size
     (rw (fault_stage-owed w.meter.source.size w.current f, c.requires.head, entry_cost-listed w.meter.source.size w.current kind known inside) (omega (arith, spent_within at.size kind)))
     (rw (fault_stage-work f, c.requires.head) (omega arith))
     )
@@ -105,7 +105,7 @@ returns-else-ranges_by-room-clause-fetches g c =
     let kind = c.in-Some-of_type.kind in
     let known : kind_of w.current.stream_type ≡ Some kind = search rules in
     let inside : IsInside w.current.location.rva w.current.location.size w.meter.source.size = search rules in
-    rw (head_of-is w.meter.source.size w.current kind known inside) c.read_head.ensures.books.fetches
+    rw (head_of-is w.meter.source.size w.current kind known inside) c.head_at.ensures.books.fetches
 
 pub returns-then-ranges_by-room-clause-fetches : goal.returns-then-ranges_by-room-clause-fetches
 returns-then-ranges_by-room-clause-fetches g c =
@@ -113,7 +113,7 @@ returns-then-ranges_by-room-clause-fetches g c =
     let kind = c.in-Some-of_type.kind in
     let known : kind_of w.current.stream_type ≡ Some kind = search rules in
     let inside : IsInside w.current.location.rva w.current.location.size w.meter.source.size = search rules in
-    rw (c.stop_at-then-ranges_by-room.ensures.stage, head_of-is w.meter.source.size w.current kind known inside) c.read_head.ensures.books.fetches
+    rw (c.stop_at-then-ranges_by-room.ensures.stage, head_of-is w.meter.source.size w.current kind known inside) c.head_at.ensures.books.fetches
 
 pub returns-in-Err-clause-fetches : goal.returns-in-Err-clause-fetches
 returns-in-Err-clause-fetches g c =
@@ -121,4 +121,4 @@ returns-in-Err-clause-fetches g c =
     let kind = c.in-Some-of_type.kind in
     let known : kind_of w.current.stream_type ≡ Some kind = search rules in
     let inside : IsInside w.current.location.rva w.current.location.size w.meter.source.size = search rules in
-    rw (c.stop_at-in-Err.ensures.stage, head_of-is w.meter.source.size w.current kind known inside) c.read_head.ensures.books.fetches
+    rw (c.stop_at-in-Err.ensures.stage, head_of-is w.meter.source.size w.current kind known inside) c.head_at.ensures.books.fetches
