@@ -17,7 +17,7 @@ use crate::form::Form;
 use crate::kind::Kind;
 use crate::shape::Shape;
 use mdmp_source::{Location, inside};
-use mdmp_wire::{Entry, Memory64List, MemoryInfoList, UnloadedList, read_at};
+use mdmp_wire::{Entry, Memory64List, MemoryInfoList, Record, UnloadedList, read_at};
 
 fn fault<T: Drop>(kind: FaultKind, offset: u64, size: u64) -> Result<T, Fault>
     ensures { result ≡ Err (record { kind = kind; offset = offset; size = size }) }
@@ -92,12 +92,13 @@ pub(crate) fn ranges64(at: Location, record_size: u32, head: Memory64List) -> Re
     ensures fits { IfOk result (λ shape. shape.first + shape.count * shape.stride ≤ at.size) }
     ensures places { IfOk result (λ shape. (shape.first ≡ 16) × (shape.stride ≡ record_size)) }
 {
+    let first = Memory64List::SIZE as u64;
     let count = head.number_of_memory_ranges;
-    if u128::from(at.size) < 16 + u128::from(count) * u128::from(record_size) {
+    if u128::from(at.size) < u128::from(first) + u128::from(count) * u128::from(record_size) {
         return fault(FaultKind::BadCount, u64::from(at.rva), count);
     }
     Ok(Shape {
-        first: 16,
+        first,
         stride: u64::from(record_size),
         count,
     })
