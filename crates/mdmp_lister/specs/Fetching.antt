@@ -1,7 +1,8 @@
--- What reading the head of a stream, a name or a record promises.
-use Rattle.std.specs.Prelude.{◌≡◌, ◌≤◌, ◌<◌, ◌+◌, ◌^◌, ℕ, Result, IfErr, IfOk, nat_lt}
+-- What reading promises: some bytes, the head of a stream, a name, a record.
+use Rattle.std.specs.Prelude.{◌≡◌, ◌≤◌, ◌<◌, ◌+◌, ◌^◌, ℕ, List, Some, Result, IfErr, IfOk, nat_lt}
 use Rattle.mdmp_source.specs.Count.{raised_if}
-use Rattle.mdmp_source.specs.Source.{FetchesAtMost}
+use Rattle.mdmp_source.specs.Source.{FetchesAtMost, fault_of}
+use Rattle.mdmp_source.specs.declared.fault.SourceFault.{SourceFault}
 use Rattle.mdmp_wire.specs.declared.entry.Entry.{Entry}
 use Rattle.mdmp_lister.specs.declared.fault.Fault.{Fault}
 use Rattle.mdmp_lister.specs.declared.fetching.NameRead.{NameRead}
@@ -13,9 +14,16 @@ use Rattle.mdmp_lister.specs.Costs.{head_told, name_spent, read_cost, record_spe
 use Rattle.mdmp_lister.specs.Meter.{MeterState, Spends}
 use Rattle.mdmp_lister.specs.Owing.{count_told, ranges_by}
 use Rattle.mdmp_lister.specs.Reaching.{Reaches, ReachesAtFault, read_once, told_once}
-use Rattle.mdmp_lister.specs.Reading.{IsCausedAt}
+use Rattle.mdmp_lister.specs.Reading.{IsCaused, IsCausedAt}
 use Rattle.mdmp_lister.specs.Shapes.{FitsIn, form_of, head_cost, record_size}
 use Rattle.mdmp_lister.specs.Steps.{current_by, passed_by}
+
+-- what was read with this answer: an answer of a known file is as it should be, the fetches are booked, and a fault of
+-- the store is caused by them
+pub record Reads {T : Type 0} (Booked : MeterState → MeterState → Type 0) (Is : List ℕ → T → Type 0) (result : Result T SourceFault) (old new : MeterState) : Type 0 where
+  pub of_file : (file : List ℕ) → old.source.store.content ≡ Some file → IfOk result (Is file)
+  pub books : Booked old new
+  pub caused : IsCaused (fault_of result) old.source new.source
 
 -- what the head of a stream says, of so many bytes and of this kind
 pub record IsHeadOf (size : ℕ) (kind : Kind) (head : Head) : Type 0 where

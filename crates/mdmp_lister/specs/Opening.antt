@@ -2,6 +2,7 @@
 use Rattle.std.specs.Prelude.{◌≡◌, ◌≤◌, ◌<◌, false, ℕ, ◌+◌, ◌*◌, ◌^◌, List, length, Option, Some, None, Result, Ok, Err, IfErr, IfOk, nat_lt, if◌then◌else◌}
 use Rattle.mdmp_source.specs.Count.{raised}
 use Rattle.mdmp_source.specs.Source.{SourceState, FailsOnce, FetchesAtMost, IsTold}
+use Rattle.mdmp_source.specs.Store.{IsSizeOf}
 use Rattle.mdmp_source.specs.declared.fault.SourceFault.{SourceFault}
 use Rattle.mdmp_wire.specs.declared.entry.Entry.{Entry}
 use Rattle.mdmp_wire.specs.declared.header.Header.{Header}
@@ -128,8 +129,9 @@ IsOpenRefusal size (DirectoryOutside offset len) = is_inside offset len size ≡
 IsOpenRefusal size (TooManyRanges count) = (32 ≤ size) × (most_ranges < count)
 IsOpenRefusal size fault = 32 ≤ size
 
--- the header of a file was read, whose directory lies inside it, or the file was refused, whatever its bytes
-pub record ReadsHeader (old : SourceState) (result : Result Header OpenFault) (new : SourceState) : Type 0 where
+-- what is told of the header of a file fits its size, whatever its bytes
+pub record FitsHeader (old : SourceState) (result : Result Header OpenFault) (new : SourceState) : Type 0 where
+  pub sized : IsSizeOf old.store.content old.size
   pub inside : IfOk result (λ header. IsInside header.stream_directory_rva (12 * header.number_of_streams) old.size)
   pub refusal : IfErr result (IsOpenRefusal old.size)
   pub short : old.size < 32 → result ≡ Err (TooShort old.size)

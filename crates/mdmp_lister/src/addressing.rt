@@ -1,8 +1,9 @@
 //! What is read of the dumped process's memory.
-ghost use Rattle.std.specs.Prelude.{◌≡◌, ℕ, List, Some, length, All, IfOk, OnOk, is_some};
+ghost use Rattle.std.specs.Prelude.{◌≡◌, length, All, IfOk, OnOk, is_some};
 ghost use Rattle.mdmp_source.specs.Source.{fault_of};
 ghost use Rattle.mdmp_map.specs.Ranges.{IsWithin, byte_at};
 ghost use Rattle.mdmp_lister.specs.Addresses.{ReadsCells, is_held};
+ghost use Rattle.mdmp_lister.specs.Fetching.{Reads};
 ghost use Rattle.mdmp_lister.specs.Meter.{BooksAside};
 ghost use Rattle.mdmp_lister.specs.Reading.{IsCaused};
 
@@ -21,10 +22,7 @@ fn read_byte<S: Store, A: Allocator>(
 ) -> Result<Option<u8>, SourceFault>
     requires { All (IsWithin meter.old.source.size) map.now.ranges }
     ensures held { IfOk result (λ byte. is_some byte ≡ is_held map.now.ranges address) }
-    ensures byte { (file : List ℕ) → meter.old.source.store.content ≡ Some file
-        → IfOk result (λ byte. byte ≡ byte_at file map.now.ranges address) }
-    ensures books { BooksAside 1 meter.old meter.new }
-    ensures caused { IsCaused (fault_of result) meter.old.source meter.new.source }
+    ensures reads { Reads (BooksAside 1) (λ file byte. byte ≡ byte_at file map.now.ranges address) result meter.old meter.new }
 {
     let Ok(address) = u64::try_from(address) else {
         return Ok(None);

@@ -1,11 +1,10 @@
 //! How many ranges the memory lists of a file have, read through a source.
-ghost use Rattle.std.specs.Prelude.{◌≡◌, ◌≤◌, ◌<◌, ◌^◌, ℕ, List, Some, length, IfOk};
-ghost use Rattle.mdmp_source.specs.Source.{fault_of};
+ghost use Rattle.std.specs.Prelude.{◌≡◌, ◌≤◌, ◌<◌, ◌^◌, ℕ, List, Some, length};
 ghost use Rattle.mdmp_lister.specs.Counts.{range_count, ranges_in};
 ghost use Rattle.mdmp_lister.specs.Directory.{IsDirectory};
+ghost use Rattle.mdmp_lister.specs.Fetching.{Reads};
 ghost use Rattle.mdmp_lister.specs.Heads.{ahead_of, heads_ahead};
 ghost use Rattle.mdmp_lister.specs.Meter.{Books};
-ghost use Rattle.mdmp_lister.specs.Reading.{IsCaused};
 ghost use Rattle.mdmp_lister.specs.Shapes.{greatest_record, kind_of};
 
 use crate::choice::Choice;
@@ -27,10 +26,8 @@ fn ranges_of_entry<S: Store>(
     entry: Entry,
 ) -> Result<u64, SourceFault>
     requires { greatest_record ≤ length window.old }
-    ensures count { (file : List ℕ) → meter.old.source.store.content ≡ Some file
-        → IfOk result (λ count. count ≡ ranges_in file entry (kind_of entry.stream_type)) }
-    ensures books { Books 1 (ahead_of meter.old.source.size entry) meter.old meter.new }
-    ensures caused { IsCaused (fault_of result) meter.old.source meter.new.source }
+    ensures { Reads (Books 1 (ahead_of meter.old.source.size entry)) (λ file count. count ≡ ranges_in file entry (kind_of entry.stream_type))
+        result meter.old meter.new }
 {
     let Some(kind) = Kind::of_type(entry.stream_type) else {
         return Ok(0);
@@ -48,7 +45,6 @@ fn ranges_of_entry<S: Store>(
 }
 
 /// How many ranges the chosen memory lists of a directory have together.
-#[tactic(auto, using(crate::proofs::Fetches::IsCaused_later))]
 pub(crate) fn count_ranges<S: Store>(
     meter: &mut Meter<S>,
     window: &mut [u8],
@@ -57,10 +53,9 @@ pub(crate) fn count_ranges<S: Store>(
 ) -> Result<u128, SourceFault>
     requires window { greatest_record ≤ length window.old }
     requires few { length entries.now < 2 ^ 32 }
-    ensures count { (file : List ℕ) → meter.old.source.store.content ≡ Some file
-        → IsDirectory file entries.now → IfOk result (λ count. count ≡ range_count file choice.now) }
-    ensures books { Books (length entries.now) (heads_ahead choice.now meter.old.source.size entries.now) meter.old meter.new }
-    ensures caused { IsCaused (fault_of result) meter.old.source meter.new.source }
+    requires directory { (file : List ℕ) → meter.old.source.store.content ≡ Some file → IsDirectory file entries.now }
+    ensures { Reads (Books (length entries.now) (heads_ahead choice.now meter.old.source.size entries.now)) (λ file count. count ≡ range_count file choice.now)
+        result meter.old meter.new }
 {
     let mut total = 0;
     for entry in entries {

@@ -1,11 +1,10 @@
 //! What is read of a file through its source, one fetch at a time.
-ghost use Rattle.std.specs.Prelude.{◌≡◌, ◌≤◌, ◌<◌, ◌+◌, ◌^◌, ℕ, List, Some, length, take, IfOk, OnOk};
+ghost use Rattle.std.specs.Prelude.{◌≡◌, ◌≤◌, ◌<◌, ◌+◌, ◌^◌, ℕ, List, Some, length, take, IfOk};
 ghost use Rattle.mdmp_source.specs.Range.{IsInside, bytes_at};
-ghost use Rattle.mdmp_source.specs.Source.{fault_of};
-ghost use Rattle.mdmp_lister.specs.Fetching.{ReadsName};
+ghost use Rattle.mdmp_lister.specs.Fetching.{Reads, ReadsName};
 ghost use Rattle.mdmp_lister.specs.Meter.{Books};
 ghost use Rattle.mdmp_lister.specs.Names.{name_at};
-ghost use Rattle.mdmp_lister.specs.Reading.{Answers, IsCaused, IsHeld, name_read};
+ghost use Rattle.mdmp_lister.specs.Reading.{Answers, IsHeld, name_read};
 
 use crate::fault::{Fault, FaultKind};
 use crate::meter::Meter;
@@ -32,10 +31,7 @@ fn fetch_front<S: Store>(
 ) -> Result<(), SourceFault>
     requires room { count ≤ length buffer.old }
     requires inside { IsInside at count meter.old.source.size }
-    ensures bytes { (file : List ℕ) → meter.old.source.store.content ≡ Some file → OnOk result (take count buffer.new ≡ bytes_at file at count) }
-    ensures length { length buffer.new ≡ length buffer.old }
-    ensures books { Books 1 count meter.old meter.new }
-    ensures caused { IsCaused (fault_of result) meter.old.source meter.new.source }
+    ensures { Reads (Books 1 count) (λ file _. take count buffer.new ≡ bytes_at file at count) result meter.old meter.new }
 {
     meter.fetch(at, &mut buffer[..count])
 }
@@ -48,9 +44,7 @@ pub(crate) fn read<R: Record, S: Store>(
 ) -> Result<R, SourceFault>
     requires inside { at + R.SIZE ≤ meter.old.source.size }
     requires room { R.SIZE ≤ length window.old }
-    ensures value { (file : List ℕ) → meter.old.source.store.content ≡ Some file → IfOk result (λ value. R.at file at ≡ value) }
-    ensures books { Books 1 R.SIZE meter.old meter.new }
-    ensures caused { IsCaused (fault_of result) meter.old.source meter.new.source }
+    ensures { Reads (Books 1 R.SIZE) (λ file value. R.at file at ≡ value) result meter.old meter.new }
 {
     let size = R::SIZE;
     fetch_front(meter, at, window, size)?;

@@ -1,12 +1,12 @@
 //! The head of a stream, read through a source.
-ghost use Rattle.std.specs.Prelude.{◌≡◌, ◌≤◌, ◌+◌, ℕ, List, Some, length, IfOk, IfErr};
+ghost use Rattle.std.specs.Prelude.{◌≡◌, ◌≤◌, ◌+◌, ℕ, List, Some, length, IfErr, IfOk};
 ghost use Rattle.mdmp_source.specs.Range.{IsInside};
 ghost use Rattle.mdmp_wire.specs.Number.{number_at};
 ghost use Rattle.mdmp_lister.specs.Fetching.{IsHeadOf};
 ghost use Rattle.mdmp_lister.specs.Heads.{head_spent};
 ghost use Rattle.mdmp_lister.specs.Meter.{Books};
-ghost use Rattle.mdmp_lister.specs.Shapes.{greatest_record, shape_of};
 ghost use Rattle.mdmp_lister.specs.Reaching.{ReachesAtFault};
+ghost use Rattle.mdmp_lister.specs.Shapes.{greatest_record, shape_of};
 ghost use Rattle.mdmp_lister.specs.Reading.{Answers, IsCausedAt};
 
 use crate::fault::Fault;

@@ -1,11 +1,10 @@
 //! A source that is read for a listing, which counts what the listing fetches.
-ghost use Rattle.std.specs.Prelude.{◌≡◌, List, ℕ, Some, length, OnOk};
+ghost use Rattle.std.specs.Prelude.{◌≡◌, length};
 ghost use Rattle.mdmp_source.specs.Count.{raised};
 ghost use Rattle.mdmp_source.specs.Range.{IsInside, bytes_at};
 ghost use Rattle.mdmp_source.specs.Store.{IsSizeOf};
-ghost use Rattle.mdmp_source.specs.Source.{fault_of};
+ghost use Rattle.mdmp_lister.specs.Fetching.{Reads};
 ghost use Rattle.mdmp_lister.specs.Meter.{Books, BooksAside, IsBooked, MeterState, counts_of};
-ghost use Rattle.mdmp_lister.specs.Reading.{IsCaused};
 
 use mdmp_source::{Source, SourceFault, Store};
 use std::marker::Model;
@@ -50,7 +49,7 @@ impl<S: Store> Model for Meter<S> {
 impl<S: Store> Meter<S> {
     /// A meter through which nothing was fetched.
     pub(crate) fn new(source: Source<S>) -> Self
-        ensures value { result ≡ record {
+        ensures { result ≡ record {
           source = source;
           fetched = 0;
           calls = 0;
@@ -58,7 +57,6 @@ impl<S: Store> Meter<S> {
           aside = record { bytes = 0; calls = 0 };
           start = record { bytes = source.fetched; calls = source.calls };
         } }
-        ensures booked { IsBooked result.source (counts_of result) }
     {
         let start = Amount {
             bytes: source.fetched(),
@@ -85,9 +83,7 @@ impl<S: Store> Meter<S> {
     /// Fetches for the listing.
     pub(crate) fn fetch(&mut self, at: u64, out: &mut [u8]) -> Result<(), SourceFault>
         requires { IsInside at (length out.old) self.old.source.size }
-        ensures bytes { (file : List ℕ) → self.old.source.store.content ≡ Some file → OnOk result (out.new ≡ bytes_at file at (length out.new)) }
-        ensures books { Books 1 (length out.new) self.old self.new }
-        ensures caused { IsCaused (fault_of result) self.old.source self.new.source }
+        ensures reads { Reads (Books 1 (length out.new)) (λ file _. out.new ≡ bytes_at file at (length out.new)) result self.old self.new }
         ensures counts { self.new ≡ record self.old {
           source = self.new.source;
           fetched = raised self.old.fetched (length out.new);
@@ -102,9 +98,7 @@ impl<S: Store> Meter<S> {
     /// Fetches what is not of the listing.
     pub(crate) fn fetch_aside(&mut self, at: u64, out: &mut [u8]) -> Result<(), SourceFault>
         requires { IsInside at (length out.old) self.old.source.size }
-        ensures bytes { (file : List ℕ) → self.old.source.store.content ≡ Some file → OnOk result (out.new ≡ bytes_at file at (length out.new)) }
-        ensures books { BooksAside (length out.new) self.old self.new }
-        ensures caused { IsCaused (fault_of result) self.old.source self.new.source }
+        ensures { Reads (BooksAside (length out.new)) (λ file _. out.new ≡ bytes_at file at (length out.new)) result self.old self.new }
     {
         self.aside = Amount {
             bytes: self.aside.bytes.saturating_add(out.len() as u128),

@@ -1,13 +1,12 @@
 //! The header and the directory of a file, read through a source.
 ghost use Rattle.std.specs.Prelude.{◌≡◌, ◌≤◌, ◌<◌, ◌*◌, ℕ, List, [], Some, length, OnOk, IfSome, vec_len, vec_capacity};
 ghost use Rattle.mdmp_source.specs.Range.{IsInside};
-ghost use Rattle.mdmp_source.specs.Store.{IsSizeOf};
-ghost use Rattle.mdmp_source.specs.Source.{fault_of};
 ghost use Rattle.mdmp_wire.specs.Header.{header_at};
 ghost use Rattle.mdmp_lister.specs.Directory.{IsDirectory, IsFirstChosen};
+ghost use Rattle.mdmp_lister.specs.Fetching.{Reads};
 ghost use Rattle.mdmp_lister.specs.Meter.{Books};
 ghost use Rattle.mdmp_lister.specs.Paying.{CostsFrom};
-ghost use Rattle.mdmp_lister.specs.Opening.{Finds, ReadsHeader, unread_fault};
+ghost use Rattle.mdmp_lister.specs.Opening.{Finds, FitsHeader, unread_fault};
 ghost use Rattle.mdmp_lister.specs.Reading.{IsCaused};
 
 use crate::choice::Choice;
@@ -29,9 +28,8 @@ pub struct OpenRefused<S: Store + Drop> {
 
 /// Fetches the header of a file whose directory lies inside it.
 pub(crate) fn read_header<S: Store>(meter: &mut Meter<S>) -> Result<Header, OpenFault>
-    ensures sized { IsSizeOf meter.old.source.store.content meter.old.source.size }
     ensures finds { (file : List ℕ) → meter.old.source.store.content ≡ Some file → Finds file result }
-    ensures reads { ReadsHeader meter.old.source result meter.new.source }
+    ensures fits { FitsHeader meter.old.source result meter.new.source }
     ensures books { Books 1 32 meter.old meter.new }
     ensures caused { IsCaused (unread_fault result) meter.old.source meter.new.source }
 {
@@ -57,7 +55,6 @@ pub(crate) fn read_header<S: Store>(meter: &mut Meter<S>) -> Result<Header, Open
 }
 
 /// Fetches the entries of the directory, whose place lies inside the file, into a list with room for them.
-#[tactic(auto, using(crate::proofs::Fetches::IsCaused_later))]
 pub(crate) fn read_directory<S: Store, A: Allocator>(
     meter: &mut Meter<S>,
     window: &mut [u8],
@@ -69,9 +66,8 @@ pub(crate) fn read_directory<S: Store, A: Allocator>(
     requires room { (entries.old.items ≡ []) × (header.number_of_streams ≤ vec_capacity entries.old) }
     ensures count { OnOk result (vec_len entries.new ≡ header.number_of_streams) }
     ensures capacity { vec_capacity entries.new ≡ vec_capacity entries.old }
-    ensures directory { (file : List ℕ) → meter.old.source.store.content ≡ Some file → header ≡ header_at file 0 → OnOk result (IsDirectory file entries.new.items) }
-    ensures books { Books header.number_of_streams (12 * header.number_of_streams) meter.old meter.new }
-    ensures caused { IsCaused (fault_of result) meter.old.source meter.new.source }
+    ensures reads { Reads (Books header.number_of_streams (12 * header.number_of_streams)) (λ file _. header ≡ header_at file 0 → IsDirectory file entries.new.items)
+        result meter.old meter.new }
 {
     let first = u64::from(header.stream_directory_rva);
     for number in 0..header.number_of_streams {

@@ -1,11 +1,12 @@
 //! The walk over the entries of a file, without its public face.
 ghost use Rattle.std.specs.Prelude.{◌≡◌, ◌+◌, ◌^◌, ◌≤◌, ◌<◌, ◌-◌, ℕ, List, None, Some, IfOk, IfErr, IfSome, IsTrue, false, OnOk, MatchResult, vec_len};
 ghost use Rattle.mdmp_source.specs.Store.{IsGood};
-ghost use Rattle.mdmp_source.specs.Source.{FetchesAtMost, fault_of};
+ghost use Rattle.mdmp_source.specs.Source.{FetchesAtMost};
 ghost use Rattle.mdmp_source.specs.declared.fault.SourceFault.{SourceFault};
+ghost use Rattle.mdmp_lister.specs.Fetching.{Reads};
 ghost use Rattle.mdmp_lister.specs.Opening.{IsHandedBack, IsDirectoryRefusal, IsOpenRefusal, IsUnread, IsUnreadFor, directory_refusal};
 ghost use Rattle.mdmp_lister.specs.Reaching.{Reaches, ReachesAtFault, given_once, told_once};
-ghost use Rattle.mdmp_lister.specs.Reading.{IsCaused, IsOfSource, IsToldIn};
+ghost use Rattle.mdmp_lister.specs.Reading.{IsOfSource, IsToldIn};
 ghost use Rattle.mdmp_lister.specs.Stages.{IsStageAfter, ends, fault_stage, stop_after, stop_given, stop_of};
 ghost use Rattle.mdmp_lister.specs.Steps.{CurrentAfter, IsNameHeld, IsStepHeld, current_by, passed_by, step_item};
 ghost use Rattle.mdmp_lister.specs.Counts.{range_count};
@@ -115,9 +116,8 @@ impl<S: Store + Drop, A: Allocator + Copy> Walk<S, A> {
         ensures sound { IsSound self.new }
         ensures same { SameEntry self.old self.new }
         ensures stage { self.new.stage ≡ self.old.stage }
-        ensures books { Books (vec_len self.old.entries) (heads_ahead self.old.choice self.old.meter.source.size self.old.entries.items) self.old.meter self.new.meter }
-        ensures count { (file : List ℕ) → self.old.meter.source.store.content ≡ Some file → IfOk result (λ count. count ≡ range_count file self.old.choice) }
-        ensures caused { IsCaused (fault_of result) self.old.meter.source self.new.meter.source }
+        ensures reads { Reads (Books (vec_len self.old.entries) (heads_ahead self.old.choice self.old.meter.source.size self.old.entries.items))
+            (λ file count. count ≡ range_count file self.old.choice) result self.old.meter self.new.meter }
     {
         count_ranges(
             &mut self.meter,

@@ -1,4 +1,4 @@
-use Rattle.std.proofs.Common.{◌≡◌, ◌≤◌, ◌<◌, ◌+◌, ◌∙◌, ℕ, true, arith, rules, sym, get_or, subst, length}
+use Rattle.std.proofs.Common.{◌≡◌, ◌≤◌, ◌<◌, ◌+◌, ◌∙◌, ℕ, None, Some, Err, true, arith, rules, sym, get_or, subst, length}
 use Rattle.mdmp_wire.specs.declared.entry.Entry.{Entry}
 use Rattle.mdmp_lister.specs.Heads.{ahead_of}
 use Rattle.mdmp_lister.specs.Listing.{entry_count, is_chosen}
@@ -29,11 +29,12 @@ loop-entry-preserved-then-not-has g c =
     record {
       books = Books-within at (at + 1) _ _ c.args.meter.now c.loop-entry.meter (omega arith) (heads-more c.args.choice.now z at es no_entry c.loop-entry-test.true) i.books;
       caused = i.caused;
-      counted = λ file known dir.
+      counted = λ file known.
+          let dir = c.requires.directory file known in
           let lt : at < entry_count file = omega (arith, dir.count, c.loop-entry-test.true) in
           let same = dir.each at no_entry c.loop-entry-test.true in
           let step = ranges-other file c.args.choice.now at (get_or es at no_entry) lt same (sym c.if-not-has.true ∙ c.has.ensures) in
-          omega (arith, step, i.counted file known dir);
+          omega (arith, step, i.counted file known);
       bound = omega arith;
     }
 
@@ -49,33 +50,45 @@ loop-entry-preserved g c =
     let head = subst (λ (n : ℕ). Books 1 (ahead_of n e) c.loop-entry.meter c.ranges_of_entry.new.meter) i.books.fetches.same_size read.books in
     record {
       books = Books-then at 1 (at + 1) _ (ahead_of z e) _ c.args.meter.now c.loop-entry.meter c.ranges_of_entry.new.meter (omega arith) (heads-chosen c.args.choice.now z at es no_entry c.loop-entry-test.true has) i.books head;
-      caused = IsCaused_later _ _ c.args.meter.now.source c.loop-entry.meter.source c.ranges_of_entry.new.meter.source i.books.fetches i.caused read.caused;
-      counted = λ file known dir.
+      caused = IsCaused_later None _ c.args.meter.now.source c.loop-entry.meter.source c.ranges_of_entry.new.meter.source i.books.fetches i.caused read.caused;
+      counted = λ file known.
+          let dir = c.requires.directory file known in
           let lt : at < entry_count file = omega (arith, dir.count, c.loop-entry-test.true) in
           let same = dir.each at no_entry c.loop-entry-test.true in
           let step = ranges-chosen file c.args.choice.now at e lt same (sym c.if-not-has.false ∙ c.has.ensures) in
-          let count = read.count file (i.books.fetches.same_content ∙ known) in
-          omega (arith, step, count, c.from.ensures, i.counted file known dir);
+          let count = read.of_file file (i.books.fetches.same_content ∙ known) in
+          omega (arith, step, count, c.from.ensures, i.counted file known);
       bound = omega arith;
     }
 
-pub returns-in_err-ranges_of_entry-clause-books : goal.returns-in_err-ranges_of_entry-clause-books
-returns-in_err-ranges_of_entry-clause-books g c =
+pub returns-in_err-ranges_of_entry : goal.returns-in_err-ranges_of_entry
+returns-in_err-ranges_of_entry g c =
     let i = c.loop-entry.invariant in
     let at = c.loop-entry.entry-index in
     let es = c.args.entries.now in
     let z = c.args.meter.now.source.size in
     let e : Entry = get_or es at no_entry in
     let has : is_chosen c.args.choice.now e.stream_type ≡ true = sym (sym c.if-not-has.false ∙ c.has.ensures) in
-    let head = subst (λ (n : ℕ). Books 1 (ahead_of n e) c.loop-entry.meter c.ranges_of_entry.new.meter) i.books.fetches.same_size c.in_err-ranges_of_entry.ensures.books in
-    Books-then at 1 (length es) _ (ahead_of z e) _ c.args.meter.now c.loop-entry.meter c.ranges_of_entry.new.meter (omega (arith, c.loop-entry-test.true)) (heads-chosen_most c.args.choice.now z at es no_entry c.loop-entry-test.true has) i.books head
+    let read = c.in_err-ranges_of_entry.ensures in
+    let head = subst (λ (n : ℕ). Books 1 (ahead_of n e) c.loop-entry.meter c.ranges_of_entry.new.meter) i.books.fetches.same_size read.books in
+    let fault = c.in_err-ranges_of_entry.field-0.0 in
+    let is : c.from_residual.result ≡ Err fault = search rules in
+    rw is (record {
+      of_file = λ file known. tt;
+      books = Books-then at 1 (length es) _ (ahead_of z e) _ c.args.meter.now c.loop-entry.meter c.ranges_of_entry.new.meter (omega (arith, c.loop-entry-test.true)) (heads-chosen_most c.args.choice.now z at es no_entry c.loop-entry-test.true has) i.books head;
+      caused = IsCaused_later (Some fault) _ c.args.meter.now.source c.loop-entry.meter.source c.ranges_of_entry.new.meter.source i.books.fetches i.caused read.caused;
+    })
 
-pub returns-clause-count : goal.returns-clause-count
-returns-clause-count g c = λ file known dir.
-    let over : entry_count file ≤ c.loop-entry.entry-index = omega (arith, dir.count, c.loop-entry-test.false) in
-    omega (arith, c.loop-entry.invariant.counted file known dir, ranges-end file c.args.choice.now c.loop-entry.entry-index over)
-
-pub returns-clause-books : goal.returns-clause-books
-returns-clause-books g c =
+pub returns : goal.returns
+returns g c =
+    let i = c.loop-entry.invariant in
     let at = c.loop-entry.entry-index in
-    Books-within at (length c.args.entries.now) _ _ c.args.meter.now c.loop-entry.meter (omega arith) (heads-most c.args.choice.now c.args.meter.now.source.size at c.args.entries.now) c.loop-entry.invariant.books
+    let es = c.args.entries.now in
+    record {
+      of_file = λ file known.
+          let dir = c.requires.directory file known in
+          let over : entry_count file ≤ at = omega (arith, dir.count, c.loop-entry-test.false) in
+          omega (arith, i.counted file known, ranges-end file c.args.choice.now at over);
+      books = Books-within at (length es) _ _ c.args.meter.now c.loop-entry.meter (omega arith) (heads-most c.args.choice.now c.args.meter.now.source.size at es) i.books;
+      caused = i.caused;
+    }

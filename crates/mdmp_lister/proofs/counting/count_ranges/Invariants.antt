@@ -1,6 +1,5 @@
 use Rattle.std.proofs.Common.{◌≡◌, ◌≤◌, ◌+◌, ◌*◌, ◌^◌, ℕ, List, None, Some, take}
 use Rattle.mdmp_lister.specs.Counts.{range_count, ranges_of_all}
-use Rattle.mdmp_lister.specs.Directory.{IsDirectory}
 use Rattle.mdmp_lister.specs.Listing.{chosen_from}
 use Rattle.mdmp_lister.specs.Heads.{heads_ahead}
 use Rattle.mdmp_lister.specs.Meter.{Books}
@@ -12,7 +11,7 @@ abbrev pub invariant-loop-entry : goal.invariant-loop-entry
 invariant-loop-entry g l = record {
   books : Books l.entry-index (heads_ahead l.choice l.initial.meter.source.size (take l.entry-index l.entries)) l.initial.meter l.meter;
   caused : IsCaused None l.initial.meter.source l.meter.source;
-  counted : (file : List ℕ) → l.initial.meter.source.store.content ≡ Some file → IsDirectory file l.entries
+  counted : (file : List ℕ) → l.initial.meter.source.store.content ≡ Some file
       → l.total + ranges_of_all file (chosen_from file l.choice l.entry-index) ≡ range_count file l.choice;
   bound : l.total ≤ 2 ^ 64 * l.entry-index;
 }

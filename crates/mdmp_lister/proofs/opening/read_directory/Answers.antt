@@ -1,4 +1,4 @@
-use Rattle.std.proofs.Common.{◌≡◌, ◌+◌, ◌*◌, ◌∙◌, ap, arith, length, length-append, refl, sym}
+use Rattle.std.proofs.Common.{◌≡◌, ◌+◌, ◌*◌, ◌∙◌, None, Some, Err, ap, arith, length, length-append, refl, rules, sym}
 use Rattle.mdmp_wire.specs.declared.header.Header.{Header}
 use Rattle.mdmp_wire.specs.Entry.{entry_at}
 use Rattle.mdmp_wire.specs.Header.{header_at}
@@ -35,7 +35,7 @@ loop-number-preserved g c =
     let entry = c.in_ok-read.ensures in
     record {
       books = Books-then n 1 (n + 1) (12 * n) 12 (12 * (n + 1)) c.args.meter.now c.loop-number.meter c.read.new.meter (omega arith) (omega arith) i.books entry.books;
-      caused = IsCaused_later _ (12 * n) c.args.meter.now.source c.loop-number.meter.source c.read.new.meter.source i.books.fetches i.caused entry.caused;
+      caused = IsCaused_later None (12 * n) c.args.meter.now.source c.loop-number.meter.source c.read.new.meter.source i.books.fetches i.caused entry.caused;
       capacity = c.push_reserved.ensures.capacity ∙ i.capacity;
       room = rw c.push_reserved.ensures.capacity i.room;
       count = rw (c.push_reserved.ensures.items, length-append) (omega (arith, i.count));
@@ -43,31 +43,41 @@ loop-number-preserved g c =
           let rva : c.args.header.stream_directory_rva ≡ (header_at file 0).stream_directory_rva = ap (λ (h : Header). h.stream_directory_rva) same in
           let at = c.from-first.result + 12 * c.from.result in
           let place : at ≡ (header_at file 0).stream_directory_rva + 12 * length c.loop-number.entries.items = omega (arith, rva, i.count, c.from-first.ensures, c.from.ensures) in
-          let is = sym (entry.value file (i.books.fetches.same_content ∙ known)) ∙ ap (entry_at file) place in
+          let is = sym (entry.of_file file (i.books.fetches.same_content ∙ known)) ∙ ap (entry_at file) place in
           rw c.push_reserved.ensures.items (each-more (entry_of file) c.loop-number.entries.items _ (i.each file known same) is);
     }
 
-pub returns-in_err-read-clause-books : goal.returns-in_err-read-clause-books
-returns-in_err-read-clause-books g c =
+pub returns-in_err-read-clause-reads : goal.returns-in_err-read-clause-reads
+returns-in_err-read-clause-reads g c =
+    let i = c.loop-number.invariant in
     let n = c.loop-number.number in
     let count = c.args.header.number_of_streams in
-    Books-then n 1 count (12 * n) 12 (12 * count) c.args.meter.now c.loop-number.meter c.read.new.meter (omega (arith, c.loop-number-test.true)) (omega (arith, c.loop-number-test.true)) c.loop-number.invariant.books c.in_err-read.ensures.books
+    let fault = c.in_err-read.field-0.0 in
+    let entry = c.in_err-read.ensures in
+    let is : c.from_residual.result ≡ Err fault = search rules in
+    rw is (record {
+      of_file = λ file known. tt;
+      books = Books-then n 1 count (12 * n) 12 (12 * count) c.args.meter.now c.loop-number.meter c.read.new.meter (omega (arith, c.loop-number-test.true)) (omega (arith, c.loop-number-test.true)) i.books entry.books;
+      caused = IsCaused_later (Some fault) (12 * n) c.args.meter.now.source c.loop-number.meter.source c.read.new.meter.source i.books.fetches i.caused entry.caused;
+    })
 
 pub returns-clause-count : goal.returns-clause-count
 returns-clause-count g c =
     let ok = c.loop-number.entries.ok.0 in
     omega (arith, ok, c.loop-number.invariant.count, c.loop-number.auto.number-end, c.loop-number-test.false)
 
-pub returns-clause-directory : goal.returns-clause-directory
-returns-clause-directory g c = λ file known same.
-    let streams : c.args.header.number_of_streams ≡ entry_count file = ap (λ (h : Header). h.number_of_streams) same in
-    record {
-      count = omega (arith, streams, c.loop-number.invariant.count, c.loop-number.auto.number-end, c.loop-number-test.false);
-      each = c.loop-number.invariant.each file known same;
-    }
-
-pub returns-clause-books : goal.returns-clause-books
-returns-clause-books g c =
+pub returns-clause-reads : goal.returns-clause-reads
+returns-clause-reads g c =
+    let i = c.loop-number.invariant in
     let n = c.loop-number.number in
     let count = c.args.header.number_of_streams in
-    Books-within n count (12 * n) (12 * count) c.args.meter.now c.loop-number.meter (omega (arith, c.loop-number.auto.number-end)) (omega (arith, c.loop-number.auto.number-end)) c.loop-number.invariant.books
+    record {
+      of_file = λ file known same.
+          let streams : count ≡ entry_count file = ap (λ (h : Header). h.number_of_streams) same in
+          record {
+            count = omega (arith, streams, i.count, c.loop-number.auto.number-end, c.loop-number-test.false);
+            each = i.each file known same;
+          };
+      books = Books-within n count (12 * n) (12 * count) c.args.meter.now c.loop-number.meter (omega (arith, c.loop-number.auto.number-end)) (omega (arith, c.loop-number.auto.number-end)) i.books;
+      caused = i.caused;
+    }
