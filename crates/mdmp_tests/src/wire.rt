@@ -1,4 +1,5 @@
 //! Structures, names and CodeView records.
+mod any_record;
 mod codeview;
 mod fields;
 mod header;

@@ -1,3 +1,4 @@
+pub mod AnyRecord
 pub mod CodeView
 pub mod Descriptor
 pub mod Descriptor64

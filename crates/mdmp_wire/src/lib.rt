@@ -16,6 +16,7 @@
 //! ```
 #![tactic(auto)]
 
+mod any_record;
 mod codeview;
 mod descriptor;
 mod descriptor64;
@@ -39,6 +40,7 @@ mod unloaded;
 mod unloaded_list;
 mod version;
 
+pub use crate::any_record::AnyRecord;
 pub use crate::codeview::CodeView;
 pub use crate::descriptor::Descriptor;
 pub use crate::descriptor64::Descriptor64;

@@ -1,0 +1,32 @@
+//! The name and the parts of a record of any kind.
+use mdmp_source::Location;
+use mdmp_wire::{AnyRecord, Descriptor, ModuleRecord, Record, SystemRecord, ThreadRecord};
+
+#[test]
+fn record_of_a_kind_with_names_tells_where_its_name_stands(rt: HostRuntime) {
+    let mut module = ModuleRecord::read(&[0; 108]);
+    module.module_name_rva = 7;
+    let mut system = SystemRecord::read(&[0; 56]);
+    system.csd_version_rva = 8;
+    let range = Descriptor::read(&[0; 16]);
+    for (record, expected) in [
+        (AnyRecord::Module(module), Some(7)),
+        (AnyRecord::System(system), Some(8)),
+        (AnyRecord::Memory(range), None),
+    ] {
+        assert_eq!(rt; record.name_rva(), expected);
+    }
+}
+
+#[test]
+fn parts_of_a_thread_are_its_stack_and_its_registers(rt: HostRuntime) {
+    let stack = Location { size: 1, rva: 2 };
+    let registers = Location { size: 3, rva: 4 };
+    let mut thread = ThreadRecord::read(&[0; 48]);
+    thread.stack.memory = stack;
+    thread.thread_context = registers;
+    let record = AnyRecord::Thread(thread);
+    assert_eq!(rt; record.part(0), Some(stack));
+    assert_eq!(rt; record.part(1), Some(registers));
+    assert_eq!(rt; record.part(2), None);
+}
