@@ -1,5 +1,5 @@
 -- What a step says of what is left.
-use Rattle.std.proofs.Common.{◌≡◌, ◌≤◌, ◌+◌, ◌*◌, ◌-◌, arith, ℕ, List, Option, None, Some, refl, sym, subst, ap, ◌∙◌, vec_capacity, vec_len}
+use Rattle.std.proofs.Common.{◌≡◌, ◌≤◌, ◌+◌, ◌*◌, arith, ℕ, List, Option, None, Some, refl, sym, subst, ap, ◌∙◌, vec_capacity, vec_len}
 use Rattle.std.specs.Option.{option_map}
 use Rattle.mdmp_source.specs.Count.{raised}
 use Rattle.mdmp_source.specs.Source.{SourceState, FetchesAtMost}
@@ -8,18 +8,17 @@ use Rattle.mdmp_lister.specs.declared.choice.Choice.{Choice}
 use Rattle.mdmp_lister.specs.declared.limits.Limits.{Limits}
 use Rattle.mdmp_lister.specs.declared.walk.Walk.{Walk}
 use Rattle.mdmp_lister.specs.declared.item.Item.{Item}
-use Rattle.mdmp_lister.specs.declared.item.Item.TheVariants as items
 use Rattle.mdmp_lister.specs.declared.step.Step.{Step}
-use Rattle.mdmp_lister.specs.declared.step.Step.TheVariants as step
 use Rattle.mdmp_lister.specs.declared.fault.OpenFault.{OpenFault}
 use Rattle.mdmp_lister.specs.Heads.{heads_ahead}
 use Rattle.mdmp_lister.specs.Items.{plain}
-use Rattle.mdmp_lister.specs.Meter.{Books, counts_of}
 use Rattle.mdmp_lister.specs.Opening.{IsHandedBack, IsOfHead, directory_refusal}
 use Rattle.mdmp_lister.specs.Lister.{Rooms, current_after, passed_after}
 use Rattle.mdmp_lister.specs.Listing.{Run}
 use Rattle.mdmp_lister.specs.Steps.{current_by, passed_by, step_item}
+use Rattle.mdmp_lister.specs.Summary.{Summary, entry_begun, number_behind}
 use Rattle.mdmp_lister.proofs.Refusals.{IsHandedBack-begun}
+use Rattle.mdmp_lister.proofs.Summary.{begins_as, summary_of-plain}
 use Rattle.mdmp_lister.specs.Walk.{IsNewWalk, IsSound, SameRoom}
 
 -- what is left now follows from what was left, of each file
@@ -33,45 +32,19 @@ pub of_run : (of : List ℕ → Run) (P : Run → Type 0) (content : Option (Lis
 of_run of P None each left same = cc
 of_run of P (Some file) each left same = let k : of file ≡ left = cc in subst P k (each file refl)
 
-pub passed_after-plain : (x : Item) (next : ℕ) → passed_after (plain x) next ≡ passed_after x next
-passed_after-plain (items.Stream x) next = refl
-passed_after-plain (items.Thread x) next = refl
-passed_after-plain (items.Module x) next = refl
-passed_after-plain (items.Unloaded x) next = refl
-passed_after-plain (items.Exception x) next = refl
-passed_after-plain (items.System x) next = refl
-passed_after-plain (items.MemoryInfo x) next = refl
-passed_after-plain (items.Range x) next = refl
-
-passed_after-step : (z : ℕ) (buffer : List ℕ) (s : Step) (next : ℕ) → passed_after (step_item z buffer s) next ≡ passed_by s next
-passed_after-step z buffer (step.Stream x) next = refl
-passed_after-step z buffer (step.Thread x) next = refl
-passed_after-step z buffer (step.Module e k fields name) next = refl
-passed_after-step z buffer (step.Unloaded e k fields name) next = refl
-passed_after-step z buffer (step.Exception x) next = refl
-passed_after-step z buffer (step.System e k fields name) next = refl
-passed_after-step z buffer (step.MemoryInfo x) next = refl
-passed_after-step z buffer (step.Range x) next = refl
-
 -- an item passes its entry as its step does
-pub passes_step : (z : ℕ) (buffer : List ℕ) (s : Step) (y : Item) (old new : ℕ) → y ≡ step_item z buffer s → new ≡ passed_by s old → new ≡ passed_after y old
-passes_step z buffer s y old new same next = next ∙ sym (passed_after-step z buffer s old) ∙ ap (λ (y : Item). passed_after y old) (sym same)
-
 pub passes : (z : ℕ) (buffer : List ℕ) (s : Step) (x : Item) (old new : ℕ) → plain x ≡ step_item z buffer s → new ≡ passed_by s old → new ≡ passed_after x old
-passes z buffer s x old new same next = passes_step z buffer s (plain x) old new same next ∙ passed_after-plain x old
+passes z buffer s x old new same next = next ∙ sym (ap (λ begun. number_behind begun old) (begins_as z buffer s x same))
 
 -- and is the current entry as its step says
-pub current_after-plain : (x : Item) (e : Entry) → current_after (plain x) e ≡ current_after x e
-current_after-plain (items.Stream x) e = refl
-current_after-plain _ e = refl
-
-current_after-step : (z : ℕ) (buffer : List ℕ) (s : Step) (e : Entry) → current_after (step_item z buffer s) e ≡ current_by s e
-current_after-step z buffer (step.Stream x) e = refl
-current_after-step z buffer _ e = refl
-
 pub becomes : (z : ℕ) (buffer : List ℕ) (s : Step) (x : Item) (old new : Entry) → plain x ≡ step_item z buffer s → new ≡ current_by s old → new ≡ current_after x old
-becomes z buffer s x old new same now =
-    now ∙ sym (current_after-step z buffer s old) ∙ ap (λ (y : Item). current_after y old) (sym same) ∙ current_after-plain x old
+becomes z buffer s x old new same now = now ∙ sym (ap (λ begun. entry_begun begun old) (begins_as z buffer s x same))
+
+pub passed_after-plain : (x : Item) (next : ℕ) → passed_after (plain x) next ≡ passed_after x next
+passed_after-plain x next = ap (λ (s : Summary). number_behind s.stream next) (summary_of-plain x)
+
+pub current_after-plain : (x : Item) (e : Entry) → current_after (plain x) e ≡ current_after x e
+current_after-plain x e = ap (λ (s : Summary). entry_begun s.stream e) (summary_of-plain x)
 
 -- what is known of each file's runs before and after a call is known of the runs
 pub runs_then : (of new : List ℕ → Run) (P : Run → Run → Type 0) (content now : Option (List ℕ)) → now ≡ content → ((file : List ℕ) → content ≡ Some file → P (of file) (new file))

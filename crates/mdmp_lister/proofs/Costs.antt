@@ -8,7 +8,6 @@ use Rattle.mdmp_lister.specs.declared.fault.ListFault.{ListFault}
 use Rattle.mdmp_lister.specs.declared.fetching.NameRead.{NameRead}
 use Rattle.mdmp_lister.specs.declared.fetching.NameRead.TheVariants as read
 use Rattle.mdmp_lister.specs.declared.item.Item.{Item}
-use Rattle.mdmp_lister.specs.declared.item.Item.TheVariants as items
 use Rattle.mdmp_lister.specs.declared.kind.Kind.{Kind}
 use Rattle.mdmp_lister.specs.declared.name.Name.{Name}
 use Rattle.mdmp_lister.specs.declared.name.Name.TheVariants.{NoName, Units, Long}
@@ -16,14 +15,16 @@ use Rattle.mdmp_lister.specs.declared.stage.Stage.{Stage}
 use Rattle.mdmp_lister.specs.declared.stage.Stage.TheVariants.{Head}
 use Rattle.mdmp_lister.specs.declared.step.Step.{Step}
 use Rattle.mdmp_lister.specs.declared.step.Step.TheVariants as step
-use Rattle.mdmp_lister.specs.Costs.{bad_name_cost, fault_by, fault_cost, head_given, head_left, head_told, item_cost, name_cost, read_cost, record_cost, size_by, step_cost}
-use Rattle.mdmp_lister.specs.Items.{plain}
+use Rattle.mdmp_lister.specs.Costs.{bad_name_cost, fault_by, fault_cost, head_begun, head_given, head_left, head_told, item_cost, name_cost, read_cost, record_cost, size_by, step_cost}
+use Rattle.mdmp_lister.specs.Items.{kind_told, plain}
 use Rattle.mdmp_lister.specs.Listing.{list_fault}
 use Rattle.mdmp_lister.specs.Names.{plain_name}
 use Rattle.mdmp_lister.specs.Reading.{IsHeld, IsOfSource, name_read}
 use Rattle.mdmp_lister.specs.Shapes.{kind_of, record_size}
 use Rattle.mdmp_lister.specs.Stages.{stop_of}
-use Rattle.mdmp_lister.specs.Steps.{IsNameHeld, step_item}
+use Rattle.mdmp_lister.specs.Steps.{IsNameHeld, IsStepOf, step_item}
+use Rattle.mdmp_lister.specs.Summary.{Summary, summary_of}
+use Rattle.mdmp_lister.proofs.Summary.{begins_as, summary_of-plain, summary_of-read}
 
 -- a name that the store keeps from being read
 pub source_name_cost : (limit : ℕ) (kind : FaultKind) → IsOfSource kind → bad_name_cost limit kind ≡ 4 + limit
@@ -38,37 +39,30 @@ name_cost-plain (Units units) = refl
 name_cost-plain (Long bytes) = refl
 
 pub item_cost-plain : (x : Item) → item_cost (plain x) ≡ item_cost x
-item_cost-plain (items.Module m) = rw (name_cost-plain m.name) refl
-item_cost-plain (items.Unloaded u) = rw (name_cost-plain u.name) refl
-item_cost-plain (items.System s) = rw (name_cost-plain s.name) refl
-item_cost-plain _ = refl
+item_cost-plain x =
+    let s = summary_of x in
+    ap (λ (t : Summary). t.bytes + name_cost t.name) (summary_of-plain x) ∙ ap (λ n. s.bytes + n) (name_cost-plain s.name)
 
 name_cost-read : (buffer : List ℕ) (name : NameRead) → IsHeld (length buffer) name → name_cost (name_read buffer name) ≡ read_cost name
 name_cost-read buffer read.NoName held = refl
 name_cost-read buffer (read.Long bytes) held = refl
 name_cost-read buffer (read.Units bytes) held = let room : bytes ≤ length buffer = held.0 in rw length-take (omega (arith, room))
 
-item_cost-read : (z : ℕ) (buffer : List ℕ) (s : Step) → IsNameHeld (length buffer) s → item_cost (step_item z buffer s) ≡ step_cost s
-item_cost-read z buffer (step.Module e k fields name) held = rw (name_cost-read buffer name held) refl
-item_cost-read z buffer (step.Unloaded e k fields name) held = rw (name_cost-read buffer name held) refl
-item_cost-read z buffer (step.System e k fields name) held = rw (name_cost-read buffer name held) refl
-item_cost-read z buffer _ held = refl
+item_cost-read : (z : ℕ) (buffer : List ℕ) (kind : Option Kind) (s : Step) → IsNameHeld (length buffer) s → IsStepOf kind s → item_cost (step_item z buffer s) ≡ step_cost s
+item_cost-read z buffer kind (step.Stream x) held of = refl
+item_cost-read z buffer kind (step.Record r) held of =
+    ap (λ (t : Summary). t.bytes + name_cost t.name) (summary_of-read z buffer r of.1) ∙ ap (λ n. record_size (kind_told r.fields) + n) (name_cost-read buffer r.name held)
 
 -- an item costs what its step does
-pub item_cost-step : (z : ℕ) (buffer : List ℕ) (s : Step) (x : Item) → IsNameHeld (length buffer) s → plain x ≡ step_item z buffer s → item_cost x ≡ step_cost s
-item_cost-step z buffer s x held same = sym (item_cost-plain x) ∙ ap item_cost same ∙ item_cost-read z buffer s held
+pub item_cost-step : (z : ℕ) (buffer : List ℕ) (kind : Option Kind) (s : Step) (x : Item) → IsNameHeld (length buffer) s → IsStepOf kind s → plain x ≡ step_item z buffer s → item_cost x ≡ step_cost s
+item_cost-step z buffer kind s x held of same = sym (item_cost-plain x) ∙ ap item_cost same ∙ item_cost-read z buffer kind s held of
 
 pub head_given-plain : (z : ℕ) (x : Item) → head_given z (plain x) ≡ head_given z x
-head_given-plain z (items.Stream x) = refl
-head_given-plain z _ = refl
-
-head_given-read : (z y : ℕ) (buffer : List ℕ) (s : Step) → head_given z (step_item y buffer s) ≡ head_told z s
-head_given-read z y buffer (step.Stream x) = refl
-head_given-read z y buffer _ = refl
+head_given-plain z x = ap (λ (s : Summary). head_begun z s.stream) (summary_of-plain x)
 
 -- and begins the same head
 pub head_given-step : (z y : ℕ) (buffer : List ℕ) (s : Step) (x : Item) → plain x ≡ step_item y buffer s → head_given z x ≡ head_told z s
-head_given-step z y buffer s x same = sym (head_given-plain z x) ∙ ap (head_given z) same ∙ head_given-read z y buffer s
+head_given-step z y buffer s x same = ap (head_begun z) (begins_as y buffer s x same)
 
 -- ---- faults
 

@@ -7,17 +7,18 @@ use Rattle.std.proofs.lemmas.List.Elements.{filter-append}
 use Rattle.mdmp_lister.specs.declared.choice.Choice.{Choice}
 use Rattle.mdmp_lister.specs.declared.choice.Choice.TheVariants.{All}
 use Rattle.mdmp_lister.specs.declared.kind.Kind.{Kind}
-use Rattle.mdmp_lister.specs.declared.kind.Kind.TheVariants as kinds
 use Rattle.mdmp_lister.specs.declared.shape.Shape.{Shape}
 use Rattle.mdmp_lister.specs.declared.fault.Fault.{Fault}
 use Rattle.mdmp_lister.specs.declared.fault.ListFault.{ListFault}
 use Rattle.mdmp_lister.specs.declared.name.Name.{Name}
 use Rattle.mdmp_lister.specs.declared.item.Item.{Item}
 use Rattle.mdmp_lister.specs.declared.verdict.Verdict.{Verdict}
-use Rattle.mdmp_lister.specs.Items.{item_at, named}
+use Rattle.mdmp_lister.specs.Items.{item_at, named, offset_in, record_at}
 use Rattle.mdmp_lister.specs.Shapes.{kind_of, shape_of, location_fault}
 use Rattle.mdmp_lister.specs.Listing.{Numbered, Run, all_joined, body_of, entries_from, entry_count, entry_listing, entry_of, item_then, items_from, joined, list_fault, listing, nothing, only_chosen, only_fault, records_of, shaped, stream_item, verdicts, with_item}
 use Rattle.mdmp_lister.specs.Laws.{entry_number, first_fault, is_good, is_of, part_of, stands_in}
+use Rattle.mdmp_lister.specs.Summary.{Summary}
+use Rattle.mdmp_lister.proofs.Summary.{summary_of-item_of}
 
 -- ---- what an entry gives
 
@@ -54,14 +55,10 @@ named-entry e (Ok n) item same = same n
 named-entry e (Err f) item same = tt
 
 item_at-entry : (F : List ℕ) (limit e k at o : ℕ) (kind : Kind) → IfOk (item_at F limit e k at o kind) (λ x. entry_number x ≡ e)
-item_at-entry F limit e k at o kinds.Threads = refl
-item_at-entry F limit e k at o kinds.Modules = named-entry e _ _ (λ name. refl)
-item_at-entry F limit e k at o kinds.Memory = refl
-item_at-entry F limit e k at o kinds.Exception = refl
-item_at-entry F limit e k at o kinds.System = named-entry e _ _ (λ name. refl)
-item_at-entry F limit e k at o kinds.Memory64 = refl
-item_at-entry F limit e k at o kinds.Unloaded = named-entry e _ _ (λ name. refl)
-item_at-entry F limit e k at o kinds.MemoryInfo = refl
+item_at-entry F limit e k at o kind =
+    let fields = record_at kind F o in
+    let offset = offset_in F at k kind in
+    named-entry e _ _ (λ name. ap (λ (s : Summary). s.entry) (summary_of-item_of (length F) e k offset fields name))
 
 IsOf-item_then : (e k : ℕ) (item : Result Item Fault) (rest : Run) → IfOk item (λ x. entry_number x ≡ e) → IsOf e rest → IsOf e (item_then e k item rest)
 IsOf-item_then e k (Ok item) rest same of = IsOf-with_item e item rest same of

@@ -15,15 +15,16 @@ pub mod LawsLemmas
 pub mod Listed
 pub mod Mapping
 pub mod Metering
-pub mod NamedItems
 pub mod Naming
 pub mod Numbers
 pub mod Offsets
 pub mod Owing
 pub mod Paying
+pub mod RecordItems
 pub mod Refusals
 pub mod Room
 pub mod Rows
 pub mod Runs
 pub mod Sizes
 pub mod Soundness
+pub mod Summary

@@ -1,10 +1,10 @@
 -- The names that were reached for an item, by its step.
-use Rattle.std.proofs.Common.{◌≡◌, ◌≤◌, ◌<◌, ◌+◌, ◌^◌, ◌∙◌, ℕ, List, arith, refl, ap, sym}
+use Rattle.std.proofs.Common.{◌≡◌, ◌≤◌, ◌<◌, ◌+◌, ◌^◌, ◌∙◌, ℕ, List, Option, arith, refl, ap, sym}
 use Rattle.mdmp_source.specs.Count.{raised}
 use Rattle.mdmp_lister.specs.declared.fetching.NameRead.{NameRead}
 use Rattle.mdmp_lister.specs.declared.fetching.NameRead.TheVariants as read
 use Rattle.mdmp_lister.specs.declared.item.Item.{Item}
-use Rattle.mdmp_lister.specs.declared.item.Item.TheVariants as items
+use Rattle.mdmp_lister.specs.declared.kind.Kind.{Kind}
 use Rattle.mdmp_lister.specs.declared.name.Name.{Name}
 use Rattle.mdmp_lister.specs.declared.name.Name.TheVariants.{NoName, Units, Long}
 use Rattle.mdmp_lister.specs.declared.step.Step.{Step}
@@ -17,7 +17,9 @@ use Rattle.mdmp_lister.specs.Items.{plain}
 use Rattle.mdmp_lister.specs.Names.{plain_name}
 use Rattle.mdmp_lister.specs.Reaching.{ReachesAtFault, read_once, told_once}
 use Rattle.mdmp_lister.specs.Reading.{IsOfSource, name_read}
-use Rattle.mdmp_lister.specs.Steps.{step_item}
+use Rattle.mdmp_lister.specs.Steps.{IsStepOf, step_item}
+use Rattle.mdmp_lister.specs.Summary.{Summary, summary_of}
+use Rattle.mdmp_lister.proofs.Summary.{summary_of-plain, summary_of-read}
 
 named_once-plain : (name : Name) → named_once (plain_name name) ≡ named_once name
 named_once-plain NoName = refl
@@ -25,38 +27,32 @@ named_once-plain (Units units) = refl
 named_once-plain (Long bytes) = refl
 
 pub names_of-plain : (x : Item) → names_of (plain x) ≡ names_of x
-names_of-plain (items.Module m) = named_once-plain m.name
-names_of-plain (items.Unloaded u) = named_once-plain u.name
-names_of-plain (items.System s) = named_once-plain s.name
-names_of-plain _ = refl
+names_of-plain x = ap (λ (s : Summary). named_once s.name) (summary_of-plain x) ∙ named_once-plain (summary_of x).name
 
 named_once-read : (buffer : List ℕ) (name : NameRead) → named_once (name_read buffer name) ≡ read_once name
 named_once-read buffer read.NoName = refl
 named_once-read buffer (read.Units bytes) = refl
 named_once-read buffer (read.Long bytes) = refl
 
-names_of-read : (z : ℕ) (buffer : List ℕ) (s : Step) → names_of (step_item z buffer s) ≡ told_once s
-names_of-read z buffer (step.Module e k fields name) = named_once-read buffer name
-names_of-read z buffer (step.Unloaded e k fields name) = named_once-read buffer name
-names_of-read z buffer (step.System e k fields name) = named_once-read buffer name
-names_of-read z buffer _ = refl
+names_of-read : (z : ℕ) (buffer : List ℕ) (kind : Option Kind) (s : Step) → IsStepOf kind s → names_of (step_item z buffer s) ≡ told_once s
+names_of-read z buffer kind (step.Stream x) of = refl
+names_of-read z buffer kind (step.Record r) of = ap (λ (s : Summary). named_once s.name) (summary_of-read z buffer r of.1) ∙ named_once-read buffer r.name
 
-names_of-step : (z : ℕ) (buffer : List ℕ) (s : Step) (x : Item) → plain x ≡ step_item z buffer s → names_of x ≡ told_once s
-names_of-step z buffer s x same = sym (names_of-plain x) ∙ ap names_of same ∙ names_of-read z buffer s
+names_of-step : (z : ℕ) (buffer : List ℕ) (kind : Option Kind) (s : Step) (x : Item) → IsStepOf kind s → plain x ≡ step_item z buffer s → names_of x ≡ told_once s
+names_of-step z buffer kind s x of same = sym (names_of-plain x) ∙ ap names_of same ∙ names_of-read z buffer kind s of
 
 read_most : (name : NameRead) → read_once name ≤ 1
 read_most read.NoName = omega arith
 read_most _ = omega arith
 
 told_most : (s : Step) → told_once s ≤ 1
-told_most (step.Module e k fields name) = read_most name
-told_most (step.Unloaded e k fields name) = read_most name
-told_most (step.System e k fields name) = read_most name
-told_most s = omega arith
+told_most (step.Stream x) = omega arith
+told_most (step.Record r) = read_most r.name
 
 -- the count of names rises by those of the item, since it does not stand at its greatest
-pub names_given : (z : ℕ) (buffer : List ℕ) (s : Step) (x : Item) (old new : ℕ) → plain x ≡ step_item z buffer s → old < 2 ^ 66 → new ≡ raised old (told_once s) → new ≡ old + names_of x
-names_given z buffer s x old new same small rose = rw (names_of-step z buffer s x same) (omega (arith, small, rose, told_most s))
+pub names_given : (z : ℕ) (buffer : List ℕ) (kind : Option Kind) (s : Step) (x : Item) (old new : ℕ) → IsStepOf kind s → plain x ≡ step_item z buffer s → old < 2 ^ 66
+    → new ≡ raised old (told_once s) → new ≡ old + names_of x
+names_given z buffer kind s x old new of same small rose = rw (names_of-step z buffer kind s x of same) (omega (arith, small, rose, told_most s))
 
 -- a fault of the store may stand in the place of a name
 pub source_reached : (kind : FaultKind) (old new : MeterState) → IsOfSource kind → old.names ≤ new.names → new.names ≤ old.names + 1 → ReachesAtFault kind old new

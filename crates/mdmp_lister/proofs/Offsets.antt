@@ -1,5 +1,7 @@
 -- The sizes of ranges, one by one.
-use Rattle.std.proofs.Common.{◌≡◌, ◌+◌, ◌*◌, ℕ, zero, suc, List, length, Result, Ok, arith, refl}
+use Rattle.std.proofs.Common.{◌≡◌, ◌+◌, ◌*◌, ℕ, zero, suc, List, length, Result, Ok, Some, arith, refl}
+use Rattle.mdmp_wire.specs.declared.any_record.AnyRecord.{AnyRecord}
+use Rattle.mdmp_wire.specs.declared.any_record.AnyRecord.TheVariants as any
 use Rattle.mdmp_wire.specs.Number.{number_at}
 use Rattle.mdmp_wire.specs.Descriptor64.{descriptor64_at}
 use Rattle.mdmp_lister.specs.declared.fault.Fault.{Fault}
@@ -8,10 +10,12 @@ use Rattle.mdmp_lister.specs.declared.item.RangeItem.{RangeItem}
 use Rattle.mdmp_lister.specs.declared.kind.Kind.{Kind}
 use Rattle.mdmp_lister.specs.declared.kind.Kind.TheVariants.{Memory64}
 use Rattle.mdmp_lister.specs.declared.item.Item.TheVariants as items
+use Rattle.mdmp_lister.specs.declared.name.Name.{Name}
 use Rattle.mdmp_lister.specs.declared.step.Step.{Step}
 use Rattle.mdmp_lister.specs.declared.step.Step.TheVariants as step
-use Rattle.mdmp_lister.specs.Items.{item_at, range64_item, range_offset, sizes_before}
-use Rattle.mdmp_lister.specs.Steps.{step_item}
+use Rattle.mdmp_lister.specs.Items.{item_at, item_of, kind_told, range64_item, range_offset, sizes_before}
+use Rattle.mdmp_lister.specs.Reading.{name_read}
+use Rattle.mdmp_lister.specs.Steps.{IsStepOf, bytes_behind, range64_size, step_item}
 
 -- the first of some ranges, and the others
 pub sizes_before-step : (F : List ℕ) (o n j m : ℕ) → n ≡ suc m → j ≡ o + 16 → number_at F (o + 8) 8 + sizes_before F j m ≡ sizes_before F o n
@@ -34,26 +38,24 @@ range_offset-next F at k o place =
     let same : at + 16 + 16 * k ≡ o = omega (arith, place) in
     omega (arith, rw same at (sizes_before-last F (at + 16) k))
 
--- a step that gives a range is one
-pub range-step : (z : ℕ) (buffer : List ℕ) (s : Step) (x : RangeItem) → step_item z buffer s ≡ items.Range x → s ≡ step.Range x
-range-step z buffer (step.Stream y) x same = cc
-range-step z buffer (step.Thread y) x same = cc
-range-step z buffer (step.Module e k fields name) x same = cc
-range-step z buffer (step.Unloaded e k fields name) x same = cc
-range-step z buffer (step.Exception y) x same = cc
-range-step z buffer (step.System e k fields name) x same = cc
-range-step z buffer (step.MemoryInfo y) x same = cc
-range-step z buffer (step.Range y) x same = cc
+-- the size of a range of a 64-bit memory list
+size_of_range : (z e k offset : ℕ) (fields : AnyRecord) (name : Name) (x : RangeItem) → Some Memory64 ≡ Some (kind_told fields) → item_of z e k offset fields name ≡ items.Range x → range64_size fields ≡ x.size
+size_of_range z e k offset (any.Memory64 fields) name x known same = cc
+size_of_range z e k offset _ name x known same = cc
+
+size_of_step : (z : ℕ) (buffer : List ℕ) (s : Step) (x : RangeItem) → IsStepOf (Some Memory64) s → step_item z buffer s ≡ items.Range x → bytes_behind s ≡ x.size
+size_of_step z buffer (step.Stream y) x of same = cc
+size_of_step z buffer (step.Record r) x of same = size_of_range z r.entry r.index r.offset r.fields (name_read buffer r.name) x of.0 same
 
 one_answer : (r : Result Item Fault) (x y : Item) → r ≡ Ok x → r ≡ Ok y → x ≡ y
 one_answer r x y first second = cc
 
 -- behind a range of a 64-bit memory list the next one's bytes stand
-pub range-next : (F : List ℕ) (limit e k at o z offset next : ℕ) (buffer : List ℕ) (kind : Kind) (s : Step) → kind ≡ Memory64
-    → item_at F limit e k at o kind ≡ Ok (step_item z buffer s) → offset ≡ range_offset F at k → o ≡ at + 16 + k * 16
-    → ((x : RangeItem) → s ≡ step.Range x → next ≡ offset + x.size) → next ≡ range_offset F at (k + 1)
-range-next F limit e k at o z offset next buffer kind s is given here place behind =
+pub range-next : (F : List ℕ) (limit e k at o z offset next : ℕ) (buffer : List ℕ) (kind : Kind) (s : Step) → kind ≡ Memory64 → IsStepOf (Some kind) s
+    → item_at F limit e k at o kind ≡ Ok (step_item z buffer s) → offset ≡ range_offset F at k → o ≡ at + 16 + k * 16 → next ≡ offset + bytes_behind s → next ≡ range_offset F at (k + 1)
+range-next F limit e k at o z offset next buffer kind s is of given here place behind =
     let x = range64_item (length F) e k (descriptor64_at F o) (range_offset F at k) in
     let known : item_at F limit e k at o Memory64 ≡ Ok (step_item z buffer s) = rw is at given in
     let same : step_item z buffer s ≡ items.Range x = one_answer _ _ _ known refl in
-    omega (arith, behind x (range-step z buffer s x same), here, range_offset-next F at k o place)
+    let size = size_of_step z buffer s x (rw is at of) same in
+    omega (arith, behind, here, size, range_offset-next F at k o place)

@@ -8,9 +8,8 @@ use Rattle.mdmp_lister.specs.declared.fault.ListFault.{ListFault}
 use Rattle.mdmp_lister.specs.declared.fetching.NameRead.{NameRead}
 use Rattle.mdmp_lister.specs.declared.fetching.NameRead.TheVariants as read
 use Rattle.mdmp_lister.specs.declared.item.Item.{Item}
-use Rattle.mdmp_lister.specs.declared.item.Item.TheVariants as items
+use Rattle.mdmp_lister.specs.declared.item.StreamItem.{StreamItem}
 use Rattle.mdmp_lister.specs.declared.kind.Kind.{Kind}
-use Rattle.mdmp_lister.specs.declared.kind.Kind.TheVariants as kinds
 use Rattle.mdmp_lister.specs.declared.name.Name.{Name}
 use Rattle.mdmp_lister.specs.declared.name.Name.TheVariants.{NoName, Units, Long}
 use Rattle.mdmp_lister.specs.declared.sink.RunFault.{RunFault}
@@ -20,7 +19,10 @@ use Rattle.mdmp_lister.specs.declared.stage.Stage.TheVariants.{Head}
 use Rattle.mdmp_lister.specs.declared.step.Step.{Step}
 use Rattle.mdmp_lister.specs.declared.step.Step.TheVariants as step
 use Rattle.mdmp_lister.specs.Heads.{head_of}
+use Rattle.mdmp_lister.specs.Items.{kind_told}
 use Rattle.mdmp_lister.specs.Shapes.{kind_of, record_size}
+use Rattle.mdmp_lister.specs.Steps.{stream_told}
+use Rattle.mdmp_lister.specs.Summary.{summary_of}
 
 -- ---- names
 
@@ -51,25 +53,12 @@ name_spent limit (Err fault) = bad_name_cost limit fault.kind
 
 -- the bytes of an item: its record and its name
 abbrev pub item_cost : Item → ℕ
-item_cost (items.Stream x) = 0
-item_cost (items.Thread x) = record_size kinds.Threads
-item_cost (items.Module m) = record_size kinds.Modules + name_cost m.name
-item_cost (items.Unloaded u) = record_size kinds.Unloaded + name_cost u.name
-item_cost (items.Exception x) = record_size kinds.Exception
-item_cost (items.System s) = record_size kinds.System + name_cost s.name
-item_cost (items.MemoryInfo x) = record_size kinds.MemoryInfo
-item_cost (items.Range r) = record_size kinds.Memory
+item_cost item = let x = summary_of item in x.bytes + name_cost x.name
 
 -- the same of one whose name stands in a buffer
 abbrev pub step_cost : Step → ℕ
 step_cost (step.Stream x) = 0
-step_cost (step.Thread x) = record_size kinds.Threads
-step_cost (step.Module e k fields name) = record_size kinds.Modules + read_cost name
-step_cost (step.Unloaded e k fields name) = record_size kinds.Unloaded + read_cost name
-step_cost (step.Exception x) = record_size kinds.Exception
-step_cost (step.System e k fields name) = record_size kinds.System + read_cost name
-step_cost (step.MemoryInfo x) = record_size kinds.MemoryInfo
-step_cost (step.Range r) = record_size kinds.Memory
+step_cost (step.Record r) = record_size (kind_told r.fields) + read_cost r.name
 
 -- what was fetched of a record of this kind
 abbrev pub record_spent : ℕ → Kind → Result Step Fault → ℕ
@@ -121,13 +110,16 @@ head_left z e Head = head_of z e
 head_left z e stage = 0
 
 -- that of the entry which an item begins
-abbrev pub head_given : ℕ → Item → ℕ
-head_given z (items.Stream x) = head_of z (record { stream_type = x.stream_type; location = x.location })
-head_given z item = 0
+abbrev pub head_begun : ℕ → Option StreamItem → ℕ
+head_begun z (Some x) = head_of z (record { stream_type = x.stream_type; location = x.location })
+head_begun z None = 0
 
+abbrev pub head_given : ℕ → Item → ℕ
+head_given z item = head_begun z (summary_of item).stream
+
+-- the same of a step
 abbrev pub head_told : ℕ → Step → ℕ
-head_told z (step.Stream x) = head_of z (record { stream_type = x.stream_type; location = x.location })
-head_told z s = 0
+head_told z s = head_begun z (stream_told s)
 
 -- behind an answer
 abbrev pub head_behind : ℕ → Result (Option Item) ListFault → ℕ

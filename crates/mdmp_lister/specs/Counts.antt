@@ -11,9 +11,9 @@ use Rattle.mdmp_lister.specs.declared.fault.ListFault.{ListFault}
 use Rattle.mdmp_lister.specs.declared.name.Name.{Name}
 use Rattle.mdmp_lister.specs.declared.name.Name.TheVariants.{NoName}
 use Rattle.mdmp_lister.specs.declared.item.Item.{Item}
-use Rattle.mdmp_lister.specs.declared.item.Item.TheVariants.{Module, Unloaded, System}
 use Rattle.mdmp_lister.specs.Shapes.{kind_of, is_known, lists_ranges, record_count}
 use Rattle.mdmp_lister.specs.Listing.{Numbered, Run, chosen}
+use Rattle.mdmp_lister.specs.Summary.{summary_of}
 
 -- ---- bytes
 
@@ -69,10 +69,7 @@ named_once NoName = 0
 named_once _ = 1
 
 abbrev pub names_of : Item → ℕ
-names_of (Module m) = named_once m.name
-names_of (Unloaded u) = named_once u.name
-names_of (System s) = named_once s.name
-names_of _ = 0
+names_of item = named_once (summary_of item).name
 
 -- 1 for the fault of a name
 abbrev pub faulty_name : FaultKind → ℕ

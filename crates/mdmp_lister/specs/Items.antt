@@ -1,7 +1,10 @@
 -- The items that the records of a stream give.
-use Rattle.std.specs.Prelude.{ℕ, zero, suc, ◌+◌, List, length, Result, Ok, Err}
+use Rattle.std.specs.Prelude.{ℕ, zero, suc, ◌+◌, List, length, Option, Some, None, Result, Ok, Err}
 use Rattle.mdmp_source.specs.Extent.{extent_of}
 use Rattle.mdmp_lister.specs.Extents.{range_extent_of}
+use Rattle.mdmp_wire.specs.AnyRecord.{name_rva}
+use Rattle.mdmp_wire.specs.declared.any_record.AnyRecord.{AnyRecord}
+use Rattle.mdmp_wire.specs.declared.any_record.AnyRecord.TheVariants as any
 use Rattle.mdmp_wire.specs.Number.{number_at}
 use Rattle.mdmp_wire.specs.Thread.{thread_at}
 use Rattle.mdmp_wire.specs.declared.thread.ThreadRecord.{ThreadRecord}
@@ -23,6 +26,7 @@ use Rattle.mdmp_lister.specs.declared.kind.Kind.{Kind}
 use Rattle.mdmp_lister.specs.declared.kind.Kind.TheVariants as kinds
 use Rattle.mdmp_lister.specs.declared.fault.Fault.{Fault}
 use Rattle.mdmp_lister.specs.declared.name.Name.{Name}
+use Rattle.mdmp_lister.specs.declared.name.Name.TheVariants.{NoName}
 use Rattle.mdmp_lister.specs.declared.item.Item.{Item}
 use Rattle.mdmp_lister.specs.declared.item.ThreadItem.{ThreadItem}
 use Rattle.mdmp_lister.specs.declared.item.ModuleItem.{ModuleItem}
@@ -41,7 +45,7 @@ plain (items.Unloaded u) = items.Unloaded (record u { name = plain_name u.name }
 plain (items.System s) = items.System (record s { name = plain_name s.name })
 plain x = x
 
--- an item with the name at rva, unless that name has a fault
+-- an item with its name, unless that name has a fault
 abbrev pub named : Result Name Fault → (Name → Item) → Result Item Fault
 named (Ok name) item = Ok (item name)
 named (Err fault) item = Err fault
@@ -110,19 +114,53 @@ range64_item z e k fields offset = record {
   offset = offset;
 }
 
+-- ---- items of any kind
+
+-- the record of this kind that stands at o
+abbrev pub record_at : Kind → List ℕ → ℕ → AnyRecord
+record_at kinds.Threads F o = any.Thread (thread_at F o)
+record_at kinds.Modules F o = any.Module (module_at F o)
+record_at kinds.Memory F o = any.Memory (descriptor_at F o)
+record_at kinds.Exception F o = any.Exception (exception_at F o)
+record_at kinds.System F o = any.System (system_at F o)
+record_at kinds.Memory64 F o = any.Memory64 (descriptor64_at F o)
+record_at kinds.Unloaded F o = any.Unloaded (unloaded_at F o)
+record_at kinds.MemoryInfo F o = any.MemoryInfo (memory_info_at F o)
+
+-- the kind of the streams that have such records
+abbrev pub kind_told : AnyRecord → Kind
+kind_told (any.Thread fields) = kinds.Threads
+kind_told (any.Module fields) = kinds.Modules
+kind_told (any.Memory fields) = kinds.Memory
+kind_told (any.Exception fields) = kinds.Exception
+kind_told (any.System fields) = kinds.System
+kind_told (any.Memory64 fields) = kinds.Memory64
+kind_told (any.Unloaded fields) = kinds.Unloaded
+kind_told (any.MemoryInfo fields) = kinds.MemoryInfo
+
+-- item k of entry e, of a record of this name, in a file of z bytes: the bytes of a 64-bit range stand at an offset
+abbrev pub item_of : ℕ → ℕ → ℕ → ℕ → AnyRecord → Name → Item
+item_of z e k offset (any.Thread fields) name = items.Thread (thread_item z e k fields)
+item_of z e k offset (any.Module fields) name = items.Module (module_item z e k fields name)
+item_of z e k offset (any.Memory fields) name = items.Range (range_item z e k fields)
+item_of z e k offset (any.Exception fields) name = items.Exception (exception_item z e k fields)
+item_of z e k offset (any.System fields) name = items.System (system_item e k fields name)
+item_of z e k offset (any.Memory64 fields) name = items.Range (range64_item z e k fields offset)
+item_of z e k offset (any.Unloaded fields) name = items.Unloaded (unloaded_item e k fields name)
+item_of z e k offset (any.MemoryInfo fields) name = items.MemoryInfo (memory_info_item e k fields)
+
+-- the name at an RVA, of a record that has one
+abbrev pub name_of : List ℕ → ℕ → Option ℕ → Result Name Fault
+name_of F limit None = Ok NoName
+name_of F limit (Some rva) = name_at F rva limit
+
+-- where the bytes of record k of the stream of this kind at `at` stand, of a kind whose records do not say so
+abbrev pub offset_in : List ℕ → ℕ → ℕ → Kind → ℕ
+offset_in F at k kinds.Memory64 = range_offset F at k
+offset_in F at k kind = 0
+
 -- the item of the record at o, or the fault of its name: the stream of this kind begins at `at`
 abbrev pub item_at : List ℕ → ℕ → ℕ → ℕ → ℕ → ℕ → Kind → Result Item Fault
-item_at F limit e k at o kinds.Threads = Ok (items.Thread (thread_item (length F) e k (thread_at F o)))
-item_at F limit e k at o kinds.Modules =
-    let fields = module_at F o in
-    named (name_at F fields.module_name_rva limit) (λ name. items.Module (module_item (length F) e k fields name))
-item_at F limit e k at o kinds.Memory = Ok (items.Range (range_item (length F) e k (descriptor_at F o)))
-item_at F limit e k at o kinds.Exception = Ok (items.Exception (exception_item (length F) e k (exception_at F o)))
-item_at F limit e k at o kinds.System =
-    let fields = system_at F o in
-    named (name_at F fields.csd_version_rva limit) (λ name. items.System (system_item e k fields name))
-item_at F limit e k at o kinds.Memory64 = Ok (items.Range (range64_item (length F) e k (descriptor64_at F o) (range_offset F at k)))
-item_at F limit e k at o kinds.Unloaded =
-    let fields = unloaded_at F o in
-    named (name_at F fields.module_name_rva limit) (λ name. items.Unloaded (unloaded_item e k fields name))
-item_at F limit e k at o kinds.MemoryInfo = Ok (items.MemoryInfo (memory_info_item e k (memory_info_at F o)))
+item_at F limit e k at o kind =
+    let fields = record_at kind F o in
+    named (name_of F limit (name_rva fields)) (λ name. item_of (length F) e k (offset_in F at k kind) fields name)

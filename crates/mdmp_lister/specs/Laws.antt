@@ -4,22 +4,15 @@ use Rattle.std.specs.Option.{option_or}
 use Rattle.mdmp_lister.specs.declared.choice.Choice.{Choice}
 use Rattle.mdmp_lister.specs.declared.fault.ListFault.{ListFault}
 use Rattle.mdmp_lister.specs.declared.item.Item.{Item}
-use Rattle.mdmp_lister.specs.declared.item.Item.TheVariants as items
 use Rattle.mdmp_lister.specs.declared.verdict.Verdict.{Verdict}
 use Rattle.mdmp_lister.specs.Listing.{Run, entry_of, is_chosen}
+use Rattle.mdmp_lister.specs.Summary.{summary_of}
 
 -- ---- the part of a listing that a choice has
 
 -- the number of the entry that an item is of
 abbrev pub entry_number : Item → ℕ
-entry_number (items.Stream x) = x.entry
-entry_number (items.Thread x) = x.entry
-entry_number (items.Module x) = x.entry
-entry_number (items.Unloaded x) = x.entry
-entry_number (items.Exception x) = x.entry
-entry_number (items.System x) = x.entry
-entry_number (items.MemoryInfo x) = x.entry
-entry_number (items.Range x) = x.entry
+entry_number item = (summary_of item).entry
 
 -- the choice has entry e of the directory
 abbrev pub is_of : List ℕ → Choice → ℕ → Bool

@@ -27,4 +27,5 @@ pub mod Shapes
 pub mod Stages
 pub mod Steps
 pub mod Stopping
+pub mod Summary
 pub mod Walk

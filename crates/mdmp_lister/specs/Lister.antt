@@ -11,7 +11,6 @@ use Rattle.mdmp_lister.specs.declared.fault.FaultKind.{FaultKind}
 use Rattle.mdmp_lister.specs.declared.fault.FaultKind.TheVariants.{Source}
 use Rattle.mdmp_lister.specs.declared.fault.ListFault.{ListFault}
 use Rattle.mdmp_lister.specs.declared.item.Item.{Item}
-use Rattle.mdmp_lister.specs.declared.item.Item.TheVariants.{Stream}
 use Rattle.mdmp_map.specs.declared.range.Range.{Range}
 use Rattle.mdmp_lister.specs.declared.limits.Limits.{Limits}
 use Rattle.mdmp_lister.specs.Classes.{IsClassed}
@@ -25,6 +24,7 @@ use Rattle.mdmp_lister.specs.Meter.{IsBegun, MeterCounts, Moves}
 use Rattle.mdmp_lister.specs.Ranges.{ranges_of}
 use Rattle.mdmp_lister.specs.Reading.{IsOfSource, IsSteady, IsToldIn}
 use Rattle.mdmp_lister.specs.Stages.{stop_after}
+use Rattle.mdmp_lister.specs.Summary.{entry_begun, number_behind, summary_of}
 
 -- what a lister has room for: entries of the directory, bytes of its window, and ranges
 pub record Rooms : Type 0 where
@@ -82,8 +82,7 @@ left_after (Err f) left = only_fault f
 
 -- the number of the first entry behind the current one, once an item was given: a Stream item begins an entry
 abbrev pub passed_after : Item → ℕ → ℕ
-passed_after (Stream x) next = x.entry + 1
-passed_after item next = next
+passed_after item next = number_behind (summary_of item).stream next
 
 abbrev pub Passes : Result (Option Item) ListFault → ℕ → ℕ → Type 0
 Passes (Ok None) old new = Unit {0}
@@ -92,8 +91,7 @@ Passes (Err f) old new = new ≡ old
 
 -- the current entry, once an item was given
 abbrev pub current_after : Item → Entry → Entry
-current_after (Stream x) e = record { stream_type = x.stream_type; location = x.location }
-current_after item e = e
+current_after item e = entry_begun (summary_of item).stream e
 
 abbrev pub IsCurrent : Result (Option Item) ListFault → Entry → Entry → Type 0
 IsCurrent (Ok (Some item)) old new = new ≡ current_after item old

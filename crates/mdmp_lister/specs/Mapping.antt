@@ -1,27 +1,12 @@
 -- A walk and the map of the ranges that it gave.
-use Rattle.std.specs.Prelude.{◌≡◌, ◌-◌, ◌^◌, ℕ, List, [], ◌∷◌, All, Some}
-use Rattle.mdmp_map.specs.declared.range.Range.{Range}
+use Rattle.std.specs.Prelude.{◌≡◌, ℕ, List, All, Some}
 use Rattle.mdmp_map.specs.Map.{MapState, free_of}
 use Rattle.mdmp_map.specs.Ranges.{IsWithin}
-use Rattle.mdmp_lister.specs.declared.item.Item.TheVariants as items
-use Rattle.mdmp_lister.specs.declared.step.Step.{Step}
-use Rattle.mdmp_lister.specs.declared.step.Step.TheVariants as step
 use Rattle.mdmp_lister.specs.declared.walk.Walk.{Walk}
 use Rattle.mdmp_lister.specs.Counts.{range_count}
 use Rattle.mdmp_lister.specs.Owing.{HasRoom}
 use Rattle.mdmp_lister.specs.Paying.{IsBounded}
-use Rattle.mdmp_lister.specs.Ranges.{IsRangeIn, ranges_of}
 use Rattle.mdmp_lister.specs.Walk.{IsSound}
-
--- the ranges inside the file that a step tells
-abbrev pub ranges_of_step : Step → List Range
-ranges_of_step (step.Range r) = ranges_of (items.Range r ∷ [])
-ranges_of_step s = []
-
--- such a range has bytes, at offsets that fit
-abbrev pub IsStepPlaced : Step → Type 0
-IsStepPlaced (step.Range r) = IsRangeIn (2 ^ 64 - 1) r
-IsStepPlaced s = Unit {0}
 
 -- the map has room for the ranges that the walk may still give, and those that it gave lie inside the file
 pub record IsMapped {S A : Type 0} (w : Walk S A) (map : MapState) : Type 0 where

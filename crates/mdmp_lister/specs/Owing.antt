@@ -6,9 +6,10 @@ use Rattle.mdmp_lister.specs.declared.kind.Kind.{Kind}
 use Rattle.mdmp_lister.specs.declared.stage.Stage.{Stage}
 use Rattle.mdmp_lister.specs.declared.stage.Stage.TheVariants.{Head, Records}
 use Rattle.mdmp_lister.specs.declared.step.Step.{Step}
-use Rattle.mdmp_lister.specs.declared.step.Step.TheVariants.{Range}
+use Rattle.mdmp_lister.specs.declared.step.Step.TheVariants as step
 use Rattle.mdmp_lister.specs.declared.walk.Walk.{Walk}
 use Rattle.mdmp_lister.specs.Counts.{ranges_in, ranges_of_all}
+use Rattle.mdmp_lister.specs.Items.{kind_told}
 use Rattle.mdmp_lister.specs.Listing.{chosen_from}
 use Rattle.mdmp_lister.specs.Shapes.{kind_of, lists_ranges}
 
@@ -28,8 +29,8 @@ ranges_owed F e stage = ranges_ahead stage
 
 -- 1 for a range
 abbrev pub count_told : Step → ℕ
-count_told (Range r) = 1
-count_told s = 0
+count_told (step.Stream x) = 0
+count_told (step.Record r) = ranges_by (kind_told r.fields) 1
 
 abbrev pub count_given : Option Step → ℕ
 count_given (Some s) = count_told s

@@ -16,10 +16,8 @@ read_once _ = 1
 
 -- and for a step with such a name
 abbrev pub told_once : Step → ℕ
-told_once (step.Module e k fields name) = read_once name
-told_once (step.Unloaded e k fields name) = read_once name
-told_once (step.System e k fields name) = read_once name
-told_once s = 0
+told_once (step.Stream x) = 0
+told_once (step.Record r) = read_once r.name
 
 abbrev pub given_once : Option Step → ℕ
 given_once (Some s) = told_once s

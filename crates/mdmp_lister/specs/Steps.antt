@@ -1,55 +1,67 @@
 -- Items whose names stand in a buffer.
-use Rattle.std.specs.Prelude.{◌≡◌, ◌+◌, ℕ, List, Option, Some, Result, Ok}
+use Rattle.std.specs.Prelude.{◌≡◌, ℕ, List, Option, Some, None, Result, Ok}
+use Rattle.mdmp_wire.specs.AnyRecord.{name_rva}
+use Rattle.mdmp_wire.specs.declared.any_record.AnyRecord.{AnyRecord}
+use Rattle.mdmp_wire.specs.declared.any_record.AnyRecord.TheVariants as any
 use Rattle.mdmp_wire.specs.declared.entry.Entry.{Entry}
 use Rattle.mdmp_lister.specs.declared.fault.ListFault.{ListFault}
+use Rattle.mdmp_lister.specs.declared.fetching.NameRead.{NameRead}
+use Rattle.mdmp_lister.specs.declared.fetching.NameRead.TheVariants.{NoName}
 use Rattle.mdmp_lister.specs.declared.item.Item.{Item}
 use Rattle.mdmp_lister.specs.declared.item.Item.TheVariants as items
+use Rattle.mdmp_lister.specs.declared.item.StreamItem.{StreamItem}
 use Rattle.mdmp_lister.specs.declared.step.Step.{Step}
 use Rattle.mdmp_lister.specs.declared.step.Step.TheVariants as step
 use Rattle.mdmp_lister.specs.declared.kind.Kind.{Kind}
-use Rattle.mdmp_lister.specs.Classes.{IsExceptionClassed, IsRangeClassed, IsThreadClassed}
-use Rattle.mdmp_lister.specs.Ranges.{IsRangeIn}
-use Rattle.mdmp_lister.specs.Items.{module_item, system_item, unloaded_item}
+use Rattle.mdmp_lister.specs.Items.{item_of, kind_told}
 use Rattle.mdmp_lister.specs.Reading.{IsHeld, name_read}
+use Rattle.mdmp_lister.specs.Summary.{entry_begun, number_behind}
 
 -- the item, its name in this buffer, in a file of z bytes
 abbrev pub step_item : ℕ → List ℕ → Step → Item
 step_item z buffer (step.Stream x) = items.Stream x
-step_item z buffer (step.Thread x) = items.Thread x
-step_item z buffer (step.Module e k fields name) = items.Module (module_item z e k fields (name_read buffer name))
-step_item z buffer (step.Unloaded e k fields name) = items.Unloaded (unloaded_item e k fields (name_read buffer name))
-step_item z buffer (step.Exception x) = items.Exception x
-step_item z buffer (step.System e k fields name) = items.System (system_item e k fields (name_read buffer name))
-step_item z buffer (step.MemoryInfo x) = items.MemoryInfo x
-step_item z buffer (step.Range x) = items.Range x
+step_item z buffer (step.Record r) = item_of z r.entry r.index r.offset r.fields (name_read buffer r.name)
 
 -- its name fits in `room` bytes
 abbrev pub IsNameHeld : ℕ → Step → Type 0
-IsNameHeld room (step.Module e k fields name) = IsHeld room name
-IsNameHeld room (step.Unloaded e k fields name) = IsHeld room name
-IsNameHeld room (step.System e k fields name) = IsHeld room name
-IsNameHeld room x = Unit {0}
+IsNameHeld room (step.Stream x) = Unit {0}
+IsNameHeld room (step.Record r) = IsHeld room r.name
 
--- its parts have the classes of their locations in a file of z bytes, in a stream of this kind, and a range that is said
--- to lie inside does
-abbrev pub IsStepClassed : ℕ → Option Kind → Step → Type 0
-IsStepClassed z kind (step.Thread t) = IsThreadClassed z t
-IsStepClassed z kind (step.Exception x) = IsExceptionClassed z x
-IsStepClassed z kind (step.Range r) = IsRangeIn z r × IsRangeClassed z kind r
-IsStepClassed z kind x = Unit {0}
+-- a record without a place for a name has none
+abbrev pub IsNameOf : Option ℕ → NameRead → Type 0
+IsNameOf (Some rva) name = Unit {0}
+IsNameOf None name = name ≡ NoName
+
+-- the size of a range of a 64-bit memory list
+abbrev pub range64_size : AnyRecord → ℕ
+range64_size (any.Memory64 fields) = fields.data_size
+range64_size fields = 0
+
+-- its record is one of a stream of this kind
+abbrev pub IsStepOf : Option Kind → Step → Type 0
+IsStepOf kind (step.Stream x) = Unit {0}
+IsStepOf kind (step.Record r) = (kind ≡ Some (kind_told r.fields)) × IsNameOf (name_rva r.fields) r.name
 
 abbrev pub IsStepHeld : ℕ → ℕ → Option Kind → Step → Type 0
-IsStepHeld z room kind s = IsNameHeld room s × IsStepClassed z kind s
+IsStepHeld z room kind s = IsNameHeld room s × IsStepOf kind s
+
+-- the entry that it begins
+abbrev pub stream_told : Step → Option StreamItem
+stream_told (step.Stream x) = Some x
+stream_told (step.Record r) = None
+
+-- how many bytes stand behind those of the ranges before it, of a range of a 64-bit memory list
+abbrev pub bytes_behind : Step → ℕ
+bytes_behind (step.Stream x) = 0
+bytes_behind (step.Record r) = range64_size r.fields
 
 -- the number of the first entry behind the current one, once a step was given
 abbrev pub passed_by : Step → ℕ → ℕ
-passed_by (step.Stream x) next = x.entry + 1
-passed_by s next = next
+passed_by s next = number_behind (stream_told s) next
 
 -- the entry whose records are read, once a step was given
 abbrev pub current_by : Step → Entry → Entry
-current_by (step.Stream x) e = record { stream_type = x.stream_type; location = x.location }
-current_by s e = e
+current_by s e = entry_begun (stream_told s) e
 
 abbrev pub CurrentAfter : Result (Option Step) ListFault → Entry → Entry → Type 0
 CurrentAfter (Ok (Some s)) old new = new ≡ current_by s old

@@ -58,7 +58,7 @@ pub(crate) fn read_name<S: Store>(
     meter: &mut Meter<S>,
     window: &mut [u8],
     buffer: &mut [u8],
-    rva: u32,
+    rva: u64,
 ) -> Result<NameRead, Fault>
     requires small { length buffer.old < 2 ^ 32 }
     requires window { 4 ≤ length window.old }
@@ -68,37 +68,36 @@ pub(crate) fn read_name<S: Store>(
     ensures reads { ReadsName (length buffer.new) rva result meter.old meter.new }
 {
     let size = meter.size();
-    let at = u64::from(rva);
     if rva == 0 {
         return Ok(NameRead::NoName);
     }
     meter.reach_name();
-    if !inside(at, 4, size) {
+    if !inside(rva, 4, size) {
         return Err(Fault {
             kind: FaultKind::NameLengthOutside,
-            offset: at,
+            offset: rva,
             size: 4,
         });
     }
-    let length: u32 = read(meter, window, at)?;
+    let length: u32 = read(meter, window, rva)?;
     let bytes = u64::from(length);
     if length % 2 == 1 {
         return Err(Fault {
             kind: FaultKind::NameOdd,
-            offset: at,
+            offset: rva,
             size: bytes,
         });
     }
-    if !inside(at + 4, bytes, size) {
+    if !inside(rva + 4, bytes, size) {
         return Err(Fault {
             kind: FaultKind::NameUnitsOutside,
-            offset: at + 4,
+            offset: rva + 4,
             size: bytes,
         });
     }
     if buffer.len() < length as usize {
         return Ok(NameRead::Long(length));
     }
-    fetch_front(meter, at + 4, buffer, length as usize)?;
+    fetch_front(meter, rva + 4, buffer, length as usize)?;
     Ok(NameRead::Units(length))
 }

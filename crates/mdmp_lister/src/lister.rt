@@ -1,5 +1,5 @@
 //! The lister.
-ghost use Rattle.std.specs.Prelude.{◌≡◌, ◌≤◌, ◌<◌, ◌+◌, ◌*◌, ◌++◌, ◌⊎◌, ℕ, List, None, Some, All, IfOk, IfErr, IsOk, IsTrue, OnOk, length, false, MatchResult};
+ghost use Rattle.std.specs.Prelude.{◌≡◌, ◌≤◌, ◌<◌, ◌+◌, ◌*◌, ◌++◌, ◌⊎◌, ◌-◌, ◌^◌, ◌∷◌, ℕ, List, [], None, Some, All, IfOk, IfErr, IsOk, IsTrue, OnOk, length, false, MatchResult};
 ghost use Rattle.std.specs.Borrow.{sem};
 ghost use Rattle.std.specs.Io.BufRead.{Rests};
 ghost use Rattle.mdmp_source.specs.Store.{IsGood};
@@ -9,9 +9,8 @@ ghost use Rattle.mdmp_map.specs.Ranges.{IsWithin};
 ghost use Rattle.mdmp_source.specs.Source.{FetchesAtMost, IsTold};
 ghost use Rattle.mdmp_lister.specs.Addresses.{ReadsCells};
 ghost use Rattle.mdmp_lister.specs.Meter.{IsBooked, SpendsAside};
-ghost use Rattle.mdmp_lister.specs.Mapping.{IsStepPlaced, ranges_of_step};
 ghost use Rattle.mdmp_lister.specs.Numbers.{AreBounds, AreOfFile, numbers_of};
-ghost use Rattle.mdmp_lister.specs.Owing.{count_told};
+ghost use Rattle.mdmp_lister.specs.Ranges.{IsPlacedIn, ranges_of};
 ghost use Rattle.mdmp_lister.specs.Reading.{IsOfSource, IsToldIn};
 ghost use Rattle.mdmp_lister.specs.Stages.{stop_after, stop_after_run};
 
@@ -23,7 +22,6 @@ use crate::item::Item;
 use crate::limits::Limits;
 use crate::opening::OpenRefused;
 use crate::sink::{RunFault, Sink, Stopped};
-use crate::step::Step;
 use crate::walk::Walk;
 use mdmp_map::AddressMap;
 use mdmp_source::{Extent, Source, SourceFault, Store};
@@ -169,8 +167,9 @@ impl<S: Store + Drop, A: Allocator + Copy> Lister<S, A> {
         match self.walk.advance(self.map.free())? {
             None => Ok(None),
             Some(step) => {
-                push_range(&mut self.map, step);
-                Ok(Some(self.walk.item(step)))
+                let item = self.walk.item(step);
+                push_range(&mut self.map, &item);
+                Ok(Some(item))
             }
         }
     }
@@ -275,12 +274,12 @@ fn refused<S: Store + Drop, A: Allocator + Copy>(
 }
 
 /// Puts a range that lies inside the file behind those of a map.
-fn push_range<A: Allocator>(map: &mut AddressMap<A>, step: Step)
-    requires placed { IsStepPlaced step }
-    requires room { count_told step ≤ free_of map.old }
-    ensures { map.new ≡ record map.old { ranges = map.old.ranges ++ ranges_of_step step } }
+fn push_range<A: Allocator>(map: &mut AddressMap<A>, item: &Item)
+    requires placed { IsPlacedIn (2 ^ 64 - 1) item.now }
+    requires room { length (ranges_of (item.now ∷ [])) ≤ free_of map.old }
+    ensures { map.new ≡ record map.old { ranges = map.old.ranges ++ ranges_of (item.now ∷ []) } }
 {
-    if let Step::Range(range) = step {
+    if let Item::Range(range) = item {
         if let Extent::Inside = range.extent {
             map.push(range.start, range.size, range.offset as u64);
         }

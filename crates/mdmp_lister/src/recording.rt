@@ -1,118 +1,51 @@
-//! The item of a record, read through a source.
+//! A record of any kind and its name, read through a source.
 ghost use Rattle.std.specs.Prelude.{◌≡◌, ◌≤◌, ◌<◌, ◌+◌, ◌^◌, ℕ, List, Some, length, IfOk};
 ghost use Rattle.mdmp_source.specs.Store.{IsSizeOf};
+ghost use Rattle.mdmp_source.specs.Source.{fault_of};
 ghost use Rattle.mdmp_lister.specs.Fetching.{ReadsRecord, TellsRecord};
-ghost use Rattle.mdmp_lister.specs.Items.{item_at, range_offset};
-ghost use Rattle.mdmp_lister.specs.Reading.{Answers};
+ghost use Rattle.mdmp_lister.specs.Items.{item_at, kind_told, range_offset, record_at};
+ghost use Rattle.mdmp_lister.specs.Meter.{Books};
+ghost use Rattle.mdmp_lister.specs.Reading.{Answers, IsCaused};
 ghost use Rattle.mdmp_lister.specs.Shapes.{record_size};
 ghost use Rattle.mdmp_lister.specs.Steps.{IsStepHeld, step_item};
 
 use crate::fault::Fault;
-use crate::fetching::{read, read_name};
-use crate::item::{ExceptionItem, MemoryInfoItem, RangeItem, ThreadItem};
+use crate::fetching::{NameRead, read, read_name};
 use crate::kind::Kind;
 use crate::meter::Meter;
-use crate::step::Step;
-use mdmp_source::Store;
-use mdmp_wire::{ModuleRecord, Record, SystemRecord, UnloadedRecord};
+use crate::step::{RecordRead, Step};
+use mdmp_source::{SourceFault, Store};
+use mdmp_wire::AnyRecord;
 
-/// The item of a module, or the fault of its name.
-#[tactic(auto, using(crate::proofs::NamedItems::module_read, crate::proofs::Fetches::IsCausedAt_later, crate::proofs::Naming::source_reached))]
-fn read_module<S: Store>(
+/// The record at `at`, of a stream of this kind.
+fn read_record<S: Store>(
     meter: &mut Meter<S>,
     window: &mut [u8],
-    buffer: &mut [u8],
-    entry: u32,
-    index: u64,
+    kind: Kind,
     at: u64,
-) -> Result<Step, Fault>
-    requires sized { IsSizeOf meter.old.source.store.content meter.old.source.size }
-    requires inside { at + 108 ≤ meter.old.source.size }
+) -> Result<AnyRecord, SourceFault>
+    requires inside { at + record_size kind ≤ meter.old.source.size }
     requires window { 168 ≤ length window.old }
-    requires small { length buffer.old < 2 ^ 32 }
-    ensures item { (file : List ℕ) → meter.old.source.store.content ≡ Some file → (stream : ℕ)
-        → Answers (item_at file (length buffer.new) entry index stream at Kind.Modules) (step_item meter.old.source.size buffer.new) result }
-    ensures held { IfOk result (IsStepHeld meter.old.source.size (length buffer.new) (Some Kind.Modules)) }
-    ensures tells { IfOk result (TellsRecord Kind.Modules) }
-    ensures reads { ReadsRecord (length buffer.new) Kind.Modules result meter.old meter.new }
+    ensures value { (file : List ℕ) → meter.old.source.store.content ≡ Some file → IfOk result (λ value. record_at kind file at ≡ value) }
+    ensures kind { IfOk result (λ value. kind_told value ≡ kind) }
+    ensures books { Books 1 (record_size kind) meter.old meter.new }
+    ensures caused { IsCaused (fault_of result) meter.old.source meter.new.source }
 {
-    let fields: ModuleRecord = read(meter, window, at)?;
-    match read_name(meter, window, buffer, fields.module_name_rva) {
-        Ok(name) => Ok(Step::Module {
-            entry,
-            index,
-            fields,
-            name,
-        }),
-        Err(fault) => Err(fault),
+    match kind {
+        Kind::Threads => Ok(AnyRecord::Thread(read(meter, window, at)?)),
+        Kind::Modules => Ok(AnyRecord::Module(read(meter, window, at)?)),
+        Kind::Memory => Ok(AnyRecord::Memory(read(meter, window, at)?)),
+        Kind::Exception => Ok(AnyRecord::Exception(read(meter, window, at)?)),
+        Kind::System => Ok(AnyRecord::System(read(meter, window, at)?)),
+        Kind::Memory64 => Ok(AnyRecord::Memory64(read(meter, window, at)?)),
+        Kind::Unloaded => Ok(AnyRecord::Unloaded(read(meter, window, at)?)),
+        Kind::MemoryInfo => Ok(AnyRecord::MemoryInfo(read(meter, window, at)?)),
     }
 }
 
-/// The item of a module that was unloaded, or the fault of its name.
-#[tactic(auto, using(crate::proofs::NamedItems::unloaded_read, crate::proofs::Fetches::IsCausedAt_later, crate::proofs::Naming::source_reached))]
-fn read_unloaded<S: Store>(
-    meter: &mut Meter<S>,
-    window: &mut [u8],
-    buffer: &mut [u8],
-    entry: u32,
-    index: u64,
-    at: u64,
-) -> Result<Step, Fault>
-    requires inside { at + 24 ≤ meter.old.source.size }
-    requires window { 168 ≤ length window.old }
-    requires small { length buffer.old < 2 ^ 32 }
-    ensures item { (file : List ℕ) → meter.old.source.store.content ≡ Some file → (stream : ℕ)
-        → Answers (item_at file (length buffer.new) entry index stream at Kind.Unloaded) (step_item meter.old.source.size buffer.new) result }
-    ensures held { IfOk result (IsStepHeld meter.old.source.size (length buffer.new) (Some Kind.Unloaded)) }
-    ensures tells { IfOk result (TellsRecord Kind.Unloaded) }
-    ensures reads { ReadsRecord (length buffer.new) Kind.Unloaded result meter.old meter.new }
-{
-    let fields: UnloadedRecord = read(meter, window, at)?;
-    match read_name(meter, window, buffer, fields.module_name_rva) {
-        Ok(name) => Ok(Step::Unloaded {
-            entry,
-            index,
-            fields,
-            name,
-        }),
-        Err(fault) => Err(fault),
-    }
-}
-
-/// The item of the system, or the fault of its name.
-#[tactic(auto, using(crate::proofs::NamedItems::system_read, crate::proofs::Fetches::IsCausedAt_later, crate::proofs::Naming::source_reached))]
-fn read_system<S: Store>(
-    meter: &mut Meter<S>,
-    window: &mut [u8],
-    buffer: &mut [u8],
-    entry: u32,
-    index: u64,
-    at: u64,
-) -> Result<Step, Fault>
-    requires inside { at + 56 ≤ meter.old.source.size }
-    requires window { 168 ≤ length window.old }
-    requires small { length buffer.old < 2 ^ 32 }
-    ensures item { (file : List ℕ) → meter.old.source.store.content ≡ Some file → (stream : ℕ)
-        → Answers (item_at file (length buffer.new) entry index stream at Kind.System) (step_item meter.old.source.size buffer.new) result }
-    ensures held { IfOk result (IsStepHeld meter.old.source.size (length buffer.new) (Some Kind.System)) }
-    ensures tells { IfOk result (TellsRecord Kind.System) }
-    ensures reads { ReadsRecord (length buffer.new) Kind.System result meter.old meter.new }
-{
-    let fields: SystemRecord = read(meter, window, at)?;
-    match read_name(meter, window, buffer, fields.csd_version_rva) {
-        Ok(name) => Ok(Step::System {
-            entry,
-            index,
-            fields,
-            name,
-        }),
-        Err(fault) => Err(fault),
-    }
-}
-
-/// The item of the record at `at`, or the fault of its name. The bytes of a range of a 64-bit memory
+/// The record at `at` and its name, or the fault of its name. The bytes of a range of a 64-bit memory
 /// list stand at `offset`.
-#[tactic(auto, using(crate::proofs::Naming::source_reached))]
+#[tactic(auto, using(crate::proofs::RecordItems::item_read, crate::proofs::RecordItems::name_faulted, crate::proofs::Fetches::IsCausedAt_later, crate::proofs::Naming::source_reached))]
 pub(crate) fn read_item<S: Store>(
     meter: &mut Meter<S>,
     window: &mut [u8],
@@ -123,6 +56,7 @@ pub(crate) fn read_item<S: Store>(
     at: u64,
     offset: u128,
 ) -> Result<Step, Fault>
+    requires sized { IsSizeOf meter.old.source.store.content meter.old.source.size }
     requires inside { at + record_size kind ≤ meter.old.source.size }
     requires window { 168 ≤ length window.old }
     requires small { length buffer.old < 2 ^ 32 }
@@ -134,34 +68,24 @@ pub(crate) fn read_item<S: Store>(
     ensures length { length buffer.new ≡ length buffer.old }
     ensures reads { ReadsRecord (length buffer.new) kind result meter.old meter.new }
 {
-    let size = meter.size();
-    match kind {
-        Kind::Threads => {
-            let fields = read(meter, window, at)?;
-            Ok(Step::Thread(ThreadItem::new(entry, index, fields, size)))
-        }
-        Kind::Modules => read_module(meter, window, buffer, entry, index, at),
-        Kind::Memory => {
-            let fields = read(meter, window, at)?;
-            Ok(Step::Range(RangeItem::new(entry, index, fields, size)))
-        }
-        Kind::Exception => {
-            let fields = read(meter, window, at)?;
-            Ok(Step::Exception(ExceptionItem::new(entry, index, fields, size)))
-        }
-        Kind::System => read_system(meter, window, buffer, entry, index, at),
-        Kind::Memory64 => {
-            let fields = read(meter, window, at)?;
-            Ok(Step::Range(RangeItem::at(entry, index, fields, offset, size)))
-        }
-        Kind::Unloaded => read_unloaded(meter, window, buffer, entry, index, at),
-        Kind::MemoryInfo => {
-            let fields = read(meter, window, at)?;
-            Ok(Step::MemoryInfo(MemoryInfoItem {
-                entry,
-                index,
-                fields,
-            }))
-        }
+    let fields = read_record(meter, window, kind, at)?;
+    let Some(rva) = fields.name_rva() else {
+        return Ok(Step::Record(RecordRead {
+            entry,
+            index,
+            fields,
+            offset,
+            name: NameRead::NoName,
+        }));
+    };
+    match read_name(meter, window, buffer, rva) {
+        Ok(name) => Ok(Step::Record(RecordRead {
+            entry,
+            index,
+            fields,
+            offset,
+            name,
+        })),
+        Err(fault) => Err(fault),
     }
 }

@@ -2,6 +2,7 @@
 ghost use Rattle.std.specs.Prelude.{◌≡◌, length};
 ghost use Rattle.mdmp_lister.specs.Items.{plain};
 ghost use Rattle.mdmp_lister.specs.Names.{plain_name};
+ghost use Rattle.mdmp_lister.specs.Ranges.{IsPlacedIn};
 ghost use Rattle.mdmp_lister.specs.Reading.{IsHeld, name_read};
 ghost use Rattle.mdmp_lister.specs.Steps.{IsNameHeld, step_item};
 
@@ -11,34 +12,28 @@ use crate::item::{
     UnloadedItem,
 };
 use crate::name::Name;
-use mdmp_wire::{ModuleRecord, SystemRecord, UnitsRef, UnloadedRecord};
+use mdmp_wire::{AnyRecord, UnitsRef};
 
-/// An item that was read. The units of its name stand at the front of a buffer.
+/// A record that was read, of any kind. The units of its name stand at the front of a buffer.
+#[derive(Clone, Copy)]
+pub(crate) struct RecordRead {
+    /// The number of the entry in the directory.
+    pub(crate) entry: u32,
+    /// The index of the record in its stream.
+    pub(crate) index: u64,
+    /// The record as it stands in the file.
+    pub(crate) fields: AnyRecord,
+    /// Where the bytes of a range of a 64-bit memory list stand.
+    pub(crate) offset: u128,
+    /// Its name; none of a kind without names.
+    pub(crate) name: NameRead,
+}
+
+/// An item that was read.
 #[derive(Clone, Copy)]
 pub(crate) enum Step {
     Stream(StreamItem),
-    Thread(ThreadItem),
-    Module {
-        entry: u32,
-        index: u64,
-        fields: ModuleRecord,
-        name: NameRead,
-    },
-    Unloaded {
-        entry: u32,
-        index: u64,
-        fields: UnloadedRecord,
-        name: NameRead,
-    },
-    Exception(ExceptionItem),
-    System {
-        entry: u32,
-        index: u64,
-        fields: SystemRecord,
-        name: NameRead,
-    },
-    MemoryInfo(MemoryInfoItem),
-    Range(RangeItem),
+    Record(RecordRead),
 }
 
 /// A name whose units stand at the front of a buffer.
@@ -56,17 +51,31 @@ fn lent_name(buffer: &[u8], name: NameRead) -> Name<'_>
 /// The item, its name lent from the buffer, in a file of `size` bytes.
 pub(crate) fn lent_item(step: Step, buffer: &[u8], size: u64) -> Item<'_>
     requires { IsNameHeld (length buffer.now) step }
-    ensures { plain result ≡ step_item size buffer.now step }
+    ensures item { plain result ≡ step_item size buffer.now step }
+    ensures placed { IsPlacedIn size result }
 {
     match step {
         Step::Stream(stream) => Item::Stream(stream),
-        Step::Thread(thread) => Item::Thread(thread),
-        Step::Module {
-            entry,
-            index,
-            fields,
-            name,
-        } => Item::Module(ModuleItem {
+        Step::Record(read) => record_item(read, buffer, size),
+    }
+}
+
+/// The item of a record, its name lent from the buffer, in a file of `size` bytes.
+fn record_item(read: RecordRead, buffer: &[u8], size: u64) -> Item<'_>
+    requires { IsHeld (length buffer.now) read.name }
+    ensures item { plain result ≡ step_item size buffer.now (Step.Record read) }
+    ensures placed { IsPlacedIn size result }
+{
+    let RecordRead {
+        entry,
+        index,
+        fields,
+        offset,
+        name,
+    } = read;
+    match fields {
+        AnyRecord::Thread(fields) => Item::Thread(ThreadItem::new(entry, index, fields, size)),
+        AnyRecord::Module(fields) => Item::Module(ModuleItem {
             entry,
             index,
             fields,
@@ -74,30 +83,29 @@ pub(crate) fn lent_item(step: Step, buffer: &[u8], size: u64) -> Item<'_>
             misc: fields.misc_record.classify(size),
             name: lent_name(buffer, name),
         }),
-        Step::Unloaded {
-            entry,
-            index,
-            fields,
-            name,
-        } => Item::Unloaded(UnloadedItem {
-            entry,
-            index,
-            fields,
-            name: lent_name(buffer, name),
-        }),
-        Step::Exception(exception) => Item::Exception(exception),
-        Step::System {
-            entry,
-            index,
-            fields,
-            name,
-        } => Item::System(SystemItem {
+        AnyRecord::Memory(fields) => Item::Range(RangeItem::new(entry, index, fields, size)),
+        AnyRecord::Exception(fields) => Item::Exception(ExceptionItem::new(
+            entry, index, fields, size,
+        )),
+        AnyRecord::System(fields) => Item::System(SystemItem {
             entry,
             index,
             fields,
             name: lent_name(buffer, name),
         }),
-        Step::MemoryInfo(region) => Item::MemoryInfo(region),
-        Step::Range(range) => Item::Range(range),
+        AnyRecord::Memory64(fields) => Item::Range(RangeItem::at(
+            entry, index, fields, offset, size,
+        )),
+        AnyRecord::Unloaded(fields) => Item::Unloaded(UnloadedItem {
+            entry,
+            index,
+            fields,
+            name: lent_name(buffer, name),
+        }),
+        AnyRecord::MemoryInfo(fields) => Item::MemoryInfo(MemoryInfoItem {
+            entry,
+            index,
+            fields,
+        }),
     }
 }

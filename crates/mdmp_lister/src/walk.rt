@@ -8,7 +8,7 @@ ghost use Rattle.mdmp_lister.specs.Opening.{IsHandedBack, IsDirectoryRefusal, Is
 ghost use Rattle.mdmp_lister.specs.Reaching.{Reaches, ReachesAtFault, given_once, told_once};
 ghost use Rattle.mdmp_lister.specs.Reading.{IsOfSource, IsToldIn};
 ghost use Rattle.mdmp_lister.specs.Stages.{IsStageAfter, ends, fault_stage, stop_after, stop_given, stop_of};
-ghost use Rattle.mdmp_lister.specs.Steps.{CurrentAfter, IsNameHeld, IsStepHeld, current_by, passed_by, step_item};
+ghost use Rattle.mdmp_lister.specs.Steps.{CurrentAfter, IsNameHeld, IsStepHeld, bytes_behind, current_by, passed_by, step_item};
 ghost use Rattle.mdmp_lister.specs.Counts.{range_count};
 ghost use Rattle.mdmp_lister.specs.Owing.{HasRoom, count_answered, ranges_by, count_given, count_told};
 ghost use Rattle.mdmp_lister.specs.Costs.{given_spent, head_left, head_told, step_spent};
@@ -17,6 +17,7 @@ ghost use Rattle.mdmp_lister.specs.Meter.{Books, IsBooked, Moves, counts_of};
 ghost use Rattle.mdmp_lister.specs.Paying.{IsPaid};
 ghost use Rattle.mdmp_lister.specs.Listing.{list_fault, with_item};
 ghost use Rattle.mdmp_lister.specs.Items.{plain};
+ghost use Rattle.mdmp_lister.specs.Ranges.{IsPlacedIn};
 ghost use Rattle.mdmp_lister.specs.Shapes.{kind_of};
 
 use crate::choice::Choice;
@@ -34,7 +35,7 @@ use crate::shaping::{location_fault, record_at};
 use crate::stage::Stage;
 use crate::step::{Step, lent_item};
 use mdmp_source::{Location, Source, SourceFault, Store};
-use mdmp_wire::{Entry, Header};
+use mdmp_wire::{AnyRecord, Entry, Header};
 use std::alloc::Allocator;
 
 /// The state of a listing.
@@ -171,7 +172,8 @@ impl<S: Store + Drop, A: Allocator + Copy> Walk<S, A> {
     /// The item that a step tells, its name lent.
     pub(crate) fn item(&self, step: Step) -> Item<'_>
         requires { IsNameHeld (vec_len self.now.name) step }
-        ensures { plain result ≡ step_item self.now.meter.source.size self.now.name.items step }
+        ensures item { plain result ≡ step_item self.now.meter.source.size self.now.name.items step }
+        ensures placed { IsPlacedIn self.now.meter.source.size result }
     {
         lent_item(step, &self.name, self.meter.size())
     }
@@ -456,11 +458,14 @@ fn told(entry: u32, index: Option<u64>, fault: Fault) -> ListFault
 /// Where the bytes of the range behind a step stand, of one whose bytes stand at `offset`.
 fn offset_behind(step: Step, offset: u128) -> u128
     requires { offset + 2 ^ 64 ≤ 2 ^ 128 - 1 }
-    ensures range { (range : _) → step ≡ Step.Range range → result ≡ offset + range.size }
+    ensures range { result ≡ offset + bytes_behind step }
     ensures bound { result < offset + 2 ^ 64 }
 {
     match step {
-        Step::Range(range) => offset + u128::from(range.size),
-        _ => offset,
+        Step::Record(read) => match read.fields {
+            AnyRecord::Memory64(range) => offset + u128::from(range.data_size),
+            _ => offset,
+        },
+        Step::Stream(_) => offset,
     }
 }

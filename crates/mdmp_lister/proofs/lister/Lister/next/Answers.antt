@@ -1,8 +1,9 @@
-use Rattle.std.proofs.Common.{arith, ◌≡◌, ◌++◌, ℕ, List, Err, Some, None, slice_get, refl, rules, sym, ap, ◌∙◌}
+use Rattle.std.proofs.Common.{arith, ◌≡◌, ◌∷◌, [], ℕ, List, Err, Some, None, slice_get, refl, rules, sym, ap, ◌∙◌}
 use Rattle.std.proofs.lemmas.List.{append-nil}
 use Rattle.mdmp_lister.specs.Items.{plain}
 use Rattle.mdmp_lister.specs.Lister.{tail}
 use Rattle.mdmp_lister.specs.Listing.{Run, nothing, only_fault, with_item}
+use Rattle.mdmp_lister.specs.Ranges.{ranges_of}
 use Rattle.mdmp_lister.specs.Reading.{IsOfSource}
 use Rattle.mdmp_lister.specs.Stages.{stop_after}
 use Rattle.mdmp_lister.specs.Walk.{left_of}
@@ -10,7 +11,7 @@ use Rattle.mdmp_lister.proofs.Advancing.{becomes, option_map-then, of_run, passe
 use Rattle.mdmp_lister.proofs.Classes.{classed-given}
 use Rattle.mdmp_lister.proofs.Costs.{head_given-step, head_left-stopped, item_cost-step}
 use Rattle.mdmp_lister.proofs.Ending.{left_of-fault}
-use Rattle.mdmp_lister.proofs.Mapping.{kept, mapped_step, same_file, placed-classed, ranges-given}
+use Rattle.mdmp_lister.proofs.Mapping.{kept, mapped, placed-fits, ranges-given, ranges_of-within, same_file}
 use Rattle.mdmp_lister.proofs.Naming.{faulty_most, names_given}
 use Rattle.mdmp_lister.proofs.Paying.{bounded_then}
 use Rattle.mdmp_lister.proofs.lister.Lister.next.Goals as goal
@@ -59,34 +60,34 @@ returns-in-Some g c =
     let n = c.advance.new.self in
     let size = c.advance.ensures.fetches.same_size in
     let held = rw c.in-Some.is at c.in_ok-advance.ensures.held in
-    let given : (file : List ℕ) → w.meter.source.store.content ≡ Some file → left_of w file ≡ with_item (plain c.item.result) (left_of n file) =
-    λ file known. rw (c.item.ensures, size) (rw c.in-Some.is at (c.in_ok-advance.ensures.listing file known)) in
+    let given : (file : List ℕ) → w.meter.source.store.content ≡ Some file → left_of w file ≡ with_item (plain c.item-item.result) (left_of n file) =
+    λ file known. rw (c.item-item.ensures.item, size) (rw c.in-Some.is at (c.in_ok-advance.ensures.listing file known)) in
     rw (← c.self.view_is) (
       (
         refl,
         λ _. tt,
         record {
           same = record { aside = c.advance.ensures.counts.same_aside; start = c.advance.ensures.counts.same_start; header_is = c.advance.ensures.same.header_is; choice = c.advance.ensures.same.choice; limit = c.advance.ensures.same.name; entries = same_entries w n c.advance.ensures.same; rooms = rw c.push_range.ensures (same_rooms w n c.self.inside.map.room c.advance.ensures.same) };
-          fetches = rw (item_cost-step n.meter.source.size n.name.items c.in-Some.step c.item.result (rw n.name.ok.0 at held.0) c.item.ensures) (rw c.in-Some.is at c.in_ok-advance.ensures.fetches);
+          fetches = rw (item_cost-step n.meter.source.size n.name.items _ c.in-Some.step c.item-item.result (rw n.name.ok.0 at held.0) held.1 c.item-item.ensures.item) (rw c.in-Some.is at c.in_ok-advance.ensures.fetches);
           counts = c.advance.ensures.counts;
           names_at_fault = λ _. tt;
-          names = names_given n.meter.source.size n.name.items c.in-Some.step c.item.result w.meter.names n.meter.names c.item.ensures (omega (arith, c.self.invariant.bounded.names)) (rw c.in-Some.is at c.in_ok-advance.ensures.named);
-          head = (rw c.in-Some.is at c.in_ok-advance.ensures.begins) ∙ sym (head_given-step w.meter.source.size n.meter.source.size n.name.items c.in-Some.step c.item.result c.item.ensures);
+          names = names_given n.meter.source.size n.name.items _ c.in-Some.step c.item-item.result w.meter.names n.meter.names held.1 c.item-item.ensures.item (omega (arith, c.self.invariant.bounded.names)) (rw c.in-Some.is at c.in_ok-advance.ensures.named);
+          head = (rw c.in-Some.is at c.in_ok-advance.ensures.begins) ∙ sym (head_given-step w.meter.source.size n.meter.source.size n.name.items c.in-Some.step c.item-item.result c.item-item.ensures.item);
           left = option_map-then (left_of w) (left_of n) tail w.meter.source.store.content (λ file known. sym (ap tail (given file known))) n.meter.source.store.content c.advance.ensures.fetches.same_content;
           stop = rw c.in-Some.is at c.in_ok-advance.ensures.stage;
-          ranges = rw c.push_range.ensures (ap (λ rs. c.self.inside.map.ranges ++ rs) (ranges-given n.meter.source.size n.name.items c.in-Some.step c.item.result c.item.ensures));
-          passed = passes n.meter.source.size n.name.items _ c.item.result w.next n.next c.item.ensures (rw c.in-Some.is at c.in_ok-advance.ensures.passed);
+          ranges = rw c.push_range.ensures refl;
+          passed = passes n.meter.source.size n.name.items _ c.item-item.result w.next n.next c.item-item.ensures.item (rw c.in-Some.is at c.in_ok-advance.ensures.passed);
           falls = rw c.in-Some.is at c.in_ok-advance.ensures.falls;
           repeats = λ stop same. let a : stop_after c.advance.result ≡ Some stop = (c.advance.ensures.repeats stop same).1 in let b = c.in_ok-advance.was in let d = c.in-Some.is in let none : None ≡ Some stop = rw (b, d) at a in absurd (cc);
           told = λ _. tt;
           entry = λ _. tt;
-          classed = classed-given w.meter.source.size n.name.items n.current c.in-Some.step c.item.result (rw size at c.item.ensures) held.1;
-          current = becomes n.meter.source.size n.name.items _ c.item.result w.current n.current c.item.ensures (rw c.in-Some.is at c.in_ok-advance.ensures.current);
+          classed = classed-given w.meter.source.size n.name.items n.current c.in-Some.step c.item-item.result (rw size at c.item-item.ensures.item) held.1;
+          current = becomes n.meter.source.size n.name.items _ c.item-item.result w.current n.current c.item-item.ensures.item (rw c.in-Some.is at c.in_ok-advance.ensures.current);
           rests = c.advance.ensures.rests;
         },
       ),
       record {
-        gives = of_run (left_of w) (λ left. slice_get left.items 0 ≡ Some (plain c.item.result)) w.meter.source.store.content (λ file known. ap (λ (r : Run). slice_get r.items 0) (given file known));
+        gives = of_run (left_of w) (λ left. slice_get left.items 0 ≡ Some (plain c.item-item.result)) w.meter.source.store.content (λ file known. ap (λ (r : Run). slice_get r.items 0) (given file known));
         leaves = tt;
         good = λ _ _. tt;
         repeats = λ stop same. let a : stop_after c.advance.result ≡ Some stop = (c.advance.ensures.repeats stop same).1 in let b = c.in_ok-advance.was in let d = c.in-Some.is in rw (b, d) at a;
@@ -133,14 +134,24 @@ returns-in_err-advance g c =
     ))
 
 pub push_range-requires-clause-placed : goal.push_range-requires-clause-placed
-push_range-requires-clause-placed g c = placed-classed _ _ c.in-Some.step (rw c.in-Some.is at c.in_ok-advance.ensures.held).1
+push_range-requires-clause-placed g c = placed-fits _ c.item-item.result c.item-item.ensures.placed
+
+pub push_range-requires-clause-room : goal.push_range-requires-clause-room
+push_range-requires-clause-room g c =
+    let n = c.advance.new.self in
+    let room = rw (c.free.ensures.value, c.in-Some.is) at c.in_ok-advance.ensures.room in
+    omega (arith, room.ahead, ranges-given n.meter.source.size n.name.items c.in-Some.step c.item-item.result c.item-item.ensures.item)
 
 pub invariant_of-self-in-Some : goal.invariant_of-self-in-Some
 invariant_of-self-in-Some g c =
-    let given = rw c.in-Some.is at c.in_ok-advance.ensures.held in
+    let w = c.self.inside.walk in
+    let n = c.advance.new.self in
+    let x = c.item-item.result in
     let room = rw (c.free.ensures.value, c.in-Some.is) at c.in_ok-advance.ensures.room in
-    rw c.push_range.ensures (mapped_step c.self.inside.walk c.advance.new.self c.self.inside.map _ c.in-Some.step c.self.invariant c.advance.ensures.sound (same_file _ _ _ c.advance.ensures.fetches c.advance.ensures.same) room
-    (bounded_then c.self.inside.walk c.advance.new.self c.self.invariant.bounded c.advance.ensures.paid c.advance.ensures.same c.advance.ensures.fetches.same_size) given.1)
+    rw c.push_range.ensures (mapped w n c.self.inside.map (ranges_of (x ∷ [])) _ c.self.invariant c.advance.ensures.sound (same_file _ _ _ c.advance.ensures.fetches c.advance.ensures.same) room
+    (bounded_then w n c.self.invariant.bounded c.advance.ensures.paid c.advance.ensures.same c.advance.ensures.fetches.same_size)
+    (ranges_of-within _ x (rw c.advance.ensures.fetches.same_size at c.item-item.ensures.placed))
+    (ranges-given n.meter.source.size n.name.items c.in-Some.step x c.item-item.ensures.item))
 
 pub invariant_of-self : goal.invariant_of-self
 invariant_of-self g c =

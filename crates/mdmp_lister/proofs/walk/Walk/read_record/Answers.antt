@@ -21,7 +21,7 @@ returns-in-Ok-clause-sound g c =
     let here = (rw c.requires.stage at (c.requires.sound.offset file known)) in
     let places = reading.ranges kind in
     let place = c.record_at-at.ensures.place in
-    range-next file _ _ c.args.index w.current.location.rva c.record_at-at.result _ c.args.offset c.offset_behind.result _ c.args.kind c.in-Ok.step kind
+    range-next file _ _ c.args.index w.current.location.rva c.record_at-at.result _ c.args.offset c.offset_behind.result _ c.args.kind c.in-Ok.step kind c.in-Ok.ensures.held.1
     (c.in-Ok.ensures.item file known w.current.location.rva here) (here kind) (rw (places.0, places.1) at place) c.offset_behind.ensures.range)
     (λ end. cc)
     (λ file good. refl)

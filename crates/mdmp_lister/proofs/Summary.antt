@@ -1,0 +1,75 @@
+-- The summary of an item that is made of a record, and of one whose name is lent.
+use Rattle.std.proofs.Common.{◌≡◌, ◌∙◌, ℕ, List, Option, Some, None, refl, ap, sym}
+use Rattle.mdmp_wire.specs.AnyRecord.{name_rva}
+use Rattle.mdmp_wire.specs.declared.any_record.AnyRecord.{AnyRecord}
+use Rattle.mdmp_wire.specs.declared.any_record.AnyRecord.TheVariants as any
+use Rattle.mdmp_lister.specs.declared.fetching.NameRead.{NameRead}
+use Rattle.mdmp_lister.specs.declared.item.Item.{Item}
+use Rattle.mdmp_lister.specs.declared.item.Item.TheVariants as items
+use Rattle.mdmp_lister.specs.declared.item.RangeItem.{RangeItem}
+use Rattle.mdmp_lister.specs.declared.name.Name.{Name}
+use Rattle.mdmp_lister.specs.declared.name.Name.TheVariants.{NoName, Units}
+use Rattle.mdmp_lister.specs.declared.step.RecordRead.{RecordRead}
+use Rattle.mdmp_lister.specs.declared.step.Step.{Step}
+use Rattle.mdmp_lister.specs.declared.step.Step.TheVariants as step
+use Rattle.mdmp_lister.specs.Items.{item_of, kind_told, plain, range64_item, range_item}
+use Rattle.mdmp_lister.specs.Names.{plain_name}
+use Rattle.mdmp_lister.specs.Reading.{name_read}
+use Rattle.mdmp_lister.specs.Steps.{IsNameOf, step_item, stream_told}
+use Rattle.mdmp_lister.specs.Summary.{Summary, summary_by, summary_of}
+
+-- ---- the two summaries
+
+-- the name of a record, of a kind that has one
+abbrev pub name_kept : Option ℕ → Name → Name
+name_kept (Some rva) name = name
+name_kept None name = NoName
+
+-- the range that a record tells
+abbrev pub range_told : ℕ → ℕ → ℕ → ℕ → AnyRecord → Option RangeItem
+range_told z e k offset (any.Memory fields) = Some (range_item z e k fields)
+range_told z e k offset (any.Memory64 fields) = Some (range64_item z e k fields offset)
+range_told z e k offset fields = None
+
+pub summary_of-item_of : (z e k offset : ℕ) (fields : AnyRecord) (name : Name)
+    → summary_of (item_of z e k offset fields name) ≡ summary_by e (kind_told fields) (name_kept (name_rva fields) name) (range_told z e k offset fields)
+summary_of-item_of z e k offset (any.Memory fields) name = refl
+summary_of-item_of z e k offset _ name = refl
+
+pub summary_of-plain : (x : Item) → summary_of (plain x) ≡ record (summary_of x) { name = plain_name (summary_of x).name }
+summary_of-plain (items.Stream x) = refl
+summary_of-plain _ = refl
+
+-- ---- an item whose name is lent
+
+plain_name-plain : (name : Name) → plain_name (plain_name name) ≡ plain_name name
+plain_name-plain (Units units) = refl
+plain_name-plain _ = refl
+
+pub plain-plain : (x : Item) → plain (plain x) ≡ plain x
+plain-plain (items.Module m) = rw (plain_name-plain m.name) refl
+plain-plain (items.Unloaded u) = rw (plain_name-plain u.name) refl
+plain-plain (items.System s) = rw (plain_name-plain s.name) refl
+plain-plain _ = refl
+
+-- ---- the item of a step
+
+-- the name of a record that was read is kept
+name_kept-read : (rva : Option ℕ) (buffer : List ℕ) (name : NameRead) → IsNameOf rva name → name_kept rva (name_read buffer name) ≡ name_read buffer name
+name_kept-read (Some rva) buffer name of = refl
+name_kept-read None buffer name of = rw of refl
+
+pub summary_of-read : (z : ℕ) (buffer : List ℕ) (r : RecordRead) → IsNameOf (name_rva r.fields) r.name
+    → summary_of (step_item z buffer (step.Record r)) ≡ summary_by r.entry (kind_told r.fields) (name_read buffer r.name) (range_told z r.entry r.index r.offset r.fields)
+summary_of-read z buffer r of =
+    summary_of-item_of z r.entry r.index r.offset r.fields (name_read buffer r.name)
+    ∙ ap (λ (n : Name). summary_by r.entry (kind_told r.fields) n (range_told z r.entry r.index r.offset r.fields)) (name_kept-read (name_rva r.fields) buffer r.name of)
+
+stream_of-step : (z : ℕ) (buffer : List ℕ) (s : Step) → (summary_of (step_item z buffer s)).stream ≡ stream_told s
+stream_of-step z buffer (step.Stream x) = refl
+stream_of-step z buffer (step.Record r) = ap (λ (s : Summary). s.stream) (summary_of-item_of z r.entry r.index r.offset r.fields (name_read buffer r.name))
+
+-- an item begins the entry that its step does
+pub begins_as : (z : ℕ) (buffer : List ℕ) (s : Step) (x : Item) → plain x ≡ step_item z buffer s → (summary_of x).stream ≡ stream_told s
+begins_as z buffer s x same =
+    sym (ap (λ (s : Summary). s.stream) (summary_of-plain x)) ∙ ap (λ (y : Item). (summary_of y).stream) same ∙ stream_of-step z buffer s

@@ -1,0 +1,50 @@
+-- What is asked of an item whatever its kind.
+use Rattle.std.specs.Prelude.{ℕ, ◌+◌, Option, Some, None}
+use Rattle.mdmp_wire.specs.declared.entry.Entry.{Entry}
+use Rattle.mdmp_lister.specs.declared.item.Item.{Item}
+use Rattle.mdmp_lister.specs.declared.item.Item.TheVariants as items
+use Rattle.mdmp_lister.specs.declared.item.RangeItem.{RangeItem}
+use Rattle.mdmp_lister.specs.declared.item.StreamItem.{StreamItem}
+use Rattle.mdmp_lister.specs.declared.kind.Kind.{Kind}
+use Rattle.mdmp_lister.specs.declared.kind.Kind.TheVariants as kinds
+use Rattle.mdmp_lister.specs.declared.name.Name.{Name}
+use Rattle.mdmp_lister.specs.declared.name.Name.TheVariants.{NoName}
+use Rattle.mdmp_lister.specs.Shapes.{record_size}
+
+pub record Summary : Type 0 where
+  -- the number of its entry
+  pub entry : ℕ
+  -- the entry itself, of a Stream item
+  pub stream : Option StreamItem
+  -- how many bytes its record has
+  pub bytes : ℕ
+  -- its name
+  pub name : Name
+  -- the range of memory that it is
+  pub range : Option RangeItem
+
+-- that of a record of this kind
+abbrev pub summary_by : ℕ → Kind → Name → Option RangeItem → Summary
+summary_by e kind name range = record { entry = e; stream = None; bytes = record_size kind; name = name; range = range }
+
+abbrev pub summary_of : Item → Summary
+summary_of (items.Stream x) = record { entry = x.entry; stream = Some x; bytes = 0; name = NoName; range = None }
+summary_of (items.Thread x) = summary_by x.entry kinds.Threads NoName None
+summary_of (items.Module x) = summary_by x.entry kinds.Modules x.name None
+summary_of (items.Unloaded x) = summary_by x.entry kinds.Unloaded x.name None
+summary_of (items.Exception x) = summary_by x.entry kinds.Exception NoName None
+summary_of (items.System x) = summary_by x.entry kinds.System x.name None
+summary_of (items.MemoryInfo x) = summary_by x.entry kinds.MemoryInfo NoName None
+summary_of (items.Range x) = summary_by x.entry kinds.Memory NoName (Some x)
+
+-- ---- what follows where a Stream item, which begins an entry, was given or not
+
+-- the number of the first entry behind the current one
+abbrev pub number_behind : Option StreamItem → ℕ → ℕ
+number_behind (Some x) next = x.entry + 1
+number_behind None next = next
+
+-- the current entry
+abbrev pub entry_begun : Option StreamItem → Entry → Entry
+entry_begun (Some x) e = record { stream_type = x.stream_type; location = x.location }
+entry_begun None e = e
