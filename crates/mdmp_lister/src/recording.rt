@@ -6,7 +6,7 @@ ghost use Rattle.mdmp_lister.specs.Fetching.{ReadsRecord, TellsRecord};
 ghost use Rattle.mdmp_lister.specs.Items.{item_at, kind_told, range_offset, record_at};
 ghost use Rattle.mdmp_lister.specs.Meter.{Books};
 ghost use Rattle.mdmp_lister.specs.Reading.{Answers, IsCaused};
-ghost use Rattle.mdmp_lister.specs.Shapes.{record_size};
+ghost use Rattle.mdmp_lister.specs.Shapes.{greatest_record, record_size};
 ghost use Rattle.mdmp_lister.specs.Steps.{IsStepHeld, step_item};
 
 use crate::fault::Fault;
@@ -25,7 +25,7 @@ fn read_record<S: Store>(
     at: u64,
 ) -> Result<AnyRecord, SourceFault>
     requires inside { at + record_size kind ≤ meter.old.source.size }
-    requires window { 168 ≤ length window.old }
+    requires window { greatest_record ≤ length window.old }
     ensures value { (file : List ℕ) → meter.old.source.store.content ≡ Some file → IfOk result (λ value. record_at kind file at ≡ value) }
     ensures kind { IfOk result (λ value. kind_told value ≡ kind) }
     ensures books { Books 1 (record_size kind) meter.old meter.new }
@@ -58,7 +58,7 @@ pub(crate) fn read_item<S: Store>(
 ) -> Result<Step, Fault>
     requires sized { IsSizeOf meter.old.source.store.content meter.old.source.size }
     requires inside { at + record_size kind ≤ meter.old.source.size }
-    requires window { 168 ≤ length window.old }
+    requires window { greatest_record ≤ length window.old }
     requires small { length buffer.old < 2 ^ 32 }
     ensures item { (file : List ℕ) → meter.old.source.store.content ≡ Some file → (stream : ℕ)
         → (kind ≡ Kind.Memory64 → offset ≡ range_offset file stream index)
