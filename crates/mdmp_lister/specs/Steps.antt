@@ -27,7 +27,7 @@ abbrev pub IsNameHeld : ℕ → Step → Type 0
 IsNameHeld room (step.Stream x) = Unit {0}
 IsNameHeld room (step.Record r) = IsHeld room r.name
 
--- a record without a place for a name has none
+-- a record with no RVA of a name has no name
 abbrev pub IsNameOf : Option ℕ → NameRead → Type 0
 IsNameOf (Some rva) name = Unit {0}
 IsNameOf None name = name ≡ NoName
@@ -37,13 +37,14 @@ abbrev pub range64_size : AnyRecord → ℕ
 range64_size (any.Memory64 fields) = fields.data_size
 range64_size fields = 0
 
--- its record is one of a stream of this kind
+-- its record is one of a stream of this kind, and its name one of such a record
 abbrev pub IsStepOf : Option Kind → Step → Type 0
 IsStepOf kind (step.Stream x) = Unit {0}
 IsStepOf kind (step.Record r) = (kind ≡ Some (kind_told r.fields)) × IsNameOf (name_rva r.fields) r.name
 
-abbrev pub IsStepHeld : ℕ → ℕ → Option Kind → Step → Type 0
-IsStepHeld z room kind s = IsNameHeld room s × IsStepOf kind s
+-- both: what the item of a step has to have
+abbrev pub IsStepHeld : ℕ → Option Kind → Step → Type 0
+IsStepHeld room kind s = IsNameHeld room s × IsStepOf kind s
 
 -- the entry that it begins
 abbrev pub stream_told : Step → Option StreamItem

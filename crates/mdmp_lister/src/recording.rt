@@ -63,7 +63,7 @@ pub(crate) fn read_item<S: Store>(
     ensures item { (file : List ℕ) → meter.old.source.store.content ≡ Some file → (stream : ℕ)
         → (kind ≡ Kind.Memory64 → offset ≡ range_offset file stream index)
         → Answers (item_at file (length buffer.new) entry index stream at kind) (step_item meter.old.source.size buffer.new) result }
-    ensures held { IfOk result (IsStepHeld meter.old.source.size (length buffer.new) (Some kind)) }
+    ensures held { IfOk result (IsStepHeld (length buffer.new) (Some kind)) }
     ensures tells { IfOk result (TellsRecord kind) }
     ensures length { length buffer.new ≡ length buffer.old }
     ensures reads { ReadsRecord (length buffer.new) kind result meter.old meter.new }

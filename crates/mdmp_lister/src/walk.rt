@@ -146,7 +146,7 @@ impl<S: Store + Drop, A: Allocator + Copy> Walk<S, A> {
         ensures paid { (allowed before : ℕ) → IsPaid allowed before self.old → IsPaid allowed before self.new }
         ensures listing { (file : List ℕ) → self.old.meter.source.store.content ≡ Some file
             → Advances self.old.meter.source.size self.new.name.items (left_of self.old file) result (left_of self.new file) }
-        ensures held { IfOk result (λ given. IfSome given (IsStepHeld self.old.meter.source.size (vec_len self.new.name) (kind_of self.new.current.stream_type))) }
+        ensures held { IfOk result (λ given. IfSome given (IsStepHeld (vec_len self.new.name) (kind_of self.new.current.stream_type))) }
         ensures stage { stop_of self.new.stage ≡ stop_after result }
         ensures failed { IfErr result (λ fault. self.new.stage ≡ fault_stage fault) }
         ensures passed { PassesTo result self.old.next self.new.next }
@@ -219,7 +219,7 @@ impl<S: Store + Drop, A: Allocator + Copy> Walk<S, A> {
         ensures paid { (allowed before : ℕ) → IsPaid allowed before self.old → IsPaid allowed before self.new }
         ensures listing { (file : List ℕ) → self.old.meter.source.store.content ≡ Some file
             → Advances self.old.meter.source.size self.new.name.items (left_of self.old file) result (left_of self.new file) }
-        ensures held { IfOk result (λ given. IfSome given (IsStepHeld self.old.meter.source.size (vec_len self.new.name) (kind_of self.new.current.stream_type))) }
+        ensures held { IfOk result (λ given. IfSome given (IsStepHeld (vec_len self.new.name) (kind_of self.new.current.stream_type))) }
         ensures stage { stop_of self.new.stage ≡ stop_after result }
         ensures failed { IfErr result (λ fault. self.new.stage ≡ fault_stage fault) }
         ensures passed { PassesTo result self.old.next self.new.next }
@@ -321,7 +321,7 @@ impl<S: Store + Drop, A: Allocator + Copy> Walk<S, A> {
             (λ step. current_of self.old file ≡ with_item (step_item self.old.meter.source.size self.new.name.items step) (current_of self.new file))
             (λ fault. FaultStays (current_of self.old file) fault (current_of self.new file)) }
         ensures records { IfOk result (λ _. IsListing self.new.stage) }
-        ensures held { IfOk result (IsStepHeld self.old.meter.source.size (vec_len self.new.name) (kind_of self.new.current.stream_type)) }
+        ensures held { IfOk result (IsStepHeld (vec_len self.new.name) (kind_of self.new.current.stream_type)) }
         ensures passed { IfOk result (λ step. passed_by step self.old.next ≡ self.old.next) }
         ensures stays { IfOk result (λ step. current_by step self.old.current ≡ self.old.current) }
         ensures stage { IsStageAfter result self.new.stage }
@@ -367,7 +367,7 @@ impl<S: Store + Drop, A: Allocator + Copy> Walk<S, A> {
         ensures name { self.new.name ≡ self.old.name }
         ensures listing { (file : List ℕ) → self.old.meter.source.store.content ≡ Some file
             → Advances self.old.meter.source.size self.new.name.items (rest_of self.old file) (Ok result) (left_of self.new file) }
-        ensures held { IfSome result (IsStepHeld self.old.meter.source.size (vec_len self.new.name) (kind_of self.new.current.stream_type)) }
+        ensures held { IfSome result (IsStepHeld (vec_len self.new.name) (kind_of self.new.current.stream_type)) }
         ensures begins { IfSome result (λ step. head_left self.new.meter.source.size self.new.current self.new.stage ≡ head_told self.old.meter.source.size step) }
         ensures passed { IfSome result (λ step. self.new.next ≡ passed_by step self.old.next) }
         ensures stage { stop_of self.new.stage ≡ stop_given result }
