@@ -14,6 +14,7 @@ use Rattle.mdmp_lister.specs.declared.shape.Shape.{Shape}
 use Rattle.mdmp_lister.specs.Directory.{IsFirstChosen}
 use Rattle.mdmp_lister.specs.Items.{item_at}
 use Rattle.mdmp_lister.specs.Listing.{Numbered, Run, all_joined, body_of, entry_listing, entry_of, items_from, joined, list_fault, listing_from, only_fault, stream_item, with_item}
+use Rattle.mdmp_lister.specs.Shapes.{kind_of, location_fault, shape_of}
 use Rattle.mdmp_lister.specs.Stages.{fault_stage, stage_by}
 use Rattle.mdmp_lister.specs.Walk.{left_of_entry}
 use Rattle.mdmp_lister.proofs.Runs.{items_from-Ok, items_from-Err}
@@ -47,6 +48,19 @@ module _ (F : List ℕ) (limit e at : ℕ) (kind : Kind) (shape : Shape) (k : �
   pub records-faulted : (f : Fault) → item_at F limit e k at (at + shape.first + k * shape.stride) kind ≡ Err f
       → items_from F limit e at kind shape (shape.count - k) k ≡ only_fault (list_fault e (Some k) f)
   records-faulted f given = items_from-Err F limit e at kind shape (shape.count - k) (shape.count - (k + 1)) k _ f (omega (arith, left)) refl (sym given)
+
+-- ---- heads
+
+module _ (F : List ℕ) (limit number : ℕ) (e : Entry) (kind : Kind) (inside : location_fault (length F) e ≡ None) (known : kind_of e.stream_type ≡ Some kind) where
+  -- what is left of an entry whose head was not read yet, by the shape of its stream
+  pub body-shaped : (shape : Shape) → shape_of F e.location.rva e.location.size kind ≡ Ok shape
+      → body_of F limit (record { number = number; entry = e }) ≡ items_from F limit number e.location.rva kind shape (shape.count - 0) 0
+  body-shaped shape shaped =
+      let all : shape.count - 0 ≡ shape.count = omega arith in
+      rw (inside, known, shaped, all) refl
+
+  pub body-faulted : (f : Fault) → shape_of F e.location.rva e.location.size kind ≡ Err f → body_of F limit (record { number = number; entry = e }) ≡ only_fault (list_fault number None f)
+  body-faulted f faulted = rw (inside, known, faulted) refl
 
 -- ---- the next entry
 

@@ -10,10 +10,13 @@ use Rattle.mdmp_lister.specs.declared.kind.Kind.{Kind}
 use Rattle.mdmp_lister.specs.Heads.{ahead_by, ahead_of, chosen_ahead, head_inside, head_of, head_spent, heads_ahead}
 use Rattle.mdmp_lister.specs.Listing.{is_chosen}
 use Rattle.mdmp_lister.specs.Meter.{Books, MeterState}
-use Rattle.mdmp_lister.specs.Shapes.{form_of, head_cost, kind_of, lists_ranges}
+use Rattle.mdmp_lister.specs.Shapes.{form_of, head_cost, kind_of, lists_ranges, location_fault}
 use Rattle.mdmp_lister.proofs.Sizes.{most_head}
 
--- a stream that lies inside
+-- a stream of a known type whose location has no fault lies inside
+pub listed-inside : (z : ℕ) (e : Entry) (kind : Kind) → location_fault z e ≡ None → kind_of e.stream_type ≡ Some kind → IsInside e.location.rva e.location.size z
+listed-inside z e kind none known = grind (arith, common_steps, known, none)
+
 head_inside-is : (z : ℕ) (e : Entry) (kind : Kind) → IsInside e.location.rva e.location.size z → head_inside z e kind ≡ head_spent e.location.size kind
 head_inside-is z e kind (inl none) = rw none refl
 head_inside-is z e kind (inr within) = grind (arith, common_steps, within)

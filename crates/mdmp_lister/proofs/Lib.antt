@@ -22,6 +22,7 @@ pub mod Owing
 pub mod Paying
 pub mod RecordItems
 pub mod Refusals
+pub mod Requests
 pub mod Room
 pub mod Rows
 pub mod Runs

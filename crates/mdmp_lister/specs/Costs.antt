@@ -93,10 +93,6 @@ answer_cost limit e (Ok None) = 0
 answer_cost limit e (Ok (Some item)) = item_cost item
 answer_cost limit e (Err f) = fault_cost limit e f
 
-abbrev pub step_spent : ℕ → Entry → Result Step ListFault → ℕ
-step_spent limit e (Ok s) = step_cost s
-step_spent limit e (Err f) = fault_cost limit e f
-
 abbrev pub given_spent : ℕ → Entry → Result (Option Step) ListFault → ℕ
 given_spent limit e (Ok None) = 0
 given_spent limit e (Ok (Some s)) = step_cost s

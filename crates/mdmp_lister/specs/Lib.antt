@@ -23,6 +23,7 @@ pub mod Paying
 pub mod Ranges
 pub mod Reaching
 pub mod Reading
+pub mod Requests
 pub mod Shapes
 pub mod Stages
 pub mod Steps

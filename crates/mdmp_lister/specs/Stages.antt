@@ -43,9 +43,9 @@ ends (Failed f) = true
 ends Ended = true
 ends stage = false
 
--- the stage tells what a call answered
-abbrev pub IsStageAfter : {X : Type 0} → Result X ListFault → Stage → Type 0
-IsStageAfter (Ok x) stage = stop_of stage ≡ None
+-- the stage tells what a request was answered
+abbrev pub IsStageAfter : {X : Type 0} → Result (Option X) ListFault → Stage → Type 0
+IsStageAfter (Ok given) stage = stop_of stage ≡ stop_given given
 IsStageAfter (Err f) stage = stage ≡ fault_stage f
 
 -- what requests are answered with behind a run

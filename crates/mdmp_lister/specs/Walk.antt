@@ -137,14 +137,15 @@ IsListing Between = Unit {0}
 IsListing (Records kind shape index offset) = Unit {0}
 IsListing stage = ⊥
 
+-- no record of the current entry is left to be read
+abbrev pub IsThrough : Stage → Type 0
+IsThrough Between = Unit {0}
+IsThrough (Records kind shape index offset) = shape.count ≤ index
+IsThrough stage = ⊥
+
 -- a fault that was next in a run, and stays in it
 abbrev pub FaultStays : Run → ListFault → Run → Type 0
 FaultStays old f new = (IsOfSource f.kind → ⊥) → (old ≡ only_fault f) × (new ≡ only_fault f)
-
--- a call that gives nothing changed nothing of what is left
-abbrev pub Keeps : {X : Type 0} → Run → Result X ListFault → Run → Type 0
-Keeps old (Ok x) new = new ≡ old
-Keeps old (Err f) new = FaultStays old f new
 
 -- a call answered the first of what was left, or a fault of the store, and leaves the rest
 abbrev pub Advances : ℕ → List ℕ → Run → Result (Option Step) ListFault → Run → Type 0

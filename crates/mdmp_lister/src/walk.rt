@@ -1,21 +1,19 @@
 //! The walk over the entries of a file, without its public face.
-ghost use Rattle.std.specs.Prelude.{◌≡◌, ◌+◌, ◌^◌, ◌≤◌, ◌<◌, ◌-◌, ℕ, List, None, Some, IfOk, IfErr, IfSome, IsTrue, false, OnOk, MatchResult, vec_len};
+ghost use Rattle.std.specs.Prelude.{◌≡◌, ◌+◌, ◌^◌, ◌≤◌, ◌<◌, ◌-◌, ℕ, List, None, Some, IfOk, IfErr, IsTrue, false, OnOk, MatchResult, vec_len};
 ghost use Rattle.mdmp_source.specs.Store.{IsGood};
 ghost use Rattle.mdmp_source.specs.Source.{FetchesAtMost};
 ghost use Rattle.mdmp_source.specs.declared.fault.SourceFault.{SourceFault};
 ghost use Rattle.mdmp_lister.specs.Fetching.{Reads};
 ghost use Rattle.mdmp_lister.specs.Opening.{IsHandedBack, IsDirectoryRefusal, IsOpenRefusal, IsUnread, IsUnreadFor, directory_refusal};
-ghost use Rattle.mdmp_lister.specs.Reaching.{Reaches, ReachesAtFault, given_once, told_once};
-ghost use Rattle.mdmp_lister.specs.Reading.{IsOfSource, IsToldIn};
-ghost use Rattle.mdmp_lister.specs.Stages.{IsStageAfter, ends, fault_stage, stop_after, stop_given, stop_of};
-ghost use Rattle.mdmp_lister.specs.Steps.{CurrentAfter, IsNameHeld, IsStepHeld, bytes_behind, current_by, passed_by, step_item};
+ghost use Rattle.mdmp_lister.specs.Reading.{IsCaused, IsOfSource};
+ghost use Rattle.mdmp_lister.specs.Stages.{ends, fault_stage};
+ghost use Rattle.mdmp_lister.specs.Steps.{IsNameHeld, IsStepHeld, bytes_behind, step_item};
 ghost use Rattle.mdmp_lister.specs.Counts.{range_count};
-ghost use Rattle.mdmp_lister.specs.Owing.{HasRoom, count_answered, ranges_by, count_given, count_told};
-ghost use Rattle.mdmp_lister.specs.Costs.{given_spent, head_left, head_told, step_spent};
-ghost use Rattle.mdmp_lister.specs.Heads.{head_of, heads_ahead};
-ghost use Rattle.mdmp_lister.specs.Meter.{Books, IsBooked, Moves, counts_of};
+ghost use Rattle.mdmp_lister.specs.Owing.{HasRoom, count_answered, ranges_by, count_given};
+ghost use Rattle.mdmp_lister.specs.Heads.{heads_ahead};
+ghost use Rattle.mdmp_lister.specs.Meter.{Books, IsBooked, counts_of};
 ghost use Rattle.mdmp_lister.specs.Paying.{IsPaid};
-ghost use Rattle.mdmp_lister.specs.Listing.{list_fault, with_item};
+ghost use Rattle.mdmp_lister.specs.Listing.{list_fault};
 ghost use Rattle.mdmp_lister.specs.Items.{plain};
 ghost use Rattle.mdmp_lister.specs.Ranges.{IsPlacedIn};
 ghost use Rattle.mdmp_lister.specs.Shapes.{kind_of};
@@ -56,7 +54,8 @@ pub(crate) struct Walk<S: Store + Drop, A: Allocator + Copy> {
 }
 
 impl<S: Store + Drop, A: Allocator + Copy> Walk<S, A> {
-    ghost use Rattle.mdmp_lister.specs.Walk.{Advances, FaultStays, IsListing, IsNewWalk, IsSound, Keeps, PassesTo, SameEntry, SameRoom, current_of, left_of, rest_of, work_of};
+    ghost use Rattle.mdmp_lister.specs.Requests.{Answered, HeadRead};
+    ghost use Rattle.mdmp_lister.specs.Walk.{IsListing, IsNewWalk, IsSound, IsThrough, SameEntry, work_of};
 
     /// Reads the header and the directory of a file, and takes all the memory that a walk needs.
     #[tactic(auto, using(crate::proofs::Fetches::IsCaused_later, crate::proofs::Fetches::unread_caused, crate::proofs::Fetches::not_unread))]
@@ -130,33 +129,11 @@ impl<S: Store + Drop, A: Allocator + Copy> Walk<S, A> {
 
     /// Gives the next step, or the fault that is next. A memory list whose head counts more than
     /// `room` ranges has changed since the file was opened.
-    #[tactic(auto, using(crate::proofs::Fetches::told_in_later))]
     pub(crate) fn advance(&mut self, room: usize) -> Result<Option<Step>, ListFault>
         requires sound { IsSound self.old }
         requires room { HasRoom room 0 self.old }
-        ensures sound { IsSound self.new }
+        ensures answered { Answered self.old result self.new }
         ensures room { HasRoom room (count_answered result) self.new }
-        ensures same { SameRoom self.old self.new }
-        ensures counts { Moves 1 (counts_of self.old.meter) (counts_of self.new.meter) }
-        ensures at_fault { stop_of self.old.stage ≡ None → IfErr result (λ fault. ReachesAtFault fault.kind self.old.meter self.new.meter) }
-        ensures named { IfOk result (λ given. Reaches (given_once given) self.old.meter self.new.meter) }
-        ensures fetches { FetchesAtMost (head_left self.old.meter.source.size self.old.current self.old.stage + given_spent (vec_len self.old.name) self.old.current result)
-            self.old.meter.source self.new.meter.source }
-        ensures begins { IfOk result (λ given. IfSome given (λ step. head_left self.new.meter.source.size self.new.current self.new.stage ≡ head_told self.old.meter.source.size step)) }
-        ensures paid { (allowed before : ℕ) → IsPaid allowed before self.old → IsPaid allowed before self.new }
-        ensures listing { (file : List ℕ) → self.old.meter.source.store.content ≡ Some file
-            → Advances self.old.meter.source.size self.new.name.items (left_of self.old file) result (left_of self.new file) }
-        ensures held { IfOk result (λ given. IfSome given (IsStepHeld (vec_len self.new.name) (kind_of self.new.current.stream_type))) }
-        ensures stage { stop_of self.new.stage ≡ stop_after result }
-        ensures failed { IfErr result (λ fault. self.new.stage ≡ fault_stage fault) }
-        ensures passed { PassesTo result self.old.next self.new.next }
-        ensures falls { IfOk result (λ given. IfSome given (λ _. work_of self.new < work_of self.old)) }
-        ensures repeats { (stop : _) → stop_of self.old.stage ≡ Some stop → (self.new ≡ self.old) × (stop_after result ≡ Some stop) }
-        ensures told { stop_of self.old.stage ≡ None → IfErr result (λ fault. IsToldIn self.old.current fault self.old.meter.source self.new.meter.source) }
-        ensures number { stop_of self.old.stage ≡ None → IfErr result (λ fault. fault.entry + 1 ≡ self.old.next) }
-        ensures current { CurrentAfter result self.old.current self.new.current }
-        ensures rests { work_of self.new ≤ work_of self.old }
-        ensures good { (file : List ℕ) → IsGood self.old.meter.source.store file → IfErr result (λ fault. IsOfSource fault.kind → ⊥) }
     {
         match self.stage {
             Stage::Bad(fault) | Stage::Failed(fault) => Err(fault),
@@ -208,27 +185,8 @@ impl<S: Store + Drop, A: Allocator + Copy> Walk<S, A> {
     fn step(&mut self) -> Result<Option<Step>, ListFault>
         requires sound { IsSound self.old }
         requires stage { IsListing self.old.stage }
-        ensures sound { IsSound self.new }
+        ensures answered { Answered self.old result self.new }
         ensures room { (room : ℕ) → HasRoom room 0 self.old → HasRoom room (count_answered result) self.new }
-        ensures same { SameRoom self.old self.new }
-        ensures counts { Moves 1 (counts_of self.old.meter) (counts_of self.new.meter) }
-        ensures at_fault { IfErr result (λ fault. ReachesAtFault fault.kind self.old.meter self.new.meter) }
-        ensures named { IfOk result (λ given. Reaches (given_once given) self.old.meter self.new.meter) }
-        ensures fetches { FetchesAtMost (given_spent (vec_len self.old.name) self.old.current result) self.old.meter.source self.new.meter.source }
-        ensures begins { IfOk result (λ given. IfSome given (λ step. head_left self.new.meter.source.size self.new.current self.new.stage ≡ head_told self.old.meter.source.size step)) }
-        ensures paid { (allowed before : ℕ) → IsPaid allowed before self.old → IsPaid allowed before self.new }
-        ensures listing { (file : List ℕ) → self.old.meter.source.store.content ≡ Some file
-            → Advances self.old.meter.source.size self.new.name.items (left_of self.old file) result (left_of self.new file) }
-        ensures held { IfOk result (λ given. IfSome given (IsStepHeld (vec_len self.new.name) (kind_of self.new.current.stream_type))) }
-        ensures stage { stop_of self.new.stage ≡ stop_after result }
-        ensures failed { IfErr result (λ fault. self.new.stage ≡ fault_stage fault) }
-        ensures passed { PassesTo result self.old.next self.new.next }
-        ensures falls { IfOk result (λ given. IfSome given (λ _. work_of self.new < work_of self.old)) }
-        ensures told { IfErr result (λ fault. IsToldIn self.old.current fault self.old.meter.source self.new.meter.source) }
-        ensures number { IfErr result (λ fault. fault.entry + 1 ≡ self.old.next) }
-        ensures current { CurrentAfter result self.old.current self.new.current }
-        ensures rests { work_of self.new ≤ work_of self.old }
-        ensures good { (file : List ℕ) → IsGood self.old.meter.source.store file → IfErr result (λ fault. IsOfSource fault.kind → ⊥) }
     {
         match self.stage {
             Stage::Records {
@@ -236,34 +194,20 @@ impl<S: Store + Drop, A: Allocator + Copy> Walk<S, A> {
                 shape,
                 index,
                 offset,
-            } if index < shape.count => Ok(Some(self.read_record(kind, shape, index, offset)?)),
+            } if index < shape.count => self.read_record(kind, shape, index, offset),
             _ => Ok(self.next_stream()),
         }
     }
 
     /// Reads where the records of the current entry stand. A memory list that counts more than `room`
     /// ranges has changed since the file was opened.
-    #[tactic(auto, using(crate::proofs::Fetches::told_in_caused, crate::proofs::Fetches::not_of_source))]
     fn read_head(&mut self, room: usize) -> Result<(), ListFault>
         requires sound { IsSound self.old }
         requires room { HasRoom room 0 self.old }
         requires head { self.old.stage ≡ Stage.Head }
-        ensures sound { IsSound self.new }
+        ensures read { OnOk result (HeadRead self.old self.new) }
+        ensures met { IfErr result (λ fault. Answered self.old (Err fault) self.new) }
         ensures room { HasRoom room 0 self.new }
-        ensures same { SameEntry self.old self.new }
-        ensures name { self.new.name ≡ self.old.name }
-        ensures at_fault { IfErr result (λ fault. ReachesAtFault fault.kind self.old.meter self.new.meter) }
-        ensures counts { Moves 0 (counts_of self.old.meter) (counts_of self.new.meter) }
-        ensures fetches { FetchesAtMost (head_of self.old.meter.source.size self.old.current) self.old.meter.source self.new.meter.source }
-        ensures paid { (allowed before : ℕ) → IsPaid allowed before self.old → IsPaid allowed before self.new }
-        ensures entry { (file : List ℕ) → self.old.meter.source.store.content ≡ Some file → Keeps (current_of self.old file) result (current_of self.new file) }
-        ensures records { IfOk result (λ _. IsListing self.new.stage) }
-        ensures stage { IsStageAfter result self.new.stage }
-        ensures falls { OnOk result (work_of self.new < work_of self.old) }
-        ensures told { IfErr result (λ fault. IsToldIn self.old.current fault self.old.meter.source self.new.meter.source) }
-        ensures number { IfErr result (λ fault. fault.entry + 1 ≡ self.old.next) }
-        ensures rests { work_of self.new ≤ work_of self.old }
-        ensures good { (file : List ℕ) → IsGood self.old.meter.source.store file → IfErr result (λ fault. IsOfSource fault.kind → ⊥) }
     {
         let number = (self.next - 1) as u32;
         if let Some(fault) = location_fault(self.current, self.meter.size()) {
@@ -296,40 +240,18 @@ impl<S: Store + Drop, A: Allocator + Copy> Walk<S, A> {
     }
 
     /// Gives a record that is left.
-    #[tactic(auto, using(crate::proofs::Fetches::told_in_caused))]
     fn read_record(
         &mut self,
         kind: Kind,
         shape: Shape,
         index: u64,
         offset: u128,
-    ) -> Result<Step, ListFault>
+    ) -> Result<Option<Step>, ListFault>
         requires sound { IsSound self.old }
         requires stage { self.old.stage ≡ Stage.Records kind shape index offset }
         requires left { index < shape.count }
-        ensures sound { IsSound self.new }
-        ensures room { (room : ℕ) → HasRoom room 0 self.old
-            → MatchResult result (λ step. HasRoom room (count_told step) self.new) (λ _. HasRoom room 0 self.new) }
-        ensures same { SameEntry self.old self.new }
-        ensures counts { Moves 1 (counts_of self.old.meter) (counts_of self.new.meter) }
-        ensures at_fault { IfErr result (λ fault. ReachesAtFault fault.kind self.old.meter self.new.meter) }
-        ensures named { IfOk result (λ step. Reaches (told_once step) self.old.meter self.new.meter) }
-        ensures fetches { FetchesAtMost (step_spent (vec_len self.old.name) self.old.current result) self.old.meter.source self.new.meter.source }
-        ensures begins { IfOk result (λ step. head_left self.new.meter.source.size self.new.current self.new.stage ≡ head_told self.old.meter.source.size step) }
-        ensures paid { (allowed before : ℕ) → IsPaid allowed before self.old → IsPaid allowed before self.new }
-        ensures entry { (file : List ℕ) → self.old.meter.source.store.content ≡ Some file → MatchResult result
-            (λ step. current_of self.old file ≡ with_item (step_item self.old.meter.source.size self.new.name.items step) (current_of self.new file))
-            (λ fault. FaultStays (current_of self.old file) fault (current_of self.new file)) }
-        ensures records { IfOk result (λ _. IsListing self.new.stage) }
-        ensures held { IfOk result (IsStepHeld (vec_len self.new.name) (kind_of self.new.current.stream_type)) }
-        ensures passed { IfOk result (λ step. passed_by step self.old.next ≡ self.old.next) }
-        ensures stays { IfOk result (λ step. current_by step self.old.current ≡ self.old.current) }
-        ensures stage { IsStageAfter result self.new.stage }
-        ensures falls { OnOk result (work_of self.new < work_of self.old) }
-        ensures told { IfErr result (λ fault. IsToldIn self.old.current fault self.old.meter.source self.new.meter.source) }
-        ensures number { IfErr result (λ fault. fault.entry + 1 ≡ self.old.next) }
-        ensures rests { work_of self.new ≤ work_of self.old }
-        ensures good { (file : List ℕ) → IsGood self.old.meter.source.store file → IfErr result (λ fault. IsOfSource fault.kind → ⊥) }
+        ensures answered { Answered self.old result self.new }
+        ensures room { (room : ℕ) → HasRoom room 0 self.old → HasRoom room (count_answered result) self.new }
     {
         let number = (self.next - 1) as u32;
         let at = record_at(self.current.location, kind, shape, index, self.meter.size());
@@ -350,7 +272,7 @@ impl<S: Store + Drop, A: Allocator + Copy> Walk<S, A> {
                     index: index + 1,
                     offset: offset_behind(step, offset),
                 };
-                Ok(step)
+                Ok(Some(step))
             }
             Err(fault) => self.stop_at(told(number, Some(index), fault)),
         }
@@ -358,22 +280,10 @@ impl<S: Store + Drop, A: Allocator + Copy> Walk<S, A> {
 
     /// Gives the Stream item of the next chosen entry.
     fn next_stream(&mut self) -> Option<Step>
-        requires { IsSound self.old }
-        ensures sound { IsSound self.new }
+        requires sound { IsSound self.old }
+        requires through { IsThrough self.old.stage }
+        ensures answered { Answered self.old (Ok result) self.new }
         ensures room { (room : ℕ) → HasRoom room 0 self.old → HasRoom room (count_given result) self.new }
-        ensures same { SameRoom self.old self.new }
-        ensures meter { self.new.meter ≡ self.old.meter }
-        ensures paid { (allowed before : ℕ) → IsPaid allowed before self.old → IsPaid allowed before self.new }
-        ensures name { self.new.name ≡ self.old.name }
-        ensures listing { (file : List ℕ) → self.old.meter.source.store.content ≡ Some file
-            → Advances self.old.meter.source.size self.new.name.items (rest_of self.old file) (Ok result) (left_of self.new file) }
-        ensures held { IfSome result (IsStepHeld (vec_len self.new.name) (kind_of self.new.current.stream_type)) }
-        ensures begins { IfSome result (λ step. head_left self.new.meter.source.size self.new.current self.new.stage ≡ head_told self.old.meter.source.size step) }
-        ensures passed { IfSome result (λ step. self.new.next ≡ passed_by step self.old.next) }
-        ensures stage { stop_of self.new.stage ≡ stop_given result }
-        ensures current { CurrentAfter (Ok result) self.old.current self.new.current }
-        ensures falls { IfSome result (λ _. work_of self.new < work_of self.old) }
-        ensures rests { work_of self.new ≤ work_of self.old }
     {
         let Some(at) = next_chosen(&self.entries, self.next, &self.choice) else {
             self.next = self.entries.len();

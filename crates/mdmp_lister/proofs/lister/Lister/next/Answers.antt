@@ -5,7 +5,7 @@ use Rattle.mdmp_lister.specs.Lister.{tail}
 use Rattle.mdmp_lister.specs.Listing.{Run, nothing, only_fault, with_item}
 use Rattle.mdmp_lister.specs.Ranges.{ranges_of}
 use Rattle.mdmp_lister.specs.Reading.{IsOfSource}
-use Rattle.mdmp_lister.specs.Stages.{stop_after}
+use Rattle.mdmp_lister.specs.Stages.{stop_after, stop_of}
 use Rattle.mdmp_lister.specs.Walk.{left_of}
 use Rattle.mdmp_lister.proofs.Advancing.{becomes, option_map-then, of_run, passes, same_entries, same_rooms}
 use Rattle.mdmp_lister.proofs.Classes.{classed-given}
@@ -14,43 +14,45 @@ use Rattle.mdmp_lister.proofs.Ending.{left_of-fault}
 use Rattle.mdmp_lister.proofs.Mapping.{kept, mapped, placed-fits, ranges-given, ranges_of-within, same_file}
 use Rattle.mdmp_lister.proofs.Naming.{faulty_most, names_given}
 use Rattle.mdmp_lister.proofs.Paying.{bounded_then}
+use Rattle.mdmp_lister.proofs.Requests.{fault_stage-stop}
 use Rattle.mdmp_lister.proofs.lister.Lister.next.Goals as goal
 
 pub returns-in-None : goal.returns-in-None
 returns-in-None g c =
     let w = c.self.inside.walk in
     let n = c.advance.new.self in
+    let e = c.advance.ensures.answered in
     let none : (file : List ℕ) → w.meter.source.store.content ≡ Some file → (left_of w file ≡ nothing) × (left_of n file ≡ nothing) =
-    λ file known. rw c.in-None.is at (c.in_ok-advance.ensures.listing file known) in
+    λ file known. rw c.in-None.is at (c.in_ok-advance.ensures.answered.listing file known) in
     rw (← c.self.view_is) (
       (
         refl,
         λ _. tt,
         record {
-          same = record { aside = c.advance.ensures.counts.same_aside; start = c.advance.ensures.counts.same_start; header_is = c.advance.ensures.same.header_is; choice = c.advance.ensures.same.choice; limit = c.advance.ensures.same.name; entries = same_entries w n c.advance.ensures.same; rooms = same_rooms w n c.self.inside.map.room c.advance.ensures.same };
-          fetches = rw c.in-None.is at c.in_ok-advance.ensures.fetches;
-          counts = c.advance.ensures.counts;
+          same = record { aside = e.counts.same_aside; start = e.counts.same_start; header_is = e.same.header_is; choice = e.same.choice; limit = e.same.name; entries = same_entries w n e.same; rooms = same_rooms w n c.self.inside.map.room e.same };
+          fetches = rw c.in-None.is at c.in_ok-advance.ensures.answered.fetches;
+          counts = e.counts;
           names_at_fault = λ _. tt;
-          names = let none = rw c.in-None.is at c.in_ok-advance.ensures.named in omega (arith, none);
-          head = head_left-stopped n.meter.source.size n.current n.stage None (rw c.in-None.is at c.in_ok-advance.ensures.stage);
-          left = option_map-then (left_of w) (left_of n) (λ run. run) w.meter.source.store.content (λ file known. (none file known).1 ∙ sym (none file known).0) n.meter.source.store.content c.advance.ensures.fetches.same_content;
-          stop = rw c.in-None.is at c.in_ok-advance.ensures.stage;
+          names = let none = rw c.in-None.is at c.in_ok-advance.ensures.answered.named in omega (arith, none);
+          head = head_left-stopped n.meter.source.size n.current n.stage None (rw c.in-None.is at c.in_ok-advance.ensures.answered.stage);
+          left = option_map-then (left_of w) (left_of n) (λ run. run) w.meter.source.store.content (λ file known. (none file known).1 ∙ sym (none file known).0) n.meter.source.store.content e.fetches.same_content;
+          stop = rw c.in-None.is at c.in_ok-advance.ensures.answered.stage;
           passed = tt;
           ranges = sym (append-nil c.self.inside.map.ranges);
           falls = tt;
-          repeats = λ stop same. rw (c.advance.ensures.repeats stop same).0 refl;
+          repeats = λ stop same. rw (e.repeats stop same).0 refl;
           told = λ _. tt;
           entry = λ _. tt;
           classed = tt;
-          current = rw c.in-None.is at c.in_ok-advance.ensures.current;
-          rests = c.advance.ensures.rests;
+          current = rw c.in-None.is at c.in_ok-advance.ensures.answered.current;
+          rests = e.rests;
         },
       ),
       record {
         gives = of_run (left_of w) (λ left. left ≡ nothing) w.meter.source.store.content (λ file known. (none file known).0);
         leaves = tt;
         good = λ _ _. tt;
-        repeats = λ stop same. let a : stop_after c.advance.result ≡ Some stop = (c.advance.ensures.repeats stop same).1 in let b = c.in_ok-advance.was in let d = c.in-None.is in rw (b, d) at a;
+        repeats = λ stop same. let a : stop_after c.advance.result ≡ Some stop = (e.repeats stop same).1 in let b = c.in_ok-advance.was in let d = c.in-None.is in rw (b, d) at a;
       },
     )
 
@@ -58,39 +60,41 @@ pub returns-in-Some : goal.returns-in-Some
 returns-in-Some g c =
     let w = c.self.inside.walk in
     let n = c.advance.new.self in
-    let size = c.advance.ensures.fetches.same_size in
-    let held = rw c.in-Some.is at c.in_ok-advance.ensures.held in
+    let e = c.advance.ensures.answered in
+    let size = e.fetches.same_size in
+    let step = rw c.in-Some.is at c.in_ok-advance.ensures.answered.given in
+    let held = step.held in
     let given : (file : List ℕ) → w.meter.source.store.content ≡ Some file → left_of w file ≡ with_item (plain c.item-item.result) (left_of n file) =
-    λ file known. rw (c.item-item.ensures.item, size) (rw c.in-Some.is at (c.in_ok-advance.ensures.listing file known)) in
+    λ file known. rw (c.item-item.ensures.item, size) (rw c.in-Some.is at (c.in_ok-advance.ensures.answered.listing file known)) in
     rw (← c.self.view_is) (
       (
         refl,
         λ _. tt,
         record {
-          same = record { aside = c.advance.ensures.counts.same_aside; start = c.advance.ensures.counts.same_start; header_is = c.advance.ensures.same.header_is; choice = c.advance.ensures.same.choice; limit = c.advance.ensures.same.name; entries = same_entries w n c.advance.ensures.same; rooms = rw c.push_range.ensures (same_rooms w n c.self.inside.map.room c.advance.ensures.same) };
-          fetches = rw (item_cost-step n.meter.source.size n.name.items _ c.in-Some.step c.item-item.result (rw n.name.ok.0 at held.0) held.1 c.item-item.ensures.item) (rw c.in-Some.is at c.in_ok-advance.ensures.fetches);
-          counts = c.advance.ensures.counts;
+          same = record { aside = e.counts.same_aside; start = e.counts.same_start; header_is = e.same.header_is; choice = e.same.choice; limit = e.same.name; entries = same_entries w n e.same; rooms = rw c.push_range.ensures (same_rooms w n c.self.inside.map.room e.same) };
+          fetches = rw (item_cost-step n.meter.source.size n.name.items _ c.in-Some.step c.item-item.result (rw n.name.ok.0 at held.0) held.1 c.item-item.ensures.item) (rw c.in-Some.is at c.in_ok-advance.ensures.answered.fetches);
+          counts = e.counts;
           names_at_fault = λ _. tt;
-          names = names_given n.meter.source.size n.name.items _ c.in-Some.step c.item-item.result w.meter.names n.meter.names held.1 c.item-item.ensures.item (omega (arith, c.self.invariant.bounded.names)) (rw c.in-Some.is at c.in_ok-advance.ensures.named);
-          head = (rw c.in-Some.is at c.in_ok-advance.ensures.begins) ∙ sym (head_given-step w.meter.source.size n.meter.source.size n.name.items c.in-Some.step c.item-item.result c.item-item.ensures.item);
-          left = option_map-then (left_of w) (left_of n) tail w.meter.source.store.content (λ file known. sym (ap tail (given file known))) n.meter.source.store.content c.advance.ensures.fetches.same_content;
-          stop = rw c.in-Some.is at c.in_ok-advance.ensures.stage;
+          names = names_given n.meter.source.size n.name.items _ c.in-Some.step c.item-item.result w.meter.names n.meter.names held.1 c.item-item.ensures.item (omega (arith, c.self.invariant.bounded.names)) (rw c.in-Some.is at c.in_ok-advance.ensures.answered.named);
+          head = step.begins ∙ sym (head_given-step w.meter.source.size n.meter.source.size n.name.items c.in-Some.step c.item-item.result c.item-item.ensures.item);
+          left = option_map-then (left_of w) (left_of n) tail w.meter.source.store.content (λ file known. sym (ap tail (given file known))) n.meter.source.store.content e.fetches.same_content;
+          stop = rw c.in-Some.is at c.in_ok-advance.ensures.answered.stage;
           ranges = rw c.push_range.ensures refl;
-          passed = passes n.meter.source.size n.name.items _ c.item-item.result w.next n.next c.item-item.ensures.item (rw c.in-Some.is at c.in_ok-advance.ensures.passed);
-          falls = rw c.in-Some.is at c.in_ok-advance.ensures.falls;
-          repeats = λ stop same. let a : stop_after c.advance.result ≡ Some stop = (c.advance.ensures.repeats stop same).1 in let b = c.in_ok-advance.was in let d = c.in-Some.is in let none : None ≡ Some stop = rw (b, d) at a in absurd (cc);
+          passed = passes n.meter.source.size n.name.items _ c.item-item.result w.next n.next c.item-item.ensures.item (rw c.in-Some.is at c.in_ok-advance.ensures.answered.passed);
+          falls = step.falls;
+          repeats = λ stop same. let a : stop_after c.advance.result ≡ Some stop = (e.repeats stop same).1 in let b = c.in_ok-advance.was in let d = c.in-Some.is in let none : None ≡ Some stop = rw (b, d) at a in absurd (cc);
           told = λ _. tt;
           entry = λ _. tt;
           classed = classed-given w.meter.source.size n.name.items n.current c.in-Some.step c.item-item.result (rw size at c.item-item.ensures.item) held.1;
-          current = becomes n.meter.source.size n.name.items _ c.item-item.result w.current n.current c.item-item.ensures.item (rw c.in-Some.is at c.in_ok-advance.ensures.current);
-          rests = c.advance.ensures.rests;
+          current = becomes n.meter.source.size n.name.items _ c.item-item.result w.current n.current c.item-item.ensures.item (rw c.in-Some.is at c.in_ok-advance.ensures.answered.current);
+          rests = e.rests;
         },
       ),
       record {
         gives = of_run (left_of w) (λ left. slice_get left.items 0 ≡ Some (plain c.item-item.result)) w.meter.source.store.content (λ file known. ap (λ (r : Run). slice_get r.items 0) (given file known));
         leaves = tt;
         good = λ _ _. tt;
-        repeats = λ stop same. let a : stop_after c.advance.result ≡ Some stop = (c.advance.ensures.repeats stop same).1 in let b = c.in_ok-advance.was in let d = c.in-Some.is in rw (b, d) at a;
+        repeats = λ stop same. let a : stop_after c.advance.result ≡ Some stop = (e.repeats stop same).1 in let b = c.in_ok-advance.was in let d = c.in-Some.is in rw (b, d) at a;
       },
     )
 
@@ -98,9 +102,10 @@ pub returns-in_err-advance : goal.returns-in_err-advance
 returns-in_err-advance g c =
     let w = c.self.inside.walk in
     let n = c.advance.new.self in
-    let e = c.in_err-advance.ensures in
+    let e = c.in_err-advance.ensures.answered in
     let f = c.in_err-advance.field-0.0 in
     let is : c.from_residual.result ≡ Err f = search rules in
+    let stopped : stop_of n.stage ≡ Some (Some f) = rw e.stage (fault_stage-stop f) in
     rw (← c.self.view_is) (rw is (
       (
         refl,
@@ -109,17 +114,17 @@ returns-in_err-advance g c =
           same = record { aside = e.counts.same_aside; start = e.counts.same_start; header_is = e.same.header_is; choice = e.same.choice; limit = e.same.name; entries = same_entries w n e.same; rooms = same_rooms w n c.self.inside.map.room e.same };
           fetches = e.fetches;
           counts = e.counts;
-          names_at_fault = λ going. let at = e.at_fault going in (omega (arith, at.0, c.self.invariant.bounded.names, faulty_most f.kind), at.1);
+          names_at_fault = λ going. let met = e.met going in (omega (arith, met.named.0, c.self.invariant.bounded.names, faulty_most f.kind), met.named.1);
           names = tt;
-          head = head_left-stopped n.meter.source.size n.current n.stage (Some f) e.stage;
-          left = option_map-then (left_of w) (left_of n) (λ _. only_fault f) w.meter.source.store.content (λ file known. left_of-fault n file f e.failed) n.meter.source.store.content e.fetches.same_content;
-          stop = e.stage;
+          head = head_left-stopped n.meter.source.size n.current n.stage (Some f) stopped;
+          left = option_map-then (left_of w) (left_of n) (λ _. only_fault f) w.meter.source.store.content (λ file known. left_of-fault n file f e.stage) n.meter.source.store.content e.fetches.same_content;
+          stop = stopped;
           passed = e.passed;
           ranges = sym (append-nil c.self.inside.map.ranges);
           falls = tt;
           repeats = λ stop same. rw (e.repeats stop same).0 refl;
-          told = e.told;
-          entry = e.number;
+          told = λ going. (e.met going).told;
+          entry = λ going. (e.met going).number;
           classed = tt;
           current = e.current;
           rests = e.rests;
@@ -147,18 +152,21 @@ invariant_of-self-in-Some g c =
     let w = c.self.inside.walk in
     let n = c.advance.new.self in
     let x = c.item-item.result in
+    let e = c.advance.ensures.answered in
     let room = rw (c.free.ensures.value, c.in-Some.is) at c.in_ok-advance.ensures.room in
-    rw c.push_range.ensures (mapped w n c.self.inside.map (ranges_of (x ∷ [])) _ c.self.invariant c.advance.ensures.sound (same_file _ _ _ c.advance.ensures.fetches c.advance.ensures.same) room
-    (bounded_then w n c.self.invariant.bounded c.advance.ensures.paid c.advance.ensures.same c.advance.ensures.fetches.same_size)
-    (ranges_of-within _ x (rw c.advance.ensures.fetches.same_size at c.item-item.ensures.placed))
+    rw c.push_range.ensures (mapped w n c.self.inside.map (ranges_of (x ∷ [])) _ c.self.invariant e.sound (same_file _ _ _ e.fetches e.same) room
+    (bounded_then w n c.self.invariant.bounded e.paid e.same e.fetches.same_size)
+    (ranges_of-within _ x (rw e.fetches.same_size at c.item-item.ensures.placed))
     (ranges-given n.meter.source.size n.name.items c.in-Some.step x c.item-item.ensures.item))
 
 pub invariant_of-self : goal.invariant_of-self
 invariant_of-self g c =
-    kept c.self.inside.walk c.advance.new.self c.self.inside.map c.self.invariant c.advance.ensures.sound (same_file _ _ _ c.advance.ensures.fetches c.advance.ensures.same) (rw c.free.ensures.value at c.in_err-advance.ensures.room)
-    (bounded_then c.self.inside.walk c.advance.new.self c.self.invariant.bounded c.advance.ensures.paid c.advance.ensures.same c.advance.ensures.fetches.same_size)
+    let e = c.advance.ensures.answered in
+    kept c.self.inside.walk c.advance.new.self c.self.inside.map c.self.invariant e.sound (same_file _ _ _ e.fetches e.same) (rw c.free.ensures.value at c.in_err-advance.ensures.room)
+    (bounded_then c.self.inside.walk c.advance.new.self c.self.invariant.bounded e.paid e.same e.fetches.same_size)
 
 pub invariant_of-self-in-None : goal.invariant_of-self-in-None
 invariant_of-self-in-None g c =
-    kept c.self.inside.walk c.advance.new.self c.self.inside.map c.self.invariant c.advance.ensures.sound (same_file _ _ _ c.advance.ensures.fetches c.advance.ensures.same) (rw (c.free.ensures.value, c.in-None.is) at c.in_ok-advance.ensures.room)
-    (bounded_then c.self.inside.walk c.advance.new.self c.self.invariant.bounded c.advance.ensures.paid c.advance.ensures.same c.advance.ensures.fetches.same_size)
+    let e = c.advance.ensures.answered in
+    kept c.self.inside.walk c.advance.new.self c.self.inside.map c.self.invariant e.sound (same_file _ _ _ e.fetches e.same) (rw (c.free.ensures.value, c.in-None.is) at c.in_ok-advance.ensures.room)
+    (bounded_then c.self.inside.walk c.advance.new.self c.self.invariant.bounded e.paid e.same e.fetches.same_size)

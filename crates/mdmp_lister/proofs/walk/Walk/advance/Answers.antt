@@ -1,14 +1,14 @@
-use Rattle.std.proofs.Common.{◌≤◌, length, arith}
-use Rattle.mdmp_lister.proofs.Ending.{left_of-ended}
+use Rattle.mdmp_lister.proofs.Requests.{answered_end, answered_stopped, answered_then}
 use Rattle.mdmp_lister.proofs.walk.Walk.advance.Goals as goal
 
-pub returns-in-Ended-clause-listing : goal.returns-in-Ended-clause-listing
-returns-in-Ended-clause-listing g c = λ file known.
-    let w = c.args.self.now in
-    let ok = w.entries.ok.0 in
-    let over : length w.entries.items ≤ w.next = omega (arith, ok, c.requires.sound.ended c.in-Ended.is) in
-    let none = left_of-ended w file c.in-Ended.is over (c.requires.sound.directory file known) in
-    (none, none)
+pub returns-in-Ended-clause-answered : goal.returns-in-Ended-clause-answered
+returns-in-Ended-clause-answered g c = answered_end c.args.self.now c.requires.sound c.in-Ended.is
+
+pub returns-in-Bad-clause-answered : goal.returns-in-Bad-clause-answered
+returns-in-Bad-clause-answered g c = answered_stopped c.args.self.now c.requires.sound c.in-Bad.fault c.in-Bad.is
+
+pub returns-in-Bad-2-clause-answered : goal.returns-in-Bad-2-clause-answered
+returns-in-Bad-2-clause-answered g c = answered_stopped c.args.self.now c.requires.sound c.in-Bad.fault c.in-Bad.is
 
 pub returns-in_ok-read_head-in-Head-clause-room : goal.returns-in_ok-read_head-in-Head-clause-room
 returns-in_ok-read_head-in-Head-clause-room g c = c.step.ensures.room c.args.room c.read_head.ensures.room
@@ -16,5 +16,5 @@ returns-in_ok-read_head-in-Head-clause-room g c = c.step.ensures.room c.args.roo
 pub returns-in-Between-clause-room : goal.returns-in-Between-clause-room
 returns-in-Between-clause-room g c = c.step-in-Between.ensures.room c.args.room c.requires.room
 
-pub returns-in_ok-read_head-in-Head-clause-paid : goal.returns-in_ok-read_head-in-Head-clause-paid
-returns-in_ok-read_head-in-Head-clause-paid g c = λ allowed before paid. c.step.ensures.paid allowed before (c.read_head.ensures.paid allowed before paid)
+pub returns-in_ok-read_head-in-Head-clause-answered : goal.returns-in_ok-read_head-in-Head-clause-answered
+returns-in_ok-read_head-in-Head-clause-answered g c = answered_then c.args.self.now c.read_head.new.self c.step.new.self c.in_ok-read_head-in-Head.ensures.read c.step.result c.in-Head.is c.step.ensures.answered

@@ -1,26 +1,46 @@
-use Rattle.std.proofs.Common.{◌≡◌, ◌<◌, ℕ, List, Some, arith, refl, rules}
+use Rattle.std.proofs.Common.{◌≡◌, ◌<◌, ◌-◌, ℕ, List, Some, None, ◌∙◌, ap, arith, refl, rules, sym}
 use Rattle.mdmp_lister.specs.Items.{sizes_before}
-use Rattle.mdmp_lister.proofs.Owing.{ranged, ranges-counted, told_changed, unknown}
-use Rattle.mdmp_lister.proofs.Soundness.{IsSound-after, fault_stage-staged, fault_stage-offset, fault_stage-going, fault_stage-unfailed}
-use Rattle.mdmp_source.specs.Range.{IsInside}
 use Rattle.mdmp_lister.specs.Heads.{head_spent}
-use Rattle.mdmp_lister.specs.Shapes.{kind_of}
-use Rattle.mdmp_lister.proofs.Paying.{entry_cost-listed, fault_stage-owed, fault_stage-work, head_paid, paid_headed, spent_within}
-use Rattle.mdmp_lister.proofs.Heads.{head_of-is}
+use Rattle.mdmp_lister.specs.Reading.{IsOfSource, source_of}
+use Rattle.mdmp_lister.specs.Shapes.{kind_of, location_fault}
+use Rattle.mdmp_lister.proofs.Bodies.{body-faulted, body-shaped}
+use Rattle.mdmp_lister.proofs.Fetches.{not_of_source, told_in_caused}
+use Rattle.mdmp_lister.proofs.Heads.{head_of-is, listed-inside}
+use Rattle.mdmp_lister.proofs.Naming.{source_reached}
+use Rattle.mdmp_lister.proofs.Owing.{ranged, ranges-counted, told_changed, unknown}
+use Rattle.mdmp_lister.proofs.Paying.{entry_cost-listed, head_paid, paid_headed, spent_within}
+use Rattle.mdmp_lister.proofs.Requests.{Spends-booked, answered_fault}
+use Rattle.mdmp_lister.proofs.Soundness.{IsSound-after}
 use Rattle.mdmp_lister.proofs.walk.Walk.read_head.Given as given
 use Rattle.mdmp_lister.proofs.walk.Walk.read_head.Goals as goal
 
-pub returns-else-ranges_by-room-clause-sound : goal.returns-else-ranges_by-room-clause-sound
+pub returns-else-ranges_by-room-clause-read : goal.returns-else-ranges_by-room-clause-read
 unfolding sizes_before
-returns-else-ranges_by-room-clause-sound g c =
-    let begun : 0 < c.args.self.now.next = rw c.requires.head at c.requires.sound.staged in
+returns-else-ranges_by-room-clause-read g c =
+    let w = c.args.self.now in
+    let at = w.current.location in
+    let of = c.in-Ok.ensures in
+    let kind = c.in-Some-of_type.kind in
     let base = c.from.ensures in
-    IsSound-after _ c.args.self.now _ c.requires.sound c.head_at.ensures.books.fetches
-    (search rules)
-    (record { begun = begun; known = search rules; within = omega arith; inside = search rules; fits = c.in-Ok.ensures.head.fits; ranges = c.in-Ok.ensures.head.ranges; bound = omega (arith, base, c.from.type_inv, c.head_at.type_inv) })
-    (λ file known kind. omega (arith, base, c.in-Ok.ensures.base file known kind))
-    (λ end. cc)
-    (λ file good. refl)
+    let begun : 0 < w.next = rw c.requires.head at c.requires.sound.staged in
+    let known : kind_of w.current.stream_type ≡ Some kind = search rules in
+    let whole : location_fault w.meter.source.size w.current ≡ None = search rules in
+    let inside = listed-inside w.meter.source.size w.current kind whole known in
+    record {
+      sound = IsSound-after _ w _ c.requires.sound c.head_at.ensures.books.fetches (search rules)
+          (record { begun = begun; known = known; within = omega arith; inside = inside; fits = of.head.fits; ranges = of.head.ranges; bound = omega (arith, base, c.from.type_inv) })
+          (λ file content memory. omega (arith, base, of.base file content memory))
+          (λ end. cc) (λ file good. refl);
+      same = search rules;
+      left = λ file content. rw c.requires.head (sym (body-shaped file _ (w.next - 1) w.current kind (rw (rw content at c.requires.sound.sized) at whole) known c.in-Ok.head.shape (of.shape file content)));
+      stage = tt;
+      falls = rw c.requires.head (omega (arith, of.head.few));
+      books = rw (head_of-is w.meter.source.size w.current kind known inside) c.head_at.ensures.books;
+      paid = λ allowed before paid.
+          paid_headed allowed before (head_spent at.size kind) w _ paid c.head_at.ensures.books (search rules) c.head_at.ensures.books.fetches.same_size
+          (rw (c.requires.head, entry_cost-listed w.meter.source.size w.current kind known inside) (head_paid at.size kind c.in-Ok.head.shape of.head.fits of.head.behind))
+          (rw c.requires.head (omega (arith, of.head.few)));
+    }
 
 -- where the file is known, the list counts as many ranges as it did when the file was opened
 never : (g : given.Over) (c : goal.After-stop_at-then-ranges_by-room g) → (file : List ℕ) → c.args.self.now.meter.source.store.content ≡ Some file → ⊥
@@ -30,95 +50,57 @@ never g c file known =
     let more = c.if-ranges_by-room.true in
     absurd (omega (arith, counted, more, c.ranges_by.ensures))
 
-pub returns-then-ranges_by-room-clause-sound : goal.returns-then-ranges_by-room-clause-sound
-returns-then-ranges_by-room-clause-sound g c =
+pub returns-then-ranges_by-room-clause-met : goal.returns-then-ranges_by-room-clause-met
+returns-then-ranges_by-room-clause-met g c =
     let w = c.args.self.now in
-    let f = c.told-then-ranges_by-room.result in
-    let begun : 0 < w.next = rw c.requires.head at c.requires.sound.staged in
-    rw c.stop_at-then-ranges_by-room.ensures.stage (
-    IsSound-after _ w _ c.requires.sound c.head_at.ensures.books.fetches
-    (search rules)
-    (fault_stage-staged w.meter.source.size w.next w.current f begun)
-    (λ file known. fault_stage-offset file w.current f)
-    (λ end. absurd (fault_stage-going f end))
-    (λ file good. fault_stage-unfailed f (λ of. never g c file good.known))
-    )
-
-pub returns-then-ranges_by-room-clause-told : goal.returns-then-ranges_by-room-clause-told
-returns-then-ranges_by-room-clause-told g c =
-    let w = c.args.self.now in
-    let k = c.told-then-ranges_by-room.ensures.kind in
-    let place = c.told-then-ranges_by-room.ensures.place in
+    let told = c.told-then-ranges_by-room in
     let is = c.changed.ensures in
-    let kind = rw is at k in
-    rw c.stop_at-then-ranges_by-room.ensures.fault
-    (told_changed w.current c.told-then-ranges_by-room.result w.meter.source c.stop_at-then-ranges_by-room.new.self.meter.source kind (rw is at place) (c.told-then-ranges_by-room.ensures.of_store (rw is tt))
-    (unknown w.meter.source.store.content (never g c))
-    (ranged _ c.in-Some-of_type.kind c.in-Ok.head.shape.count c.args.room (search rules) (omega (arith, c.ranges_by.ensures, c.if-ranges_by-room.true))))
-
-pub returns-then-ranges_by-room-clause-good : goal.returns-then-ranges_by-room-clause-good
-returns-then-ranges_by-room-clause-good g c = λ file good. rw c.stop_at-then-ranges_by-room.ensures.fault (λ of. never g c file good.known)
-
-pub returns-else-ranges_by-room-clause-paid : goal.returns-else-ranges_by-room-clause-paid
-returns-else-ranges_by-room-clause-paid g c = λ allowed before paid.
-    let w = c.args.self.now in
-    let at = w.current.location in
     let kind = c.in-Some-of_type.kind in
+    let begun : 0 < w.next = rw c.requires.head at c.requires.sound.staged in
     let known : kind_of w.current.stream_type ≡ Some kind = search rules in
-    let inside : IsInside at.rva at.size w.meter.source.size = search rules in
-    paid_headed allowed before (head_spent at.size kind) w _ paid c.head_at.ensures.books (search rules) c.head_at.ensures.books.fetches.same_size
-    (rw (c.requires.head, entry_cost-listed w.meter.source.size w.current kind known inside)
-    (head_paid at.size kind c.in-Ok.head.shape c.in-Ok.ensures.head.fits c.in-Ok.ensures.head.behind))
-    (rw c.requires.head (omega (arith, c.in-Ok.ensures.head.few)))
+    let whole : location_fault w.meter.source.size w.current ≡ None = search rules in
+    let inside = listed-inside w.meter.source.size w.current kind whole known in
+    rw (c.stop_at-then-ranges_by-room.ensures.stage, c.stop_at-then-ranges_by-room.ensures.fault)
+    (answered_fault _ (head_spent w.current.location.size kind) w _ told.result c.requires.sound begun (rw c.requires.head refl) (rw c.requires.head (omega arith))
+    (search rules) refl
+    (record {
+      told = told_changed w.current told.result w.meter.source c.head_at.new.meter.source (rw is at told.ensures.kind) (rw is at told.ensures.place) (told.ensures.of_store (rw is tt))
+          (unknown w.meter.source.store.content (never g c))
+          (ranged _ kind c.in-Ok.head.shape.count c.args.room known (omega (arith, c.ranges_by.ensures, c.if-ranges_by-room.true)));
+      number = omega (arith, told.ensures.entry, begun);
+      named = source_reached told.result.kind w.meter c.head_at.new.meter (rw (told.ensures.kind, is) tt) (rw c.head_at.ensures.books.same_names (omega arith)) (rw c.head_at.ensures.books.same_names (omega arith));
+    })
+    c.head_at.ensures.books.fetches
+    (rw (c.requires.head, head_of-is w.meter.source.size w.current kind known inside) (omega arith))
+    (Spends-booked _ _ _ w.meter c.head_at.new.meter c.head_at.ensures.books)
+    (rw (c.requires.head, entry_cost-listed w.meter.source.size w.current kind known inside) (spent_within w.current.location.size kind))
+    (λ file content. absurd (never g c file content))
+    (λ file good of. never g c file good.known))
 
-pub returns-then-ranges_by-room-clause-paid : goal.returns-then-ranges_by-room-clause-paid
-returns-then-ranges_by-room-clause-paid g c = λ allowed before paid.
+pub returns-in-Err-clause-met : goal.returns-in-Err-clause-met
+returns-in-Err-clause-met g c =
     let w = c.args.self.now in
-    let at = w.current.location in
-    let f = c.told-then-ranges_by-room.result in
+    let told = c.told-in-Err in
+    let of = c.in-Err.ensures in
     let kind = c.in-Some-of_type.kind in
+    let begun : 0 < w.next = rw c.requires.head at c.requires.sound.staged in
     let known : kind_of w.current.stream_type ≡ Some kind = search rules in
-    let inside : IsInside at.rva at.size w.meter.source.size = search rules in
-    rw c.stop_at-then-ranges_by-room.ensures.stage (
-    paid_headed allowed before (head_spent at.size kind) w _ paid c.head_at.ensures.books (search rules) c.head_at.ensures.books.fetches.same_size
-    (rw (fault_stage-owed w.meter.source.size w.current f, c.requires.head, entry_cost-listed w.meter.source.size w.current kind known inside) (omega (arith, spent_within at.size kind)))
-    (rw (fault_stage-work f, c.requires.head) (omega arith))
-    )
-
-pub returns-in-Err-clause-paid : goal.returns-in-Err-clause-paid
-returns-in-Err-clause-paid g c = λ allowed before paid.
-    let w = c.args.self.now in
-    let at = w.current.location in
-    let f = c.told-in-Err.result in
-    let kind = c.in-Some-of_type.kind in
-    let known : kind_of w.current.stream_type ≡ Some kind = search rules in
-    let inside : IsInside at.rva at.size w.meter.source.size = search rules in
-    rw c.stop_at-in-Err.ensures.stage (
-    paid_headed allowed before (head_spent at.size kind) w _ paid c.head_at.ensures.books (search rules) c.head_at.ensures.books.fetches.same_size
-    (rw (fault_stage-owed w.meter.source.size w.current f, c.requires.head, entry_cost-listed w.meter.source.size w.current kind known inside) (omega (arith, spent_within at.size kind)))
-    (rw (fault_stage-work f, c.requires.head) (omega arith))
-    )
-
-pub returns-else-ranges_by-room-clause-fetches : goal.returns-else-ranges_by-room-clause-fetches
-returns-else-ranges_by-room-clause-fetches g c =
-    let w = c.args.self.now in
-    let kind = c.in-Some-of_type.kind in
-    let known : kind_of w.current.stream_type ≡ Some kind = search rules in
-    let inside : IsInside w.current.location.rva w.current.location.size w.meter.source.size = search rules in
-    rw (head_of-is w.meter.source.size w.current kind known inside) c.head_at.ensures.books.fetches
-
-pub returns-then-ranges_by-room-clause-fetches : goal.returns-then-ranges_by-room-clause-fetches
-returns-then-ranges_by-room-clause-fetches g c =
-    let w = c.args.self.now in
-    let kind = c.in-Some-of_type.kind in
-    let known : kind_of w.current.stream_type ≡ Some kind = search rules in
-    let inside : IsInside w.current.location.rva w.current.location.size w.meter.source.size = search rules in
-    rw (c.stop_at-then-ranges_by-room.ensures.stage, head_of-is w.meter.source.size w.current kind known inside) c.head_at.ensures.books.fetches
-
-pub returns-in-Err-clause-fetches : goal.returns-in-Err-clause-fetches
-returns-in-Err-clause-fetches g c =
-    let w = c.args.self.now in
-    let kind = c.in-Some-of_type.kind in
-    let known : kind_of w.current.stream_type ≡ Some kind = search rules in
-    let inside : IsInside w.current.location.rva w.current.location.size w.meter.source.size = search rules in
-    rw (c.stop_at-in-Err.ensures.stage, head_of-is w.meter.source.size w.current kind known inside) c.head_at.ensures.books.fetches
+    let whole : location_fault w.meter.source.size w.current ≡ None = search rules in
+    let inside = listed-inside w.meter.source.size w.current kind whole known in
+    rw (c.stop_at-in-Err.ensures.stage, c.stop_at-in-Err.ensures.fault)
+    (answered_fault _ (head_spent w.current.location.size kind) w _ told.result c.requires.sound begun (rw c.requires.head refl) (rw c.requires.head (omega arith))
+    (search rules) refl
+    (record {
+      told = told_in_caused w.current c.in-Err.fault told.result w.meter.source c.head_at.new.meter.source of.caused told.ensures.kind told.ensures.place told.ensures.of_store;
+      number = omega (arith, told.ensures.entry, begun);
+      named = rw told.ensures.kind of.at_fault;
+    })
+    c.head_at.ensures.books.fetches
+    (rw (c.requires.head, head_of-is w.meter.source.size w.current kind known inside) (omega arith))
+    (Spends-booked _ _ _ w.meter c.head_at.new.meter c.head_at.ensures.books)
+    (rw (c.requires.head, entry_cost-listed w.meter.source.size w.current kind known inside) (spent_within w.current.location.size kind))
+    (λ file content not.
+    let other : IsOfSource c.in-Err.fault.kind → ⊥ = λ is. not (rw (sym told.ensures.kind) at is) in
+    rw (c.requires.head, told.ensures.of_file other)
+    (body-faulted file _ (w.next - 1) w.current kind (rw (rw content at c.requires.sound.sized) at whole) known c.in-Err.fault (of.shape file content other)))
+    (λ file good. not_of_source told.result.kind (ap source_of told.ensures.kind ∙ of.caused.caused.good file good)))

@@ -1,0 +1,303 @@
+-- What requests leave of a walk: at a fault, at a stop, and behind a head that was read.
+use Rattle.std.proofs.Common.{◌≡◌, ◌≤◌, ◌<◌, ◌+◌, ◌-◌, ◌⊎◌, ◌∙◌, ℕ, List, Option, None, Some, Result, Ok, Err, IfOk, IfErr, IfSome, arith, ap, inl, inr, length, refl, subst, sym, vec_len}
+use Rattle.mdmp_source.specs.Source.{FetchesAtMost}
+use Rattle.mdmp_source.specs.SourceLaws.{fetches_then}
+use Rattle.mdmp_source.specs.Store.{IsGood}
+use Rattle.mdmp_wire.specs.declared.entry.Entry.{Entry}
+use Rattle.mdmp_lister.specs.declared.fault.FaultKind.{FaultKind}
+use Rattle.mdmp_lister.specs.declared.fault.FaultKind.TheVariants.{Source}
+use Rattle.mdmp_lister.specs.declared.fault.ListFault.{ListFault}
+use Rattle.mdmp_lister.specs.declared.stage.Stage.{Stage}
+use Rattle.mdmp_lister.specs.declared.stage.Stage.TheVariants.{Bad, Between, Ended, Failed, Head, Records}
+use Rattle.mdmp_lister.specs.declared.step.Step.{Step}
+use Rattle.mdmp_lister.specs.declared.walk.Walk.{Walk}
+use Rattle.mdmp_lister.specs.Costs.{fault_cost, given_spent, head_left, head_told, step_cost}
+use Rattle.mdmp_lister.specs.Listing.{Run, joined, nothing, only_fault, with_item}
+use Rattle.mdmp_lister.specs.Meter.{Books, MeterState, Moves, Spends, counts_of}
+use Rattle.mdmp_lister.specs.Paying.{owed_of}
+use Rattle.mdmp_lister.specs.Reaching.{Reaches, given_once, told_once}
+use Rattle.mdmp_lister.specs.Reading.{IsOfSource}
+use Rattle.mdmp_lister.specs.Requests.{Answered, FaultMet, HeadRead, StepGiven}
+use Rattle.mdmp_lister.specs.Shapes.{kind_of}
+use Rattle.mdmp_lister.specs.Stages.{failure_of, fault_stage, stage_by, stop_of}
+use Rattle.mdmp_lister.specs.Steps.{CurrentAfter, IsStepHeld, current_by, passed_by, step_item}
+use Rattle.mdmp_lister.specs.Walk.{Advances, IsListing, IsSound, IsThrough, PassesTo, SameEntry, SameRoom, current_of, left_of, left_of_entry, rest_of, stage_work, work_of}
+use Rattle.mdmp_lister.proofs.Bodies.{joined-with_item}
+use Rattle.mdmp_lister.proofs.Ending.{left_of-ended, left_of-fault}
+use Rattle.mdmp_lister.proofs.Fetches.{FetchesAtMost-none, FetchesAtMost-within, told_in_later}
+use Rattle.mdmp_lister.proofs.Paying.{fault_stage-owed, fault_stage-work, paid_named}
+use Rattle.mdmp_lister.proofs.Soundness.{IsGood-after, IsSound-after, fault_stage-going, fault_stage-offset, fault_stage-staged, fault_stage-unfailed}
+
+-- ---- stages
+
+stage_by-stop : (f : ListFault) (kind : FaultKind) → stop_of (stage_by kind f) ≡ Some (Some f)
+stage_by-stop f (Source fault) = refl
+stage_by-stop f _ = refl
+
+-- a fault is what is answered from then on
+pub fault_stage-stop : (f : ListFault) → stop_of (fault_stage f) ≡ Some (Some f)
+fault_stage-stop f = stage_by-stop f f.kind
+
+stage_by-bad : (f : ListFault) (kind : FaultKind) → (IsOfSource kind → ⊥) → Bad f ≡ stage_by kind f
+stage_by-bad f (Source fault) not = absurd (not tt)
+stage_by-bad f _ not = refl
+
+stage_by-failed : (f : ListFault) (kind : FaultKind) → IsOfSource kind → Failed f ≡ stage_by kind f
+stage_by-failed f (Source fault) of = refl
+stage_by-failed f _ of = absurd of
+
+stage_by-good : (f : ListFault) (kind : FaultKind) → failure_of (stage_by kind f) ≡ None → IsOfSource kind → ⊥
+stage_by-good f (Source fault) none of = absurd (cc)
+stage_by-good f _ none of = of
+
+listing-going : (stage : Stage) → IsListing stage → stop_of stage ≡ None
+listing-going Between listing = refl
+listing-going (Records kind shape index offset) listing = refl
+listing-going _ listing = absurd listing
+
+listing-headless : (z : ℕ) (e : Entry) (stage : Stage) → IsListing stage → head_left z e stage ≡ 0
+listing-headless z e Between listing = refl
+listing-headless z e (Records kind shape index offset) listing = refl
+listing-headless z e _ listing = absurd listing
+
+pub through-going : (stage : Stage) → IsThrough stage → stop_of stage ≡ None
+through-going Between through = refl
+through-going (Records kind shape index offset) through = refl
+through-going _ through = absurd through
+
+stage-through : (F : List ℕ) (limit number : ℕ) (e : Entry) (stage : Stage) → IsThrough stage → left_of_entry F limit number e stage ≡ nothing
+stage-through F limit number e Between through = refl
+stage-through F limit number e (Records kind shape index offset) through =
+    let none : shape.count - index ≡ 0 = omega (arith, through) in
+    rw none refl
+stage-through F limit number e _ through = absurd through
+
+pub through-left : {S A : Type 0} (w : Walk S A) (file : List ℕ) → IsThrough w.stage → left_of w file ≡ rest_of w file
+through-left w file through = ap (λ (run : Run). joined run (rest_of w file)) (stage-through file (vec_len w.name) (w.next - 1) w.current w.stage through)
+
+-- ---- a fault that is met
+
+Moves-spent : (n limit : ℕ) (old new : MeterState) → Spends n limit old new → Moves 1 (counts_of old) (counts_of new)
+Moves-spent n limit old new spends = record {
+  more = spends.more;
+  more_calls = spends.more_calls;
+  more_names = spends.more_names;
+  most_names = spends.one_name;
+  same_aside = spends.same_aside;
+  same_start = spends.same_start;
+}
+
+-- a head has no name
+pub Spends-booked : (calls n limit : ℕ) (old new : MeterState) → Books calls n old new → Spends n limit old new
+Spends-booked calls n limit old new books = record {
+  paid = λ small. rw books.same_names (omega (arith, books.fetched));
+  more = books.more;
+  more_calls = books.more_calls;
+  more_names = rw books.same_names (omega arith);
+  one_name = rw books.same_names (omega arith);
+  same_aside = books.same_aside;
+  same_start = books.same_start;
+}
+
+module _ {S A : Type 0} (n spent : ℕ) (old new : Walk S A) (f : ListFault) where
+  -- behind some fetches of the current entry, of which its head or a record is left
+  pub answered_fault : IsSound old → 0 < old.next → stop_of old.stage ≡ None → 0 < stage_work old.stage
+      → SameEntry old new → new.stage ≡ fault_stage f → FaultMet old f new
+      → FetchesAtMost n old.meter.source new.meter.source → n ≤ head_left old.meter.source.size old.current old.stage + fault_cost (vec_len old.name) old.current f
+      → Spends spent (vec_len old.name) old.meter new.meter → spent ≤ owed_of old.meter.source.size old.current old.stage
+      → ((file : List ℕ) → old.meter.source.store.content ≡ Some file → (IsOfSource f.kind → ⊥) → current_of old file ≡ only_fault f)
+      → ((file : List ℕ) → IsGood old.meter.source.store file → IsOfSource f.kind → ⊥)
+      → Answered old (Err f) new
+  answered_fault sound begun going some same at met fetches within spends owed left good = record {
+    sound = IsSound-after n old new sound fetches same
+        (rw at (fault_stage-staged old.meter.source.size old.next old.current f begun))
+        (λ file known. rw at (fault_stage-offset file old.current f))
+        (λ end. absurd (fault_stage-going f (sym at ∙ end)))
+        (λ file well. rw at (fault_stage-unfailed f (good file well)));
+    same = same.room;
+    listing = λ file known not. (ap (λ (run : Run). joined run (rest_of old file)) (left file known not), left_of-fault new file f at);
+    given = tt;
+    met = λ _. met;
+    stage = at;
+    passed = same.next;
+    current = same.current;
+    rests = rw (same.room.entries, same.next, at, fault_stage-work f) (omega arith);
+    fetches = FetchesAtMost-within n _ old.meter.source new.meter.source within fetches;
+    counts = Moves-spent spent (vec_len old.name) old.meter new.meter spends;
+    named = tt;
+    paid = λ allowed before paid. paid_named allowed before spent old new paid spends same fetches.same_size
+        (rw (at, fault_stage-owed old.meter.source.size old.current f) (omega (arith, owed)))
+        (rw (at, fault_stage-work f) some);
+    repeats = λ stop stopped. absurd (cc);
+    good = good;
+  }
+
+-- ---- a step that is given
+
+module _ {S A : Type 0} (n spent : ℕ) (old new : Walk S A) (step : Step) where
+  -- from a record of the current entry, which is left of it
+  pub answered_step : IsSound new → stop_of old.stage ≡ None → stop_of new.stage ≡ None → stage_work new.stage < stage_work old.stage
+      → SameEntry old new → passed_by step old.next ≡ old.next → current_by step old.current ≡ old.current
+      → IsStepHeld (vec_len new.name) (kind_of old.current.stream_type) step
+      → head_left new.meter.source.size new.current new.stage ≡ head_told old.meter.source.size step
+      → FetchesAtMost n old.meter.source new.meter.source → n ≤ head_left old.meter.source.size old.current old.stage + step_cost step
+      → Spends spent (vec_len old.name) old.meter new.meter
+      → owed_of old.meter.source.size old.current new.stage + spent ≤ owed_of old.meter.source.size old.current old.stage
+      → Reaches (told_once step) old.meter new.meter
+      → ((file : List ℕ) → old.meter.source.store.content ≡ Some file → current_of old file ≡ with_item (step_item old.meter.source.size new.name.items step) (current_of new file))
+      → Answered old (Ok (Some step)) new
+  answered_step sound going on falls same passed stays held begins fetches within spends owed named left =
+      let less : work_of new < work_of old = rw (same.room.entries, same.next) (omega (arith, falls)) in
+      record {
+        sound = sound;
+        same = same.room;
+        listing = λ file known.
+            let rest : rest_of old file ≡ rest_of new file = rw (same.room.choice, same.room.name, same.next) refl in
+            ap (λ (run : Run). joined run (rest_of old file)) (left file known)
+            ∙ joined-with_item (step_item old.meter.source.size new.name.items step) (current_of new file) (rest_of old file)
+            ∙ ap (λ (run : Run). with_item (step_item old.meter.source.size new.name.items step) (joined (current_of new file) run)) rest;
+        given = record { held = rw same.current held; begins = begins; falls = less };
+        met = λ _. tt;
+        stage = on;
+        passed = same.next ∙ sym passed;
+        current = same.current ∙ sym stays;
+        rests = omega (arith, less);
+        fetches = FetchesAtMost-within n _ old.meter.source new.meter.source within fetches;
+        counts = Moves-spent spent (vec_len old.name) old.meter new.meter spends;
+        named = named;
+        paid = λ allowed before paid. paid_named allowed before spent old new paid spends same fetches.same_size owed falls;
+        repeats = λ stop stopped. absurd (cc);
+        good = λ file good. tt;
+      }
+
+-- ---- a walk that has stopped
+
+pub Moves-none : (n : ℕ) (a : MeterState) → Moves n (counts_of a) (counts_of a)
+Moves-none n a = record { more = omega arith; more_calls = omega arith; more_names = omega arith; most_names = omega arith; same_aside = refl; same_start = refl }
+
+module _ {S A : Type 0} (w : Walk S A) (sound : IsSound w) where
+  same_room : SameRoom w w
+  same_room = record { header_is = refl; entries = refl; choice = refl; window = refl; name = refl }
+
+  answered_again : (f : ListFault) → w.stage ≡ fault_stage f → Answered w (Err f) w
+  answered_again f at =
+      let stopped : stop_of w.stage ≡ Some (Some f) = rw at (fault_stage-stop f) in
+      record {
+        sound = sound;
+        same = same_room;
+        listing = λ file known not. (left_of-fault w file f at, left_of-fault w file f at);
+        given = tt;
+        met = λ going. absurd (cc);
+        stage = at;
+        passed = refl;
+        current = refl;
+        rests = omega arith;
+        fetches = FetchesAtMost-within 0 _ w.meter.source w.meter.source (omega arith) (FetchesAtMost-none w.meter.source);
+        counts = Moves-none 1 w.meter;
+        named = tt;
+        paid = λ allowed before paid. paid;
+        repeats = λ stop same. (refl, sym stopped ∙ same);
+        good = λ file good. stage_by-good f f.kind (rw at at (sound.unfailed file good));
+      }
+
+  pub answered_stopped : (f : ListFault) → (w.stage ≡ Bad f) ⊎ (w.stage ≡ Failed f) → Answered w (Err f) w
+  answered_stopped f (inl at) = let staged = rw at at sound.staged in answered_again f (at ∙ stage_by-bad f f.kind staged.1)
+  answered_stopped f (inr at) = answered_again f (at ∙ stage_by-failed f f.kind (rw at at sound.staged))
+
+  pub answered_end : w.stage ≡ Ended → Answered w (Ok None) w
+  answered_end at =
+      let ok = w.entries.ok.0 in
+      let over : length w.entries.items ≤ w.next = omega (arith, ok, sound.ended at) in
+      let stopped : stop_of w.stage ≡ Some None = rw at refl in
+      record {
+        sound = sound;
+        same = same_room;
+        listing = λ file known. let none = left_of-ended w file at over (sound.directory file known) in (none, none);
+        given = tt;
+        met = λ going. tt;
+        stage = stopped;
+        passed = tt;
+        current = refl;
+        rests = omega arith;
+        fetches = FetchesAtMost-within 0 _ w.meter.source w.meter.source (omega arith) (FetchesAtMost-none w.meter.source);
+        counts = Moves-none 1 w.meter;
+        named = omega arith;
+        paid = λ allowed before paid. paid;
+        repeats = λ stop same. (refl, sym stopped ∙ same);
+        good = λ file good. tt;
+      }
+
+-- ---- a request behind a head that was read
+
+Moves-booked : (calls m n : ℕ) (a b c : MeterState) → Books calls m a b → Moves n (counts_of b) (counts_of c) → Moves n (counts_of a) (counts_of c)
+Moves-booked calls m n a b c first then = record {
+  more = omega (arith, first.more, then.more);
+  more_calls = omega (arith, first.more_calls, then.more_calls);
+  more_names = omega (arith, first.same_names, then.more_names);
+  most_names = omega (arith, first.same_names, then.most_names);
+  same_aside = then.same_aside ∙ first.same_aside;
+  same_start = then.same_start ∙ first.same_start;
+}
+
+module _ {S A : Type 0} (old mid new : Walk S A) (head : HeadRead old mid) where
+  same_then : SameRoom mid new → SameRoom old new
+  same_then same = record {
+    header_is = same.header_is ∙ head.same.room.header_is;
+    entries = same.entries ∙ head.same.room.entries;
+    choice = same.choice ∙ head.same.room.choice;
+    window = same.window ∙ head.same.room.window;
+    name = same.name ∙ head.same.room.name;
+  }
+
+  left_then : (file : List ℕ) → old.meter.source.store.content ≡ Some file → left_of mid file ≡ left_of old file
+  left_then file known =
+      let rest : rest_of mid file ≡ rest_of old file = rw (head.same.room.choice, head.same.room.name, head.same.next) refl in
+      ap (λ (run : Run). joined run (rest_of mid file)) (head.left file known) ∙ ap (joined (current_of old file)) rest
+
+  given_then : (result : Result (Option Step) ListFault) → IfOk result (λ given. IfSome given (λ step. StepGiven mid step new)) → IfOk result (λ given. IfSome given (λ step. StepGiven old step new))
+  given_then (Ok (Some step)) given = record {
+    held = rw head.books.fetches.same_size at given.held;
+    begins = rw head.books.fetches.same_size at given.begins;
+    falls = omega (arith, given.falls, head.falls);
+  }
+  given_then (Ok None) given = tt
+  given_then (Err f) given = tt
+
+  met_then : (result : Result (Option Step) ListFault) → IfErr result (λ f. FaultMet mid f new) → IfErr result (λ f. FaultMet old f new)
+  met_then (Ok given) met = tt
+  met_then (Err f) met = record {
+    told = told_in_later old.current f _ old.meter.source mid.meter.source new.meter.source head.books.fetches (rw head.same.current at met.told);
+    number = met.number ∙ head.same.next;
+    named = (omega (arith, met.named.0, head.books.same_names), omega (arith, met.named.1, head.books.same_names));
+  }
+
+  named_then : (result : Result (Option Step) ListFault) → IfOk result (λ given. Reaches (given_once given) mid.meter new.meter) → IfOk result (λ given. Reaches (given_once given) old.meter new.meter)
+  named_then (Ok given) named = rw head.books.same_names at named
+  named_then (Err f) named = tt
+
+  pub answered_then : (result : Result (Option Step) ListFault) → old.stage ≡ Head → Answered mid result new → Answered old result new
+  answered_then result at then =
+      let z = old.meter.source.size in
+      let none : head_left mid.meter.source.size mid.current mid.stage ≡ 0 = listing-headless mid.meter.source.size mid.current mid.stage head.stage in
+      let spent : given_spent (vec_len mid.name) mid.current result ≡ given_spent (vec_len old.name) old.current result = rw (head.same.room.name, head.same.current) refl in
+      record {
+        sound = then.sound;
+        same = same_then then.same;
+        listing = λ file known.
+            subst (λ run. Advances z new.name.items run result (left_of new file)) (left_then file known)
+            (subst (λ size. Advances size new.name.items (left_of mid file) result (left_of new file)) head.books.fetches.same_size
+            (then.listing file (head.books.fetches.same_content ∙ known)));
+        given = given_then result then.given;
+        met = λ going. met_then result (then.met (listing-going mid.stage head.stage));
+        stage = then.stage;
+        passed = subst (λ next. PassesTo result next new.next) head.same.next then.passed;
+        current = subst (λ current. CurrentAfter result current new.current) head.same.current then.current;
+        rests = omega (arith, then.rests, head.falls);
+        fetches = rw at (FetchesAtMost-within _ _ old.meter.source new.meter.source (omega (arith, none, spent))
+            (fetches_then _ _ old.meter.source mid.meter.source new.meter.source head.books.fetches then.fetches));
+        counts = Moves-booked 1 _ 1 old.meter mid.meter new.meter head.books then.counts;
+        named = named_then result then.named;
+        paid = λ allowed before paid. then.paid allowed before (head.paid allowed before paid);
+        repeats = λ stop stopped. let going : stop_of old.stage ≡ None = rw at refl in absurd (cc);
+        good = λ file good. then.good file (IsGood-after _ old.meter.source mid.meter.source file head.books.fetches good);
+      }

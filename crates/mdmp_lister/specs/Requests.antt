@@ -1,0 +1,66 @@
+-- What a request for the next item leaves of a walk.
+use Rattle.std.specs.Prelude.{◌≡◌, ◌≤◌, ◌<◌, ◌+◌, ℕ, List, Option, Some, None, Result, IfOk, IfErr, IfSome, vec_len}
+use Rattle.mdmp_source.specs.Source.{FetchesAtMost}
+use Rattle.mdmp_source.specs.Store.{IsGood}
+use Rattle.mdmp_lister.specs.declared.fault.ListFault.{ListFault}
+use Rattle.mdmp_lister.specs.declared.step.Step.{Step}
+use Rattle.mdmp_lister.specs.declared.walk.Walk.{Walk}
+use Rattle.mdmp_lister.specs.Costs.{given_spent, head_left, head_told}
+use Rattle.mdmp_lister.specs.Heads.{head_of}
+use Rattle.mdmp_lister.specs.Meter.{Books, Moves, counts_of}
+use Rattle.mdmp_lister.specs.Paying.{IsPaid}
+use Rattle.mdmp_lister.specs.Reaching.{Reaches, ReachesAtFault, given_once}
+use Rattle.mdmp_lister.specs.Reading.{IsOfSource, IsToldIn}
+use Rattle.mdmp_lister.specs.Shapes.{kind_of}
+use Rattle.mdmp_lister.specs.Stages.{IsStageAfter, stop_after, stop_of}
+use Rattle.mdmp_lister.specs.Steps.{CurrentAfter, IsStepHeld}
+use Rattle.mdmp_lister.specs.Walk.{Advances, IsListing, IsSound, PassesTo, SameEntry, SameRoom, current_of, left_of, work_of}
+
+module _ {S A : Type 0} where
+  -- a step that was given
+  pub record StepGiven (old : Walk S A) (step : Step) (new : Walk S A) : Type 0 where
+    -- its name stands in the walk's buffer, and it is a record of the entry's kind
+    pub held : IsStepHeld (vec_len new.name) (kind_of new.current.stream_type) step
+    -- where it begins an entry, the head of that entry is left to be read
+    pub begins : head_left new.meter.source.size new.current new.stage ≡ head_told old.meter.source.size step
+    pub falls : work_of new < work_of old
+
+  -- a fault that was met: it stands in the current entry, and one of the store was told by the last fetch
+  pub record FaultMet (old : Walk S A) (fault : ListFault) (new : Walk S A) : Type 0 where
+    pub told : IsToldIn old.current fault old.meter.source new.meter.source
+    pub number : fault.entry + 1 ≡ old.next
+    pub named : ReachesAtFault fault.kind old.meter new.meter
+
+  -- a request for the next item was answered so, and left the walk so
+  pub record Answered (old : Walk S A) (result : Result (Option Step) ListFault) (new : Walk S A) : Type 0 where
+    pub sound : IsSound new
+    pub same : SameRoom old new
+    -- the first of what was left was answered
+    pub listing : (file : List ℕ) → old.meter.source.store.content ≡ Some file
+        → Advances old.meter.source.size new.name.items (left_of old file) result (left_of new file)
+    pub given : IfOk result (λ given. IfSome given (λ step. StepGiven old step new))
+    pub met : stop_of old.stage ≡ None → IfErr result (λ fault. FaultMet old fault new)
+    pub stage : IsStageAfter result new.stage
+    pub passed : PassesTo result old.next new.next
+    pub current : CurrentAfter result old.current new.current
+    pub rests : work_of new ≤ work_of old
+    -- the head of the current entry was fetched, where it was not read yet, and the record and name of the step
+    pub fetches : FetchesAtMost (head_left old.meter.source.size old.current old.stage + given_spent (vec_len old.name) old.current result)
+        old.meter.source new.meter.source
+    pub counts : Moves 1 (counts_of old.meter) (counts_of new.meter)
+    pub named : IfOk result (λ given. Reaches (given_once given) old.meter new.meter)
+    pub paid : (allowed before : ℕ) → IsPaid allowed before old → IsPaid allowed before new
+    -- an answer that is given again changes nothing
+    pub repeats : (stop : Option ListFault) → stop_of old.stage ≡ Some stop → (new ≡ old) × (stop_after result ≡ Some stop)
+    -- a store that is good has no fault
+    pub good : (file : List ℕ) → IsGood old.meter.source.store file → IfErr result (λ fault. IsOfSource fault.kind → ⊥)
+
+  -- the head of the current entry was read, or it has none: nothing was given, and what is left of the entry stays
+  pub record HeadRead (old new : Walk S A) : Type 0 where
+    pub sound : IsSound new
+    pub same : SameEntry old new
+    pub left : (file : List ℕ) → old.meter.source.store.content ≡ Some file → current_of new file ≡ current_of old file
+    pub stage : IsListing new.stage
+    pub falls : work_of new < work_of old
+    pub books : Books 1 (head_of old.meter.source.size old.current) old.meter new.meter
+    pub paid : (allowed before : ℕ) → IsPaid allowed before old → IsPaid allowed before new
