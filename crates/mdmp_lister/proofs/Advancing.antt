@@ -1,8 +1,8 @@
 -- What a step says of what is left.
-use Rattle.std.proofs.Common.{◌≡◌, ◌≤◌, ◌+◌, ◌*◌, arith, ℕ, List, Option, None, Some, refl, sym, subst, ap, ◌∙◌, vec_capacity, vec_len}
+use Rattle.std.proofs.Common.{◌≡◌, ◌+◌, ◌*◌, arith, ℕ, List, Option, None, Some, Result, refl, sym, subst, ap, ◌∙◌, vec_capacity, vec_len}
 use Rattle.std.specs.Option.{option_map}
-use Rattle.mdmp_source.specs.Count.{raised}
 use Rattle.mdmp_source.specs.Source.{SourceState, FetchesAtMost}
+use Rattle.mdmp_source.specs.declared.fault.SourceFault.{SourceFault}
 use Rattle.mdmp_wire.specs.declared.entry.Entry.{Entry}
 use Rattle.mdmp_lister.specs.declared.choice.Choice.{Choice}
 use Rattle.mdmp_lister.specs.declared.limits.Limits.{Limits}
@@ -12,14 +12,14 @@ use Rattle.mdmp_lister.specs.declared.step.Step.{Step}
 use Rattle.mdmp_lister.specs.declared.fault.OpenFault.{OpenFault}
 use Rattle.mdmp_lister.specs.Heads.{heads_ahead}
 use Rattle.mdmp_lister.specs.Items.{plain}
-use Rattle.mdmp_lister.specs.Opening.{IsHandedBack, IsOfHead, directory_refusal}
+use Rattle.mdmp_lister.specs.Opening.{IsHandedBack, IsOfHead}
 use Rattle.mdmp_lister.specs.Lister.{Rooms, current_after, passed_after}
 use Rattle.mdmp_lister.specs.Listing.{Run}
 use Rattle.mdmp_lister.specs.Steps.{current_by, passed_by, step_item}
 use Rattle.mdmp_lister.specs.Summary.{Summary, entry_begun, number_behind}
 use Rattle.mdmp_lister.proofs.Refusals.{IsHandedBack-begun}
 use Rattle.mdmp_lister.proofs.Summary.{begins_as, summary_of-plain}
-use Rattle.mdmp_lister.specs.Walk.{IsNewWalk, IsSound, SameRoom}
+use Rattle.mdmp_lister.specs.Walk.{CountsRanges, IsNewWalk, SameRoom}
 
 -- what is left now follows from what was left, of each file
 pub option_map-then : (old new : List ℕ → Run) (f : Run → Run) (content : Option (List ℕ)) → ((file : List ℕ) → content ≡ Some file → new file ≡ f (old file))
@@ -68,22 +68,15 @@ module _ {S A : Type 0} where
 -- ---- a walk that was opened
 
 module _ {S A : Type 0} (source : SourceState) (choice : Choice) (limits : Limits) (w n : Walk S A) where
-  -- the heads by which its ranges were counted
-  counted-heads : IsNewWalk source choice limits w → FetchesAtMost (heads_ahead w.choice w.meter.source.size w.entries.items) w.meter.source n.meter.source
-      → FetchesAtMost (heads_ahead choice source.size w.entries.items) w.meter.source n.meter.source
-  counted-heads new more =
+  -- a file that is refused behind the heads by which its ranges were counted
+  pub IsHandedBack-counted : (result : Result ℕ SourceFault) (fault : OpenFault) → IsNewWalk source choice limits w → CountsRanges w result n → (IsOfHead fault → ⊥) → IsHandedBack choice source fault n.meter.source
+  IsHandedBack-counted result fault new counts late =
+      let ok = w.entries.ok.0 in
       let same : heads_ahead w.choice w.meter.source.size w.entries.items ≡ heads_ahead choice source.size w.entries.items =
       ap (λ (c : Choice). heads_ahead c w.meter.source.size w.entries.items) new.choice_is ∙ ap (λ z. heads_ahead choice z w.entries.items) new.fetches.same_size in
-      subst (λ k. FetchesAtMost k w.meter.source n.meter.source) same more
-
-  -- a file that is refused then
-  pub IsHandedBack-counted : (fault : OpenFault) → IsSound w → IsNewWalk source choice limits w → FetchesAtMost (heads_ahead w.choice w.meter.source.size w.entries.items) w.meter.source n.meter.source
-      → n.meter.source.calls ≤ raised w.meter.source.calls (vec_len w.entries) → ((file : List ℕ) → source.store.content ≡ Some file → directory_refusal file ≡ None) → (IsOfHead fault → ⊥)
-      → IsHandedBack choice source fault n.meter.source
-  IsHandedBack-counted fault sound new more calls opens late =
-      let ok = w.entries.ok.0 in
+      let calls = counts.books.source_calls in
       IsHandedBack-begun choice source w.meter.source n.meter.source fault w.header w.entries.items (32 + 12 * w.header.number_of_streams) (heads_ahead choice source.size w.entries.items)
-      new.fetches (counted-heads new more) (omega arith) (omega (arith, ok, new.entries)) (omega (arith, ok, calls, new.calls, new.entries)) new.inside
-      (λ file known. (opens file known, sound.header_is file (new.fetches.same_content ∙ known)))
-      (λ file known. (sound.directory file (new.fetches.same_content ∙ known)).each)
+      new.fetches (subst (λ k. FetchesAtMost k w.meter.source n.meter.source) same counts.books.fetches) (omega arith) (omega (arith, ok, new.entries)) (omega (arith, ok, calls, new.calls, new.entries)) new.inside
+      (λ file known. (new.opens file known, new.sound.header_is file (new.fetches.same_content ∙ known)))
+      (λ file known. (new.sound.directory file (new.fetches.same_content ∙ known)).each)
       late

@@ -1,9 +1,10 @@
 -- A walk pays for what it fetches.
-use Rattle.std.proofs.Common.{◌≡◌, ◌≤◌, ◌<◌, ◌+◌, ◌-◌, ◌*◌, ◌^◌, ◌∙◌, ℕ, zero, suc, List, Some, inl, inr, arith, refl, sym, subst, true, length, drop, get_or, vec_len, add-one, drop-cons, drop_of_length-le}
+use Rattle.std.proofs.Common.{◌≡◌, ◌≤◌, ◌<◌, ◌+◌, ◌-◌, ◌*◌, ◌^◌, ◌∙◌, ℕ, zero, suc, List, Some, Result, inl, inr, arith, refl, sym, subst, true, length, drop, get_or, vec_len, add-one, drop-cons, drop_of_length-le}
 use Rattle.std.proofs.lemmas.Grind.{common_steps}
 use Rattle.std.proofs.Math.Nat.{mul-le-mul_left}
 use Rattle.mdmp_source.specs.Range.{IsInside}
 use Rattle.mdmp_source.specs.Source.{SourceState}
+use Rattle.mdmp_source.specs.declared.fault.SourceFault.{SourceFault}
 use Rattle.mdmp_lister.specs.declared.limits.Limits.{Limits}
 use Rattle.mdmp_wire.specs.declared.entry.Entry.{Entry}
 use Rattle.mdmp_lister.specs.declared.choice.Choice.{Choice}
@@ -21,7 +22,7 @@ use Rattle.mdmp_lister.specs.Paying.{IsBounded, IsPaid, cost_of, entry_cost, owe
 use Rattle.mdmp_lister.specs.Shapes.{FitsIn, form_of, head_cost, kind_of, record_size}
 use Rattle.mdmp_lister.specs.Stages.{fault_stage, stage_by}
 use Rattle.mdmp_lister.proofs.Sizes.{least_head, least_record}
-use Rattle.mdmp_lister.specs.Walk.{IsNewWalk, IsSound, SameEntry, SameRoom, stage_work}
+use Rattle.mdmp_lister.specs.Walk.{CountsRanges, IsNewWalk, SameEntry, SameRoom, stage_work}
 
 -- ---- the stage behind a fault
 
@@ -139,9 +140,9 @@ module _ {S A : Type 0} (old new : Walk S A) where
       rw (same.entries, same.choice, size) refl in
       subst (λ allowed. IsPaid allowed 0 new) (sym was) (pays _ 0 bounded)
 
-  pub bounded_new : (source : SourceState) (choice : Choice) (limits : Limits) → IsNewWalk source choice limits old → Books (vec_len old.entries) (heads_ahead old.choice old.meter.source.size old.entries.items) old.meter new.meter
-      → new.meter.source.size ≡ old.meter.source.size → SameEntry old new → new.stage ≡ old.stage → IsSound new → IsBounded new
-  bounded_new source choice limits opened books size same stage sound =
-      let first = same.next ∙ opened.next in
-      paid_new _ new (stage ∙ opened.stage) (books.same_names ∙ opened.names) sound.few
-      (rw (first, same.room.entries, same.room.choice, size) (omega (arith, books.fetched, opened.fetched, opened.entries)))
+  pub bounded_new : (source : SourceState) (choice : Choice) (limits : Limits) (result : Result ℕ SourceFault) → IsNewWalk source choice limits old → CountsRanges old result new → IsBounded new
+  bounded_new source choice limits result opened counts =
+      let same = counts.same in
+      let books = counts.books in
+      paid_new _ new (counts.stage ∙ opened.stage) (books.same_names ∙ opened.names) counts.sound.few
+      (rw (same.next, opened.next, same.room.entries, same.room.choice, books.fetches.same_size) (omega (arith, books.fetched, opened.fetched, opened.entries)))

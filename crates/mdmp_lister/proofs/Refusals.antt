@@ -1,5 +1,5 @@
 -- The first fault of a file's header and directory, from the bytes of its header.
-use Rattle.std.proofs.Common.{◌≡◌, ◌≤◌, ◌+◌, ◌*◌, [], inl, inr, refl, subst, ℕ, List, length, Option, Some, None, arith, sym, ◌∙◌, ap}
+use Rattle.std.proofs.Common.{◌≡◌, ◌≤◌, ◌<◌, ◌+◌, ◌*◌, [], inl, inr, refl, subst, ℕ, List, length, Bool, Option, Some, None, Ok, Err, arith, sym, ◌∙◌, ap}
 use Rattle.std.specs.Prelude.{nat_lt, true, false, if◌then◌else◌}
 use Rattle.std.proofs.lemmas.Grind.{common_steps}
 use Rattle.mdmp_source.specs.Count.{raised}
@@ -8,7 +8,9 @@ use Rattle.mdmp_source.specs.Source.{SourceState, FetchesAtMost}
 use Rattle.mdmp_source.specs.SourceLaws.{fetches_then}
 use Rattle.mdmp_wire.specs.declared.entry.Entry.{Entry}
 use Rattle.mdmp_wire.specs.declared.header.Header.{Header}
+use Rattle.mdmp_source.specs.declared.fault.SourceFault.{SourceFault}
 use Rattle.mdmp_wire.specs.declared.header_fault.HeaderFault.{HeaderFault}
+use Rattle.mdmp_wire.specs.declared.header_fault.HeaderFault.TheVariants as header
 use Rattle.mdmp_wire.specs.Header.{header_at, header_at-part}
 use Rattle.mdmp_wire.specs.HeaderFault.{fault_of, header_fault}
 use Rattle.mdmp_lister.specs.declared.choice.Choice.{Choice}
@@ -16,9 +18,11 @@ use Rattle.mdmp_lister.specs.Directory.{AreFirst}
 use Rattle.mdmp_lister.specs.Heads.{heads_ahead}
 use Rattle.mdmp_lister.specs.declared.fault.OpenFault.{OpenFault}
 use Rattle.mdmp_lister.specs.declared.fault.OpenFault.TheVariants.{TooShort, BadSignature, BadVersion, DirectoryOutside, TooManyRanges, Source, Memory}
-use Rattle.mdmp_lister.proofs.Fetches.{FetchesAtMost-within}
+use Rattle.mdmp_lister.specs.Meter.{Books, MeterState}
+use Rattle.mdmp_lister.specs.Reading.{IsCaused}
+use Rattle.mdmp_lister.proofs.Fetches.{FetchesAtMost-within, IsCaused_later, not_unread, unread_caused}
 use Rattle.mdmp_lister.proofs.Heads.{heads_few}
-use Rattle.mdmp_lister.specs.Opening.{IsDirectoryRefusal, IsHandedBack, IsOfHead, IsRefusalOf, behind_directory, directory_refusal, behind_header}
+use Rattle.mdmp_lister.specs.Opening.{Finds, IsDirectoryRefusal, IsHandedBack, IsOfHead, IsRefusalOf, IsRefused, FitsHeader, unread_of, behind_directory, directory_refusal, behind_header}
 
 -- the fault of the directory that a header places in a file of `size` bytes, or none
 abbrev placed_fault : Header → ℕ → Option OpenFault
@@ -101,6 +105,79 @@ directory_room rva count size (inl none) = omega (arith, none)
 directory_room rva count size (inr all) = omega (arith, all)
 
 -- ---- what a file is refused with
+
+-- no header and no directory is refused for want of memory
+if_other : (b : Bool) (x y : Option OpenFault) → (x ≡ Some Memory → ⊥) → (y ≡ Some Memory → ⊥) → (if b then x else y) ≡ Some Memory → ⊥
+if_other true x y first second = first
+if_other false x y first second = second
+
+behind_header-other : (F : List ℕ) (fault : Option HeaderFault) → behind_header F fault ≡ Some Memory → ⊥
+behind_header-other F (Some header.BadSignature) same = cc
+behind_header-other F (Some (header.BadVersion low)) same = cc
+behind_header-other F None same = if_other _ None (Some (DirectoryOutside _ _)) (λ none. cc) (λ some. cc) same
+
+directory_refusal-other : (F : List ℕ) → directory_refusal F ≡ Some Memory → ⊥
+directory_refusal-other F same = if_other _ (Some (TooShort (length F))) (behind_header F (header_fault F)) (λ some. cc) (behind_header-other F (header_fault F)) same
+
+-- what the header of a file is refused with, its header and directory are
+refusal-found : (F : List ℕ) (fault : OpenFault) → Finds F (Err fault) → IsDirectoryRefusal F fault
+refusal-found F (Source fault) finds = tt
+refusal-found F Memory finds = absurd (directory_refusal-other F finds)
+refusal-found F (TooShort size) finds = finds
+refusal-found F BadSignature finds = finds
+refusal-found F (BadVersion low) finds = finds
+refusal-found F (DirectoryOutside offset size) finds = finds
+refusal-found F (TooManyRanges count) finds = finds
+
+-- a file whose header was read has one
+pub header-long : (h : Header) (old new : SourceState) → FitsHeader old (Ok h) new → 32 ≤ old.size
+header-long h old new reads = let never : old.size < 32 → ⊥ = λ less. let same = reads.short less in cc in omega (arith, never)
+
+module _ (choice : Choice) (old new : MeterState) where
+  -- by its header
+  pub IsRefused-header : (fault : OpenFault) → FitsHeader old.source (Err fault) new.source → ((file : List ℕ) → old.source.store.content ≡ Some file → Finds file (Err fault))
+      → Books 1 32 old new → IsCaused (unread_of fault) old.source new.source → IsRefused choice old.source fault new.source
+  IsRefused-header fault reads finds books caused = record {
+    handed_back = IsHandedBack-head choice old.source new.source fault books.fetches books.source_calls (λ size same. reads.untouched size (cc));
+    opens = λ file known. refusal-found file fault (finds file known);
+    refusal = reads.refusal;
+    short = λ less. let same = reads.short less in cc;
+    memory = λ _. books.fetches;
+    cause = unread_caused fault old.source new.source caused;
+    good = λ file good. not_unread fault (caused.good file good);
+  }
+
+  -- for want of memory, behind its header
+  pub IsRefused-memory : (h : Header) → FitsHeader old.source (Ok h) new.source → ((file : List ℕ) → old.source.store.content ≡ Some file → Finds file (Ok h))
+      → Books 1 32 old new → IsCaused None old.source new.source → IsRefused choice old.source Memory new.source
+  IsRefused-memory h reads finds books caused = record {
+    handed_back = IsHandedBack-head choice old.source new.source Memory books.fetches books.source_calls (λ size same. cc);
+    opens = λ file known. (finds file known).0;
+    refusal = header-long h old.source new.source reads;
+    short = λ less. absurd (omega (arith, less, header-long h old.source new.source reads));
+    memory = λ _. books.fetches;
+    cause = caused.once;
+    good = λ file good unread. unread;
+  }
+
+-- by a fault of the store, in its directory
+pub IsRefused-directory : (choice : Choice) (old mid new : MeterState) (h : Header) (fault : SourceFault) → FitsHeader old.source (Ok h) mid.source
+    → ((file : List ℕ) → old.source.store.content ≡ Some file → Finds file (Ok h)) → Books 1 32 old mid → IsCaused None old.source mid.source
+    → Books h.number_of_streams (12 * h.number_of_streams) mid new → IsCaused (Some fault) mid.source new.source → IsRefused choice old.source (Source fault) new.source
+IsRefused-directory choice old mid new h fault reads finds header none books caused =
+    let long = header-long h old.source mid.source reads in
+    let all = IsCaused_later (Some fault) 32 old.source mid.source new.source header.fetches none caused in
+    record {
+      handed_back = IsHandedBack-begun choice old.source mid.source new.source (Source fault) h [] 32 _ header.fetches books.fetches (omega arith)
+          (omega arith) (omega (arith, header.source_calls, books.source_calls))
+          (directory_room h.stream_directory_rva h.number_of_streams old.source.size reads.inside) finds (λ file known i d over. absurd (omega (arith, over))) (λ of. of);
+      opens = λ file known. tt;
+      refusal = long;
+      short = λ less. absurd (omega (arith, less, long));
+      memory = λ same. cc;
+      cause = unread_caused (Source fault) old.source new.source all;
+      good = λ file good. not_unread (Source fault) (all.good file good);
+    }
 
 pub IsRefusalOf-directory : (F : List ℕ) (choice : Choice) (fault : OpenFault) → IsDirectoryRefusal F fault → IsRefusalOf F choice fault
 IsRefusalOf-directory F choice (Source fault) of = tt

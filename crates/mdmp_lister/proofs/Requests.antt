@@ -256,7 +256,7 @@ module _ {S A : Type 0} (old mid new : Walk S A) (head : HeadRead old mid) where
 
   given_then : (result : Result (Option Step) ListFault) → IfOk result (λ given. IfSome given (λ step. StepGiven mid step new)) → IfOk result (λ given. IfSome given (λ step. StepGiven old step new))
   given_then (Ok (Some step)) given = record {
-    held = rw head.books.fetches.same_size at given.held;
+    held = given.held;
     begins = rw head.books.fetches.same_size at given.begins;
     falls = omega (arith, given.falls, head.falls);
   }

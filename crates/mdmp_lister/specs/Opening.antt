@@ -2,7 +2,7 @@
 use Rattle.std.specs.Prelude.{◌≡◌, ◌≤◌, ◌<◌, false, ℕ, ◌+◌, ◌*◌, ◌^◌, List, length, Option, Some, None, Result, Ok, Err, IfErr, IfOk, nat_lt, if◌then◌else◌}
 use Rattle.mdmp_source.specs.Count.{raised}
 use Rattle.mdmp_source.specs.Source.{SourceState, FailsOnce, FetchesAtMost, IsTold}
-use Rattle.mdmp_source.specs.Store.{IsSizeOf}
+use Rattle.mdmp_source.specs.Store.{IsGood, IsSizeOf}
 use Rattle.mdmp_source.specs.declared.fault.SourceFault.{SourceFault}
 use Rattle.mdmp_wire.specs.declared.entry.Entry.{Entry}
 use Rattle.mdmp_wire.specs.declared.header.Header.{Header}
@@ -137,3 +137,14 @@ pub record FitsHeader (old : SourceState) (result : Result Header OpenFault) (ne
   pub short : old.size < 32 → result ≡ Err (TooShort old.size)
   -- a file that is too short is not touched
   pub untouched : (size : ℕ) → result ≡ Err (TooShort size) → new ≡ old
+
+-- the header or the directory of a file was refused, or there was no memory to list it, and its source was handed back
+pub record IsRefused (choice : Choice) (old : SourceState) (fault : OpenFault) (new : SourceState) : Type 0 where
+  pub handed_back : IsHandedBack choice old fault new
+  pub opens : (file : List ℕ) → old.store.content ≡ Some file → IsDirectoryRefusal file fault
+  pub refusal : IsOpenRefusal old.size fault
+  pub short : old.size < 32 → fault ≡ TooShort old.size
+  -- memory is taken before the directory is read
+  pub memory : fault ≡ Memory → FetchesAtMost 32 old new
+  pub cause : IsUnreadFor fault old new
+  pub good : (file : List ℕ) → IsGood old.store file → IsUnread fault → ⊥

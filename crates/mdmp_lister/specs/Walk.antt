@@ -1,9 +1,10 @@
 -- What is left of a walk.
-use Rattle.std.specs.Prelude.{◌≡◌, ◌≤◌, ◌<◌, ◌+◌, ◌-◌, ◌*◌, ◌^◌, ℕ, List, Option, None, Some, Result, Ok, Err, vec_capacity, vec_len}
+use Rattle.std.specs.Prelude.{◌≡◌, ◌≤◌, ◌<◌, ◌+◌, ◌-◌, ◌*◌, ◌^◌, ℕ, List, Option, None, Some, Result, Ok, Err, IfOk, vec_capacity, vec_len}
 use Rattle.mdmp_source.specs.Count.{raised}
 use Rattle.mdmp_source.specs.Range.{IsInside}
-use Rattle.mdmp_source.specs.Source.{SourceState, FetchesAtMost}
+use Rattle.mdmp_source.specs.Source.{SourceState, FetchesAtMost, fault_of}
 use Rattle.mdmp_source.specs.Store.{IsGood, IsSizeOf}
+use Rattle.mdmp_source.specs.declared.fault.SourceFault.{SourceFault}
 use Rattle.mdmp_wire.specs.declared.entry.Entry.{Entry}
 use Rattle.mdmp_wire.specs.Header.{header_at}
 use Rattle.mdmp_lister.specs.declared.choice.Choice.{Choice}
@@ -16,10 +17,14 @@ use Rattle.mdmp_lister.specs.declared.step.Step.{Step}
 use Rattle.mdmp_lister.specs.declared.stage.Stage.{Stage}
 use Rattle.mdmp_lister.specs.declared.stage.Stage.TheVariants.{Between, Head, Records, Bad, Failed, Ended}
 use Rattle.mdmp_lister.specs.declared.walk.Walk.{Walk}
+use Rattle.mdmp_lister.specs.Counts.{range_count}
 use Rattle.mdmp_lister.specs.Directory.{IsDirectory}
+use Rattle.mdmp_lister.specs.Heads.{heads_ahead}
 use Rattle.mdmp_lister.specs.Items.{range_offset}
 use Rattle.mdmp_lister.specs.Listing.{Run, nothing, only_fault, with_item, joined, items_from, body_of, listing_from}
-use Rattle.mdmp_lister.specs.Reading.{IsOfSource, IsSteady}
+use Rattle.mdmp_lister.specs.Meter.{Books}
+use Rattle.mdmp_lister.specs.Opening.{directory_refusal}
+use Rattle.mdmp_lister.specs.Reading.{IsCaused, IsOfSource, IsSteady}
 use Rattle.mdmp_lister.specs.Shapes.{FitsIn, greatest_record, kind_of}
 use Rattle.mdmp_lister.specs.Stages.{failure_of}
 use Rattle.mdmp_lister.specs.Steps.{passed_by, step_item}
@@ -111,6 +116,19 @@ module _ {S A : Type 0} where
     pub name : vec_len w.name ≡ limits.name
     pub next : w.next ≡ 0
     pub stage : w.stage ≡ Between
+    pub sound : IsSound w
+    -- the file has a header, and neither it nor the place of the directory is at fault
+    pub long : 32 ≤ source.size
+    pub opens : (file : List ℕ) → source.store.content ≡ Some file → directory_refusal file ≡ None
+
+  -- the ranges of the chosen memory lists were counted, by their heads
+  pub record CountsRanges (old : Walk S A) (result : Result ℕ SourceFault) (new : Walk S A) : Type 0 where
+    pub sound : IsSound new
+    pub same : SameEntry old new
+    pub stage : new.stage ≡ old.stage
+    pub count : (file : List ℕ) → old.meter.source.store.content ≡ Some file → IfOk result (λ count. count ≡ range_count file old.choice)
+    pub books : Books (vec_len old.entries) (heads_ahead old.choice old.meter.source.size old.entries.items) old.meter new.meter
+    pub caused : IsCaused (fault_of result) old.meter.source new.meter.source
 
   -- what is left of the current entry
   abbrev pub current_of : Walk S A → List ℕ → Run

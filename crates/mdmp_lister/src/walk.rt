@@ -1,17 +1,12 @@
 //! The walk over the entries of a file, without its public face.
-ghost use Rattle.std.specs.Prelude.{◌≡◌, ◌+◌, ◌^◌, ◌≤◌, ◌<◌, ◌-◌, ℕ, List, None, Some, IfOk, IfErr, IsTrue, false, OnOk, MatchResult, vec_len};
-ghost use Rattle.mdmp_source.specs.Store.{IsGood};
-ghost use Rattle.mdmp_source.specs.Source.{FetchesAtMost};
+ghost use Rattle.std.specs.Prelude.{◌≡◌, ◌+◌, ◌^◌, ◌≤◌, ◌<◌, ◌-◌, ℕ, None, Some, IfOk, IfErr, IsTrue, false, OnOk, vec_len};
 ghost use Rattle.mdmp_source.specs.declared.fault.SourceFault.{SourceFault};
-ghost use Rattle.mdmp_lister.specs.Fetching.{Reads};
-ghost use Rattle.mdmp_lister.specs.Opening.{IsHandedBack, IsDirectoryRefusal, IsOpenRefusal, IsUnread, IsUnreadFor, directory_refusal};
-ghost use Rattle.mdmp_lister.specs.Reading.{IsCaused, IsOfSource};
+ghost use Rattle.mdmp_lister.specs.Opening.{IsRefused};
+ghost use Rattle.mdmp_lister.specs.Reading.{IsOfSource};
 ghost use Rattle.mdmp_lister.specs.Stages.{ends, fault_stage};
-ghost use Rattle.mdmp_lister.specs.Steps.{IsNameHeld, IsStepHeld, bytes_behind, step_item};
-ghost use Rattle.mdmp_lister.specs.Counts.{range_count};
+ghost use Rattle.mdmp_lister.specs.Steps.{IsNameHeld, bytes_behind, step_item};
 ghost use Rattle.mdmp_lister.specs.Owing.{HasRoom, count_answered, ranges_by, count_given};
-ghost use Rattle.mdmp_lister.specs.Heads.{heads_ahead};
-ghost use Rattle.mdmp_lister.specs.Meter.{Books, IsBooked, counts_of};
+ghost use Rattle.mdmp_lister.specs.Meter.{IsBooked, counts_of};
 ghost use Rattle.mdmp_lister.specs.Paying.{IsPaid};
 ghost use Rattle.mdmp_lister.specs.Listing.{list_fault};
 ghost use Rattle.mdmp_lister.specs.Items.{plain};
@@ -36,6 +31,12 @@ use mdmp_source::{Location, Source, SourceFault, Store};
 use mdmp_wire::{AnyRecord, Entry, Header};
 use std::alloc::Allocator;
 
+/// Stands in the place of the current entry before the first one.
+const NO_ENTRY: Entry = Entry {
+    stream_type: 0,
+    location: Location { size: 0, rva: 0 },
+};
+
 /// The state of a listing.
 #[derive(Drop)]
 pub(crate) struct Walk<S: Store + Drop, A: Allocator + Copy> {
@@ -55,26 +56,17 @@ pub(crate) struct Walk<S: Store + Drop, A: Allocator + Copy> {
 
 impl<S: Store + Drop, A: Allocator + Copy> Walk<S, A> {
     ghost use Rattle.mdmp_lister.specs.Requests.{Answered, HeadRead};
-    ghost use Rattle.mdmp_lister.specs.Walk.{IsListing, IsNewWalk, IsSound, IsThrough, SameEntry, work_of};
+    ghost use Rattle.mdmp_lister.specs.Walk.{CountsRanges, IsListing, IsNewWalk, IsSound, IsThrough, work_of};
 
     /// Reads the header and the directory of a file, and takes all the memory that a walk needs.
-    #[tactic(auto, using(crate::proofs::Fetches::IsCaused_later, crate::proofs::Fetches::unread_caused, crate::proofs::Fetches::not_unread))]
     pub(crate) fn open(
         alloc: A,
         source: Source<S>,
         limits: Limits,
         choice: Choice,
     ) -> Result<Self, OpenRefused<S>>
-        ensures sound { IfOk result IsSound }
         ensures new { IfOk result (IsNewWalk source choice limits) }
-        ensures handed_back { IfErr result (λ refused. IsHandedBack choice source refused.fault refused.source) }
-        ensures opens { (file : List ℕ) → source.store.content ≡ Some file
-            → MatchResult result (λ _. directory_refusal file ≡ None) (λ refused. IsDirectoryRefusal file refused.fault) }
-        ensures good { (file : List ℕ) → IsGood source.store file → IfErr result (λ refused. IsUnread refused.fault → ⊥) }
-        ensures refusal { IfErr result (λ refused. IsOpenRefusal source.size refused.fault) }
-        ensures short { source.size < 32 → MatchResult result (λ _. ⊥) (λ refused. refused.fault ≡ OpenFault.TooShort source.size) }
-        ensures memory { IfErr result (λ refused. refused.fault ≡ OpenFault.Memory → FetchesAtMost 32 source refused.source) }
-        ensures cause { IfErr result (λ refused. IsUnreadFor refused.fault source refused.source) }
+        ensures refused { IfErr result (λ refused. IsRefused choice source refused.fault refused.source) }
     {
         let mut meter = Meter::new(source);
         let header = match read_header(&mut meter) {
@@ -90,9 +82,8 @@ impl<S: Store + Drop, A: Allocator + Copy> Walk<S, A> {
         let Ok(name) = vec![in alloc; 0; limits.name as usize] else {
             return Err(refused(OpenFault::Memory, meter));
         };
-        match read_directory(&mut meter, &mut window, header, &mut entries) {
-            Ok(()) => {}
-            Err(fault) => return Err(refused(OpenFault::Source(fault), meter)),
+        if let Err(fault) = read_directory(&mut meter, &mut window, header, &mut entries) {
+            return Err(refused(OpenFault::Source(fault), meter));
         }
         Ok(Walk {
             meter,
@@ -102,10 +93,7 @@ impl<S: Store + Drop, A: Allocator + Copy> Walk<S, A> {
             window,
             name,
             next: 0,
-            current: Entry {
-                stream_type: 0,
-                location: Location { size: 0, rva: 0 },
-            },
+            current: NO_ENTRY,
             stage: Stage::Between,
         })
     }
@@ -113,11 +101,7 @@ impl<S: Store + Drop, A: Allocator + Copy> Walk<S, A> {
     /// How many ranges the chosen memory lists have, by their heads.
     pub(crate) fn count_ranges(&mut self) -> Result<u128, SourceFault>
         requires { IsSound self.old }
-        ensures sound { IsSound self.new }
-        ensures same { SameEntry self.old self.new }
-        ensures stage { self.new.stage ≡ self.old.stage }
-        ensures reads { Reads (Books (vec_len self.old.entries) (heads_ahead self.old.choice self.old.meter.source.size self.old.entries.items))
-            (λ file count. count ≡ range_count file self.old.choice) result self.old.meter self.new.meter }
+        ensures { CountsRanges self.old result self.new }
     {
         count_ranges(
             &mut self.meter,

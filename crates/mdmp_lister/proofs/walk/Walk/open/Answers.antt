@@ -1,31 +1,77 @@
-use Rattle.std.proofs.Common.{[], arith}
-use Rattle.mdmp_lister.specs.declared.fault.OpenFault.TheVariants.{Memory, Source}
-use Rattle.mdmp_lister.proofs.Refusals.{IsHandedBack-head, IsHandedBack-begun, directory_room}
+use Rattle.std.proofs.Common.{◌+◌, ◌*◌, ◌∙◌, None, arith, refl, rules, sym}
+use Rattle.mdmp_lister.specs.Meter.{Books}
+use Rattle.mdmp_lister.proofs.Fetches.{IsCaused_later}
+use Rattle.mdmp_lister.proofs.Metering.{Books-then}
+use Rattle.mdmp_lister.proofs.Refusals.{IsRefused-directory, IsRefused-header, IsRefused-memory, directory_room, header-long}
 use Rattle.mdmp_lister.proofs.walk.Walk.open.Goals as goal
 
-pub returns-in-Err-clause-handed_back : goal.returns-in-Err-clause-handed_back
-returns-in-Err-clause-handed_back g c =
-    let began = c.new-meter.ensures in
-    rw c.refused.ensures
-    (IsHandedBack-head c.args.choice c.args.source c.read_header.new.meter.source c.in-Err.fault (rw began at c.in-Err.ensures.books.fetches) (rw began at c.in-Err.ensures.books.source_calls)
-    (λ size same. rw began at (c.in-Err.ensures.fits.untouched size (cc))))
+pub returns-in-Err-clause-refused : goal.returns-in-Err-clause-refused
+returns-in-Err-clause-refused g c =
+    let of = c.in-Err.ensures in
+    rw c.refused.ensures (rw c.new-meter.ensures at (IsRefused-header c.args.choice _ c.read_header.new.meter c.in-Err.fault of.fits of.finds of.books of.caused))
 
-pub returns-in_default-clause-handed_back : goal.returns-in_default-clause-handed_back
-returns-in_default-clause-handed_back g c =
-    rw c.refused-in_default.ensures
-    (IsHandedBack-head c.args.choice c.args.source c.read_header.new.meter.source Memory (rw c.new-meter.ensures at c.in-Ok.ensures.books.fetches) (rw c.new-meter.ensures at c.in-Ok.ensures.books.source_calls) (λ size same. cc))
+pub returns-in_default-clause-refused : goal.returns-in_default-clause-refused
+returns-in_default-clause-refused g c =
+    let of = c.in-Ok.ensures in
+    rw c.refused-in_default.ensures (rw c.new-meter.ensures at (IsRefused-memory c.args.choice _ c.read_header.new.meter c.in-Ok.header of.fits of.finds of.books of.caused))
 
-pub returns-in_default-vec-2-clause-handed_back : goal.returns-in_default-vec-2-clause-handed_back
-returns-in_default-vec-2-clause-handed_back g c =
-    rw c.refused-in_default-vec-2.ensures
-    (IsHandedBack-head c.args.choice c.args.source c.read_header.new.meter.source Memory (rw c.new-meter.ensures at c.in-Ok.ensures.books.fetches) (rw c.new-meter.ensures at c.in-Ok.ensures.books.source_calls) (λ size same. cc))
+pub returns-in_default-vec-clause-refused : goal.returns-in_default-vec-clause-refused
+returns-in_default-vec-clause-refused g c =
+    let of = c.in-Ok.ensures in
+    rw c.refused-in_default-vec.ensures (rw c.new-meter.ensures at (IsRefused-memory c.args.choice _ c.read_header.new.meter c.in-Ok.header of.fits of.finds of.books of.caused))
 
-pub returns-in-Err-read_directory-clause-handed_back : goal.returns-in-Err-read_directory-clause-handed_back
-returns-in-Err-read_directory-clause-handed_back g c =
-    let began = c.new-meter.ensures in
-    let h = c.in-Ok.header in
+pub returns-in_default-vec-2-clause-refused : goal.returns-in_default-vec-2-clause-refused
+returns-in_default-vec-2-clause-refused g c =
+    let of = c.in-Ok.ensures in
+    rw c.refused-in_default-vec-2.ensures (rw c.new-meter.ensures at (IsRefused-memory c.args.choice _ c.read_header.new.meter c.in-Ok.header of.fits of.finds of.books of.caused))
+
+pub returns-in-Err-read_directory-clause-refused : goal.returns-in-Err-read_directory-clause-refused
+returns-in-Err-read_directory-clause-refused g c =
+    let of = c.in-Ok.ensures in
+    let read = c.in-Err-read_directory in
     rw c.refused-in-Err-read_directory.ensures
-    (IsHandedBack-begun c.args.choice c.args.source c.read_header.new.meter.source c.read_directory.new.meter.source (Source c.in-Err-read_directory.fault) h [] 32 _ (rw began at c.in-Ok.ensures.books.fetches) c.in-Err-read_directory.ensures.reads.books.fetches (omega arith)
-    (omega arith) (omega (arith, rw began at c.in-Ok.ensures.books.source_calls, c.in-Err-read_directory.ensures.reads.books.source_calls))
-    (directory_room h.stream_directory_rva h.number_of_streams c.args.source.size (rw began at c.in-Ok.ensures.fits.inside))
-    (λ file known. c.in-Ok.ensures.finds file (rw began known)) (λ file known i d over. absurd (omega (arith, over))) (λ of. of))
+    (rw c.new-meter.ensures at (IsRefused-directory c.args.choice _ c.read_header.new.meter c.read_directory.new.meter c.in-Ok.header read.fault of.fits of.finds of.books of.caused read.ensures.reads.books read.ensures.reads.caused))
+
+pub returns-clause-new : goal.returns-clause-new
+returns-clause-new g c =
+    let of = c.in-Ok.ensures in
+    let h = c.in-Ok.header in
+    let n = h.number_of_streams in
+    let began = c.new-meter.ensures in
+    let read = c.in_default-read_directory.ensures in
+    let all : Books (1 + n) (32 + 12 * n) c.new-meter.result c.read_directory.new.meter = Books-then 1 n (1 + n) 32 (12 * n) (32 + 12 * n) c.new-meter.result c.read_header.new.meter c.read_directory.new.meter (omega arith) (omega arith) of.books read.reads.books in
+    let books = rw began at all in
+    let steady = rw began at (IsCaused_later None 32 c.new-meter.result.source c.read_header.new.meter.source c.read_directory.new.meter.source of.books.fetches of.caused read.reads.caused).once in
+    let finds = rw began at of.finds in
+    record {
+      fetches = books.fetches;
+      calls = books.source_calls;
+      steady = steady;
+      fetched = omega (arith, books.fetched);
+      names = books.same_names;
+      aside = books.same_aside;
+      start = books.same_start;
+      entries = read.count;
+      room = search rules;
+      inside = rw began at (directory_room h.stream_directory_rva n c.new-meter.result.source.size of.fits.inside);
+      choice_is = refl;
+      window = search rules;
+      name = search rules;
+      next = refl;
+      stage = refl;
+      sound = record {
+        sized = rw (all.fetches.same_content, all.fetches.same_size) of.fits.sized;
+        window = search rules;
+        small = search rules;
+        few = search rules;
+        placed = omega arith;
+        staged = tt;
+        offset = λ file known. tt;
+        ended = λ end. cc;
+        directory = λ file known. let was = sym all.fetches.same_content ∙ known in read.reads.of_file file (sym read.reads.books.fetches.same_content ∙ known) (of.finds file was).1;
+        header_is = λ file known. (of.finds file (sym all.fetches.same_content ∙ known)).1;
+        unfailed = λ file good. refl;
+      };
+      long = rw began at (header-long h c.new-meter.result.source c.read_header.new.meter.source of.fits);
+      opens = λ file known. (finds file known).0;
+    }
