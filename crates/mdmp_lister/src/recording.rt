@@ -1,11 +1,9 @@
 //! A record of any kind and its name, read through a source.
 ghost use Rattle.std.specs.Prelude.{◌≡◌, ◌≤◌, ◌<◌, ◌+◌, ◌^◌, ℕ, List, Some, length, IfOk};
-ghost use Rattle.mdmp_source.specs.Store.{IsSizeOf};
-ghost use Rattle.mdmp_source.specs.Source.{fault_of};
-ghost use Rattle.mdmp_lister.specs.Fetching.{ReadsRecord, TellsRecord};
+ghost use Rattle.mdmp_lister.specs.Fetching.{Reads, ReadsRecord, TellsRecord};
 ghost use Rattle.mdmp_lister.specs.Items.{item_at, kind_told, range_offset, record_at};
 ghost use Rattle.mdmp_lister.specs.Meter.{Books};
-ghost use Rattle.mdmp_lister.specs.Reading.{Answers, IsCaused};
+ghost use Rattle.mdmp_lister.specs.Reading.{Answers};
 ghost use Rattle.mdmp_lister.specs.Shapes.{greatest_record, record_size};
 ghost use Rattle.mdmp_lister.specs.Steps.{IsStepHeld, step_item};
 
@@ -26,10 +24,8 @@ fn read_record<S: Store>(
 ) -> Result<AnyRecord, SourceFault>
     requires inside { at + record_size kind ≤ meter.old.source.size }
     requires window { greatest_record ≤ length window.old }
-    ensures value { (file : List ℕ) → meter.old.source.store.content ≡ Some file → IfOk result (λ value. record_at kind file at ≡ value) }
     ensures kind { IfOk result (λ value. kind_told value ≡ kind) }
-    ensures books { Books 1 (record_size kind) meter.old meter.new }
-    ensures caused { IsCaused (fault_of result) meter.old.source meter.new.source }
+    ensures reads { Reads (Books 1 (record_size kind)) (λ file value. record_at kind file at ≡ value) result meter.old meter.new }
 {
     match kind {
         Kind::Threads => Ok(AnyRecord::Thread(read(meter, window, at)?)),
@@ -56,7 +52,6 @@ pub(crate) fn read_item<S: Store>(
     at: u64,
     offset: u128,
 ) -> Result<Step, Fault>
-    requires sized { IsSizeOf meter.old.source.store.content meter.old.source.size }
     requires inside { at + record_size kind ≤ meter.old.source.size }
     requires window { greatest_record ≤ length window.old }
     requires small { length buffer.old < 2 ^ 32 }
@@ -68,6 +63,8 @@ pub(crate) fn read_item<S: Store>(
     ensures length { length buffer.new ≡ length buffer.old }
     ensures reads { ReadsRecord (length buffer.new) kind result meter.old meter.new }
 {
+    // The proof learns here that the size is that of the content.
+    let _size = meter.size();
     let fields = read_record(meter, window, kind, at)?;
     let Some(rva) = fields.name_rva() else {
         return Ok(Step::Record(RecordRead {
