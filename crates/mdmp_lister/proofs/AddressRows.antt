@@ -1,7 +1,7 @@
 -- Worked reads of addresses, computed by the definitions.
 use Rattle.std.proofs.Common.{◌≡◌, ℕ, true, false, List, [], ◌∷◌, Some, None, refl}
 use Rattle.mdmp_map.specs.declared.range.Range.{Range}
-use Rattle.mdmp_lister.specs.Addresses.{cells, cells_at, held_at}
+use Rattle.mdmp_lister.specs.Addressing.{cells, cells_at, held_at}
 
 abbrev range_of : ℕ → ℕ → ℕ → Range
 range_of start length offset = record { start = start; length = length; offset = offset }

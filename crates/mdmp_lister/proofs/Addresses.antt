@@ -6,7 +6,7 @@ use Rattle.std.proofs.lemmas.List.FromFn.{length-map-range_with_len, map-range_w
 use Rattle.mdmp_map.specs.declared.range.Range.{Range}
 use Rattle.mdmp_map.specs.Ranges.{address_end, byte_at, first_range, holds}
 use Rattle.mdmp_map.specs.RangeLaws.{first_range-passes}
-use Rattle.mdmp_lister.specs.Addresses.{ReadsCells, cell, cells, is_held}
+use Rattle.mdmp_lister.specs.Addressing.{ReadsCells, cell, cells, is_held}
 
 -- ---- numbers behind the last address
 

@@ -10,13 +10,13 @@ use Rattle.mdmp_lister.specs.declared.walk.Walk.{Walk}
 use Rattle.mdmp_lister.specs.declared.item.Item.{Item}
 use Rattle.mdmp_lister.specs.declared.step.Step.{Step}
 use Rattle.mdmp_lister.specs.declared.fault.OpenFault.{OpenFault}
-use Rattle.mdmp_lister.specs.Heads.{heads_ahead}
-use Rattle.mdmp_lister.specs.Items.{plain}
+use Rattle.mdmp_lister.specs.Heading.{heads_ahead}
+use Rattle.mdmp_lister.specs.Format.Item.{plain}
 use Rattle.mdmp_lister.specs.Opening.{IsHandedBack, IsOfHead}
 use Rattle.mdmp_lister.specs.Lister.{Rooms, current_after, passed_after}
-use Rattle.mdmp_lister.specs.Listing.{Run}
-use Rattle.mdmp_lister.specs.Steps.{current_by, passed_by, step_item}
-use Rattle.mdmp_lister.specs.Summary.{Summary, entry_begun, number_behind}
+use Rattle.mdmp_lister.specs.Format.Listing.{Run}
+use Rattle.mdmp_lister.specs.Step.{current_by, passed_by, step_item}
+use Rattle.mdmp_lister.specs.Format.Summary.{Summary, entry_begun, number_behind}
 use Rattle.mdmp_lister.proofs.Refusals.{IsHandedBack-begun}
 use Rattle.mdmp_lister.proofs.Summary.{begins_as, summary_of-plain}
 use Rattle.mdmp_lister.specs.Walk.{CountsRanges, IsNewWalk, SameRoom}

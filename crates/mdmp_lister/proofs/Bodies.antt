@@ -11,11 +11,12 @@ use Rattle.mdmp_lister.specs.declared.fault.ListFault.{ListFault}
 use Rattle.mdmp_lister.specs.declared.item.Item.{Item}
 use Rattle.mdmp_lister.specs.declared.kind.Kind.{Kind}
 use Rattle.mdmp_lister.specs.declared.shape.Shape.{Shape}
-use Rattle.mdmp_lister.specs.Directory.{IsFirstChosen}
-use Rattle.mdmp_lister.specs.Items.{item_at}
-use Rattle.mdmp_lister.specs.Listing.{Numbered, Run, all_joined, body_of, entry_listing, entry_of, items_from, joined, list_fault, listing_from, only_fault, stream_item, with_item}
-use Rattle.mdmp_lister.specs.Shapes.{kind_of, location_fault, shape_of}
-use Rattle.mdmp_lister.specs.Stages.{fault_stage, stage_by}
+use Rattle.mdmp_lister.specs.Format.Directory.{IsFirstChosen}
+use Rattle.mdmp_lister.specs.Format.Item.{item_at}
+use Rattle.mdmp_lister.specs.Format.Listing.{Numbered, Run, all_joined, body_of, entry_listing, entry_of, items_from, joined, list_fault, listing_from, only_fault, stream_item, with_item}
+use Rattle.mdmp_lister.specs.Format.Kind.{kind_of}
+use Rattle.mdmp_lister.specs.Format.Shape.{location_fault, shape_of}
+use Rattle.mdmp_lister.specs.Stage.{fault_stage, stage_by}
 use Rattle.mdmp_lister.specs.Walk.{left_of_entry}
 use Rattle.mdmp_lister.proofs.Runs.{items_from-Ok, items_from-Err}
 

@@ -4,11 +4,10 @@ use Rattle.mdmp_wire.specs.declared.entry.Entry.{Entry}
 use Rattle.mdmp_lister.specs.declared.item.Item.{Item}
 use Rattle.mdmp_lister.specs.declared.step.Step.{Step}
 use Rattle.mdmp_lister.specs.declared.step.Step.TheVariants as step
-use Rattle.mdmp_lister.specs.Classes.{IsClassed, IsRecordOf, IsStream}
-use Rattle.mdmp_lister.specs.Items.{plain}
-use Rattle.mdmp_lister.specs.Reading.{name_read}
-use Rattle.mdmp_lister.specs.Shapes.{kind_of}
-use Rattle.mdmp_lister.specs.Steps.{IsStepOf, step_item}
+use Rattle.mdmp_lister.specs.Format.Classes.{IsClassed, IsRecordOf, IsStream}
+use Rattle.mdmp_lister.specs.Format.Item.{plain}
+use Rattle.mdmp_lister.specs.Step.{name_read, IsStepOf, step_item}
+use Rattle.mdmp_lister.specs.Format.Kind.{kind_of}
 use Rattle.mdmp_lister.proofs.Summary.{plain-plain}
 
 -- whatever place its name is lent from

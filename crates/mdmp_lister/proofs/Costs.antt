@@ -10,20 +10,21 @@ use Rattle.mdmp_lister.specs.declared.fetching.NameRead.TheVariants as read
 use Rattle.mdmp_lister.specs.declared.item.Item.{Item}
 use Rattle.mdmp_lister.specs.declared.kind.Kind.{Kind}
 use Rattle.mdmp_lister.specs.declared.name.Name.{Name}
-use Rattle.mdmp_lister.specs.declared.name.Name.TheVariants.{NoName, Units, Long}
+use Rattle.mdmp_lister.specs.declared.name.Name.TheVariants.{Units, Long}
+use Rattle.mdmp_lister.specs.declared.name.Name.TheVariants as names
 use Rattle.mdmp_lister.specs.declared.stage.Stage.{Stage}
 use Rattle.mdmp_lister.specs.declared.stage.Stage.TheVariants.{Head}
 use Rattle.mdmp_lister.specs.declared.step.Step.{Step}
 use Rattle.mdmp_lister.specs.declared.step.Step.TheVariants as step
 use Rattle.mdmp_lister.specs.Costs.{bad_name_cost, fault_by, fault_cost, head_begun, head_given, head_left, head_told, item_cost, name_cost, read_cost, record_cost, size_by, step_cost}
-use Rattle.mdmp_lister.specs.Items.{kind_told, plain}
-use Rattle.mdmp_lister.specs.Listing.{list_fault}
-use Rattle.mdmp_lister.specs.Names.{plain_name}
-use Rattle.mdmp_lister.specs.Reading.{IsHeld, IsOfSource, name_read}
-use Rattle.mdmp_lister.specs.Shapes.{kind_of, record_size}
-use Rattle.mdmp_lister.specs.Stages.{stop_of}
-use Rattle.mdmp_lister.specs.Steps.{IsNameHeld, IsStepOf, step_item}
-use Rattle.mdmp_lister.specs.Summary.{Summary, summary_of}
+use Rattle.mdmp_lister.specs.Format.Item.{kind_told, plain}
+use Rattle.mdmp_lister.specs.Format.Listing.{list_fault}
+use Rattle.mdmp_lister.specs.Format.Name.{plain_name}
+use Rattle.mdmp_lister.specs.Step.{IsHeld, name_read, IsNameHeld, IsStepOf, step_item}
+use Rattle.mdmp_lister.specs.Fault.{IsOfSource}
+use Rattle.mdmp_lister.specs.Format.Kind.{kind_of, record_size}
+use Rattle.mdmp_lister.specs.Stage.{stop_of}
+use Rattle.mdmp_lister.specs.Format.Summary.{Summary, summary_of}
 use Rattle.mdmp_lister.proofs.Summary.{begins_as, summary_of-plain, summary_of-read}
 
 -- a name that the store keeps from being read
@@ -34,7 +35,7 @@ source_name_cost limit _ of = absurd of
 -- ---- items and their steps
 
 name_cost-plain : (name : Name) → name_cost (plain_name name) ≡ name_cost name
-name_cost-plain NoName = refl
+name_cost-plain names.None = refl
 name_cost-plain (Units units) = refl
 name_cost-plain (Long bytes) = refl
 
@@ -44,7 +45,7 @@ item_cost-plain x =
     ap (λ (t : Summary). t.bytes + name_cost t.name) (summary_of-plain x) ∙ ap (λ n. s.bytes + n) (name_cost-plain s.name)
 
 name_cost-read : (buffer : List ℕ) (name : NameRead) → IsHeld (length buffer) name → name_cost (name_read buffer name) ≡ read_cost name
-name_cost-read buffer read.NoName held = refl
+name_cost-read buffer read.None held = refl
 name_cost-read buffer (read.Long bytes) held = refl
 name_cost-read buffer (read.Units bytes) held = let room : bytes ≤ length buffer = held.0 in rw length-take (omega (arith, room))
 

@@ -4,9 +4,9 @@ use Rattle.std.specs.Prelude.{map}
 use Rattle.std.proofs.lemmas.List.Sums.{sum_by-cons}
 use Rattle.mdmp_wire.specs.declared.entry.Entry.{Entry}
 use Rattle.mdmp_lister.specs.declared.choice.Choice.{Choice}
-use Rattle.mdmp_lister.specs.Listing.{Numbered, joined, nothing, all_joined, entry_listing, listing_from, chosen_from, entries_from, only_chosen, entry_count, entry_of, is_chosen}
-use Rattle.mdmp_lister.specs.Counts.{ranges_in, ranges_of_all}
-use Rattle.mdmp_lister.specs.Shapes.{kind_of}
+use Rattle.mdmp_lister.specs.Format.Listing.{Numbered, joined, nothing, all_joined, entry_listing, listing_from, chosen_from, entries_from, only_chosen, entry_count, entry_of, is_chosen}
+use Rattle.mdmp_lister.specs.Format.Numbers.{ranges_in, ranges_of_all}
+use Rattle.mdmp_lister.specs.Format.Kind.{kind_of}
 
 chosen_from-has : (F : List ℕ) (choice : Choice) (i : ℕ) → i < entry_count F → true ≡ is_chosen choice (entry_of F i).stream_type
     → chosen_from F choice i ≡ record { number = i; entry = entry_of F i } ∷ chosen_from F choice (i + 1)

@@ -10,7 +10,7 @@ use Rattle.mdmp_lister.specs.declared.fault.Fault.{Fault}
 use Rattle.mdmp_lister.specs.declared.fault.FaultKind.{FaultKind}
 use Rattle.mdmp_lister.specs.declared.fault.FaultKind.TheVariants as kinds
 use Rattle.mdmp_lister.specs.declared.fault.ListFault.{ListFault}
-use Rattle.mdmp_lister.specs.Reading.{IsCaused, IsCausedAt, IsOfSource, IsPlaced, IsPlacedAt, IsSteady, IsToldBy, IsToldIn, source_fault, source_of}
+use Rattle.mdmp_lister.specs.Fault.{IsCaused, IsCausedAt, IsOfSource, IsPlaced, IsPlacedAt, IsSteady, IsToldBy, IsToldIn, source_fault, source_of}
 use Rattle.mdmp_source.specs.declared.fault.SourceFault.TheVariants.{Failed, ShortRead, Changed}
 use Rattle.mdmp_lister.specs.declared.fault.OpenFault.{OpenFault}
 use Rattle.mdmp_lister.specs.declared.fault.OpenFault.TheVariants.{Source}

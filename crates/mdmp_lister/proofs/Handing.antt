@@ -6,21 +6,21 @@ use Rattle.mdmp_source.specs.SourceLaws.{fetches_then}
 use Rattle.mdmp_wire.specs.declared.entry.Entry.{Entry}
 use Rattle.mdmp_lister.specs.declared.item.Item.{Item}
 use Rattle.mdmp_lister.specs.declared.sink.Stopped.{Stopped}
-use Rattle.mdmp_lister.specs.Handing.{AllClassed, Taken, TakenToStop, current_behind, give_all, names_of_all, passed_behind}
+use Rattle.mdmp_lister.specs.Sink.{AllClassed, Taken, TakenToStop, current_behind, give_all, names_of_all, passed_behind}
 use Rattle.std.specs.Prelude.{drop, slice_get}
 use Rattle.mdmp_lister.specs.declared.fault.ListFault.{ListFault}
-use Rattle.mdmp_lister.specs.Classes.{IsClassed}
+use Rattle.mdmp_lister.specs.Format.Classes.{IsClassed}
 use Rattle.mdmp_lister.specs.Costs.{fault_cost, head_given, item_cost, items_cost}
-use Rattle.mdmp_lister.specs.Counts.{names_of}
-use Rattle.mdmp_lister.specs.Items.{plain}
+use Rattle.mdmp_lister.specs.Format.Numbers.{names_of}
+use Rattle.mdmp_lister.specs.Format.Item.{plain}
 use Rattle.mdmp_lister.proofs.Naming.{names_of-plain}
 use Rattle.mdmp_lister.proofs.Advancing.{current_after-plain}
 use Rattle.mdmp_lister.proofs.Classes.{classed-plain}
 use Rattle.mdmp_lister.proofs.Costs.{head_given-plain, item_cost-plain}
 use Rattle.mdmp_lister.proofs.Fetches.{FetchesAtMost-none, FetchesAtMost-within}
 use Rattle.mdmp_lister.specs.Lister.{IsSameLister, ListerState, current_after, passed_after, tail}
-use Rattle.mdmp_lister.specs.Listing.{Run, with_item}
-use Rattle.mdmp_lister.specs.Ranges.{ranges_of}
+use Rattle.mdmp_lister.specs.Format.Listing.{Run, with_item}
+use Rattle.mdmp_lister.specs.Format.Ranges.{ranges_of}
 
 pub give_all-more : (old : Run) (xs : List Item) (x : Item) (rest new : Run) → old ≡ give_all xs rest → rest ≡ with_item x new → old ≡ give_all (xs ++ x ∷ []) new
 give_all-more old xs x rest new given next = given ∙ rw (next, append_assoc) refl

@@ -1,16 +1,16 @@
 -- The heads that are fetched as a file is opened, one by one.
-use Rattle.std.proofs.Common.{◌≡◌, ◌≤◌, ◌<◌, ◌+◌, ◌*◌, ℕ, List, [], ◌∷◌, Bool, Option, Some, None, true, false, if◌then◌else◌, inl, inr, refl, subst, sym, length, get_or, take}
+use Rattle.std.proofs.Common.{◌≡◌, ◌≤◌, ◌<◌, ◌+◌, ◌*◌, ℕ, List, [], ◌∷◌, Bool, Option, Some, None, true, false, if◌then◌else◌, inl, inr, refl, subst, sym, length, get_or, take, arith}
 use Rattle.std.proofs.lemmas.Grind.{common_steps}
-use Rattle.std.proofs.Common.{arith}
 use Rattle.std.proofs.lemmas.List.Sums.{sum_by-cons, sum_by_more, sum_by-take-le}
 use Rattle.mdmp_source.specs.Range.{IsInside}
 use Rattle.mdmp_wire.specs.declared.entry.Entry.{Entry}
 use Rattle.mdmp_lister.specs.declared.choice.Choice.{Choice}
 use Rattle.mdmp_lister.specs.declared.kind.Kind.{Kind}
-use Rattle.mdmp_lister.specs.Heads.{ahead_by, ahead_of, chosen_ahead, head_inside, head_of, head_spent, heads_ahead}
-use Rattle.mdmp_lister.specs.Listing.{is_chosen}
+use Rattle.mdmp_lister.specs.Heading.{ahead_by, ahead_of, chosen_ahead, head_inside, head_of, head_spent, heads_ahead}
+use Rattle.mdmp_lister.specs.Format.Listing.{is_chosen}
 use Rattle.mdmp_lister.specs.Meter.{Books, MeterState}
-use Rattle.mdmp_lister.specs.Shapes.{form_of, head_cost, kind_of, lists_ranges, location_fault}
+use Rattle.mdmp_lister.specs.Format.Kind.{form_of, kind_of, lists_ranges}
+use Rattle.mdmp_lister.specs.Format.Shape.{head_cost, location_fault}
 use Rattle.mdmp_lister.proofs.Sizes.{most_head}
 
 -- a stream of a known type whose location has no fault lies inside

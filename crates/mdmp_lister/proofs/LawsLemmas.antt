@@ -13,11 +13,12 @@ use Rattle.mdmp_lister.specs.declared.fault.ListFault.{ListFault}
 use Rattle.mdmp_lister.specs.declared.name.Name.{Name}
 use Rattle.mdmp_lister.specs.declared.item.Item.{Item}
 use Rattle.mdmp_lister.specs.declared.verdict.Verdict.{Verdict}
-use Rattle.mdmp_lister.specs.Items.{item_at, named, offset_in, record_at}
-use Rattle.mdmp_lister.specs.Shapes.{kind_of, shape_of, location_fault}
-use Rattle.mdmp_lister.specs.Listing.{Numbered, Run, all_joined, body_of, entries_from, entry_count, entry_listing, entry_of, item_then, items_from, joined, list_fault, listing, nothing, only_chosen, only_fault, records_of, shaped, stream_item, verdicts, with_item}
-use Rattle.mdmp_lister.specs.Laws.{entry_number, first_fault, is_good, is_of, part_of, stands_in}
-use Rattle.mdmp_lister.specs.Summary.{Summary}
+use Rattle.mdmp_lister.specs.Format.Item.{item_at, named, offset_in, record_at}
+use Rattle.mdmp_lister.specs.Format.Kind.{kind_of}
+use Rattle.mdmp_lister.specs.Format.Shape.{shape_of, location_fault}
+use Rattle.mdmp_lister.specs.Format.Listing.{Numbered, Run, all_joined, body_of, entries_from, entry_count, entry_listing, entry_of, item_then, items_from, joined, list_fault, listing, nothing, only_chosen, only_fault, records_of, shaped, stream_item, verdicts, with_item}
+use Rattle.mdmp_lister.specs.Format.Laws.{entry_number, first_fault, is_good, is_of, part_of, stands_in}
+use Rattle.mdmp_lister.specs.Format.Summary.{Summary}
 use Rattle.mdmp_lister.proofs.Summary.{summary_of-item_of}
 
 -- ---- what an entry gives

@@ -15,15 +15,14 @@ use Rattle.mdmp_lister.specs.declared.item.RangeItem.{RangeItem}
 use Rattle.mdmp_lister.specs.declared.step.Step.{Step}
 use Rattle.mdmp_lister.specs.declared.step.Step.TheVariants as step
 use Rattle.mdmp_lister.specs.declared.walk.Walk.{Walk}
-use Rattle.mdmp_lister.specs.Items.{kind_told, plain, range64_item, range_item}
-use Rattle.mdmp_lister.specs.Paying.{IsBounded}
-use Rattle.mdmp_lister.specs.Mapping.{IsMapped}
-use Rattle.mdmp_lister.specs.Owing.{HasRoom, count_told, ranges_by}
-use Rattle.mdmp_lister.specs.Ranges.{IsPlacedIn, IsRangeIn, range_in, range_kept, range_of, ranges_of}
-use Rattle.mdmp_lister.specs.Reading.{name_read}
-use Rattle.mdmp_lister.specs.Steps.{step_item}
-use Rattle.mdmp_lister.specs.Summary.{Summary, summary_of}
-use Rattle.mdmp_lister.specs.Counts.{range_count}
+use Rattle.mdmp_lister.specs.Format.Item.{kind_told, plain, range64_item, range_item}
+use Rattle.mdmp_lister.specs.Walk.Paying.{IsBounded}
+use Rattle.mdmp_lister.specs.Walk.Mapping.{IsMapped}
+use Rattle.mdmp_lister.specs.Walk.Owing.{HasRoom, count_told, ranges_by}
+use Rattle.mdmp_lister.specs.Format.Ranges.{IsPlacedIn, IsRangeIn, range_in, range_kept, range_of, ranges_of}
+use Rattle.mdmp_lister.specs.Step.{name_read, step_item}
+use Rattle.mdmp_lister.specs.Format.Summary.{Summary, summary_of}
+use Rattle.mdmp_lister.specs.Format.Numbers.{range_count}
 use Rattle.mdmp_source.specs.Source.{FetchesAtMost}
 use Rattle.mdmp_lister.specs.Walk.{IsSound, SameRoom}
 use Rattle.mdmp_lister.proofs.Summary.{range_told, summary_of-item_of, summary_of-plain}

@@ -6,23 +6,24 @@ use Rattle.mdmp_lister.specs.declared.fetching.NameRead.TheVariants as read
 use Rattle.mdmp_lister.specs.declared.item.Item.{Item}
 use Rattle.mdmp_lister.specs.declared.kind.Kind.{Kind}
 use Rattle.mdmp_lister.specs.declared.name.Name.{Name}
-use Rattle.mdmp_lister.specs.declared.name.Name.TheVariants.{NoName, Units, Long}
+use Rattle.mdmp_lister.specs.declared.name.Name.TheVariants.{Units, Long}
+use Rattle.mdmp_lister.specs.declared.name.Name.TheVariants as names
 use Rattle.mdmp_lister.specs.declared.step.Step.{Step}
 use Rattle.mdmp_lister.specs.declared.step.Step.TheVariants as step
 use Rattle.mdmp_lister.specs.declared.fault.FaultKind.{FaultKind}
 use Rattle.mdmp_lister.specs.declared.fault.FaultKind.TheVariants.{NameLengthOutside, NameOdd, NameUnitsOutside, Source}
 use Rattle.mdmp_lister.specs.Meter.{MeterState}
-use Rattle.mdmp_lister.specs.Counts.{faulty_name, named_once, names_of}
-use Rattle.mdmp_lister.specs.Items.{plain}
-use Rattle.mdmp_lister.specs.Names.{plain_name}
-use Rattle.mdmp_lister.specs.Reaching.{ReachesAtFault, read_once, told_once}
-use Rattle.mdmp_lister.specs.Reading.{IsOfSource, name_read}
-use Rattle.mdmp_lister.specs.Steps.{IsStepOf, step_item}
-use Rattle.mdmp_lister.specs.Summary.{Summary, summary_of}
+use Rattle.mdmp_lister.specs.Format.Numbers.{faulty_name, named_once, names_of}
+use Rattle.mdmp_lister.specs.Format.Item.{plain}
+use Rattle.mdmp_lister.specs.Format.Name.{plain_name}
+use Rattle.mdmp_lister.specs.Walk.Reaching.{ReachesAtFault, read_once, told_once}
+use Rattle.mdmp_lister.specs.Fault.{IsOfSource}
+use Rattle.mdmp_lister.specs.Step.{name_read, IsStepOf, step_item}
+use Rattle.mdmp_lister.specs.Format.Summary.{Summary, summary_of}
 use Rattle.mdmp_lister.proofs.Summary.{summary_of-plain, summary_of-read}
 
 named_once-plain : (name : Name) → named_once (plain_name name) ≡ named_once name
-named_once-plain NoName = refl
+named_once-plain names.None = refl
 named_once-plain (Units units) = refl
 named_once-plain (Long bytes) = refl
 
@@ -30,7 +31,7 @@ pub names_of-plain : (x : Item) → names_of (plain x) ≡ names_of x
 names_of-plain x = ap (λ (s : Summary). named_once s.name) (summary_of-plain x) ∙ named_once-plain (summary_of x).name
 
 named_once-read : (buffer : List ℕ) (name : NameRead) → named_once (name_read buffer name) ≡ read_once name
-named_once-read buffer read.NoName = refl
+named_once-read buffer read.None = refl
 named_once-read buffer (read.Units bytes) = refl
 named_once-read buffer (read.Long bytes) = refl
 
@@ -42,7 +43,7 @@ names_of-step : (z : ℕ) (buffer : List ℕ) (kind : Option Kind) (s : Step) (x
 names_of-step z buffer kind s x of same = sym (names_of-plain x) ∙ ap names_of same ∙ names_of-read z buffer kind s of
 
 read_most : (name : NameRead) → read_once name ≤ 1
-read_most read.NoName = omega arith
+read_most read.None = omega arith
 read_most _ = omega arith
 
 told_most : (s : Step) → told_once s ≤ 1

@@ -6,11 +6,11 @@ use Rattle.std.proofs.lemmas.List.Sums.{sum_by-cons}
 use Rattle.mdmp_wire.specs.declared.entry.Entry.{Entry}
 use Rattle.mdmp_lister.specs.declared.choice.Choice.{Choice}
 use Rattle.mdmp_lister.specs.declared.walk.Walk.{Walk}
-use Rattle.mdmp_lister.specs.Bounds.{fetch_bound}
-use Rattle.mdmp_lister.specs.Counts.{is_listed, listed, listed_bytes, sizes_of}
-use Rattle.mdmp_lister.specs.Directory.{IsDirectory}
-use Rattle.mdmp_lister.specs.Listing.{Numbered, entries_from, entry_count, entry_of, is_chosen, only_chosen}
-use Rattle.mdmp_lister.specs.Paying.{IsBounded, cost_of, entry_cost}
+use Rattle.mdmp_lister.specs.Format.Bounds.{fetch_bound}
+use Rattle.mdmp_lister.specs.Format.Numbers.{is_listed, listed, listed_bytes, sizes_of}
+use Rattle.mdmp_lister.specs.Format.Directory.{IsDirectory}
+use Rattle.mdmp_lister.specs.Format.Listing.{Numbered, entries_from, entry_count, entry_of, is_chosen, only_chosen}
+use Rattle.mdmp_lister.specs.Walk.Paying.{IsBounded, cost_of, entry_cost}
 use Rattle.mdmp_lister.specs.Walk.{IsSound}
 use Rattle.mdmp_lister.proofs.Heads.{heads_few}
 use Rattle.mdmp_lister.proofs.Paying.{paid_bound}

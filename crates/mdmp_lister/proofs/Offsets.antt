@@ -13,9 +13,8 @@ use Rattle.mdmp_lister.specs.declared.item.Item.TheVariants as items
 use Rattle.mdmp_lister.specs.declared.name.Name.{Name}
 use Rattle.mdmp_lister.specs.declared.step.Step.{Step}
 use Rattle.mdmp_lister.specs.declared.step.Step.TheVariants as step
-use Rattle.mdmp_lister.specs.Items.{item_at, item_of, kind_told, range64_item, range_offset, sizes_before}
-use Rattle.mdmp_lister.specs.Reading.{name_read}
-use Rattle.mdmp_lister.specs.Steps.{IsStepOf, bytes_behind, range64_size, step_item}
+use Rattle.mdmp_lister.specs.Format.Item.{item_at, item_of, kind_told, range64_item, range_offset, sizes_before}
+use Rattle.mdmp_lister.specs.Step.{name_read, IsStepOf, bytes_behind, range64_size, step_item}
 
 -- the first of some ranges, and the others
 pub sizes_before-step : (F : List ℕ) (o n j m : ℕ) → n ≡ suc m → j ≡ o + 16 → number_at F (o + 8) 8 + sizes_before F j m ≡ sizes_before F o n

@@ -10,10 +10,11 @@ use Rattle.mdmp_source.specs.Source.{SourceState}
 use Rattle.mdmp_source.specs.declared.fault.SourceFault.TheVariants.{Changed}
 use Rattle.mdmp_lister.specs.declared.fault.FaultKind.TheVariants.{Source}
 use Rattle.mdmp_lister.specs.declared.fault.ListFault.{ListFault}
-use Rattle.mdmp_lister.specs.Reading.{IsRanged, IsToldIn}
-use Rattle.mdmp_lister.specs.Counts.{ranges_if, ranges_in}
-use Rattle.mdmp_lister.specs.Owing.{HasRoom, ranges_by}
-use Rattle.mdmp_lister.specs.Shapes.{kind_of, lists_ranges, location_fault, shape_of}
+use Rattle.mdmp_lister.specs.Fault.{IsRanged, IsToldIn}
+use Rattle.mdmp_lister.specs.Format.Numbers.{ranges_if, ranges_in}
+use Rattle.mdmp_lister.specs.Walk.Owing.{HasRoom, ranges_by}
+use Rattle.mdmp_lister.specs.Format.Kind.{kind_of, lists_ranges}
+use Rattle.mdmp_lister.specs.Format.Shape.{location_fault, shape_of}
 
 shape-ranges : (F : List ℕ) (e : Entry) (kind : Kind) (shape : Shape) (list : Bool) → location_fault (length F) e ≡ None → kind_of e.stream_type ≡ Some kind
     → shape_of F e.location.rva e.location.size kind ≡ Ok shape → ranges_if F e list ≡ (if list then shape.count else 0)

@@ -15,12 +15,13 @@ use Rattle.mdmp_lister.specs.declared.kind.Kind.{Kind}
 use Rattle.mdmp_lister.specs.declared.shape.Shape.{Shape}
 use Rattle.mdmp_lister.specs.declared.stage.Stage.TheVariants.{Between}
 use Rattle.mdmp_lister.specs.declared.walk.Walk.{Walk}
-use Rattle.mdmp_lister.specs.Listing.{is_chosen}
-use Rattle.mdmp_lister.specs.Heads.{head_spent, heads_ahead}
+use Rattle.mdmp_lister.specs.Format.Listing.{is_chosen}
+use Rattle.mdmp_lister.specs.Heading.{head_spent, heads_ahead}
 use Rattle.mdmp_lister.specs.Meter.{Books, Spends}
-use Rattle.mdmp_lister.specs.Paying.{IsBounded, IsPaid, cost_of, entry_cost, owed_of}
-use Rattle.mdmp_lister.specs.Shapes.{FitsIn, form_of, head_cost, kind_of, record_size}
-use Rattle.mdmp_lister.specs.Stages.{fault_stage, stage_by}
+use Rattle.mdmp_lister.specs.Walk.Paying.{IsBounded, IsPaid, cost_of, entry_cost, owed_of}
+use Rattle.mdmp_lister.specs.Format.Shape.{FitsIn, head_cost}
+use Rattle.mdmp_lister.specs.Format.Kind.{form_of, kind_of, record_size}
+use Rattle.mdmp_lister.specs.Stage.{fault_stage, stage_by}
 use Rattle.mdmp_lister.proofs.Sizes.{least_head, least_record}
 use Rattle.mdmp_lister.specs.Walk.{CountsRanges, IsNewWalk, SameEntry, SameRoom, stage_work}
 

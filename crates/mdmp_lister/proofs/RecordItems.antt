@@ -7,7 +7,7 @@ use Rattle.mdmp_lister.specs.declared.item.Item.{Item}
 use Rattle.mdmp_lister.specs.declared.kind.Kind.{Kind}
 use Rattle.mdmp_lister.specs.declared.kind.Kind.TheVariants as kinds
 use Rattle.mdmp_lister.specs.declared.name.Name.{Name}
-use Rattle.mdmp_lister.specs.Items.{item_at, item_of, name_of, named, offset_in, range_offset, record_at}
+use Rattle.mdmp_lister.specs.Format.Item.{item_at, item_of, name_of, named, offset_in, range_offset, record_at}
 
 -- only the bytes of a 64-bit range are said to stand elsewhere
 item_of-offset : (F : List ℕ) (z e k at o offset : ℕ) (kind : Kind) (name : Name) → (kind ≡ kinds.Memory64 → offset ≡ range_offset F at k)

@@ -14,15 +14,16 @@ use Rattle.mdmp_wire.specs.declared.header_fault.HeaderFault.TheVariants as head
 use Rattle.mdmp_wire.specs.Header.{header_at, header_at-part}
 use Rattle.mdmp_wire.specs.HeaderFault.{fault_of, header_fault}
 use Rattle.mdmp_lister.specs.declared.choice.Choice.{Choice}
-use Rattle.mdmp_lister.specs.Directory.{AreFirst}
-use Rattle.mdmp_lister.specs.Heads.{heads_ahead}
+use Rattle.mdmp_lister.specs.Format.Directory.{AreFirst}
+use Rattle.mdmp_lister.specs.Heading.{heads_ahead}
 use Rattle.mdmp_lister.specs.declared.fault.OpenFault.{OpenFault}
 use Rattle.mdmp_lister.specs.declared.fault.OpenFault.TheVariants.{TooShort, BadSignature, BadVersion, DirectoryOutside, TooManyRanges, Source, Memory}
 use Rattle.mdmp_lister.specs.Meter.{Books, MeterState}
-use Rattle.mdmp_lister.specs.Reading.{IsCaused}
+use Rattle.mdmp_lister.specs.Fault.{IsCaused}
 use Rattle.mdmp_lister.proofs.Fetches.{FetchesAtMost-within, IsCaused_later, not_unread, unread_caused}
 use Rattle.mdmp_lister.proofs.Heads.{heads_few}
-use Rattle.mdmp_lister.specs.Opening.{Finds, IsDirectoryRefusal, IsHandedBack, IsOfHead, IsRefusalOf, IsRefused, FitsHeader, unread_of, behind_directory, directory_refusal, behind_header}
+use Rattle.mdmp_lister.specs.Opening.{Finds, IsDirectoryRefusal, IsHandedBack, IsOfHead, IsRefusalOf, IsRefused, FitsHeader, unread_of}
+use Rattle.mdmp_lister.specs.Format.Refusal.{behind_directory, directory_refusal, behind_header}
 
 -- the fault of the directory that a header places in a file of `size` bytes, or none
 abbrev placed_fault : Header → ℕ → Option OpenFault

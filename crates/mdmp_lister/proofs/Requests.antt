@@ -12,15 +12,15 @@ use Rattle.mdmp_lister.specs.declared.stage.Stage.TheVariants.{Bad, Between, End
 use Rattle.mdmp_lister.specs.declared.step.Step.{Step}
 use Rattle.mdmp_lister.specs.declared.walk.Walk.{Walk}
 use Rattle.mdmp_lister.specs.Costs.{fault_cost, given_spent, head_left, head_told, step_cost}
-use Rattle.mdmp_lister.specs.Listing.{Run, joined, nothing, only_fault, with_item}
+use Rattle.mdmp_lister.specs.Format.Listing.{Run, joined, nothing, only_fault, with_item}
 use Rattle.mdmp_lister.specs.Meter.{Books, MeterState, Moves, Spends, counts_of}
-use Rattle.mdmp_lister.specs.Paying.{owed_of}
-use Rattle.mdmp_lister.specs.Reaching.{Reaches, given_once, told_once}
-use Rattle.mdmp_lister.specs.Reading.{IsOfSource}
-use Rattle.mdmp_lister.specs.Requests.{Answered, FaultMet, HeadRead, StepGiven}
-use Rattle.mdmp_lister.specs.Shapes.{kind_of}
-use Rattle.mdmp_lister.specs.Stages.{failure_of, fault_stage, stage_by, stop_of}
-use Rattle.mdmp_lister.specs.Steps.{CurrentAfter, IsStepHeld, current_by, passed_by, step_item}
+use Rattle.mdmp_lister.specs.Walk.Paying.{owed_of}
+use Rattle.mdmp_lister.specs.Walk.Reaching.{Reaches, given_once, told_once}
+use Rattle.mdmp_lister.specs.Fault.{IsOfSource}
+use Rattle.mdmp_lister.specs.Walk.Requests.{Answered, FaultMet, HeadRead, StepGiven}
+use Rattle.mdmp_lister.specs.Format.Kind.{kind_of}
+use Rattle.mdmp_lister.specs.Stage.{failure_of, fault_stage, stage_by, stop_of}
+use Rattle.mdmp_lister.specs.Step.{CurrentAfter, IsStepHeld, current_by, passed_by, step_item}
 use Rattle.mdmp_lister.specs.Walk.{Advances, IsListing, IsSound, IsThrough, PassesTo, SameEntry, SameRoom, current_of, left_of, left_of_entry, rest_of, stage_work, work_of}
 use Rattle.mdmp_lister.proofs.Bodies.{joined-with_item}
 use Rattle.mdmp_lister.proofs.Ending.{left_of-ended, left_of-fault}

@@ -4,7 +4,8 @@ use Rattle.std.proofs.Math.Nat.{mul-le-mul_left}
 use Rattle.mdmp_lister.specs.declared.kind.Kind.{Kind}
 use Rattle.mdmp_lister.specs.declared.shape.Shape.{Shape}
 use Rattle.mdmp_source.specs.Range.{IsInside}
-use Rattle.mdmp_lister.specs.Shapes.{FitsIn, record_size}
+use Rattle.mdmp_lister.specs.Format.Shape.{FitsIn}
+use Rattle.mdmp_lister.specs.Format.Kind.{record_size}
 use Rattle.mdmp_lister.proofs.Sizes.{least_record}
 
 -- record k of n, each of r bytes and s bytes apart, ends where they all do at the latest

@@ -16,16 +16,18 @@ use Rattle.mdmp_lister.specs.declared.fault.OpenFault.TheVariants.{TooShort, Bad
 use Rattle.mdmp_lister.specs.declared.item.Item.{Item}
 use Rattle.mdmp_lister.specs.declared.item.Item.TheVariants.{Stream, Thread, Module, Unloaded, Exception, System, MemoryInfo, Range}
 use Rattle.mdmp_lister.specs.declared.name.Name.{Name}
-use Rattle.mdmp_lister.specs.declared.name.Name.TheVariants.{NoName, Units, Long}
+use Rattle.mdmp_lister.specs.declared.name.Name.TheVariants.{Units, Long}
+use Rattle.mdmp_lister.specs.declared.name.Name.TheVariants as names
 use Rattle.mdmp_lister.specs.declared.choice.Choice.TheVariants.{All, Types}
-use Rattle.mdmp_lister.specs.Names.{name_at}
-use Rattle.mdmp_lister.specs.Shapes.{kind_of, shape_of, record_count}
-use Rattle.mdmp_lister.specs.Items.{sizes_before}
-use Rattle.mdmp_lister.specs.Listing.{Run, Numbered, listing, listing_from, verdicts, entry_count, entries_from, only_chosen, entry_of}
-use Rattle.mdmp_lister.specs.Counts.{listed, sizes_of, listed_bytes, listed_sizes, ranges_in, ranges_of_all, range_count, answers_of, names_in, most_names_in, names_reached}
-use Rattle.mdmp_lister.specs.Bounds.{held_bound, fetch_bound, call_bound}
-use Rattle.mdmp_lister.specs.Opening.{most_ranges, directory_refusal, opening_fault}
-use Rattle.mdmp_lister.specs.Ranges.{ranges_of}
+use Rattle.mdmp_lister.specs.Format.Name.{name_at}
+use Rattle.mdmp_lister.specs.Format.Kind.{kind_of}
+use Rattle.mdmp_lister.specs.Format.Shape.{shape_of, record_count}
+use Rattle.mdmp_lister.specs.Format.Item.{sizes_before}
+use Rattle.mdmp_lister.specs.Format.Listing.{Run, Numbered, listing, listing_from, verdicts, entry_count, entries_from, only_chosen, entry_of}
+use Rattle.mdmp_lister.specs.Format.Numbers.{listed, sizes_of, listed_bytes, listed_sizes, ranges_in, ranges_of_all, range_count, answers_of, names_in, most_names_in, names_reached}
+use Rattle.mdmp_lister.specs.Format.Bounds.{held_bound, fetch_bound, call_bound}
+use Rattle.mdmp_lister.specs.Format.Refusal.{most_ranges, directory_refusal, opening_fault}
+use Rattle.mdmp_lister.specs.Format.Ranges.{ranges_of}
 use Rattle.mdmp_lister.proofs.Files.{system_file, crash_file, head, entry, unused_file, three_threads_file, thread_list_file, three_modules_file, hundred_modules_file, many_entries_file, spread_file, close_file, named_file, faulty_file, memory64_file, wide_file, overlapping_file, exchanged_file, four_entries_file, three_ranges_file, last_address_file, sixteen_entries_file, absent_stack_file, unloaded_head_file, region_file, long_list_file, version_file, opaque_file, codeview_file, misc_file, six_streams_file}
 
 -- ---- words of the answers
@@ -306,7 +308,7 @@ name-length : (listing (named_file 80 (8 ∷ 0 ∷ 0 ∷ [])) All 8).fault ≡ S
 unfolding number_at numbers_at bytes_at le name_at shape_of entries_from only_chosen sizes_before
 name-length = refl
 
-name-none : last_name (listing (named_file 0 []) All 8).items ≡ Some NoName
+name-none : last_name (listing (named_file 0 []) All 8).items ≡ Some names.None
 unfolding number_at numbers_at bytes_at le name_at shape_of entries_from only_chosen sizes_before
 name-none = refl
 
@@ -360,7 +362,7 @@ faulty-fault : (listing faulty_file All 0).fault ≡ Some (fault_of 1 (Some 0) N
 unfolding number_at numbers_at bytes_at le name_at shape_of entries_from only_chosen sizes_before
 faulty-fault = refl
 
-faulty-items : map (λ x. last_name (x ∷ [])) (listing faulty_file All 0).items ≡ None ∷ Some NoName ∷ None ∷ []
+faulty-items : map (λ x. last_name (x ∷ [])) (listing faulty_file All 0).items ≡ None ∷ Some names.None ∷ None ∷ []
 unfolding number_at numbers_at bytes_at le name_at shape_of entries_from only_chosen sizes_before
 faulty-items = refl
 
@@ -502,7 +504,7 @@ version-bases : bases (listing version_file All 0).items ≡ 0 ∷ 0x140000000 �
 unfolding number_at numbers_at bytes_at le name_at shape_of entries_from only_chosen sizes_before
 version-bases = refl
 
-version-listing : listing version_file All 0 ≡ run (stream 0 4 112 44 ∷ Module (record { entry = 0; index = 0; fields = record { base_of_image = 0x140000000; size_of_image = 4096; checksum = 0; time_date_stamp = 0; module_name_rva = 0; version_info = record { signature = 0; structure_version = 0; file_version_ms = 0x000A0000; file_version_ls = 0x4A610001; product_version_ms = 0; product_version_ls = 0; file_flags_mask = 0; file_flags = 0; file_os = 0; file_type = 0; file_subtype = 0; file_date_ms = 0; file_date_ls = 0 }; cv_record = at_location 0 0; misc_record = at_location 0 0; reserved0 = 0; reserved1 = 0 }; codeview = Empty; misc = Empty; name = NoName }) ∷ []) None
+version-listing : listing version_file All 0 ≡ run (stream 0 4 112 44 ∷ Module (record { entry = 0; index = 0; fields = record { base_of_image = 0x140000000; size_of_image = 4096; checksum = 0; time_date_stamp = 0; module_name_rva = 0; version_info = record { signature = 0; structure_version = 0; file_version_ms = 0x000A0000; file_version_ls = 0x4A610001; product_version_ms = 0; product_version_ls = 0; file_flags_mask = 0; file_flags = 0; file_os = 0; file_type = 0; file_subtype = 0; file_date_ms = 0; file_date_ls = 0 }; cv_record = at_location 0 0; misc_record = at_location 0 0; reserved0 = 0; reserved1 = 0 }; codeview = Empty; misc = Empty; name = names.None }) ∷ []) None
 unfolding number_at numbers_at bytes_at le name_at shape_of entries_from only_chosen sizes_before
 version-listing = refl
 

@@ -4,8 +4,8 @@ use Rattle.mdmp_lister.specs.declared.kind.Kind.{Kind}
 use Rattle.mdmp_lister.specs.declared.shape.Shape.{Shape}
 use Rattle.mdmp_lister.specs.declared.fault.Fault.{Fault}
 use Rattle.mdmp_lister.specs.declared.item.Item.{Item}
-use Rattle.mdmp_lister.specs.Items.{item_at}
-use Rattle.mdmp_lister.specs.Listing.{items_from, with_item, only_fault, list_fault}
+use Rattle.mdmp_lister.specs.Format.Item.{item_at}
+use Rattle.mdmp_lister.specs.Format.Listing.{items_from, with_item, only_fault, list_fault}
 
 pub items_from-Ok : (F : List ℕ) (limit e at : ℕ) (kind : Kind) (shape : Shape) (n m k o : ℕ) (item : Item) → n ≡ suc m → o ≡ at + shape.first + k * shape.stride
     → Ok item ≡ item_at F limit e k at o kind → items_from F limit e at kind shape n k ≡ with_item item (items_from F limit e at kind shape m (k + 1))

@@ -4,7 +4,8 @@ use Rattle.mdmp_lister.specs.declared.form.Form.{Form}
 use Rattle.mdmp_lister.specs.declared.form.Form.TheVariants as forms
 use Rattle.mdmp_lister.specs.declared.kind.Kind.{Kind}
 use Rattle.mdmp_lister.specs.declared.kind.Kind.TheVariants as kinds
-use Rattle.mdmp_lister.specs.Shapes.{greatest_record, head_cost, head_size, record_size}
+use Rattle.mdmp_lister.specs.Format.Kind.{greatest_record, record_size}
+use Rattle.mdmp_lister.specs.Format.Shape.{head_cost, head_size}
 
 pub least_record : (kind : Kind) → 0 < record_size kind
 least_record kinds.Threads = omega arith

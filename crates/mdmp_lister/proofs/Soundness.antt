@@ -8,8 +8,8 @@ use Rattle.mdmp_lister.specs.declared.fault.FaultKind.TheVariants.{Source}
 use Rattle.mdmp_lister.specs.declared.fault.ListFault.{ListFault}
 use Rattle.mdmp_lister.specs.declared.stage.Stage.TheVariants.{Ended}
 use Rattle.mdmp_lister.specs.declared.walk.Walk.{Walk}
-use Rattle.mdmp_lister.specs.Reading.{IsOfSource}
-use Rattle.mdmp_lister.specs.Stages.{failure_of, fault_stage, stage_by}
+use Rattle.mdmp_lister.specs.Fault.{IsOfSource}
+use Rattle.mdmp_lister.specs.Stage.{failure_of, fault_stage, stage_by}
 use Rattle.mdmp_lister.specs.Walk.{IsSound, IsStaged, IsOffset, SameEntry}
 
 -- a store is good if it was before some fetches, and was if it is

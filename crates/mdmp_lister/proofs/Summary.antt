@@ -8,22 +8,22 @@ use Rattle.mdmp_lister.specs.declared.item.Item.{Item}
 use Rattle.mdmp_lister.specs.declared.item.Item.TheVariants as items
 use Rattle.mdmp_lister.specs.declared.item.RangeItem.{RangeItem}
 use Rattle.mdmp_lister.specs.declared.name.Name.{Name}
-use Rattle.mdmp_lister.specs.declared.name.Name.TheVariants.{NoName, Units}
+use Rattle.mdmp_lister.specs.declared.name.Name.TheVariants.{Units}
+use Rattle.mdmp_lister.specs.declared.name.Name.TheVariants as names
 use Rattle.mdmp_lister.specs.declared.step.RecordRead.{RecordRead}
 use Rattle.mdmp_lister.specs.declared.step.Step.{Step}
 use Rattle.mdmp_lister.specs.declared.step.Step.TheVariants as step
-use Rattle.mdmp_lister.specs.Items.{item_of, kind_told, plain, range64_item, range_item}
-use Rattle.mdmp_lister.specs.Names.{plain_name}
-use Rattle.mdmp_lister.specs.Reading.{name_read}
-use Rattle.mdmp_lister.specs.Steps.{IsNameOf, step_item, stream_told}
-use Rattle.mdmp_lister.specs.Summary.{Summary, summary_by, summary_of}
+use Rattle.mdmp_lister.specs.Format.Item.{item_of, kind_told, plain, range64_item, range_item}
+use Rattle.mdmp_lister.specs.Format.Name.{plain_name}
+use Rattle.mdmp_lister.specs.Step.{name_read, IsNameOf, step_item, stream_told}
+use Rattle.mdmp_lister.specs.Format.Summary.{Summary, summary_by, summary_of}
 
 -- ---- the two summaries
 
 -- the name of a record, of a kind that has one
 abbrev pub name_kept : Option ℕ → Name → Name
 name_kept (Some rva) name = name
-name_kept None name = NoName
+name_kept None name = names.None
 
 -- the range that a record tells
 abbrev pub range_told : ℕ → ℕ → ℕ → ℕ → AnyRecord → Option RangeItem

@@ -11,30 +11,31 @@ use Rattle.mdmp_lister.specs.declared.item.Item.{Item}
 use Rattle.mdmp_lister.specs.declared.item.StreamItem.{StreamItem}
 use Rattle.mdmp_lister.specs.declared.kind.Kind.{Kind}
 use Rattle.mdmp_lister.specs.declared.name.Name.{Name}
-use Rattle.mdmp_lister.specs.declared.name.Name.TheVariants.{NoName, Units, Long}
+use Rattle.mdmp_lister.specs.declared.name.Name.TheVariants.{Units, Long}
+use Rattle.mdmp_lister.specs.declared.name.Name.TheVariants as names
 use Rattle.mdmp_lister.specs.declared.sink.RunFault.{RunFault}
 use Rattle.mdmp_lister.specs.declared.sink.RunFault.TheVariants as run
 use Rattle.mdmp_lister.specs.declared.stage.Stage.{Stage}
 use Rattle.mdmp_lister.specs.declared.stage.Stage.TheVariants.{Head}
 use Rattle.mdmp_lister.specs.declared.step.Step.{Step}
 use Rattle.mdmp_lister.specs.declared.step.Step.TheVariants as step
-use Rattle.mdmp_lister.specs.Heads.{head_of}
-use Rattle.mdmp_lister.specs.Items.{kind_told}
-use Rattle.mdmp_lister.specs.Shapes.{kind_of, record_size}
-use Rattle.mdmp_lister.specs.Steps.{stream_told}
-use Rattle.mdmp_lister.specs.Summary.{summary_of}
+use Rattle.mdmp_lister.specs.Heading.{head_of}
+use Rattle.mdmp_lister.specs.Format.Item.{kind_told}
+use Rattle.mdmp_lister.specs.Format.Kind.{kind_of, record_size}
+use Rattle.mdmp_lister.specs.Step.{stream_told}
+use Rattle.mdmp_lister.specs.Format.Summary.{summary_of}
 
 -- ---- names
 
 -- the bytes of a name: none of one that is not there, its length alone of a long one
 abbrev pub name_cost : Name → ℕ
-name_cost NoName = 0
+name_cost names.None = 0
 name_cost (Units units) = 4 + length units.bytes.now
 name_cost (Long bytes) = 4
 
 -- the same of a name that was read
 abbrev pub read_cost : NameRead → ℕ
-read_cost read.NoName = 0
+read_cost read.None = 0
 read_cost (read.Units bytes) = 4 + bytes
 read_cost (read.Long bytes) = 4
 

@@ -1,111 +1,43 @@
--- The numbers that bound a listing. Repeats count.
-use Rattle.std.specs.Prelude.{ℕ, ◌&&◌, List, [], ◌∷◌, ◌++◌, length, map, filter, sum, sum_by, Option, Some, None, Result, Ok, Err, Bool, true, false}
-use Rattle.mdmp_source.specs.Range.{is_inside}
-use Rattle.mdmp_wire.specs.declared.entry.Entry.{Entry}
+-- The numbers that a lister tells of itself.
+use Rattle.std.specs.Prelude.{◌≡◌, ◌≤◌, ◌<◌, ◌+◌, ◌-◌, ◌*◌, ◌^◌, ℕ, List, length}
 use Rattle.mdmp_lister.specs.declared.choice.Choice.{Choice}
-use Rattle.mdmp_lister.specs.declared.kind.Kind.{Kind}
-use Rattle.mdmp_lister.specs.declared.fault.Fault.{Fault}
-use Rattle.mdmp_lister.specs.declared.fault.FaultKind.{FaultKind}
-use Rattle.mdmp_lister.specs.declared.fault.FaultKind.TheVariants.{NameLengthOutside, NameOdd, NameUnitsOutside, Source}
-use Rattle.mdmp_lister.specs.declared.fault.ListFault.{ListFault}
-use Rattle.mdmp_lister.specs.declared.name.Name.{Name}
-use Rattle.mdmp_lister.specs.declared.name.Name.TheVariants.{NoName}
-use Rattle.mdmp_lister.specs.declared.item.Item.{Item}
-use Rattle.mdmp_lister.specs.Shapes.{kind_of, is_known, lists_ranges, record_count}
-use Rattle.mdmp_lister.specs.Listing.{Numbered, Run, chosen}
-use Rattle.mdmp_lister.specs.Summary.{summary_of}
+use Rattle.mdmp_lister.specs.declared.counts.Counts.{Counts}
+use Rattle.mdmp_lister.specs.Format.Bounds.{fetch_bound, held_bound}
+use Rattle.mdmp_lister.specs.Format.Numbers.{listed_bytes, range_count}
+use Rattle.mdmp_lister.specs.Lister.{ListerState}
+use Rattle.mdmp_lister.specs.Format.Listing.{entry_count}
+use Rattle.mdmp_lister.specs.Meter.{IsBooked}
+use Rattle.mdmp_lister.specs.Walk.Paying.{cost_of}
 
--- ---- bytes
+-- those of any lister, by the directory that it obtained and the room that it took
+abbrev pub numbers_of : ListerState → Counts
+numbers_of v = record {
+  s = length v.entries;
+  r = v.rooms.ranges;
+  n = cost_of v.choice v.source.size v.entries;
+  m = v.counts.names;
+  held = held_bound v.rooms.window v.limit (length v.entries) v.rooms.ranges;
+  fetched = v.counts.fetched;
+  calls = v.counts.calls;
+  aside = v.counts.aside.bytes;
+}
 
--- the entry is of a known type, and its location lies inside a file of `size` bytes
-abbrev pub is_listed : ℕ → Numbered → Bool
-is_listed size x = is_known x.entry.stream_type && is_inside x.entry.location.rva x.entry.location.size size
+-- those of a known file are the file's
+pub record AreOfFile (file : List ℕ) (choice : Choice) (c : Counts) : Type 0 where
+  pub entries : c.s ≡ entry_count file
+  pub ranges : c.r ≡ range_count file choice
+  pub listed : c.n ≡ listed_bytes file choice
 
--- those of some entries whose records are read
-abbrev pub listed : ℕ → List Numbered → List Numbered
-listed size entries = filter (is_listed size) entries
+-- the bytes that a lister's lists have together
+abbrev pub bytes_of : ListerState → ℕ
+bytes_of v = v.rooms.window + 12 * length v.entries + 24 * length v.ranges + v.limit
 
-abbrev pub sizes_of : List Numbered → List ℕ
-sizes_of entries = map (λ x. x.entry.location.size) entries
-
--- the sizes of the chosen streams of known types that lie inside
-abbrev pub listed_sizes : List ℕ → Choice → List ℕ
-listed_sizes F choice = sizes_of (listed (length F) (chosen F choice))
-
--- how many bytes they have together
-abbrev pub listed_bytes : List ℕ → Choice → ℕ
-listed_bytes F choice = sum (listed_sizes F choice)
-
--- ---- ranges
-
--- a count, or none where there is a fault
-abbrev pub good_count : Result ℕ Fault → ℕ
-good_count (Ok count) = count
-good_count (Err f) = 0
-
--- how many ranges an entry gives whose records are ranges or not: those of one that lies inside and has no fault
-abbrev pub ranges_if : List ℕ → Entry → Bool → ℕ
-ranges_if F e true = good_count (record_count F e)
-ranges_if F e false = 0
-
--- how many an entry of this kind gives
-abbrev pub ranges_in : List ℕ → Entry → Option Kind → ℕ
-ranges_in F e (Some kind) = ranges_if F e (lists_ranges kind)
-ranges_in F e None = 0
-
--- how many ranges some entries give together
-abbrev pub ranges_of_all : List ℕ → List Numbered → ℕ
-ranges_of_all F entries = sum_by (λ x. ranges_in F x.entry (kind_of x.entry.stream_type)) entries
-
--- how many ranges the chosen memory lists have
-abbrev pub range_count : List ℕ → Choice → ℕ
-range_count F choice = ranges_of_all F (chosen F choice)
-
--- ---- names
-
--- 1 for an item that has a name, long or not
-abbrev pub named_once : Name → ℕ
-named_once NoName = 0
-named_once _ = 1
-
-abbrev pub names_of : Item → ℕ
-names_of item = named_once (summary_of item).name
-
--- 1 for the fault of a name
-abbrev pub faulty_name : FaultKind → ℕ
-faulty_name NameLengthOutside = 1
-faulty_name NameOdd = 1
-faulty_name NameUnitsOutside = 1
-faulty_name _ = 0
-
--- 1 for a fault of the store, which may stand in the place of a name
-abbrev pub maybe_name : FaultKind → ℕ
-maybe_name (Source f) = 1
-maybe_name kind = faulty_name kind
-
--- what a lister answers to a request for the next item: an item, the end or a fault
-abbrev pub Answer : Type 0
-Answer = Result (Option Item) ListFault
-
--- how many names an answer reaches at least. A fault that is answered again is no answer of its own
-abbrev pub names_in : Answer → ℕ
-names_in (Ok (Some item)) = names_of item
-names_in (Ok None) = 0
-names_in (Err f) = faulty_name f.kind
-
--- and how many at most
-abbrev pub most_names_in : Answer → ℕ
-most_names_in (Err f) = maybe_name f.kind
-most_names_in answer = names_in answer
-
--- how many names some answers have reached, each fault once, and none of them one of the store
-abbrev pub names_reached : List Answer → ℕ
-names_reached answers = sum_by names_in answers
-
--- the answers by which a run is given
-abbrev pub end_of : Option ListFault → Answer
-end_of (Some f) = Err f
-end_of None = Ok None
-
-abbrev pub answers_of : Run → List Answer
-answers_of run = map (λ x. Ok (Some x)) run.items ++ end_of run.fault ∷ []
+-- a lister's lists and fetches stay within the bounds that its numbers tell, no list has outgrown the room that it took as
+-- the file was opened, and its source's own counts have risen by what was fetched or stand at their greatest
+pub record AreBounds (v : ListerState) (c : Counts) : Type 0 where
+  pub held : bytes_of v ≤ c.held
+  pub fetched : c.fetched ≤ fetch_bound v.limit c.s c.n c.m
+  pub below : c.fetched < 2 ^ 128 - 1
+  pub booked : IsBooked v.source v.counts
+  pub entries : length v.entries ≤ v.rooms.entries
+  pub ranges : length v.ranges ≤ v.rooms.ranges

@@ -12,11 +12,12 @@ use Rattle.mdmp_lister.specs.declared.kind.Kind.TheVariants.{Memory64}
 use Rattle.mdmp_lister.specs.declared.step.Step.{Step}
 use Rattle.mdmp_lister.specs.Costs.{head_told, name_spent, read_cost, record_spent}
 use Rattle.mdmp_lister.specs.Meter.{MeterState, Spends}
-use Rattle.mdmp_lister.specs.Owing.{count_told, ranges_by}
-use Rattle.mdmp_lister.specs.Reaching.{Reaches, ReachesAtFault, read_once, told_once}
-use Rattle.mdmp_lister.specs.Reading.{IsCaused, IsCausedAt}
-use Rattle.mdmp_lister.specs.Shapes.{FitsIn, form_of, head_cost, record_size}
-use Rattle.mdmp_lister.specs.Steps.{current_by, passed_by}
+use Rattle.mdmp_lister.specs.Walk.Owing.{count_told, ranges_by}
+use Rattle.mdmp_lister.specs.Walk.Reaching.{Reaches, ReachesAtFault, read_once, told_once}
+use Rattle.mdmp_lister.specs.Fault.{IsCaused, IsCausedAt}
+use Rattle.mdmp_lister.specs.Format.Shape.{FitsIn, head_cost}
+use Rattle.mdmp_lister.specs.Format.Kind.{form_of, record_size}
+use Rattle.mdmp_lister.specs.Step.{current_by, passed_by}
 
 -- what was read with this answer: an answer of a known file is as it should be, the fetches are booked, and a fault of
 -- the store is caused by them

@@ -13,18 +13,18 @@ use Rattle.mdmp_lister.specs.declared.fault.ListFault.{ListFault}
 use Rattle.mdmp_lister.specs.declared.item.Item.{Item}
 use Rattle.mdmp_map.specs.declared.range.Range.{Range}
 use Rattle.mdmp_lister.specs.declared.limits.Limits.{Limits}
-use Rattle.mdmp_lister.specs.Classes.{IsClassed}
+use Rattle.mdmp_lister.specs.Format.Classes.{IsClassed}
 use Rattle.mdmp_lister.specs.Costs.{answer_cost, head_behind}
-use Rattle.mdmp_lister.specs.Counts.{most_names_in, names_in, range_count}
-use Rattle.mdmp_lister.specs.Directory.{IsDirectory}
-use Rattle.mdmp_lister.specs.Heads.{heads_ahead}
-use Rattle.mdmp_lister.specs.Items.{plain}
-use Rattle.mdmp_lister.specs.Listing.{Run, nothing, only_fault, listing, listing_from}
+use Rattle.mdmp_lister.specs.Format.Numbers.{most_names_in, names_in, range_count}
+use Rattle.mdmp_lister.specs.Format.Directory.{IsDirectory}
+use Rattle.mdmp_lister.specs.Heading.{heads_ahead}
+use Rattle.mdmp_lister.specs.Format.Item.{plain}
+use Rattle.mdmp_lister.specs.Format.Listing.{Run, nothing, only_fault, listing, listing_from}
 use Rattle.mdmp_lister.specs.Meter.{IsBegun, MeterCounts, Moves}
-use Rattle.mdmp_lister.specs.Ranges.{ranges_of}
-use Rattle.mdmp_lister.specs.Reading.{IsOfSource, IsSteady, IsToldIn}
-use Rattle.mdmp_lister.specs.Stages.{stop_after}
-use Rattle.mdmp_lister.specs.Summary.{entry_begun, number_behind, summary_of}
+use Rattle.mdmp_lister.specs.Format.Ranges.{ranges_of}
+use Rattle.mdmp_lister.specs.Fault.{IsOfSource, IsSteady, IsToldIn}
+use Rattle.mdmp_lister.specs.Stage.{stop_after}
+use Rattle.mdmp_lister.specs.Format.Summary.{entry_begun, number_behind, summary_of}
 
 -- what a lister has room for: entries of the directory, bytes of its window, and ranges
 pub record Rooms : Type 0 where

@@ -1,4 +1,9 @@
 -- What is left of a walk.
+pub mod Mapping
+pub mod Owing
+pub mod Paying
+pub mod Reaching
+pub mod Requests
 use Rattle.std.specs.Prelude.{◌≡◌, ◌≤◌, ◌<◌, ◌+◌, ◌-◌, ◌*◌, ◌^◌, ℕ, List, Option, None, Some, Result, Ok, Err, IfOk, vec_capacity, vec_len}
 use Rattle.mdmp_source.specs.Count.{raised}
 use Rattle.mdmp_source.specs.Range.{IsInside}
@@ -17,17 +22,18 @@ use Rattle.mdmp_lister.specs.declared.step.Step.{Step}
 use Rattle.mdmp_lister.specs.declared.stage.Stage.{Stage}
 use Rattle.mdmp_lister.specs.declared.stage.Stage.TheVariants.{Between, Head, Records, Bad, Failed, Ended}
 use Rattle.mdmp_lister.specs.declared.walk.Walk.{Walk}
-use Rattle.mdmp_lister.specs.Counts.{range_count}
-use Rattle.mdmp_lister.specs.Directory.{IsDirectory}
-use Rattle.mdmp_lister.specs.Heads.{heads_ahead}
-use Rattle.mdmp_lister.specs.Items.{range_offset}
-use Rattle.mdmp_lister.specs.Listing.{Run, nothing, only_fault, with_item, joined, items_from, body_of, listing_from}
+use Rattle.mdmp_lister.specs.Format.Numbers.{range_count}
+use Rattle.mdmp_lister.specs.Format.Directory.{IsDirectory}
+use Rattle.mdmp_lister.specs.Heading.{heads_ahead}
+use Rattle.mdmp_lister.specs.Format.Item.{range_offset}
+use Rattle.mdmp_lister.specs.Format.Listing.{Run, nothing, only_fault, with_item, joined, items_from, body_of, listing_from}
 use Rattle.mdmp_lister.specs.Meter.{Books}
-use Rattle.mdmp_lister.specs.Opening.{directory_refusal}
-use Rattle.mdmp_lister.specs.Reading.{IsCaused, IsOfSource, IsSteady}
-use Rattle.mdmp_lister.specs.Shapes.{FitsIn, greatest_record, kind_of}
-use Rattle.mdmp_lister.specs.Stages.{failure_of}
-use Rattle.mdmp_lister.specs.Steps.{passed_by, step_item}
+use Rattle.mdmp_lister.specs.Format.Refusal.{directory_refusal}
+use Rattle.mdmp_lister.specs.Fault.{IsCaused, IsOfSource, IsSteady}
+use Rattle.mdmp_lister.specs.Format.Shape.{FitsIn}
+use Rattle.mdmp_lister.specs.Format.Kind.{greatest_record, kind_of}
+use Rattle.mdmp_lister.specs.Stage.{failure_of}
+use Rattle.mdmp_lister.specs.Step.{passed_by, step_item}
 
 -- what is left of an entry with this number
 abbrev pub left_of_entry : List ℕ → ℕ → ℕ → Entry → Stage → Run

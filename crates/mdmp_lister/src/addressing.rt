@@ -2,10 +2,10 @@
 ghost use Rattle.std.specs.Prelude.{◌≡◌, length, All, IfOk, OnOk, is_some};
 ghost use Rattle.mdmp_source.specs.Source.{fault_of};
 ghost use Rattle.mdmp_map.specs.Ranges.{IsWithin, byte_at};
-ghost use Rattle.mdmp_lister.specs.Addresses.{ReadsCells, is_held};
+ghost use Rattle.mdmp_lister.specs.Addressing.{ReadsCells, is_held};
 ghost use Rattle.mdmp_lister.specs.Fetching.{Reads};
 ghost use Rattle.mdmp_lister.specs.Meter.{BooksAside};
-ghost use Rattle.mdmp_lister.specs.Reading.{IsCaused};
+ghost use Rattle.mdmp_lister.specs.Fault.{IsCaused};
 
 use crate::meter::Meter;
 use mdmp_map::AddressMap;

@@ -56,7 +56,7 @@ pub enum Choice {
 
 impl Choice {
     ghost use Rattle.std.specs.Prelude.{◌≡◌};
-    ghost use Rattle.mdmp_lister.specs.Listing.{is_chosen, memory_lists};
+    ghost use Rattle.mdmp_lister.specs.Format.Listing.{is_chosen, memory_lists};
 
     /// The entries that list memory of the dumped process: `MemoryListStream`, 5, and
     /// `Memory64ListStream`, 9.

@@ -1,18 +1,18 @@
 //! How many ranges the memory lists of a file have, read through a source.
 ghost use Rattle.std.specs.Prelude.{◌≡◌, ◌≤◌, ◌<◌, ◌^◌, ℕ, List, Some, length};
-ghost use Rattle.mdmp_lister.specs.Counts.{range_count, ranges_in};
-ghost use Rattle.mdmp_lister.specs.Directory.{IsDirectory};
+ghost use Rattle.mdmp_lister.specs.Format.Numbers.{range_count, ranges_in};
+ghost use Rattle.mdmp_lister.specs.Format.Directory.{IsDirectory};
 ghost use Rattle.mdmp_lister.specs.Fetching.{Reads};
-ghost use Rattle.mdmp_lister.specs.Heads.{ahead_of, heads_ahead};
+ghost use Rattle.mdmp_lister.specs.Heading.{ahead_of, heads_ahead};
 ghost use Rattle.mdmp_lister.specs.Meter.{Books};
-ghost use Rattle.mdmp_lister.specs.Shapes.{greatest_record, kind_of};
+ghost use Rattle.mdmp_lister.specs.Format.Kind.{greatest_record, kind_of};
 
 use crate::choice::Choice;
 use crate::fault::FaultKind;
 use crate::heading::head_at;
 use crate::kind::Kind;
 use crate::meter::Meter;
-use crate::shaping::location_fault;
+use crate::shape::location_fault;
 use mdmp_source::{SourceFault, Store};
 use mdmp_wire::Entry;
 

@@ -1,6 +1,6 @@
 //! The numbers that bound a listing.
 ghost use Rattle.std.specs.Prelude.{◌≡◌, ◌≤◌, ◌<◌, ◌+◌, ◌*◌, ◌^◌, ℕ, length};
-ghost use Rattle.mdmp_lister.specs.Paying.{cost_of, entry_cost};
+ghost use Rattle.mdmp_lister.specs.Walk.Paying.{cost_of, entry_cost};
 
 use crate::choice::Choice;
 use crate::kind::Kind;
@@ -31,7 +31,7 @@ pub struct Counts {
 }
 
 /// The bytes of an entry that are listed: all of a stream that has records and lies inside the file.
-#[tactic(auto, unfolding(crate::specs::Paying::entry_cost))]
+#[tactic(auto, unfolding(crate::specs::Walk::Paying::entry_cost))]
 fn listed_bytes_of(entry: Entry, size: u64) -> u32
     ensures { result ≡ entry_cost size entry }
 {

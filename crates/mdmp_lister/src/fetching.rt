@@ -3,8 +3,9 @@ ghost use Rattle.std.specs.Prelude.{◌≡◌, ◌≤◌, ◌<◌, ◌+◌, ◌^
 ghost use Rattle.mdmp_source.specs.Range.{IsInside, bytes_at};
 ghost use Rattle.mdmp_lister.specs.Fetching.{Reads, ReadsName};
 ghost use Rattle.mdmp_lister.specs.Meter.{Books};
-ghost use Rattle.mdmp_lister.specs.Names.{name_at};
-ghost use Rattle.mdmp_lister.specs.Reading.{Answers, IsHeld, name_read};
+ghost use Rattle.mdmp_lister.specs.Format.Name.{name_at};
+ghost use Rattle.mdmp_lister.specs.Fault.{Answers};
+ghost use Rattle.mdmp_lister.specs.Step.{IsHeld, name_read};
 
 use crate::fault::{Fault, FaultKind};
 use crate::meter::Meter;
@@ -15,7 +16,7 @@ use mdmp_wire::Record;
 #[derive(Clone, Copy, Debug, PartialEq, Eq)]
 pub(crate) enum NameRead {
     /// The RVA of the name is 0.
-    NoName,
+    None,
     /// How many bytes its units have.
     Units(u32),
     /// How many bytes it has, where those are more than the limit.
@@ -53,7 +54,7 @@ pub(crate) fn read<R: Record, S: Store>(
 
 /// The name at `rva`, its units into the front of a buffer as long as the limit, or its fault: a
 /// length outside the file, an odd one, units outside. The units of a longer name are not fetched.
-#[tactic(auto, using(crate::proofs::Fetches::IsCaused_later, crate::proofs::Costs::source_name_cost, crate::proofs::Naming::source_reached), unfolding(crate::specs::Names::name_at, mdmp_wire::specs::Number::bytes_at))]
+#[tactic(auto, using(crate::proofs::Fetches::IsCaused_later, crate::proofs::Costs::source_name_cost, crate::proofs::Naming::source_reached), unfolding(crate::specs::Format::Name::name_at, mdmp_wire::specs::Number::bytes_at))]
 pub(crate) fn read_name<S: Store>(
     meter: &mut Meter<S>,
     window: &mut [u8],
@@ -69,7 +70,7 @@ pub(crate) fn read_name<S: Store>(
 {
     let size = meter.size();
     if rva == 0 {
-        return Ok(NameRead::NoName);
+        return Ok(NameRead::None);
     }
     meter.reach_name();
     if !inside(rva, 4, size) {

@@ -1,6 +1,6 @@
 //! What stands before the records of a stream.
 ghost use Rattle.std.specs.Prelude.{◌≡◌};
-ghost use Rattle.mdmp_lister.specs.Shapes.{head_cost, head_size};
+ghost use Rattle.mdmp_lister.specs.Format.Shape.{head_cost, head_size};
 
 use mdmp_wire::{Memory64List, MemoryInfoList, Record, UnloadedList};
 

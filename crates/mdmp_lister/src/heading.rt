@@ -3,19 +3,19 @@ ghost use Rattle.std.specs.Prelude.{◌≡◌, ◌≤◌, ◌+◌, ℕ, List, So
 ghost use Rattle.mdmp_source.specs.Range.{IsInside};
 ghost use Rattle.mdmp_wire.specs.Number.{number_at};
 ghost use Rattle.mdmp_lister.specs.Fetching.{IsHeadOf};
-ghost use Rattle.mdmp_lister.specs.Heads.{head_spent};
+ghost use Rattle.mdmp_lister.specs.Heading.{head_spent};
 ghost use Rattle.mdmp_lister.specs.Meter.{Books};
-ghost use Rattle.mdmp_lister.specs.Reaching.{ReachesAtFault};
-ghost use Rattle.mdmp_lister.specs.Shapes.{greatest_record, shape_of};
-ghost use Rattle.mdmp_lister.specs.Reading.{Answers, IsCausedAt};
+ghost use Rattle.mdmp_lister.specs.Walk.Reaching.{ReachesAtFault};
+ghost use Rattle.mdmp_lister.specs.Format.Kind.{greatest_record};
+ghost use Rattle.mdmp_lister.specs.Format.Shape.{shape_of};
+ghost use Rattle.mdmp_lister.specs.Fault.{Answers, IsCausedAt};
 
 use crate::fault::Fault;
 use crate::fetching::read;
 use crate::form::Form;
 use crate::kind::Kind;
 use crate::meter::Meter;
-use crate::shape::Shape;
-use crate::shaping::{counted, ranges64, single, sized, too_short};
+use crate::shape::{Shape, counted, ranges64, single, sized, too_short};
 use mdmp_source::{Location, Store};
 use mdmp_wire::{Memory64List, MemoryInfoList, UnloadedList};
 
@@ -31,7 +31,7 @@ pub(crate) struct Head {
 
 /// Where the records of a stream stand, or its first fault: too short for its head, a bad header
 /// size, a bad entry size, a bad count.
-#[tactic(auto, using(crate::proofs::Metering::Books_none, crate::proofs::Paying::few_records, crate::proofs::Naming::source_reached), unfolding(crate::specs::Shapes::shape_of))]
+#[tactic(auto, using(crate::proofs::Metering::Books_none, crate::proofs::Paying::few_records, crate::proofs::Naming::source_reached), unfolding(crate::specs::Format::Shape::shape_of))]
 pub(crate) fn head_at<S: Store>(
     meter: &mut Meter<S>,
     window: &mut [u8],

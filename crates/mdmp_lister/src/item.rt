@@ -1,6 +1,6 @@
 //! What a listing gives.
 ghost use Rattle.std.specs.Prelude.{◌≡◌};
-ghost use Rattle.mdmp_lister.specs.Extents.{range_extent_of};
+ghost use Rattle.mdmp_lister.specs.Format.Item.{range_extent_of};
 
 use crate::name::Name;
 use mdmp_source::{Extent, Location};
@@ -37,7 +37,7 @@ pub struct ThreadItem {
 
 impl ThreadItem {
     ghost use Rattle.std.specs.Prelude.{◌≡◌};
-    ghost use Rattle.mdmp_lister.specs.Items.{thread_item};
+    ghost use Rattle.mdmp_lister.specs.Format.Item.{thread_item};
 
     /// The item of a record, in a file of `size` bytes.
     pub(crate) fn new(entry: u32, index: u64, fields: ThreadRecord, size: u64) -> Self
@@ -98,7 +98,7 @@ pub struct ExceptionItem {
 
 impl ExceptionItem {
     ghost use Rattle.std.specs.Prelude.{◌≡◌};
-    ghost use Rattle.mdmp_lister.specs.Items.{exception_item};
+    ghost use Rattle.mdmp_lister.specs.Format.Item.{exception_item};
 
     /// The item of a record, in a file of `size` bytes.
     pub(crate) fn new(entry: u32, index: u64, fields: ExceptionRecord, size: u64) -> Self
@@ -158,8 +158,8 @@ pub struct RangeItem {
 
 impl RangeItem {
     ghost use Rattle.std.specs.Prelude.{◌≡◌};
-    ghost use Rattle.mdmp_lister.specs.Items.{range64_item, range_item};
-    ghost use Rattle.mdmp_lister.specs.Ranges.{IsRangeIn};
+    ghost use Rattle.mdmp_lister.specs.Format.Item.{range64_item, range_item};
+    ghost use Rattle.mdmp_lister.specs.Format.Ranges.{IsRangeIn};
 
     /// The item of a range that says where its bytes stand, in a file of `size` bytes.
     pub(crate) fn new(entry: u32, index: u64, fields: Descriptor, size: u64) -> Self

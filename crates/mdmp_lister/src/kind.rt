@@ -1,6 +1,6 @@
 //! Which streams have records here: the type, the form and the records of each.
 ghost use Rattle.std.specs.Prelude.{◌≡◌};
-ghost use Rattle.mdmp_lister.specs.Shapes.{form_of, kind_of, lists_ranges, record_size};
+ghost use Rattle.mdmp_lister.specs.Format.Kind.{form_of, kind_of, lists_ranges, record_size};
 
 use crate::form::Form;
 use mdmp_wire::{

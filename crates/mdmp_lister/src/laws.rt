@@ -3,8 +3,8 @@ ghost use Rattle.std.specs.Prelude.{◌≡◌, ◌++◌, ◌↔◌, List, None, 
 ghost use Rattle.std.specs.List.{list_all};
 ghost use Rattle.mdmp_lister.specs.declared.choice.Choice.TheVariants.{All};
 ghost use Rattle.mdmp_lister.specs.declared.item.Item.{Item};
-ghost use Rattle.mdmp_lister.specs.Listing.{listing, verdicts};
-ghost use Rattle.mdmp_lister.specs.Laws.{first_fault, is_good, part_of, stands_in};
+ghost use Rattle.mdmp_lister.specs.Format.Listing.{listing, verdicts};
+ghost use Rattle.mdmp_lister.specs.Format.Laws.{first_fault, is_good, part_of, stands_in};
 
 use crate::choice::Choice;
 

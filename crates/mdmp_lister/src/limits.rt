@@ -1,7 +1,7 @@
 //! How long a lister's window and a name may be. The directory takes 12 bytes for each entry on top,
 //! and the map 24 for each range.
 ghost use Rattle.std.specs.Prelude.{◌≤◌};
-ghost use Rattle.mdmp_lister.specs.Shapes.{greatest_record};
+ghost use Rattle.mdmp_lister.specs.Format.Kind.{greatest_record};
 ghost use Rattle.mdmp_lister.specs.Limits.{most_bytes};
 
 use mdmp_wire::{ExceptionRecord, Record};

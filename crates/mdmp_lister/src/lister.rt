@@ -3,16 +3,17 @@ ghost use Rattle.std.specs.Prelude.{◌≡◌, ◌≤◌, ◌<◌, ◌+◌, ◌*
 ghost use Rattle.std.specs.Borrow.{sem};
 ghost use Rattle.std.specs.Io.BufRead.{Rests};
 ghost use Rattle.mdmp_source.specs.Store.{IsGood};
-ghost use Rattle.mdmp_lister.specs.Opening.{IsHandedBack, IsOpenRefusal, IsRefusalOf, IsUnread, IsUnreadFor, opening_fault};
+ghost use Rattle.mdmp_lister.specs.Opening.{IsHandedBack, IsOpenRefusal, IsRefusalOf, IsUnread, IsUnreadFor};
+ghost use Rattle.mdmp_lister.specs.Format.Refusal.{opening_fault};
 ghost use Rattle.mdmp_map.specs.Map.{free_of};
 ghost use Rattle.mdmp_map.specs.Ranges.{IsWithin};
 ghost use Rattle.mdmp_source.specs.Source.{FetchesAtMost, IsTold};
-ghost use Rattle.mdmp_lister.specs.Addresses.{ReadsCells};
+ghost use Rattle.mdmp_lister.specs.Addressing.{ReadsCells};
 ghost use Rattle.mdmp_lister.specs.Meter.{IsBooked, SpendsAside};
-ghost use Rattle.mdmp_lister.specs.Numbers.{AreBounds, AreOfFile, numbers_of};
-ghost use Rattle.mdmp_lister.specs.Ranges.{IsPlacedIn, ranges_of};
-ghost use Rattle.mdmp_lister.specs.Reading.{IsOfSource, IsToldIn};
-ghost use Rattle.mdmp_lister.specs.Stages.{stop_after, stop_after_run};
+ghost use Rattle.mdmp_lister.specs.Counts.{AreBounds, AreOfFile, numbers_of};
+ghost use Rattle.mdmp_lister.specs.Format.Ranges.{IsPlacedIn, ranges_of};
+ghost use Rattle.mdmp_lister.specs.Fault.{IsOfSource, IsToldIn};
+ghost use Rattle.mdmp_lister.specs.Stage.{stop_after, stop_after_run};
 
 use crate::addressing::read_addresses;
 use crate::choice::Choice;
@@ -48,8 +49,8 @@ impl<S: Store + Drop, A: Allocator + Copy> Model for Lister<S, A> {
     ghost use Rattle.mdmp_lister.specs.Costs.{head_left};
     ghost use Rattle.mdmp_lister.specs.Lister.{ListerState};
     ghost use Rattle.mdmp_lister.specs.Meter.{counts_of};
-    ghost use Rattle.mdmp_lister.specs.Stages.{stop_of};
-    ghost use Rattle.mdmp_lister.specs.Mapping.{IsMapped};
+    ghost use Rattle.mdmp_lister.specs.Stage.{stop_of};
+    ghost use Rattle.mdmp_lister.specs.Walk.Mapping.{IsMapped};
     ghost use Rattle.mdmp_lister.specs.Walk.{left_of, work_of};
 
     ghost Value = { ListerState };
@@ -76,7 +77,7 @@ impl<S: Store + Drop, A: Allocator + Copy> Model for Lister<S, A> {
 
 impl<S: Store + Drop, A: Allocator + Copy> Lister<S, A> {
     ghost use Rattle.mdmp_lister.specs.contracts.lister.Lister.{the_row};
-    ghost use Rattle.mdmp_lister.specs.Handing.{RunLeaves};
+    ghost use Rattle.mdmp_lister.specs.Sink.{RunLeaves};
     ghost use Rattle.mdmp_lister.specs.Lister.{Gives, IsNewLister, IsSameLister, Leaves, is_for_good, listing_behind};
 
     /// Opens a file. Its header is read; memory is taken for the directory, the window and a name; the

@@ -1,15 +1,62 @@
-//! The name of an item.
+//! The name of an item, and the one at an RVA of a whole file.
+ghost use Rattle.std.specs.Prelude.{◌≡◌, ◌<◌, ◌^◌, length};
+ghost use Rattle.std.specs.Result.{result_map_both};
+ghost use Rattle.mdmp_lister.specs.Format.Name.{name_at, plain_name};
 
-use mdmp_wire::UnitsRef;
+use crate::fault::{Fault, FaultKind};
+use mdmp_source::inside;
+use mdmp_wire::{UnitsRef, read_at};
 
 /// The name of a module, or of a service pack: a `MINIDUMP_STRING`.
 #[derive(Drop)]
 pub enum Name<'a> {
     /// The RVA of the name is 0.
-    // `None` would clash with that of `Option`, here and in the definitions.
-    NoName,
+    None,
     /// Its units, which may be none at all. No zero unit is looked for behind them.
     Units(UnitsRef<'a>),
     /// How many bytes it has, where those are more than the limit: they are not read.
     Long(u32),
+}
+
+/// The name at `rva`, an offset from the start of the file, or its fault: a length outside the file,
+/// an odd one, units outside. A name of more than `limit` bytes is told by its length. No zero unit
+/// is looked for behind the units.
+#[tactic(auto, unfolding(crate::specs::Format::Name::name_at, mdmp_wire::specs::Number::bytes_at))]
+pub fn name_at(file: &[u8], rva: u32, limit: u32) -> Result<Name<'_>, Fault>
+    ensures { result_map_both plain_name (λ f. f) result ≡ name_at file.now rva limit }
+{
+    let size = file.len() as u64;
+    let at = u64::from(rva);
+    if rva == 0 {
+        return Ok(Name::None);
+    }
+    if !inside(at, 4, size) {
+        return Err(Fault {
+            kind: FaultKind::NameLengthOutside,
+            offset: at,
+            size: 4,
+        });
+    }
+    let start = rva as usize;
+    let length: u32 = read_at(file, start);
+    let bytes = u64::from(length);
+    if length % 2 == 1 {
+        return Err(Fault {
+            kind: FaultKind::NameOdd,
+            offset: at,
+            size: bytes,
+        });
+    }
+    if !inside(at + 4, bytes, size) {
+        return Err(Fault {
+            kind: FaultKind::NameUnitsOutside,
+            offset: at + 4,
+            size: bytes,
+        });
+    }
+    if limit < length {
+        return Ok(Name::Long(length));
+    }
+    let end = start + 4 + length as usize;
+    Ok(Name::Units(UnitsRef::over(&file[start + 4..end])))
 }

@@ -2,12 +2,12 @@
 ghost use Rattle.std.specs.Prelude.{◌≡◌, ◌≤◌, ◌<◌, ◌*◌, ℕ, List, [], Some, length, OnOk, IfSome, vec_len, vec_capacity};
 ghost use Rattle.mdmp_source.specs.Range.{IsInside};
 ghost use Rattle.mdmp_wire.specs.Header.{header_at};
-ghost use Rattle.mdmp_lister.specs.Directory.{IsDirectory, IsFirstChosen};
+ghost use Rattle.mdmp_lister.specs.Format.Directory.{IsDirectory, IsFirstChosen};
 ghost use Rattle.mdmp_lister.specs.Fetching.{Reads};
 ghost use Rattle.mdmp_lister.specs.Meter.{Books};
-ghost use Rattle.mdmp_lister.specs.Paying.{CostsFrom};
+ghost use Rattle.mdmp_lister.specs.Walk.Paying.{CostsFrom};
 ghost use Rattle.mdmp_lister.specs.Opening.{Finds, FitsHeader, unread_fault};
-ghost use Rattle.mdmp_lister.specs.Reading.{IsCaused};
+ghost use Rattle.mdmp_lister.specs.Fault.{IsCaused};
 
 use crate::choice::Choice;
 use crate::fault::OpenFault;

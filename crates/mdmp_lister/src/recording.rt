@@ -1,11 +1,11 @@
 //! A record of any kind and its name, read through a source.
 ghost use Rattle.std.specs.Prelude.{◌≡◌, ◌≤◌, ◌<◌, ◌+◌, ◌^◌, ℕ, List, Some, length, IfOk};
 ghost use Rattle.mdmp_lister.specs.Fetching.{Reads, ReadsRecord, TellsRecord};
-ghost use Rattle.mdmp_lister.specs.Items.{item_at, kind_told, range_offset, record_at};
+ghost use Rattle.mdmp_lister.specs.Format.Item.{item_at, kind_told, range_offset, record_at};
 ghost use Rattle.mdmp_lister.specs.Meter.{Books};
-ghost use Rattle.mdmp_lister.specs.Reading.{Answers};
-ghost use Rattle.mdmp_lister.specs.Shapes.{greatest_record, record_size};
-ghost use Rattle.mdmp_lister.specs.Steps.{IsStepHeld, step_item};
+ghost use Rattle.mdmp_lister.specs.Fault.{Answers};
+ghost use Rattle.mdmp_lister.specs.Format.Kind.{greatest_record, record_size};
+ghost use Rattle.mdmp_lister.specs.Step.{IsStepHeld, step_item};
 
 use crate::fault::Fault;
 use crate::fetching::{NameRead, read, read_name};
@@ -72,7 +72,7 @@ pub(crate) fn read_item<S: Store>(
             index,
             fields,
             offset,
-            name: NameRead::NoName,
+            name: NameRead::None,
         }));
     };
     match read_name(meter, window, buffer, rva) {

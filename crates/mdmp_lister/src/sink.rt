@@ -9,7 +9,7 @@ pub struct Stopped;
 /// Takes items, one a call.
 pub trait Sink {
     ghost use Rattle.std.specs.Prelude.{Result};
-    ghost use Rattle.mdmp_lister.specs.Items.{plain};
+    ghost use Rattle.mdmp_lister.specs.Format.Item.{plain};
     ghost use Rattle.mdmp_lister.specs.declared.item.Item.{Item};
     ghost use Rattle.mdmp_lister.specs.declared.sink.Stopped.{Stopped};
 

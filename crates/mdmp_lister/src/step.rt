@@ -1,10 +1,9 @@
 //! An item that was read, whose name stands in a buffer.
 ghost use Rattle.std.specs.Prelude.{◌≡◌, length};
-ghost use Rattle.mdmp_lister.specs.Items.{plain};
-ghost use Rattle.mdmp_lister.specs.Names.{plain_name};
-ghost use Rattle.mdmp_lister.specs.Ranges.{IsPlacedIn};
-ghost use Rattle.mdmp_lister.specs.Reading.{IsHeld, name_read};
-ghost use Rattle.mdmp_lister.specs.Steps.{IsNameHeld, step_item};
+ghost use Rattle.mdmp_lister.specs.Format.Item.{plain};
+ghost use Rattle.mdmp_lister.specs.Format.Name.{plain_name};
+ghost use Rattle.mdmp_lister.specs.Format.Ranges.{IsPlacedIn};
+ghost use Rattle.mdmp_lister.specs.Step.{IsHeld, name_read, IsNameHeld, step_item};
 
 use crate::fetching::NameRead;
 use crate::item::{
@@ -42,7 +41,7 @@ fn lent_name(buffer: &[u8], name: NameRead) -> Name<'_>
     ensures { plain_name result ≡ name_read buffer.now name }
 {
     match name {
-        NameRead::NoName => Name::NoName,
+        NameRead::None => Name::None,
         NameRead::Units(bytes) => Name::Units(UnitsRef::over(&buffer[..bytes as usize])),
         NameRead::Long(bytes) => Name::Long(bytes),
     }

@@ -1,6 +1,6 @@
 //! A sink that stops at one call: for tests.
 ghost use Rattle.std.specs.Prelude.{◌≡◌};
-ghost use Rattle.mdmp_lister.specs.Stopping.{StopAtState};
+ghost use Rattle.mdmp_lister.specs.StopAt.{StopAtState};
 
 use crate::item::Item;
 use crate::sink::{Sink, Stopped};
@@ -38,7 +38,7 @@ impl StopAt {
 }
 
 impl Sink for StopAt {
-    ghost use Rattle.mdmp_lister.specs.Stopping.{IsStopAtCall};
+    ghost use Rattle.mdmp_lister.specs.StopAt.{IsStopAtCall};
 
     ghost step = { λ old item result new. IsStopAtCall old result new };
 

@@ -2,16 +2,16 @@
 ghost use Rattle.std.specs.Prelude.{◌≡◌, ◌+◌, ◌^◌, ◌≤◌, ◌<◌, ◌-◌, ℕ, None, Some, IfOk, IfErr, IsTrue, false, OnOk, vec_len};
 ghost use Rattle.mdmp_source.specs.declared.fault.SourceFault.{SourceFault};
 ghost use Rattle.mdmp_lister.specs.Opening.{IsRefused};
-ghost use Rattle.mdmp_lister.specs.Reading.{IsOfSource};
-ghost use Rattle.mdmp_lister.specs.Stages.{ends, fault_stage};
-ghost use Rattle.mdmp_lister.specs.Steps.{IsNameHeld, bytes_behind, step_item};
-ghost use Rattle.mdmp_lister.specs.Owing.{HasRoom, count_answered, ranges_by, count_given};
+ghost use Rattle.mdmp_lister.specs.Fault.{IsOfSource};
+ghost use Rattle.mdmp_lister.specs.Stage.{ends, fault_stage};
+ghost use Rattle.mdmp_lister.specs.Step.{IsNameHeld, bytes_behind, step_item};
+ghost use Rattle.mdmp_lister.specs.Walk.Owing.{HasRoom, count_answered, ranges_by, count_given};
 ghost use Rattle.mdmp_lister.specs.Meter.{IsBooked, counts_of};
-ghost use Rattle.mdmp_lister.specs.Paying.{IsPaid};
-ghost use Rattle.mdmp_lister.specs.Listing.{list_fault};
-ghost use Rattle.mdmp_lister.specs.Items.{plain};
-ghost use Rattle.mdmp_lister.specs.Ranges.{IsPlacedIn};
-ghost use Rattle.mdmp_lister.specs.Shapes.{kind_of};
+ghost use Rattle.mdmp_lister.specs.Walk.Paying.{IsPaid};
+ghost use Rattle.mdmp_lister.specs.Format.Listing.{list_fault};
+ghost use Rattle.mdmp_lister.specs.Format.Item.{plain};
+ghost use Rattle.mdmp_lister.specs.Format.Ranges.{IsPlacedIn};
+ghost use Rattle.mdmp_lister.specs.Format.Kind.{kind_of};
 
 use crate::choice::Choice;
 use crate::counting::count_ranges;
@@ -23,8 +23,7 @@ use crate::limits::Limits;
 use crate::meter::Meter;
 use crate::opening::{OpenRefused, next_chosen, read_directory, read_header};
 use crate::recording::read_item;
-use crate::shape::Shape;
-use crate::shaping::{location_fault, record_at};
+use crate::shape::{Shape, location_fault, record_at};
 use crate::stage::Stage;
 use crate::step::{Step, lent_item};
 use mdmp_source::{Location, Source, SourceFault, Store};
@@ -55,7 +54,7 @@ pub(crate) struct Walk<S: Store + Drop, A: Allocator + Copy> {
 }
 
 impl<S: Store + Drop, A: Allocator + Copy> Walk<S, A> {
-    ghost use Rattle.mdmp_lister.specs.Requests.{Answered, HeadRead};
+    ghost use Rattle.mdmp_lister.specs.Walk.Requests.{Answered, HeadRead};
     ghost use Rattle.mdmp_lister.specs.Walk.{CountsRanges, IsListing, IsNewWalk, IsSound, IsThrough, work_of};
 
     /// Reads the header and the directory of a file, and takes all the memory that a walk needs.

@@ -16,7 +16,7 @@ fn main(rt: HostRuntime) -> Result<(), Fail> {
             match module.name {
                 Name::Units(units) => println!(rt; "{base:#x} {}", units.to_utf8(rt.alloc())?)?,
                 Name::Long(length) => println!(rt; "{base:#x}, a name of {length} bytes")?,
-                Name::NoName => println!(rt; "{base:#x}, no name")?,
+                Name::None => println!(rt; "{base:#x}, no name")?,
             }
         }
     }

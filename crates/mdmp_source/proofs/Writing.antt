@@ -1,8 +1,7 @@
 -- What an output takes by one write after another.
 use Rattle.std.proofs.Common.{◌≤◌, ◌+◌, ◌-◌, ◌++◌, ◌∙◌, ℕ, List, Option, Some, [], take, drop, length, ap, sym, append-nil, Result, Ok, Err, OnErr}
 use Rattle.std.proofs.Math.Seq.{take-add}
-use Rattle.std.proofs.lemmas.List.{take-append-drop}
-use Rattle.std.proofs.lemmas.List.{take_rest}
+use Rattle.std.proofs.lemmas.List.{take-append-drop, take_rest}
 use Rattle.mdmp_source.specs.OutputLaws.{Takes-Takes}
 use Rattle.mdmp_source.specs.Output.{Keeps, Takes, TakesPrefix}
 

@@ -14,7 +14,7 @@ pub struct Text {
 /// The name of an item.
 #[derive(Clone, Copy, Debug, PartialEq, Eq)]
 pub enum Named {
-    NoName,
+    None,
     Text(Text),
     Long(u32),
 }
@@ -123,7 +123,7 @@ pub fn system(processors: u8, build: u32, name: Named) -> Given {
 
 /// An item of a kind that has no name.
 pub fn nameless(entry: u32, index: u64, what: What) -> Given {
-    with_name(entry, index, what, Named::NoName)
+    with_name(entry, index, what, Named::None)
 }
 
 fn with_name(entry: u32, index: u64, what: What, name: Named) -> Given {
@@ -138,7 +138,7 @@ fn with_name(entry: u32, index: u64, what: What, name: Named) -> Given {
 /// A name as a plain value.
 pub fn plain_name(rt: &HostRuntime, name: &Name<'_>) -> Result<Named, AllocError> {
     match name {
-        Name::NoName => Ok(Named::NoName),
+        Name::None => Ok(Named::None),
         Name::Units(units) => {
             let utf8 = units.to_utf8(rt.alloc())?;
             Ok(spelled(utf8.as_str()))

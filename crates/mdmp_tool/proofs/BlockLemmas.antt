@@ -10,7 +10,7 @@ use Rattle.mdmp_tool.specs.declared.fault.ToolFault.{ToolFault}
 use Rattle.mdmp_tool.specs.declared.fault.ToolFault.TheVariants.{Opening, List as BadList, Source, Out, Memory}
 use Rattle.mdmp_tool.specs.Text.{list_text}
 use Rattle.mdmp_tool.specs.Runs.{Lists, StopsShort}
-use Rattle.mdmp_lister.specs.Listing.{listing, memory_lists}
+use Rattle.mdmp_lister.specs.Format.Listing.{listing, memory_lists}
 use Rattle.mdmp_tool.specs.HexRuns.{Hexes, hex_of_run}
 use Rattle.mdmp_tool.specs.Blockwise.{EndsFlushed, HexesThrough, IsFlushed, IsFirstPart, ListsThrough, RefusesWithin, stands, refused}
 

@@ -8,7 +8,7 @@ use Rattle.std.proofs.lemmas.List.Concat.{flat_map-append}
 use Rattle.std.proofs.lemmas.List.FromFn.{length-range_with_len, get_or-range_with_len}
 use Rattle.mdmp_source.specs.Output.{OutState, PutsAll, PutsPrefix}
 use Rattle.mdmp_source.specs.OutputLaws.{PutsAll-PutsAll, PutsPrefix-flat_map}
-use Rattle.mdmp_lister.specs.Addresses.{cell, cells}
+use Rattle.mdmp_lister.specs.Addressing.{cell, cells}
 use Rattle.mdmp_tool.specs.HexText.{line_numbers}
 
 -- ---- a list of texts

@@ -5,7 +5,7 @@ use Rattle.std.specs.List.{concat}
 use Rattle.mdmp_wire.specs.Digits.{hex}
 use Rattle.mdmp_map.specs.declared.range.Range.{Range}
 use Rattle.mdmp_tool.specs.declared.hex_words.Span.{Span}
-use Rattle.mdmp_lister.specs.Addresses.{cells}
+use Rattle.mdmp_lister.specs.Addressing.{cells}
 use Rattle.mdmp_tool.specs.HexText.{cells_text, hex_text}
 use Rattle.mdmp_tool.specs.HexWords.{address_named, length_named, span_named}
 

@@ -7,12 +7,13 @@ use Rattle.mdmp_source.specs.Output.{OutState}
 use Rattle.mdmp_source.specs.OutputLaws.{PutsAll-nothing}
 use Rattle.mdmp_lister.specs.declared.item.Item.{Item}
 use Rattle.mdmp_lister.specs.declared.sink.Stopped.{Stopped}
-use Rattle.mdmp_lister.specs.Handing.{TakenToStop, give_all}
+use Rattle.mdmp_lister.specs.Sink.{TakenToStop, give_all}
 use Rattle.mdmp_lister.specs.declared.fault.OpenFault.{OpenFault}
 use Rattle.mdmp_lister.specs.declared.fault.OpenFault.TheVariants as opening
-use Rattle.mdmp_lister.specs.Listing.{Run, listing, memory_lists, nothing}
-use Rattle.mdmp_lister.specs.Opening.{IsRefusalOf, behind_directory, directory_refusal, opening_fault}
-use Rattle.mdmp_lister.specs.Ranges.{ranges_of}
+use Rattle.mdmp_lister.specs.Format.Listing.{Run, listing, memory_lists, nothing}
+use Rattle.mdmp_lister.specs.Opening.{IsRefusalOf}
+use Rattle.mdmp_lister.specs.Format.Refusal.{behind_directory, directory_refusal, opening_fault}
+use Rattle.mdmp_lister.specs.Format.Ranges.{ranges_of}
 use Rattle.mdmp_tool.specs.declared.fault.ToolFault.{ToolFault}
 use Rattle.mdmp_tool.specs.declared.fault.ToolFault.TheVariants.{Opening, List as BadList, Source, Out, Memory}
 use Rattle.mdmp_tool.specs.HexRuns.{Hexes, HexesMemory, HexesRun}

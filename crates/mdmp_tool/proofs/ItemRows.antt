@@ -10,9 +10,10 @@ use Rattle.mdmp_wire.specs.Number.{number_at, numbers_at, le}
 use Rattle.mdmp_wire.specs.Units.{units_over}
 use Rattle.mdmp_wire.specs.Digits.{hex}
 use Rattle.mdmp_lister.specs.declared.name.Name.{Name}
-use Rattle.mdmp_lister.specs.declared.name.Name.TheVariants.{NoName, Units, Long}
+use Rattle.mdmp_lister.specs.declared.name.Name.TheVariants.{Units, Long}
+use Rattle.mdmp_lister.specs.declared.name.Name.TheVariants as names
 use Rattle.mdmp_lister.specs.declared.item.Item.TheVariants as items
-use Rattle.mdmp_lister.specs.Items.{thread_item, module_item, unloaded_item, exception_item, system_item, memory_info_item, range_item, range64_item}
+use Rattle.mdmp_lister.specs.Format.Item.{thread_item, module_item, unloaded_item, exception_item, system_item, memory_info_item, range_item, range64_item}
 use Rattle.mdmp_tool.specs.ItemLines.{extent_text, name_text, item_line}
 
 abbrev location : ℕ → ℕ → Location
@@ -42,7 +43,7 @@ named units = Units (units_over (flat_map (le 2) units))
 
 -- ---- names
 
-no-name : name_text NoName ≡ codes "none"
+no-name : name_text names.None ≡ codes "none"
 no-name = refl
 
 long-name : name_text (Long 10) ≡ codes "long 10"

@@ -8,8 +8,9 @@ use Rattle.mdmp_wire.specs.Header.{header_at}
 use Rattle.mdmp_lister.specs.declared.choice.Choice.TheVariants.{All}
 use Rattle.mdmp_lister.specs.declared.fault.OpenFault.{OpenFault}
 use Rattle.mdmp_lister.specs.declared.fault.OpenFault.TheVariants as opening
-use Rattle.mdmp_lister.specs.Listing.{Run, listing}
-use Rattle.mdmp_lister.specs.Opening.{IsRefusalOf, opening_fault}
+use Rattle.mdmp_lister.specs.Format.Listing.{Run, listing}
+use Rattle.mdmp_lister.specs.Opening.{IsRefusalOf}
+use Rattle.mdmp_lister.specs.Format.Refusal.{opening_fault}
 use Rattle.mdmp_tool.specs.declared.fault.ToolFault.{ToolFault}
 use Rattle.mdmp_tool.specs.declared.fault.ToolFault.TheVariants.{Opening, List as BadList, Source, Out, Memory}
 use Rattle.mdmp_tool.specs.Lines.{dump_line}

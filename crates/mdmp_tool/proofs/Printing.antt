@@ -7,9 +7,9 @@ use Rattle.mdmp_source.specs.Output.{OutState, PutsAll, PutsPrefix}
 use Rattle.mdmp_source.specs.OutputLaws.{PutsAll-nothing, PutsAll-PutsAll, PutsPrefix-last, PutsPrefix-front}
 use Rattle.mdmp_lister.specs.declared.fault.ListFault.{ListFault}
 use Rattle.mdmp_lister.specs.declared.item.Item.{Item}
-use Rattle.mdmp_lister.specs.Items.{plain}
+use Rattle.mdmp_lister.specs.Format.Item.{plain}
 use Rattle.mdmp_lister.specs.Lister.{tail}
-use Rattle.mdmp_lister.specs.Listing.{Run}
+use Rattle.mdmp_lister.specs.Format.Listing.{Run}
 use Rattle.mdmp_tool.specs.ItemLines.{item_line}
 use Rattle.mdmp_tool.specs.Runs.{IsListed, StopsShort}
 use Rattle.mdmp_tool.specs.Text.{run_text}

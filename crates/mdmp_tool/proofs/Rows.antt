@@ -5,10 +5,10 @@ use Rattle.std.specs.List.{concat}
 use Rattle.std.specs.Fmt.{digits}
 use Rattle.mdmp_wire.specs.Number.{number_at, numbers_at, bytes_at, le, zeros}
 use Rattle.mdmp_wire.specs.Digits.{hex}
-use Rattle.mdmp_lister.specs.Items.{sizes_before}
-use Rattle.mdmp_lister.specs.Listing.{entries_from, only_chosen}
-use Rattle.mdmp_lister.specs.Names.{name_at}
-use Rattle.mdmp_lister.specs.Shapes.{shape_of}
+use Rattle.mdmp_lister.specs.Format.Item.{sizes_before}
+use Rattle.mdmp_lister.specs.Format.Listing.{entries_from, only_chosen}
+use Rattle.mdmp_lister.specs.Format.Name.{name_at}
+use Rattle.mdmp_lister.specs.Format.Shape.{shape_of}
 use Rattle.mdmp_tool.specs.Text.{list_text}
 
 -- a header of so many streams, whose directory stands at an offset

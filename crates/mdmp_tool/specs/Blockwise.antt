@@ -2,8 +2,8 @@
 use Rattle.std.specs.Prelude.{◌≡◌, ◌⊎◌, ℕ, List, [], ◌++◌, Option, Some, None, Result, Err}
 use Rattle.mdmp_source.specs.Count.{HasRisen, raised}
 use Rattle.mdmp_source.specs.Output.{OutState}
-use Rattle.mdmp_lister.specs.Listing.{listing, memory_lists}
-use Rattle.mdmp_lister.specs.Opening.{opening_fault}
+use Rattle.mdmp_lister.specs.Format.Listing.{listing, memory_lists}
+use Rattle.mdmp_lister.specs.Format.Refusal.{opening_fault}
 use Rattle.mdmp_tool.specs.declared.fault.ToolFault.{ToolFault}
 use Rattle.mdmp_tool.specs.declared.fault.ToolFault.TheVariants.{Out}
 use Rattle.mdmp_tool.specs.HexRuns.{Hexes, hex_of_run}

@@ -8,7 +8,7 @@ use Rattle.mdmp_source.specs.declared.fault.SourceFault.TheVariants.{Changed}
 use Rattle.mdmp_lister.specs.declared.fault.OpenFault.{OpenFault}
 use Rattle.mdmp_lister.specs.declared.fault.OpenFault.TheVariants as opening
 use Rattle.mdmp_lister.specs.Opening.{IsOpenRefusal}
-use Rattle.mdmp_lister.specs.Reading.{IsOfSource}
+use Rattle.mdmp_lister.specs.Fault.{IsOfSource}
 use Rattle.mdmp_tool.specs.declared.fault.ToolFault.{ToolFault}
 use Rattle.mdmp_tool.specs.declared.fault.ToolFault.TheVariants.{Opening, List, Source, Out}
 

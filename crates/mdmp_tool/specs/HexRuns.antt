@@ -2,10 +2,10 @@
 use Rattle.std.specs.Prelude.{◌≡◌, ℕ, List, [], Some, None, Result, Ok, Err}
 use Rattle.mdmp_map.specs.declared.range.Range.{Range}
 use Rattle.mdmp_source.specs.Output.{OutState, PutsAll, PutsPrefix}
-use Rattle.mdmp_lister.specs.Listing.{Run, listing, memory_lists}
-use Rattle.mdmp_lister.specs.Opening.{directory_refusal, opening_fault}
-use Rattle.mdmp_lister.specs.Ranges.{ranges_of}
-use Rattle.mdmp_lister.specs.Reading.{IsOfSource}
+use Rattle.mdmp_lister.specs.Format.Listing.{Run, listing, memory_lists}
+use Rattle.mdmp_lister.specs.Format.Refusal.{directory_refusal, opening_fault}
+use Rattle.mdmp_lister.specs.Format.Ranges.{ranges_of}
+use Rattle.mdmp_lister.specs.Fault.{IsOfSource}
 use Rattle.mdmp_tool.specs.declared.fault.ToolFault.{ToolFault}
 use Rattle.mdmp_tool.specs.declared.fault.ToolFault.TheVariants.{Opening, List as BadList, Source, Out, Memory}
 use Rattle.mdmp_tool.specs.HexText.{hex_text}

@@ -5,7 +5,7 @@ use Rattle.std.specs.List.{concat, flat_map, range_with_len}
 use Rattle.std.specs.Int.{div_ceil}
 use Rattle.mdmp_wire.specs.Digits.{hex}
 use Rattle.mdmp_map.specs.declared.range.Range.{Range}
-use Rattle.mdmp_lister.specs.Addresses.{cells_at}
+use Rattle.mdmp_lister.specs.Addressing.{cells_at}
 
 -- ` ` and two lower-case digits, or ` ??`
 abbrev pub cell_text : Option ℕ → List ℕ

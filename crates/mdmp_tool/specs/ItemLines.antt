@@ -10,7 +10,8 @@ use Rattle.mdmp_wire.specs.Digits.{hex}
 use Rattle.mdmp_wire.specs.Escape.{escaped}
 use Rattle.mdmp_wire.specs.Units.{units_in}
 use Rattle.mdmp_lister.specs.declared.name.Name.{Name}
-use Rattle.mdmp_lister.specs.declared.name.Name.TheVariants.{NoName, Units, Long}
+use Rattle.mdmp_lister.specs.declared.name.Name.TheVariants.{Units, Long}
+use Rattle.mdmp_lister.specs.declared.name.Name.TheVariants as names
 use Rattle.mdmp_lister.specs.declared.item.StreamItem.{StreamItem}
 use Rattle.mdmp_lister.specs.declared.item.ThreadItem.{ThreadItem}
 use Rattle.mdmp_lister.specs.declared.item.ModuleItem.{ModuleItem}
@@ -49,7 +50,7 @@ units_text units = concat (codes "\"" ∷ escaped (units_in units) ∷ codes "\"
 
 -- `none`, `long <length>`, or the escaped units in double quotes
 abbrev pub name_text : Name → List ℕ
-name_text NoName = codes "none"
+name_text names.None = codes "none"
 name_text (Units units) = units_text units
 name_text (Long length) = size_text (codes "long ") length
 

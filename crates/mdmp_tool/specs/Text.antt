@@ -4,8 +4,8 @@ use Rattle.std.specs.List.{flat_map}
 use Rattle.mdmp_wire.specs.Header.{header_at}
 use Rattle.mdmp_lister.specs.declared.choice.Choice.TheVariants.{All}
 use Rattle.mdmp_lister.specs.declared.fault.OpenFault.{OpenFault}
-use Rattle.mdmp_lister.specs.Listing.{Run, listing}
-use Rattle.mdmp_lister.specs.Opening.{opening_fault}
+use Rattle.mdmp_lister.specs.Format.Listing.{Run, listing}
+use Rattle.mdmp_lister.specs.Format.Refusal.{opening_fault}
 use Rattle.mdmp_tool.specs.ItemLines.{item_line}
 use Rattle.mdmp_tool.specs.Lines.{dump_line}
 

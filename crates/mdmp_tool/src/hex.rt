@@ -3,9 +3,9 @@ ghost use Rattle.std.specs.Prelude.{◌≡◌, ◌≤◌, ◌<◌, ◌+◌, ℕ,
 ghost use Rattle.mdmp_map.specs.Ranges.{address_end};
 ghost use Rattle.mdmp_source.specs.Store.{IsGood};
 ghost use Rattle.mdmp_source.specs.Source.{FetchesSome};
-ghost use Rattle.mdmp_lister.specs.Listing.{Run};
-ghost use Rattle.mdmp_lister.specs.Ranges.{ranges_of};
-ghost use Rattle.mdmp_lister.specs.Reading.{IsOfSource, IsToldIn};
+ghost use Rattle.mdmp_lister.specs.Format.Listing.{Run};
+ghost use Rattle.mdmp_lister.specs.Format.Ranges.{ranges_of};
+ghost use Rattle.mdmp_lister.specs.Fault.{IsOfSource, IsToldIn};
 ghost use Rattle.mdmp_tool.specs.Causes.{IsNoSourceFault, HasSourceCause, HasOutCause, IsRefusal};
 ghost use Rattle.mdmp_tool.specs.HexRuns.{Hexes, HexesMemory, HexesRun, IsBehindOpening, IsQuiet};
 ghost use Rattle.mdmp_tool.specs.HexWords.{length_limit};

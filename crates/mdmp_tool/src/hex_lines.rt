@@ -3,7 +3,7 @@ ghost use Rattle.std.specs.Prelude.{◌≡◌, ◌+◌, ◌*◌, ◌<◌, ◌≤
 ghost use Rattle.std.specs.List.{flat_map};
 ghost use Rattle.mdmp_source.specs.Output.{Puts};
 ghost use Rattle.mdmp_map.specs.Ranges.{address_end};
-ghost use Rattle.mdmp_lister.specs.Addresses.{cell, cells};
+ghost use Rattle.mdmp_lister.specs.Addressing.{cell, cells};
 ghost use Rattle.mdmp_tool.specs.HexText.{cell_text, hex_line, line_text, cells_text};
 
 use crate::pieces::{Piece, put_piece, put_pieces};

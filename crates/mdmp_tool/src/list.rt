@@ -2,7 +2,7 @@
 ghost use Rattle.std.specs.Prelude.{◌≡◌, ◌≤◌, ◌<◌, ℕ, List, None, Some, Err, false};
 ghost use Rattle.mdmp_source.specs.Store.{IsGood};
 ghost use Rattle.mdmp_source.specs.Source.{FetchesSome};
-ghost use Rattle.mdmp_lister.specs.Listing.{Run};
+ghost use Rattle.mdmp_lister.specs.Format.Listing.{Run};
 ghost use Rattle.mdmp_tool.specs.Runs.{IsOfRun, Lists, ListsFile, ListsRun};
 ghost use Rattle.mdmp_tool.specs.Causes.{IsNoSourceFault, HasSourceCause, HasOutCause, IsRefusal};
 ghost use Rattle.mdmp_tool.specs.Telling.{list_told, opening_told};

@@ -148,7 +148,7 @@ fn put_name<O: Out>(out: &mut O, name: &Name<'_>) -> Result<(), OutFailed>
     ensures { Puts result (O.state out.old) (name_text name.now) (O.state out.new) }
 {
     match name {
-        Name::NoName => write_all(out, b"none"),
+        Name::None => write_all(out, b"none"),
         Name::Units(units) => put_units(out, units),
         Name::Long(length) => put_size(out, "long ", *length as u64),
     }

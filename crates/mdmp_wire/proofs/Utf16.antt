@@ -2,13 +2,12 @@
 use Rattle.std.proofs.Common.{◌≡◌, ℕ, zero, suc, ◌+◌, ◌-◌, ◌/◌, ◌%◌, ◌<◌, ◌≤◌, List, [], ◌∷◌, ◌++◌, get_or, Bool, true, Some, map, refl, ap, ◌∙◌, arith, inl, inr, ◌⊎◌, lt-ltb, le-ltb, ◌&&◌, false}
 use Rattle.std.specs.List.{flat_map}
 use Rattle.std.specs.Char.Escape.{encode_utf16}
-use Rattle.std.specs.Char.Utf16.{utf16_chars, utf16_lossy_chars}
+use Rattle.std.specs.Char.Utf16.{utf16_chars, utf16_lossy_chars, lone_unit_char, surrogate_pair_char}
 use Rattle.std.specs.Str.{chars, encode_utf8_all, IsUtf8}
 use Rattle.std.proofs.lemmas.Bool.{cases_lt}
 use Rattle.std.proofs.lemmas.Str.{utf16_chars-nil, utf16_chars_lone, utf16_chars_pair, encodes-chars, scalars-chars}
 use lib.Utf8.{scalars, scalar, scalar_cases}
 use Rattle.std.specs.Prelude.{unwrap_or}
-use Rattle.std.specs.Char.Utf16.{lone_unit_char, surrogate_pair_char}
 use borrow.Author.Tests.{le-leb, lt-leb}
 use Rattle.std.proofs.str.Utf16.{IsPair}
 use Rattle.mdmp_wire.specs.Units.{utf16_of, utf8_of}

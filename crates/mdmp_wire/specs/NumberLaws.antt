@@ -2,13 +2,12 @@
 use Rattle.std.proofs.Common.{◌≡◌, ℕ, zero, suc, ◌+◌, ◌*◌, ◌-◌, ◌^◌, ◌<◌, ◌≤◌, List, [], ◌∷◌, ◌++◌, length, take, drop, slice_index, refl, ap, sym, ◌∙◌, append_assoc, arith, length-append}
 use Rattle.std.proofs.lemmas.List.{append-nil, take-take, drop-take, drop-drop, drop_all, get_or-drop, get_or-append-add, take_at, length-take-le}
 use borrow.Rule.Slice.PartMut.{put_mid, post_of, mid_of}
-use Rattle.byteorder.specs.Endian.{little_from}
+use Rattle.byteorder.specs.Endian.{little_from, IsRead}
 use Rattle.byteorder.specs.Numbers.{little_number-reads_back, length-bytes_low_first, little_from-take}
 use Rattle.std.specs.List.{flat_map}
 use Rattle.std.proofs.lemmas.List.Concat.{flat_map-cons}
 use Rattle.std.proofs.lemmas.Grind.{same_number_lists}
 use Rattle.std.proofs.Math.Nat.{mul-suc}
-use Rattle.byteorder.specs.Endian.{IsRead}
 use Rattle.mdmp_wire.specs.Number.{number_at, le, les, numbers_at, bytes_at}
 
 little_from-drop : (i k n : ℕ) (xs : List ℕ) → little_from i k (drop n xs) ≡ little_from (n + i) k xs

@@ -18,7 +18,7 @@ fn nothing_is_listed_behind_the_first_fault(rt: HostRuntime) -> Result<(), Fail>
     };
     let script = [
         gives(stream(0, 7, 56, 68)),
-        gives(system(0, 0, Named::NoName)),
+        gives(system(0, 0, Named::None)),
         gives(stream(1, 4, 112, 124)),
         fails(fault),
     ];

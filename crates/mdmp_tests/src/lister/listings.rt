@@ -39,7 +39,7 @@ fn types_that_are_not_chosen_are_not_listed(rt: HostRuntime) -> Result<(), Fail>
 fn what_is_not_chosen_is_not_looked_at(rt: HostRuntime) -> Result<(), Fail> {
     let script = [
         gives(stream(0, 7, 56, 68)),
-        gives(system(0, 0, Named::NoName)),
+        gives(system(0, 0, Named::None)),
         ends(),
     ];
     let other = other_of_chosen(&rt, LEAST, 3, &FAULTY, &[7], &script)?;
@@ -78,7 +78,7 @@ fn cut_name_ends_the_listing(rt: HostRuntime) -> Result<(), Fail> {
 #[test]
 fn name_is_none_or_lent_or_long(rt: HostRuntime) -> Result<(), Fail> {
     for (rva, bytes, name) in [
-        (0, b"".as_slice(), Named::NoName),
+        (0, b"".as_slice(), Named::None),
         (80, b"\0\0\0\0".as_slice(), spelled("")),
         (80, b"\x08\0\0\0a\0b\0c\0d\0".as_slice(), spelled("abcd")),
         (80, b"\x0a\0\0\0a\0b\0c\0d\0e\0".as_slice(), Named::Long(10)),

@@ -37,7 +37,7 @@ fn name_of_the_limit_is_lent(rt: HostRuntime) -> Result<(), Fail> {
 fn name_of_no_units_is_a_name(rt: HostRuntime) -> Result<(), Fail> {
     let file = bytes_of([0; 4]);
     assert_eq!(rt; name(&rt, &file[..8], 4, 8)?, Ok(spelled("")));
-    assert_eq!(rt; name(&rt, &file[..8], 0, 8)?, Ok(Named::NoName));
+    assert_eq!(rt; name(&rt, &file[..8], 0, 8)?, Ok(Named::None));
     Ok(())
 }
 

@@ -60,8 +60,8 @@ fn records_stand_as_far_apart_as_their_list_says(rt: HostRuntime) -> Result<(), 
     numbers[256] = 2;
     let script = [
         gives(stream(0, 14, 2012, 44)),
-        gives(unloaded(0, 1, Named::NoName)),
-        gives(unloaded(1, 2, Named::NoName)),
+        gives(unloaded(0, 1, Named::None)),
+        gives(unloaded(1, 2, Named::None)),
         ends(),
     ];
     let other = other_in_numbers(&rt, LEAST, 1, &numbers, &script)?;

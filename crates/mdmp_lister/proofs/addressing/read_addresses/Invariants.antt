@@ -1,7 +1,7 @@
 use Rattle.std.proofs.Common.{None, take}
-use Rattle.mdmp_lister.specs.Addresses.{ReadsCells}
+use Rattle.mdmp_lister.specs.Addressing.{ReadsCells}
 use Rattle.mdmp_lister.specs.Meter.{BooksAside}
-use Rattle.mdmp_lister.specs.Reading.{IsCaused}
+use Rattle.mdmp_lister.specs.Fault.{IsCaused}
 use Rattle.mdmp_lister.proofs.addressing.read_addresses.Given as goal
 
 -- the first cells were read

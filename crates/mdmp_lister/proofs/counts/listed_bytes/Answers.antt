@@ -1,6 +1,6 @@
 use Rattle.std.proofs.Common.{◌≡◌, ◌≤◌, ◌+◌, ◌∙◌, true, false, arith, sym, get_or, length}
 use Rattle.mdmp_wire.specs.declared.entry.Entry.{Entry}
-use Rattle.mdmp_lister.specs.Listing.{is_chosen}
+use Rattle.mdmp_lister.specs.Format.Listing.{is_chosen}
 use Rattle.mdmp_lister.proofs.Paying.{cost_of-end}
 use Rattle.mdmp_lister.proofs.Listed.{cost_of-more, cost_of-other}
 use Rattle.mdmp_lister.proofs.counts.listed_bytes.Goals as goal

@@ -1,5 +1,5 @@
 use Rattle.std.proofs.Common.{arith, rules}
-use Rattle.mdmp_lister.specs.Shapes.{FitsIn}
+use Rattle.mdmp_lister.specs.Format.Shape.{FitsIn}
 use Rattle.mdmp_lister.proofs.Paying.{few_records}
 use Rattle.mdmp_lister.proofs.heading.head_at.Goals as goal
 

@@ -1,6 +1,6 @@
 use Rattle.std.proofs.Common.{◌≡◌, ◌≤◌, ◌<◌, ◌∙◌, true, refl, ap, arith, sym, get_or}
 use Rattle.mdmp_wire.specs.declared.entry.Entry.{Entry}
-use Rattle.mdmp_lister.specs.Listing.{entry_count, entry_of, is_chosen}
+use Rattle.mdmp_lister.specs.Format.Listing.{entry_count, entry_of, is_chosen}
 use Rattle.mdmp_lister.proofs.Entries.{chosen_from-chosen, chosen_from-other, chosen_from-end}
 use Rattle.std.proofs.lemmas.List.{get_or_default}
 use Rattle.mdmp_lister.proofs.Paying.{cost_of-chosen, cost_of-passed}

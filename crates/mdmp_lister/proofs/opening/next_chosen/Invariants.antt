@@ -1,7 +1,7 @@
 use Rattle.std.proofs.Common.{◌≡◌, ◌-◌, ◌≤◌, ℕ, List, drop, length}
-use Rattle.mdmp_lister.specs.Directory.{IsDirectory}
-use Rattle.mdmp_lister.specs.Listing.{chosen_from}
-use Rattle.mdmp_lister.specs.Paying.{cost_of}
+use Rattle.mdmp_lister.specs.Format.Directory.{IsDirectory}
+use Rattle.mdmp_lister.specs.Format.Listing.{chosen_from}
+use Rattle.mdmp_lister.specs.Walk.Paying.{cost_of}
 use Rattle.mdmp_lister.proofs.opening.next_chosen.Given as goal
 
 -- the entries passed are not chosen

@@ -2,7 +2,7 @@ use Rattle.std.proofs.Common.{◌≡◌, ◌+◌, ◌*◌, ◌∙◌, None, Some
 use Rattle.mdmp_wire.specs.declared.header.Header.{Header}
 use Rattle.mdmp_wire.specs.Entry.{entry_at}
 use Rattle.mdmp_wire.specs.Header.{header_at}
-use Rattle.mdmp_lister.specs.Listing.{entry_count, entry_of}
+use Rattle.mdmp_lister.specs.Format.Listing.{entry_count, entry_of}
 use Rattle.mdmp_lister.proofs.Directory.{entry_inside, each-more, each-none}
 use Rattle.mdmp_lister.proofs.Fetches.{IsCaused_none, IsCaused_later}
 use Rattle.mdmp_lister.proofs.Metering.{Books_none, Books-then, Books-within}

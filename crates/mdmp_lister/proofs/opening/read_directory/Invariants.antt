@@ -1,9 +1,9 @@
 use Rattle.std.proofs.Common.{◌≡◌, ◌≤◌, ◌<◌, ◌*◌, ℕ, List, None, Some, length, get_or, vec_capacity}
 use Rattle.mdmp_wire.specs.declared.entry.Entry.{Entry}
 use Rattle.mdmp_wire.specs.Header.{header_at}
-use Rattle.mdmp_lister.specs.Listing.{entry_of}
+use Rattle.mdmp_lister.specs.Format.Listing.{entry_of}
 use Rattle.mdmp_lister.specs.Meter.{Books}
-use Rattle.mdmp_lister.specs.Reading.{IsCaused}
+use Rattle.mdmp_lister.specs.Fault.{IsCaused}
 use Rattle.mdmp_lister.proofs.opening.read_directory.Given as goal
 
 -- the first entries were fetched

@@ -1,7 +1,7 @@
 use Rattle.std.proofs.Common.{◌≡◌, ◌∙◌, ◌+◌, Some, ap}
 use Rattle.std.specs.Option.{option_map}
 use Rattle.mdmp_source.specs.SourceLaws.{fetches_then}
-use Rattle.mdmp_lister.specs.Listing.{listing, memory_lists}
+use Rattle.mdmp_lister.specs.Format.Listing.{listing, memory_lists}
 use Rattle.mdmp_tool.proofs.Hexing.{Hexes-opened}
 use Rattle.mdmp_tool.proofs.hex.hex_source.Goals as goal
 

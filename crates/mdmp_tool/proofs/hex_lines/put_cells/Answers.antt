@@ -1,6 +1,6 @@
 use Rattle.std.proofs.Common.{arith}
 use Rattle.std.proofs.lemmas.Result.{MatchResult-from_err}
-use Rattle.mdmp_lister.specs.Addresses.{cells}
+use Rattle.mdmp_lister.specs.Addressing.{cells}
 use Rattle.mdmp_tool.specs.HexText.{cell_text}
 use Rattle.mdmp_tool.proofs.HexLemmas.{PutsAll-item, PutsAll-items, PutsPrefix-item, IsItem-cell, length-cells}
 use Rattle.mdmp_tool.proofs.hex_lines.put_cells.Goals as goal

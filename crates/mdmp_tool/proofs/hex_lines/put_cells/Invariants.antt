@@ -1,7 +1,7 @@
 use Rattle.std.proofs.Common.{take}
 use Rattle.std.specs.List.{flat_map}
 use Rattle.mdmp_source.specs.Output.{PutsAll}
-use Rattle.mdmp_lister.specs.Addresses.{cells}
+use Rattle.mdmp_lister.specs.Addressing.{cells}
 use Rattle.mdmp_tool.specs.HexText.{cell_text}
 use Rattle.mdmp_tool.proofs.hex_lines.put_cells.Given as goal
 

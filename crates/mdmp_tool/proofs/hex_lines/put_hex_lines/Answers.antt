@@ -1,6 +1,6 @@
 use Rattle.std.proofs.Common.{length, arith}
 use Rattle.std.proofs.lemmas.Result.{MatchResult-from_err}
-use Rattle.mdmp_lister.specs.Addresses.{cells}
+use Rattle.mdmp_lister.specs.Addressing.{cells}
 use Rattle.mdmp_tool.specs.HexText.{line_text, line_numbers}
 use Rattle.mdmp_tool.proofs.HexLemmas.{PutsAll-item, PutsAll-items, PutsPrefix-item, IsItem-line, length-cells, length-line_numbers}
 use Rattle.mdmp_tool.proofs.hex_lines.put_hex_lines.Goals as goal

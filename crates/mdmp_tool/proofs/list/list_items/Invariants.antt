@@ -1,6 +1,6 @@
 use Rattle.std.proofs.Common.{◌≡◌, Some, None}
 use Rattle.mdmp_source.specs.Source.{FetchesSome}
-use Rattle.mdmp_lister.specs.Listing.{Run}
+use Rattle.mdmp_lister.specs.Format.Listing.{Run}
 use Rattle.mdmp_tool.proofs.Printing.{HasPrinted}
 use Rattle.mdmp_tool.proofs.list.list_items.Given as goal
 

@@ -3,7 +3,7 @@ use Rattle.std.specs.Option.{option_map}
 use Rattle.mdmp_source.specs.SourceLaws.{fetches_then}
 use Rattle.mdmp_wire.specs.declared.header.Header.{Header}
 use Rattle.mdmp_lister.specs.declared.choice.Choice.TheVariants.{All}
-use Rattle.mdmp_lister.specs.Listing.{listing}
+use Rattle.mdmp_lister.specs.Format.Listing.{listing}
 use Rattle.mdmp_tool.specs.Runs.{ListsFile}
 use Rattle.mdmp_tool.proofs.Listings.{Lists-opened}
 use Rattle.mdmp_tool.proofs.list.list_source.Goals as goal

@@ -1,5 +1,5 @@
 use Rattle.std.proofs.Common.{◌≡◌, ◌≤◌, ◌+◌, ◌*◌, ◌^◌, ◌∙◌, arith, length}
-use Rattle.mdmp_lister.specs.Paying.{cost_of}
+use Rattle.mdmp_lister.specs.Walk.Paying.{cost_of}
 use Rattle.mdmp_lister.proofs.Numbers.{costs_listed, fetched_below, fetched_most}
 use Rattle.mdmp_lister.proofs.lister.Lister.counts.Goals as goal
 

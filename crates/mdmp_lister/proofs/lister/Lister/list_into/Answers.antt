@@ -1,10 +1,10 @@
 use Rattle.std.proofs.Common.{◌≡◌, ◌∷◌, [], ◌++◌, ◌∙◌, Some, None, sym, ap, arith, refl}
 use Rattle.std.proofs.lemmas.List.{append-nil}
 use Rattle.std.specs.Prelude.{slice_get}
-use Rattle.mdmp_lister.specs.Items.{plain}
-use Rattle.mdmp_lister.specs.Handing.{give_all}
+use Rattle.mdmp_lister.specs.Format.Item.{plain}
+use Rattle.mdmp_lister.specs.Sink.{give_all}
 use Rattle.mdmp_lister.specs.Lister.{ListerState, tail}
-use Rattle.mdmp_lister.specs.Listing.{nothing, only_fault}
+use Rattle.mdmp_lister.specs.Format.Listing.{nothing, only_fault}
 use Rattle.mdmp_lister.proofs.Advancing.{current_after-plain, passed_after-plain}
 use Rattle.mdmp_lister.proofs.Handing.{AllClassed-more, HasCost-end, HasCost-fault, HasCost-more, HasCost-most, HasCost-none, current_behind-more, give_all-next, names_of_all-more, passed_behind-more, same_lister-then, Taken-more, TakenToStop-end}
 use Rattle.mdmp_lister.proofs.Mapping.{ranges_of-more}

@@ -1,11 +1,11 @@
 use Rattle.std.proofs.Common.{arith, ◌≡◌, ◌∷◌, [], ℕ, List, Err, Some, None, slice_get, refl, rules, sym, ap, ◌∙◌}
 use Rattle.std.proofs.lemmas.List.{append-nil}
-use Rattle.mdmp_lister.specs.Items.{plain}
+use Rattle.mdmp_lister.specs.Format.Item.{plain}
 use Rattle.mdmp_lister.specs.Lister.{tail}
-use Rattle.mdmp_lister.specs.Listing.{Run, nothing, only_fault, with_item}
-use Rattle.mdmp_lister.specs.Ranges.{ranges_of}
-use Rattle.mdmp_lister.specs.Reading.{IsOfSource}
-use Rattle.mdmp_lister.specs.Stages.{stop_after, stop_of}
+use Rattle.mdmp_lister.specs.Format.Listing.{Run, nothing, only_fault, with_item}
+use Rattle.mdmp_lister.specs.Format.Ranges.{ranges_of}
+use Rattle.mdmp_lister.specs.Fault.{IsOfSource}
+use Rattle.mdmp_lister.specs.Stage.{stop_after, stop_of}
 use Rattle.mdmp_lister.specs.Walk.{left_of}
 use Rattle.mdmp_lister.proofs.Advancing.{becomes, option_map-then, of_run, passes, same_entries, same_rooms}
 use Rattle.mdmp_lister.proofs.Classes.{classed-given}

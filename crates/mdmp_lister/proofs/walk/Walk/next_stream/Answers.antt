@@ -1,7 +1,7 @@
 use Rattle.std.proofs.Common.{◌≡◌, ◌≤◌, ◌∙◌, [], length, arith, ap, refl, rules, vec_len}
 use Rattle.std.proofs.Math.Nat.{add-sub_cancel}
 use Rattle.std.specs.Prelude.{map}
-use Rattle.mdmp_lister.specs.Listing.{all_joined, chosen_from, entry_count, entry_listing, entry_of, nothing}
+use Rattle.mdmp_lister.specs.Format.Listing.{all_joined, chosen_from, entry_count, entry_listing, entry_of, nothing}
 use Rattle.mdmp_lister.specs.Walk.{rest_of}
 use Rattle.mdmp_lister.proofs.Bodies.{listing_from-first}
 use Rattle.mdmp_lister.proofs.Entries.{chosen_from-end, listing_from-end}

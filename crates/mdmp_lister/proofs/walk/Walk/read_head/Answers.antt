@@ -1,8 +1,9 @@
 use Rattle.std.proofs.Common.{◌≡◌, ◌<◌, ◌-◌, ℕ, List, Some, None, ◌∙◌, ap, arith, refl, rules, sym}
-use Rattle.mdmp_lister.specs.Items.{sizes_before}
-use Rattle.mdmp_lister.specs.Heads.{head_spent}
-use Rattle.mdmp_lister.specs.Reading.{IsOfSource, source_of}
-use Rattle.mdmp_lister.specs.Shapes.{kind_of, location_fault}
+use Rattle.mdmp_lister.specs.Format.Item.{sizes_before}
+use Rattle.mdmp_lister.specs.Heading.{head_spent}
+use Rattle.mdmp_lister.specs.Fault.{IsOfSource, source_of}
+use Rattle.mdmp_lister.specs.Format.Kind.{kind_of}
+use Rattle.mdmp_lister.specs.Format.Shape.{location_fault}
 use Rattle.mdmp_lister.proofs.Bodies.{body-faulted, body-shaped}
 use Rattle.mdmp_lister.proofs.Fetches.{not_of_source, told_in_caused}
 use Rattle.mdmp_lister.proofs.Heads.{head_of-is, listed-inside}

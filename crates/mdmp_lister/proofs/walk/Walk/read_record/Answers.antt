@@ -1,12 +1,12 @@
 use Rattle.std.proofs.Common.{◌≡◌, ◌-◌, ◌∙◌, length, arith, ap, sym, refl, rules, vec_len}
-use Rattle.mdmp_lister.specs.Reading.{IsOfSource, source_of}
+use Rattle.mdmp_lister.specs.Fault.{IsOfSource, source_of}
 use Rattle.mdmp_lister.specs.Walk.{IsReading}
 use Rattle.mdmp_lister.proofs.Bodies.{records-given, records-faulted, take-lent}
 use Rattle.mdmp_lister.proofs.Costs.{fault_cost-told}
 use Rattle.mdmp_lister.proofs.Fetches.{not_of_source, told_in_caused}
 use Rattle.mdmp_lister.proofs.Offsets.{range-next}
 use Rattle.mdmp_lister.proofs.Soundness.{IsSound-after}
-use Rattle.mdmp_lister.specs.Shapes.{record_size}
+use Rattle.mdmp_lister.specs.Format.Kind.{record_size}
 use Rattle.mdmp_lister.proofs.Paying.{record_less}
 use Rattle.mdmp_lister.proofs.Requests.{answered_fault, answered_step}
 use Rattle.mdmp_lister.proofs.walk.Walk.read_record.Goals as goal

@@ -1,6 +1,5 @@
-use Rattle.std.proofs.Common.{◌≡◌, refl, sym, ap, ◌∙◌, arith, ◌++◌}
+use Rattle.std.proofs.Common.{◌≡◌, refl, sym, ap, ◌∙◌, arith, ◌++◌, length, length-append}
 use Rattle.std.proofs.lemmas.List.{take_all}
-use Rattle.std.proofs.Common.{length, length-append}
 use Rattle.mdmp_wire.specs.Location.{location_bytes}
 use Rattle.mdmp_wire.specs.NumberLaws.{number_at-past, numbers_at-past, numbers_at-front}
 use Rattle.mdmp_wire.specs.Number.{number_at, le, les, zeros}

@@ -1,5 +1,5 @@
--- Which streams have records, and where those stand.
-use Rattle.std.specs.Prelude.{◌≤◌, ◌<◌, ℕ, ◌+◌, ◌*◌, List, length, Option, Some, None, Result, Ok, Err, Bool, true, false, is_some, ◌==◌, ◌||◌, ◌&&◌, nat_lt, if◌then◌else◌}
+-- Where the records of a stream stand.
+use Rattle.std.specs.Prelude.{◌≤◌, ◌<◌, ℕ, ◌+◌, ◌*◌, List, length, Option, Some, None, Result, Ok, Err, ◌==◌, ◌||◌, ◌&&◌, nat_lt, if◌then◌else◌}
 use Rattle.mdmp_source.specs.Range.{is_inside}
 use Rattle.mdmp_wire.specs.declared.entry.Entry.{Entry}
 use Rattle.mdmp_wire.specs.Number.{number_at}
@@ -9,60 +9,10 @@ use Rattle.mdmp_wire.specs.UnloadedList.{unloaded_list_at}
 use Rattle.mdmp_lister.specs.declared.form.Form.{Form}
 use Rattle.mdmp_lister.specs.declared.form.Form.TheVariants as forms
 use Rattle.mdmp_lister.specs.declared.kind.Kind.{Kind}
-use Rattle.mdmp_lister.specs.declared.kind.Kind.TheVariants as kinds
 use Rattle.mdmp_lister.specs.declared.shape.Shape.{Shape}
 use Rattle.mdmp_lister.specs.declared.fault.Fault.{Fault}
 use Rattle.mdmp_lister.specs.declared.fault.FaultKind.TheVariants.{StreamOutside, ShortStream, BadHeaderSize, BadEntrySize, BadCount}
-
--- ---- kinds of streams: the type, the form and the records of each
-
--- the kind of a stream type whose records are known
-abbrev pub kind_of : ℕ → Option Kind
-kind_of t =
-    if t == 3 then Some kinds.Threads
-    else if t == 4 then Some kinds.Modules
-    else if t == 5 then Some kinds.Memory
-    else if t == 6 then Some kinds.Exception
-    else if t == 7 then Some kinds.System
-    else if t == 9 then Some kinds.Memory64
-    else if t == 14 then Some kinds.Unloaded
-    else if t == 16 then Some kinds.MemoryInfo
-    else None
-
-abbrev pub is_known : ℕ → Bool
-is_known t = is_some (kind_of t)
-
--- what stands before its records
-abbrev pub form_of : Kind → Form
-form_of kinds.Threads = forms.Counted
-form_of kinds.Modules = forms.Counted
-form_of kinds.Memory = forms.Counted
-form_of kinds.Exception = forms.Single
-form_of kinds.System = forms.Single
-form_of kinds.Memory64 = forms.Ranges64
-form_of kinds.Unloaded = forms.Sized32
-form_of kinds.MemoryInfo = forms.Sized64
-
--- how many bytes a record has
-abbrev pub record_size : Kind → ℕ
-record_size kinds.Threads = 48
-record_size kinds.Modules = 108
-record_size kinds.Memory = 16
-record_size kinds.Exception = 168
-record_size kinds.System = 56
-record_size kinds.Memory64 = 16
-record_size kinds.Unloaded = 24
-record_size kinds.MemoryInfo = 48
-
--- the most bytes that a record of any kind has: those of an exception
-abbrev pub greatest_record : ℕ
-greatest_record = record_size kinds.Exception
-
--- its records are ranges of memory
-abbrev pub lists_ranges : Kind → Bool
-lists_ranges kinds.Memory = true
-lists_ranges kinds.Memory64 = true
-lists_ranges kind = false
+use Rattle.mdmp_lister.specs.Format.Kind.{kind_of, form_of, record_size}
 
 -- ---- heads
 

@@ -6,14 +6,14 @@ use Rattle.mdmp_lister.specs.declared.fault.ListFault.{ListFault}
 use Rattle.mdmp_lister.specs.declared.step.Step.{Step}
 use Rattle.mdmp_lister.specs.declared.walk.Walk.{Walk}
 use Rattle.mdmp_lister.specs.Costs.{given_spent, head_left, head_told}
-use Rattle.mdmp_lister.specs.Heads.{head_of}
+use Rattle.mdmp_lister.specs.Heading.{head_of}
 use Rattle.mdmp_lister.specs.Meter.{Books, Moves, counts_of}
-use Rattle.mdmp_lister.specs.Paying.{IsPaid}
-use Rattle.mdmp_lister.specs.Reaching.{Reaches, ReachesAtFault, given_once}
-use Rattle.mdmp_lister.specs.Reading.{IsOfSource, IsToldIn}
-use Rattle.mdmp_lister.specs.Shapes.{kind_of}
-use Rattle.mdmp_lister.specs.Stages.{IsStageAfter, stop_after, stop_of}
-use Rattle.mdmp_lister.specs.Steps.{CurrentAfter, IsStepHeld}
+use Rattle.mdmp_lister.specs.Walk.Paying.{IsPaid}
+use Rattle.mdmp_lister.specs.Walk.Reaching.{Reaches, ReachesAtFault, given_once}
+use Rattle.mdmp_lister.specs.Fault.{IsOfSource, IsToldIn}
+use Rattle.mdmp_lister.specs.Format.Kind.{kind_of}
+use Rattle.mdmp_lister.specs.Stage.{IsStageAfter, stop_after, stop_of}
+use Rattle.mdmp_lister.specs.Step.{CurrentAfter, IsStepHeld}
 use Rattle.mdmp_lister.specs.Walk.{Advances, IsListing, IsSound, PassesTo, SameEntry, SameRoom, current_of, left_of, work_of}
 
 module _ {S A : Type 0} where

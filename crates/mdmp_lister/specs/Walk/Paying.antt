@@ -6,9 +6,9 @@ use Rattle.mdmp_lister.specs.declared.choice.Choice.{Choice}
 use Rattle.mdmp_lister.specs.declared.stage.Stage.{Stage}
 use Rattle.mdmp_lister.specs.declared.stage.Stage.TheVariants.{Head, Records}
 use Rattle.mdmp_lister.specs.declared.walk.Walk.{Walk}
-use Rattle.mdmp_lister.specs.Heads.{heads_ahead}
-use Rattle.mdmp_lister.specs.Listing.{is_chosen}
-use Rattle.mdmp_lister.specs.Shapes.{is_known, record_size}
+use Rattle.mdmp_lister.specs.Heading.{heads_ahead}
+use Rattle.mdmp_lister.specs.Format.Listing.{is_chosen}
+use Rattle.mdmp_lister.specs.Format.Kind.{is_known, record_size}
 use Rattle.mdmp_lister.specs.Walk.{work_of}
 
 -- the bytes that the listing of an entry may fetch, those of names left out: all of a stream of a known type that lies

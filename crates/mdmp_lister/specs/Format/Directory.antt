@@ -2,7 +2,7 @@
 use Rattle.std.specs.Prelude.{◌≡◌, ◌<◌, ◌+◌, ℕ, List, [], ◌∷◌, length, get_or, Option, Some, None}
 use Rattle.mdmp_wire.specs.declared.entry.Entry.{Entry}
 use Rattle.mdmp_lister.specs.declared.choice.Choice.{Choice}
-use Rattle.mdmp_lister.specs.Listing.{chosen_from, entry_count, entry_of}
+use Rattle.mdmp_lister.specs.Format.Listing.{chosen_from, entry_count, entry_of}
 
 -- these are the first entries of the directory of F, in order
 abbrev pub AreFirst : List ℕ → List Entry → Type 0

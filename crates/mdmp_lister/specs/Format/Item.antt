@@ -1,7 +1,6 @@
 -- The items that the records of a stream give.
-use Rattle.std.specs.Prelude.{ℕ, zero, suc, ◌+◌, List, length, Option, Some, None, Result, Ok, Err}
+use Rattle.std.specs.Prelude.{ℕ, zero, suc, ◌+◌, List, length, Option, Some, None, Result, Ok, Err, ◌==◌, if◌then◌else◌}
 use Rattle.mdmp_source.specs.Extent.{extent_of}
-use Rattle.mdmp_lister.specs.Extents.{range_extent_of}
 use Rattle.mdmp_wire.specs.AnyRecord.{name_rva}
 use Rattle.mdmp_wire.specs.declared.any_record.AnyRecord.{AnyRecord}
 use Rattle.mdmp_wire.specs.declared.any_record.AnyRecord.TheVariants as any
@@ -26,7 +25,7 @@ use Rattle.mdmp_lister.specs.declared.kind.Kind.{Kind}
 use Rattle.mdmp_lister.specs.declared.kind.Kind.TheVariants as kinds
 use Rattle.mdmp_lister.specs.declared.fault.Fault.{Fault}
 use Rattle.mdmp_lister.specs.declared.name.Name.{Name}
-use Rattle.mdmp_lister.specs.declared.name.Name.TheVariants.{NoName}
+use Rattle.mdmp_lister.specs.declared.name.Name.TheVariants as names
 use Rattle.mdmp_lister.specs.declared.item.Item.{Item}
 use Rattle.mdmp_lister.specs.declared.item.ThreadItem.{ThreadItem}
 use Rattle.mdmp_lister.specs.declared.item.ModuleItem.{ModuleItem}
@@ -36,7 +35,17 @@ use Rattle.mdmp_lister.specs.declared.item.SystemItem.{SystemItem}
 use Rattle.mdmp_lister.specs.declared.item.MemoryInfoItem.{MemoryInfoItem}
 use Rattle.mdmp_lister.specs.declared.item.RangeItem.{RangeItem}
 use Rattle.mdmp_lister.specs.declared.item.Item.TheVariants as items
-use Rattle.mdmp_lister.specs.Names.{name_at, plain_name}
+use Rattle.mdmp_lister.specs.Format.Name.{name_at, plain_name}
+use Rattle.mdmp_source.specs.declared.location.Extent.{Extent}
+use Rattle.mdmp_source.specs.declared.location.Extent.TheVariants.{Empty, Inside, Outside}
+use Rattle.mdmp_source.specs.Range.{is_inside}
+
+-- the extent of `len` bytes at an offset in a file of `size` bytes: the first of these that fits. It is never absent
+abbrev pub range_extent_of : ℕ → ℕ → ℕ → Extent
+range_extent_of offset len size =
+    if len == 0 then Empty
+    else if is_inside offset len size then Inside
+    else Outside
 
 -- an item, whatever place its units are lent from: of the eight kinds only three have names
 abbrev pub plain : Item → Item
@@ -151,7 +160,7 @@ item_of z e k offset (any.MemoryInfo fields) name = items.MemoryInfo (memory_inf
 
 -- the name at an RVA, of a record that has one
 abbrev pub name_of : List ℕ → ℕ → Option ℕ → Result Name Fault
-name_of F limit None = Ok NoName
+name_of F limit None = Ok names.None
 name_of F limit (Some rva) = name_at F rva limit
 
 -- where the bytes of record k of the stream of this kind at `at` stand, of a kind whose records do not say so

@@ -1,21 +1,35 @@
 -- Items whose names stand in a buffer.
-use Rattle.std.specs.Prelude.{◌≡◌, ℕ, List, Option, Some, None, Result, Ok}
+use Rattle.std.specs.Prelude.{◌≡◌, ℕ, List, Option, Some, None, Result, Ok, ◌≤◌, ◌%◌, take}
 use Rattle.mdmp_wire.specs.AnyRecord.{name_rva}
 use Rattle.mdmp_wire.specs.declared.any_record.AnyRecord.{AnyRecord}
 use Rattle.mdmp_wire.specs.declared.any_record.AnyRecord.TheVariants as any
 use Rattle.mdmp_wire.specs.declared.entry.Entry.{Entry}
 use Rattle.mdmp_lister.specs.declared.fault.ListFault.{ListFault}
 use Rattle.mdmp_lister.specs.declared.fetching.NameRead.{NameRead}
-use Rattle.mdmp_lister.specs.declared.fetching.NameRead.TheVariants.{NoName}
 use Rattle.mdmp_lister.specs.declared.item.Item.{Item}
 use Rattle.mdmp_lister.specs.declared.item.Item.TheVariants as items
 use Rattle.mdmp_lister.specs.declared.item.StreamItem.{StreamItem}
 use Rattle.mdmp_lister.specs.declared.step.Step.{Step}
 use Rattle.mdmp_lister.specs.declared.step.Step.TheVariants as step
 use Rattle.mdmp_lister.specs.declared.kind.Kind.{Kind}
-use Rattle.mdmp_lister.specs.Items.{item_of, kind_told}
-use Rattle.mdmp_lister.specs.Reading.{IsHeld, name_read}
-use Rattle.mdmp_lister.specs.Summary.{entry_begun, number_behind}
+use Rattle.mdmp_lister.specs.Format.Item.{item_of, kind_told}
+use Rattle.mdmp_lister.specs.Format.Summary.{entry_begun, number_behind}
+use Rattle.mdmp_wire.specs.Units.{units_over}
+use Rattle.mdmp_lister.specs.declared.name.Name.{Name}
+use Rattle.mdmp_lister.specs.declared.name.Name.TheVariants.{Units, Long}
+use Rattle.mdmp_lister.specs.declared.name.Name.TheVariants as names
+use Rattle.mdmp_lister.specs.declared.fetching.NameRead.TheVariants as read
+
+-- a name whose units stand at the front of a buffer
+abbrev pub name_read : List ℕ → NameRead → Name
+name_read buffer read.None = names.None
+name_read buffer (read.Units bytes) = Units (units_over (take bytes buffer))
+name_read buffer (read.Long bytes) = Long bytes
+
+-- units that were read fit in `room` bytes, two bytes each
+abbrev pub IsHeld : ℕ → NameRead → Type 0
+IsHeld room (read.Units bytes) = (bytes ≤ room) × (bytes % 2 ≡ 0)
+IsHeld room name = Unit {0}
 
 -- the item, its name in this buffer, in a file of z bytes
 abbrev pub step_item : ℕ → List ℕ → Step → Item
@@ -30,7 +44,7 @@ IsNameHeld room (step.Record r) = IsHeld room r.name
 -- a record with no RVA of a name has no name
 abbrev pub IsNameOf : Option ℕ → NameRead → Type 0
 IsNameOf (Some rva) name = Unit {0}
-IsNameOf None name = name ≡ NoName
+IsNameOf None name = name ≡ read.None
 
 -- the size of a range of a 64-bit memory list
 abbrev pub range64_size : AnyRecord → ℕ

@@ -3,9 +3,9 @@ use Rattle.std.specs.Prelude.{◌≡◌, ℕ, List, All, Some}
 use Rattle.mdmp_map.specs.Map.{MapState, free_of}
 use Rattle.mdmp_map.specs.Ranges.{IsWithin}
 use Rattle.mdmp_lister.specs.declared.walk.Walk.{Walk}
-use Rattle.mdmp_lister.specs.Counts.{range_count}
-use Rattle.mdmp_lister.specs.Owing.{HasRoom}
-use Rattle.mdmp_lister.specs.Paying.{IsBounded}
+use Rattle.mdmp_lister.specs.Format.Numbers.{range_count}
+use Rattle.mdmp_lister.specs.Walk.Owing.{HasRoom}
+use Rattle.mdmp_lister.specs.Walk.Paying.{IsBounded}
 use Rattle.mdmp_lister.specs.Walk.{IsSound}
 
 -- the map has room for the ranges that the walk may still give, and those that it gave lie inside the file

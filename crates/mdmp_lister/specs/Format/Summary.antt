@@ -8,8 +8,8 @@ use Rattle.mdmp_lister.specs.declared.item.StreamItem.{StreamItem}
 use Rattle.mdmp_lister.specs.declared.kind.Kind.{Kind}
 use Rattle.mdmp_lister.specs.declared.kind.Kind.TheVariants as kinds
 use Rattle.mdmp_lister.specs.declared.name.Name.{Name}
-use Rattle.mdmp_lister.specs.declared.name.Name.TheVariants.{NoName}
-use Rattle.mdmp_lister.specs.Shapes.{record_size}
+use Rattle.mdmp_lister.specs.declared.name.Name.TheVariants as names
+use Rattle.mdmp_lister.specs.Format.Kind.{record_size}
 
 pub record Summary : Type 0 where
   -- the number of its entry
@@ -28,14 +28,14 @@ abbrev pub summary_by : ℕ → Kind → Name → Option RangeItem → Summary
 summary_by e kind name range = record { entry = e; stream = None; bytes = record_size kind; name = name; range = range }
 
 abbrev pub summary_of : Item → Summary
-summary_of (items.Stream x) = record { entry = x.entry; stream = Some x; bytes = 0; name = NoName; range = None }
-summary_of (items.Thread x) = summary_by x.entry kinds.Threads NoName None
+summary_of (items.Stream x) = record { entry = x.entry; stream = Some x; bytes = 0; name = names.None; range = None }
+summary_of (items.Thread x) = summary_by x.entry kinds.Threads names.None None
 summary_of (items.Module x) = summary_by x.entry kinds.Modules x.name None
 summary_of (items.Unloaded x) = summary_by x.entry kinds.Unloaded x.name None
-summary_of (items.Exception x) = summary_by x.entry kinds.Exception NoName None
+summary_of (items.Exception x) = summary_by x.entry kinds.Exception names.None None
 summary_of (items.System x) = summary_by x.entry kinds.System x.name None
-summary_of (items.MemoryInfo x) = summary_by x.entry kinds.MemoryInfo NoName None
-summary_of (items.Range x) = summary_by x.entry kinds.Memory NoName (Some x)
+summary_of (items.MemoryInfo x) = summary_by x.entry kinds.MemoryInfo names.None None
+summary_of (items.Range x) = summary_by x.entry kinds.Memory names.None (Some x)
 
 -- ---- what follows where a Stream item, which begins an entry, was given or not
 

@@ -2,16 +2,16 @@
 use Rattle.std.specs.Prelude.{◌≡◌, ◌≤◌, ◌+◌, ℕ, Option, Some, None}
 use Rattle.mdmp_source.specs.Count.{raised}
 use Rattle.mdmp_lister.specs.declared.fetching.NameRead.{NameRead}
-use Rattle.mdmp_lister.specs.declared.fetching.NameRead.TheVariants.{NoName}
+use Rattle.mdmp_lister.specs.declared.fetching.NameRead.TheVariants as read
 use Rattle.mdmp_lister.specs.declared.step.Step.{Step}
 use Rattle.mdmp_lister.specs.declared.step.Step.TheVariants as step
 use Rattle.mdmp_lister.specs.declared.fault.FaultKind.{FaultKind}
-use Rattle.mdmp_lister.specs.Counts.{faulty_name, maybe_name}
+use Rattle.mdmp_lister.specs.Format.Numbers.{faulty_name, maybe_name}
 use Rattle.mdmp_lister.specs.Meter.{MeterState}
 
 -- 1 for a name that was read, long or not
 abbrev pub read_once : NameRead → ℕ
-read_once NoName = 0
+read_once read.None = 0
 read_once _ = 1
 
 -- and for a step with such a name

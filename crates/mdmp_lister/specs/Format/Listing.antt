@@ -13,8 +13,9 @@ use Rattle.mdmp_lister.specs.declared.choice.Choice.{Choice}
 use Rattle.mdmp_lister.specs.declared.choice.Choice.TheVariants.{All, Types}
 use Rattle.mdmp_lister.specs.declared.verdict.Verdict.{Verdict}
 use Rattle.mdmp_lister.specs.declared.shape.Shape.{Shape}
-use Rattle.mdmp_lister.specs.Shapes.{kind_of, shape_of, location_fault}
-use Rattle.mdmp_lister.specs.Items.{item_at}
+use Rattle.mdmp_lister.specs.Format.Kind.{kind_of}
+use Rattle.mdmp_lister.specs.Format.Shape.{shape_of, location_fault}
+use Rattle.mdmp_lister.specs.Format.Item.{item_at}
 
 -- ---- the chosen entries
 

@@ -7,8 +7,8 @@ use Rattle.mdmp_lister.specs.declared.item.Item.TheVariants as items
 use Rattle.mdmp_lister.specs.declared.item.StreamItem.{StreamItem}
 use Rattle.mdmp_lister.specs.declared.kind.Kind.{Kind}
 use Rattle.mdmp_lister.specs.declared.name.Name.{Name}
-use Rattle.mdmp_lister.specs.Items.{item_of, kind_told, plain}
-use Rattle.mdmp_lister.specs.Shapes.{kind_of}
+use Rattle.mdmp_lister.specs.Format.Item.{item_of, kind_told, plain}
+use Rattle.mdmp_lister.specs.Format.Kind.{kind_of}
 
 -- an entry itself
 abbrev pub IsStream : Item → Type 0

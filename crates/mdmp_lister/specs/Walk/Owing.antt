@@ -8,10 +8,10 @@ use Rattle.mdmp_lister.specs.declared.stage.Stage.TheVariants.{Head, Records}
 use Rattle.mdmp_lister.specs.declared.step.Step.{Step}
 use Rattle.mdmp_lister.specs.declared.step.Step.TheVariants as step
 use Rattle.mdmp_lister.specs.declared.walk.Walk.{Walk}
-use Rattle.mdmp_lister.specs.Counts.{ranges_in, ranges_of_all}
-use Rattle.mdmp_lister.specs.Items.{kind_told}
-use Rattle.mdmp_lister.specs.Listing.{chosen_from}
-use Rattle.mdmp_lister.specs.Shapes.{kind_of, lists_ranges}
+use Rattle.mdmp_lister.specs.Format.Numbers.{ranges_in, ranges_of_all}
+use Rattle.mdmp_lister.specs.Format.Item.{kind_told}
+use Rattle.mdmp_lister.specs.Format.Listing.{chosen_from}
+use Rattle.mdmp_lister.specs.Format.Kind.{kind_of, lists_ranges}
 
 -- how many of n records of this kind tell a range: all or none
 abbrev pub ranges_by : Kind → ℕ → ℕ

@@ -5,8 +5,8 @@ use Rattle.mdmp_lister.specs.declared.choice.Choice.{Choice}
 use Rattle.mdmp_lister.specs.declared.fault.ListFault.{ListFault}
 use Rattle.mdmp_lister.specs.declared.item.Item.{Item}
 use Rattle.mdmp_lister.specs.declared.verdict.Verdict.{Verdict}
-use Rattle.mdmp_lister.specs.Listing.{Run, entry_of, is_chosen}
-use Rattle.mdmp_lister.specs.Summary.{summary_of}
+use Rattle.mdmp_lister.specs.Format.Listing.{Run, entry_of, is_chosen}
+use Rattle.mdmp_lister.specs.Format.Summary.{summary_of}
 
 -- ---- the part of a listing that a choice has
 

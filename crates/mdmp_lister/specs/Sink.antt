@@ -1,18 +1,18 @@
 -- What a run hands to a sink.
-use Rattle.std.specs.Prelude.{◌≡◌, ◌≤◌, ◌+◌, ◌⊎◌, sum_by, ℕ, List, [], ◌∷◌, ◌++◌, Option, None, Some, Result, Ok, Err}
+use Rattle.std.specs.Prelude.{◌≡◌, ◌≤◌, ◌+◌, ◌⊎◌, sum_by, ℕ, List, [], ◌∷◌, ◌++◌, None, Some, Result, Ok, Err}
 use Rattle.mdmp_source.specs.Source.{FetchesAtMost}
 use Rattle.mdmp_wire.specs.declared.entry.Entry.{Entry}
 use Rattle.mdmp_lister.specs.declared.item.Item.{Item}
 use Rattle.mdmp_lister.specs.declared.sink.RunFault.{RunFault}
 use Rattle.mdmp_lister.specs.declared.sink.RunFault.TheVariants as run
 use Rattle.mdmp_lister.specs.declared.sink.Stopped.{Stopped}
-use Rattle.mdmp_lister.specs.Classes.{IsClassed}
+use Rattle.mdmp_lister.specs.Format.Classes.{IsClassed}
 use Rattle.mdmp_lister.specs.Costs.{end_cost, items_cost}
-use Rattle.mdmp_lister.specs.Counts.{faulty_name, maybe_name, names_of}
+use Rattle.mdmp_lister.specs.Format.Numbers.{faulty_name, maybe_name, names_of}
 use Rattle.mdmp_lister.specs.Lister.{ListerState, current_after, passed_after}
-use Rattle.mdmp_lister.specs.Listing.{Run, nothing, only_fault}
-use Rattle.mdmp_lister.specs.Ranges.{ranges_of}
-use Rattle.mdmp_lister.specs.Reading.{IsOfSource}
+use Rattle.mdmp_lister.specs.Format.Listing.{Run, nothing, only_fault}
+use Rattle.mdmp_lister.specs.Format.Ranges.{ranges_of}
+use Rattle.mdmp_lister.specs.Fault.{IsOfSource}
 
 -- these items, and then a run
 abbrev pub give_all : List Item → Run → Run

@@ -4,7 +4,8 @@ use Rattle.mdmp_source.specs.Range.{is_inside}
 use Rattle.mdmp_wire.specs.Number.{number_at, bytes_at}
 use Rattle.mdmp_wire.specs.Units.{units_over}
 use Rattle.mdmp_lister.specs.declared.name.Name.{Name}
-use Rattle.mdmp_lister.specs.declared.name.Name.TheVariants.{NoName, Units, Long}
+use Rattle.mdmp_lister.specs.declared.name.Name.TheVariants.{Units, Long}
+use Rattle.mdmp_lister.specs.declared.name.Name.TheVariants as names
 use Rattle.mdmp_lister.specs.declared.fault.Fault.{Fault}
 use Rattle.mdmp_lister.specs.declared.fault.FaultKind.TheVariants.{NameLengthOutside, NameOdd, NameUnitsOutside}
 
@@ -19,7 +20,7 @@ unfoldable pub name_at : List ℕ → ℕ → ℕ → Result Name Fault
 name_at F rva limit =
     let size = length F in
     let bytes = number_at F rva 4 in
-    if rva == 0 then Ok NoName
+    if rva == 0 then Ok names.None
     else if not (is_inside rva 4 size) then Err (record { kind = NameLengthOutside; offset = rva; size = 4 })
     else if bytes % 2 == 1 then Err (record { kind = NameOdd; offset = rva; size = bytes })
     else if not (is_inside (rva + 4) bytes size) then Err (record { kind = NameUnitsOutside; offset = rva + 4; size = bytes })

@@ -1,22 +1,17 @@
--- What is read of a file through a source.
-use Rattle.std.specs.Prelude.{◌≡◌, ◌≤◌, ◌%◌, ℕ, List, Option, Some, None, Result, Ok, Err, IfErr, IfSome, IsTrue, take}
+-- Faults of the store, and what is told of them.
+use Rattle.std.specs.Prelude.{◌≡◌, ℕ, List, Option, Some, None, Result, Ok, Err, IfErr, IfSome, IsTrue}
 use Rattle.mdmp_source.specs.Fault.{fault_at}
 use Rattle.mdmp_source.specs.Source.{SourceState, FailsOnce, IsTold}
 use Rattle.mdmp_source.specs.Store.{IsGood}
-use Rattle.mdmp_wire.specs.Units.{units_over}
 use Rattle.mdmp_source.specs.declared.fault.SourceFault.{SourceFault}
 use Rattle.mdmp_source.specs.declared.fault.SourceFault.TheVariants.{Changed}
 use Rattle.mdmp_wire.specs.declared.entry.Entry.{Entry}
 use Rattle.mdmp_lister.specs.declared.kind.Kind.{Kind}
-use Rattle.mdmp_lister.specs.Shapes.{kind_of, lists_ranges}
+use Rattle.mdmp_lister.specs.Format.Kind.{kind_of, lists_ranges}
 use Rattle.mdmp_lister.specs.declared.fault.Fault.{Fault}
 use Rattle.mdmp_lister.specs.declared.fault.FaultKind.{FaultKind}
 use Rattle.mdmp_lister.specs.declared.fault.ListFault.{ListFault}
 use Rattle.mdmp_lister.specs.declared.fault.FaultKind.TheVariants.{Source}
-use Rattle.mdmp_lister.specs.declared.name.Name.{Name}
-use Rattle.mdmp_lister.specs.declared.name.Name.TheVariants.{NoName, Units, Long}
-use Rattle.mdmp_lister.specs.declared.fetching.NameRead.{NameRead}
-use Rattle.mdmp_lister.specs.declared.fetching.NameRead.TheVariants as read
 
 -- ---- faults of the store
 
@@ -86,16 +81,3 @@ IsPlaced kind f = Unit {0}
 pub record IsToldIn (e : Entry) (f : ListFault) (old new : SourceState) : Type 0 where
   pub by : IsToldBy e f.kind old new
   pub placed : IsPlaced f.kind f
-
--- ---- names
-
--- a name whose units stand at the front of a buffer
-abbrev pub name_read : List ℕ → NameRead → Name
-name_read buffer read.NoName = NoName
-name_read buffer (read.Units bytes) = Units (units_over (take bytes buffer))
-name_read buffer (read.Long bytes) = Long bytes
-
--- units that were read fit in `room` bytes, two bytes each
-abbrev pub IsHeld : ℕ → NameRead → Type 0
-IsHeld room (read.Units bytes) = (bytes ≤ room) × (bytes % 2 ≡ 0)
-IsHeld room name = Unit {0}

@@ -4,8 +4,9 @@ use Rattle.mdmp_source.specs.Range.{is_inside}
 use Rattle.mdmp_wire.specs.declared.entry.Entry.{Entry}
 use Rattle.mdmp_lister.specs.declared.choice.Choice.{Choice}
 use Rattle.mdmp_lister.specs.declared.kind.Kind.{Kind}
-use Rattle.mdmp_lister.specs.Listing.{is_chosen}
-use Rattle.mdmp_lister.specs.Shapes.{form_of, head_cost, head_size, kind_of, lists_ranges, record_size}
+use Rattle.mdmp_lister.specs.Format.Listing.{is_chosen}
+use Rattle.mdmp_lister.specs.Format.Kind.{form_of, kind_of, lists_ranges, record_size}
+use Rattle.mdmp_lister.specs.Format.Shape.{head_cost, head_size}
 
 -- the bytes that are fetched of a head, of a stream of so many bytes: none of one that is too short
 abbrev pub head_spent : ℕ → Kind → ℕ
