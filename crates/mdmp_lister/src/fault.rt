@@ -1,5 +1,5 @@
 //! What is wrong with a file, and where.
-ghost use Rattle.std.specs.Prelude.{◌≡◌};
+ghost use Rattle.std.specs.Prelude.{◌≡◌, None};
 
 use mdmp_source::SourceFault;
 
@@ -80,6 +80,32 @@ pub struct ListFault {
     pub offset: u64,
     /// A number of bytes, or the number that the kind says.
     pub size: u64,
+}
+
+impl ListFault {
+    ghost use Rattle.mdmp_lister.specs.Format.Listing.{list_fault};
+    ghost use Rattle.mdmp_lister.specs.Fault.{IsOfSource};
+
+    /// The fault of an item of an entry, or of all of it. One of the store is that of no item.
+    pub(crate) fn of_entry(entry: u32, index: Option<u64>, fault: Fault) -> ListFault
+        ensures of_file { (IsOfSource fault.kind → ⊥) → result ≡ list_fault entry index fault }
+        ensures kind { result.kind ≡ fault.kind }
+        ensures entry { result.entry ≡ entry }
+        ensures place { (result.offset ≡ fault.offset) × (result.size ≡ fault.size) }
+        ensures of_store { IsOfSource fault.kind → result.index ≡ None }
+    {
+        let index = match fault.kind {
+            FaultKind::Source(_) => None,
+            _ => index,
+        };
+        ListFault {
+            entry,
+            index,
+            kind: fault.kind,
+            offset: fault.offset,
+            size: fault.size,
+        }
+    }
 }
 
 /// Why a file can't be listed at all. The header is tested first, then where the directory stands,

@@ -1,6 +1,7 @@
 //! Which streams have records here: the type, the form and the records of each.
 ghost use Rattle.std.specs.Prelude.{◌≡◌};
 ghost use Rattle.mdmp_lister.specs.Format.Kind.{form_of, kind_of, lists_ranges, record_size};
+ghost use Rattle.mdmp_lister.specs.Walk.Owing.{ranges_by};
 
 use crate::form::Form;
 use mdmp_wire::{
@@ -83,5 +84,12 @@ impl Kind {
         ensures { result ≡ lists_ranges self }
     {
         matches!(self, Kind::Memory | Kind::Memory64)
+    }
+
+    /// How many of `count` records tell a range: all or none.
+    pub(crate) fn ranges_by(self, count: u64) -> u64
+        ensures { result ≡ ranges_by self count }
+    {
+        if self.lists_ranges() { count } else { 0 }
     }
 }

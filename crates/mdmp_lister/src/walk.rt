@@ -1,17 +1,13 @@
 //! The walk over the entries of a file, without its public face.
 ghost use Rattle.std.specs.Prelude.{◌≡◌, ◌+◌, ◌^◌, ◌≤◌, ◌<◌, ◌-◌, ℕ, None, Some, IfOk, IfErr, IsTrue, false, OnOk, vec_len};
-ghost use Rattle.mdmp_source.specs.declared.fault.SourceFault.{SourceFault};
 ghost use Rattle.mdmp_lister.specs.Opening.{IsRefused};
-ghost use Rattle.mdmp_lister.specs.Fault.{IsOfSource};
 ghost use Rattle.mdmp_lister.specs.Stage.{ends, fault_stage};
 ghost use Rattle.mdmp_lister.specs.Step.{IsNameHeld, bytes_behind, step_item};
-ghost use Rattle.mdmp_lister.specs.Walk.Owing.{HasRoom, count_answered, ranges_by, count_given};
+ghost use Rattle.mdmp_lister.specs.Walk.Owing.{HasRoom, count_answered, count_given};
 ghost use Rattle.mdmp_lister.specs.Meter.{IsBooked, counts_of};
 ghost use Rattle.mdmp_lister.specs.Walk.Paying.{IsPaid};
-ghost use Rattle.mdmp_lister.specs.Format.Listing.{list_fault};
 ghost use Rattle.mdmp_lister.specs.Format.Item.{plain};
 ghost use Rattle.mdmp_lister.specs.Format.Ranges.{IsPlacedIn};
-ghost use Rattle.mdmp_lister.specs.Format.Kind.{kind_of};
 
 use crate::choice::Choice;
 use crate::counting::count_ranges;
@@ -189,12 +185,12 @@ impl<S: Store + Drop, A: Allocator + Copy> Walk<S, A> {
         requires room { HasRoom room 0 self.old }
         requires head { self.old.stage ≡ Stage.Head }
         ensures read { OnOk result (HeadRead self.old self.new) }
-        ensures met { IfErr result (λ fault. Answered self.old (Err fault) self.new) }
+        ensures answered { IfErr result (λ fault. Answered self.old (Err fault) self.new) }
         ensures room { HasRoom room 0 self.new }
     {
         let number = (self.next - 1) as u32;
         if let Some(fault) = location_fault(self.current, self.meter.size()) {
-            return self.stop_at(told(number, None, fault));
+            return self.stop_at(ListFault::of_entry(number, None, fault));
         }
         let Some(kind) = Kind::of_type(self.current.stream_type) else {
             self.stage = Stage::Between;
@@ -207,8 +203,10 @@ impl<S: Store + Drop, A: Allocator + Copy> Walk<S, A> {
             kind,
         ) {
             Ok(head) => {
-                if ranges_by(kind, head.shape.count) > room as u64 {
-                    return self.stop_at(told(number, None, changed(self.current.location.rva)));
+                if kind.ranges_by(head.shape.count) > room as u64 {
+                    let at = u64::from(self.current.location.rva);
+                    let changed = Fault::from(SourceFault::Changed { at });
+                    return self.stop_at(ListFault::of_entry(number, None, changed));
                 }
                 self.stage = Stage::Records {
                     kind,
@@ -218,7 +216,7 @@ impl<S: Store + Drop, A: Allocator + Copy> Walk<S, A> {
                 };
                 Ok(())
             }
-            Err(fault) => self.stop_at(told(number, None, fault)),
+            Err(fault) => self.stop_at(ListFault::of_entry(number, None, fault)),
         }
     }
 
@@ -257,7 +255,7 @@ impl<S: Store + Drop, A: Allocator + Copy> Walk<S, A> {
                 };
                 Ok(Some(step))
             }
-            Err(fault) => self.stop_at(told(number, Some(index), fault)),
+            Err(fault) => self.stop_at(ListFault::of_entry(number, Some(index), fault)),
         }
     }
 
@@ -297,25 +295,6 @@ impl<S: Store + Drop, A: Allocator + Copy> Walk<S, A> {
     }
 }
 
-/// How many of `count` records of a kind tell a range.
-fn ranges_by(kind: Kind, count: u64) -> u64
-    ensures { result ≡ ranges_by kind count }
-{
-    if kind.lists_ranges() { count } else { 0 }
-}
-
-/// The fault of a list at `rva` whose head does not agree with what was read before.
-fn changed(rva: u32) -> Fault
-    ensures { result ≡ record { kind = FaultKind.Source (SourceFault.Changed rva); offset = rva; size = 0 } }
-{
-    let at = u64::from(rva);
-    Fault {
-        kind: FaultKind::Source(SourceFault::Changed { at }),
-        offset: at,
-        size: 0,
-    }
-}
-
 /// A file is refused.
 fn refused<S: Store + Drop>(fault: OpenFault, meter: Meter<S>) -> OpenRefused<S>
     ensures { result ≡ record { fault = fault; source = meter.source } }
@@ -323,28 +302,6 @@ fn refused<S: Store + Drop>(fault: OpenFault, meter: Meter<S>) -> OpenRefused<S>
     OpenRefused {
         fault,
         source: meter.into_source(),
-    }
-}
-
-/// A fault of the item in whose place it stands, or of the whole entry. One of the store is that of
-/// no item.
-fn told(entry: u32, index: Option<u64>, fault: Fault) -> ListFault
-    ensures of_file { (IsOfSource fault.kind → ⊥) → result ≡ list_fault entry index fault }
-    ensures kind { result.kind ≡ fault.kind }
-    ensures entry { result.entry ≡ entry }
-    ensures place { (result.offset ≡ fault.offset) × (result.size ≡ fault.size) }
-    ensures of_store { IsOfSource fault.kind → result.index ≡ None }
-{
-    let index = match fault.kind {
-        FaultKind::Source(_) => None,
-        _ => index,
-    };
-    ListFault {
-        entry,
-        index,
-        kind: fault.kind,
-        offset: fault.offset,
-        size: fault.size,
     }
 }
 

@@ -51,11 +51,11 @@ never g c file known =
     let more = c.if-ranges_by-room.true in
     absurd (omega (arith, counted, more, c.ranges_by.ensures))
 
-pub returns-then-ranges_by-room-clause-met : goal.returns-then-ranges_by-room-clause-met
-returns-then-ranges_by-room-clause-met g c =
+pub returns-then-ranges_by-room-clause-answered : goal.returns-then-ranges_by-room-clause-answered
+returns-then-ranges_by-room-clause-answered g c =
     let w = c.args.self.now in
-    let told = c.told-then-ranges_by-room in
-    let is = c.changed.ensures in
+    let told = c.of_entry-then-ranges_by-room in
+    let is = rw c.from-at.ensures at c.from-changed.ensures in
     let kind = c.in-Some-of_type.kind in
     let begun : 0 < w.next = rw c.requires.head at c.requires.sound.staged in
     let known : kind_of w.current.stream_type ≡ Some kind = search rules in
@@ -78,10 +78,10 @@ returns-then-ranges_by-room-clause-met g c =
     (λ file content. absurd (never g c file content))
     (λ file good of. never g c file good.known))
 
-pub returns-in-Err-clause-met : goal.returns-in-Err-clause-met
-returns-in-Err-clause-met g c =
+pub returns-in-Err-clause-answered : goal.returns-in-Err-clause-answered
+returns-in-Err-clause-answered g c =
     let w = c.args.self.now in
-    let told = c.told-in-Err in
+    let told = c.of_entry-in-Err in
     let of = c.in-Err.ensures in
     let kind = c.in-Some-of_type.kind in
     let begun : 0 < w.next = rw c.requires.head at c.requires.sound.staged in

@@ -42,27 +42,27 @@ returns-in-Ok-clause-answered g c =
 pub returns-in-Err-clause-answered : goal.returns-in-Err-clause-answered
 returns-in-Err-clause-answered g c =
     let w = c.args.self.now in
-    let f = c.told.result in
+    let f = c.of_entry.result in
     let of = c.in-Err.ensures in
     let reading : IsReading w.meter.source.size w.next w.current c.args.kind c.args.shape c.args.index c.args.offset = rw c.requires.stage at c.requires.sound.staged in
     let room : length c.read_item.new.buffer ≡ vec_len w.name = of.length ∙ c.deref_mut-2.ensures.len in
-    let kind = c.told.ensures.kind in
+    let kind = c.of_entry.ensures.kind in
     rw (c.stop_at.ensures.stage, c.stop_at.ensures.fault)
     (answered_fault _ (record_size c.args.kind) w _ f c.requires.sound reading.begun (rw c.requires.stage refl) (rw c.requires.stage (omega (arith, c.requires.left)))
     (search rules) refl
     (record {
-      told = told_in_caused w.current c.in-Err.fault f w.meter.source c.read_item.new.meter.source of.reads.caused kind c.told.ensures.place c.told.ensures.of_store;
-      number = omega (arith, c.told.ensures.entry, reading.begun);
+      told = told_in_caused w.current c.in-Err.fault f w.meter.source c.read_item.new.meter.source of.reads.caused kind c.of_entry.ensures.place c.of_entry.ensures.of_store;
+      number = omega (arith, c.of_entry.ensures.entry, reading.begun);
       named = rw kind of.reads.at_fault;
     })
     (rw room at of.reads.fetches)
-    (rw c.requires.stage (omega (arith, fault_cost-told (vec_len w.name) w.current c.args.kind _ c.args.index c.in-Err.fault f reading.known kind c.told.ensures.of_file)))
+    (rw c.requires.stage (omega (arith, fault_cost-told (vec_len w.name) w.current c.args.kind _ c.args.index c.in-Err.fault f reading.known kind c.of_entry.ensures.of_file)))
     (rw room at c.read_item.ensures.reads.spends)
     (rw c.requires.stage (omega (arith, record_less c.args.shape.count c.args.index (record_size c.args.kind) c.requires.left)))
     (λ file known not.
     let here = (rw c.requires.stage at (c.requires.sound.offset file known)) in
     let other : IsOfSource c.in-Err.fault.kind → ⊥ = λ is. not (rw (sym kind) at is) in
     let given = of.item file known w.current.location.rva here other in
-    rw (c.requires.stage, c.told.ensures.of_file other)
+    rw (c.requires.stage, c.of_entry.ensures.of_file other)
     (records-faulted file (vec_len w.name) (w.next - 1) w.current.location.rva c.args.kind c.args.shape c.args.index c.requires.left c.in-Err.fault (rw (room, c.record_at-at.ensures.place) at given)))
     (λ file good. not_of_source f.kind (ap source_of kind ∙ of.reads.caused.caused.good file good)))
