@@ -4,9 +4,9 @@
 //! directory, and behind it one for each record of that entry's stream. It ends behind the last
 //! chosen entry, or at the first [`ListFault`], which names the entry, the item and the bytes that
 //! are bad.
-//! The definitions in `specs/` say exactly which items those are: `specs/Listing.antt` first, and
-//! under it `Shapes` (where the records of a stream stand), `Items` (what a record gives), `Names`
-//! and `Opening` (which files can't be listed at all).
+//! The definitions in `specs/Format` say exactly which items those are: `Listing.antt` first, and
+//! under it `Kind` and `Shape` (which streams have records, and where those stand), `Item` (what a
+//! record gives), `Name` and `Refusal` (which files can't be listed at all).
 //!
 //! [`Lister`] lists a file through a window, one item at a time or all of them into a [`Sink`];
 //! [`Choice`] says which entries are listed, [`Limits`] how long the window and a name may be. The
