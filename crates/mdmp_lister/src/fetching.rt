@@ -54,7 +54,7 @@ pub(crate) fn read<R: Record, S: Store>(
 
 /// The name at `rva`, its units into the front of a buffer as long as the limit, or its fault: a
 /// length outside the file, an odd one, units outside. The units of a longer name are not fetched.
-#[tactic(auto, using(crate::proofs::Fetches::IsCaused_later, crate::proofs::Costs::source_name_cost, crate::proofs::Naming::source_reached), unfolding(crate::specs::Format::Name::name_at, mdmp_wire::specs::Number::bytes_at))]
+#[tactic(auto, using(crate::proofs::Fetches::IsCaused_later, crate::proofs::Costs::source_name_cost, crate::proofs::Naming::source_reached), unfolding(crate::specs::Format::Name::name_at, mdmp_wire::specs::Number::array_at))]
 pub(crate) fn read_name<S: Store>(
     meter: &mut Meter<S>,
     window: &mut [u8],

@@ -5,7 +5,7 @@ ghost use Rattle.mdmp_lister.specs.Format.Name.{name_at, plain_name};
 
 use crate::fault::{Fault, FaultKind};
 use mdmp_source::inside;
-use mdmp_wire::{UnitsRef, read_at};
+use mdmp_wire::{UnitsRef, get_at};
 
 /// The name of a module, or of a service pack: a `MINIDUMP_STRING`.
 #[derive(Drop)]
@@ -21,7 +21,7 @@ pub enum Name<'a> {
 /// The name at `rva`, an offset from the start of the file, or its fault: a length outside the file,
 /// an odd one, units outside. A name of more than `limit` bytes is told by its length. No zero unit
 /// is looked for behind the units.
-#[tactic(auto, unfolding(crate::specs::Format::Name::name_at, mdmp_wire::specs::Number::bytes_at))]
+#[tactic(auto, unfolding(crate::specs::Format::Name::name_at, mdmp_wire::specs::Number::array_at))]
 pub fn name_at(file: &[u8], rva: u32, limit: u32) -> Result<Name<'_>, Fault>
     ensures { result_map_both plain_name (λ f. f) result ≡ name_at file.now rva limit }
 {
@@ -38,7 +38,7 @@ pub fn name_at(file: &[u8], rva: u32, limit: u32) -> Result<Name<'_>, Fault>
         });
     }
     let start = rva as usize;
-    let length: u32 = read_at(file, start);
+    let length: u32 = get_at(file, start);
     let bytes = u64::from(length);
     if length % 2 == 1 {
         return Err(Fault {

@@ -8,7 +8,7 @@ use crate::fault::{Fault, FaultKind};
 use crate::form::Form;
 use crate::kind::Kind;
 use mdmp_source::{Location, inside};
-use mdmp_wire::{Entry, Memory64List, MemoryInfoList, Record, UnloadedList, read_at};
+use mdmp_wire::{Entry, Memory64List, MemoryInfoList, Record, UnloadedList, get_at};
 
 /// Where the records of a stream stand. What follows the last one is not looked at.
 #[derive(Clone, Copy, Debug, PartialEq, Eq)]
@@ -153,11 +153,11 @@ pub fn shape_of(file: &[u8], location: Location, kind: Kind) -> Result<Shape, Fa
     }
     let at = location.rva as usize;
     match form {
-        Form::Counted => counted(location, record_size, read_at(file, at)),
+        Form::Counted => counted(location, record_size, get_at(file, at)),
         Form::Single => Ok(single(record_size)),
-        Form::Ranges64 => ranges64(location, record_size, read_at(file, at)),
+        Form::Ranges64 => ranges64(location, record_size, get_at(file, at)),
         Form::Sized32 => {
-            let head: UnloadedList = read_at(file, at);
+            let head: UnloadedList = get_at(file, at);
             let count = u64::from(head.number_of_entries);
             sized(
                 location,
@@ -169,7 +169,7 @@ pub fn shape_of(file: &[u8], location: Location, kind: Kind) -> Result<Shape, Fa
             )
         }
         Form::Sized64 => {
-            let head: MemoryInfoList = read_at(file, at);
+            let head: MemoryInfoList = get_at(file, at);
             sized(
                 location,
                 form.head_cost(),

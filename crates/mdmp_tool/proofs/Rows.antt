@@ -3,7 +3,7 @@ use Rattle.std.proofs.Common.{◌≡◌, ℕ, List, [], ◌∷◌, ◌++◌, ref
 use Rattle.std.specs.Prelude.{codes}
 use Rattle.std.specs.List.{concat}
 use Rattle.std.specs.Fmt.{digits}
-use Rattle.mdmp_wire.specs.Number.{number_at, numbers_at, bytes_at, le, zeros}
+use Rattle.mdmp_wire.specs.Number.{number_at, numbers_at, array_at, le, zeros}
 use Rattle.mdmp_wire.specs.Digits.{hex}
 use Rattle.mdmp_lister.specs.Format.Item.{sizes_before}
 use Rattle.mdmp_lister.specs.Format.Listing.{entries_from, only_chosen}
@@ -24,18 +24,18 @@ faulty_file = head 2 32 ++ entry 7 56 56 ++ entry 4 112 112 ++ zeros 56 ++ le 4 
 
 -- with no streams the directory is not looked at
 empty-text : list_text (head 0 0xffffffff) 0 ≡ codes "dump version 0x0000 streams 0 directory 4294967295 checksum 0 time 0 flags 0x0000000000000000\n"
-unfolding number_at numbers_at bytes_at le hex digits name_at shape_of entries_from only_chosen sizes_before
+unfolding number_at numbers_at array_at le hex digits name_at shape_of entries_from only_chosen sizes_before
 empty-text = refl
 
 -- a file that is refused prints nothing
 refused-text : list_text (head 1 32 ++ zeros 11) 0 ≡ []
-unfolding number_at numbers_at bytes_at le hex digits name_at shape_of entries_from only_chosen sizes_before
+unfolding number_at numbers_at array_at le hex digits name_at shape_of entries_from only_chosen sizes_before
 refused-text = refl
 
 -- the location of an unused entry is printed and not tested
 unused-text : list_text (head 1 32 ++ entry 0 7 0xffffffff) 0 ≡ concat (codes "dump version 0x0000 streams 1 directory 32 checksum 0 time 0 flags 0x0000000000000000\n"
     ∷ codes "stream 0 type 0 size 7 rva 4294967295\n" ∷ [])
-unfolding number_at numbers_at bytes_at le hex digits name_at shape_of entries_from only_chosen sizes_before
+unfolding number_at numbers_at array_at le hex digits name_at shape_of entries_from only_chosen sizes_before
 unused-text = refl
 
 -- the lines up to the first fault
@@ -43,5 +43,5 @@ faulty-text : list_text faulty_file 0 ≡ concat (codes "dump version 0x0000 str
     ∷ codes "stream 0 type 7 size 56 rva 56\n"
     ∷ codes "system architecture 0 level 0 revision 0 processors 0 product 0 version 0.0.0 platform 0 suite 0 csd none\n"
     ∷ codes "stream 1 type 4 size 112 rva 112\n" ∷ [])
-unfolding number_at numbers_at bytes_at le hex digits name_at shape_of entries_from only_chosen sizes_before
+unfolding number_at numbers_at array_at le hex digits name_at shape_of entries_from only_chosen sizes_before
 faulty-text = refl

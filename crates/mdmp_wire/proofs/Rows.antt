@@ -6,7 +6,7 @@ use Rattle.std.specs.Char.Utf16.{utf16_chars}
 use lib.Utf8.{encode}
 use Rattle.mdmp_wire.specs.Units.{utf16_of, utf8_of}
 use Rattle.mdmp_wire.specs.declared.header_fault.HeaderFault.TheVariants.{BadSignature, BadVersion}
-use Rattle.mdmp_wire.specs.Number.{number_at, numbers_at, bytes_at, le, zeros}
+use Rattle.mdmp_wire.specs.Number.{number_at, numbers_at, array_at, le, zeros}
 use Rattle.mdmp_wire.specs.Digits.{hex}
 use Rattle.mdmp_wire.specs.HeaderFault.{header_fault}
 use Rattle.mdmp_wire.specs.Escape.{escaped, escaped_bytes}
@@ -73,34 +73,34 @@ abbrev codeview_bytes : ℕ → List ℕ
 codeview_bytes first = first ∷ codes "SDS" ++ 0x33 ∷ 0x22 ∷ 0x11 ∷ 0x00 ∷ 0x55 ∷ 0x44 ∷ 0x77 ∷ 0x66 ∷ 0x88 ∷ 0x99 ∷ 0xaa ∷ 0xbb ∷ 0xcc ∷ 0xdd ∷ 0xee ∷ 0xff ∷ [] ++ le 4 1 ++ codes "a.pdb" ++ 0 ∷ []
 
 symbol_file : codeview_in (take 24 (codeview_bytes 0x52)) (drop 24 (codeview_bytes 0x52)) 30 ≡ Rsds guid_bytes 1 (codes "a.pdb") true
-unfolding number_at bytes_at le
+unfolding number_at array_at le
 symbol_file = refl
 
 symbol_file-rest : codeview_in (take 24 (codeview_bytes 0x52)) (take 3 (drop 24 (codeview_bytes 0x52))) 30 ≡ Rsds guid_bytes 1 (codes "a.p") false
-unfolding number_at bytes_at le
+unfolding number_at array_at le
 symbol_file-rest = refl
 
 symbol_file-of : codeview_of (zeros 7 ++ codeview_bytes 0x52) (record { size = 30; rva = 7 }) 4096 ≡ Rsds guid_bytes 1 (codes "a.pdb") true
-unfolding number_at bytes_at le
+unfolding number_at array_at le
 symbol_file-of = refl
 
 symbol_file-limit : codeview_of (zeros 7 ++ codeview_bytes 0x52) (record { size = 30; rva = 7 }) 3 ≡ Rsds guid_bytes 1 (codes "a.p") false
-unfolding number_at bytes_at le
+unfolding number_at array_at le
 symbol_file-limit = refl
 
 symbol_file-short : codeview_of (codeview_bytes 0x52) (record { size = 23; rva = 0 }) 4096 ≡ Short 23
-unfolding number_at bytes_at le
+unfolding number_at array_at le
 symbol_file-short = refl
 
 symbol_file-other : codeview_of (codeview_bytes 0x4e) (record { size = 30; rva = 0 }) 4096 ≡ Other (0x4e ∷ 0x53 ∷ 0x44 ∷ 0x53 ∷ []) 30
-unfolding number_at bytes_at le
+unfolding number_at array_at le
 symbol_file-other = refl
 
 other-short : codeview_of (codeview_bytes 0x4e) (record { size = 3; rva = 0 }) 4096 ≡ Short 3
-unfolding number_at bytes_at le
+unfolding number_at array_at le
 other-short = refl
 
 -- a record of no name, of which nothing ends it
 nameless : codeview_of (codeview_bytes 0x52) (record { size = 24; rva = 0 }) 4096 ≡ Rsds guid_bytes 1 [] false
-unfolding number_at bytes_at le
+unfolding number_at array_at le
 nameless = refl

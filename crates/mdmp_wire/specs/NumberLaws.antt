@@ -8,7 +8,7 @@ use Rattle.std.specs.List.{flat_map}
 use Rattle.std.proofs.lemmas.List.Concat.{flat_map-cons}
 use Rattle.std.proofs.lemmas.Grind.{same_number_lists}
 use Rattle.std.proofs.Math.Nat.{mul-suc}
-use Rattle.mdmp_wire.specs.Number.{number_at, le, les, numbers_at, bytes_at}
+use Rattle.mdmp_wire.specs.Number.{number_at, le, les, numbers_at, array_at}
 
 little_from-drop : (i k n : ℕ) (xs : List ℕ) → little_from i k (drop n xs) ≡ little_from (n + i) k xs
 little_from-drop i zero n xs = refl
@@ -138,8 +138,8 @@ numbers_at-les k (x ∷ xs) rest fits =
 pub u64s_at-part : (n o : ℕ) (F : List ℕ) → 120 ≤ n → numbers_at (take n (drop o F)) 0 8 15 ≡ numbers_at F o 8 15
 u64s_at-part n o F room = let e : o ≡ o + 0 = omega arith in numbers_at-within n o 0 o 8 15 F (omega arith) e
 
-pub cpu_at-part : (n o : ℕ) (F : List ℕ) → 24 ≤ n → bytes_at (take n (drop o F)) 0 24 ≡ bytes_at F o 24
-unfolding bytes_at
+pub cpu_at-part : (n o : ℕ) (F : List ℕ) → 24 ≤ n → array_at (take n (drop o F)) 0 24 ≡ array_at F o 24
+unfolding array_at
 cpu_at-part n o F room = take-take 24 n (drop o F) room
 
 pub slice_index-numbers_at : (F : List ℕ) (o k n i : ℕ) → i < n → slice_index (numbers_at F o k n) i ≡ number_at F (o + k * i) k
@@ -162,9 +162,9 @@ numbers_at_read k src dst read =
     read i lt ∙ number_at-drop (k * i) 0 k src ∙ (let e : k * i + 0 ≡ 0 + k * i = omega arith in rw e (sym (slice_index-numbers_at src 0 k (length dst) i lt))))
 
 -- bytes within the n bytes at a place
-pub bytes_at-within : (n at i j k : ℕ) (xs : List ℕ) → i + k ≤ n → j ≡ at + i → bytes_at (take n (drop at xs)) i k ≡ bytes_at xs j k
-unfolding bytes_at
-bytes_at-within n at i j k xs room e =
+pub array_at-within : (n at i j k : ℕ) (xs : List ℕ) → i + k ≤ n → j ≡ at + i → array_at (take n (drop at xs)) i k ≡ array_at xs j k
+unfolding array_at
+array_at-within n at i j k xs room e =
     let more : n ≡ i + (n - i) = omega arith in
     let whole : take k (drop i (take (i + (n - i)) (drop at xs))) ≡ take k (take (n - i) (drop i (drop at xs))) = ap (take k) (drop-take i (n - i) (drop at xs)) in
     ap (λ m. take k (drop i (take m (drop at xs)))) more ∙ whole ∙ take-take k (n - i) (drop i (drop at xs)) (omega arith) ∙ rw (drop-drop, ← e) refl

@@ -2,8 +2,8 @@
 use Rattle.std.specs.Prelude.{◌≡◌, ◌≤◌, ℕ, ◌+◌, List, ◌++◌, take, drop}
 use Rattle.std.proofs.Common.{arith}
 use Rattle.mdmp_wire.specs.declared.system.SystemRecord.{SystemRecord}
-use Rattle.mdmp_wire.specs.Number.{number_at, bytes_at, le}
-use Rattle.mdmp_wire.specs.NumberLaws.{number_at-within, bytes_at-within}
+use Rattle.mdmp_wire.specs.Number.{number_at, array_at, le}
+use Rattle.mdmp_wire.specs.NumberLaws.{number_at-within, array_at-within}
 
 -- the system whose structure stands at o in F
 abbrev pub system_at : List ℕ → ℕ → SystemRecord
@@ -20,7 +20,7 @@ system_at F o = record {
   csd_version_rva = number_at F (o + 24) 4;
   suite_mask = number_at F (o + 28) 2;
   reserved2 = number_at F (o + 30) 2;
-  cpu = bytes_at F (o + 32) 24;
+  cpu = array_at F (o + 32) 24;
 }
 
 -- its bytes
@@ -33,4 +33,4 @@ system_bytes x =
 
 -- it is read of its own 56 bytes alone
 pub system_at-part : (n o : ℕ) (F : List ℕ) → 56 ≤ n → system_at (take n (drop o F)) 0 ≡ system_at F o
-system_at-part n o F room = grind (arith, number_at-within, bytes_at-within)
+system_at-part n o F room = grind (arith, number_at-within, array_at-within)

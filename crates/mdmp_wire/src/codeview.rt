@@ -2,7 +2,7 @@
 ghost use Rattle.std.specs.Prelude.{◌≡◌, ◌≤◌, min, length, nat_lt, take, take_while, not, ◌==◌};
 ghost use Rattle.std.specs.List.{list_any};
 
-use crate::record::read_at;
+use crate::record::get_at;
 use uuid::Uuid;
 
 /// What the CodeView record of a module tells, which its `CvRecord` locates. minidumpapiset.h
@@ -43,7 +43,7 @@ impl<'a> CodeView<'a> {
     /// What a record of `size` bytes tells, of which `head` is the first 24 bytes, or all where it
     /// has fewer, and `rest` is what was read of the bytes behind them. The name is lent from
     /// `rest`.
-    #[tactic(auto, unfolding(crate::specs::Number::bytes_at))]
+    #[tactic(auto, unfolding(crate::specs::Number::array_at))]
     pub fn read(head: &[u8], rest: &'a [u8], size: u32) -> CodeView<'a>
         requires { length head.now ≡ min size 24 }
         ensures { codeview_value result ≡ codeview_in head.now rest.now size }
@@ -51,7 +51,7 @@ impl<'a> CodeView<'a> {
         if size < 4 {
             return CodeView::Short { size };
         }
-        let kind: u32 = read_at(head, 0);
+        let kind: u32 = get_at(head, 0);
         if kind != CodeView::RSDS {
             let mut signature = [0; 4];
             signature.copy_from_slice(&head[..4]);
@@ -65,7 +65,7 @@ impl<'a> CodeView<'a> {
         let end = name_end(rest);
         CodeView::Rsds {
             guid: Uuid::from_bytes_le(guid),
-            age: read_at(head, 20),
+            age: get_at(head, 20),
             name: &rest[..end],
             ended: end < rest.len(),
         }

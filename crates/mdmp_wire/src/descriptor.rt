@@ -1,6 +1,6 @@
 //! A range of the dumped process's memory, and where its bytes stand.
 
-use crate::record::{Record, put_at, read_at};
+use crate::record::{Record, get_at, put_at};
 use mdmp_source::Location;
 
 /// A range of the dumped process's memory, and where its bytes stand: `MINIDUMP_MEMORY_DESCRIPTOR`,
@@ -28,8 +28,8 @@ impl Record for Descriptor {
 
     fn read(bytes: &[u8]) -> Self {
         Descriptor {
-            start_of_memory_range: read_at(bytes, 0),
-            memory: read_at(bytes, 8),
+            start_of_memory_range: get_at(bytes, 0),
+            memory: get_at(bytes, 8),
         }
     }
 

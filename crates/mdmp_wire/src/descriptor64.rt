@@ -1,6 +1,6 @@
 //! A range of the dumped process's memory whose bytes follow those of the ranges before it.
 
-use crate::record::{Record, put_at, read_at};
+use crate::record::{Record, get_at, put_at};
 
 /// A range of the dumped process's memory whose bytes follow those of the ranges before it:
 /// `MINIDUMP_MEMORY_DESCRIPTOR64`, 16 bytes.
@@ -27,8 +27,8 @@ impl Record for Descriptor64 {
 
     fn read(bytes: &[u8]) -> Self {
         Descriptor64 {
-            start_of_memory_range: read_at(bytes, 0),
-            data_size: read_at(bytes, 8),
+            start_of_memory_range: get_at(bytes, 0),
+            data_size: get_at(bytes, 8),
         }
     }
 

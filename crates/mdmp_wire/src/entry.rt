@@ -1,6 +1,6 @@
 //! An entry of the directory.
 
-use crate::record::{Record, put_at, read_at};
+use crate::record::{Record, get_at, put_at};
 use mdmp_source::Location;
 
 /// An entry of the directory: `MINIDUMP_DIRECTORY`, 12 bytes.
@@ -27,8 +27,8 @@ impl Record for Entry {
 
     fn read(bytes: &[u8]) -> Self {
         Entry {
-            stream_type: read_at(bytes, 0),
-            location: read_at(bytes, 4),
+            stream_type: get_at(bytes, 0),
+            location: get_at(bytes, 4),
         }
     }
 

@@ -1,6 +1,6 @@
 //! An exception of the dumped process.
 
-use crate::record::{Record, put_at, read_at};
+use crate::record::{Record, get_at, put_at};
 use mdmp_source::Location;
 
 /// An exception of the dumped process: `MINIDUMP_EXCEPTION_STREAM`, with the
@@ -40,14 +40,14 @@ impl Record for ExceptionRecord {
 
     fn read(bytes: &[u8]) -> Self {
         ExceptionRecord {
-            thread_id: read_at(bytes, 0),
-            exception_code: read_at(bytes, 8),
-            exception_flags: read_at(bytes, 12),
-            exception_record: read_at(bytes, 16),
-            exception_address: read_at(bytes, 24),
-            number_parameters: read_at(bytes, 32),
-            exception_information: read_at(bytes, 40),
-            thread_context: read_at(bytes, 160),
+            thread_id: get_at(bytes, 0),
+            exception_code: get_at(bytes, 8),
+            exception_flags: get_at(bytes, 12),
+            exception_record: get_at(bytes, 16),
+            exception_address: get_at(bytes, 24),
+            number_parameters: get_at(bytes, 32),
+            exception_information: get_at(bytes, 40),
+            thread_context: get_at(bytes, 160),
         }
     }
 

@@ -2,7 +2,7 @@
 ghost use Rattle.std.specs.Prelude.{◌≡◌, length, MatchResult};
 
 use crate::header_fault::HeaderFault;
-use crate::record::{Record, put_at, read_at};
+use crate::record::{Record, get_at, put_at};
 
 /// The head of a file: `MINIDUMP_HEADER`, 32 bytes.
 #[derive(Clone, Copy, Debug, PartialEq, Eq)]
@@ -68,13 +68,13 @@ impl Record for Header {
 
     fn read(bytes: &[u8]) -> Self {
         Header {
-            signature: read_at(bytes, 0),
-            version: read_at(bytes, 4),
-            number_of_streams: read_at(bytes, 8),
-            stream_directory_rva: read_at(bytes, 12),
-            checksum: read_at(bytes, 16),
-            time_date_stamp: read_at(bytes, 20),
-            flags: read_at(bytes, 24),
+            signature: get_at(bytes, 0),
+            version: get_at(bytes, 4),
+            number_of_streams: get_at(bytes, 8),
+            stream_directory_rva: get_at(bytes, 12),
+            checksum: get_at(bytes, 16),
+            time_date_stamp: get_at(bytes, 20),
+            flags: get_at(bytes, 24),
         }
     }
 

@@ -53,7 +53,7 @@ pub use crate::memory_info::MemoryInfoRecord;
 pub use crate::memory_info_list::MemoryInfoList;
 pub use crate::memory64_list::Memory64List;
 pub use crate::module::ModuleRecord;
-pub use crate::record::{Record, put_at, read_at};
+pub use crate::record::{Record, get_at, put_at};
 pub use crate::system::SystemRecord;
 pub use crate::thread::ThreadRecord;
 pub use crate::units::{Units, text_survives_utf16};

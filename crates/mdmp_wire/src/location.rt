@@ -1,7 +1,7 @@
 //! Where a part of a file is said to stand: `MINIDUMP_LOCATION_DESCRIPTOR`, 8 bytes. The type is
 //! mdmp_source's, which classes it.
 
-use crate::record::{Record, put_at, read_at};
+use crate::record::{Record, get_at, put_at};
 use mdmp_source::Location;
 
 impl Record for Location {
@@ -19,8 +19,8 @@ impl Record for Location {
 
     fn read(bytes: &[u8]) -> Self {
         Location {
-            size: read_at(bytes, 0),
-            rva: read_at(bytes, 4),
+            size: get_at(bytes, 0),
+            rva: get_at(bytes, 4),
         }
     }
 

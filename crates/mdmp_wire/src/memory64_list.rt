@@ -1,6 +1,6 @@
 //! The head of a list of ranges of memory whose bytes follow each other.
 
-use crate::record::{Record, put_at, read_at};
+use crate::record::{Record, get_at, put_at};
 
 /// The head of a list of ranges of memory whose bytes follow each other: the first 16 bytes of `MINIDUMP_MEMORY64_LIST`.
 #[derive(Clone, Copy, Debug, PartialEq, Eq)]
@@ -26,8 +26,8 @@ impl Record for Memory64List {
 
     fn read(bytes: &[u8]) -> Self {
         Memory64List {
-            number_of_memory_ranges: read_at(bytes, 0),
-            base_rva: read_at(bytes, 8),
+            number_of_memory_ranges: get_at(bytes, 0),
+            base_rva: get_at(bytes, 8),
         }
     }
 

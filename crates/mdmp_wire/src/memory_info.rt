@@ -1,6 +1,6 @@
 //! A region of the dumped process's memory.
 
-use crate::record::{Record, put_at, read_at};
+use crate::record::{Record, get_at, put_at};
 
 /// A region of the dumped process's memory: `MINIDUMP_MEMORY_INFO`, 48 bytes.
 #[derive(Clone, Copy, Debug, PartialEq, Eq)]
@@ -36,13 +36,13 @@ impl Record for MemoryInfoRecord {
 
     fn read(bytes: &[u8]) -> Self {
         MemoryInfoRecord {
-            base_address: read_at(bytes, 0),
-            allocation_base: read_at(bytes, 8),
-            allocation_protect: read_at(bytes, 16),
-            region_size: read_at(bytes, 24),
-            state: read_at(bytes, 32),
-            protect: read_at(bytes, 36),
-            memory_type: read_at(bytes, 40),
+            base_address: get_at(bytes, 0),
+            allocation_base: get_at(bytes, 8),
+            allocation_protect: get_at(bytes, 16),
+            region_size: get_at(bytes, 24),
+            state: get_at(bytes, 32),
+            protect: get_at(bytes, 36),
+            memory_type: get_at(bytes, 40),
         }
     }
 

@@ -1,6 +1,6 @@
 //! The head of a list of regions of memory.
 
-use crate::record::{Record, put_at, read_at};
+use crate::record::{Record, get_at, put_at};
 
 /// The head of a list of regions of memory: the first 16 bytes of `MINIDUMP_MEMORY_INFO_LIST`.
 #[derive(Clone, Copy, Debug, PartialEq, Eq)]
@@ -28,9 +28,9 @@ impl Record for MemoryInfoList {
 
     fn read(bytes: &[u8]) -> Self {
         MemoryInfoList {
-            size_of_header: read_at(bytes, 0),
-            size_of_entry: read_at(bytes, 4),
-            number_of_entries: read_at(bytes, 8),
+            size_of_header: get_at(bytes, 0),
+            size_of_entry: get_at(bytes, 4),
+            number_of_entries: get_at(bytes, 8),
         }
     }
 

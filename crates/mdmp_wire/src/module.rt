@@ -1,6 +1,6 @@
 //! A module of the dumped process.
 
-use crate::record::{Record, put_at, read_at};
+use crate::record::{Record, get_at, put_at};
 use crate::version::VersionInfo;
 use mdmp_source::Location;
 
@@ -44,16 +44,16 @@ impl Record for ModuleRecord {
 
     fn read(bytes: &[u8]) -> Self {
         ModuleRecord {
-            base_of_image: read_at(bytes, 0),
-            size_of_image: read_at(bytes, 8),
-            checksum: read_at(bytes, 12),
-            time_date_stamp: read_at(bytes, 16),
-            module_name_rva: read_at(bytes, 20),
-            version_info: read_at(bytes, 24),
-            cv_record: read_at(bytes, 76),
-            misc_record: read_at(bytes, 84),
-            reserved0: read_at(bytes, 92),
-            reserved1: read_at(bytes, 100),
+            base_of_image: get_at(bytes, 0),
+            size_of_image: get_at(bytes, 8),
+            checksum: get_at(bytes, 12),
+            time_date_stamp: get_at(bytes, 16),
+            module_name_rva: get_at(bytes, 20),
+            version_info: get_at(bytes, 24),
+            cv_record: get_at(bytes, 76),
+            misc_record: get_at(bytes, 84),
+            reserved0: get_at(bytes, 92),
+            reserved1: get_at(bytes, 100),
         }
     }
 

@@ -130,14 +130,14 @@ impl Record for [u8; 24] {
 
     ghost part = { cpu_at-part };
 
-    #[tactic(auto, unfolding(crate::specs::Number::bytes_at))]
+    #[tactic(auto, unfolding(crate::specs::Number::array_at))]
     fn read(bytes: &[u8]) -> Self {
         let mut copy = [0; 24];
         copy.copy_from_slice(bytes);
         copy
     }
 
-    #[tactic(auto, unfolding(crate::specs::Number::bytes_at))]
+    #[tactic(auto, unfolding(crate::specs::Number::array_at))]
     fn write(&self, out: &mut [u8]) {
         out.copy_from_slice(self);
     }

@@ -39,7 +39,7 @@ pub trait Record: Copy {
 }
 
 /// The record that stands at an offset in these bytes.
-pub fn read_at<R: Record>(bytes: &[u8], at: usize) -> R
+pub fn get_at<R: Record>(bytes: &[u8], at: usize) -> R
     requires { at + R.SIZE ≤ length bytes.now }
     ensures { result ≡ R.at bytes.now at }
 {

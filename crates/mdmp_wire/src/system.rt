@@ -1,6 +1,6 @@
 //! The system that the dumped process ran on.
 
-use crate::record::{Record, put_at, read_at};
+use crate::record::{Record, get_at, put_at};
 
 /// The system that the dumped process ran on: `MINIDUMP_SYSTEM_INFO`, 56 bytes.
 #[derive(Clone, Copy, Debug, PartialEq, Eq)]
@@ -49,19 +49,19 @@ impl Record for SystemRecord {
 
     fn read(bytes: &[u8]) -> Self {
         SystemRecord {
-            processor_architecture: read_at(bytes, 0),
-            processor_level: read_at(bytes, 2),
-            processor_revision: read_at(bytes, 4),
-            number_of_processors: read_at(bytes, 6),
-            product_type: read_at(bytes, 7),
-            major_version: read_at(bytes, 8),
-            minor_version: read_at(bytes, 12),
-            build_number: read_at(bytes, 16),
-            platform_id: read_at(bytes, 20),
-            csd_version_rva: read_at(bytes, 24),
-            suite_mask: read_at(bytes, 28),
-            reserved2: read_at(bytes, 30),
-            cpu: read_at(bytes, 32),
+            processor_architecture: get_at(bytes, 0),
+            processor_level: get_at(bytes, 2),
+            processor_revision: get_at(bytes, 4),
+            number_of_processors: get_at(bytes, 6),
+            product_type: get_at(bytes, 7),
+            major_version: get_at(bytes, 8),
+            minor_version: get_at(bytes, 12),
+            build_number: get_at(bytes, 16),
+            platform_id: get_at(bytes, 20),
+            csd_version_rva: get_at(bytes, 24),
+            suite_mask: get_at(bytes, 28),
+            reserved2: get_at(bytes, 30),
+            cpu: get_at(bytes, 32),
         }
     }
 

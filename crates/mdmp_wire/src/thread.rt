@@ -1,7 +1,7 @@
 //! A thread of the dumped process.
 
 use crate::descriptor::Descriptor;
-use crate::record::{Record, put_at, read_at};
+use crate::record::{Record, get_at, put_at};
 use mdmp_source::Location;
 
 /// A thread of the dumped process: `MINIDUMP_THREAD`, 48 bytes.
@@ -38,13 +38,13 @@ impl Record for ThreadRecord {
 
     fn read(bytes: &[u8]) -> Self {
         ThreadRecord {
-            thread_id: read_at(bytes, 0),
-            suspend_count: read_at(bytes, 4),
-            priority_class: read_at(bytes, 8),
-            priority: read_at(bytes, 12),
-            teb: read_at(bytes, 16),
-            stack: read_at(bytes, 24),
-            thread_context: read_at(bytes, 40),
+            thread_id: get_at(bytes, 0),
+            suspend_count: get_at(bytes, 4),
+            priority_class: get_at(bytes, 8),
+            priority: get_at(bytes, 12),
+            teb: get_at(bytes, 16),
+            stack: get_at(bytes, 24),
+            thread_context: get_at(bytes, 40),
         }
     }
 

@@ -5,7 +5,7 @@ ghost use Rattle.mdmp_wire.specs.Escape.{escaped, escaped_unit};
 ghost use Rattle.mdmp_wire.specs.Units.{units_of, units_in, units_over, plain_units, utf8_of};
 
 use crate::digits::hex_digits;
-use crate::record::read_at;
+use crate::record::get_at;
 use crate::units::Units;
 use mdmp_source::{Out, OutFailed, write_all};
 use std::alloc::{AllocError, Allocator};
@@ -49,7 +49,7 @@ impl<'a> UnitsRef<'a> {
         requires { index < length (units_in self.now) }
         ensures { result ≡ slice_index (units_in self.now) index }
     {
-        read_at(self.bytes, 2 * index)
+        get_at(self.bytes, 2 * index)
     }
 
     /// The same units in memory of their own.

@@ -1,6 +1,6 @@
 //! A module that the dumped process had unloaded.
 
-use crate::record::{Record, put_at, read_at};
+use crate::record::{Record, get_at, put_at};
 
 /// A module that the dumped process had unloaded: `MINIDUMP_UNLOADED_MODULE`, 24 bytes.
 #[derive(Clone, Copy, Debug, PartialEq, Eq)]
@@ -32,11 +32,11 @@ impl Record for UnloadedRecord {
 
     fn read(bytes: &[u8]) -> Self {
         UnloadedRecord {
-            base_of_image: read_at(bytes, 0),
-            size_of_image: read_at(bytes, 8),
-            checksum: read_at(bytes, 12),
-            time_date_stamp: read_at(bytes, 16),
-            module_name_rva: read_at(bytes, 20),
+            base_of_image: get_at(bytes, 0),
+            size_of_image: get_at(bytes, 8),
+            checksum: get_at(bytes, 12),
+            time_date_stamp: get_at(bytes, 16),
+            module_name_rva: get_at(bytes, 20),
         }
     }
 

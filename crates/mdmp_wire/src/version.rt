@@ -1,6 +1,6 @@
 //! The version of a module.
 
-use crate::record::{Record, put_at, read_at};
+use crate::record::{Record, get_at, put_at};
 
 /// The version of a module: `VS_FIXEDFILEINFO` of verrsrc.h, 52 bytes.
 #[derive(Clone, Copy, Debug, PartialEq, Eq)]
@@ -48,19 +48,19 @@ impl Record for VersionInfo {
 
     fn read(bytes: &[u8]) -> Self {
         VersionInfo {
-            signature: read_at(bytes, 0),
-            structure_version: read_at(bytes, 4),
-            file_version_ms: read_at(bytes, 8),
-            file_version_ls: read_at(bytes, 12),
-            product_version_ms: read_at(bytes, 16),
-            product_version_ls: read_at(bytes, 20),
-            file_flags_mask: read_at(bytes, 24),
-            file_flags: read_at(bytes, 28),
-            file_os: read_at(bytes, 32),
-            file_type: read_at(bytes, 36),
-            file_subtype: read_at(bytes, 40),
-            file_date_ms: read_at(bytes, 44),
-            file_date_ls: read_at(bytes, 48),
+            signature: get_at(bytes, 0),
+            structure_version: get_at(bytes, 4),
+            file_version_ms: get_at(bytes, 8),
+            file_version_ls: get_at(bytes, 12),
+            product_version_ms: get_at(bytes, 16),
+            product_version_ls: get_at(bytes, 20),
+            file_flags_mask: get_at(bytes, 24),
+            file_flags: get_at(bytes, 28),
+            file_os: get_at(bytes, 32),
+            file_type: get_at(bytes, 36),
+            file_subtype: get_at(bytes, 40),
+            file_date_ms: get_at(bytes, 44),
+            file_date_ls: get_at(bytes, 48),
         }
     }
 

@@ -1,7 +1,7 @@
 -- The name that stands at an offset of a file.
 use Rattle.std.specs.Prelude.{ℕ, ◌+◌, ◌%◌, List, length, Result, Ok, Err, not, ◌==◌, nat_lt, if◌then◌else◌}
 use Rattle.mdmp_source.specs.Range.{is_inside}
-use Rattle.mdmp_wire.specs.Number.{number_at, bytes_at}
+use Rattle.mdmp_wire.specs.Number.{number_at, array_at}
 use Rattle.mdmp_wire.specs.Units.{units_over}
 use Rattle.mdmp_lister.specs.declared.name.Name.{Name}
 use Rattle.mdmp_lister.specs.declared.name.Name.TheVariants.{Units, Long}
@@ -25,4 +25,4 @@ name_at F rva limit =
     else if bytes % 2 == 1 then Err (record { kind = NameOdd; offset = rva; size = bytes })
     else if not (is_inside (rva + 4) bytes size) then Err (record { kind = NameUnitsOutside; offset = rva + 4; size = bytes })
     else if nat_lt limit bytes then Ok (Long bytes)
-    else Ok (Units (units_over (bytes_at F (rva + 4) bytes)))
+    else Ok (Units (units_over (array_at F (rva + 4) bytes)))

@@ -1,5 +1,5 @@
 //! Records of known bytes, read and written.
-use mdmp_wire::{ExceptionRecord, Record, put_at, read_at};
+use mdmp_wire::{ExceptionRecord, Record, put_at, get_at};
 use std::fmt::Debug;
 use std::process::Abort;
 
@@ -57,6 +57,6 @@ fn record_at_an_offset_leaves_what_is_beside_it(rt: HostRuntime) {
     let mut out = [0x55; 8];
     put_at(&mut out, 2, &0x1234u16);
     assert_eq!(rt; out, [0x55, 0x55, 0x34, 0x12, 0x55, 0x55, 0x55, 0x55]);
-    let number: u32 = read_at(&out, 1);
+    let number: u32 = get_at(&out, 1);
     assert_eq!(rt; number, 0x5512_3455);
 }

@@ -7,8 +7,8 @@ overflow_mul-index c =
     let b = c.args.self.now.bytes.now in
     omega (arith, c.requires, length-numbers_at b 0 2 (length b / 2))
 
-pub read_at-requires : goal.read_at-requires
-read_at-requires c =
+pub get_at-requires : goal.get_at-requires
+get_at-requires c =
     let b = c.args.self.now.bytes.now in
     omega (arith, c.requires, length-numbers_at b 0 2 (length b / 2))
 
@@ -17,4 +17,4 @@ returns c =
     let b = c.args.self.now.bytes.now in
     let lt : c.args.index < length b / 2 = omega (arith, c.requires, length-numbers_at b 0 2 (length b / 2)) in
     let place : 0 + 2 * c.args.index ≡ 2 * c.args.index = omega arith in
-    c.read_at.ensures ∙ sym (rw place at (slice_index-numbers_at b 0 2 (length b / 2) c.args.index lt))
+    c.get_at.ensures ∙ sym (rw place at (slice_index-numbers_at b 0 2 (length b / 2) c.args.index lt))
