@@ -8,6 +8,7 @@ use Rattle.mdmp_source.specs.declared.fault.SourceFault.TheVariants.{Changed}
 use Rattle.mdmp_wire.specs.declared.entry.Entry.{Entry}
 use Rattle.mdmp_lister.specs.declared.kind.Kind.{Kind}
 use Rattle.mdmp_lister.specs.Format.Kind.{kind_of, lists_ranges}
+use Rattle.mdmp_lister.specs.Format.Listing.{list_fault}
 use Rattle.mdmp_lister.specs.declared.fault.Fault.{Fault}
 use Rattle.mdmp_lister.specs.declared.fault.FaultKind.{FaultKind}
 use Rattle.mdmp_lister.specs.declared.fault.ListFault.{ListFault}
@@ -81,3 +82,11 @@ IsPlaced kind f = Unit {0}
 pub record IsToldIn (e : Entry) (f : ListFault) (old new : SourceState) : Type 0 where
   pub by : IsToldBy e f.kind old new
   pub placed : IsPlaced f.kind f
+
+-- a listing tells a fault so, of an item of the entry with this number or of all of it; one of the store is that of no item
+pub record IsListFaultOf (number : ℕ) (index : Option ℕ) (fault : Fault) (f : ListFault) : Type 0 where
+  pub of_file : (IsOfSource fault.kind → ⊥) → f ≡ list_fault number index fault
+  pub kind : f.kind ≡ fault.kind
+  pub entry : f.entry ≡ number
+  pub place : (f.offset ≡ fault.offset) × (f.size ≡ fault.size)
+  pub of_store : IsOfSource fault.kind → f.index ≡ None

@@ -83,16 +83,11 @@ pub struct ListFault {
 }
 
 impl ListFault {
-    ghost use Rattle.mdmp_lister.specs.Format.Listing.{list_fault};
-    ghost use Rattle.mdmp_lister.specs.Fault.{IsOfSource};
+    ghost use Rattle.mdmp_lister.specs.Fault.{IsListFaultOf};
 
     /// The fault of an item of an entry, or of all of it. One of the store is that of no item.
     pub(crate) fn of_entry(entry: u32, index: Option<u64>, fault: Fault) -> ListFault
-        ensures of_file { (IsOfSource fault.kind → ⊥) → result ≡ list_fault entry index fault }
-        ensures kind { result.kind ≡ fault.kind }
-        ensures entry { result.entry ≡ entry }
-        ensures place { (result.offset ≡ fault.offset) × (result.size ≡ fault.size) }
-        ensures of_store { IsOfSource fault.kind → result.index ≡ None }
+        ensures { IsListFaultOf entry index fault result }
     {
         let index = match fault.kind {
             FaultKind::Source(_) => None,

@@ -1,7 +1,7 @@
 //! Where the records of a stream stand.
 ghost use Rattle.std.specs.Prelude.{◌≡◌, ◌≤◌, ◌+◌, ◌*◌, ◌<◌, None, length, IfOk};
 ghost use Rattle.mdmp_source.specs.Range.{IsInside};
-ghost use Rattle.mdmp_lister.specs.Format.Shape.{FitsIn, counted, location_fault, ranges64, shape_of, single, sized};
+ghost use Rattle.mdmp_lister.specs.Format.Shape.{FitsIn, IsListIn, counted, location_fault, ranges64, shape_of, single, sized};
 ghost use Rattle.mdmp_lister.specs.Format.Kind.{record_size};
 
 use crate::fault::{Fault, FaultKind};
@@ -58,11 +58,8 @@ pub(crate) fn too_short<T: Drop>(at: Location) -> Result<T, Fault>
 
 /// The shape of a list of so many records behind their count.
 pub(crate) fn counted(at: Location, record_size: u32, count: u32) -> Result<Shape, Fault>
-    requires { 4 ≤ at.size }
     ensures shape { result ≡ counted at.rva at.size record_size count }
-    ensures fits { IfOk result (λ shape. shape.first + shape.count * shape.stride ≤ at.size) }
-    ensures stride { IfOk result (λ shape. shape.stride ≡ record_size) }
-    ensures first { IfOk result (λ shape. 4 ≤ shape.first) }
+    ensures list { IfOk result (IsListIn at.size 4 record_size) }
 {
     let size = u128::from(at.size);
     let records = u128::from(count) * u128::from(record_size);
@@ -91,7 +88,7 @@ pub(crate) fn single(record_size: u32) -> Shape
 /// The shape of a 64-bit memory list with this head.
 pub(crate) fn ranges64(at: Location, record_size: u32, head: Memory64List) -> Result<Shape, Fault>
     ensures shape { result ≡ ranges64 at.rva at.size record_size head.number_of_memory_ranges }
-    ensures fits { IfOk result (λ shape. shape.first + shape.count * shape.stride ≤ at.size) }
+    ensures list { IfOk result (IsListIn at.size 16 record_size) }
     ensures places { IfOk result (λ shape. (shape.first ≡ 16) × (shape.stride ≡ record_size)) }
 {
     let first = Memory64List::SIZE as u64;
@@ -116,9 +113,7 @@ pub(crate) fn sized(
     count: u64,
 ) -> Result<Shape, Fault>
     ensures shape { result ≡ sized at.rva at.size head_size record_size header_size entry_size count }
-    ensures fits { IfOk result (λ shape. shape.first + shape.count * shape.stride ≤ at.size) }
-    ensures stride { IfOk result (λ shape. 0 < shape.count → record_size ≤ shape.stride) }
-    ensures first { IfOk result (λ shape. head_size ≤ shape.first) }
+    ensures list { IfOk result (IsListIn at.size head_size record_size) }
 {
     let start = u64::from(at.rva);
     if header_size < head_size || at.size < header_size {

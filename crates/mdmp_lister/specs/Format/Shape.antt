@@ -83,6 +83,13 @@ pub record FitsIn (size : ℕ) (kind : Kind) (shape : Shape) : Type 0 where
   pub records : shape.first + shape.count * shape.stride ≤ size
   pub stride : 0 < shape.count → record_size kind ≤ shape.stride
 
+-- the records of a list lie behind its head, of at least so many bytes, and inside its stream of `size` bytes, and each has
+-- room for `record_size` bytes
+pub record IsListIn (size head record_size : ℕ) (shape : Shape) : Type 0 where
+  pub fits : shape.first + shape.count * shape.stride ≤ size
+  pub stride : 0 < shape.count → record_size ≤ shape.stride
+  pub behind : head ≤ shape.first
+
 -- ---- entries of any type
 
 -- the fault of an entry whose location is not inside a file of z bytes, or none: that of an unused entry is not
