@@ -1,10 +1,11 @@
 -- The chosen entries of a directory, one by one.
-use Rattle.std.proofs.Common.{◌≡◌, ◌+◌, ◌-◌, ◌<◌, ◌≤◌, ◌∙◌, ℕ, suc, true, false, arith, List, ◌∷◌, [], refl, ap, sym}
+use Rattle.std.proofs.Common.{◌≡◌, ◌+◌, ◌-◌, ◌<◌, ◌≤◌, ◌∙◌, ℕ, suc, true, false, arith, List, ◌∷◌, [], Some, refl, ap, sym}
 use Rattle.std.specs.Prelude.{map}
 use Rattle.std.proofs.lemmas.List.Sums.{sum_by-cons}
 use Rattle.mdmp_wire.specs.declared.entry.Entry.{Entry}
 use Rattle.mdmp_lister.specs.declared.choice.Choice.{Choice}
 use Rattle.mdmp_lister.specs.Format.Listing.{Numbered, joined, nothing, all_joined, entry_listing, listing_from, chosen_from, entries_from, only_chosen, entry_count, entry_of, is_chosen}
+use Rattle.mdmp_lister.specs.Format.Directory.{IsFirstChosen}
 use Rattle.mdmp_lister.specs.Format.Numbers.{ranges_in, ranges_of_all}
 use Rattle.mdmp_lister.specs.Format.Kind.{kind_of}
 
@@ -61,6 +62,13 @@ pub ranges-chosen : (F : List ℕ) (choice : Choice) (i : ℕ) (e : Entry) → i
 ranges-chosen F choice i e lt same chosen =
     ap (ranges_of_all F) (chosen_from-chosen F choice i e lt same chosen)
     ∙ sum_by-cons (λ (x : Numbered). ranges_in F x.entry (kind_of x.entry.stream_type)) (record { number = i; entry = e }) (chosen_from F choice (i + 1))
+
+pub ranges-first : (F : List ℕ) (choice : Choice) (from at : ℕ) (e : Entry) → IsFirstChosen F choice from (Some at) → e ≡ entry_of F at
+    → ranges_of_all F (chosen_from F choice from) ≡ ranges_in F e (kind_of e.stream_type) + ranges_of_all F (chosen_from F choice (at + 1))
+ranges-first F choice from at e first same =
+    ap (ranges_of_all F) first
+    ∙ sum_by-cons (λ (x : Numbered). ranges_in F x.entry (kind_of x.entry.stream_type)) (record { number = at; entry = entry_of F at }) (chosen_from F choice (at + 1))
+    ∙ ap (λ (x : Entry). ranges_in F x (kind_of x.stream_type) + ranges_of_all F (chosen_from F choice (at + 1))) (sym same)
 
 pub ranges-other : (F : List ℕ) (choice : Choice) (i : ℕ) (e : Entry) → i < entry_count F → e ≡ entry_of F i → false ≡ is_chosen choice e.stream_type
     → ranges_of_all F (chosen_from F choice i) ≡ ranges_of_all F (chosen_from F choice (i + 1))

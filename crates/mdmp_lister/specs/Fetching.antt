@@ -11,13 +11,14 @@ use Rattle.mdmp_lister.specs.declared.kind.Kind.{Kind}
 use Rattle.mdmp_lister.specs.declared.kind.Kind.TheVariants.{Memory64}
 use Rattle.mdmp_lister.specs.declared.step.Step.{Step}
 use Rattle.mdmp_lister.specs.Costs.{head_told, name_spent, read_cost, record_spent}
-use Rattle.mdmp_lister.specs.Meter.{MeterState, Spends}
+use Rattle.mdmp_lister.specs.Heading.{head_spent}
+use Rattle.mdmp_lister.specs.Meter.{Books, MeterState, Spends}
 use Rattle.mdmp_lister.specs.Walk.Owing.{count_told, ranges_by}
 use Rattle.mdmp_lister.specs.Walk.Reaching.{Reaches, ReachesAtFault, read_once, told_once}
 use Rattle.mdmp_lister.specs.Fault.{IsCaused, IsCausedAt}
 use Rattle.mdmp_lister.specs.Format.Shape.{FitsIn, head_cost}
 use Rattle.mdmp_lister.specs.Format.Kind.{form_of, record_size}
-use Rattle.mdmp_lister.specs.Step.{current_by, passed_by}
+use Rattle.mdmp_lister.specs.Step.{IsStepHeld, current_by, passed_by}
 
 -- what was read with this answer: an answer of a known file is as it should be, the fetches are booked, and a fault of
 -- the store is caused by them
@@ -33,6 +34,12 @@ pub record IsHeadOf (size : ℕ) (kind : Kind) (head : Head) : Type 0 where
   pub ranges : kind ≡ Memory64 → (head.shape.first ≡ 16) × (head.shape.stride ≡ 16)
   -- the records stand behind it
   pub behind : head_cost (form_of kind) ≤ head.shape.first
+
+-- the head of a stream of so many bytes and of this kind was read, or is too short
+pub record ReadsHead (size : ℕ) (kind : Kind) (result : Result Head Fault) (old new : MeterState) : Type 0 where
+  pub books : Books 1 (head_spent size kind) old new
+  pub caused : IsCausedAt result old.source new.source
+  pub at_fault : IfErr result (λ fault. ReachesAtFault fault.kind old new)
 
 -- the name at this RVA was read, where names have at most `limit` bytes
 pub record ReadsName (limit rva : ℕ) (result : Result NameRead Fault) (old new : MeterState) : Type 0 where
@@ -53,8 +60,9 @@ pub record ReadsRecord (limit : ℕ) (kind : Kind) (result : Result Step Fault) 
   pub at_fault : IfErr result (λ fault. ReachesAtFault fault.kind old new)
   pub caused : IsCausedAt result old.source new.source
 
--- a step tells a record of this kind, and so begins no entry
-pub record TellsRecord (kind : Kind) (s : Step) : Type 0 where
+-- a step tells a record of this kind, its name fits in `room` bytes, and it begins no entry
+pub record TellsRecord (room : ℕ) (kind : Kind) (s : Step) : Type 0 where
+  pub held : IsStepHeld room (Some kind) s
   pub ranges : count_told s ≡ ranges_by kind 1
   pub passed : (next : ℕ) → passed_by s next ≡ next
   pub stays : (e : Entry) → current_by s e ≡ e

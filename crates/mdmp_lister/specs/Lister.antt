@@ -20,7 +20,8 @@ use Rattle.mdmp_lister.specs.Format.Directory.{IsDirectory}
 use Rattle.mdmp_lister.specs.Heading.{heads_ahead}
 use Rattle.mdmp_lister.specs.Format.Item.{plain}
 use Rattle.mdmp_lister.specs.Format.Listing.{Run, nothing, only_fault, listing, listing_from}
-use Rattle.mdmp_lister.specs.Meter.{IsBegun, MeterCounts, Moves}
+use Rattle.mdmp_lister.specs.Meter.{IsBegun, Moves}
+use Rattle.mdmp_lister.specs.declared.meter.MeterCounts.{MeterCounts}
 use Rattle.mdmp_lister.specs.Format.Ranges.{ranges_of}
 use Rattle.mdmp_lister.specs.Fault.{IsOfSource, IsSteady, IsToldIn}
 use Rattle.mdmp_lister.specs.Stage.{stop_after}

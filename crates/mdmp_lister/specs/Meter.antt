@@ -3,6 +3,7 @@ use Rattle.std.specs.Prelude.{◌≡◌, ◌≤◌, ◌<◌, ◌+◌, ◌*◌, �
 use Rattle.mdmp_source.specs.Count.{raised}
 use Rattle.mdmp_source.specs.Source.{SourceState, FetchesAtMost}
 use Rattle.mdmp_lister.specs.declared.meter.Amount.{Amount}
+use Rattle.mdmp_lister.specs.declared.meter.MeterCounts.{MeterCounts}
 
 -- a source that is read for a listing, as those who read through it see it
 pub record MeterState : Type 0 where
@@ -17,13 +18,6 @@ pub record MeterState : Type 0 where
   pub start : Amount
 
 -- what was counted, without the source
-pub record MeterCounts : Type 0 where
-  pub fetched : ℕ
-  pub calls : ℕ
-  pub names : ℕ
-  pub aside : Amount
-  pub start : Amount
-
 abbrev pub counts_of : MeterState → MeterCounts
 counts_of m = record { fetched = m.fetched; calls = m.calls; names = m.names; aside = m.aside; start = m.start }
 
@@ -34,6 +28,11 @@ pub record IsBookedBy (source : SourceState) (fetched calls : ℕ) (aside start 
 
 abbrev pub IsBooked : SourceState → MeterCounts → Type 0
 IsBooked source c = IsBookedBy source c.fetched c.calls c.aside c.start
+
+-- the source of a meter, each of whose bytes and calls is booked
+pub record IsSourceOf (m : MeterState) (source : SourceState) : Type 0 where
+  pub value : source ≡ m.source
+  pub booked : IsBooked source (counts_of m)
 
 -- some fetches for the listing and of no name, in at most so many calls, of at most n bytes together
 pub record Books (calls n : ℕ) (old new : MeterState) : Type 0 where

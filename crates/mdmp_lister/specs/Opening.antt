@@ -15,7 +15,8 @@ use Rattle.mdmp_lister.specs.declared.fault.OpenFault.TheVariants.{TooShort, Bad
 use Rattle.mdmp_lister.specs.Format.Directory.{AreFirst}
 use Rattle.mdmp_lister.specs.Heading.{heads_ahead}
 use Rattle.mdmp_lister.specs.Format.Listing.{entry_count}
-use Rattle.mdmp_lister.specs.Fault.{IsSteady}
+use Rattle.mdmp_lister.specs.Fault.{IsCaused, IsSteady}
+use Rattle.mdmp_lister.specs.Meter.{Books, MeterState}
 use Rattle.mdmp_lister.specs.Format.Refusal.{most_ranges, directory_refusal, opening_fault}
 
 -- ---- what an opening answers
@@ -99,6 +100,13 @@ pub record FitsHeader (old : SourceState) (result : Result Header OpenFault) (ne
   pub short : old.size < 32 → result ≡ Err (TooShort old.size)
   -- a file that is too short is not touched
   pub untouched : (size : ℕ) → result ≡ Err (TooShort size) → new ≡ old
+
+-- the header of a file was read, or refused, where the directory does not lie inside the file too
+pub record ReadsHeader (old : MeterState) (result : Result Header OpenFault) (new : MeterState) : Type 0 where
+  pub finds : (file : List ℕ) → old.source.store.content ≡ Some file → Finds file result
+  pub fits : FitsHeader old.source result new.source
+  pub books : Books 1 32 old new
+  pub caused : IsCaused (unread_fault result) old.source new.source
 
 -- the header or the directory of a file was refused, or there was no memory to list it, and its source was handed back
 pub record IsRefused (choice : Choice) (old : SourceState) (fault : OpenFault) (new : SourceState) : Type 0 where

@@ -12,7 +12,8 @@ use Rattle.mdmp_lister.specs.declared.item.StreamItem.{StreamItem}
 use Rattle.mdmp_lister.specs.declared.step.Step.{Step}
 use Rattle.mdmp_lister.specs.declared.step.Step.TheVariants as step
 use Rattle.mdmp_lister.specs.declared.kind.Kind.{Kind}
-use Rattle.mdmp_lister.specs.Format.Item.{item_of, kind_told}
+use Rattle.mdmp_lister.specs.Format.Item.{item_of, kind_told, plain}
+use Rattle.mdmp_lister.specs.Format.Ranges.{IsPlacedIn}
 use Rattle.mdmp_lister.specs.Format.Summary.{entry_begun, number_behind}
 use Rattle.mdmp_wire.specs.Units.{units_over}
 use Rattle.mdmp_lister.specs.declared.name.Name.{Name}
@@ -35,6 +36,12 @@ IsHeld room name = Unit {0}
 abbrev pub step_item : ℕ → List ℕ → Step → Item
 step_item z buffer (step.Stream x) = items.Stream x
 step_item z buffer (step.Record r) = item_of z r.entry r.index r.offset r.fields (name_read buffer r.name)
+
+-- the item that is given of a step, its name lent from this buffer, in a file of z bytes
+pub record IsItemOf (z : ℕ) (buffer : List ℕ) (step : Step) (x : Item) : Type 0 where
+  pub item : plain x ≡ step_item z buffer step
+  -- a range that is said to lie inside the file does
+  pub placed : IsPlacedIn z x
 
 -- its name fits in `room` bytes
 abbrev pub IsNameHeld : ℕ → Step → Type 0

@@ -1,14 +1,11 @@
 //! The head of a stream, read through a source.
-ghost use Rattle.std.specs.Prelude.{◌≡◌, ◌≤◌, ◌+◌, ℕ, List, Some, length, IfErr, IfOk};
+ghost use Rattle.std.specs.Prelude.{◌≡◌, ◌≤◌, ◌+◌, ℕ, List, Some, length, IfOk};
 ghost use Rattle.mdmp_source.specs.Range.{IsInside};
 ghost use Rattle.mdmp_wire.specs.Number.{number_at};
-ghost use Rattle.mdmp_lister.specs.Fetching.{IsHeadOf};
-ghost use Rattle.mdmp_lister.specs.Heading.{head_spent};
-ghost use Rattle.mdmp_lister.specs.Meter.{Books};
-ghost use Rattle.mdmp_lister.specs.Walk.Reaching.{ReachesAtFault};
+ghost use Rattle.mdmp_lister.specs.Fetching.{IsHeadOf, ReadsHead};
 ghost use Rattle.mdmp_lister.specs.Format.Kind.{greatest_record};
 ghost use Rattle.mdmp_lister.specs.Format.Shape.{shape_of};
-ghost use Rattle.mdmp_lister.specs.Fault.{Answers, IsCausedAt};
+ghost use Rattle.mdmp_lister.specs.Fault.{Answers};
 
 use crate::fault::Fault;
 use crate::fetching::read;
@@ -45,9 +42,7 @@ pub(crate) fn head_at<S: Store>(
     ensures base { (file : List ℕ) → meter.old.source.store.content ≡ Some file
         → kind ≡ Kind.Memory64 → IfOk result (λ head. head.base ≡ number_at file (at.rva + 8) 8) }
     ensures head { IfOk result (IsHeadOf at.size kind) }
-    ensures books { Books 1 (head_spent at.size kind) meter.old meter.new }
-    ensures caused { IsCausedAt result meter.old.source meter.new.source }
-    ensures at_fault { IfErr result (λ fault. ReachesAtFault fault.kind meter.old meter.new) }
+    ensures reads { ReadsHead at.size kind result meter.old meter.new }
 {
     let form = kind.form();
     let record_size = kind.record_size();

@@ -140,15 +140,16 @@ impl<S: Store + Drop, A: Allocator + Copy> Lister<S, A> {
         let entries = walk.entries.len() as u128;
         let directory = Entry::SIZE as u128 * entries;
         let ranges = self.map.len() as u128 + self.map.free() as u128;
+        let counted = walk.meter.counts();
         Counts {
             s: entries,
             r: ranges,
             n: listed_bytes(&walk.entries, &walk.choice, walk.meter.size()),
-            m: walk.meter.names(),
+            m: counted.names,
             held: walk.window.len() as u128 + directory + 24 * ranges + walk.name.len() as u128,
-            fetched: walk.meter.fetched(),
-            calls: walk.meter.calls(),
-            aside: walk.meter.aside(),
+            fetched: counted.fetched,
+            calls: counted.calls,
+            aside: counted.aside.bytes,
         }
     }
 

@@ -4,7 +4,7 @@ ghost use Rattle.mdmp_source.specs.Count.{raised};
 ghost use Rattle.mdmp_source.specs.Range.{IsInside, bytes_at};
 ghost use Rattle.mdmp_source.specs.Store.{IsSizeOf};
 ghost use Rattle.mdmp_lister.specs.Fetching.{Reads};
-ghost use Rattle.mdmp_lister.specs.Meter.{Books, BooksAside, IsBooked, MeterState, counts_of};
+ghost use Rattle.mdmp_lister.specs.Meter.{Books, BooksAside, IsBooked, IsSourceOf, MeterState, counts_of};
 
 use mdmp_source::{Source, SourceFault, Store};
 use std::marker::Model;
@@ -14,6 +14,21 @@ use std::marker::Model;
 pub(crate) struct Amount {
     pub bytes: u128,
     pub calls: u128,
+}
+
+/// What was counted of a listing.
+#[derive(Clone, Copy)]
+pub(crate) struct MeterCounts {
+    /// The bytes fetched for the listing.
+    pub fetched: u128,
+    /// The calls of `fetch` for it.
+    pub calls: u128,
+    /// The names that it reached.
+    pub names: u128,
+    /// What was fetched aside.
+    pub aside: Amount,
+    /// What the source's own counts were at first.
+    pub start: Amount,
 }
 
 /// A source that is read for a listing. Beside the counts of the source itself, which go on, it counts
@@ -114,39 +129,23 @@ impl<S: Store> Meter<S> {
         self.names = self.names.saturating_add(1);
     }
 
-    /// The bytes fetched for the listing.
-    pub(crate) fn fetched(&self) -> u128
-        ensures value { result ≡ self.now.fetched }
-        ensures booked { IsBooked self.now.source (counts_of self.now) }
+    /// What was counted so far.
+    pub(crate) fn counts(&self) -> MeterCounts
+        ensures value { result ≡ counts_of self.now }
+        ensures booked { IsBooked self.now.source result }
     {
-        self.fetched
-    }
-
-    /// The calls of `fetch` for the listing.
-    pub(crate) fn calls(&self) -> u128
-        ensures { result ≡ self.now.calls }
-    {
-        self.calls
-    }
-
-    /// The names that were reached.
-    pub(crate) fn names(&self) -> u128
-        ensures { result ≡ self.now.names }
-    {
-        self.names
-    }
-
-    /// The bytes fetched aside.
-    pub(crate) fn aside(&self) -> u128
-        ensures { result ≡ self.now.aside.bytes }
-    {
-        self.aside.bytes
+        MeterCounts {
+            fetched: self.fetched,
+            calls: self.calls,
+            names: self.names,
+            aside: self.aside,
+            start: self.start,
+        }
     }
 
     /// Hands the source back.
     pub(crate) fn into_source(self) -> Source<S>
-        ensures value { result ≡ self.source }
-        ensures booked { IsBooked self.source (counts_of self) }
+        ensures { IsSourceOf self result }
     {
         let Meter { source, .. } = self;
         source

@@ -6,8 +6,7 @@ ghost use Rattle.mdmp_lister.specs.Format.Directory.{IsDirectory, IsFirstChosen}
 ghost use Rattle.mdmp_lister.specs.Fetching.{Reads};
 ghost use Rattle.mdmp_lister.specs.Meter.{Books};
 ghost use Rattle.mdmp_lister.specs.Walk.Paying.{CostsFrom};
-ghost use Rattle.mdmp_lister.specs.Opening.{Finds, FitsHeader, unread_fault};
-ghost use Rattle.mdmp_lister.specs.Fault.{IsCaused};
+ghost use Rattle.mdmp_lister.specs.Opening.{ReadsHeader};
 
 use crate::choice::Choice;
 use crate::fault::OpenFault;
@@ -28,10 +27,7 @@ pub struct OpenRefused<S: Store + Drop> {
 
 /// Fetches the header of a file whose directory lies inside it.
 pub(crate) fn read_header<S: Store>(meter: &mut Meter<S>) -> Result<Header, OpenFault>
-    ensures finds { (file : List ℕ) → meter.old.source.store.content ≡ Some file → Finds file result }
-    ensures fits { FitsHeader meter.old.source result meter.new.source }
-    ensures books { Books 1 32 meter.old meter.new }
-    ensures caused { IsCaused (unread_fault result) meter.old.source meter.new.source }
+    ensures { ReadsHeader meter.old result meter.new }
 {
     let size = meter.size();
     if size < Header::SIZE as u64 {

@@ -5,7 +5,7 @@ ghost use Rattle.mdmp_lister.specs.Format.Item.{item_at, kind_told, range_offset
 ghost use Rattle.mdmp_lister.specs.Meter.{Books};
 ghost use Rattle.mdmp_lister.specs.Fault.{Answers};
 ghost use Rattle.mdmp_lister.specs.Format.Kind.{greatest_record, record_size};
-ghost use Rattle.mdmp_lister.specs.Step.{IsStepHeld, step_item};
+ghost use Rattle.mdmp_lister.specs.Step.{step_item};
 
 use crate::fault::Fault;
 use crate::fetching::{NameRead, read, read_name};
@@ -58,8 +58,7 @@ pub(crate) fn read_item<S: Store>(
     ensures item { (file : List ℕ) → meter.old.source.store.content ≡ Some file → (stream : ℕ)
         → (kind ≡ Kind.Memory64 → offset ≡ range_offset file stream index)
         → Answers (item_at file (length buffer.new) entry index stream at kind) (step_item meter.old.source.size buffer.new) result }
-    ensures held { IfOk result (IsStepHeld (length buffer.new) (Some kind)) }
-    ensures tells { IfOk result (TellsRecord kind) }
+    ensures tells { IfOk result (TellsRecord (length buffer.new) kind) }
     ensures length { length buffer.new ≡ length buffer.old }
     ensures reads { ReadsRecord (length buffer.new) kind result meter.old meter.new }
 {

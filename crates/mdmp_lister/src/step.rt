@@ -1,9 +1,7 @@
 //! An item that was read, whose name stands in a buffer.
 ghost use Rattle.std.specs.Prelude.{◌≡◌, length};
-ghost use Rattle.mdmp_lister.specs.Format.Item.{plain};
 ghost use Rattle.mdmp_lister.specs.Format.Name.{plain_name};
-ghost use Rattle.mdmp_lister.specs.Format.Ranges.{IsPlacedIn};
-ghost use Rattle.mdmp_lister.specs.Step.{IsHeld, name_read, IsNameHeld, step_item};
+ghost use Rattle.mdmp_lister.specs.Step.{IsHeld, IsItemOf, IsNameHeld, name_read};
 
 use crate::fetching::NameRead;
 use crate::item::{
@@ -50,8 +48,7 @@ fn lent_name(buffer: &[u8], name: NameRead) -> Name<'_>
 /// The item, its name lent from the buffer, in a file of `size` bytes.
 pub(crate) fn lent_item(step: Step, buffer: &[u8], size: u64) -> Item<'_>
     requires { IsNameHeld (length buffer.now) step }
-    ensures item { plain result ≡ step_item size buffer.now step }
-    ensures placed { IsPlacedIn size result }
+    ensures { IsItemOf size buffer.now step result }
 {
     match step {
         Step::Stream(stream) => Item::Stream(stream),
@@ -62,8 +59,7 @@ pub(crate) fn lent_item(step: Step, buffer: &[u8], size: u64) -> Item<'_>
 /// The item of a record, its name lent from the buffer, in a file of `size` bytes.
 fn record_item(read: RecordRead, buffer: &[u8], size: u64) -> Item<'_>
     requires { IsHeld (length buffer.now) read.name }
-    ensures item { plain result ≡ step_item size buffer.now (Step.Record read) }
-    ensures placed { IsPlacedIn size result }
+    ensures { IsItemOf size buffer.now (Step.Record read) result }
 {
     let RecordRead {
         entry,

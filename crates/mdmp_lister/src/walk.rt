@@ -1,13 +1,10 @@
 //! The walk over the entries of a file, without its public face.
 ghost use Rattle.std.specs.Prelude.{◌≡◌, ◌+◌, ◌^◌, ◌≤◌, ◌<◌, ◌-◌, ℕ, None, Some, IfOk, IfErr, IsTrue, false, OnOk, vec_len};
 ghost use Rattle.mdmp_lister.specs.Opening.{IsRefused};
-ghost use Rattle.mdmp_lister.specs.Stage.{ends, fault_stage};
-ghost use Rattle.mdmp_lister.specs.Step.{IsNameHeld, bytes_behind, step_item};
-ghost use Rattle.mdmp_lister.specs.Walk.Owing.{HasRoom, count_answered, count_given};
-ghost use Rattle.mdmp_lister.specs.Meter.{IsBooked, counts_of};
-ghost use Rattle.mdmp_lister.specs.Walk.Paying.{IsPaid};
-ghost use Rattle.mdmp_lister.specs.Format.Item.{plain};
-ghost use Rattle.mdmp_lister.specs.Format.Ranges.{IsPlacedIn};
+ghost use Rattle.mdmp_lister.specs.Stage.{fault_stage};
+ghost use Rattle.mdmp_lister.specs.Step.{IsItemOf, IsNameHeld, bytes_behind};
+ghost use Rattle.mdmp_lister.specs.Walk.Owing.{HasRoom, count_answered};
+ghost use Rattle.mdmp_lister.specs.Meter.{IsSourceOf};
 
 use crate::choice::Choice;
 use crate::counting::count_ranges;
@@ -50,8 +47,8 @@ pub(crate) struct Walk<S: Store + Drop, A: Allocator + Copy> {
 }
 
 impl<S: Store + Drop, A: Allocator + Copy> Walk<S, A> {
-    ghost use Rattle.mdmp_lister.specs.Walk.Requests.{Answered, HeadRead};
-    ghost use Rattle.mdmp_lister.specs.Walk.{CountsRanges, IsListing, IsNewWalk, IsSound, IsThrough, work_of};
+    ghost use Rattle.mdmp_lister.specs.Walk.Requests.{Answered, EntrySkipped, HeadRead, StepTaken};
+    ghost use Rattle.mdmp_lister.specs.Walk.{CountsRanges, IsListing, IsNewWalk, IsSound, IsThrough};
 
     /// Reads the header and the directory of a file, and takes all the memory that a walk needs.
     pub(crate) fn open(
@@ -128,16 +125,14 @@ impl<S: Store + Drop, A: Allocator + Copy> Walk<S, A> {
     /// The item that a step tells, its name lent.
     pub(crate) fn item(&self, step: Step) -> Item<'_>
         requires { IsNameHeld (vec_len self.now.name) step }
-        ensures item { plain result ≡ step_item self.now.meter.source.size self.now.name.items step }
-        ensures placed { IsPlacedIn self.now.meter.source.size result }
+        ensures { IsItemOf self.now.meter.source.size self.now.name.items step result }
     {
         lent_item(step, &self.name, self.meter.size())
     }
 
     /// Hands the source back.
     pub(crate) fn into_source(self) -> Source<S>
-        ensures value { result ≡ self.meter.source }
-        ensures booked { IsBooked self.meter.source (counts_of self.meter) }
+        ensures { IsSourceOf self.meter result }
     {
         let Walk { meter, .. } = self;
         meter.into_source()
@@ -146,13 +141,7 @@ impl<S: Store + Drop, A: Allocator + Copy> Walk<S, A> {
     /// Drops what is left of the current entry.
     pub(crate) fn skip_entry(&mut self)
         requires { IsSound self.old }
-        ensures sound { IsSound self.new }
-        ensures skips { ends self.old.stage ≡ false → self.new ≡ record self.old { stage = Stage.Between } }
-        ensures stays { IsTrue (ends self.old.stage) → self.new ≡ self.old }
-        ensures unbegun { self.old.next ≡ 0 → self.new ≡ self.old }
-        ensures paid { (allowed before : ℕ) → IsPaid allowed before self.old → IsPaid allowed before self.new }
-        ensures room { (room : ℕ) → HasRoom room 0 self.old → HasRoom room 0 self.new }
-        ensures rests { work_of self.new ≤ work_of self.old }
+        ensures { EntrySkipped self.old self.new }
     {
         match self.stage {
             Stage::Failed(_) | Stage::Ended => {}
@@ -164,8 +153,7 @@ impl<S: Store + Drop, A: Allocator + Copy> Walk<S, A> {
     fn step(&mut self) -> Result<Option<Step>, ListFault>
         requires sound { IsSound self.old }
         requires stage { IsListing self.old.stage }
-        ensures answered { Answered self.old result self.new }
-        ensures room { (room : ℕ) → HasRoom room 0 self.old → HasRoom room (count_answered result) self.new }
+        ensures { StepTaken self.old result self.new }
     {
         match self.stage {
             Stage::Records {
@@ -231,8 +219,7 @@ impl<S: Store + Drop, A: Allocator + Copy> Walk<S, A> {
         requires sound { IsSound self.old }
         requires stage { self.old.stage ≡ Stage.Records kind shape index offset }
         requires left { index < shape.count }
-        ensures answered { Answered self.old result self.new }
-        ensures room { (room : ℕ) → HasRoom room 0 self.old → HasRoom room (count_answered result) self.new }
+        ensures { StepTaken self.old result self.new }
     {
         let number = (self.next - 1) as u32;
         let at = record_at(self.current.location, kind, shape, index, self.meter.size());
@@ -263,8 +250,7 @@ impl<S: Store + Drop, A: Allocator + Copy> Walk<S, A> {
     fn next_stream(&mut self) -> Option<Step>
         requires sound { IsSound self.old }
         requires through { IsThrough self.old.stage }
-        ensures answered { Answered self.old (Ok result) self.new }
-        ensures room { (room : ℕ) → HasRoom room 0 self.old → HasRoom room (count_given result) self.new }
+        ensures { StepTaken self.old (Ok result) self.new }
     {
         let Some(at) = next_chosen(&self.entries, self.next, &self.choice) else {
             self.next = self.entries.len();

@@ -1,5 +1,5 @@
 -- What a request for the next item leaves of a walk.
-use Rattle.std.specs.Prelude.{◌≡◌, ◌≤◌, ◌<◌, ◌+◌, ℕ, List, Option, Some, None, Result, IfOk, IfErr, IfSome, vec_len}
+use Rattle.std.specs.Prelude.{◌≡◌, ◌≤◌, ◌<◌, ◌+◌, ℕ, List, Option, Some, None, Result, IfOk, IfErr, IfSome, IsTrue, false, vec_len}
 use Rattle.mdmp_source.specs.Source.{FetchesAtMost}
 use Rattle.mdmp_source.specs.Store.{IsGood}
 use Rattle.mdmp_lister.specs.declared.fault.ListFault.{ListFault}
@@ -12,7 +12,9 @@ use Rattle.mdmp_lister.specs.Walk.Paying.{IsPaid}
 use Rattle.mdmp_lister.specs.Walk.Reaching.{Reaches, ReachesAtFault, given_once}
 use Rattle.mdmp_lister.specs.Fault.{IsOfSource, IsToldIn}
 use Rattle.mdmp_lister.specs.Format.Kind.{kind_of}
-use Rattle.mdmp_lister.specs.Stage.{IsStageAfter, stop_after, stop_of}
+use Rattle.mdmp_lister.specs.Stage.{IsStageAfter, ends, stop_after, stop_of}
+use Rattle.mdmp_lister.specs.declared.stage.Stage.TheVariants.{Between}
+use Rattle.mdmp_lister.specs.Walk.Owing.{HasRoom, count_answered}
 use Rattle.mdmp_lister.specs.Step.{CurrentAfter, IsStepHeld}
 use Rattle.mdmp_lister.specs.Walk.{Advances, IsListing, IsSound, PassesTo, SameEntry, SameRoom, current_of, left_of, work_of}
 
@@ -64,3 +66,18 @@ module _ {S A : Type 0} where
     pub falls : work_of new < work_of old
     pub books : Books 1 (head_of old.meter.source.size old.current) old.meter new.meter
     pub paid : (allowed before : ℕ) → IsPaid allowed before old → IsPaid allowed before new
+
+  -- a request was answered so, and as much room is left as the ranges that may still be given need
+  pub record StepTaken (old : Walk S A) (result : Result (Option Step) ListFault) (new : Walk S A) : Type 0 where
+    pub answered : Answered old result new
+    pub room : (room : ℕ) → HasRoom room 0 old → HasRoom room (count_answered result) new
+
+  -- what is left of the current entry was dropped, unless nothing is given for good
+  pub record EntrySkipped (old new : Walk S A) : Type 0 where
+    pub sound : IsSound new
+    pub skips : ends old.stage ≡ false → new ≡ record old { stage = Between }
+    pub stays : IsTrue (ends old.stage) → new ≡ old
+    pub unbegun : old.next ≡ 0 → new ≡ old
+    pub paid : (allowed before : ℕ) → IsPaid allowed before old → IsPaid allowed before new
+    pub room : (room : ℕ) → HasRoom room 0 old → HasRoom room 0 new
+    pub rests : work_of new ≤ work_of old

@@ -30,9 +30,9 @@ returns-clause-bounds g c =
     let small : cost_of w.choice w.meter.source.size w.entries.items ≤ 2 ^ 32 * length w.entries.items = rw (listed, c.deref.ensures.value) at c.listed_bytes.ensures.small in
     rw (← c.self.view_is) (record {
       held = omega (arith, entries, c.len.ensures, c.free.ensures.value, c.free.ensures.room, c.len-2.ensures, c.len-3.ensures);
-      fetched = rw (c.fetched.ensures.value, entries, listed, c.names.ensures) (fetched_most w sound bounded);
-      below = rw c.fetched.ensures.value (fetched_below w sound bounded small);
-      booked = c.fetched.ensures.booked;
+      fetched = rw (c.counts-counted.ensures.value, entries, listed) (fetched_most w sound bounded);
+      below = rw c.counts-counted.ensures.value (fetched_below w sound bounded small);
+      booked = rw c.counts-counted.ensures.value at c.counts-counted.ensures.booked;
       entries = omega (arith, entries, w.entries.ok);
       ranges = omega (arith, c.free.ensures.room);
     })

@@ -28,7 +28,7 @@ returns-else-ranges_by-room-clause-read g c =
     let whole : location_fault w.meter.source.size w.current ≡ None = search rules in
     let inside = listed-inside w.meter.source.size w.current kind whole known in
     record {
-      sound = IsSound-after _ w _ c.requires.sound c.head_at.ensures.books.fetches (search rules)
+      sound = IsSound-after _ w _ c.requires.sound c.head_at.ensures.reads.books.fetches (search rules)
           (record { begun = begun; known = known; within = omega arith; inside = inside; fits = of.head.fits; ranges = of.head.ranges; bound = omega (arith, base, c.from.type_inv) })
           (λ file content memory. omega (arith, base, of.base file content memory))
           (λ end. cc) (λ file good. refl);
@@ -36,9 +36,9 @@ returns-else-ranges_by-room-clause-read g c =
       left = λ file content. rw c.requires.head (sym (body-shaped file _ (w.next - 1) w.current kind (rw (rw content at c.requires.sound.sized) at whole) known c.in-Ok.head.shape (of.shape file content)));
       stage = tt;
       falls = rw c.requires.head (omega (arith, of.head.few));
-      books = rw (head_of-is w.meter.source.size w.current kind known inside) c.head_at.ensures.books;
+      books = rw (head_of-is w.meter.source.size w.current kind known inside) c.head_at.ensures.reads.books;
       paid = λ allowed before paid.
-          paid_headed allowed before (head_spent at.size kind) w _ paid c.head_at.ensures.books (search rules) c.head_at.ensures.books.fetches.same_size
+          paid_headed allowed before (head_spent at.size kind) w _ paid c.head_at.ensures.reads.books (search rules) c.head_at.ensures.reads.books.fetches.same_size
           (rw (c.requires.head, entry_cost-listed w.meter.source.size w.current kind known inside) (head_paid at.size kind c.in-Ok.head.shape of.head.fits of.head.behind))
           (rw c.requires.head (omega (arith, of.head.few)));
     }
@@ -69,11 +69,11 @@ returns-then-ranges_by-room-clause-answered g c =
           (unknown w.meter.source.store.content (never g c))
           (ranged _ kind c.in-Ok.head.shape.count c.args.room known (omega (arith, c.ranges_by.ensures, c.if-ranges_by-room.true)));
       number = omega (arith, told.ensures.entry, begun);
-      named = source_reached told.result.kind w.meter c.head_at.new.meter (rw (told.ensures.kind, is) tt) (rw c.head_at.ensures.books.same_names (omega arith)) (rw c.head_at.ensures.books.same_names (omega arith));
+      named = source_reached told.result.kind w.meter c.head_at.new.meter (rw (told.ensures.kind, is) tt) (rw c.head_at.ensures.reads.books.same_names (omega arith)) (rw c.head_at.ensures.reads.books.same_names (omega arith));
     })
-    c.head_at.ensures.books.fetches
+    c.head_at.ensures.reads.books.fetches
     (rw (c.requires.head, head_of-is w.meter.source.size w.current kind known inside) (omega arith))
-    (Spends-booked _ _ _ w.meter c.head_at.new.meter c.head_at.ensures.books)
+    (Spends-booked _ _ _ w.meter c.head_at.new.meter c.head_at.ensures.reads.books)
     (rw (c.requires.head, entry_cost-listed w.meter.source.size w.current kind known inside) (spent_within w.current.location.size kind))
     (λ file content. absurd (never g c file content))
     (λ file good of. never g c file good.known))
@@ -92,16 +92,16 @@ returns-in-Err-clause-answered g c =
     (answered_fault _ (head_spent w.current.location.size kind) w _ told.result c.requires.sound begun (rw c.requires.head refl) (rw c.requires.head (omega arith))
     (search rules) refl
     (record {
-      told = told_in_caused w.current c.in-Err.fault told.result w.meter.source c.head_at.new.meter.source of.caused told.ensures.kind told.ensures.place told.ensures.of_store;
+      told = told_in_caused w.current c.in-Err.fault told.result w.meter.source c.head_at.new.meter.source of.reads.caused told.ensures.kind told.ensures.place told.ensures.of_store;
       number = omega (arith, told.ensures.entry, begun);
-      named = rw told.ensures.kind of.at_fault;
+      named = rw told.ensures.kind of.reads.at_fault;
     })
-    c.head_at.ensures.books.fetches
+    c.head_at.ensures.reads.books.fetches
     (rw (c.requires.head, head_of-is w.meter.source.size w.current kind known inside) (omega arith))
-    (Spends-booked _ _ _ w.meter c.head_at.new.meter c.head_at.ensures.books)
+    (Spends-booked _ _ _ w.meter c.head_at.new.meter c.head_at.ensures.reads.books)
     (rw (c.requires.head, entry_cost-listed w.meter.source.size w.current kind known inside) (spent_within w.current.location.size kind))
     (λ file content not.
     let other : IsOfSource c.in-Err.fault.kind → ⊥ = λ is. not (rw (sym told.ensures.kind) at is) in
     rw (c.requires.head, told.ensures.of_file other)
     (body-faulted file _ (w.next - 1) w.current kind (rw (rw content at c.requires.sound.sized) at whole) known c.in-Err.fault (of.shape file content other)))
-    (λ file good. not_of_source told.result.kind (ap source_of told.ensures.kind ∙ of.caused.caused.good file good)))
+    (λ file good. not_of_source told.result.kind (ap source_of told.ensures.kind ∙ of.reads.caused.caused.good file good)))
