@@ -1,7 +1,5 @@
 -- The bytes that are listed of a directory, entry by entry, and the heads that are fetched twice.
-use Rattle.std.proofs.Common.{◌≡◌, ◌≤◌, ◌<◌, ◌+◌, ◌*◌, ◌-◌, ◌∙◌, ℕ, suc, zero, List, [], ◌∷◌, true, false, arith, refl, sym, ap, length, drop, get_or, add-one, drop-cons}
-use Rattle.std.proofs.lemmas.Grind.{common_steps}
-use Rattle.std.proofs.lemmas.List.Sums.{sum_by-cons}
+use Rattle.std.proofs.Common.{◌≡◌, ◌<◌, ◌+◌, ℕ, List, true, false, arith, refl, length, drop, get_or, add-one, drop-cons}
 use Rattle.mdmp_wire.specs.declared.entry.Entry.{Entry}
 use Rattle.mdmp_lister.specs.declared.choice.Choice.{Choice}
 use Rattle.mdmp_lister.specs.Format.Listing.{is_chosen}

@@ -1,5 +1,5 @@
 -- What a lister tells of itself, and its bounds.
-use Rattle.std.proofs.Common.{◌≡◌, ◌≤◌, ◌<◌, ◌+◌, ◌*◌, ◌^◌, ◌-◌, ◌∙◌, ℕ, suc, zero, List, [], ◌∷◌, Bool, true, false, Option, Some, None, if◌then◌else◌, arith, refl, sym, ap, length, get_or, vec_len}
+use Rattle.std.proofs.Common.{◌≡◌, ◌≤◌, ◌<◌, ◌+◌, ◌*◌, ◌^◌, ◌-◌, ◌∙◌, ℕ, suc, List, [], ◌∷◌, Bool, true, false, if◌then◌else◌, arith, refl, sym, ap, length, get_or, vec_len}
 use Rattle.std.specs.Prelude.{sum}
 use Rattle.std.proofs.Math.Nat.{mul-le-mul}
 use Rattle.std.proofs.lemmas.List.Sums.{sum_by-cons}
@@ -9,7 +9,7 @@ use Rattle.mdmp_lister.specs.declared.walk.Walk.{Walk}
 use Rattle.mdmp_lister.specs.Format.Bounds.{fetch_bound}
 use Rattle.mdmp_lister.specs.Format.Numbers.{is_listed, listed, listed_bytes, sizes_of}
 use Rattle.mdmp_lister.specs.Format.Directory.{IsDirectory}
-use Rattle.mdmp_lister.specs.Format.Listing.{Numbered, entries_from, entry_count, entry_of, is_chosen, only_chosen}
+use Rattle.mdmp_lister.specs.Format.Listing.{Numbered, entries_from, entry_of, is_chosen, only_chosen}
 use Rattle.mdmp_lister.specs.Walk.Paying.{IsBounded, cost_of, entry_cost}
 use Rattle.mdmp_lister.specs.Walk.{IsSound}
 use Rattle.mdmp_lister.proofs.Heads.{heads_few}

@@ -1,9 +1,13 @@
 -- What is read of the dumped process's memory. A cell is the byte of an address, or none where no range holds the
 -- address.
-use Rattle.std.specs.Prelude.{◌≡◌, ◌+◌, ℕ, Bool, if◌then◌else◌, List, Option, Some, None, is_some, length, map, unwrap_or}
+use Rattle.std.specs.Prelude.{◌≡◌, ◌+◌, ℕ, Bool, if◌then◌else◌, List, Option, Some, None, is_some, length, map, unwrap_or, Result, OnOk}
 use Rattle.std.specs.List.{range_with_len, zip}
 use Rattle.mdmp_map.specs.declared.range.Range.{Range}
 use Rattle.mdmp_map.specs.Ranges.{byte_at, first_range}
+use Rattle.mdmp_source.specs.Source.{fault_of}
+use Rattle.mdmp_source.specs.declared.fault.SourceFault.{SourceFault}
+use Rattle.mdmp_lister.specs.Fault.{IsCaused}
+use Rattle.mdmp_lister.specs.Meter.{BooksAside, MeterState}
 
 -- whether a range holds the address
 abbrev pub is_held : List Range → ℕ → Bool
@@ -33,3 +37,9 @@ pub record ReadsCells (content : Option (List ℕ)) (ranges : List Range) (addre
   pub zeros : bytes ≡ map (λ c. unwrap_or c 0) (cells bytes known)
   -- one that is known is the file's, where its content is known
   pub of_file : (F : List ℕ) → content ≡ Some F → cells bytes known ≡ cells_at F ranges address (length bytes)
+
+-- the memory from this address on was read with this answer, by fetches of a byte each, aside from the listing
+pub record ReadsAddresses (ranges : List Range) (address : ℕ) (result : Result (Unit {0}) SourceFault) (bytes : List ℕ) (known : List Bool) (old new : MeterState) : Type 0 where
+  pub cells : OnOk result (ReadsCells old.source.store.content ranges address bytes known)
+  pub books : BooksAside (length bytes) old new
+  pub caused : IsCaused (fault_of result) old.source new.source

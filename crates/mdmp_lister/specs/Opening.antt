@@ -1,5 +1,5 @@
 -- What an opening answers.
-use Rattle.std.specs.Prelude.{◌≡◌, ◌≤◌, ◌<◌, false, ℕ, ◌+◌, ◌*◌, List, length, Option, Some, None, Result, Ok, Err, IfErr, IfOk}
+use Rattle.std.specs.Prelude.{◌≡◌, ◌≤◌, ◌<◌, false, ℕ, ◌+◌, ◌*◌, List, length, Option, Some, None, Result, Ok, Err, IfErr, IfOk, IfSome}
 use Rattle.mdmp_source.specs.Count.{raised}
 use Rattle.mdmp_source.specs.Source.{SourceState, FailsOnce, FetchesAtMost, IsTold}
 use Rattle.mdmp_source.specs.Store.{IsGood, IsSizeOf}
@@ -7,16 +7,16 @@ use Rattle.mdmp_source.specs.declared.fault.SourceFault.{SourceFault}
 use Rattle.mdmp_wire.specs.declared.entry.Entry.{Entry}
 use Rattle.mdmp_wire.specs.declared.header.Header.{Header}
 use Rattle.mdmp_source.specs.Range.{IsInside, is_inside}
-use Rattle.mdmp_wire.specs.declared.header_fault.HeaderFault.TheVariants as header
 use Rattle.mdmp_wire.specs.Header.{header_at}
 use Rattle.mdmp_lister.specs.declared.choice.Choice.{Choice}
 use Rattle.mdmp_lister.specs.declared.fault.OpenFault.{OpenFault}
 use Rattle.mdmp_lister.specs.declared.fault.OpenFault.TheVariants.{TooShort, BadSignature, BadVersion, DirectoryOutside, TooManyRanges, Source, Memory}
-use Rattle.mdmp_lister.specs.Format.Directory.{AreFirst}
+use Rattle.mdmp_lister.specs.Format.Directory.{AreFirst, IsDirectory, IsFirstChosen}
 use Rattle.mdmp_lister.specs.Heading.{heads_ahead}
 use Rattle.mdmp_lister.specs.Format.Listing.{entry_count}
 use Rattle.mdmp_lister.specs.Fault.{IsCaused, IsSteady}
 use Rattle.mdmp_lister.specs.Meter.{Books, MeterState}
+use Rattle.mdmp_lister.specs.Walk.Paying.{CostsFrom}
 use Rattle.mdmp_lister.specs.Format.Refusal.{most_ranges, directory_refusal, opening_fault}
 
 -- ---- what an opening answers
@@ -118,3 +118,12 @@ pub record IsRefused (choice : Choice) (old : SourceState) (fault : OpenFault) (
   pub memory : fault ≡ Memory → FetchesAtMost 32 old new
   pub cause : IsUnreadFor fault old new
   pub good : (file : List ℕ) → IsGood old.store file → IsUnread fault → ⊥
+
+-- ---- the next chosen entry
+
+-- this is the number of the first chosen entry from number `from` on, or there is none
+pub record IsNextChosen (choice : Choice) (from : ℕ) (entries : List Entry) (result : Option ℕ) : Type 0 where
+  pub within : IfSome result (λ at. (from ≤ at) × (at < length entries))
+  pub first : (file : List ℕ) → IsDirectory file entries → IsFirstChosen file choice from result
+  -- what it and those behind it cost is no more than what the entries from there on do
+  pub costs : (size : ℕ) → CostsFrom choice size from result entries

@@ -1,11 +1,9 @@
 //! What is read of the dumped process's memory.
-ghost use Rattle.std.specs.Prelude.{◌≡◌, length, All, IfOk, OnOk, is_some};
-ghost use Rattle.mdmp_source.specs.Source.{fault_of};
+ghost use Rattle.std.specs.Prelude.{◌≡◌, length, All, IfOk, is_some};
 ghost use Rattle.mdmp_map.specs.Ranges.{IsWithin, byte_at};
-ghost use Rattle.mdmp_lister.specs.Addressing.{ReadsCells, is_held};
+ghost use Rattle.mdmp_lister.specs.Addressing.{ReadsAddresses, is_held};
 ghost use Rattle.mdmp_lister.specs.Fetching.{Reads};
 ghost use Rattle.mdmp_lister.specs.Meter.{BooksAside};
-ghost use Rattle.mdmp_lister.specs.Fault.{IsCaused};
 
 use crate::meter::Meter;
 use mdmp_map::AddressMap;
@@ -50,9 +48,7 @@ pub(crate) fn read_addresses<S: Store, A: Allocator>(
 ) -> Result<(), SourceFault>
     requires same { length out.old ≡ length known.old }
     requires inside { All (IsWithin meter.old.source.size) map.now.ranges }
-    ensures cells { OnOk result (ReadsCells meter.old.source.store.content map.now.ranges address out.new known.new) }
-    ensures books { BooksAside (length out.new) meter.old meter.new }
-    ensures caused { IsCaused (fault_of result) meter.old.source meter.new.source }
+    ensures { ReadsAddresses map.now.ranges address result out.new known.new meter.old meter.new }
 {
     for index in 0..out.len() {
         let byte = read_byte(meter, map, u128::from(address) + index as u128)?;

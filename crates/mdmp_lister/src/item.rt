@@ -159,12 +159,11 @@ pub struct RangeItem {
 impl RangeItem {
     ghost use Rattle.std.specs.Prelude.{◌≡◌};
     ghost use Rattle.mdmp_lister.specs.Format.Item.{range64_item, range_item};
-    ghost use Rattle.mdmp_lister.specs.Format.Ranges.{IsRangeIn};
+    ghost use Rattle.mdmp_lister.specs.Format.Ranges.{IsRangeItem};
 
     /// The item of a range that says where its bytes stand, in a file of `size` bytes.
     pub(crate) fn new(entry: u32, index: u64, fields: Descriptor, size: u64) -> Self
-        ensures item { result ≡ range_item size entry index fields }
-        ensures inside { IsRangeIn size result }
+        ensures { IsRangeItem size (range_item size entry index fields) result }
     {
         RangeItem {
             entry,
@@ -178,8 +177,7 @@ impl RangeItem {
 
     /// The item of a range whose bytes stand at an offset, in a file of `size` bytes.
     pub(crate) fn at(entry: u32, index: u64, fields: Descriptor64, offset: u128, size: u64) -> Self
-        ensures item { result ≡ range64_item size entry index fields offset }
-        ensures inside { IsRangeIn size result }
+        ensures { IsRangeItem size (range64_item size entry index fields offset) result }
     {
         RangeItem {
             entry,

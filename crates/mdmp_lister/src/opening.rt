@@ -1,12 +1,11 @@
 //! The header and the directory of a file, read through a source.
-ghost use Rattle.std.specs.Prelude.{◌≡◌, ◌≤◌, ◌<◌, ◌*◌, ℕ, List, [], Some, length, OnOk, IfSome, vec_len, vec_capacity};
+ghost use Rattle.std.specs.Prelude.{◌≡◌, ◌≤◌, ◌*◌, [], length, OnOk, vec_len, vec_capacity};
 ghost use Rattle.mdmp_source.specs.Range.{IsInside};
 ghost use Rattle.mdmp_wire.specs.Header.{header_at};
-ghost use Rattle.mdmp_lister.specs.Format.Directory.{IsDirectory, IsFirstChosen};
+ghost use Rattle.mdmp_lister.specs.Format.Directory.{IsDirectory};
 ghost use Rattle.mdmp_lister.specs.Fetching.{Reads};
 ghost use Rattle.mdmp_lister.specs.Meter.{Books};
-ghost use Rattle.mdmp_lister.specs.Walk.Paying.{CostsFrom};
-ghost use Rattle.mdmp_lister.specs.Opening.{ReadsHeader};
+ghost use Rattle.mdmp_lister.specs.Opening.{IsNextChosen, ReadsHeader};
 
 use crate::choice::Choice;
 use crate::fault::OpenFault;
@@ -76,9 +75,7 @@ pub(crate) fn read_directory<S: Store, A: Allocator>(
 /// The number of the first chosen entry from `from` on.
 pub(crate) fn next_chosen(entries: &[Entry], from: usize, choice: &Choice) -> Option<usize>
     requires { from ≤ length entries.now }
-    ensures within { IfSome result (λ at. (from ≤ at) × (at < length entries.now)) }
-    ensures first { (file : List ℕ) → IsDirectory file entries.now → IsFirstChosen file choice.now from result }
-    ensures costs { (size : ℕ) → CostsFrom choice.now size from result entries.now }
+    ensures { IsNextChosen choice.now from entries.now result }
 {
     let mut at = from;
     while at < entries.len() {

@@ -1,7 +1,7 @@
 //! Where the records of a stream stand.
 ghost use Rattle.std.specs.Prelude.{◌≡◌, ◌≤◌, ◌+◌, ◌*◌, ◌<◌, None, length, IfOk};
 ghost use Rattle.mdmp_source.specs.Range.{IsInside};
-ghost use Rattle.mdmp_lister.specs.Format.Shape.{FitsIn, IsListIn, counted, location_fault, ranges64, shape_of, single, sized};
+ghost use Rattle.mdmp_lister.specs.Format.Shape.{FitsIn, IsListIn, IsRangeListIn, IsShapedIn, counted, location_fault, ranges64, shape_of, single, sized};
 ghost use Rattle.mdmp_lister.specs.Format.Kind.{record_size};
 
 use crate::fault::{Fault, FaultKind};
@@ -88,8 +88,7 @@ pub(crate) fn single(record_size: u32) -> Shape
 /// The shape of a 64-bit memory list with this head.
 pub(crate) fn ranges64(at: Location, record_size: u32, head: Memory64List) -> Result<Shape, Fault>
     ensures shape { result ≡ ranges64 at.rva at.size record_size head.number_of_memory_ranges }
-    ensures list { IfOk result (IsListIn at.size 16 record_size) }
-    ensures places { IfOk result (λ shape. (shape.first ≡ 16) × (shape.stride ≡ record_size)) }
+    ensures list { IfOk result (IsRangeListIn at.size record_size) }
 {
     let first = Memory64List::SIZE as u64;
     let count = head.number_of_memory_ranges;
@@ -179,8 +178,7 @@ pub fn shape_of(file: &[u8], location: Location, kind: Kind) -> Result<Shape, Fa
 
 /// Where a record stands of a stream that lies inside a file of `size` bytes.
 pub(crate) fn record_at(stream: Location, kind: Kind, shape: Shape, index: u64, size: u64) -> u64
-    requires inside { IsInside stream.rva stream.size size }
-    requires fits { FitsIn stream.size kind shape }
+    requires inside { IsShapedIn size stream kind shape }
     requires left { index < shape.count }
     ensures place { result ≡ stream.rva + shape.first + index * shape.stride }
     ensures room { result + record_size kind ≤ size }

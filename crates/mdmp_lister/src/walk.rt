@@ -1,5 +1,5 @@
 //! The walk over the entries of a file, without its public face.
-ghost use Rattle.std.specs.Prelude.{◌≡◌, ◌+◌, ◌^◌, ◌≤◌, ◌<◌, ◌-◌, ℕ, None, Some, IfOk, IfErr, IsTrue, false, OnOk, vec_len};
+ghost use Rattle.std.specs.Prelude.{◌≡◌, ◌+◌, ◌^◌, ◌≤◌, ◌<◌, ◌-◌, IfOk, IfErr, MatchResult, vec_len};
 ghost use Rattle.mdmp_lister.specs.Opening.{IsRefused};
 ghost use Rattle.mdmp_lister.specs.Stage.{fault_stage};
 ghost use Rattle.mdmp_lister.specs.Step.{IsItemOf, IsNameHeld, bytes_behind};
@@ -172,8 +172,7 @@ impl<S: Store + Drop, A: Allocator + Copy> Walk<S, A> {
         requires sound { IsSound self.old }
         requires room { HasRoom room 0 self.old }
         requires head { self.old.stage ≡ Stage.Head }
-        ensures read { OnOk result (HeadRead self.old self.new) }
-        ensures answered { IfErr result (λ fault. Answered self.old (Err fault) self.new) }
+        ensures read { MatchResult result (λ _. HeadRead self.old self.new) (λ fault. Answered self.old (Err fault) self.new) }
         ensures room { HasRoom room 0 self.new }
     {
         let number = (self.next - 1) as u32;

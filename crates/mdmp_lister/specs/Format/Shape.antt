@@ -1,6 +1,7 @@
 -- Where the records of a stream stand.
-use Rattle.std.specs.Prelude.{◌≤◌, ◌<◌, ℕ, ◌+◌, ◌*◌, List, length, Option, Some, None, Result, Ok, Err, ◌==◌, ◌||◌, ◌&&◌, nat_lt, if◌then◌else◌}
-use Rattle.mdmp_source.specs.Range.{is_inside}
+use Rattle.std.specs.Prelude.{◌≡◌, ◌≤◌, ◌<◌, ℕ, ◌+◌, ◌*◌, List, length, Option, Some, None, Result, Ok, Err, ◌==◌, ◌||◌, ◌&&◌, nat_lt, if◌then◌else◌}
+use Rattle.mdmp_source.specs.Range.{IsInside, is_inside}
+use Rattle.mdmp_source.specs.declared.location.Location.{Location}
 use Rattle.mdmp_wire.specs.declared.entry.Entry.{Entry}
 use Rattle.mdmp_wire.specs.Number.{number_at}
 use Rattle.mdmp_wire.specs.Memory64List.{memory64_list_at}
@@ -89,6 +90,17 @@ pub record IsListIn (size head record_size : ℕ) (shape : Shape) : Type 0 where
   pub fits : shape.first + shape.count * shape.stride ≤ size
   pub stride : 0 < shape.count → record_size ≤ shape.stride
   pub behind : head ≤ shape.first
+
+-- those of a 64-bit memory list stand right behind its head, and each right behind the one before it
+pub record IsRangeListIn (size record_size : ℕ) (shape : Shape) : Type 0 where
+  pub list : IsListIn size 16 record_size shape
+  pub first : shape.first ≡ 16
+  pub stride : shape.stride ≡ record_size
+
+-- a stream of this shape lies inside a file of z bytes
+pub record IsShapedIn (z : ℕ) (stream : Location) (kind : Kind) (shape : Shape) : Type 0 where
+  pub inside : IsInside stream.rva stream.size z
+  pub fits : FitsIn stream.size kind shape
 
 -- ---- entries of any type
 

@@ -1,4 +1,4 @@
-use Rattle.std.proofs.Common.{◌≡◌, ◌≤◌, ◌+◌, ◌∙◌, true, false, arith, sym, get_or, length}
+use Rattle.std.proofs.Common.{◌≡◌, ◌≤◌, ◌∙◌, true, false, arith, sym, get_or, length}
 use Rattle.mdmp_wire.specs.declared.entry.Entry.{Entry}
 use Rattle.mdmp_lister.specs.Format.Listing.{is_chosen}
 use Rattle.mdmp_lister.proofs.Paying.{cost_of-end}

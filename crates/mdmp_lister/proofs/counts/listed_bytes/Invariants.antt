@@ -1,4 +1,4 @@
-use Rattle.std.proofs.Common.{◌≡◌, ◌≤◌, ◌+◌, ◌*◌, ◌^◌, ℕ, drop}
+use Rattle.std.proofs.Common.{◌≡◌, ◌≤◌, ◌+◌, ◌*◌, ◌^◌, drop}
 use Rattle.mdmp_lister.specs.Walk.Paying.{cost_of}
 use Rattle.mdmp_lister.proofs.counts.listed_bytes.Given as goal
 

@@ -9,24 +9,25 @@ use Rattle.mdmp_lister.proofs.opening.next_chosen.Goals as goal
 abbrev no_entry : Entry
 no_entry = record { stream_type = 0; location = record { size = 0; rva = 0 } }
 
-pub returns-then-has-clause-first : goal.returns-then-has-clause-first
-returns-then-has-clause-first c = λ file dir.
-    let at = c.loop-at.at in
-    let e : Entry = get_or c.args.entries.now at no_entry in
-    let lt : at < entry_count file = omega (arith, dir.count, c.loop-at-test.true) in
-    let same : e ≡ entry_of file at = dir.each at no_entry c.loop-at-test.true in
-    let chosen : true ≡ is_chosen c.args.choice.now (entry_of file at).stream_type = sym c.if-has.true ∙ c.has.ensures ∙ ap (λ (x : Entry). is_chosen c.args.choice.now x.stream_type) same in
-    c.loop-at.invariant.passed file dir ∙ chosen_from-chosen file c.args.choice.now at (entry_of file at) lt refl chosen
-
-pub returns-then-has-clause-costs : goal.returns-then-has-clause-costs
-returns-then-has-clause-costs c = λ size d.
-    let at = c.loop-at.at in
-    let chosen : is_chosen c.args.choice.now (get_or c.args.entries.now at no_entry).stream_type ≡ true = sym (sym c.if-has.true ∙ c.has.ensures) in
-    omega (
-      arith,
-      c.loop-at.invariant.costs size,
-      cost_of-chosen c.args.choice.now size at c.args.entries.now d c.loop-at-test.true (rw (get_or_default c.args.entries.now at d no_entry c.loop-at-test.true) chosen),
-    )
+pub returns-then-has : goal.returns-then-has
+returns-then-has c = record {
+  within = (omega (arith, c.loop-at.invariant.risen), omega (arith, c.loop-at-test.true));
+  first = λ file dir.
+      let at = c.loop-at.at in
+      let e : Entry = get_or c.args.entries.now at no_entry in
+      let lt : at < entry_count file = omega (arith, dir.count, c.loop-at-test.true) in
+      let same : e ≡ entry_of file at = dir.each at no_entry c.loop-at-test.true in
+      let chosen : true ≡ is_chosen c.args.choice.now (entry_of file at).stream_type = sym c.if-has.true ∙ c.has.ensures ∙ ap (λ (x : Entry). is_chosen c.args.choice.now x.stream_type) same in
+      c.loop-at.invariant.passed file dir ∙ chosen_from-chosen file c.args.choice.now at (entry_of file at) lt refl chosen;
+  costs = λ size d.
+      let at = c.loop-at.at in
+      let chosen : is_chosen c.args.choice.now (get_or c.args.entries.now at no_entry).stream_type ≡ true = sym (sym c.if-has.true ∙ c.has.ensures) in
+      omega (
+        arith,
+        c.loop-at.invariant.costs size,
+        cost_of-chosen c.args.choice.now size at c.args.entries.now d c.loop-at-test.true (rw (get_or_default c.args.entries.now at d no_entry c.loop-at-test.true) chosen),
+      );
+}
 
 pub loop-at-preserved : goal.loop-at-preserved
 loop-at-preserved c = record {
@@ -41,7 +42,11 @@ loop-at-preserved c = record {
   costs = λ size. omega (arith, c.loop-at.invariant.costs size, cost_of-passed c.args.choice.now size c.loop-at.at c.args.entries.now no_entry c.loop-at-test.true);
 }
 
-pub returns-clause-first : goal.returns-clause-first
-returns-clause-first c = λ file dir.
-    let over : entry_count file ≤ c.loop-at.at = omega (arith, dir.count, c.loop-at-test.false) in
-    c.loop-at.invariant.passed file dir ∙ chosen_from-end file c.args.choice.now c.loop-at.at over
+pub returns : goal.returns
+returns c = record {
+  within = tt;
+  first = λ file dir.
+      let over : entry_count file ≤ c.loop-at.at = omega (arith, dir.count, c.loop-at-test.false) in
+      c.loop-at.invariant.passed file dir ∙ chosen_from-end file c.args.choice.now c.loop-at.at over;
+  costs = λ size. tt;
+}

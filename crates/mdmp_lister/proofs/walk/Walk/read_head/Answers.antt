@@ -51,8 +51,8 @@ never g c file known =
     let more = c.if-ranges_by-room.true in
     absurd (omega (arith, counted, more, c.ranges_by.ensures))
 
-pub returns-then-ranges_by-room-clause-answered : goal.returns-then-ranges_by-room-clause-answered
-returns-then-ranges_by-room-clause-answered g c =
+pub returns-then-ranges_by-room-clause-read : goal.returns-then-ranges_by-room-clause-read
+returns-then-ranges_by-room-clause-read g c =
     let w = c.args.self.now in
     let told = c.of_entry-then-ranges_by-room in
     let is = rw c.from-at.ensures at c.from-changed.ensures in
@@ -78,8 +78,8 @@ returns-then-ranges_by-room-clause-answered g c =
     (λ file content. absurd (never g c file content))
     (λ file good of. never g c file good.known))
 
-pub returns-in-Err-clause-answered : goal.returns-in-Err-clause-answered
-returns-in-Err-clause-answered g c =
+pub returns-in-Err-clause-read : goal.returns-in-Err-clause-read
+returns-in-Err-clause-read g c =
     let w = c.args.self.now in
     let told = c.of_entry-in-Err in
     let of = c.in-Err.ensures in
