@@ -45,50 +45,51 @@ pub(crate) fn head_at<S: Store>(
     ensures reads { ReadsHead at.size kind result meter.old meter.new }
 {
     let form = kind.form();
-    let record_size = kind.record_size();
-    if at.size < form.head_size(record_size) {
+    let size = kind.record_size();
+    let least = form.head_cost();
+    if at.size < form.head_size(size) {
         return too_short(at);
     }
     let start = u64::from(at.rva);
     match form {
         Form::Counted => {
             let count = read(meter, window, start)?;
-            let shape = counted(at, record_size, count)?;
+            let shape = counted(at, size, count)?;
             Ok(Head { shape, base: 0 })
         }
-        Form::Single => Ok(Head {
-            shape: single(record_size),
-            base: 0,
-        }),
+        Form::Single => {
+            let shape = single(size);
+            Ok(Head { shape, base: 0 })
+        }
         Form::Ranges64 => {
             let head: Memory64List = read(meter, window, start)?;
-            let shape = ranges64(at, record_size, head)?;
-            Ok(Head {
-                shape,
-                base: head.base_rva,
-            })
+            let shape = ranges64(at, size, head)?;
+            let base = head.base_rva;
+            Ok(Head { shape, base })
         }
         Form::Sized32 => {
             let head: UnloadedList = read(meter, window, start)?;
+            let count = u64::from(head.number_of_entries);
             let shape = sized(
                 at,
-                form.head_cost(),
-                record_size,
+                least,
+                size,
                 head.size_of_header,
                 head.size_of_entry,
-                u64::from(head.number_of_entries),
+                count,
             )?;
             Ok(Head { shape, base: 0 })
         }
         Form::Sized64 => {
             let head: MemoryInfoList = read(meter, window, start)?;
+            let count = head.number_of_entries;
             let shape = sized(
                 at,
-                form.head_cost(),
-                record_size,
+                least,
+                size,
                 head.size_of_header,
                 head.size_of_entry,
-                head.number_of_entries,
+                count,
             )?;
             Ok(Head { shape, base: 0 })
         }

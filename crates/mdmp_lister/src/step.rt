@@ -61,14 +61,8 @@ fn record_item(read: RecordRead, buffer: &[u8], size: u64) -> Item<'_>
     requires { IsHeld (length buffer.now) read.name }
     ensures { IsItemOf size buffer.now (Step.Record read) result }
 {
-    let RecordRead {
-        entry,
-        index,
-        fields,
-        offset,
-        name,
-    } = read;
-    match fields {
+    let (entry, index) = (read.entry, read.index);
+    match read.fields {
         AnyRecord::Thread(fields) => Item::Thread(ThreadItem::new(entry, index, fields, size)),
         AnyRecord::Module(fields) => Item::Module(ModuleItem {
             entry,
@@ -76,7 +70,7 @@ fn record_item(read: RecordRead, buffer: &[u8], size: u64) -> Item<'_>
             fields,
             codeview: fields.cv_record.classify(size),
             misc: fields.misc_record.classify(size),
-            name: lent_name(buffer, name),
+            name: lent_name(buffer, read.name),
         }),
         AnyRecord::Memory(fields) => Item::Range(RangeItem::new(entry, index, fields, size)),
         AnyRecord::Exception(fields) => Item::Exception(ExceptionItem::new(
@@ -86,16 +80,20 @@ fn record_item(read: RecordRead, buffer: &[u8], size: u64) -> Item<'_>
             entry,
             index,
             fields,
-            name: lent_name(buffer, name),
+            name: lent_name(buffer, read.name),
         }),
         AnyRecord::Memory64(fields) => Item::Range(RangeItem::at(
-            entry, index, fields, offset, size,
+            entry,
+            index,
+            fields,
+            read.offset,
+            size,
         )),
         AnyRecord::Unloaded(fields) => Item::Unloaded(UnloadedItem {
             entry,
             index,
             fields,
-            name: lent_name(buffer, name),
+            name: lent_name(buffer, read.name),
         }),
         AnyRecord::MemoryInfo(fields) => Item::MemoryInfo(MemoryInfoItem {
             entry,
