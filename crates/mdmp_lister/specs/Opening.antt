@@ -101,7 +101,7 @@ pub record FitsHeader (old : SourceState) (result : Result Header OpenFault) (ne
   -- a file that is too short is not touched
   pub untouched : (size : ℕ) → result ≡ Err (TooShort size) → new ≡ old
 
--- the header of a file was read, or refused, where the directory does not lie inside the file too
+-- the header of a file was read, or it or the place of the directory was refused
 pub record ReadsHeader (old : MeterState) (result : Result Header OpenFault) (new : MeterState) : Type 0 where
   pub finds : (file : List ℕ) → old.source.store.content ≡ Some file → Finds file result
   pub fits : FitsHeader old.source result new.source
