@@ -5,8 +5,6 @@ use Rattle.std.proofs.lemmas.List.{append_assoc, length-append}
 use Rattle.std.proofs.lemmas.List.Elements.{All-append, All-nil, All-cons, filter_map-append}
 use Rattle.mdmp_source.specs.declared.location.Extent.{Extent}
 use Rattle.mdmp_source.specs.declared.location.Extent.TheVariants.{Inside}
-use Rattle.mdmp_wire.specs.declared.any_record.AnyRecord.{AnyRecord}
-use Rattle.mdmp_wire.specs.declared.any_record.AnyRecord.TheVariants as any
 use Rattle.mdmp_map.specs.declared.range.Range.{Range}
 use Rattle.mdmp_map.specs.Map.{MapState, free_of}
 use Rattle.mdmp_map.specs.Ranges.{IsWithin}
@@ -15,23 +13,19 @@ use Rattle.mdmp_lister.specs.declared.item.RangeItem.{RangeItem}
 use Rattle.mdmp_lister.specs.declared.step.Step.{Step}
 use Rattle.mdmp_lister.specs.declared.step.Step.TheVariants as step
 use Rattle.mdmp_lister.specs.declared.walk.Walk.{Walk}
-use Rattle.mdmp_lister.specs.Format.Item.{kind_told, plain, range64_item, range_item}
+use Rattle.mdmp_lister.specs.Format.Item.{plain}
 use Rattle.mdmp_lister.specs.Walk.Paying.{IsBounded}
 use Rattle.mdmp_lister.specs.Walk.Mapping.{IsMapped}
-use Rattle.mdmp_lister.specs.Walk.Owing.{HasRoom, count_told, ranges_by}
-use Rattle.mdmp_lister.specs.Format.Ranges.{IsPlacedIn, IsRangeIn, range_in, range_kept, range_of, ranges_of}
+use Rattle.mdmp_lister.specs.Walk.Owing.{HasRoom, count_told}
+use Rattle.mdmp_lister.specs.Format.Ranges.{IsPlacedIn, IsRangeIn, range_in, range_of, ranges_of}
 use Rattle.mdmp_lister.specs.Step.{name_read, step_item}
 use Rattle.mdmp_lister.specs.Format.Summary.{Summary, summary_of}
 use Rattle.mdmp_lister.specs.Format.Numbers.{range_count}
 use Rattle.mdmp_source.specs.Source.{FetchesAtMost}
 use Rattle.mdmp_lister.specs.Walk.{IsSound, SameRoom}
-use Rattle.mdmp_lister.proofs.Summary.{range_told, summary_of-item_of, summary_of-plain}
+use Rattle.mdmp_lister.proofs.Summary.{given, ranges_of-told, summary_of-item_of, summary_of-plain}
 
 -- ---- the ranges of an item
-
--- those of its summary
-abbrev given : Option RangeItem → List Range
-given range = filter_map range_kept (range ∷ [])
 
 ranges_of-plain : (x : Item) → ranges_of (plain x ∷ []) ≡ ranges_of (x ∷ [])
 ranges_of-plain x = ap (λ (s : Summary). given s.range) (summary_of-plain x)
@@ -39,16 +33,6 @@ ranges_of-plain x = ap (λ (s : Summary). given s.range) (summary_of-plain x)
 pub ranges_of-more : (old mid new : List Range) (xs : List Item) (x : Item) → mid ≡ old ++ ranges_of xs → new ≡ mid ++ ranges_of (x ∷ []) → new ≡ old ++ ranges_of (xs ++ plain x ∷ [])
 ranges_of-more old mid new xs x so_far next =
     next ∙ rw (so_far, filter_map-append range_of xs (plain x ∷ []), ranges_of-plain x) (append_assoc old (ranges_of xs) (ranges_of (x ∷ [])))
-
--- at most one is given, and only where a record of its kind tells one
-one_given : (r : RangeItem) (e : Extent) → length (filter_map (range_in r) (e ∷ [])) ≤ 1
-one_given r Inside = omega arith
-one_given r _ = omega arith
-
-ranges_of-told : (z e k offset : ℕ) (fields : AnyRecord) → length (given (range_told z e k offset fields)) ≤ ranges_by (kind_told fields) 1
-ranges_of-told z e k offset (any.Memory fields) = let r = range_item z e k fields in one_given r r.extent
-ranges_of-told z e k offset (any.Memory64 fields) = let r = range64_item z e k fields offset in one_given r r.extent
-ranges_of-told z e k offset _ = omega arith
 
 ranges_of-step : (z : ℕ) (buffer : List ℕ) (s : Step) → length (ranges_of (step_item z buffer s ∷ [])) ≤ count_told s
 ranges_of-step z buffer (step.Stream x) = omega arith

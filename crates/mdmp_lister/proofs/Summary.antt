@@ -1,5 +1,9 @@
--- The summary of an item that is made of a record, and of one whose name is lent.
-use Rattle.std.proofs.Common.{◌≡◌, ◌∙◌, ℕ, List, Option, Some, None, refl, ap, sym}
+-- The summary of an item that is made of a record, and of one whose name is lent. The lemmas that tell the kinds apart stand here.
+use Rattle.std.proofs.Common.{◌≡◌, ◌∙◌, ◌≤◌, ◌∷◌, [], arith, ℕ, List, length, Option, Some, None, refl, ap, sym}
+use Rattle.std.specs.Prelude.{filter_map}
+use Rattle.mdmp_source.specs.declared.location.Extent.{Extent}
+use Rattle.mdmp_source.specs.declared.location.Extent.TheVariants.{Inside}
+use Rattle.mdmp_map.specs.declared.range.Range.{Range}
 use Rattle.mdmp_wire.specs.AnyRecord.{name_rva}
 use Rattle.mdmp_wire.specs.declared.any_record.AnyRecord.{AnyRecord}
 use Rattle.mdmp_wire.specs.declared.any_record.AnyRecord.TheVariants as any
@@ -15,6 +19,8 @@ use Rattle.mdmp_lister.specs.declared.step.Step.{Step}
 use Rattle.mdmp_lister.specs.declared.step.Step.TheVariants as step
 use Rattle.mdmp_lister.specs.Format.Item.{item_of, kind_told, plain, range64_item, range_item}
 use Rattle.mdmp_lister.specs.Format.Name.{plain_name}
+use Rattle.mdmp_lister.specs.Format.Ranges.{range_in, range_kept}
+use Rattle.mdmp_lister.specs.Walk.Owing.{ranges_by}
 use Rattle.mdmp_lister.specs.Step.{name_read, IsNameOf, step_item, stream_told}
 use Rattle.mdmp_lister.specs.Format.Summary.{Summary, summary_by, summary_of}
 
@@ -39,6 +45,22 @@ summary_of-item_of z e k offset _ name = refl
 pub summary_of-plain : (x : Item) → summary_of (plain x) ≡ record (summary_of x) { name = plain_name (summary_of x).name }
 summary_of-plain (items.Stream x) = refl
 summary_of-plain _ = refl
+
+-- ---- the ranges of an item
+
+-- those of its summary
+abbrev pub given : Option RangeItem → List Range
+given range = filter_map range_kept (range ∷ [])
+
+-- at most one is given, and only where a record of its kind tells one
+one_given : (r : RangeItem) (e : Extent) → length (filter_map (range_in r) (e ∷ [])) ≤ 1
+one_given r Inside = omega arith
+one_given r _ = omega arith
+
+pub ranges_of-told : (z e k offset : ℕ) (fields : AnyRecord) → length (given (range_told z e k offset fields)) ≤ ranges_by (kind_told fields) 1
+ranges_of-told z e k offset (any.Memory fields) = let r = range_item z e k fields in one_given r r.extent
+ranges_of-told z e k offset (any.Memory64 fields) = let r = range64_item z e k fields offset in one_given r r.extent
+ranges_of-told z e k offset _ = omega arith
 
 -- ---- an item whose name is lent
 
