@@ -1,4 +1,4 @@
--- The summary of an item that is made of a record, and of one whose name is lent. The lemmas that tell the kinds apart stand here.
+-- The summary of an item that is made of a record, and of one whose name is lent. Lemmas by kinds, of names and of ranges, stand here.
 use Rattle.std.proofs.Common.{◌≡◌, ◌∙◌, ◌≤◌, ◌∷◌, [], arith, ℕ, List, length, Option, Some, None, refl, ap, sym}
 use Rattle.std.specs.Prelude.{filter_map}
 use Rattle.mdmp_source.specs.declared.location.Extent.{Extent}
