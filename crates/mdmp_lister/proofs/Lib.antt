@@ -7,6 +7,7 @@ pub mod Costs
 pub mod Directory
 pub mod Ending
 pub mod Entries
+pub mod EntrySteps
 pub mod Fetches
 pub mod Files
 pub mod Handing

@@ -1,0 +1,133 @@
+-- What requests leave of a walk within an entry: behind its head, behind each record, and at their faults.
+use Rattle.std.proofs.Common.{◌≡◌, ◌<◌, ◌+◌, ◌-◌, ◌*◌, ◌^◌, ◌∙◌, ℕ, List, None, Some, Ok, Err, arith, ap, refl, sym, vec_len}
+use Rattle.mdmp_source.specs.Store.{IsGood}
+use Rattle.mdmp_lister.specs.declared.fault.Fault.{Fault}
+use Rattle.mdmp_lister.specs.declared.fault.ListFault.{ListFault}
+use Rattle.mdmp_lister.specs.declared.heading.Head.{Head}
+use Rattle.mdmp_lister.specs.declared.kind.Kind.{Kind}
+use Rattle.mdmp_lister.specs.declared.kind.Kind.TheVariants.{Memory64}
+use Rattle.mdmp_lister.specs.declared.shape.Shape.{Shape}
+use Rattle.mdmp_lister.specs.declared.stage.Stage.TheVariants as stage
+use Rattle.mdmp_lister.specs.declared.step.Step.{Step}
+use Rattle.mdmp_lister.specs.declared.walk.Walk.{Walk}
+use Rattle.mdmp_lister.specs.Fault.{IsListFaultOf, IsOfSource, source_of}
+use Rattle.mdmp_lister.specs.Fetching.{IsHeadOf, ReadsRecord, TellsRecord}
+use Rattle.mdmp_lister.specs.Format.Item.{item_at, range_offset}
+use Rattle.mdmp_lister.specs.Format.Kind.{kind_of, record_size}
+use Rattle.mdmp_lister.specs.Format.Listing.{body_of, only_fault}
+use Rattle.mdmp_lister.specs.Format.Shape.{location_fault, shape_of}
+use Rattle.mdmp_lister.specs.Heading.{head_spent}
+use Rattle.mdmp_lister.specs.Meter.{Books}
+use Rattle.mdmp_lister.specs.Stage.{fault_stage}
+use Rattle.mdmp_lister.specs.Step.{bytes_behind, step_item}
+use Rattle.mdmp_lister.specs.Walk.{IsReading, IsSound, SameEntry}
+use Rattle.mdmp_lister.specs.Walk.Requests.{Answered, FaultMet, HeadRead}
+use Rattle.mdmp_lister.proofs.Bodies.{body-shaped, records-faulted, records-given}
+use Rattle.mdmp_lister.proofs.Costs.{fault_cost-told}
+use Rattle.mdmp_lister.proofs.Fetches.{not_of_source, told_in_caused}
+use Rattle.mdmp_lister.proofs.Heads.{head_of-is, listed-inside}
+use Rattle.mdmp_lister.proofs.Offsets.{range-next}
+use Rattle.mdmp_lister.proofs.Paying.{entry_cost-listed, head_paid, paid_headed, record_less, spent_within}
+use Rattle.mdmp_lister.proofs.Requests.{Spends-booked, answered_fault, answered_step}
+use Rattle.mdmp_lister.proofs.Soundness.{IsSound-after}
+
+-- ---- the head of the current entry, which is of a known kind and lies inside
+
+module _ {S A : Type 0} (old new : Walk S A) (kind : Kind) (at : old.stage ≡ stage.Head) (sound : IsSound old) (same : SameEntry old new)
+    (whole : location_fault old.meter.source.size old.current ≡ None) (known : kind_of old.current.stream_type ≡ Some kind)
+    (books : Books 1 (head_spent old.current.location.size kind) old.meter new.meter) where
+  pub head_read : (head : Head) (offset : ℕ) → new.stage ≡ stage.Records kind head.shape 0 offset → IsHeadOf old.current.location.size kind head → offset < 2 ^ 64
+      → ((file : List ℕ) → old.meter.source.store.content ≡ Some file → kind ≡ Memory64 → offset ≡ range_offset file old.current.location.rva 0)
+      → ((file : List ℕ) → old.meter.source.store.content ≡ Some file → shape_of file old.current.location.rva old.current.location.size kind ≡ Ok head.shape)
+      → HeadRead old new
+  head_read head offset next of small base shape =
+      let z = old.meter.source.size in
+      let e = old.current in
+      let begun : 0 < old.next = rw at at sound.staged in
+      let inside = listed-inside z e kind whole known in
+      record {
+        sound = IsSound-after (head_spent e.location.size kind) old new sound books.fetches same
+            (rw next (record { begun = begun; known = known; within = omega arith; inside = inside; fits = of.fits; ranges = of.ranges; bound = omega (arith, small) }))
+            (λ file content. rw next (base file content))
+            (λ end. absurd (cc))
+            (λ file good. rw next refl);
+        same = same;
+        left = λ file content.
+            let size = rw content at sound.sized in
+            rw (next, at, same.room.name, same.next, same.current) (sym (body-shaped file (vec_len old.name) (old.next - 1) e kind (rw size at whole) known head.shape (shape file content)));
+        stage = rw next tt;
+        falls = rw (same.room.entries, same.next, next, at) (omega (arith, of.few));
+        books = rw (head_of-is z e kind known inside) books;
+        paid = λ allowed before paid.
+            paid_headed allowed before (head_spent e.location.size kind) old new paid books same books.fetches.same_size
+            (rw (next, at, entry_cost-listed z e kind known inside) (head_paid e.location.size kind head.shape of.fits of.behind))
+            (rw (next, at) (omega (arith, of.few)));
+      }
+
+  pub answered_head : (f : ListFault) → new.stage ≡ fault_stage f → FaultMet old f new
+      → ((file : List ℕ) → old.meter.source.store.content ≡ Some file → (IsOfSource f.kind → ⊥) → body_of file (vec_len old.name) (record { number = old.next - 1; entry = old.current }) ≡ only_fault f)
+      → ((file : List ℕ) → IsGood old.meter.source.store file → IsOfSource f.kind → ⊥) → Answered old (Err f) new
+  answered_head f next met left good =
+      let z = old.meter.source.size in
+      let e = old.current in
+      let inside = listed-inside z e kind whole known in
+      answered_fault (head_spent e.location.size kind) (head_spent e.location.size kind) old new f sound (rw at at sound.staged) (rw at refl) (rw at (omega arith)) same next met
+      books.fetches (rw (at, head_of-is z e kind known inside) (omega arith))
+      (Spends-booked 1 (head_spent e.location.size kind) (vec_len old.name) old.meter new.meter books)
+      (rw (at, entry_cost-listed z e kind known inside) (spent_within e.location.size kind))
+      (λ file content not. rw at (left file content not)) good
+
+-- ---- a record of the current entry
+
+module _ {S A : Type 0} (old new : Walk S A) (kind : Kind) (shape : Shape) (k offset place : ℕ) (at : old.stage ≡ stage.Records kind shape k offset) (left : k < shape.count)
+    (sound : IsSound old) (same : SameEntry old new) (stands : place ≡ old.current.location.rva + shape.first + k * shape.stride) where
+  reading : IsReading old.meter.source.size old.next old.current kind shape k offset
+  reading = rw at at sound.staged
+
+  pub answered_record : (step : Step) (next : ℕ) → new.stage ≡ stage.Records kind shape (k + 1) next → next ≡ offset + bytes_behind step → next < offset + 2 ^ 64
+      → ReadsRecord (vec_len old.name) kind (Ok step) old.meter new.meter → TellsRecord (vec_len old.name) kind step
+      → ((file : List ℕ) → old.meter.source.store.content ≡ Some file → (kind ≡ Memory64 → offset ≡ range_offset file old.current.location.rva k)
+      → item_at file (vec_len old.name) (old.next - 1) k old.current.location.rva place kind ≡ Ok (step_item old.meter.source.size new.name.items step))
+      → Answered old (Ok (Some step)) new
+  answered_record step next on behind bound reads tells item =
+      let z = old.meter.source.size in
+      let e = old.current in
+      answered_step _ (record_size kind) old new step
+      (IsSound-after _ old new sound reads.fetches same
+      (rw on (record { begun = reading.begun; known = reading.known; within = omega (arith, left); inside = reading.inside; fits = reading.fits; ranges = reading.ranges; bound = omega (arith, bound, reading.bound) }))
+      (λ file known. rw on (λ list.
+      let here = rw at at (sound.offset file known) in
+      let places = reading.ranges list in
+      range-next file (vec_len old.name) (old.next - 1) k e.location.rva place z offset next new.name.items kind step list tells.held.1
+      (item file known here) (here list) (rw (places.0, places.1) at stands) behind))
+      (λ end. absurd (cc)) (λ file good. rw on refl))
+      (rw at refl) (rw on refl) (rw (on, at) (omega (arith, left)))
+      same (tells.passed old.next) (tells.stays e)
+      (rw (reading.known, same.room.name) tells.held) (rw on (sym (tells.begins z)))
+      reads.fetches (omega arith)
+      reads.spends (rw (on, at) (record_less shape.count k (record_size kind) left))
+      reads.named
+      (λ file known.
+      let here = rw at at (sound.offset file known) in
+      rw (on, at, same.room.name, same.next, same.current) (records-given file (vec_len old.name) (old.next - 1) e.location.rva kind shape k left _ (rw stands at (item file known here))))
+
+  pub answered_record_fault : (fault : Fault) (f : ListFault) → new.stage ≡ fault_stage f → ReadsRecord (vec_len old.name) kind (Err fault) old.meter new.meter
+      → IsListFaultOf (old.next - 1) (Some k) fault f
+      → ((file : List ℕ) → old.meter.source.store.content ≡ Some file → (kind ≡ Memory64 → offset ≡ range_offset file old.current.location.rva k) → (IsOfSource fault.kind → ⊥)
+      → item_at file (vec_len old.name) (old.next - 1) k old.current.location.rva place kind ≡ Err fault)
+      → Answered old (Err f) new
+  answered_record_fault fault f next reads told item =
+      let e = old.current in
+      answered_fault _ (record_size kind) old new f sound reading.begun (rw at refl) (rw at (omega (arith, left))) same next
+      (record {
+        told = told_in_caused e fault f old.meter.source new.meter.source reads.caused told.kind told.place told.of_store;
+        number = omega (arith, told.entry, reading.begun);
+        named = rw told.kind reads.at_fault;
+      })
+      reads.fetches (rw at (omega (arith, fault_cost-told (vec_len old.name) e kind _ k fault f reading.known told.kind told.of_file)))
+      reads.spends (rw at (omega (arith, record_less shape.count k (record_size kind) left)))
+      (λ file known not.
+      let here = rw at at (sound.offset file known) in
+      let other : IsOfSource fault.kind → ⊥ = λ is. not (rw (sym told.kind) at is) in
+      rw (at, told.of_file other) (records-faulted file (vec_len old.name) (old.next - 1) e.location.rva kind shape k left fault (rw stands at (item file known here other))))
+      (λ file good. not_of_source f.kind (ap source_of told.kind ∙ reads.caused.caused.good file good))
