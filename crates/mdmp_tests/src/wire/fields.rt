@@ -1,5 +1,5 @@
 //! Records of known bytes, read and written.
-use mdmp_wire::{ExceptionRecord, Record, put_at, get_at};
+use mdmp_wire::{ExceptionRecord, Record, get_at, put_at};
 use std::fmt::Debug;
 use std::process::Abort;
 
