@@ -47,7 +47,7 @@ range_extent_of offset len size =
     else if is_inside offset len size then Inside
     else Outside
 
--- an item, whatever place its units are lent from: of the eight kinds only three have names
+-- an item, whatever place its units are lent from: only a module, an unloaded module and the system have one
 abbrev pub plain : Item → Item
 plain (items.Module m) = items.Module (record m { name = plain_name m.name })
 plain (items.Unloaded u) = items.Unloaded (record u { name = plain_name u.name })

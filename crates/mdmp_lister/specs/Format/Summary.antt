@@ -16,7 +16,7 @@ pub record Summary : Type 0 where
   pub entry : ℕ
   -- the entry itself, of a Stream item
   pub stream : Option StreamItem
-  -- how many bytes its record has
+  -- how many bytes its record has; the descriptors of both memory lists have as many
   pub bytes : ℕ
   -- its name
   pub name : Name
