@@ -1,8 +1,10 @@
 -- What a contract sees of a lister.
-use Rattle.std.specs.Prelude.{◌≡◌, ◌≤◌, ◌<◌, ◌+◌, ◌*◌, ℕ, length, List, [], ◌∷◌, ◌++◌, drop, slice_get, Bool, true, false, Option, None, Some, Result, Ok, Err, IfOk, IfErr, IfSome}
+use Rattle.std.specs.Prelude.{◌≡◌, ◌≤◌, ◌<◌, ◌+◌, ◌*◌, ℕ, length, List, [], ◌∷◌, ◌++◌, drop, slice_get, Bool, true, false, Option, None, Some, Result, Ok, Err, IfOk, IfErr, IfSome, IsOk}
 use Rattle.std.specs.Option.{option_map}
 use Rattle.mdmp_source.specs.Count.{raised}
-use Rattle.mdmp_source.specs.Source.{SourceState, FetchesAtMost}
+use Rattle.mdmp_source.specs.Source.{SourceState, FetchesAtMost, IsTold}
+use Rattle.mdmp_source.specs.Store.{IsGood}
+use Rattle.mdmp_source.specs.declared.fault.SourceFault.{SourceFault}
 use Rattle.mdmp_wire.specs.declared.entry.Entry.{Entry}
 use Rattle.mdmp_wire.specs.declared.header.Header.{Header}
 use Rattle.mdmp_wire.specs.Header.{header_at}
@@ -20,7 +22,7 @@ use Rattle.mdmp_lister.specs.Format.Directory.{IsDirectory}
 use Rattle.mdmp_lister.specs.Heading.{heads_ahead}
 use Rattle.mdmp_lister.specs.Format.Item.{plain}
 use Rattle.mdmp_lister.specs.Format.Listing.{Run, nothing, only_fault, listing, listing_from}
-use Rattle.mdmp_lister.specs.Meter.{IsBegun, Moves}
+use Rattle.mdmp_lister.specs.Meter.{IsBegun, Moves, SpendsAside}
 use Rattle.mdmp_lister.specs.declared.meter.MeterCounts.{MeterCounts}
 use Rattle.mdmp_lister.specs.Format.Ranges.{ranges_of}
 use Rattle.mdmp_lister.specs.Fault.{IsOfSource, IsSteady, IsToldIn}
@@ -171,3 +173,13 @@ pub record Leaves (old : ListerState) (result : Result (Option Item) ListFault) 
   -- a fault stands in the entry whose Stream item was given last
   pub entry : old.stop ≡ None → IfErr result (λ f. f.entry + 1 ≡ old.passed)
   pub rests : new.work ≤ old.work
+
+-- what a call leaves that fetches at most n bytes aside from the listing, with this answer: a fault is told in this call,
+-- and over a good store there is none
+pub record ReadsAside {T : Type 0} (n : ℕ) (result : Result T SourceFault) (old new : ListerState) : Type 0 where
+  -- but for counts of what was fetched all stays, so each later request answers what it would have
+  pub same : new ≡ record old { source = new.source; counts = new.counts }
+  pub aside : SpendsAside n old.counts new.counts
+  pub fetches : FetchesAtMost n old.source new.source
+  pub told : IfErr result (λ fault. IsTold fault old.source new.source)
+  pub good : (file : List ℕ) → IsGood old.source.store file → IsOk result

@@ -2,14 +2,15 @@
 ghost use Rattle.std.specs.Prelude.{◌≡◌, ◌≤◌, ◌<◌, ◌+◌, ◌*◌, ◌++◌, ◌⊎◌, ◌-◌, ◌^◌, ◌∷◌, ℕ, List, [], None, Some, All, IfOk, IfErr, IsOk, IsTrue, OnOk, length, false, MatchResult};
 ghost use Rattle.std.specs.Borrow.{sem};
 ghost use Rattle.std.specs.Io.BufRead.{Rests};
-ghost use Rattle.mdmp_source.specs.Store.{IsGood};
+ghost use Rattle.mdmp_source.specs.Range.{IsInside, bytes_at};
+ghost use Rattle.mdmp_source.specs.Store.{IsGood, IsSizeOf};
 ghost use Rattle.mdmp_lister.specs.Opening.{IsHandedBack, IsOpenRefusal, IsRefusalOf, IsUnread, IsUnreadFor};
 ghost use Rattle.mdmp_lister.specs.Format.Refusal.{opening_fault};
 ghost use Rattle.mdmp_map.specs.Map.{free_of};
 ghost use Rattle.mdmp_map.specs.Ranges.{IsWithin};
-ghost use Rattle.mdmp_source.specs.Source.{FetchesAtMost, IsTold};
+ghost use Rattle.mdmp_source.specs.Source.{FetchesAtMost};
 ghost use Rattle.mdmp_lister.specs.Addressing.{ReadsCells};
-ghost use Rattle.mdmp_lister.specs.Meter.{IsBooked, SpendsAside};
+ghost use Rattle.mdmp_lister.specs.Meter.{IsBooked};
 ghost use Rattle.mdmp_lister.specs.Counts.{AreBounds, AreOfFile, numbers_of};
 ghost use Rattle.mdmp_lister.specs.Format.Ranges.{IsPlacedIn, ranges_of};
 ghost use Rattle.mdmp_lister.specs.Fault.{IsOfSource, IsToldIn};
@@ -78,7 +79,7 @@ impl<S: Store + Drop, A: Allocator + Copy> Model for Lister<S, A> {
 impl<S: Store + Drop, A: Allocator + Copy> Lister<S, A> {
     ghost use Rattle.mdmp_lister.specs.contracts.lister.Lister.{the_row};
     ghost use Rattle.mdmp_lister.specs.Sink.{RunLeaves};
-    ghost use Rattle.mdmp_lister.specs.Lister.{Gives, IsNewLister, IsSameLister, Leaves, is_for_good, listing_behind};
+    ghost use Rattle.mdmp_lister.specs.Lister.{Gives, IsNewLister, IsSameLister, Leaves, ReadsAside, is_for_good, listing_behind};
 
     /// Opens a file. Its header is read; memory is taken for the directory, the window and a name; the
     /// directory is read, and the ranges of the chosen memory lists are counted by their heads; then
@@ -127,6 +128,15 @@ impl<S: Store + Drop, A: Allocator + Copy> Lister<S, A> {
         ensures { result ≡ self.now.header }
     {
         self.walk.header
+    }
+
+    /// The number of bytes in the file, as its source tells it. [`Lister::read_part`] reads any that
+    /// end there or before.
+    pub fn size(&self) -> u64
+        ensures value { result ≡ self.now.source.size }
+        ensures content { IsSizeOf self.now.source.store.content result }
+    {
+        self.walk.meter.size()
     }
 
     /// The numbers that bound what it holds and what it has fetched. It takes nothing and changes
@@ -243,13 +253,21 @@ impl<S: Store + Drop, A: Allocator + Copy> Lister<S, A> {
     ) -> Result<(), SourceFault>
         requires { length out.old ≡ length known.old }
         ensures cells { OnOk result (ReadsCells self.old.source.store.content self.old.ranges address out.new known.new) }
-        ensures same { self.new ≡ record self.old { source = self.new.source; counts = self.new.counts } }
-        ensures aside { SpendsAside (length out.new) self.old.counts self.new.counts }
-        ensures fetches { FetchesAtMost (length out.new) self.old.source self.new.source }
-        ensures told { IfErr result (λ fault. IsTold fault self.old.source self.new.source) }
-        ensures good { (file : List ℕ) → IsGood self.old.source.store file → IsOk result }
+        ensures reads { ReadsAside (length out.new) result self.old self.new }
     {
         read_addresses(&mut self.walk.meter, &self.map, address, out, known)
+    }
+
+    /// Fills `out` with the bytes of the file from the offset `at` on, which lie inside it (see
+    /// [`Lister::size`]). After a fault of the store `out` may hold anything, and what is listed stays
+    /// as it was.
+    #[tactic(auto, using(crate::proofs::Fetches::told_caused, crate::proofs::Fetches::good_caused))]
+    pub fn read_part(&mut self, at: u64, out: &mut [u8]) -> Result<(), SourceFault>
+        requires { IsInside at (length out.old) self.old.source.size }
+        ensures bytes { (file : List ℕ) → self.old.source.store.content ≡ Some file → OnOk result (out.new ≡ bytes_at file at (length out.new)) }
+        ensures reads { ReadsAside (length out.new) result self.old self.new }
+    {
+        self.walk.meter.fetch_aside(at, out)
     }
 
     /// Hands the source back.
