@@ -9,6 +9,7 @@ mod faults;
 mod listings;
 mod memory;
 mod names;
+mod parts;
 mod ranges;
 mod records;
 mod shapes;

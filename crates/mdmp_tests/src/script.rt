@@ -4,7 +4,7 @@ use crate::given::{Given, next_of};
 use crate::opening::chosen;
 use mdmp_lister::{Choice, Limits, ListFault, Lister, RunFault, StopAt};
 use mdmp_map::Place;
-use mdmp_source::{MemoryStore, Source, SourceFault, Store};
+use mdmp_source::{MemoryStore, Source, SourceFault, Store, inside};
 use std::alloc::{AllocError, Global};
 use std::test::Fail;
 
@@ -39,6 +39,10 @@ pub enum Step {
     Find(u64),
     /// Read so many bytes of memory at an address, at most sixteen.
     Read(u64, usize),
+    /// Read so many bytes of the file at an offset, at most sixteen.
+    Part(u64, usize),
+    /// How many bytes the file has, and how many were fetched aside.
+    Numbers,
 }
 
 /// What a call answers.
@@ -55,7 +59,12 @@ pub enum Answer {
     Place(Option<Place>),
     /// What was read, with zeros behind it, and which of its bytes are known.
     Memory([u8; 16], [bool; 16]),
+    /// What was read, with zeros behind it.
+    Bytes([u8; 16]),
+    /// Not all of what is to be read lies inside the file.
+    Outside,
     Failed(SourceFault),
+    Numbers { size: u64, aside: u128 },
 }
 
 /// A call and its answer.
@@ -138,6 +147,30 @@ pub fn read_fails(address: u64, len: usize, fault: SourceFault) -> Call {
     called(Step::Read(address, len), Answer::Failed(fault))
 }
 
+/// These bytes of the file.
+pub fn has_part<const N: usize>(at: u64, bytes: [u8; N]) -> Call {
+    let mut out = [0; 16];
+    for i in 0..N {
+        if i < 16 {
+            out[i] = bytes[i];
+        }
+    }
+    called(Step::Part(at, N), Answer::Bytes(out))
+}
+
+pub fn part_outside(at: u64, len: usize) -> Call {
+    called(Step::Part(at, len), Answer::Outside)
+}
+
+pub fn part_fails(at: u64, len: usize, fault: SourceFault) -> Call {
+    called(Step::Part(at, len), Answer::Failed(fault))
+}
+
+/// The size of the file, and what was fetched aside so far.
+pub fn has_numbers(size: u64, aside: u128) -> Call {
+    called(Step::Numbers, Answer::Numbers { size, aside })
+}
+
 fn next_answer<S: Store + Drop>(
     rt: &HostRuntime,
     lister: &mut Lister<S, Global>,
@@ -169,6 +202,21 @@ fn read<S: Store + Drop>(lister: &mut Lister<S, Global>, address: u64, len: usiz
     Answer::Memory(out, known)
 }
 
+fn read_part<S: Store + Drop>(lister: &mut Lister<S, Global>, at: u64, len: usize) -> Answer {
+    let len = len.min(16);
+    if !inside(at, len as u64, lister.size()) {
+        return Answer::Outside;
+    }
+    let mut out = [0xee; 16];
+    if let Err(fault) = lister.read_part(at, &mut out[..len]) {
+        return Answer::Failed(fault);
+    }
+    for i in len..16 {
+        out[i] = 0;
+    }
+    Answer::Bytes(out)
+}
+
 fn answer_of<S: Store + Drop>(
     rt: &HostRuntime,
     lister: &mut Lister<S, Global>,
@@ -193,6 +241,11 @@ fn answer_of<S: Store + Drop>(
         },
         Step::Find(address) => Answer::Place(lister.map().find(address)),
         Step::Read(address, len) => read(lister, address, len),
+        Step::Part(at, len) => read_part(lister, at, len),
+        Step::Numbers => Answer::Numbers {
+            size: lister.size(),
+            aside: lister.counts().aside,
+        },
     };
     Ok(answer)
 }
