@@ -11,6 +11,7 @@
 //! [`Lister`] lists a file through a window, one item at a time or all of them into a [`Sink`];
 //! [`Choice`] says which entries are listed, [`Limits`] how long the window and a name may be. The
 //! ranges of memory that were given are kept in a map: [`Lister::read_address`] reads memory by it.
+//! [`Lister::read_part`] reads any bytes of the file, beside the listing.
 //! [`name_at`] and [`shape_of`] read a name and where the records of a stream stand, of a file that is
 //! wholly in memory.
 //!
