@@ -1,13 +1,49 @@
--- The item of a record that was read, and its name.
-use Rattle.std.proofs.Common.{◌≡◌, ◌∙◌, ℕ, List, length, Ok, Err, ap, sym, refl, subst}
+-- A record of any kind that was fetched, and the item of it and its name.
+use Rattle.std.proofs.Common.{◌≡◌, ◌≤◌, ◌∙◌, ℕ, List, length, take, drop, Ok, Err, ap, sym, refl, subst}
 use Rattle.mdmp_wire.specs.AnyRecord.{name_rva}
 use Rattle.mdmp_wire.specs.declared.any_record.AnyRecord.{AnyRecord}
+use Rattle.mdmp_wire.specs.declared.any_record.AnyRecord.TheVariants as any
+use Rattle.mdmp_wire.specs.Thread.{thread_at-part}
+use Rattle.mdmp_wire.specs.Module.{module_at-part}
+use Rattle.mdmp_wire.specs.Descriptor.{descriptor_at-part}
+use Rattle.mdmp_wire.specs.Exception.{exception_at-part}
+use Rattle.mdmp_wire.specs.System.{system_at-part}
+use Rattle.mdmp_wire.specs.Descriptor64.{descriptor64_at-part}
+use Rattle.mdmp_wire.specs.Unloaded.{unloaded_at-part}
+use Rattle.mdmp_wire.specs.MemoryInfo.{memory_info_at-part}
 use Rattle.mdmp_lister.specs.declared.fault.Fault.{Fault}
 use Rattle.mdmp_lister.specs.declared.item.Item.{Item}
 use Rattle.mdmp_lister.specs.declared.kind.Kind.{Kind}
 use Rattle.mdmp_lister.specs.declared.kind.Kind.TheVariants as kinds
 use Rattle.mdmp_lister.specs.declared.name.Name.{Name}
-use Rattle.mdmp_lister.specs.Format.Item.{item_at, item_of, name_of, named, offset_in, range_offset, record_at}
+use Rattle.mdmp_lister.specs.Format.Item.{item_at, item_of, kind_told, name_of, named, offset_in, range_offset, record_at}
+use Rattle.mdmp_lister.specs.Format.Kind.{record_size}
+
+-- a record is read of its own bytes alone
+record_at-part : (kind : Kind) (n o : ℕ) (F : List ℕ) → record_size kind ≤ n → record_at kind (take n (drop o F)) 0 ≡ record_at kind F o
+record_at-part kinds.Threads n o F room = ap any.Thread (thread_at-part n o F room)
+record_at-part kinds.Modules n o F room = ap any.Module (module_at-part n o F room)
+record_at-part kinds.Memory n o F room = ap any.Memory (descriptor_at-part n o F room)
+record_at-part kinds.Exception n o F room = ap any.Exception (exception_at-part n o F room)
+record_at-part kinds.System n o F room = ap any.System (system_at-part n o F room)
+record_at-part kinds.Memory64 n o F room = ap any.Memory64 (descriptor64_at-part n o F room)
+record_at-part kinds.Unloaded n o F room = ap any.Unloaded (unloaded_at-part n o F room)
+record_at-part kinds.MemoryInfo n o F room = ap any.MemoryInfo (memory_info_at-part n o F room)
+
+-- and it tells its kind
+pub kind_told-at : (kind : Kind) (F : List ℕ) (o : ℕ) → kind_told (record_at kind F o) ≡ kind
+kind_told-at kinds.Threads F o = refl
+kind_told-at kinds.Modules F o = refl
+kind_told-at kinds.Memory F o = refl
+kind_told-at kinds.Exception F o = refl
+kind_told-at kinds.System F o = refl
+kind_told-at kinds.Memory64 F o = refl
+kind_told-at kinds.Unloaded F o = refl
+kind_told-at kinds.MemoryInfo F o = refl
+
+-- the record of the bytes that were fetched is that of the file
+pub record-fetched : (kind : Kind) (n o : ℕ) (F bytes : List ℕ) (fields : AnyRecord) → record_size kind ≤ n → bytes ≡ take n (drop o F) → fields ≡ record_at kind bytes 0 → record_at kind F o ≡ fields
+record-fetched kind n o F bytes fields room fetched read = sym (read ∙ ap (λ b. record_at kind b 0) fetched ∙ record_at-part kind n o F room)
 
 -- only the bytes of a 64-bit range are said to stand elsewhere
 item_of-offset : (F : List ℕ) (z e k at o offset : ℕ) (kind : Kind) (name : Name) → (kind ≡ kinds.Memory64 → offset ≡ range_offset F at k)

@@ -24,7 +24,7 @@ pub(crate) enum NameRead {
 }
 
 /// Fetches `count` bytes at `at` into the front of a buffer.
-fn fetch_front<S: Store>(
+pub(crate) fn fetch_front<S: Store>(
     meter: &mut Meter<S>,
     at: u64,
     buffer: &mut [u8],

@@ -8,14 +8,34 @@ ghost use Rattle.mdmp_lister.specs.Format.Kind.{greatest_record, record_size};
 ghost use Rattle.mdmp_lister.specs.Step.{step_item};
 
 use crate::fault::Fault;
-use crate::fetching::{NameRead, read, read_name};
+use crate::fetching::{NameRead, fetch_front, read_name};
 use crate::kind::Kind;
 use crate::meter::Meter;
 use crate::step::{RecordRead, Step};
 use mdmp_source::{SourceFault, Store};
-use mdmp_wire::AnyRecord;
+use mdmp_wire::{
+    AnyRecord, Descriptor, Descriptor64, ExceptionRecord, MemoryInfoRecord, ModuleRecord, Record,
+    SystemRecord, ThreadRecord, UnloadedRecord,
+};
 
-/// The record at `at`, of a stream of this kind.
+/// The record of these bytes, of a stream of this kind.
+fn record_of(kind: Kind, bytes: &[u8]) -> AnyRecord
+    requires { length bytes.now ≡ record_size kind }
+    ensures { result ≡ record_at kind bytes.now 0 }
+{
+    match kind {
+        Kind::Threads => AnyRecord::Thread(ThreadRecord::read(bytes)),
+        Kind::Modules => AnyRecord::Module(ModuleRecord::read(bytes)),
+        Kind::Memory => AnyRecord::Memory(Descriptor::read(bytes)),
+        Kind::Exception => AnyRecord::Exception(ExceptionRecord::read(bytes)),
+        Kind::System => AnyRecord::System(SystemRecord::read(bytes)),
+        Kind::Memory64 => AnyRecord::Memory64(Descriptor64::read(bytes)),
+        Kind::Unloaded => AnyRecord::Unloaded(UnloadedRecord::read(bytes)),
+        Kind::MemoryInfo => AnyRecord::MemoryInfo(MemoryInfoRecord::read(bytes)),
+    }
+}
+
+/// The record at `at`, of a stream of this kind, whose bytes pass through the front of the window.
 fn read_record<S: Store>(
     meter: &mut Meter<S>,
     window: &mut [u8],
@@ -27,16 +47,9 @@ fn read_record<S: Store>(
     ensures kind { IfOk result (λ value. kind_told value ≡ kind) }
     ensures reads { Reads (Books 1 (record_size kind)) (λ file value. record_at kind file at ≡ value) result meter.old meter.new }
 {
-    match kind {
-        Kind::Threads => Ok(AnyRecord::Thread(read(meter, window, at)?)),
-        Kind::Modules => Ok(AnyRecord::Module(read(meter, window, at)?)),
-        Kind::Memory => Ok(AnyRecord::Memory(read(meter, window, at)?)),
-        Kind::Exception => Ok(AnyRecord::Exception(read(meter, window, at)?)),
-        Kind::System => Ok(AnyRecord::System(read(meter, window, at)?)),
-        Kind::Memory64 => Ok(AnyRecord::Memory64(read(meter, window, at)?)),
-        Kind::Unloaded => Ok(AnyRecord::Unloaded(read(meter, window, at)?)),
-        Kind::MemoryInfo => Ok(AnyRecord::MemoryInfo(read(meter, window, at)?)),
-    }
+    let size = kind.record_size() as usize;
+    fetch_front(meter, at, window, size)?;
+    Ok(record_of(kind, &window[..size]))
 }
 
 /// The record at `at` and its name, or the fault of its name. The bytes of a range of a 64-bit memory
