@@ -3,8 +3,8 @@ use crate::files::{FAULTY, SYSTEM};
 use crate::given::{Named, stream, system};
 use crate::opening::{fault, open_and_close};
 use crate::script::{LEAST, ends, fails, gives, other_in_numbers};
-use mdmp_lister::{Choice, FaultKind, Limits, ListFault, OpenFault};
-use mdmp_source::{MemoryStore, Source};
+use mdmp_lister::{Choice, Fault, FaultKind, Limits, ListFault, OpenFault};
+use mdmp_source::{MemoryStore, Source, SourceFault};
 use std::test::Fail;
 
 #[test]
@@ -119,4 +119,15 @@ fn file_that_cannot_be_listed_is_refused(rt: HostRuntime) {
         assert_eq!(rt; refusal(&rt, file), (Some(expected), true));
     }
     assert_eq!(rt; refusal(&rt, &SYSTEM).0, None);
+}
+
+#[test]
+fn fault_of_the_store_names_its_place(rt: HostRuntime) {
+    let short = SourceFault::ShortRead { at: 7 };
+    let told = Fault {
+        kind: FaultKind::Source(short),
+        offset: 7,
+        size: 0,
+    };
+    assert_eq!(rt; Fault::from(short), told);
 }
