@@ -1,5 +1,5 @@
 //! What is wrong with a file, and where.
-ghost use Rattle.std.specs.Prelude.{◌≡◌, None};
+ghost use Rattle.std.specs.Prelude.{◌≡◌, None, Err};
 
 use mdmp_source::SourceFault;
 
@@ -42,6 +42,13 @@ pub struct Fault {
     pub offset: u64,
     /// A number of bytes, or the number that the kind says.
     pub size: u64,
+}
+
+/// An answer that is a fault.
+pub(crate) fn faulted<T: Drop>(kind: FaultKind, offset: u64, size: u64) -> Result<T, Fault>
+    ensures { result ≡ Err (record { kind = kind; offset = offset; size = size }) }
+{
+    Err(Fault { kind, offset, size })
 }
 
 /// A fault of the store names the first byte that was not obtained, or the first of those that do not

@@ -7,8 +7,9 @@ ghost use Rattle.mdmp_lister.specs.Format.Name.{name_at};
 ghost use Rattle.mdmp_lister.specs.Fault.{Answers};
 ghost use Rattle.mdmp_lister.specs.Step.{IsHeld, name_read};
 
-use crate::fault::{Fault, FaultKind};
+use crate::fault::{Fault, FaultKind, faulted};
 use crate::meter::Meter;
+use crate::name::check_units;
 use mdmp_source::{SourceFault, Store, inside};
 use mdmp_wire::Record;
 
@@ -74,28 +75,10 @@ pub(crate) fn read_name<S: Store>(
     }
     meter.reach_name();
     if !inside(rva, 4, size) {
-        return Err(Fault {
-            kind: FaultKind::NameLengthOutside,
-            offset: rva,
-            size: 4,
-        });
+        return faulted(FaultKind::NameLengthOutside, rva, 4);
     }
     let length: u32 = read(meter, window, rva)?;
-    let bytes = u64::from(length);
-    if length % 2 == 1 {
-        return Err(Fault {
-            kind: FaultKind::NameOdd,
-            offset: rva,
-            size: bytes,
-        });
-    }
-    if !inside(rva + 4, bytes, size) {
-        return Err(Fault {
-            kind: FaultKind::NameUnitsOutside,
-            offset: rva + 4,
-            size: bytes,
-        });
-    }
+    check_units(rva, length, size)?;
     if buffer.len() < length as usize {
         return Ok(NameRead::Long(length));
     }

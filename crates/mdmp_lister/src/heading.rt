@@ -7,12 +7,12 @@ ghost use Rattle.mdmp_lister.specs.Format.Kind.{greatest_record};
 ghost use Rattle.mdmp_lister.specs.Format.Shape.{shape_of};
 ghost use Rattle.mdmp_lister.specs.Fault.{Answers};
 
-use crate::fault::Fault;
+use crate::fault::{Fault, FaultKind, faulted};
 use crate::fetching::read;
 use crate::form::Form;
 use crate::kind::Kind;
 use crate::meter::Meter;
-use crate::shape::{Shape, counted, ranges64, single, sized, too_short};
+use crate::shape::{Shape, counted, ranges64, single, sized};
 use mdmp_source::{Location, Store};
 use mdmp_wire::{Memory64List, MemoryInfoList, UnloadedList};
 
@@ -47,10 +47,10 @@ pub(crate) fn head_at<S: Store>(
     let form = kind.form();
     let size = kind.record_size();
     let least = form.head_cost();
-    if at.size < form.head_size(size) {
-        return too_short(at);
-    }
     let start = u64::from(at.rva);
+    if at.size < form.head_size(size) {
+        return faulted(FaultKind::ShortStream, start, u64::from(at.size));
+    }
     match form {
         Form::Counted => {
             let count = read(meter, window, start)?;

@@ -1,9 +1,10 @@
 //! The name of an item, and the one at an RVA of a whole file.
-ghost use Rattle.std.specs.Prelude.{◌≡◌, ◌<◌, ◌^◌, length};
+ghost use Rattle.std.specs.Prelude.{◌≡◌, ◌≤◌, ◌+◌, ◌%◌, ◌==◌, if◌then◌else◌, not, Ok, Err};
+ghost use Rattle.mdmp_source.specs.Range.{is_inside};
 ghost use Rattle.std.specs.Result.{result_map_both};
 ghost use Rattle.mdmp_lister.specs.Format.Name.{name_at, plain_name};
 
-use crate::fault::{Fault, FaultKind};
+use crate::fault::{Fault, FaultKind, faulted};
 use mdmp_source::inside;
 use mdmp_wire::{UnitsRef, get_at};
 
@@ -16,6 +17,25 @@ pub enum Name<'a> {
     Units(UnitsRef<'a>),
     /// How many bytes it has, where those are more than the limit: they are not read.
     Long(u32),
+}
+
+/// Answers the fault of a name whose length stands at `at` in a file of `size` bytes, if it has one: an
+/// odd length, units outside.
+pub(crate) fn check_units(at: u64, length: u32, size: u64) -> Result<(), Fault>
+    requires { at + 4 ≤ size }
+    ensures { result ≡ (
+        if length % 2 == 1 then Err (record { kind = FaultKind.NameOdd; offset = at; size = length })
+        else if not (is_inside (at + 4) length size) then Err (record { kind = FaultKind.NameUnitsOutside; offset = at + 4; size = length })
+        else Ok tt) }
+{
+    let bytes = u64::from(length);
+    if length % 2 == 1 {
+        return faulted(FaultKind::NameOdd, at, bytes);
+    }
+    if !inside(at + 4, bytes, size) {
+        return faulted(FaultKind::NameUnitsOutside, at + 4, bytes);
+    }
+    Ok(())
 }
 
 /// The name at `rva`, an offset from the start of the file, or its fault: a length outside the file,
@@ -31,29 +51,11 @@ pub fn name_at(file: &[u8], rva: u32, limit: u32) -> Result<Name<'_>, Fault>
         return Ok(Name::None);
     }
     if !inside(at, 4, size) {
-        return Err(Fault {
-            kind: FaultKind::NameLengthOutside,
-            offset: at,
-            size: 4,
-        });
+        return faulted(FaultKind::NameLengthOutside, at, 4);
     }
     let start = rva as usize;
     let length: u32 = get_at(file, start);
-    let bytes = u64::from(length);
-    if length % 2 == 1 {
-        return Err(Fault {
-            kind: FaultKind::NameOdd,
-            offset: at,
-            size: bytes,
-        });
-    }
-    if !inside(at + 4, bytes, size) {
-        return Err(Fault {
-            kind: FaultKind::NameUnitsOutside,
-            offset: at + 4,
-            size: bytes,
-        });
-    }
+    check_units(at, length, size)?;
     if limit < length {
         return Ok(Name::Long(length));
     }

@@ -4,7 +4,7 @@ ghost use Rattle.mdmp_source.specs.Range.{IsInside};
 ghost use Rattle.mdmp_lister.specs.Format.Shape.{FitsIn, IsListIn, IsRangeListIn, IsShapedIn, counted, location_fault, ranges64, shape_of, single, sized};
 ghost use Rattle.mdmp_lister.specs.Format.Kind.{record_size};
 
-use crate::fault::{Fault, FaultKind};
+use crate::fault::{Fault, FaultKind, faulted};
 use crate::form::Form;
 use crate::kind::Kind;
 use mdmp_source::{Location, inside};
@@ -19,12 +19,6 @@ pub struct Shape {
     pub stride: u64,
     /// How many there are.
     pub count: u64,
-}
-
-fn fault<T: Drop>(kind: FaultKind, offset: u64, size: u64) -> Result<T, Fault>
-    ensures { result ≡ Err (record { kind = kind; offset = offset; size = size }) }
-{
-    Err(Fault { kind, offset, size })
 }
 
 /// The fault of an entry whose location is not inside a file of `size` bytes. That of an unused entry
@@ -45,17 +39,6 @@ pub(crate) fn location_fault(entry: Entry, size: u64) -> Option<Fault>
     })
 }
 
-/// The fault of a stream that is shorter than its head.
-pub(crate) fn too_short<T: Drop>(at: Location) -> Result<T, Fault>
-    ensures { result ≡ Err (record { kind = FaultKind.ShortStream; offset = at.rva; size = at.size }) }
-{
-    fault(
-        FaultKind::ShortStream,
-        u64::from(at.rva),
-        u64::from(at.size),
-    )
-}
-
 /// The shape of a list of so many records behind their count.
 pub(crate) fn counted(at: Location, record_size: u32, count: u32) -> Result<Shape, Fault>
     ensures shape { result ≡ counted at.rva at.size record_size count }
@@ -64,7 +47,7 @@ pub(crate) fn counted(at: Location, record_size: u32, count: u32) -> Result<Shap
     let size = u128::from(at.size);
     let records = u128::from(count) * u128::from(record_size);
     if size < 4 + records {
-        return fault(FaultKind::BadCount, u64::from(at.rva), u64::from(count));
+        return faulted(FaultKind::BadCount, u64::from(at.rva), u64::from(count));
     }
     let first = if size == 8 + records { 8 } else { 4 };
     Ok(Shape {
@@ -93,7 +76,7 @@ pub(crate) fn ranges64(at: Location, record_size: u32, head: Memory64List) -> Re
     let first = Memory64List::SIZE as u64;
     let count = head.number_of_memory_ranges;
     if u128::from(at.size) < u128::from(first) + u128::from(count) * u128::from(record_size) {
-        return fault(FaultKind::BadCount, u64::from(at.rva), count);
+        return faulted(FaultKind::BadCount, u64::from(at.rva), count);
     }
     Ok(Shape {
         first,
@@ -116,13 +99,13 @@ pub(crate) fn sized(
 {
     let start = u64::from(at.rva);
     if header_size < head_size || at.size < header_size {
-        return fault(FaultKind::BadHeaderSize, start, u64::from(header_size));
+        return faulted(FaultKind::BadHeaderSize, start, u64::from(header_size));
     }
     if 0 < count && entry_size < record_size {
-        return fault(FaultKind::BadEntrySize, start + 4, u64::from(entry_size));
+        return faulted(FaultKind::BadEntrySize, start + 4, u64::from(entry_size));
     }
     if u128::from(at.size) < u128::from(header_size) + u128::from(count) * u128::from(entry_size) {
-        return fault(FaultKind::BadCount, start + 8, count);
+        return faulted(FaultKind::BadCount, start + 8, count);
     }
     Ok(Shape {
         first: u64::from(header_size),
@@ -143,7 +126,8 @@ pub fn shape_of(file: &[u8], location: Location, kind: Kind) -> Result<Shape, Fa
     let form = kind.form();
     let record_size = kind.record_size();
     if location.size < form.head_size(record_size) {
-        return too_short(location);
+        let offset = u64::from(location.rva);
+        return faulted(FaultKind::ShortStream, offset, u64::from(location.size));
     }
     let at = location.rva as usize;
     match form {
