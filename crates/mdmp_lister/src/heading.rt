@@ -12,9 +12,9 @@ use crate::fetching::read;
 use crate::form::Form;
 use crate::kind::Kind;
 use crate::meter::Meter;
-use crate::shape::{Shape, counted, ranges64, single, sized};
+use crate::shape::{Shape, counted, ranges64, single, sized, widened};
 use mdmp_source::{Location, Store};
-use mdmp_wire::{Memory64List, MemoryInfoList, UnloadedList};
+use mdmp_wire::Memory64List;
 
 /// What the head of a stream says.
 #[derive(Clone, Copy, Debug, PartialEq, Eq)]
@@ -68,29 +68,13 @@ pub(crate) fn head_at<S: Store>(
             Ok(Head { shape, base })
         }
         Form::Sized32 => {
-            let head: UnloadedList = read(meter, window, start)?;
-            let count = u64::from(head.number_of_entries);
-            let shape = sized(
-                at,
-                least,
-                size,
-                head.size_of_header,
-                head.size_of_entry,
-                count,
-            )?;
+            let head = widened(read(meter, window, start)?);
+            let shape = sized(at, least, size, head)?;
             Ok(Head { shape, base: 0 })
         }
         Form::Sized64 => {
-            let head: MemoryInfoList = read(meter, window, start)?;
-            let count = head.number_of_entries;
-            let shape = sized(
-                at,
-                least,
-                size,
-                head.size_of_header,
-                head.size_of_entry,
-                count,
-            )?;
+            let head = read(meter, window, start)?;
+            let shape = sized(at, least, size, head)?;
             Ok(Head { shape, base: 0 })
         }
     }

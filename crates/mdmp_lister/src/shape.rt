@@ -85,19 +85,32 @@ pub(crate) fn ranges64(at: Location, record_size: u32, head: Memory64List) -> Re
     })
 }
 
-/// The shape of a list whose head says its own size, that of an entry, and how many there are.
+/// The head of a list that counts its records in 32 bits, as one that counts them in 64.
+pub(crate) fn widened(head: UnloadedList) -> MemoryInfoList
+    ensures { result ≡ record { size_of_header = head.size_of_header; size_of_entry = head.size_of_entry; number_of_entries = head.number_of_entries } }
+{
+    MemoryInfoList {
+        size_of_header: head.size_of_header,
+        size_of_entry: head.size_of_entry,
+        number_of_entries: u64::from(head.number_of_entries),
+    }
+}
+
+/// The shape of a list whose head, of at least `head_size` bytes, says its own size, that of an entry,
+/// and how many there are.
 pub(crate) fn sized(
     at: Location,
     head_size: u32,
     record_size: u32,
-    header_size: u32,
-    entry_size: u32,
-    count: u64,
+    head: MemoryInfoList,
 ) -> Result<Shape, Fault>
-    ensures shape { result ≡ sized at.rva at.size head_size record_size header_size entry_size count }
+    ensures shape { result ≡ sized at.rva at.size head_size record_size head.size_of_header head.size_of_entry head.number_of_entries }
     ensures list { IfOk result (IsListIn at.size head_size record_size) }
 {
     let start = u64::from(at.rva);
+    let header_size = head.size_of_header;
+    let entry_size = head.size_of_entry;
+    let count = head.number_of_entries;
     if header_size < head_size || at.size < header_size {
         return faulted(FaultKind::BadHeaderSize, start, u64::from(header_size));
     }
@@ -135,28 +148,10 @@ pub fn shape_of(file: &[u8], location: Location, kind: Kind) -> Result<Shape, Fa
         Form::Single => Ok(single(record_size)),
         Form::Ranges64 => ranges64(location, record_size, get_at(file, at)),
         Form::Sized32 => {
-            let head: UnloadedList = get_at(file, at);
-            let count = u64::from(head.number_of_entries);
-            sized(
-                location,
-                form.head_cost(),
-                record_size,
-                head.size_of_header,
-                head.size_of_entry,
-                count,
-            )
+            let head = widened(get_at(file, at));
+            sized(location, form.head_cost(), record_size, head)
         }
-        Form::Sized64 => {
-            let head: MemoryInfoList = get_at(file, at);
-            sized(
-                location,
-                form.head_cost(),
-                record_size,
-                head.size_of_header,
-                head.size_of_entry,
-                head.number_of_entries,
-            )
-        }
+        Form::Sized64 => sized(location, form.head_cost(), record_size, get_at(file, at)),
     }
 }
 
