@@ -24,7 +24,7 @@ use crate::item::Item;
 use crate::limits::Limits;
 use crate::opening::OpenRefused;
 use crate::sink::{RunFault, Sink, Stopped};
-use crate::walk::Walk;
+use crate::walk::{Walk, refused};
 use mdmp_map::AddressMap;
 use mdmp_source::{Extent, Source, SourceFault, Store};
 use mdmp_wire::{Entry, Header, Record};
@@ -112,14 +112,14 @@ impl<S: Store + Drop, A: Allocator + Copy> Lister<S, A> {
         };
         let count = match walk.count_ranges() {
             Ok(count) => count,
-            Err(fault) => return Err(refused(OpenFault::Source(fault), walk)),
+            Err(fault) => return Err(refused(OpenFault::Source(fault), walk.meter)),
         };
         if count > MOST_RANGES {
-            return Err(refused(OpenFault::TooManyRanges { count }, walk));
+            return Err(refused(OpenFault::TooManyRanges { count }, walk.meter));
         }
         match AddressMap::with_room(alloc, count as usize) {
             Ok(map) => Ok(Lister { walk, map }),
-            Err(AllocError) => Err(refused(OpenFault::Memory, walk)),
+            Err(AllocError) => Err(refused(OpenFault::Memory, walk.meter)),
         }
     }
 
@@ -276,20 +276,7 @@ impl<S: Store + Drop, A: Allocator + Copy> Lister<S, A> {
         ensures booked { IsBooked result self.counts }
     {
         let Lister { walk, map: _ } = self;
-        walk.into_source()
-    }
-}
-
-/// A file is refused.
-fn refused<S: Store + Drop, A: Allocator + Copy>(
-    fault: OpenFault,
-    walk: Walk<S, A>,
-) -> OpenRefused<S>
-    ensures { result ≡ record { fault = fault; source = walk.meter.source } }
-{
-    OpenRefused {
-        fault,
-        source: walk.into_source(),
+        walk.meter.into_source()
     }
 }
 

@@ -1,7 +1,7 @@
 //! An item that was read, whose name stands in a buffer.
 ghost use Rattle.std.specs.Prelude.{◌≡◌, length};
 ghost use Rattle.mdmp_lister.specs.Format.Name.{plain_name};
-ghost use Rattle.mdmp_lister.specs.Step.{IsHeld, IsItemOf, IsNameHeld, name_read};
+ghost use Rattle.mdmp_lister.specs.Step.{IsHeld, IsItemOf, name_read};
 
 use crate::fetching::NameRead;
 use crate::item::{
@@ -45,19 +45,8 @@ fn lent_name(buffer: &[u8], name: NameRead) -> Name<'_>
     }
 }
 
-/// The item, its name lent from the buffer, in a file of `size` bytes.
-pub(crate) fn lent_item(step: Step, buffer: &[u8], size: u64) -> Item<'_>
-    requires { IsNameHeld (length buffer.now) step }
-    ensures { IsItemOf size buffer.now step result }
-{
-    match step {
-        Step::Stream(stream) => Item::Stream(stream),
-        Step::Record(read) => record_item(read, buffer, size),
-    }
-}
-
 /// The item of a record, its name lent from the buffer, in a file of `size` bytes.
-fn record_item(read: RecordRead, buffer: &[u8], size: u64) -> Item<'_>
+pub(crate) fn record_item(read: RecordRead, buffer: &[u8], size: u64) -> Item<'_>
     requires { IsHeld (length buffer.now) read.name }
     ensures { IsItemOf size buffer.now (Step.Record read) result }
 {

@@ -4,7 +4,6 @@ ghost use Rattle.mdmp_lister.specs.Opening.{IsRefused};
 ghost use Rattle.mdmp_lister.specs.Stage.{fault_stage};
 ghost use Rattle.mdmp_lister.specs.Step.{IsItemOf, IsNameHeld, bytes_behind};
 ghost use Rattle.mdmp_lister.specs.Walk.Owing.{HasRoom, count_answered};
-ghost use Rattle.mdmp_lister.specs.Meter.{IsSourceOf};
 
 use crate::choice::Choice;
 use crate::counting::count_ranges;
@@ -18,7 +17,7 @@ use crate::opening::{OpenRefused, next_chosen, read_directory, read_header};
 use crate::recording::read_item;
 use crate::shape::{Shape, location_fault, record_at};
 use crate::stage::Stage;
-use crate::step::{Step, lent_item};
+use crate::step::{Step, record_item};
 use mdmp_source::{Location, Source, SourceFault, Store};
 use mdmp_wire::{AnyRecord, Entry, Header};
 use std::alloc::Allocator;
@@ -127,15 +126,10 @@ impl<S: Store + Drop, A: Allocator + Copy> Walk<S, A> {
         requires { IsNameHeld (vec_len self.now.name) step }
         ensures { IsItemOf self.now.meter.source.size self.now.name.items step result }
     {
-        lent_item(step, &self.name, self.meter.size())
-    }
-
-    /// Hands the source back.
-    pub(crate) fn into_source(self) -> Source<S>
-        ensures { IsSourceOf self.meter result }
-    {
-        let Walk { meter, .. } = self;
-        meter.into_source()
+        match step {
+            Step::Stream(stream) => Item::Stream(stream),
+            Step::Record(read) => record_item(read, &self.name, self.meter.size()),
+        }
     }
 
     /// Drops what is left of the current entry.
@@ -280,8 +274,8 @@ impl<S: Store + Drop, A: Allocator + Copy> Walk<S, A> {
     }
 }
 
-/// A file is refused.
-fn refused<S: Store + Drop>(fault: OpenFault, meter: Meter<S>) -> OpenRefused<S>
+/// A file is refused, and its source handed back.
+pub(crate) fn refused<S: Store + Drop>(fault: OpenFault, meter: Meter<S>) -> OpenRefused<S>
     ensures { result ≡ record { fault = fault; source = meter.source } }
 {
     OpenRefused {
