@@ -1,95 +1,24 @@
 -- Worked files, listed by the definitions.
-use Rattle.std.proofs.Common.{◌≡◌, ◌*◌, ◌∙◌, ℕ, List, [], ◌∷◌, ◌++◌, Option, Some, None, Ok, Err, refl, ap, take}
+use Rattle.std.proofs.Common.{◌≡◌, [], ◌∷◌, ◌++◌, Some, None, Ok, Err, refl, take}
 use Rattle.std.specs.Prelude.{codes, length, map, replicate, sum}
-use Rattle.std.proofs.lemmas.List.Folds.{sum_by-replicate}
-use Rattle.mdmp_source.specs.declared.location.Location.{Location}
-use Rattle.mdmp_source.specs.declared.fault.SourceFault.TheVariants.{Failed}
-use Rattle.mdmp_source.specs.declared.location.Extent.{Extent}
 use Rattle.mdmp_source.specs.declared.location.Extent.TheVariants.{Empty, Absent, Inside, Outside}
-use Rattle.mdmp_wire.specs.Number.{number_at, numbers_at, array_at, le, les, zeros}
-use Rattle.mdmp_wire.specs.Units.{units_over}
-use Rattle.mdmp_map.specs.Ranges.{byte_at, place_of, next_start}
-use Rattle.mdmp_lister.specs.declared.fault.FaultKind.TheVariants.{StreamOutside, ShortStream, BadHeaderSize, BadEntrySize, BadCount, NameLengthOutside, NameOdd, NameUnitsOutside, Source}
-use Rattle.mdmp_lister.specs.declared.fault.FaultKind.{FaultKind}
-use Rattle.mdmp_lister.specs.declared.fault.ListFault.{ListFault}
-use Rattle.mdmp_lister.specs.declared.fault.OpenFault.TheVariants.{TooShort, BadSignature, BadVersion, DirectoryOutside, TooManyRanges}
-use Rattle.mdmp_lister.specs.declared.item.Item.{Item}
-use Rattle.mdmp_lister.specs.declared.item.Item.TheVariants.{Stream, Thread, Module, Unloaded, Exception, System, MemoryInfo, Range}
-use Rattle.mdmp_lister.specs.declared.name.Name.{Name}
+use Rattle.mdmp_wire.specs.Number.{number_at, numbers_at, array_at, le, zeros}
+use Rattle.mdmp_lister.specs.declared.fault.FaultKind.TheVariants.{StreamOutside, ShortStream, BadHeaderSize, BadEntrySize, BadCount, NameLengthOutside}
+use Rattle.mdmp_lister.specs.declared.fault.OpenFault.TheVariants.{TooShort, BadSignature, BadVersion, DirectoryOutside}
+use Rattle.mdmp_lister.specs.declared.item.Item.TheVariants.{Thread, Module, Exception, MemoryInfo}
 use Rattle.mdmp_lister.specs.declared.name.Name.TheVariants.{Units, Long}
 use Rattle.mdmp_lister.specs.declared.name.Name.TheVariants as names
 use Rattle.mdmp_lister.specs.declared.choice.Choice.TheVariants.{All, Types}
 use Rattle.mdmp_lister.specs.Format.Name.{name_at}
-use Rattle.mdmp_lister.specs.Format.Kind.{kind_of}
 use Rattle.mdmp_lister.specs.Format.Shape.{shape_of, record_count}
 use Rattle.mdmp_lister.specs.Format.Item.{sizes_before}
-use Rattle.mdmp_lister.specs.Format.Listing.{Run, Numbered, listing, listing_from, verdicts, entry_count, entries_from, only_chosen, entry_of}
-use Rattle.mdmp_lister.specs.Format.Numbers.{listed, sizes_of, listed_bytes, listed_sizes, ranges_in, ranges_of_all, range_count, answers_of, names_in, most_names_in, names_reached}
+use Rattle.mdmp_lister.specs.Format.Listing.{listing, listing_from, verdicts, entry_count, entries_from, only_chosen, entry_of}
+use Rattle.mdmp_lister.specs.Format.Numbers.{listed, sizes_of, listed_bytes, listed_sizes, range_count, answers_of, names_reached}
 use Rattle.mdmp_lister.specs.Format.Bounds.{held_bound, fetch_bound, call_bound}
-use Rattle.mdmp_lister.specs.Format.Refusal.{most_ranges, directory_refusal, opening_fault}
+use Rattle.mdmp_lister.specs.Format.Refusal.{opening_fault}
 use Rattle.mdmp_lister.specs.Format.Ranges.{ranges_of}
-use Rattle.mdmp_lister.proofs.Files.{system_file, crash_file, head, entry, unused_file, three_threads_file, thread_list_file, three_modules_file, hundred_modules_file, many_entries_file, spread_file, close_file, named_file, faulty_file, memory64_file, wide_file, overlapping_file, exchanged_file, four_entries_file, three_ranges_file, last_address_file, sixteen_entries_file, absent_stack_file, unloaded_head_file, region_file, long_list_file, version_file, opaque_file, codeview_file, misc_file, six_streams_file}
-
--- ---- words of the answers
-
-abbrev at_location : ℕ → ℕ → Location
-at_location size rva = record { size = size; rva = rva }
-
-abbrev stream : ℕ → ℕ → ℕ → ℕ → Item
-stream e t size rva = Stream (record { entry = e; stream_type = t; location = record { size = size; rva = rva } })
-
--- an entry of the directory, with its number
-abbrev numbered : ℕ → ℕ → ℕ → ℕ → Numbered
-numbered e t size rva = record { number = e; entry = record { stream_type = t; location = at_location size rva } }
-
--- a thread of id 7 without stack and context
-abbrev plain_thread : ℕ → Item
-plain_thread e = Thread (record {
-  entry = e;
-  index = 0;
-  fields = record { thread_id = 7; suspend_count = 0; priority_class = 0; priority = 0; teb = 0; stack = record { start_of_memory_range = 0; memory = at_location 0 0 }; thread_context = at_location 0 0 };
-  stack = Empty;
-  context = Empty;
-})
-
-abbrev fault_of : ℕ → Option ℕ → FaultKind → ℕ → ℕ → ListFault
-fault_of e index kind offset size = record { entry = e; index = index; kind = kind; offset = offset; size = size }
-
-abbrev run : List Item → Option ListFault → Run
-run items fault = record { items = items; fault = fault }
-
--- the index and the base of each module
-abbrev bases : List Item → List ℕ
-bases [] = []
-bases (Module m ∷ items) = m.index ∷ m.fields.base_of_image ∷ bases items
-bases (Unloaded u ∷ items) = u.index ∷ u.fields.base_of_image ∷ bases items
-bases (_ ∷ items) = bases items
-
--- what the CodeView record of each module names, and its other debug record
-abbrev debug_records : List Item → List Extent
-debug_records [] = []
-debug_records (Module m ∷ items) = m.codeview ∷ m.misc ∷ debug_records items
-debug_records (_ ∷ items) = debug_records items
-
--- the Stream items alone
-abbrev streams : List Item → List Item
-streams [] = []
-streams (Stream s ∷ items) = Stream s ∷ streams items
-streams (_ ∷ items) = streams items
-
--- the name of the last item
-abbrev name_of : Item → Option Name
-name_of (Module m) = Some m.name
-name_of (Unloaded u) = Some u.name
-name_of (System s) = Some s.name
-name_of _ = None
-
-abbrev last_name : List Item → Option Name
-last_name [] = None
-last_name (x ∷ []) = name_of x
-last_name (x ∷ y ∷ items) = last_name (y ∷ items)
-
--- ---- rows
+use Rattle.mdmp_lister.proofs.Files.{crash_file, head, entry, unused_file, three_threads_file, thread_list_file, three_modules_file, hundred_modules_file, many_entries_file, spread_file, close_file, faulty_file, absent_stack_file, unloaded_head_file, region_file, long_list_file, version_file, opaque_file, codeview_file, misc_file, six_streams_file}
+use Rattle.mdmp_lister.proofs.RowWords.{at_location, stream, numbered, plain_thread, fault_of, run, bases, debug_records, streams, last_name}
 
 -- a file without entries opens, wherever its directory is
 empty-opens : opening_fault (head 0 0xFFFFFFFF) All ≡ None
@@ -278,85 +207,6 @@ long_thread_list : (listing (head 1 32 ++ entry 3 4 44 ++ le 4 0xFFFFFFFF) All 0
 unfolding number_at numbers_at array_at le name_at shape_of entries_from only_chosen sizes_before
 long_thread_list = refl
 
--- names behind an unloaded list, with a limit of 8 bytes
-name-empty : last_name (listing (named_file 80 (zeros 4)) All 8).items ≡ Some (Units (units_over []))
-unfolding number_at numbers_at array_at le name_at shape_of entries_from only_chosen sizes_before
-name-empty = refl
-
-name-of_limit : last_name (listing (named_file 80 (le 4 8 ++ 97 ∷ 0 ∷ 98 ∷ 0 ∷ 99 ∷ 0 ∷ 100 ∷ 0 ∷ [])) All 8).items ≡ Some (Units (units_over (les 2 (codes "abcd"))))
-unfolding number_at numbers_at array_at le name_at shape_of entries_from only_chosen sizes_before
-name-of_limit = refl
-
-name-long : last_name (listing (named_file 80 (le 4 10 ++ zeros 10)) All 8).items ≡ Some (Long 10)
-unfolding number_at numbers_at array_at le name_at shape_of entries_from only_chosen sizes_before
-name-long = refl
-
-name-odd : (listing (named_file 80 (le 4 7 ++ zeros 7)) All 8).fault ≡ Some (fault_of 0 (Some 0) NameOdd 80 7)
-unfolding number_at numbers_at array_at le name_at shape_of entries_from only_chosen sizes_before
-name-odd = refl
-
--- an odd length is told before the units are looked for
-name-odd_outside : (listing (named_file 80 (le 4 7)) All 8).fault ≡ Some (fault_of 0 (Some 0) NameOdd 80 7)
-unfolding number_at numbers_at array_at le name_at shape_of entries_from only_chosen sizes_before
-name-odd_outside = refl
-
-name-units : (listing (named_file 80 (le 4 10 ++ zeros 8)) All 8).fault ≡ Some (fault_of 0 (Some 0) NameUnitsOutside 84 10)
-unfolding number_at numbers_at array_at le name_at shape_of entries_from only_chosen sizes_before
-name-units = refl
-
-name-length : (listing (named_file 80 (8 ∷ 0 ∷ 0 ∷ [])) All 8).fault ≡ Some (fault_of 0 (Some 0) NameLengthOutside 80 4)
-unfolding number_at numbers_at array_at le name_at shape_of entries_from only_chosen sizes_before
-name-length = refl
-
-name-none : last_name (listing (named_file 0 []) All 8).items ≡ Some names.None
-unfolding number_at numbers_at array_at le name_at shape_of entries_from only_chosen sizes_before
-name-none = refl
-
--- a long name is reached
-name-long-reached : names_reached (answers_of (listing (named_file 80 (le 4 10 ++ zeros 10)) All 8)) ≡ 1
-unfolding number_at numbers_at array_at le name_at shape_of entries_from only_chosen sizes_before
-name-long-reached = refl
-
--- and so is one with a fault
-name-odd-reached : names_reached (answers_of (listing (named_file 80 (le 4 7 ++ zeros 7)) All 8)) ≡ 1
-unfolding number_at numbers_at array_at le name_at shape_of entries_from only_chosen sizes_before
-name-odd-reached = refl
-
-name-none-reached : names_reached (answers_of (listing (named_file 0 []) All 8)) ≡ 0
-unfolding number_at numbers_at array_at le name_at shape_of entries_from only_chosen sizes_before
-name-none-reached = refl
-
-name-long-held : held_bound 168 8 1 (range_count (named_file 80 (le 4 10 ++ zeros 10)) All) ≡ 188
-unfolding number_at numbers_at array_at le name_at shape_of entries_from only_chosen sizes_before
-name-long-held = refl
-
-name-long-fetched : fetch_bound 8 1 (listed_bytes (named_file 80 (le 4 10 ++ zeros 10)) All) 1 ≡ 108
-unfolding number_at numbers_at array_at le name_at shape_of entries_from only_chosen sizes_before
-name-long-fetched = refl
-
--- a fault of the store reaches a name or none
-store_fault-least : names_in (Err (fault_of 0 None (Source (Failed 80)) 80 0)) ≡ 0
-unfolding number_at numbers_at array_at le name_at shape_of entries_from only_chosen sizes_before
-store_fault-least = refl
-
-store_fault-most : most_names_in (Err (fault_of 0 None (Source (Failed 80)) 80 0)) ≡ 1
-unfolding number_at numbers_at array_at le name_at shape_of entries_from only_chosen sizes_before
-store_fault-most = refl
-
--- the fault of a stream reaches none, and neither does the end
-stream_fault-most : most_names_in (Err (fault_of 0 None StreamOutside 44 36)) ≡ 0
-unfolding number_at numbers_at array_at le name_at shape_of entries_from only_chosen sizes_before
-stream_fault-most = refl
-
-end-most : most_names_in (Ok None) ≡ 0
-unfolding number_at numbers_at array_at le name_at shape_of entries_from only_chosen sizes_before
-end-most = refl
-
--- two names with a fault, each in an entry of its own
-two_faults-reached : names_reached (Err (fault_of 0 (Some 0) NameOdd 80 7) ∷ Ok (Some (stream 1 14 36 44)) ∷ Err (fault_of 1 (Some 0) NameUnitsOutside 84 10) ∷ []) ≡ 2
-unfolding number_at numbers_at array_at le name_at shape_of entries_from only_chosen sizes_before
-two_faults-reached = refl
-
 -- the items before the first fault, and that fault
 faulty-fault : (listing faulty_file All 0).fault ≡ Some (fault_of 1 (Some 0) NameLengthOutside 4294967295 4)
 unfolding number_at numbers_at array_at le name_at shape_of entries_from only_chosen sizes_before
@@ -376,54 +226,6 @@ faulty-rest : listing_from faulty_file All 0 2 ≡ run (stream 2 10 5 236 ∷ []
 unfolding number_at numbers_at array_at le name_at shape_of entries_from only_chosen sizes_before
 faulty-rest = refl
 
--- ranges of 64-bit memory stand one behind the other
-memory64-listing : listing memory64_file All 0 ≡ run (stream 0 9 48 44 ∷ Range (record { entry = 0; index = 0; start = 0x1000; size = 4; extent = Inside; offset = 92 }) ∷ Range (record { entry = 0; index = 1; start = 0x2000; size = 4; extent = Outside; offset = 96 }) ∷ []) None
-unfolding number_at numbers_at array_at le name_at shape_of entries_from only_chosen sizes_before
-memory64-listing = refl
-
-memory64-byte : map (byte_at memory64_file (ranges_of (listing memory64_file All 0).items)) (0xfff ∷ 0x1000 ∷ 0x1003 ∷ 0x1004 ∷ 0x2000 ∷ []) ≡ None ∷ Some 0x41 ∷ Some 0x44 ∷ None ∷ None ∷ []
-unfolding number_at numbers_at array_at le name_at shape_of entries_from only_chosen sizes_before
-memory64-byte = refl
-
-wide-listing : listing wide_file All 0 ≡ run (stream 0 9 64 44 ∷ Range (record { entry = 0; index = 0; start = 0x1000; size = 0xFFFFFFFFFFFFFFFF; extent = Outside; offset = 108 }) ∷ Range (record { entry = 0; index = 1; start = 0x2000; size = 0xFFFFFFFFFFFFFFFF; extent = Outside; offset = 18446744073709551723 }) ∷ Range (record { entry = 0; index = 2; start = 0x3000; size = 1; extent = Outside; offset = 36893488147419103338 }) ∷ []) None
-unfolding number_at numbers_at array_at le name_at shape_of entries_from only_chosen sizes_before
-wide-listing = refl
-
-wide-ranges : range_count wide_file All ≡ 3
-unfolding number_at numbers_at array_at le name_at shape_of entries_from only_chosen sizes_before
-wide-ranges = refl
-
--- the first of two ranges that hold an address gives its byte
-overlapping-bytes : map (byte_at overlapping_file (ranges_of (listing overlapping_file All 0).items)) (0xfff ∷ 0x1000 ∷ 0x1001 ∷ 0x1002 ∷ 0x1003 ∷ 0x1004 ∷ 0x1005 ∷ 0x1006 ∷ []) ≡ None ∷ Some 0x41 ∷ Some 0x42 ∷ Some 0x43 ∷ Some 0x44 ∷ Some 0x79 ∷ Some 0x7a ∷ None ∷ []
-unfolding number_at numbers_at array_at le name_at shape_of entries_from only_chosen sizes_before
-overlapping-bytes = refl
-
-exchanged-bytes : map (byte_at exchanged_file (ranges_of (listing exchanged_file All 0).items)) (0xfff ∷ 0x1000 ∷ 0x1001 ∷ 0x1002 ∷ 0x1003 ∷ 0x1004 ∷ 0x1005 ∷ 0x1006 ∷ []) ≡ None ∷ Some 0x41 ∷ Some 0x42 ∷ Some 0x77 ∷ Some 0x78 ∷ Some 0x79 ∷ Some 0x7a ∷ None ∷ []
-unfolding number_at numbers_at array_at le name_at shape_of entries_from only_chosen sizes_before
-exchanged-bytes = refl
-
-overlapping-place : place_of (ranges_of (listing overlapping_file All 0).items) 0x1004 ≡ Some (record { offset = 86; left = 2 })
-unfolding number_at numbers_at array_at le name_at shape_of entries_from only_chosen sizes_before next_start
-overlapping-place = refl
-
--- only a range inside the file has bytes
-three_ranges-inside : ranges_of (listing three_ranges_file All 0).items ≡ record { start = 0x3000; length = 4; offset = 96 } ∷ []
-unfolding number_at numbers_at array_at le name_at shape_of entries_from only_chosen sizes_before
-three_ranges-inside = refl
-
-three_ranges-bytes : map (byte_at three_ranges_file (ranges_of (listing three_ranges_file All 0).items)) (0x1000 ∷ 0x2000 ∷ 0x3000 ∷ 0x3003 ∷ []) ≡ None ∷ None ∷ Some 0x41 ∷ Some 0x44 ∷ []
-unfolding number_at numbers_at array_at le name_at shape_of entries_from only_chosen sizes_before
-three_ranges-bytes = refl
-
--- addresses end at the last one
-last_address-bytes : map (byte_at last_address_file (ranges_of (listing last_address_file All 0).items)) (0xFFFFFFFFFFFFFFF8 ∷ 0xFFFFFFFFFFFFFFFF ∷ []) ≡ Some 0x41 ∷ Some 0x48 ∷ []
-unfolding number_at numbers_at array_at le name_at shape_of entries_from only_chosen sizes_before
-last_address-bytes = refl
-
-last_address-no_wrap : map (byte_at last_address_file (ranges_of (listing last_address_file All 0).items)) (0 ∷ 1 ∷ 0x10000000000000000 ∷ 0x10000000000000001 ∷ []) ≡ None ∷ None ∷ None ∷ None ∷ []
-unfolding number_at numbers_at array_at le name_at shape_of entries_from only_chosen sizes_before
-last_address-no_wrap = refl
-
 -- a thread without its stack's bytes
 absent_stack-listing : listing absent_stack_file All 0 ≡ run (stream 0 3 52 44 ∷ Thread (record { entry = 0; index = 0; fields = record { thread_id = 7; suspend_count = 0; priority_class = 0; priority = 0; teb = 0; stack = record { start_of_memory_range = 0x7000; memory = at_location 256 0 }; thread_context = at_location 1 96 }; stack = Absent; context = Inside }) ∷ []) None
 unfolding number_at numbers_at array_at le name_at shape_of entries_from only_chosen sizes_before
@@ -432,43 +234,6 @@ absent_stack-listing = refl
 absent_stack-cut : listing (take 96 absent_stack_file) All 0 ≡ run (stream 0 3 52 44 ∷ Thread (record { entry = 0; index = 0; fields = record { thread_id = 7; suspend_count = 0; priority_class = 0; priority = 0; teb = 0; stack = record { start_of_memory_range = 0x7000; memory = at_location 256 0 }; thread_context = at_location 1 96 }; stack = Absent; context = Outside }) ∷ []) None
 unfolding number_at numbers_at array_at le name_at shape_of entries_from only_chosen sizes_before
 absent_stack-cut = refl
-
--- a system with the name of its service pack, whole and cut
-system-opens : opening_fault system_file All ≡ None
-unfolding number_at numbers_at array_at le name_at shape_of entries_from only_chosen sizes_before
-system-opens = refl
-
-system-listing : listing system_file All 4096 ≡ run (stream 0 7 56 44 ∷ System (record { entry = 0; index = 0; fields = record { processor_architecture = 9; processor_level = 6; processor_revision = 3; number_of_processors = 4; product_type = 1; major_version = 6; minor_version = 1; build_number = 7601; platform_id = 2; csd_version_rva = 100; suite_mask = 256; reserved2 = 0; cpu = replicate 24 0 }; name = Units (units_over (les 2 (codes "Service Pack 1"))) }) ∷ []) None
-unfolding number_at numbers_at array_at le name_at shape_of entries_from only_chosen sizes_before
-system-listing = refl
-
-system-held : held_bound 65536 4096 1 (range_count system_file All) ≡ 69644
-unfolding number_at numbers_at array_at le name_at shape_of entries_from only_chosen sizes_before
-system-held = refl
-
-system-fetched : fetch_bound 4096 1 (listed_bytes system_file All) 1 ≡ 4216
-unfolding number_at numbers_at array_at le name_at shape_of entries_from only_chosen sizes_before
-system-fetched = refl
-
-system-132 : last_name (listing (take 132 system_file) All 4096).items ≡ Some (Units (units_over (les 2 (codes "Service Pack 1"))))
-unfolding number_at numbers_at array_at le name_at shape_of entries_from only_chosen sizes_before
-system-132 = refl
-
-system-131 : (listing (take 131 system_file) All 4096).fault ≡ Some (fault_of 0 (Some 0) NameUnitsOutside 104 28)
-unfolding number_at numbers_at array_at le name_at shape_of entries_from only_chosen sizes_before
-system-131 = refl
-
-system-103 : (listing (take 103 system_file) All 4096).fault ≡ Some (fault_of 0 (Some 0) NameLengthOutside 100 4)
-unfolding number_at numbers_at array_at le name_at shape_of entries_from only_chosen sizes_before
-system-103 = refl
-
-system-99 : listing (take 99 system_file) All 4096 ≡ run (stream 0 7 56 44 ∷ []) (Some (fault_of 0 None StreamOutside 44 56))
-unfolding number_at numbers_at array_at le name_at shape_of entries_from only_chosen sizes_before
-system-99 = refl
-
-system-43 : opening_fault (take 43 system_file) All ≡ Some (DirectoryOutside 32 12)
-unfolding number_at numbers_at array_at le name_at shape_of entries_from only_chosen sizes_before
-system-43 = refl
 
 -- heads of a list that say their own sizes
 unloaded-low_header : listing (head 1 32 ++ entry 14 36 44 ++ le 4 11 ++ le 4 24 ++ le 4 1 ++ zeros 24) All 0 ≡ run (stream 0 14 36 44 ∷ []) (Some (fault_of 0 None BadHeaderSize 44 11))
@@ -542,54 +307,6 @@ six_streams-fault = refl
 six_streams-streams : streams (listing six_streams_file All 4096).items ≡ stream 0 7 56 104 ∷ stream 1 3 52 196 ∷ stream 2 4 4 260 ∷ stream 3 6 168 264 ∷ stream 4 5 4 436 ∷ stream 5 12 4 440 ∷ []
 unfolding number_at numbers_at array_at le name_at shape_of entries_from only_chosen sizes_before
 six_streams-streams = refl
-
--- the ranges of a list that two entries name count twice
-twice_counted : range_count (head 2 32 ++ entry 5 36 56 ++ entry 5 36 56 ++ le 4 2 ++ zeros 32) All ≡ 4
-unfolding number_at numbers_at array_at le name_at shape_of entries_from only_chosen sizes_before
-twice_counted = refl
-
-sixteen_entries-ranges : range_count sixteen_entries_file All ≡ 272
-unfolding number_at numbers_at array_at le name_at shape_of entries_from only_chosen sizes_before
-sixteen_entries-ranges = refl
-
-sixteen_entries-opens : opening_fault sixteen_entries_file All ≡ None
-unfolding number_at numbers_at array_at le name_at shape_of entries_from only_chosen sizes_before
-sixteen_entries-opens = refl
-
-most_ranges-number : most_ranges ≡ 268435456
-unfolding number_at numbers_at array_at le name_at shape_of entries_from only_chosen sizes_before
-most_ranges-number = refl
-
-most_ranges-taken : (F : List ℕ) → directory_refusal F ≡ None → range_count F All ≡ 268435456 → opening_fault F All ≡ None
-most_ranges-taken F opens counted = rw (opens, counted) refl
-
-most_ranges-passed : (F : List ℕ) → directory_refusal F ≡ None → range_count F All ≡ 268435457 → opening_fault F All ≡ Some (TooManyRanges 268435457)
-most_ranges-passed F opens counted = rw (opens, counted) refl
-
--- 16384 entries that name one list of 16385 ranges: of the list itself its number of ranges alone is looked at
-too_many-ranges : (F : List ℕ) (x : Numbered) → ranges_in F x.entry (kind_of x.entry.stream_type) ≡ 16385 → ranges_of_all F (replicate 16384 x) ≡ 268451840
-too_many-ranges F x one = sum_by-replicate (λ (y : Numbered). ranges_in F y.entry (kind_of y.entry.stream_type)) 16384 x ∙ ap (λ n. 16384 * n) one
-
-too_many-opens : (F : List ℕ) → directory_refusal F ≡ None → range_count F All ≡ 268451840 → opening_fault F All ≡ Some (TooManyRanges 268451840)
-too_many-opens F opens counted = rw (opens, counted) refl
-
--- three unused entries and two ranges
-four_entries-held : held_bound 176 16 4 (range_count four_entries_file All) ≡ 288
-unfolding number_at numbers_at array_at le name_at shape_of entries_from only_chosen sizes_before
-four_entries-held = refl
-
-four_entries-listing : listing four_entries_file All 16 ≡ run (stream 0 0 0 0 ∷ stream 1 0 0 0 ∷ stream 2 0 0 0 ∷ stream 3 5 36 80 ∷ Range (record { entry = 3; index = 0; start = 0; size = 0; extent = Empty; offset = 0 }) ∷ Range (record { entry = 3; index = 1; start = 0; size = 0; extent = Empty; offset = 0 }) ∷ []) None
-unfolding number_at numbers_at array_at le name_at shape_of entries_from only_chosen sizes_before
-four_entries-listing = refl
-
-four_entries-ranges : range_count four_entries_file All ≡ 2
-unfolding number_at numbers_at array_at le name_at shape_of entries_from only_chosen sizes_before
-four_entries-ranges = refl
-
--- ranges without bytes count, but none of them holds an address
-four_entries-inside : ranges_of (listing four_entries_file All 16).items ≡ []
-unfolding number_at numbers_at array_at le name_at shape_of entries_from only_chosen sizes_before
-four_entries-inside = refl
 
 -- how many records an entry has
 records-one : record_count three_threads_file (entry_of three_threads_file 2) ≡ Ok 1
