@@ -1,5 +1,5 @@
 //! What is wrong with a file, and where.
-ghost use Rattle.std.specs.Prelude.{◌≡◌, None, Err};
+ghost use Rattle.std.specs.Prelude.{◌≡◌, None};
 
 use mdmp_source::SourceFault;
 

@@ -1,5 +1,5 @@
 //! The name of an item, and the one at an RVA of a whole file.
-ghost use Rattle.std.specs.Prelude.{◌≡◌, ◌≤◌, ◌+◌, ◌%◌, ◌==◌, if◌then◌else◌, not, Ok, Err};
+ghost use Rattle.std.specs.Prelude.{◌≡◌, ◌≤◌, ◌+◌, ◌%◌, ◌==◌, if◌then◌else◌, not};
 ghost use Rattle.mdmp_source.specs.Range.{is_inside};
 ghost use Rattle.std.specs.Result.{result_map_both};
 ghost use Rattle.mdmp_lister.specs.Format.Name.{name_at, plain_name};
