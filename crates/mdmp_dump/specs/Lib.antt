@@ -1,0 +1,12 @@
+pub mod Exception
+pub mod LaysOut
+pub mod Memory
+pub mod Memory64
+pub mod Module
+pub mod Name
+pub mod Part
+pub mod Refusal
+pub mod System
+pub mod Thread
+pub mod Unloaded
+pub mod Value

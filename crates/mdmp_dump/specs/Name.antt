@@ -1,0 +1,21 @@
+-- The name of a record, as its units.
+use Rattle.std.specs.Prelude.{◌≡◌, ℕ, ◌^◌, List, Option, Some, None, Ok}
+use Rattle.std.specs.Result.{result_map_both}
+use Rattle.mdmp_wire.specs.Units.{units_in}
+use Rattle.mdmp_lister.specs.declared.name.Name.{Name}
+use Rattle.mdmp_lister.specs.declared.name.Name.TheVariants as names
+use Rattle.mdmp_lister.specs.Format.Name.{name_at}
+
+-- the units of a name, or that there is none; nothing of a long one
+abbrev pub name_told : Name → Option (Option (List ℕ))
+name_told names.None = Some None
+name_told (names.Units units) = Some (Some (units_in units))
+name_told (names.Long size) = None
+
+-- every name is shorter
+abbrev pub no_limit : ℕ
+no_limit = 2 ^ 32
+
+-- the name, or none, stands at rva
+abbrev pub IsName : List ℕ → ℕ → Option (List ℕ) → Type 0
+IsName F rva name = result_map_both name_told (λ fault. fault) (name_at F rva no_limit) ≡ Ok (Some name)

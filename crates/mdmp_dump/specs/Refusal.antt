@@ -1,0 +1,87 @@
+-- Why a file gives no dump, where memory suffices and its bytes are obtained.
+use Rattle.std.specs.Prelude.{ℕ, ◌+◌, List, [], ◌∷◌, ◌++◌, length, Option, Some, None, not, ◌==◌, ◌&&◌, nat_lt, if◌then◌else◌, is_none, option_map, flat_map}
+use Rattle.mdmp_source.specs.Range.{is_inside}
+use Rattle.mdmp_source.specs.declared.location.Location.{Location}
+use Rattle.mdmp_source.specs.declared.location.Extent.{Extent}
+use Rattle.mdmp_source.specs.declared.location.Extent.TheVariants as classes
+use Rattle.mdmp_lister.specs.declared.choice.Choice.{Choice}
+use Rattle.mdmp_lister.specs.declared.fault.OpenFault.{OpenFault}
+use Rattle.mdmp_lister.specs.declared.name.Name.{Name}
+use Rattle.mdmp_lister.specs.declared.name.Name.TheVariants.{Long}
+use Rattle.mdmp_lister.specs.declared.item.Item.{Item}
+use Rattle.mdmp_lister.specs.declared.item.Item.TheVariants as items
+use Rattle.mdmp_lister.specs.Format.Kind.{is_known}
+use Rattle.mdmp_lister.specs.Format.Listing.{Run, listing}
+use Rattle.mdmp_lister.specs.Format.Refusal.{opening_fault}
+use Rattle.mdmp_dump.specs.declared.fault.PartName.{PartName}
+use Rattle.mdmp_dump.specs.declared.fault.PartName.TheVariants.{Stack, Context, CodeView, Misc, Memory}
+use Rattle.mdmp_dump.specs.declared.fault.ReadFault.{ReadFault}
+use Rattle.mdmp_dump.specs.declared.fault.ReadFault.TheVariants as faults
+
+-- what an item asks of a reader: to refuse it, or to take so many bytes for the item with this entry and index
+pub data Step : Type 0 where
+  Refuse : ReadFault → Step
+  Take : ℕ → ℕ → ℕ → Step
+
+-- ---- names and parts, of the item with entry e and index k
+
+-- a long name is refused
+abbrev pub name_steps : ℕ → ℕ → Name → List Step
+name_steps e k (Long bytes) = Refuse (faults.NameTooLong e k bytes) ∷ []
+name_steps e k _ = []
+
+-- a part is refused outside the file, and taken inside
+abbrev pub part_steps : ℕ → ℕ → PartName → ℕ → ℕ → Extent → List Step
+part_steps e k part offset size classes.Outside = Refuse (faults.PartOutside e k part offset size) ∷ []
+part_steps e k part offset size classes.Inside = Take e k size ∷ []
+part_steps e k part offset size _ = []
+
+-- the same of a part that a location of this class names
+abbrev pub location_steps : ℕ → ℕ → PartName → Location → Extent → List Step
+location_steps e k part at extent = part_steps e k part at.rva at.size extent
+
+-- ---- items
+
+-- the bytes of a stream whose records are not known are taken, inside a file of `size` bytes
+abbrev pub stream_steps : ℕ → ℕ → ℕ → Location → List Step
+stream_steps size e t at =
+    if not (t == 0) && not (is_known t) && is_inside at.rva at.size size then Take e 0 at.size ∷ [] else []
+
+-- what an item of a file of `size` bytes asks, the name first and then the parts in the order of its fields
+abbrev pub item_steps : ℕ → Item → List Step
+item_steps size (items.Stream x) = stream_steps size x.entry x.stream_type x.location
+item_steps size (items.Thread x) =
+    location_steps x.entry x.index Stack x.fields.stack.memory x.stack
+    ++ location_steps x.entry x.index Context x.fields.thread_context x.context
+item_steps size (items.Module x) =
+    name_steps x.entry x.index x.name
+    ++ location_steps x.entry x.index CodeView x.fields.cv_record x.codeview
+    ++ location_steps x.entry x.index Misc x.fields.misc_record x.misc
+item_steps size (items.Unloaded x) = name_steps x.entry x.index x.name
+item_steps size (items.Exception x) = location_steps x.entry x.index Context x.fields.thread_context x.context
+item_steps size (items.System x) = name_steps x.entry x.index x.name
+item_steps size (items.MemoryInfo x) = []
+item_steps size (items.Range x) = part_steps x.entry x.index Memory x.offset x.size x.extent
+
+-- ---- a file
+
+-- the first step that is refused, or with which more than the limit was taken in all, or else the last fault
+unfoldable pub first_refusal : ℕ → ℕ → List Step → Option ReadFault → Option ReadFault
+first_refusal limit total [] last = last
+first_refusal limit total (Refuse fault ∷ steps) last = Some fault
+first_refusal limit total (Take e k size ∷ steps) last =
+    if nat_lt limit (total + size) then Some (faults.PartsTooLarge e k) else first_refusal limit (total + size) steps last
+
+-- the first refusal among the items of a run, or else its fault
+abbrev pub run_refusal : List ℕ → ℕ → Run → Option ReadFault
+run_refusal F limit run = first_refusal limit 0 (flat_map (item_steps (length F)) run.items) (option_map faults.List run.fault)
+
+-- the refusal to open a file, or else that of its listing
+abbrev pub opened_refusal : List ℕ → Choice → ℕ → ℕ → Option OpenFault → Option ReadFault
+opened_refusal F choice name_limit limit (Some fault) = Some (faults.Opening fault)
+opened_refusal F choice name_limit limit None = run_refusal F limit (listing F choice name_limit)
+
+-- the first reason why F gives no dump of its chosen entries, where names have at most name_limit bytes each and the
+-- parts, with the streams whose records are not known, at most limit bytes in all, or none
+abbrev pub read_refusal : List ℕ → Choice → ℕ → ℕ → Option ReadFault
+read_refusal F choice name_limit limit = opened_refusal F choice name_limit limit (opening_fault F choice)

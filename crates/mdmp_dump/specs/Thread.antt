@@ -1,0 +1,26 @@
+-- A thread of a dump: MINIDUMP_THREAD.
+use Rattle.std.specs.Prelude.{◌≡◌, ℕ, List}
+use Rattle.mdmp_source.specs.declared.location.Location.{Location}
+use Rattle.mdmp_wire.specs.declared.thread.ThreadRecord.{ThreadRecord}
+use Rattle.mdmp_wire.specs.Thread.{thread_at}
+use Rattle.mdmp_dump.specs.declared.thread.Thread.{Thread}
+use Rattle.mdmp_dump.specs.Part.{IsPart}
+
+module _ {Z : Type 0} where
+  -- its record in a file, with the locations of its stack and its context
+  abbrev pub thread_record : Thread Z → Location → Location → ThreadRecord
+  thread_record x stack context = record {
+    thread_id = x.thread_id;
+    suspend_count = x.suspend_count;
+    priority_class = x.priority_class;
+    priority = x.priority;
+    teb = x.teb;
+    stack = record { start_of_memory_range = x.stack_start; memory = stack };
+    thread_context = context;
+  }
+
+  -- the record at o is that of the thread, and its locations name the stack and the context
+  pub record IsThread (F : List ℕ) (o : ℕ) (x : Thread Z) : Type 0 where
+    pub fields : thread_at F o ≡ thread_record x (thread_at F o).stack.memory (thread_at F o).thread_context
+    pub stack : IsPart F (thread_at F o).stack.memory x.stack
+    pub context : IsPart F (thread_at F o).thread_context x.context

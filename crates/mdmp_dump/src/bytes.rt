@@ -1,0 +1,41 @@
+//! Bytes in memory of their own.
+ghost use Rattle.std.specs.Prelude.{◌≡◌, ℕ, List};
+
+use std::alloc::Allocator;
+use std::marker::Model;
+
+/// Bytes in memory of their own, as a part or a stream has them.
+// Contracts see them as a list, so that the definitions speak of a dump itself.
+#[derive(Drop)]
+pub struct Bytes<A: Allocator> {
+    bytes: Vec<u8, A>,
+}
+
+impl<A: Allocator> Model for Bytes<A> {
+    ghost Value = { List ℕ };
+
+    ghost view = { λ b. b.bytes.items };
+}
+
+impl<A: Allocator> Bytes<A> {
+    /// These bytes.
+    pub fn new(bytes: Vec<u8, A>) -> Bytes<A>
+        ensures { result ≡ bytes.items }
+    {
+        Bytes { bytes }
+    }
+
+    /// The bytes, lent.
+    pub fn as_slice(&self) -> &[u8]
+        ensures { result.now ≡ self.now }
+    {
+        self.bytes.as_slice()
+    }
+
+    /// The bytes, given back.
+    pub fn into_vec(self) -> Vec<u8, A>
+        ensures { result.items ≡ self }
+    {
+        self.bytes
+    }
+}

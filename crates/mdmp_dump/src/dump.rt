@@ -1,0 +1,53 @@
+//! A dump, and its streams.
+
+use crate::bytes::Bytes;
+use crate::exception::Exception;
+use crate::memory::MemoryRange;
+use crate::memory64::Memory64Range;
+use crate::module::Module;
+use crate::records::Records;
+use crate::system::System;
+use crate::thread::Thread;
+use crate::unloaded::Unloaded;
+use mdmp_wire::MemoryInfoRecord;
+use std::alloc::Allocator;
+
+/// A stream of a dump. The number is that of its type, the `StreamType` of a file's directory.
+#[derive(Drop)]
+pub enum Stream<A: Allocator> {
+    /// `UnusedStream`, 0: an entry of the directory that names nothing.
+    Unused,
+    /// `ThreadListStream`, 3.
+    Threads(Records<Thread<A>, A>),
+    /// `ModuleListStream`, 4.
+    Modules(Records<Module<A>, A>),
+    /// `MemoryListStream`, 5.
+    Memory(Records<MemoryRange<A>, A>),
+    /// `ExceptionStream`, 6.
+    Exception(Exception<A>),
+    /// `SystemInfoStream`, 7.
+    System(System<A>),
+    /// `Memory64ListStream`, 9.
+    Memory64(Records<Memory64Range<A>, A>),
+    /// `UnloadedModuleListStream`, 14.
+    Unloaded(Records<Unloaded<A>, A>),
+    /// `MemoryInfoListStream`, 16.
+    MemoryInfo(Records<MemoryInfoRecord, A>),
+    /// A stream of another type, which comes first, and its bytes.
+    Raw(u32, Bytes<A>),
+}
+
+/// A minidump as a value.
+#[derive(Drop)]
+pub struct Dump<A: Allocator> {
+    /// The high half of the header's `Version`, which belongs to the producer.
+    pub version_high: u16,
+    /// The header's `CheckSum`.
+    pub checksum: u32,
+    /// The header's `TimeDateStamp`, in seconds since 1970.
+    pub time: u32,
+    /// The header's `Flags`.
+    pub flags: u64,
+    /// The streams, in the order of the directory.
+    pub streams: Records<Stream<A>, A>,
+}

@@ -1,0 +1,41 @@
+//! A minidump as a value.
+//!
+//! A [`Dump`] has the header's own numbers and its streams, in the order of the directory. A
+//! [`Stream`] whose records are known has them as values, one type for each kind ([`Thread`],
+//! [`Module`] ..); any other has its bytes. A record of a dump has the fields of the structure that
+//! it is in a file, but where that says where a name or a part stands, it has the name's units or
+//! the part itself, a [`Part`]. [`Bytes`] and [`Records`] are lists in memory of their own.
+//! [`ReadFault`] says why a file gives no dump.
+//!
+//! The definitions in `specs/LaysOut.antt` say when a file lays out a dump, those in
+//! `specs/Refusal.antt` why it gives none. Two laws are functions that do nothing:
+//! [`a_file_lays_out_one_dump`] and [`a_choice_lays_out_a_part`].
+#![tactic(auto)]
+
+mod bytes;
+mod dump;
+mod exception;
+mod fault;
+mod laws;
+mod memory;
+mod memory64;
+mod module;
+mod part;
+mod records;
+mod system;
+mod thread;
+mod unloaded;
+
+pub use crate::bytes::Bytes;
+pub use crate::dump::{Dump, Stream};
+pub use crate::exception::Exception;
+pub use crate::fault::{PartName, ReadFault};
+pub use crate::laws::{a_choice_lays_out_a_part, a_file_lays_out_one_dump};
+pub use crate::memory::MemoryRange;
+pub use crate::memory64::Memory64Range;
+pub use crate::module::Module;
+pub use crate::part::{Part, PositiveSize};
+pub use crate::records::Records;
+pub use crate::system::System;
+pub use crate::thread::Thread;
+pub use crate::unloaded::Unloaded;
