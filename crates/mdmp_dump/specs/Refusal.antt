@@ -1,5 +1,5 @@
 -- Why a file gives no dump, where memory suffices and its bytes are obtained.
-use Rattle.std.specs.Prelude.{ℕ, ◌+◌, List, [], ◌∷◌, ◌++◌, length, Option, Some, None, not, ◌==◌, ◌&&◌, nat_lt, if◌then◌else◌, is_none, option_map, flat_map}
+use Rattle.std.specs.Prelude.{ℕ, ◌+◌, List, [], ◌∷◌, ◌++◌, length, Option, Some, None, not, ◌==◌, ◌&&◌, nat_lt, if◌then◌else◌, option_map, flat_map}
 use Rattle.mdmp_source.specs.Range.{is_inside}
 use Rattle.mdmp_source.specs.declared.location.Location.{Location}
 use Rattle.mdmp_source.specs.declared.location.Extent.{Extent}
