@@ -1,11 +1,15 @@
 //! Units of UTF-16 that are owned.
-ghost use Rattle.std.specs.Prelude.{◌≡◌, ◌++◌, ◌%◌, ℕ, List, length, IfOk};
+ghost use Rattle.std.specs.Prelude.{◌≡◌, ◌==◌, ◌++◌, ◌%◌, ℕ, List, length, IfOk};
+ghost use Rattle.std.proofs.Common.{rules};
+ghost use Rattle.std.specs.Cmp.Lexicographic.{pointwise};
+ghost use Rattle.std.specs.Cmp.Rules.{comparing};
 ghost use Rattle.std.specs.Char.Escape.{encode_utf16};
 ghost use Rattle.mdmp_wire.specs.Units.{units_of, units_in, utf16_of, utf8_of};
 
 use crate::units_ref::UnitsRef;
 use byteorder::{ByteOrder, LittleEndian};
 use std::alloc::{AllocError, Allocator};
+use std::fmt::{self, Debug};
 use std::marker::Model;
 
 /// Units of UTF-16, as the `Buffer` of a `MINIDUMP_STRING`, in memory of their own.
@@ -49,6 +53,27 @@ impl<A: Allocator> Units<A> {
         ensures { units_in result ≡ self.now }
     {
         UnitsRef::over(&self.bytes)
+    }
+}
+
+/// They are the same units, one by one.
+impl<A: Allocator> PartialEq for Units<A> {
+    ghost eq = { pointwise ◌==◌ };
+
+    ghost laws = { Prim.search (comparing, rules) };
+
+    fn eq(&self, other: &Units<A>) -> bool {
+        self.view() == other.view()
+    }
+}
+
+impl<A: Allocator> Eq for Units<A> {
+    ghost laws = { Prim.search (comparing, rules) };
+}
+
+impl<A: Allocator> Debug for Units<A> {
+    fn fmt<W: fmt::Write>(&self, f: &mut fmt::Formatter<W>) -> fmt::Result {
+        self.view().fmt(f)
     }
 }
 

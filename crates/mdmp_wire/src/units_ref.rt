@@ -1,7 +1,10 @@
 //! Units of UTF-16 that are lent.
-ghost use Rattle.std.specs.Prelude.{◌≡◌, ◌<◌, ◌%◌, length, slice_index, IfOk, IsTrue, ◌↔◌, string_bytes};
+ghost use Rattle.std.specs.Prelude.{◌≡◌, ◌==◌, ◌<◌, ◌%◌, length, slice_index, IfOk, IsTrue, ◌↔◌, string_bytes};
+ghost use Rattle.std.proofs.Common.{rules};
+ghost use Rattle.std.specs.Cmp.Lexicographic.{pointwise};
+ghost use Rattle.std.specs.Cmp.Rules.{comparing};
 ghost use Rattle.mdmp_source.specs.Output.{Puts};
-ghost use Rattle.mdmp_wire.specs.Escape.{escaped, escaped_unit};
+ghost use Rattle.mdmp_wire.specs.Escape.{escaped, escaped_unit, is_plain};
 ghost use Rattle.mdmp_wire.specs.Units.{units_of, units_in, units_over, plain_units, utf8_of};
 
 use crate::digits::hex_digits;
@@ -9,6 +12,7 @@ use crate::record::get_at;
 use crate::units::Units;
 use mdmp_source::{Out, OutFailed, write_all};
 use std::alloc::{AllocError, Allocator};
+use std::fmt::{self, Debug};
 
 /// Units of UTF-16, as the `Buffer` of a `MINIDUMP_STRING`, over the bytes that they stand in.
 ///
@@ -86,11 +90,57 @@ impl<'a> UnitsRef<'a> {
     }
 }
 
+/// They are the same units, one by one, wherever they stand.
+impl<'a> PartialEq for UnitsRef<'a> {
+    ghost eq = { λ units others. pointwise ◌==◌ (units_in units) (units_in others) };
+
+    ghost laws = { Prim.search (comparing, rules) };
+
+    fn eq(&self, other: &UnitsRef<'a>) -> bool {
+        if self.len() != other.len() {
+            return false;
+        }
+        for index in 0..self.len() {
+            if self.get(index) != other.get(index) {
+                return false;
+            }
+        }
+        true
+    }
+}
+
+impl<'a> Eq for UnitsRef<'a> {
+    ghost laws = { Prim.search (comparing, rules) };
+}
+
+/// The units between two double quotes, as [`UnitsRef::escape_into`] writes them.
+impl<'a> Debug for UnitsRef<'a> {
+    fn fmt<W: fmt::Write>(&self, f: &mut fmt::Formatter<W>) -> fmt::Result {
+        f.write_str("\"")?;
+        for index in 0..self.len() {
+            let unit = self.get(index);
+            if is_plain(unit) {
+                f.write_char(char::from(unit as u8))?;
+            } else {
+                write!(f, "\\u{unit:04x}")?;
+            }
+        }
+        f.write_str("\"")
+    }
+}
+
+/// Whether a unit is printed as it is.
+fn is_plain(unit: u16) -> bool
+    ensures { result ≡ is_plain unit }
+{
+    0x20 <= unit && unit <= 0x7e && unit != 0x5c
+}
+
 /// Writes a unit as it is printed.
 fn put_unit<O: Out>(out: &mut O, unit: u16) -> Result<(), OutFailed>
     ensures { Puts result (O.state out.old) (escaped_unit unit) (O.state out.new) }
 {
-    if 0x20 <= unit && unit <= 0x7e && unit != 0x5c {
+    if is_plain(unit) {
         write_all(out, &[unit as u8])
     } else {
         let mut escape = *b"\\u0000";
