@@ -1,7 +1,11 @@
 //! Bytes in memory of their own.
-ghost use Rattle.std.specs.Prelude.{◌≡◌, ℕ, List};
+ghost use Rattle.std.specs.Prelude.{◌≡◌, ◌==◌, ℕ, List};
+ghost use Rattle.std.proofs.Common.{rules};
+ghost use Rattle.std.specs.Cmp.Lexicographic.{pointwise};
+ghost use Rattle.std.specs.Cmp.Rules.{comparing};
 
 use std::alloc::Allocator;
+use std::fmt::{self, Debug};
 use std::marker::Model;
 
 /// Bytes in memory of their own, as a part or a stream has them.
@@ -37,5 +41,25 @@ impl<A: Allocator> Bytes<A> {
         ensures { result.items ≡ self }
     {
         self.bytes
+    }
+}
+
+impl<A: Allocator> PartialEq for Bytes<A> {
+    ghost eq = { pointwise ◌==◌ };
+
+    ghost laws = { Prim.search (comparing, rules) };
+
+    fn eq(&self, other: &Bytes<A>) -> bool {
+        self.as_slice() == other.as_slice()
+    }
+}
+
+impl<A: Allocator> Eq for Bytes<A> {
+    ghost laws = { Prim.search (comparing, rules) };
+}
+
+impl<A: Allocator> Debug for Bytes<A> {
+    fn fmt<W: fmt::Write>(&self, f: &mut fmt::Formatter<W>) -> fmt::Result {
+        self.as_slice().fmt(f)
     }
 }

@@ -14,6 +14,7 @@ use std::alloc::Allocator;
 
 /// A stream of a dump. The number is that of its type, the `StreamType` of a file's directory.
 #[derive(Drop)]
+#[derive_where(Debug, PartialEq, Eq)]
 pub enum Stream<A: Allocator> {
     /// `UnusedStream`, 0: an entry of the directory that names nothing.
     Unused,
@@ -39,6 +40,7 @@ pub enum Stream<A: Allocator> {
 
 /// A minidump as a value.
 #[derive(Drop)]
+#[derive_where(Debug, PartialEq, Eq)]
 pub struct Dump<A: Allocator> {
     /// The high half of the header's `Version`, which belongs to the producer.
     pub version_high: u16,

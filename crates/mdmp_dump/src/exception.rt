@@ -6,6 +6,7 @@ use std::alloc::Allocator;
 /// An exception of the dumped process: `MINIDUMP_EXCEPTION_STREAM`, with the
 /// `MINIDUMP_EXCEPTION` inside it.
 #[derive(Drop)]
+#[derive_where(Debug, PartialEq, Eq)]
 pub struct Exception<A: Allocator> {
     /// `ThreadId`.
     pub thread_id: u32,

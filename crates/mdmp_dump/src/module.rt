@@ -6,6 +6,7 @@ use std::alloc::Allocator;
 
 /// A module of the dumped process: `MINIDUMP_MODULE`.
 #[derive(Drop)]
+#[derive_where(Debug, PartialEq, Eq)]
 pub struct Module<A: Allocator> {
     /// `BaseOfImage`, an address of the dumped process.
     pub base_of_image: u64,

@@ -47,6 +47,7 @@ impl PositiveSize {
 
 /// A part of a record, which a location names in a file: `MINIDUMP_LOCATION_DESCRIPTOR`.
 #[derive(Drop)]
+#[derive_where(Debug, PartialEq, Eq)]
 pub enum Part<A: Allocator> {
     /// Its bytes; none where it is empty.
     Bytes(Bytes<A>),

@@ -1,7 +1,9 @@
 //! Records or streams in memory of their own.
 ghost use Rattle.std.specs.Prelude.{◌≡◌, List};
+ghost use Rattle.std.specs.Cmp.Lexicographic.{pointwise, lists_equiv, lists_per};
 
 use std::alloc::Allocator;
+use std::fmt::{self, Debug};
 use std::marker::Model;
 
 /// Records of one stream, or the streams of a dump, in memory of their own.
@@ -37,5 +39,25 @@ impl<T: Drop, A: Allocator> Records<T, A> {
         ensures { result.items ≡ self }
     {
         self.list
+    }
+}
+
+impl<T: Drop + PartialEq, A: Allocator> PartialEq for Records<T, A> {
+    ghost eq = { pointwise T.eq };
+
+    ghost laws = { lists_per T.laws };
+
+    fn eq(&self, other: &Records<T, A>) -> bool {
+        self.as_slice() == other.as_slice()
+    }
+}
+
+impl<T: Drop + Eq, A: Allocator> Eq for Records<T, A> {
+    ghost laws = { lists_equiv T.Eq.laws };
+}
+
+impl<T: Drop + Debug, A: Allocator> Debug for Records<T, A> {
+    fn fmt<W: fmt::Write>(&self, f: &mut fmt::Formatter<W>) -> fmt::Result {
+        self.as_slice().fmt(f)
     }
 }

@@ -5,6 +5,7 @@ use std::alloc::Allocator;
 
 /// The system that the dumped process ran on: `MINIDUMP_SYSTEM_INFO`.
 #[derive(Drop)]
+#[derive_where(Debug, PartialEq, Eq)]
 pub struct System<A: Allocator> {
     /// `ProcessorArchitecture`.
     pub processor_architecture: u16,

@@ -5,6 +5,7 @@ use std::alloc::Allocator;
 
 /// A thread of the dumped process: `MINIDUMP_THREAD`.
 #[derive(Drop)]
+#[derive_where(Debug, PartialEq, Eq)]
 pub struct Thread<A: Allocator> {
     /// `ThreadId`.
     pub thread_id: u32,

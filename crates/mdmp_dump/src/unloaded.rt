@@ -5,6 +5,7 @@ use std::alloc::Allocator;
 
 /// A module that the dumped process had unloaded: `MINIDUMP_UNLOADED_MODULE`.
 #[derive(Drop)]
+#[derive_where(Debug, PartialEq, Eq)]
 pub struct Unloaded<A: Allocator> {
     /// `BaseOfImage`, an address of the dumped process.
     pub base_of_image: u64,
