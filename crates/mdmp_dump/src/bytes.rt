@@ -23,10 +23,10 @@ impl<A: Allocator> Model for Bytes<A> {
 
 impl<A: Allocator> Bytes<A> {
     /// These bytes.
-    pub fn new(bytes: Vec<u8, A>) -> Bytes<A>
-        ensures { result ≡ bytes.items }
+    pub fn new(list: Vec<u8, A>) -> Bytes<A>
+        ensures { result ≡ list.items }
     {
-        Bytes { bytes }
+        Bytes { bytes: list }
     }
 
     /// The bytes, lent.
@@ -40,7 +40,8 @@ impl<A: Allocator> Bytes<A> {
     pub fn into_vec(self) -> Vec<u8, A>
         ensures { result.items ≡ self }
     {
-        self.bytes
+        let Bytes { bytes } = self;
+        bytes
     }
 }
 

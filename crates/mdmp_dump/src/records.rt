@@ -21,10 +21,10 @@ impl<T: Drop, A: Allocator> Model for Records<T, A> {
 
 impl<T: Drop, A: Allocator> Records<T, A> {
     /// These records.
-    pub fn new(list: Vec<T, A>) -> Records<T, A>
-        ensures { result ≡ list.items }
+    pub fn new(records: Vec<T, A>) -> Records<T, A>
+        ensures { result ≡ records.items }
     {
-        Records { list }
+        Records { list: records }
     }
 
     /// The records, lent.
@@ -38,7 +38,8 @@ impl<T: Drop, A: Allocator> Records<T, A> {
     pub fn into_vec(self) -> Vec<T, A>
         ensures { result.items ≡ self }
     {
-        self.list
+        let Records { list } = self;
+        list
     }
 }
 
