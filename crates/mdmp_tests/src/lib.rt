@@ -7,6 +7,8 @@
 #![tactic(auto)]
 
 #[cfg(test)]
+mod dump;
+#[cfg(test)]
 mod files;
 #[cfg(test)]
 mod given;

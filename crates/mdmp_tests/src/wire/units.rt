@@ -117,6 +117,19 @@ fn units_of_bytes_succeed(rt: HostRuntime) -> Result<(), Fail> {
 }
 
 #[test]
+fn units_are_compared_and_printed(rt: HostRuntime) -> Result<(), Fail> {
+    let units = over(&rt, b"a\0\x5c\0");
+    assert_eq!(rt; units, over(&rt, b"a\0\x5c\0"));
+    assert_ne!(rt; units, over(&rt, b"a\0\x5c\x01"));
+    assert_ne!(rt; units, over(&rt, b"a\0"));
+    assert_eq!(rt; owned(rt.alloc(), &units)?, from_text(rt.alloc(), "a\\")?);
+    assert_ne!(rt; owned(rt.alloc(), &units)?, from_text(rt.alloc(), "b\\")?);
+    let text = format!(in rt.alloc(); "{units:?}")?;
+    assert_eq!(rt; text.as_str(), "\"a\\u005c\"");
+    Ok(())
+}
+
+#[test]
 fn lone_surrogate_becomes_the_replacement_character(rt: HostRuntime) -> Result<(), Fail> {
     let text = text_of(rt.alloc(), &over(&rt, &[0x3d, 0xd8]))?;
     assert_eq!(rt; text.as_bytes(), [0xef, 0xbf, 0xbd].as_slice());

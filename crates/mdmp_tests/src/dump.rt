@@ -1,0 +1,3 @@
+//! Tests of `mdmp_dump`.
+mod sizes;
+mod values;
