@@ -1,3 +1,4 @@
+pub mod DumpRows
 pub mod Rows
 pub mod Selected
 pub mod Unique

@@ -1,5 +1,5 @@
 -- Worked files, read by the definitions.
-use Rattle.std.proofs.Common.{◌≡◌, [], ◌∷◌, ◌++◌, Some, None, refl, take}
+use Rattle.std.proofs.Common.{◌≡◌, ℕ, List, [], ◌∷◌, ◌++◌, Some, None, refl, take}
 use Rattle.mdmp_wire.specs.Number.{number_at, numbers_at, array_at, le, zeros}
 use Rattle.mdmp_lister.specs.declared.fault.FaultKind.TheVariants.{StreamOutside, NameLengthOutside}
 use Rattle.mdmp_lister.specs.declared.fault.OpenFault.TheVariants.{TooShort, DirectoryOutside}
@@ -8,8 +8,8 @@ use Rattle.mdmp_lister.specs.Format.Name.{name_at}
 use Rattle.mdmp_lister.specs.Format.Shape.{shape_of}
 use Rattle.mdmp_lister.specs.Format.Item.{sizes_before}
 use Rattle.mdmp_lister.specs.Format.Listing.{entries_from, only_chosen}
-use Rattle.mdmp_lister.proofs.Files.{system_file, crash_file, named_file, faulty_file, memory64_file, absent_stack_file, opaque_file}
-use Rattle.mdmp_dump.specs.declared.fault.PartName.TheVariants.{Stack, Context, Memory}
+use Rattle.mdmp_lister.proofs.Files.{head, entry, location, absent_stack_file, crash_file, faulty_file, memory64_file, misc_file, named_file, opaque_file, system_file}
+use Rattle.mdmp_dump.specs.declared.fault.PartName.TheVariants.{Stack, Context, CodeView, Misc, Memory}
 use Rattle.mdmp_dump.specs.declared.fault.ReadFault.TheVariants as faults
 use Rattle.mdmp_dump.specs.Refusal.{read_refusal, first_refusal}
 
@@ -29,6 +29,24 @@ opaque-cut = refl
 long_name : read_refusal (named_file 80 (le 4 10 ++ zeros 10)) All 8 100 ≡ Some (faults.NameTooLong 0 0 10)
 unfolding number_at numbers_at array_at le name_at shape_of entries_from only_chosen sizes_before first_refusal
 long_name = refl
+
+-- of one module the name comes first, and then the parts in the order of its fields
+abbrev named_module_file : List ℕ
+named_module_file =
+    head 1 32 ++ entry 4 112 44 ++ le 4 1 ++ zeros 20 ++ le 4 156 ++ zeros 52 ++ location 30 0xFFFFFFFF ++ location 30 1 ++ zeros 16
+    ++ le 4 10 ++ zeros 10
+
+named_module-long_name : read_refusal named_module_file All 8 100 ≡ Some (faults.NameTooLong 0 0 10)
+unfolding number_at numbers_at array_at le name_at shape_of entries_from only_chosen sizes_before first_refusal
+named_module-long_name = refl
+
+named_module-codeview : read_refusal named_module_file All 10 0 ≡ Some (faults.PartOutside 0 0 CodeView 4294967295 30)
+unfolding number_at numbers_at array_at le name_at shape_of entries_from only_chosen sizes_before first_refusal
+named_module-codeview = refl
+
+misc-outside : read_refusal misc_file All 0 0 ≡ Some (faults.PartOutside 0 0 Misc 4294967295 30)
+unfolding number_at numbers_at array_at le name_at shape_of entries_from only_chosen sizes_before first_refusal
+misc-outside = refl
 
 -- a part outside is told before a later one that is too large
 memory64-outside : read_refusal memory64_file All 0 4 ≡ Some (faults.PartOutside 0 1 Memory 96 4)
@@ -67,7 +85,7 @@ system-cut : read_refusal (take 31 system_file) All 4096 0 ≡ Some (faults.Open
 unfolding number_at numbers_at array_at le name_at shape_of entries_from only_chosen sizes_before first_refusal
 system-cut = refl
 
--- a thread and an exception, cut
+-- a thread and an exception, whole and cut
 crash-31 : read_refusal (take 31 crash_file) All 4096 100 ≡ Some (faults.Opening (TooShort 31))
 unfolding number_at numbers_at array_at le name_at shape_of entries_from only_chosen sizes_before first_refusal
 crash-31 = refl

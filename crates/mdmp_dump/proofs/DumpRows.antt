@@ -1,0 +1,102 @@
+-- Worked files, and the dumps and streams that they lay out.
+use Rattle.std.proofs.Common.{List, [], ◌∷◌, ◌++◌, Some, refl, arith, ℕ}
+use Rattle.std.specs.Prelude.{codes, replicate}
+use Rattle.mdmp_wire.specs.Number.{number_at, numbers_at, array_at, le}
+use Rattle.mdmp_lister.specs.declared.choice.Choice.TheVariants.{All}
+use Rattle.mdmp_lister.specs.Format.Name.{name_at}
+use Rattle.mdmp_lister.specs.Format.Shape.{shape_of}
+use Rattle.mdmp_lister.specs.Format.Item.{sizes_before}
+use Rattle.mdmp_lister.specs.Format.Listing.{chosen, entries_from, only_chosen}
+use Rattle.mdmp_lister.proofs.Files.{absent_stack_file, crash_file, memory64_file, named_file, opaque_file, unused_file}
+use Rattle.mdmp_dump.specs.declared.part.Part.TheVariants as parts
+use Rattle.mdmp_dump.specs.declared.dump.Stream.{Stream}
+use Rattle.mdmp_dump.specs.declared.dump.Stream.TheVariants as streams
+use Rattle.mdmp_dump.specs.declared.dump.Dump.{Dump}
+use Rattle.mdmp_dump.specs.LaysOut.{AreStreams, LaysOut}
+
+module _ (Z : Type 0) where
+  -- the streams of all entries
+  abbrev AreAll : List ℕ → List (Stream Z) → Type 0
+  AreAll F ss = AreStreams F (chosen F All) ss
+
+  -- a thread with a stack, and an exception
+  abbrev crash_dump : Dump Z
+  crash_dump = record {
+    version_high = 0;
+    checksum = 0;
+    time = 0;
+    flags = 0;
+    streams =
+        streams.Threads (record {
+          thread_id = 7;
+          suspend_count = 0;
+          priority_class = 32;
+          priority = 0;
+          teb = 0x5000;
+          stack_start = 0x7000;
+          stack = parts.Bytes (codes "STAK");
+          context = parts.Bytes (1 ∷ 2 ∷ 3 ∷ 4 ∷ 5 ∷ 6 ∷ []);
+        } ∷ [])
+        ∷ streams.Exception (record {
+          thread_id = 7;
+          exception_code = 0xC0000005;
+          exception_flags = 0;
+          exception_record = 0;
+          exception_address = 0x401000;
+          number_parameters = 2;
+          exception_information = 1 ∷ 16 ∷ replicate 13 0;
+          context = parts.Bytes (0xAA ∷ 0xBB ∷ 0xCC ∷ 0xDD ∷ []);
+        })
+        ∷ [];
+  }
+
+  crash-laid_out : LaysOut crash_file All crash_dump
+  unfolding number_at numbers_at array_at le name_at shape_of entries_from only_chosen sizes_before
+  crash-laid_out = record {
+    header = record { room = omega arith; signature = refl; version = refl; fields = refl };
+    version_high = refl;
+    checksum = refl;
+    time = refl;
+    flags = refl;
+    directory = refl;
+    streams = (
+      record { type_is = refl; stands = record { inside = refl; shape = _; shaped = refl; count = refl; each = (record { fields = refl; stack = refl; context = refl }, tt) } },
+      (record { type_is = refl; stands = record { inside = refl; shape = _; shaped = refl; count = refl; each = (record { fields = refl; context = refl }, tt) } }, tt),
+    );
+  }
+
+  -- a thread whose stack was not kept
+  absent_stack-laid_out : AreAll absent_stack_file (streams.Threads (record {
+    thread_id = 7;
+    suspend_count = 0;
+    priority_class = 0;
+    priority = 0;
+    teb = 0;
+    stack_start = 0x7000;
+    stack = parts.Absent 256;
+    context = parts.Bytes (0xAA ∷ []);
+  } ∷ []) ∷ [])
+  unfolding number_at numbers_at array_at le name_at shape_of entries_from only_chosen sizes_before
+  absent_stack-laid_out = (record { type_is = refl; stands = record { inside = refl; shape = _; shaped = refl; count = refl; each = (record { fields = refl; stack = refl; context = refl }, tt) } }, tt)
+
+  -- a stream of another type, as its bytes
+  opaque-laid_out : AreAll opaque_file (streams.Raw 10 (1 ∷ 2 ∷ 3 ∷ 4 ∷ 5 ∷ []) ∷ [])
+  unfolding number_at numbers_at array_at le name_at shape_of entries_from only_chosen sizes_before
+  opaque-laid_out = (record { type_is = refl; stands = record { used = refl; opaque = refl; inside = refl; bytes_are = refl } }, tt)
+
+  -- an entry that names nothing
+  unused-laid_out : AreAll unused_file (streams.Unused ∷ [])
+  unfolding number_at numbers_at array_at le name_at shape_of entries_from only_chosen sizes_before
+  unused-laid_out = (record { type_is = refl; stands = tt }, tt)
+
+  -- an unloaded module with a name of two units
+  name-laid_out : AreAll (named_file 80 (le 4 4 ++ codes "a\0b\0"))
+      (streams.Unloaded (record { base_of_image = 0; size_of_image = 0; checksum = 0; time_date_stamp = 0; name = Some (codes "ab") } ∷ []) ∷ [])
+  unfolding number_at numbers_at array_at le name_at shape_of entries_from only_chosen sizes_before
+  name-laid_out = (record { type_is = refl; stands = record { inside = refl; shape = _; shaped = refl; count = refl; each = (record { fields = refl; name = refl }, tt) } }, tt)
+
+  -- two ranges, the bytes of the second behind those of the first
+  ranges64-laid_out : AreAll (memory64_file ++ codes "GH")
+      (streams.Memory64 (record { start = 0x1000; bytes = codes "ABCD" } ∷ record { start = 0x2000; bytes = codes "EFGH" } ∷ []) ∷ [])
+  unfolding number_at numbers_at array_at le name_at shape_of entries_from only_chosen sizes_before
+  ranges64-laid_out = (record { type_is = refl; stands = record { inside = refl; shape = _; shaped = refl; count = refl; each = (record { fields = refl; inside = refl; bytes = refl }, (record { fields = refl; inside = refl; bytes = refl }, tt)) } }, tt)
