@@ -7,6 +7,16 @@
 //! the part itself, a [`Part`]. [`Bytes`] and [`Records`] are lists in memory of their own.
 //! [`ReadFault`] says why a file gives no dump.
 //!
+//! ```text
+//! for stream in &dump.streams {
+//!     if let Stream::Modules(modules) = stream {
+//!         for module in modules {
+//!             println!(rt; "{:#x} {:?}", module.base_of_image, module.name)?;
+//!         }
+//!     }
+//! }
+//! ```
+//!
 //! The definitions in `specs/LaysOut.antt` say when a file lays out a dump, those in
 //! `specs/Refusal.antt` why it gives none. Two laws are functions that do nothing:
 //! [`a_file_lays_out_one_dump`] and [`a_choice_lays_out_a_part`].

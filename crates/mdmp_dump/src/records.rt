@@ -5,6 +5,7 @@ ghost use Rattle.std.specs.Cmp.Lexicographic.{pointwise, lists_equiv, lists_per}
 use std::alloc::Allocator;
 use std::fmt::{self, Debug};
 use std::marker::Model;
+use std::slice::Iter;
 
 /// Records of one stream, or the streams of a dump, in memory of their own.
 // Contracts see them as a list, so that the definitions speak of a dump itself.
@@ -40,6 +41,23 @@ impl<T: Drop, A: Allocator> Records<T, A> {
     {
         let Records { list } = self;
         list
+    }
+}
+
+impl<'a, T: Drop, A: Allocator> IntoIterator for &'a Records<T, A> {
+    ghost use Rattle.std.specs.Prelude.{◌≡◌, ◌<◌, ◌^◌, length};
+    ghost use Rattle.std.specs.Iterator.Runs.{EveryRun, ItemsMapTo};
+    ghost use Rattle.std.specs.Slice.Iter.{iter_rest, iter_steps};
+
+    type Item = &'a T;
+
+    type IntoIter = Iter<'a, T>;
+
+    ghost into_iter_gives = { λ records it. (iter_rest it ≡ records.now) × (length (iter_rest it) < 2 ^ 64)
+        × EveryRun (iter_steps {A = T}) (λ p. ItemsMapTo p (λ x. x.now) (iter_rest p.from)) };
+
+    fn into_iter(self) -> Iter<'a, T> {
+        self.as_slice().iter()
     }
 }
 

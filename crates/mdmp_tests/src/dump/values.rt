@@ -57,9 +57,9 @@ fn ranged<A: Allocator + Copy>(alloc: A, part: Part<A>) -> Result<Dump<A>, Alloc
 
 /// Whether a range of a 64-bit memory list has these bytes.
 fn has_range<A: Allocator>(dump: &Dump<A>, bytes: &[u8]) -> bool {
-    for stream in dump.streams.as_slice() {
+    for stream in &dump.streams {
         if let Stream::Memory64(ranges) = stream {
-            for range in ranges.as_slice() {
+            for range in ranges {
                 if range.bytes.as_slice() == bytes {
                     return true;
                 }
