@@ -48,7 +48,7 @@ module _ {S A : Type 0} (old new : Walk S A) (kind : Kind) (at : old.stage ≡ s
       record {
         sound = IsSound-after (head_spent e.location.size kind) old new sound books.fetches same
             (rw next (record { begun = begun; known = known; within = omega arith; inside = inside; fits = of.fits; ranges = of.ranges; bound = omega (arith, small) }))
-            (λ file content. rw next (base file content))
+            (λ file content. rw next (shape file content, base file content))
             (λ end. absurd (cc))
             (λ file good. rw next refl);
         same = same;
@@ -95,11 +95,14 @@ module _ {S A : Type 0} (old new : Walk S A) (kind : Kind) (shape : Shape) (k of
       answered_step _ (record_size kind) old new step
       (IsSound-after _ old new sound reads.fetches same
       (rw on (record { begun = reading.begun; known = reading.known; within = omega (arith, left); inside = reading.inside; fits = reading.fits; ranges = reading.ranges; bound = omega (arith, bound, reading.bound) }))
-      (λ file known. rw on (λ list.
-      let here = rw at at (sound.offset file known) in
-      let places = reading.ranges list in
-      range-next file (vec_len old.name) (old.next - 1) k e.location.rva place z offset next new.name.items kind step list tells.held.1
-      (item file known here) (here list) (rw (places.0, places.1) at stands) behind))
+      (λ file known. let headed = rw at at (sound.headed file known) in rw on (
+        headed.0,
+        λ list.
+            let here = headed.1 in
+            let places = reading.ranges list in
+            range-next file (vec_len old.name) (old.next - 1) k e.location.rva place z offset next new.name.items kind step list tells.held.1
+            (item file known here) (here list) (rw (places.0, places.1) at stands) behind,
+      ))
       (λ end. absurd (cc)) (λ file good. rw on refl))
       (rw at refl) (rw on refl) (rw (on, at) (omega (arith, left)))
       same (tells.passed old.next) (tells.stays e)
@@ -108,7 +111,7 @@ module _ {S A : Type 0} (old new : Walk S A) (kind : Kind) (shape : Shape) (k of
       reads.spends (rw (on, at) (record_less shape.count k (record_size kind) left))
       reads.named
       (λ file known.
-      let here = rw at at (sound.offset file known) in
+      let here = (rw at at (sound.headed file known)).1 in
       rw (on, at, same.room.name, same.next, same.current) (records-given file (vec_len old.name) (old.next - 1) e.location.rva kind shape k left _ (rw stands at (item file known here))))
 
   pub answered_record_fault : (fault : Fault) (f : ListFault) → new.stage ≡ fault_stage f → ReadsRecord (vec_len old.name) kind (Err fault) old.meter new.meter
@@ -127,7 +130,7 @@ module _ {S A : Type 0} (old new : Walk S A) (kind : Kind) (shape : Shape) (k of
       reads.fetches (rw at (omega (arith, fault_cost-told (vec_len old.name) e kind _ k fault f reading.known told.kind told.of_file)))
       reads.spends (rw at (omega (arith, record_less shape.count k (record_size kind) left)))
       (λ file known not.
-      let here = rw at at (sound.offset file known) in
+      let here = (rw at at (sound.headed file known)).1 in
       let other : IsOfSource fault.kind → ⊥ = λ is. not (rw (sym told.kind) at is) in
       rw (at, told.of_file other) (records-faulted file (vec_len old.name) (old.next - 1) e.location.rva kind shape k left fault (rw stands at (item file known here other))))
       (λ file good. not_of_source f.kind (ap source_of told.kind ∙ reads.caused.caused.good file good))

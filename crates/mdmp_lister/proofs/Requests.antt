@@ -26,7 +26,7 @@ use Rattle.mdmp_lister.proofs.Bodies.{joined-with_item}
 use Rattle.mdmp_lister.proofs.Ending.{left_of-ended, left_of-fault}
 use Rattle.mdmp_lister.proofs.Fetches.{FetchesAtMost-none, FetchesAtMost-within, told_in_later}
 use Rattle.mdmp_lister.proofs.Paying.{fault_stage-owed, fault_stage-work, paid_named}
-use Rattle.mdmp_lister.proofs.Soundness.{IsGood-after, IsSound-after, fault_stage-going, fault_stage-offset, fault_stage-staged, fault_stage-unfailed}
+use Rattle.mdmp_lister.proofs.Soundness.{IsGood-after, IsSound-after, fault_stage-going, fault_stage-headed, fault_stage-staged, fault_stage-unfailed}
 
 -- ---- stages
 
@@ -111,7 +111,7 @@ module _ {S A : Type 0} (n spent : ℕ) (old new : Walk S A) (f : ListFault) whe
   answered_fault sound begun going some same at met fetches within spends owed left good = record {
     sound = IsSound-after n old new sound fetches same
         (rw at (fault_stage-staged old.meter.source.size old.next old.current f begun))
-        (λ file known. rw at (fault_stage-offset file old.current f))
+        (λ file known. rw at (fault_stage-headed file old.current f))
         (λ end. absurd (fault_stage-going f (sym at ∙ end)))
         (λ file well. rw at (fault_stage-unfailed f (good file well)));
     same = same.room;

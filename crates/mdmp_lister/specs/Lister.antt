@@ -1,5 +1,5 @@
 -- What a contract sees of a lister.
-use Rattle.std.specs.Prelude.{◌≡◌, ◌≤◌, ◌<◌, ◌+◌, ◌*◌, ℕ, length, List, [], ◌∷◌, ◌++◌, drop, slice_get, Bool, true, false, Option, None, Some, Result, Ok, Err, IfOk, IfErr, IfSome, IsOk}
+use Rattle.std.specs.Prelude.{◌≡◌, ◌≤◌, ◌<◌, ◌+◌, ◌-◌, ◌*◌, ℕ, length, List, [], ◌∷◌, ◌++◌, drop, slice_get, Bool, true, false, Option, None, Some, Result, Ok, Err, IfOk, IfErr, IfSome, IsOk}
 use Rattle.std.specs.Option.{option_map}
 use Rattle.mdmp_source.specs.Count.{raised}
 use Rattle.mdmp_source.specs.Source.{SourceState, FetchesAtMost, IsTold}
@@ -14,14 +14,18 @@ use Rattle.mdmp_lister.specs.declared.fault.FaultKind.TheVariants.{Source}
 use Rattle.mdmp_lister.specs.declared.fault.ListFault.{ListFault}
 use Rattle.mdmp_lister.specs.declared.item.Item.{Item}
 use Rattle.mdmp_map.specs.declared.range.Range.{Range}
+use Rattle.mdmp_lister.specs.declared.kind.Kind.{Kind}
 use Rattle.mdmp_lister.specs.declared.limits.Limits.{Limits}
+use Rattle.mdmp_lister.specs.declared.shape.Shape.{Shape}
 use Rattle.mdmp_lister.specs.Format.Classes.{IsClassed}
 use Rattle.mdmp_lister.specs.Costs.{answer_cost, head_behind}
 use Rattle.mdmp_lister.specs.Format.Numbers.{most_names_in, names_in, range_count}
 use Rattle.mdmp_lister.specs.Format.Directory.{IsDirectory}
 use Rattle.mdmp_lister.specs.Heading.{heads_ahead}
 use Rattle.mdmp_lister.specs.Format.Item.{plain}
-use Rattle.mdmp_lister.specs.Format.Listing.{Run, nothing, only_fault, listing, listing_from}
+use Rattle.mdmp_lister.specs.Format.Kind.{kind_of}
+use Rattle.mdmp_lister.specs.Format.Listing.{Run, nothing, only_fault, items_from, joined, listing, listing_from}
+use Rattle.mdmp_lister.specs.Format.Shape.{shape_of}
 use Rattle.mdmp_lister.specs.Meter.{IsBegun, Moves, SpendsAside}
 use Rattle.mdmp_lister.specs.declared.meter.MeterCounts.{MeterCounts}
 use Rattle.mdmp_lister.specs.Format.Ranges.{ranges_of}
@@ -59,12 +63,30 @@ pub record ListerState : Type 0 where
   pub stop : Option (Option ListFault)
   -- the bytes of the current entry's head, where that is not read yet
   pub head : ℕ
+  -- how many records of the current entry are left, once the first of them was given
+  pub records : ℕ
   -- a number that falls with each item
   pub work : ℕ
 
 -- what the chosen entries from number i on give, where the file is known
 abbrev pub listing_behind : ListerState → ℕ → Option Run
 listing_behind v i = option_map (λ file. listing_from file v.choice v.limit i) v.source.store.content
+
+-- n records of the current entry are left in this file: they follow those that were given, up to the count in the head of
+-- its stream, and what is left begins with them
+pub record HasRecordsLeft (file : List ℕ) (v : ListerState) (n : ℕ) : Type 0 where
+  pub kind : Kind
+  pub shape : Shape
+  pub given : ℕ
+  pub kind_is : kind_of v.current.stream_type ≡ Some kind
+  pub shape_is : shape_of file v.current.location.rva v.current.location.size kind ≡ Ok shape
+  pub count : given + n ≡ shape.count
+  pub left : v.left ≡ Some (joined (items_from file v.limit (v.passed - 1) v.current.location.rva kind shape n given) (listing_from file v.choice v.limit v.passed))
+
+-- so many are left, and where the file is known they are records of it
+pub record IsRecordsLeft (v : ListerState) (n : ℕ) : Type 0 where
+  pub value : n ≡ v.records
+  pub of_file : (file : List ℕ) → v.source.store.content ≡ Some file → 0 < n → HasRecordsLeft file v n
 
 -- a run without its first item
 abbrev pub tail : Run → Run

@@ -1,12 +1,12 @@
 -- How far a walk has listed the current entry, and what it answers from then on.
-use Rattle.std.specs.Prelude.{◌≡◌, Bool, true, false, Option, None, Some, Result, Ok, Err}
+use Rattle.std.specs.Prelude.{◌≡◌, ◌-◌, ℕ, Bool, true, false, Option, None, Some, Result, Ok, Err}
 use Rattle.mdmp_lister.specs.declared.fault.FaultKind.{FaultKind}
 use Rattle.mdmp_lister.specs.declared.fault.FaultKind.TheVariants.{Source}
 use Rattle.mdmp_lister.specs.declared.fault.ListFault.{ListFault}
 use Rattle.mdmp_lister.specs.declared.sink.RunFault.{RunFault}
 use Rattle.mdmp_lister.specs.declared.sink.RunFault.TheVariants as run
 use Rattle.mdmp_lister.specs.declared.stage.Stage.{Stage}
-use Rattle.mdmp_lister.specs.declared.stage.Stage.TheVariants.{Bad, Failed, Ended}
+use Rattle.mdmp_lister.specs.declared.stage.Stage.TheVariants.{Records, Bad, Failed, Ended}
 
 -- the stage behind a fault: one of the store stays for good
 abbrev pub stage_by : FaultKind → ListFault → Stage
@@ -42,6 +42,12 @@ abbrev pub ends : Stage → Bool
 ends (Failed f) = true
 ends Ended = true
 ends stage = false
+
+-- how many records of the current entry are left behind those that were given: 0 where its head is not read, and
+-- behind a fault
+abbrev pub records_left_in : Stage → ℕ
+records_left_in (Records kind shape index offset) = shape.count - index
+records_left_in stage = 0
 
 -- the stage tells what a request was answered
 abbrev pub IsStageAfter : {X : Type 0} → Result (Option X) ListFault → Stage → Type 0

@@ -30,7 +30,7 @@ use Rattle.mdmp_lister.specs.Format.Listing.{Run, nothing, only_fault, with_item
 use Rattle.mdmp_lister.specs.Meter.{Books}
 use Rattle.mdmp_lister.specs.Format.Refusal.{directory_refusal}
 use Rattle.mdmp_lister.specs.Fault.{IsCaused, IsOfSource, IsSteady}
-use Rattle.mdmp_lister.specs.Format.Shape.{FitsIn}
+use Rattle.mdmp_lister.specs.Format.Shape.{FitsIn, shape_of}
 use Rattle.mdmp_lister.specs.Format.Kind.{greatest_record, kind_of}
 use Rattle.mdmp_lister.specs.Stage.{failure_of}
 use Rattle.mdmp_lister.specs.Step.{passed_by, step_item}
@@ -63,10 +63,11 @@ IsStaged size next e (Records kind shape index offset) = IsReading size next e k
 IsStaged size next e (Bad f) = (0 < next) × (IsOfSource f.kind → ⊥)
 IsStaged size next e (Failed f) = IsOfSource f.kind
 
--- where the bytes of the next range of a 64-bit memory list stand
-abbrev pub IsOffset : List ℕ → Entry → Stage → Type 0
-IsOffset F e (Records kind shape index offset) = kind ≡ Memory64 → offset ≡ range_offset F e.location.rva index
-IsOffset F e stage = Unit {0}
+-- where the head of the stream says that the records stand, and the bytes of the next range of a 64-bit memory list
+abbrev pub IsHeaded : List ℕ → Entry → Stage → Type 0
+IsHeaded F e (Records kind shape index offset) =
+    (shape_of F e.location.rva e.location.size kind ≡ Ok shape) × (kind ≡ Memory64 → offset ≡ range_offset F e.location.rva index)
+IsHeaded F e stage = Unit {0}
 
 abbrev pub stage_work : Stage → ℕ
 stage_work Head = 2 ^ 32
@@ -85,7 +86,7 @@ module _ {S A : Type 0} where
     pub few : vec_len w.entries < 2 ^ 32
     pub placed : w.next ≤ vec_len w.entries
     pub staged : IsStaged w.meter.source.size w.next w.current w.stage
-    pub offset : (file : List ℕ) → w.meter.source.store.content ≡ Some file → IsOffset file w.current w.stage
+    pub headed : (file : List ℕ) → w.meter.source.store.content ≡ Some file → IsHeaded file w.current w.stage
     pub ended : w.stage ≡ Ended → w.next ≡ vec_len w.entries
     pub directory : (file : List ℕ) → w.meter.source.store.content ≡ Some file → IsDirectory file w.entries.items
     pub header_is : (file : List ℕ) → w.meter.source.store.content ≡ Some file → w.header ≡ header_at file 0

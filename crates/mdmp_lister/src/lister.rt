@@ -24,6 +24,7 @@ use crate::item::Item;
 use crate::limits::Limits;
 use crate::opening::OpenRefused;
 use crate::sink::{RunFault, Sink, Stopped};
+use crate::stage::Stage;
 use crate::walk::{Walk, refused};
 use mdmp_map::AddressMap;
 use mdmp_source::{Extent, Source, SourceFault, Store};
@@ -50,7 +51,7 @@ impl<S: Store + Drop, A: Allocator + Copy> Model for Lister<S, A> {
     ghost use Rattle.mdmp_lister.specs.Costs.{head_left};
     ghost use Rattle.mdmp_lister.specs.Lister.{ListerState};
     ghost use Rattle.mdmp_lister.specs.Meter.{counts_of};
-    ghost use Rattle.mdmp_lister.specs.Stage.{stop_of};
+    ghost use Rattle.mdmp_lister.specs.Stage.{records_left_in, stop_of};
     ghost use Rattle.mdmp_lister.specs.Walk.Mapping.{IsMapped};
     ghost use Rattle.mdmp_lister.specs.Walk.{left_of, work_of};
 
@@ -70,6 +71,7 @@ impl<S: Store + Drop, A: Allocator + Copy> Model for Lister<S, A> {
       left = option_map (left_of l.walk) l.walk.meter.source.store.content;
       stop = stop_of l.walk.stage;
       head = head_left l.walk.meter.source.size l.walk.current l.walk.stage;
+      records = records_left_in l.walk.stage;
       work = work_of l.walk;
     } };
 
@@ -79,7 +81,7 @@ impl<S: Store + Drop, A: Allocator + Copy> Model for Lister<S, A> {
 impl<S: Store + Drop, A: Allocator + Copy> Lister<S, A> {
     ghost use Rattle.mdmp_lister.specs.contracts.lister.Lister.{the_row};
     ghost use Rattle.mdmp_lister.specs.Sink.{RunLeaves};
-    ghost use Rattle.mdmp_lister.specs.Lister.{Gives, IsNewLister, IsSameLister, Leaves, ReadsAside, is_for_good, listing_behind};
+    ghost use Rattle.mdmp_lister.specs.Lister.{Gives, IsNewLister, IsRecordsLeft, IsSameLister, Leaves, ReadsAside, is_for_good, listing_behind};
 
     /// Opens a file. Its header is read; memory is taken for the directory, the window and a name; the
     /// directory is read, and the ranges of the chosen memory lists are counted by their heads; then
@@ -183,6 +185,18 @@ impl<S: Store + Drop, A: Allocator + Copy> Lister<S, A> {
                 push_range(&mut self.map, &item);
                 Ok(Some(item))
             }
+        }
+    }
+
+    /// How many records of the current entry are still to come. It is 0 before the first of them was
+    /// given, since the head of the stream that counts them is not read before that, and behind the
+    /// last one.
+    pub fn records_left(&self) -> u64
+        ensures { IsRecordsLeft self.now result }
+    {
+        match self.walk.stage {
+            Stage::Records { shape, index, .. } => shape.count - index,
+            _ => 0,
         }
     }
 

@@ -263,8 +263,7 @@ impl<S: Store + Drop, A: Allocator + Copy> Walk<S, A> {
 
     /// Stays at a fault.
     fn stop_at<T: Drop>(&mut self, fault: ListFault) -> Result<T, ListFault>
-        ensures fault { result ≡ Err fault }
-        ensures stage { self.new ≡ record self.old { stage = fault_stage fault } }
+        ensures { (result ≡ Err fault) × (self.new ≡ record self.old { stage = fault_stage fault }) }
     {
         self.stage = match fault.kind {
             FaultKind::Source(_) => Stage::Failed(fault),

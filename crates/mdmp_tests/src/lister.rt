@@ -12,5 +12,6 @@ mod names;
 mod parts;
 mod ranges;
 mod records;
+mod records_left;
 mod shapes;
 mod stores;

@@ -43,6 +43,8 @@ pub enum Step {
     Part(u64, usize),
     /// How many bytes the file has, and how many were fetched aside.
     Numbers,
+    /// How many records of the current entry are still to come.
+    RecordsLeft,
 }
 
 /// What a call answers.
@@ -65,6 +67,7 @@ pub enum Answer {
     Outside,
     Failed(SourceFault),
     Numbers { size: u64, aside: u128 },
+    RecordsLeft(u64),
 }
 
 /// A call and its answer.
@@ -171,6 +174,10 @@ pub fn has_numbers(size: u64, aside: u128) -> Call {
     called(Step::Numbers, Answer::Numbers { size, aside })
 }
 
+pub fn has_records_left(count: u64) -> Call {
+    called(Step::RecordsLeft, Answer::RecordsLeft(count))
+}
+
 fn next_answer<S: Store + Drop>(
     rt: &HostRuntime,
     lister: &mut Lister<S, Global>,
@@ -246,6 +253,7 @@ fn answer_of<S: Store + Drop>(
             size: lister.size(),
             aside: lister.counts().aside,
         },
+        Step::RecordsLeft => Answer::RecordsLeft(lister.records_left()),
     };
     Ok(answer)
 }

@@ -1,5 +1,5 @@
 //! Whole files, listed: which entries, names, and parts of a thread.
-use crate::files::{FAULTY, SYSTEM, file};
+use crate::files::{FAULTY, SYSTEM, named};
 use crate::given::{Named, What, nameless, spelled, stream, system, thread, unloaded};
 use crate::opening::{chosen, fault};
 use crate::script::{
@@ -18,8 +18,7 @@ fn other_of_named(
     name: &[u8],
     script: &[Call],
 ) -> Result<Option<(usize, Answer)>, Fail> {
-    let mut file = file(rt, 1, &[14, 36, 44, 12, 24, 1, 0, 0, 0, 0, 0, rva])?;
-    file.extend_from_slice(name)?;
+    let file = named(rt, rva, name)?;
     let limits = Limits {
         window: 168,
         name: 8,

@@ -38,7 +38,7 @@ returns-then-ranges_by-room-clause-read g c =
     let kind = c.in-Some-of_type.kind in
     let begun : 0 < w.next = rw c.requires.head at c.requires.sound.staged in
     let known : kind_of w.current.stream_type ≡ Some kind = search rules in
-    rw (c.stop_at-then-ranges_by-room.ensures.stage, c.stop_at-then-ranges_by-room.ensures.fault)
+    rw (c.stop_at-then-ranges_by-room.ensures.1, c.stop_at-then-ranges_by-room.ensures.0)
     (answered_head w _ kind c.requires.head c.requires.sound (search rules) (search rules) known books f refl
     (record {
       told = told_changed w.current f w.meter.source c.head_at.new.meter.source (rw is at told.kind) (rw is at told.place) (told.of_store (rw is tt))
@@ -60,7 +60,7 @@ returns-in-Err-clause-read g c =
     let begun : 0 < w.next = rw c.requires.head at c.requires.sound.staged in
     let known : kind_of w.current.stream_type ≡ Some kind = search rules in
     let whole : location_fault w.meter.source.size w.current ≡ None = search rules in
-    rw (c.stop_at-in-Err.ensures.stage, c.stop_at-in-Err.ensures.fault)
+    rw (c.stop_at-in-Err.ensures.1, c.stop_at-in-Err.ensures.0)
     (answered_head w _ kind c.requires.head c.requires.sound (search rules) whole known c.head_at.ensures.reads.books f refl
     (record {
       told = told_in_caused w.current c.in-Err.fault f w.meter.source c.head_at.new.meter.source of.reads.caused told.kind told.place told.of_store;

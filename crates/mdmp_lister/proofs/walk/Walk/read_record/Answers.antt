@@ -25,7 +25,7 @@ returns-in-Err g c =
     let room : length c.read_item.new.buffer ≡ vec_len w.name = of.length ∙ c.deref_mut-2.ensures.len in
     record {
       answered =
-          rw (c.stop_at.ensures.stage, c.stop_at.ensures.fault)
+          rw (c.stop_at.ensures.1, c.stop_at.ensures.0)
           (answered_record_fault w _ a.kind a.shape a.index a.offset c.record_at-at.result c.requires.stage c.requires.left c.requires.sound (search rules) c.record_at-at.ensures.place
           c.in-Err.fault c.of_entry.result refl (rw room at of.reads) c.of_entry.ensures (λ file known here other. rw room at (of.item file known w.current.location.rva here other)));
       room = search rules;
