@@ -1,4 +1,14 @@
+pub mod Budget
 pub mod DumpRows
+pub mod Given
+pub mod Left
+pub mod More
+pub mod Names
+pub mod Opened
+pub mod Refusal
 pub mod Rows
 pub mod Selected
+pub mod Streams
+pub mod Taking
 pub mod Unique
+pub mod Walked

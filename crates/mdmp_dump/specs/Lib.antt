@@ -1,12 +1,17 @@
 pub mod Exception
 pub mod LaysOut
+pub mod Left
 pub mod Memory
 pub mod Memory64
+pub mod MemoryInfo
 pub mod Module
 pub mod Name
 pub mod Part
+pub mod Reading
 pub mod Refusal
 pub mod System
+pub mod Telling
+pub mod TellingLaws
 pub mod Thread
 pub mod Unloaded
 pub mod Value

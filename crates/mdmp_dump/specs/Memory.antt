@@ -1,10 +1,19 @@
 -- A range of memory of a dump: MINIDUMP_MEMORY_DESCRIPTOR.
-use Rattle.std.specs.Prelude.{◌≡◌, ℕ, List}
+use Rattle.std.specs.Prelude.{◌≡◌, ℕ, List, Option, Some, None, []}
 use Rattle.mdmp_source.specs.declared.location.Location.{Location}
 use Rattle.mdmp_wire.specs.declared.descriptor.Descriptor.{Descriptor}
 use Rattle.mdmp_wire.specs.Descriptor.{descriptor_at}
 use Rattle.mdmp_dump.specs.declared.memory.MemoryRange.{MemoryRange}
 use Rattle.mdmp_dump.specs.Part.{IsPart}
+use Rattle.mdmp_lister.specs.declared.item.Item.{Item}
+use Rattle.mdmp_lister.specs.declared.item.Item.TheVariants as items
+use Rattle.mdmp_dump.specs.declared.row.Found.{Found}
+use Rattle.mdmp_lister.specs.declared.item.RangeItem.{RangeItem}
+use Rattle.mdmp_source.specs.declared.location.Extent.{Extent}
+use Rattle.mdmp_source.specs.declared.location.Extent.TheVariants as classes
+use Rattle.mdmp_lister.specs.Format.Item.{range_extent_of}
+use Rattle.mdmp_dump.specs.Refusal.{Step, part_steps}
+use Rattle.mdmp_dump.specs.declared.fault.PartName.TheVariants.{Memory}
 
 module _ {Z : Type 0} where
   -- its record in a file, with the location of its bytes
@@ -15,3 +24,16 @@ module _ {Z : Type 0} where
   pub record IsMemory (F : List ℕ) (o : ℕ) (x : MemoryRange Z) : Type 0 where
     pub fields : descriptor_at F o ≡ memory_record x (descriptor_at F o).memory
     pub bytes : IsPart F (descriptor_at F o).memory x.bytes
+
+-- what an item tells of such a record, but for its name
+abbrev pub range_told : Item → Option (Found RangeItem)
+range_told (items.Range x) = Some (record { place = record { entry = x.entry; index = x.index }; fields = x })
+range_told item = None
+
+-- its bytes are taken, unless they are absent
+abbrev pub present_steps : ℕ → ℕ → ℕ → ℕ → ℕ → Extent → List Step
+present_steps size e k offset len classes.Absent = []
+present_steps size e k offset len extent = part_steps e k Memory offset len (range_extent_of offset len size)
+
+abbrev pub memory_steps : ℕ → Found RangeItem → List Step
+memory_steps size x = present_steps size x.place.entry x.place.index x.fields.offset x.fields.size x.fields.extent

@@ -4,8 +4,12 @@ use Rattle.mdmp_source.specs.Range.{is_inside}
 use Rattle.mdmp_wire.specs.Number.{array_at}
 use Rattle.mdmp_wire.specs.declared.descriptor64.Descriptor64.{Descriptor64}
 use Rattle.mdmp_wire.specs.Descriptor64.{descriptor64_at}
-use Rattle.mdmp_lister.specs.Format.Item.{range_offset}
+use Rattle.mdmp_lister.specs.Format.Item.{range_extent_of, range_offset}
 use Rattle.mdmp_dump.specs.declared.memory64.Memory64Range.{Memory64Range}
+use Rattle.mdmp_lister.specs.declared.item.RangeItem.{RangeItem}
+use Rattle.mdmp_dump.specs.declared.row.Found.{Found}
+use Rattle.mdmp_dump.specs.Refusal.{Step, part_steps}
+use Rattle.mdmp_dump.specs.declared.fault.PartName.TheVariants.{Memory}
 
 module _ {Z : Type 0} where
   -- its record in a file
@@ -18,3 +22,8 @@ module _ {Z : Type 0} where
     pub fields : descriptor64_at F o ≡ memory64_record x
     pub inside : IsTrue (is_inside (range_offset F at k) (length x.bytes) (length F))
     pub bytes : array_at F (range_offset F at k) (length x.bytes) ≡ x.bytes
+
+-- its bytes are taken
+abbrev pub memory64_steps : ℕ → Found RangeItem → List Step
+memory64_steps size x =
+    part_steps x.place.entry x.place.index Memory x.fields.offset x.fields.size (range_extent_of x.fields.offset x.fields.size size)

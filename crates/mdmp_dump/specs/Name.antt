@@ -1,5 +1,5 @@
 -- The name of a record, as its units.
-use Rattle.std.specs.Prelude.{◌≡◌, ℕ, ◌^◌, List, Option, Some, None, Ok}
+use Rattle.std.specs.Prelude.{◌≡◌, ℕ, List, length, Option, Some, None, Ok}
 use Rattle.std.specs.Result.{result_map_both}
 use Rattle.mdmp_wire.specs.Units.{units_in}
 use Rattle.mdmp_lister.specs.declared.name.Name.{Name}
@@ -12,10 +12,6 @@ name_told names.None = Some None
 name_told (names.Units units) = Some (Some (units_in units))
 name_told (names.Long size) = None
 
--- every name is shorter
-abbrev pub no_limit : ℕ
-no_limit = 2 ^ 32
-
--- the name, or none, stands at rva
+-- the name, or none, stands at rva: none in F has more bytes than F
 abbrev pub IsName : List ℕ → ℕ → Option (List ℕ) → Type 0
-IsName F rva name = result_map_both name_told (λ fault. fault) (name_at F rva no_limit) ≡ Ok (Some name)
+IsName F rva name = result_map_both name_told (λ fault. fault) (name_at F rva (length F)) ≡ Ok (Some name)

@@ -1,10 +1,16 @@
 -- A thread of a dump: MINIDUMP_THREAD.
-use Rattle.std.specs.Prelude.{◌≡◌, ℕ, List}
+use Rattle.std.specs.Prelude.{◌≡◌, ℕ, List, Option, Some, None, ◌++◌}
 use Rattle.mdmp_source.specs.declared.location.Location.{Location}
 use Rattle.mdmp_wire.specs.declared.thread.ThreadRecord.{ThreadRecord}
 use Rattle.mdmp_wire.specs.Thread.{thread_at}
 use Rattle.mdmp_dump.specs.declared.thread.Thread.{Thread}
 use Rattle.mdmp_dump.specs.Part.{IsPart}
+use Rattle.mdmp_lister.specs.declared.item.Item.{Item}
+use Rattle.mdmp_lister.specs.declared.item.Item.TheVariants as items
+use Rattle.mdmp_dump.specs.declared.row.Found.{Found}
+use Rattle.mdmp_source.specs.Extent.{extent_of}
+use Rattle.mdmp_dump.specs.Refusal.{Step, location_steps}
+use Rattle.mdmp_dump.specs.declared.fault.PartName.TheVariants.{Stack, Context}
 
 module _ {Z : Type 0} where
   -- its record in a file, with the locations of its stack and its context
@@ -24,3 +30,14 @@ module _ {Z : Type 0} where
     pub fields : thread_at F o ≡ thread_record x (thread_at F o).stack.memory (thread_at F o).thread_context
     pub stack : IsPart F (thread_at F o).stack.memory x.stack
     pub context : IsPart F (thread_at F o).thread_context x.context
+
+-- what an item tells of such a record, but for its name
+abbrev pub thread_told : Item → Option (Found ThreadRecord)
+thread_told (items.Thread x) = Some (record { place = record { entry = x.entry; index = x.index }; fields = x.fields })
+thread_told item = None
+
+-- its stack is taken, and then its registers
+abbrev pub thread_steps : ℕ → Found ThreadRecord → List Step
+thread_steps size x =
+    location_steps x.place.entry x.place.index Stack x.fields.stack.memory (extent_of x.fields.stack.memory size)
+    ++ location_steps x.place.entry x.place.index Context x.fields.thread_context (extent_of x.fields.thread_context size)

@@ -1,6 +1,16 @@
 //! A range of memory of a dump.
+ghost use Rattle.mdmp_dump.specs.Reading.{IsRowRead};
+ghost use Rattle.mdmp_lister.specs.declared.kind.Kind.TheVariants as kinds;
+ghost use Rattle.mdmp_dump.specs.Memory.{IsMemory, memory_steps, range_told};
+ghost use Rattle.mdmp_dump.specs.TellingLaws.{memory_tells};
 
+use crate::fault::{PartName, ReadFault};
 use crate::part::Part;
+use crate::reader::{Reader, absent};
+use crate::row::{Found, Place, Row};
+use mdmp_lister::{Item, RangeItem};
+use mdmp_source::{Extent, Store};
+use mdmp_wire::Units;
 use std::alloc::Allocator;
 
 /// A range of the dumped process's memory: `MINIDUMP_MEMORY_DESCRIPTOR`.
@@ -11,4 +21,55 @@ pub struct MemoryRange<A: Allocator> {
     pub start: u64,
     /// Its bytes, `Memory`.
     pub bytes: Part<A>,
+}
+
+impl<S: Store + Drop, A: Allocator + Copy> Row<S, A> for MemoryRange<A> {
+    type Fields = RangeItem;
+
+    ghost kind = { kinds.Memory };
+
+    ghost told = { range_told };
+
+    ghost steps = { memory_steps };
+
+    ghost IsAt = { λ file at k. IsMemory file };
+
+    fn find(item: &Item<'_>) -> Option<Found<RangeItem>> {
+        match item {
+            Item::Range(range) => Some(Found {
+                place: Place {
+                    entry: range.entry,
+                    index: range.index,
+                },
+                fields: *range,
+            }),
+            _ => None,
+        }
+    }
+
+    fn read(
+        reader: &mut Reader<S, A>,
+        place: Place,
+        fields: RangeItem,
+        name: &mut Option<Units<A>>,
+    ) -> Result<Self, ReadFault> {
+        match fields.extent {
+            Extent::Absent => {
+                let bytes = absent(fields.size)?;
+                Ok(MemoryRange {
+                    start: fields.start,
+                    bytes,
+                })
+            }
+            _ => {
+                let bytes = reader.bytes_at(place, PartName::Memory, fields.offset, fields.size)?;
+                Ok(MemoryRange {
+                    start: fields.start,
+                    bytes: Part::Bytes(bytes),
+                })
+            }
+        }
+    }
+
+    ghost tells = { memory_tells };
 }

@@ -1,6 +1,17 @@
 //! A range of a 64-bit memory list of a dump.
+ghost use Rattle.mdmp_dump.specs.Reading.{IsRowRead};
+ghost use Rattle.mdmp_lister.specs.declared.kind.Kind.TheVariants as kinds;
+ghost use Rattle.mdmp_dump.specs.Memory.{range_told};
+ghost use Rattle.mdmp_dump.specs.Memory64.{IsMemory64, memory64_steps};
+ghost use Rattle.mdmp_dump.specs.TellingLaws.{memory64_tells};
 
 use crate::bytes::Bytes;
+use crate::fault::{PartName, ReadFault};
+use crate::reader::Reader;
+use crate::row::{Found, Place, Row};
+use mdmp_lister::{Item, RangeItem};
+use mdmp_source::Store;
+use mdmp_wire::Units;
 use std::alloc::Allocator;
 
 /// A range of the dumped process's memory, which is never absent: `MINIDUMP_MEMORY_DESCRIPTOR64`.
@@ -11,4 +22,44 @@ pub struct Memory64Range<A: Allocator> {
     pub start: u64,
     /// Its bytes, `DataSize` of them.
     pub bytes: Bytes<A>,
+}
+
+impl<S: Store + Drop, A: Allocator + Copy> Row<S, A> for Memory64Range<A> {
+    type Fields = RangeItem;
+
+    ghost kind = { kinds.Memory64 };
+
+    ghost told = { range_told };
+
+    ghost steps = { memory64_steps };
+
+    ghost IsAt = { λ file. IsMemory64 file };
+
+    fn find(item: &Item<'_>) -> Option<Found<RangeItem>> {
+        match item {
+            Item::Range(range) => Some(Found {
+                place: Place {
+                    entry: range.entry,
+                    index: range.index,
+                },
+                fields: *range,
+            }),
+            _ => None,
+        }
+    }
+
+    fn read(
+        reader: &mut Reader<S, A>,
+        place: Place,
+        fields: RangeItem,
+        name: &mut Option<Units<A>>,
+    ) -> Result<Self, ReadFault> {
+        let bytes = reader.bytes_at(place, PartName::Memory, fields.offset, fields.size)?;
+        Ok(Memory64Range {
+            start: fields.start,
+            bytes,
+        })
+    }
+
+    ghost tells = { memory64_tells };
 }

@@ -1,7 +1,16 @@
 //! A module of a dump.
+ghost use Rattle.mdmp_dump.specs.Reading.{IsRowRead};
+ghost use Rattle.mdmp_lister.specs.declared.kind.Kind.TheVariants as kinds;
+ghost use Rattle.mdmp_dump.specs.Module.{IsModule, module_told, module_steps};
+ghost use Rattle.mdmp_dump.specs.TellingLaws.{module_tells};
 
+use crate::fault::{PartName, ReadFault};
 use crate::part::Part;
-use mdmp_wire::{Units, VersionInfo};
+use crate::reader::Reader;
+use crate::row::{Found, Place, Row};
+use mdmp_lister::Item;
+use mdmp_source::Store;
+use mdmp_wire::{ModuleRecord, Units, VersionInfo};
 use std::alloc::Allocator;
 
 /// A module of the dumped process: `MINIDUMP_MODULE`.
@@ -28,4 +37,53 @@ pub struct Module<A: Allocator> {
     pub reserved0: u64,
     /// `Reserved1`.
     pub reserved1: u64,
+}
+
+impl<S: Store + Drop, A: Allocator + Copy> Row<S, A> for Module<A> {
+    type Fields = ModuleRecord;
+
+    ghost kind = { kinds.Modules };
+
+    ghost told = { module_told };
+
+    ghost steps = { module_steps };
+
+    ghost IsAt = { λ file at k. IsModule file };
+
+    fn find(item: &Item<'_>) -> Option<Found<ModuleRecord>> {
+        match item {
+            Item::Module(module) => Some(Found {
+                place: Place {
+                    entry: module.entry,
+                    index: module.index,
+                },
+                fields: module.fields,
+            }),
+            _ => None,
+        }
+    }
+
+    fn read(
+        reader: &mut Reader<S, A>,
+        place: Place,
+        fields: ModuleRecord,
+        name: &mut Option<Units<A>>,
+    ) -> Result<Self, ReadFault> {
+        let codeview = reader.part(place, PartName::CodeView, fields.cv_record)?;
+        let misc = reader.part(place, PartName::Misc, fields.misc_record)?;
+        Ok(Module {
+            base_of_image: fields.base_of_image,
+            size_of_image: fields.size_of_image,
+            checksum: fields.checksum,
+            time_date_stamp: fields.time_date_stamp,
+            name: name.take(),
+            version_info: fields.version_info,
+            codeview,
+            misc,
+            reserved0: fields.reserved0,
+            reserved1: fields.reserved1,
+        })
+    }
+
+    ghost tells = { module_tells };
 }

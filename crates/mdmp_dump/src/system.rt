@@ -1,6 +1,16 @@
 //! The system of a dump.
+ghost use Rattle.mdmp_dump.specs.Reading.{IsRowRead};
+ghost use Rattle.std.specs.Prelude.{[]};
+ghost use Rattle.mdmp_lister.specs.declared.kind.Kind.TheVariants as kinds;
+ghost use Rattle.mdmp_dump.specs.System.{IsSystem, system_told};
+ghost use Rattle.mdmp_dump.specs.TellingLaws.{system_tells};
 
-use mdmp_wire::Units;
+use crate::fault::ReadFault;
+use crate::reader::Reader;
+use crate::row::{Found, Place, Row};
+use mdmp_lister::Item;
+use mdmp_source::Store;
+use mdmp_wire::{SystemRecord, Units};
 use std::alloc::Allocator;
 
 /// The system that the dumped process ran on: `MINIDUMP_SYSTEM_INFO`.
@@ -33,4 +43,55 @@ pub struct System<A: Allocator> {
     pub reserved2: u16,
     /// `Cpu`, whose 24 bytes are kept as they are.
     pub cpu: [u8; 24],
+}
+
+impl<S: Store + Drop, A: Allocator + Copy> Row<S, A> for System<A> {
+    type Fields = SystemRecord;
+
+    ghost kind = { kinds.System };
+
+    ghost told = { system_told };
+
+    ghost steps = { λ z x. [] };
+
+    ghost IsAt = { λ file at k. IsSystem file };
+
+    fn find(item: &Item<'_>) -> Option<Found<SystemRecord>> {
+        match item {
+            Item::System(system) => Some(Found {
+                place: Place {
+                    entry: system.entry,
+                    index: system.index,
+                },
+                fields: system.fields,
+            }),
+            _ => None,
+        }
+    }
+
+    fn read(
+        reader: &mut Reader<S, A>,
+        place: Place,
+        fields: SystemRecord,
+        name: &mut Option<Units<A>>,
+    ) -> Result<Self, ReadFault> {
+        let cpu = fields.cpu;
+        Ok(System {
+            processor_architecture: fields.processor_architecture,
+            processor_level: fields.processor_level,
+            processor_revision: fields.processor_revision,
+            number_of_processors: fields.number_of_processors,
+            product_type: fields.product_type,
+            major_version: fields.major_version,
+            minor_version: fields.minor_version,
+            build_number: fields.build_number,
+            platform_id: fields.platform_id,
+            name: name.take(),
+            suite_mask: fields.suite_mask,
+            reserved2: fields.reserved2,
+            cpu,
+        })
+    }
+
+    ghost tells = { system_tells };
 }

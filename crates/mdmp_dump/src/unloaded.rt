@@ -1,6 +1,16 @@
 //! An unloaded module of a dump.
+ghost use Rattle.mdmp_dump.specs.Reading.{IsRowRead};
+ghost use Rattle.std.specs.Prelude.{[]};
+ghost use Rattle.mdmp_lister.specs.declared.kind.Kind.TheVariants as kinds;
+ghost use Rattle.mdmp_dump.specs.Unloaded.{IsUnloaded, unloaded_told};
+ghost use Rattle.mdmp_dump.specs.TellingLaws.{unloaded_tells};
 
-use mdmp_wire::Units;
+use crate::fault::ReadFault;
+use crate::reader::Reader;
+use crate::row::{Found, Place, Row};
+use mdmp_lister::Item;
+use mdmp_source::Store;
+use mdmp_wire::{Units, UnloadedRecord};
 use std::alloc::Allocator;
 
 /// A module that the dumped process had unloaded: `MINIDUMP_UNLOADED_MODULE`.
@@ -17,4 +27,46 @@ pub struct Unloaded<A: Allocator> {
     pub time_date_stamp: u32,
     /// The name at its `ModuleNameRva`; none where that is 0.
     pub name: Option<Units<A>>,
+}
+
+impl<S: Store + Drop, A: Allocator + Copy> Row<S, A> for Unloaded<A> {
+    type Fields = UnloadedRecord;
+
+    ghost kind = { kinds.Unloaded };
+
+    ghost told = { unloaded_told };
+
+    ghost steps = { λ z x. [] };
+
+    ghost IsAt = { λ file at k. IsUnloaded file };
+
+    fn find(item: &Item<'_>) -> Option<Found<UnloadedRecord>> {
+        match item {
+            Item::Unloaded(module) => Some(Found {
+                place: Place {
+                    entry: module.entry,
+                    index: module.index,
+                },
+                fields: module.fields,
+            }),
+            _ => None,
+        }
+    }
+
+    fn read(
+        reader: &mut Reader<S, A>,
+        place: Place,
+        fields: UnloadedRecord,
+        name: &mut Option<Units<A>>,
+    ) -> Result<Self, ReadFault> {
+        Ok(Unloaded {
+            base_of_image: fields.base_of_image,
+            size_of_image: fields.size_of_image,
+            checksum: fields.checksum,
+            time_date_stamp: fields.time_date_stamp,
+            name: name.take(),
+        })
+    }
+
+    ghost tells = { unloaded_tells };
 }

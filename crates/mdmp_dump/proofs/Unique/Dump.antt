@@ -1,5 +1,5 @@
 -- A file lays out one dump of each choice.
-use Rattle.std.proofs.Common.{◌≡◌, ℕ, List, [], ◌∷◌, None, refl, ap, sym, ◌∙◌}
+use Rattle.std.proofs.Common.{◌≡◌, ◌+◌, ℕ, List, [], ◌∷◌, None, refl, ap, eq-eqb, sym, ◌∙◌}
 use Rattle.std.specs.Prelude.{Bool, true, false, not, ◌==◌, ◌&&◌, is_none, IsFalse}
 use Rattle.mdmp_source.specs.declared.location.Location.{Location}
 use Rattle.mdmp_wire.specs.declared.entry.Entry.{Entry}
@@ -35,6 +35,17 @@ is_raw_type t = not (t == 0) && is_none (kind_of t)
 raw_type : (t : ℕ) → IsFalse (t == 0) → kind_of t ≡ None → is_raw_type t ≡ true
 raw_type t used opaque = rw (used, opaque) refl
 
+-- a number for each kind of stream, raw ones among them
+abbrev code : Bool → ℕ → ℕ
+code true t = 0
+code false t = t + 1
+
+code_same : {a b : Bool} {m n : ℕ} → a ≡ b → m ≡ n → code a m ≡ code b n
+code_same raw same = λ i. code (raw i) (same i)
+
+unequal : (m n : ℕ) → m ≡ n → (m == n) ≡ false → ⊥
+unequal m n same differ = let both : true ≡ false = sym (eq-eqb m n same) ∙ differ in cc
+
 module _ {Z : Type 0} where
   abbrev is_raw : Stream Z → Bool
   is_raw (streams.Raw t bytes) = true
@@ -55,7 +66,7 @@ module _ {Z : Type 0} where
   stands_unique F l (streams.Unloaded xs) (streams.Unloaded ys) p q same raw = ap streams.Unloaded (records_unique (λ k o. IsUnloaded F o) (unloaded_unique F) xs ys p q)
   stands_unique F l (streams.MemoryInfo xs) (streams.MemoryInfo ys) p q same raw = ap streams.MemoryInfo (records_unique (λ k o x. memory_info_at F o ≡ x) (λ k o x y a b. sym a ∙ b) xs ys p q)
   stands_unique F l (streams.Raw t xs) (streams.Raw u ys) p q same raw = let bytes = sym p.bytes_are ∙ q.bytes_are in λ i. streams.Raw (same i) (bytes i)
-  stands_unique F l s t p q same raw = absurd cc
+  stands_unique F l s t p q same raw = absurd (unequal _ _ (code_same raw same) refl)
 
   stream_unique : (F : List ℕ) (e : Entry) (s t : Stream Z) → IsStream F e s → IsStream F e t → s ≡ t
   stream_unique F e s t p q =

@@ -1,0 +1,78 @@
+-- What the opening of a file tells of the dump that it lays out.
+use Rattle.std.proofs.Common.{◌≡◌, ◌≤◌, ◌*◌, ℕ, List, length, Option, Some, None, Err, Bool, true, false, nat_lt, if◌then◌else◌, arith, ltb-false, inl, inr, refl}
+use Rattle.std.proofs.lemmas.Grind.{common_steps}
+use Rattle.std.specs.Prelude.{IsTrue, ◌⊎◌}
+use Rattle.mdmp_source.specs.Range.{is_inside}
+use Rattle.mdmp_source.specs.Source.{SourceState, FetchesAtMost}
+use Rattle.mdmp_source.specs.Store.{IsGood}
+use Rattle.mdmp_wire.specs.declared.header_fault.HeaderFault.{HeaderFault}
+use Rattle.mdmp_wire.specs.declared.header_fault.HeaderFault.TheVariants as header
+use Rattle.mdmp_wire.specs.Header.{header_at}
+use Rattle.mdmp_wire.specs.HeaderFault.{HasHeader, header_fault}
+use Rattle.mdmp_lister.specs.declared.choice.Choice.{Choice}
+use Rattle.mdmp_lister.specs.declared.fault.OpenFault.{OpenFault}
+use Rattle.mdmp_lister.specs.declared.fault.OpenFault.TheVariants as opening
+use Rattle.mdmp_lister.specs.Format.Listing.{entry_count}
+use Rattle.mdmp_lister.specs.Format.Refusal.{behind_directory, behind_header, directory_fault, directory_refusal, opening_fault}
+use Rattle.mdmp_lister.specs.Opening.{IsRefusalOf, IsUnread, IsUnreadFor}
+use Rattle.mdmp_dump.specs.declared.fault.ReadFault.{ReadFault}
+use Rattle.mdmp_dump.specs.declared.fault.ReadFault.TheVariants as faults
+use Rattle.mdmp_dump.specs.Reading.{Fetches, IsOwn, refusal_of, store_fault}
+use Rattle.mdmp_dump.specs.Refusal.{read_refusal}
+use Rattle.mdmp_dump.proofs.Budget.{Fetches-read}
+
+-- ---- the header and the directory
+
+directory-opens : (F : List ℕ) (choice : Choice) (fault : Option OpenFault) → behind_directory F choice fault ≡ None → fault ≡ None
+directory-opens F choice None none = refl
+directory-opens F choice (Some fault) none = absurd (cc none)
+
+header-opens : (F : List ℕ) (fault : Option HeaderFault) → behind_header F fault ≡ None → (fault ≡ None) × (directory_fault F ≡ None)
+header-opens F None none = (refl, none)
+header-opens F (Some header.BadSignature) none = absurd (cc none)
+header-opens F (Some (header.BadVersion low)) none = absurd (cc none)
+
+long-opens : (F : List ℕ) (short : Bool) → nat_lt (length F) 32 ≡ short
+    → (if short then Some (opening.TooShort (length F)) else behind_header F (header_fault F)) ≡ None → (32 ≤ length F) × (behind_header F (header_fault F) ≡ None)
+long-opens F true is none = absurd (cc none)
+long-opens F false is none = (ltb-false (length F) 32 is, none)
+
+-- a file that opens has a header, and its directory lies inside it
+pub opened-head : (F : List ℕ) (choice : Choice) → opening_fault F choice ≡ None
+    → HasHeader F (header_at F 0) × IsTrue (is_inside (header_at F 0).stream_directory_rva (12 * entry_count F) (length F))
+opened-head F choice none =
+    let long = long-opens F (nat_lt (length F) 32) refl (directory-opens F choice (directory_refusal F) none) in
+    let head = header-opens F (header_fault F) long.1 in (
+      record {
+        room = long.0;
+        signature = grind (arith, common_steps, head.0);
+        version = grind (arith, common_steps, head.0);
+        fields = refl;
+      },
+      grind (arith, common_steps, head.1),
+    )
+
+-- ---- a refused opening
+
+-- it is the refusal of the file, or want of memory
+pub opening-answered : (F : List ℕ) (choice : Choice) (limit parts : ℕ) (fault : OpenFault) → IsRefusalOf F choice fault → (IsUnread fault → ⊥)
+    → (refusal_of fault ≡ faults.Memory) ⊎ (read_refusal F choice limit parts ≡ Some (refusal_of fault))
+opening-answered F choice limit parts (opening.Source fault) is read = absurd (read tt)
+opening-answered F choice limit parts opening.Memory is read = inl refl
+opening-answered F choice limit parts fault is read = inr (rw is refl)
+
+-- of which a fault of the store is told as such
+pub opening-fetches : {T : Type 0} (n : ℕ) (fault : OpenFault) (old new : SourceState) → FetchesAtMost n old new → IsUnreadFor fault old new
+    → ((file : List ℕ) → IsGood old.store file → IsUnread fault → ⊥) → Fetches {T = T} (Err (refusal_of fault)) old new
+opening-fetches {T = T} n (opening.Source fault) old new fetches cause good =
+    let read = Fetches-read {T = T} n fault old new fetches cause.0 (λ file is. good file is tt) in
+    record { fetches = read.fetches; told = read.told; good = read.good }
+opening-fetches n fault old new fetches cause good = record { fetches = record { count = n; fetches = fetches }; told = tt; good = λ file is. refl }
+
+-- ---- answers
+
+-- over a good store a fault that is not want of memory is that of the file
+pub answered : (refusal : Option ReadFault) (fault : ReadFault) → ((IsOwn fault → ⊥) → refusal ≡ Some fault) → store_fault fault ≡ None
+    → (fault ≡ faults.Memory) ⊎ (refusal ≡ Some fault)
+answered refusal faults.Memory settles good = inl refl
+answered refusal fault settles good = inr (settles (λ own. let told = own.1 in absurd (cc (good, told))))

@@ -1,0 +1,125 @@
+-- Steps that are taken one after another.
+use Rattle.std.proofs.Common.{◌≡◌, ◌∙◌, ◌+◌, ℕ, List, [], ◌++◌, Option, Some, None, Result, Ok, Err, ap, append_assoc, refl, subst, sym}
+use Rattle.mdmp_source.specs.Source.{SourceState, FetchesSome}
+use Rattle.mdmp_source.specs.SourceLaws.{fetches_then, told_later}
+use Rattle.mdmp_source.specs.declared.fault.SourceFault.{SourceFault}
+use Rattle.mdmp_source.specs.declared.fault.SourceFault.TheVariants.{Failed, ShortRead, Changed}
+use Rattle.mdmp_lister.proofs.Fetches.{FetchesAtMost-none, IsGood-later}
+use Rattle.mdmp_dump.specs.declared.fault.ReadFault.{ReadFault}
+use Rattle.mdmp_dump.specs.declared.fault.ReadFault.TheVariants as faults
+use Rattle.mdmp_lister.specs.declared.item.Item.{Item}
+use Rattle.mdmp_lister.specs.declared.kind.Kind.{Kind}
+use Rattle.mdmp_dump.specs.declared.reader.Reader.{Reader}
+use Rattle.mdmp_dump.specs.declared.row.Found.{Found}
+use Rattle.mdmp_dump.specs.Reading.{Fetches, IsLastTold, IsRowRead, Settles, Takes, store_fault}
+use Rattle.mdmp_dump.specs.Refusal.{Step, first_refusal}
+
+-- ---- fetches
+
+pub FetchesSome_none : (a : SourceState) → FetchesSome a a
+FetchesSome_none a = record { count = 0; fetches = FetchesAtMost-none a }
+
+pub FetchesSome_then : (a b c : SourceState) → FetchesSome a b → FetchesSome b c → FetchesSome a c
+FetchesSome_then a b c first then = record {
+  count = first.count + then.count;
+  fetches = fetches_then first.count then.count a b c first.fetches then.fetches;
+}
+
+-- a fault that is told behind some fetches is told by them all
+pub last_told_later : (fault : Option SourceFault) (a b c : SourceState) → FetchesSome a b → IsLastTold fault b c → IsLastTold fault a c
+last_told_later (Some (Changed at)) a b c first told = sym first.fetches.same_content ∙ told
+last_told_later (Some (Failed at)) a b c first told = told_later (Failed at) first.count a b c first.fetches told
+last_told_later (Some (ShortRead at)) a b c first told = told_later (ShortRead at) first.count a b c first.fetches told
+last_told_later None a b c first told = tt
+
+-- fetches without a fault, and then more
+pub Fetches_later : {T : Type 0} (result : Result T ReadFault) (a b c : SourceState) → FetchesSome a b → Fetches result b c → Fetches result a c
+Fetches_later (Ok x) a b c first then = record { fetches = FetchesSome_then a b c first then.fetches; told = tt; good = λ file good. tt }
+Fetches_later (Err fault) a b c first then = record {
+  fetches = FetchesSome_then a b c first then.fetches;
+  told = last_told_later (store_fault fault) a b c first then.told;
+  good = λ file good. then.good file (IsGood-later file first.count a b first.fetches good);
+}
+
+-- ---- steps
+
+module _ {S A : Type 0} where
+  -- nothing is asked
+  pub Takes_none : {T : Type 0} (old : Reader S A) (x : T) → Takes [] old (Ok x) old
+  Takes_none old x = record {
+    same = refl;
+    fetches = record { fetches = FetchesSome_none old.lister.source; told = tt; good = λ file good. tt };
+    settles = λ rest last. refl;
+  }
+
+  -- where memory is wanting, whatever is asked
+  pub Takes_memory : {T : Type 0} (steps : List Step) (old : Reader S A) → Takes {T = T} steps old (Err faults.Memory) old
+  Takes_memory steps old = record {
+    same = refl;
+    fetches = record { fetches = FetchesSome_none old.lister.source; told = tt; good = λ file good. refl };
+    settles = λ rest last other. absurd (other tt);
+  }
+
+  module _ {T : Type 0} (steps : List Step) (old new : Reader S A) (result : Result T ReadFault) (takes : Takes steps old result new) where
+    -- the file stays, and its size
+    pub Takes-known : (file : List ℕ) → old.lister.source.store.content ≡ Some file → new.lister.source.store.content ≡ Some file
+    Takes-known file known = takes.fetches.fetches.fetches.same_content ∙ known
+
+    pub Takes-size : new.lister.source.size ≡ old.lister.source.size
+    Takes-size = takes.fetches.fetches.fetches.same_size
+
+  module _ {T U : Type 0} (steps : List Step) (old : Reader S A) where
+    -- what was taken may be put into another value
+    pub Takes_as : (x : T) (y : U) (new : Reader S A) → Takes steps old (Ok x) new → Takes steps old (Ok y) new
+    Takes_as x y new takes = record {
+      same = takes.same;
+      fetches = record { fetches = takes.fetches.fetches; told = tt; good = λ file good. tt };
+      settles = λ rest last. takes.settles rest last;
+    }
+
+    -- behind what was taken some more is asked
+    pub Takes_then : (more : List Step) (x : T) (result : Result U ReadFault) (mid new : Reader S A)
+        → Takes steps old (Ok x) mid → Takes more mid result new → Takes (steps ++ more) old result new
+    Takes_then more x result mid new first then = record {
+      same = then.same ∙ (λ i. record (first.same i) { source = new.lister.source; counts = new.lister.counts });
+      fetches = Fetches_later result old.lister.source mid.lister.source new.lister.source first.fetches.fetches then.fetches;
+      settles = λ rest last.
+          let all : first_refusal old.left 0 ((steps ++ more) ++ rest) last ≡ first_refusal mid.left 0 (more ++ rest) last =
+          ap (λ (all : List Step). first_refusal old.left 0 all last) (append_assoc steps more rest) ∙ first.settles (more ++ rest) last in
+          subst (λ (refusal : Option ReadFault). Settles refusal result (λ _. first_refusal new.left 0 rest last)) (sym all) (then.settles rest last);
+    }
+
+    -- a step that can't be taken is the last
+    pub Takes_fault : (more : List Step) (fault : ReadFault) (new : Reader S A)
+        → Takes {T = T} steps old (Err fault) new → Takes {T = U} (steps ++ more) old (Err fault) new
+    Takes_fault more fault new takes = record {
+      same = takes.same;
+      fetches = record { fetches = takes.fetches.fetches; told = takes.fetches.told; good = takes.fetches.good };
+      settles = λ rest last other.
+          ap (λ (all : List Step). first_refusal old.left 0 all last) (append_assoc steps more rest) ∙ takes.settles (more ++ rest) last other;
+    }
+
+    -- and so at another type of result
+    pub Takes_fault_as : (fault : ReadFault) (new : Reader S A) → Takes {T = T} steps old (Err fault) new → Takes {T = U} steps old (Err fault) new
+    Takes_fault_as fault new takes = record {
+      same = takes.same;
+      fetches = record { fetches = takes.fetches.fetches; told = takes.fetches.told; good = takes.fetches.good };
+      settles = λ rest last other. takes.settles rest last other;
+    }
+
+    -- what is asked behind may be said of the size of the file, which stays
+    pub Takes_then_at : (more : ℕ → List Step) (x : T) (result : Result U ReadFault) (mid new : Reader S A)
+        → Takes steps old (Ok x) mid → Takes (more mid.lister.source.size) mid result new → Takes (steps ++ more old.lister.source.size) old result new
+    Takes_then_at more x result mid new first then =
+        Takes_then (more old.lister.source.size) x result mid new first
+        (subst (λ (size : ℕ). Takes (more size) mid result new) (Takes-size steps old mid (Ok x) first) then)
+
+  -- ---- records
+
+  -- a record whose name and parts are refused is not read
+  pub row_refused : {X T : Type 0} (kind : Kind) (told : Item → Option (Found X)) (steps : ℕ → Found X → List Step) (IsAt : List ℕ → ℕ → ℕ → ℕ → T → Type 0)
+      (old : Reader S A) (found : Found X) (name : Option (List ℕ)) (result : Result T ReadFault) (fault : ReadFault) (new : Reader S A)
+      → result ≡ Err fault → Takes {T = T} (steps old.lister.source.size found) old (Err fault) new → IsRowRead kind told steps IsAt old found name result new
+  row_refused kind told steps IsAt old found name result fault new is takes =
+      subst (λ r. IsRowRead kind told steps IsAt old found name r new) (sym is)
+      (record { takes = takes; stands = λ file limit e k at o item known given tells named. tt })

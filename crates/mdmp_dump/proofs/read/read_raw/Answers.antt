@@ -1,0 +1,60 @@
+use Rattle.std.proofs.Common.{◌≡◌, ◌∙◌, Err, Ok, rules, sym}
+use Rattle.mdmp_dump.proofs.Streams.{RawTaken, fetches_err, fetches_ok, raw_left, raw_read, raw_taken}
+use Rattle.mdmp_dump.proofs.read.read_raw.Goals as goal
+use Rattle.mdmp_dump.proofs.read.read_raw.Goals.{else-inside, then-inside+in_ok-bytes}
+
+pub returns-clause-fetches : goal.returns-clause-fetches
+returns-clause-fetches g c =
+    let old = c.args.reader.now in
+    let item = c.args.item in
+    let mid = c.if-inside.reader in
+    let taken : RawTaken old item c.if-inside.stream mid = elim c.if-inside.branch [
+      | then-inside+in_ok-bytes w ↦ raw_taken old item c.size.result c.size.ensures.content c.from-at.result c.from-size.result c.from-at.ensures c.from-size.ensures c.if-inside.stream mid
+          w.in_ok-bytes.field-0 w.bytes.new.self (sym c.inside.ensures.value ∙ w.if-inside.true) w.in_ok-bytes.ensures.takes w.in_ok-bytes.ensures.of_file w.reader-is w.stream-is
+      | else-inside w ↦ raw_left old item c.size.result c.size.ensures.content c.from-at.result c.from-size.result c.from-at.ensures c.from-size.ensures c.if-inside.stream mid
+          (sym c.inside.ensures.value ∙ w.if-inside.false) w.reader-is w.stream-is
+    ] in
+    fetches_ok old.lister.source mid.lister.source c.behind.new.self.lister.source taken.fetches (c.if-inside.stream, c.in_ok-behind.field-0) c.in_ok-behind.ensures.fetches.fetches
+
+pub returns-clause-of_file : goal.returns-clause-of_file
+returns-clause-of_file g c =
+    let old = c.args.reader.now in
+    let item = c.args.item in
+    let mid = c.if-inside.reader in
+    let taken : RawTaken old item c.if-inside.stream mid = elim c.if-inside.branch [
+      | then-inside+in_ok-bytes w ↦ raw_taken old item c.size.result c.size.ensures.content c.from-at.result c.from-size.result c.from-at.ensures c.from-size.ensures c.if-inside.stream mid
+          w.in_ok-bytes.field-0 w.bytes.new.self (sym c.inside.ensures.value ∙ w.if-inside.true) w.in_ok-bytes.ensures.takes w.in_ok-bytes.ensures.of_file w.reader-is w.stream-is
+      | else-inside w ↦ raw_left old item c.size.result c.size.ensures.content c.from-at.result c.from-size.result c.from-at.ensures c.from-size.ensures c.if-inside.stream mid
+          (sym c.inside.ensures.value ∙ w.if-inside.false) w.reader-is w.stream-is
+    ] in
+    λ file limit x xs known left is raw. raw_read old mid c.behind.new.self item c.if-inside.stream taken file limit x xs known left is raw (Ok c.in_ok-behind.field-0) c.in_ok-behind.ensures.gives
+
+pub returns-in_err-behind-clause-fetches : goal.returns-in_err-behind-clause-fetches
+returns-in_err-behind-clause-fetches g c =
+    let old = c.args.reader.now in
+    let item = c.args.item in
+    let mid = c.if-inside.reader in
+    let taken : RawTaken old item c.if-inside.stream mid = elim c.if-inside.branch [
+      | then-inside+in_ok-bytes w ↦ raw_taken old item c.size.result c.size.ensures.content c.from-at.result c.from-size.result c.from-at.ensures c.from-size.ensures c.if-inside.stream mid
+          w.in_ok-bytes.field-0 w.bytes.new.self (sym c.inside.ensures.value ∙ w.if-inside.true) w.in_ok-bytes.ensures.takes w.in_ok-bytes.ensures.of_file w.reader-is w.stream-is
+      | else-inside w ↦ raw_left old item c.size.result c.size.ensures.content c.from-at.result c.from-size.result c.from-at.ensures c.from-size.ensures c.if-inside.stream mid
+          (sym c.inside.ensures.value ∙ w.if-inside.false) w.reader-is w.stream-is
+    ] in
+    let fault = c.in_err-behind.field-0.0 in
+    let is : c.from_residual-in_err-behind.result ≡ Err fault = search rules in
+    rw is (fetches_err old.lister.source mid.lister.source c.behind.new.self.lister.source taken.fetches fault c.in_err-behind.ensures.fetches)
+
+pub returns-in_err-behind-clause-of_file : goal.returns-in_err-behind-clause-of_file
+returns-in_err-behind-clause-of_file g c =
+    let old = c.args.reader.now in
+    let item = c.args.item in
+    let mid = c.if-inside.reader in
+    let taken : RawTaken old item c.if-inside.stream mid = elim c.if-inside.branch [
+      | then-inside+in_ok-bytes w ↦ raw_taken old item c.size.result c.size.ensures.content c.from-at.result c.from-size.result c.from-at.ensures c.from-size.ensures c.if-inside.stream mid
+          w.in_ok-bytes.field-0 w.bytes.new.self (sym c.inside.ensures.value ∙ w.if-inside.true) w.in_ok-bytes.ensures.takes w.in_ok-bytes.ensures.of_file w.reader-is w.stream-is
+      | else-inside w ↦ raw_left old item c.size.result c.size.ensures.content c.from-at.result c.from-size.result c.from-at.ensures c.from-size.ensures c.if-inside.stream mid
+          (sym c.inside.ensures.value ∙ w.if-inside.false) w.reader-is w.stream-is
+    ] in
+    let fault = c.in_err-behind.field-0.0 in
+    let is : c.from_residual-in_err-behind.result ≡ Err fault = search rules in
+    rw is (λ file limit x xs known left same raw. raw_read old mid c.behind.new.self item c.if-inside.stream taken file limit x xs known left same raw (Err fault) c.in_err-behind.ensures.gives)

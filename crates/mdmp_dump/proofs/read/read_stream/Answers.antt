@@ -1,0 +1,105 @@
+use Rattle.std.proofs.Common.{◌≡◌, Err, Ok, Some, [], ◌∷◌, refl, rules}
+use Rattle.mdmp_lister.specs.declared.kind.Kind.TheVariants as kinds
+use Rattle.mdmp_dump.specs.declared.dump.Stream.TheVariants as streams
+use Rattle.mdmp_dump.specs.LaysOut.{HasRecords}
+use Rattle.mdmp_dump.specs.Memory.{IsMemory}
+use Rattle.mdmp_dump.specs.Memory64.{IsMemory64}
+use Rattle.mdmp_dump.specs.Module.{IsModule}
+use Rattle.mdmp_dump.specs.Thread.{IsThread}
+use Rattle.mdmp_dump.specs.Unloaded.{IsUnloaded}
+use Rattle.mdmp_dump.specs.Exception.{IsException}
+use Rattle.mdmp_dump.specs.System.{IsSystem}
+use Rattle.mdmp_dump.proofs.Streams.{fetches_err, one_exception, one_system, stream_read, stream_refused, unused_read}
+use Rattle.mdmp_dump.proofs.Taking.{FetchesSome_none}
+use Rattle.mdmp_dump.proofs.read.read_stream.Goals as goal
+
+pub returns-in_ok-threads-in-3-clause-of_file : goal.returns-in_ok-threads-in-3-clause-of_file
+returns-in_ok-threads-in-3-clause-of_file g c =
+    let r = c.in_ok-threads-in-3 in
+    stream_read c.args.reader.now c.rows.new.self c.args.item 3 c.in-3.is (λ size e at. refl) kinds.Threads refl
+    (λ F at. HasRecords F at kinds.Threads (λ k. IsThread F)) r.threads _ r.next (λ F e type has. (streams.Threads r.threads, (refl, record { type_is = type; stands = has })))
+    r.ensures.of_file
+
+pub returns-in_ok-modules-in-4-clause-of_file : goal.returns-in_ok-modules-in-4-clause-of_file
+returns-in_ok-modules-in-4-clause-of_file g c =
+    let r = c.in_ok-modules-in-4 in
+    stream_read c.args.reader.now c.rows-in-4.new.self c.args.item 4 c.in-4.is (λ size e at. refl) kinds.Modules refl
+    (λ F at. HasRecords F at kinds.Modules (λ k. IsModule F)) r.modules _ r.next (λ F e type has. (streams.Modules r.modules, (refl, record { type_is = type; stands = has })))
+    r.ensures.of_file
+
+pub returns-in_ok-ranges-in-5-clause-of_file : goal.returns-in_ok-ranges-in-5-clause-of_file
+returns-in_ok-ranges-in-5-clause-of_file g c =
+    let r = c.in_ok-ranges-in-5 in
+    stream_read c.args.reader.now c.rows-in-5.new.self c.args.item 5 c.in-5.is (λ size e at. refl) kinds.Memory refl
+    (λ F at. HasRecords F at kinds.Memory (λ k. IsMemory F)) r.ranges _ r.next (λ F e type has. (streams.Memory r.ranges, (refl, record { type_is = type; stands = has })))
+    r.ensures.of_file
+
+pub returns-in_ok-ranges-in-9-clause-of_file : goal.returns-in_ok-ranges-in-9-clause-of_file
+returns-in_ok-ranges-in-9-clause-of_file g c =
+    let r = c.in_ok-ranges-in-9 in
+    stream_read c.args.reader.now c.rows-in-9.new.self c.args.item 9 c.in-9.is (λ size e at. refl) kinds.Memory64 refl
+    (λ F at. HasRecords F at kinds.Memory64 (IsMemory64 F at.rva)) r.ranges _ r.next (λ F e type has. (streams.Memory64 r.ranges, (refl, record { type_is = type; stands = has })))
+    r.ensures.of_file
+
+pub returns-in_ok-modules-in-14-clause-of_file : goal.returns-in_ok-modules-in-14-clause-of_file
+returns-in_ok-modules-in-14-clause-of_file g c =
+    let r = c.in_ok-modules-in-14 in
+    stream_read c.args.reader.now c.rows-in-14.new.self c.args.item 14 c.in-14.is (λ size e at. refl) kinds.Unloaded refl
+    (λ F at. HasRecords F at kinds.Unloaded (λ k. IsUnloaded F)) r.modules _ r.next (λ F e type has. (streams.Unloaded r.modules, (refl, record { type_is = type; stands = has })))
+    r.ensures.of_file
+
+pub returns-in_ok-exception-in-6-clause-of_file : goal.returns-in_ok-exception-in-6-clause-of_file
+returns-in_ok-exception-in-6-clause-of_file g c =
+    let r = c.in_ok-exception-in-6 in
+    stream_read c.args.reader.now c.single.new.self c.args.item 6 c.in-6.is (λ size e at. refl) kinds.Exception refl
+    (λ F at row. (one : _) × ((row ≡ Some one) × HasRecords F at kinds.Exception (λ k. IsException F) (one ∷ []))) r.exception _ r.next
+    (λ F e type has.
+    let cases = rw has.1.0 at c.map.ensures.cases in
+    let same : c.map.result ≡ Some (streams.Exception has.0) = search rules in
+    (streams.Exception has.0, (same, record { type_is = type; stands = has.1.1 })))
+    (λ F limit x xs known left kind. r.ensures.of_file F limit x xs known left kind (one_exception F x))
+
+pub returns-in_err-exception-in-6-clause-of_file : goal.returns-in_err-exception-in-6-clause-of_file
+returns-in_err-exception-in-6-clause-of_file g c =
+    let fault = c.in_err-exception-in-6.field-0.0 in
+    let is : c.from_residual-in_err-exception-in-6.result ≡ Err fault = search rules in
+    rw is (stream_refused c.args.reader.now c.single.new.self c.args.item 6 c.in-6.is (λ size e at. refl) kinds.Exception refl
+    (λ F at row. (one : _) × ((row ≡ Some one) × HasRecords F at kinds.Exception (λ k. IsException F) (one ∷ []))) fault
+    (λ F limit x xs known left kind. c.in_err-exception-in-6.ensures.of_file F limit x xs known left kind (one_exception F x)))
+
+pub returns-in_ok-system-in-7-clause-of_file : goal.returns-in_ok-system-in-7-clause-of_file
+returns-in_ok-system-in-7-clause-of_file g c =
+    let r = c.in_ok-system-in-7 in
+    stream_read c.args.reader.now c.single-in-7.new.self c.args.item 7 c.in-7.is (λ size e at. refl) kinds.System refl
+    (λ F at row. (one : _) × ((row ≡ Some one) × HasRecords F at kinds.System (λ k. IsSystem F) (one ∷ []))) r.system _ r.next
+    (λ F e type has.
+    let cases = rw has.1.0 at c.map-in-7.ensures.cases in
+    let same : c.map-in-7.result ≡ Some (streams.System has.0) = search rules in
+    (streams.System has.0, (same, record { type_is = type; stands = has.1.1 })))
+    (λ F limit x xs known left kind. r.ensures.of_file F limit x xs known left kind (one_system F x))
+
+pub returns-in_err-system-in-7-clause-of_file : goal.returns-in_err-system-in-7-clause-of_file
+returns-in_err-system-in-7-clause-of_file g c =
+    let fault = c.in_err-system-in-7.field-0.0 in
+    let is : c.from_residual-in_err-system-in-7.result ≡ Err fault = search rules in
+    rw is (stream_refused c.args.reader.now c.single-in-7.new.self c.args.item 7 c.in-7.is (λ size e at. refl) kinds.System refl
+    (λ F at row. (one : _) × ((row ≡ Some one) × HasRecords F at kinds.System (λ k. IsSystem F) (one ∷ []))) fault
+    (λ F limit x xs known left kind. c.in_err-system-in-7.ensures.of_file F limit x xs known left kind (one_system F x)))
+
+pub returns-in_ok-behind-in-0-clause-of_file : goal.returns-in_ok-behind-in-0-clause-of_file
+returns-in_ok-behind-in-0-clause-of_file g c =
+    let r = c.in_ok-behind-in-0 in
+    unused_read c.args.reader.now c.behind.new.self c.args.item c.in-0.is (Ok r.field-0) r.ensures.gives
+
+pub returns-in_err-behind-in-0-clause-of_file : goal.returns-in_err-behind-in-0-clause-of_file
+returns-in_err-behind-in-0-clause-of_file g c =
+    let r = c.in_err-behind-in-0 in
+    let is : c.from_residual.result ≡ Err r.field-0.0 = search rules in
+    rw is (unused_read c.args.reader.now c.behind.new.self c.args.item c.in-0.is (Err r.field-0.0) r.ensures.gives)
+
+pub returns-in_err-behind-in-0-clause-fetches : goal.returns-in_err-behind-in-0-clause-fetches
+returns-in_err-behind-in-0-clause-fetches g c =
+    let old = c.args.reader.now.lister.source in
+    let r = c.in_err-behind-in-0 in
+    let is : c.from_residual.result ≡ Err r.field-0.0 = search rules in
+    rw is (fetches_err old old c.behind.new.self.lister.source (FetchesSome_none old) r.field-0.0 r.ensures.fetches)

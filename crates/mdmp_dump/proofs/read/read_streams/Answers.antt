@@ -1,0 +1,89 @@
+use Rattle.std.proofs.Common.{◌≡◌, Err, Ok, refl, rules}
+use Rattle.mdmp_dump.proofs.Streams.{fetches_err}
+use Rattle.mdmp_dump.proofs.Walked.{all_read, awaited_going, fewer_left, more_read, more_refused, never_none, none_read, none_refused, none_refused_behind}
+use Rattle.mdmp_dump.proofs.Taking.{FetchesSome_none, FetchesSome_then}
+use Rattle.mdmp_dump.proofs.read.read_streams.Goals as goal
+
+pub returns-in_err-next-clause-fetches : goal.returns-in_err-next-clause-fetches
+returns-in_err-next-clause-fetches g c =
+    let old = c.args.reader.now.lister.source in
+    let r = c.in_err-next in
+    let is : c.from_residual.result ≡ Err r.field-0.0 = search rules in
+    rw is (fetches_err old old c.behind.new.self.lister.source (FetchesSome_none old) r.field-0.0 r.ensures.fetches)
+
+pub returns-in_err-next-clause-of_file : goal.returns-in_err-next-clause-of_file
+returns-in_err-next-clause-of_file g c =
+    let r = c.in_err-next in
+    let is : c.from_residual.result ≡ Err r.field-0.0 = search rules in
+    rw is (λ file limit xs known left. (tt, none_refused c.args.reader.now c.behind.new.self (Err r.field-0.0) r.ensures.gives r.field-0.0 refl file limit xs known left))
+
+pub loop-next-init : goal.loop-next-init
+loop-next-init g c =
+    let r = c.in_ok-next in
+    rw c.in-Ok.ensures.items (record {
+      fetches = r.ensures.fetches.fetches;
+      awaited = awaited_going c.args.reader.now.lister r.next c.behind.new.self.lister r.ensures.going;
+      of_file = none_read c.args.reader.now c.behind.new.self (Ok r.next) r.ensures.gives r.next refl;
+    })
+
+pub returns-in_err-stream-clause-fetches : goal.returns-in_err-stream-clause-fetches
+returns-in_err-stream-clause-fetches g c =
+    let r = c.in_err-stream in
+    let is : c.from_residual-in_err-stream.result ≡ Err r.field-0.0 = search rules in
+    rw is (fetches_err c.args.reader.now.lister.source c.loop-next.reader.lister.source c.read_stream.new.reader.lister.source c.loop-next.invariant.fetches r.field-0.0 r.ensures.fetches)
+
+pub returns-in_err-stream-clause-of_file : goal.returns-in_err-stream-clause-of_file
+returns-in_err-stream-clause-of_file g c =
+    let r = c.in_err-stream in
+    let is : c.from_residual-in_err-stream.result ≡ Err r.field-0.0 = search rules in
+    let so_far = rw c.in-Some.is at c.loop-next.invariant in
+    rw is (λ file limit xs known left.
+    (tt, more_refused c.args.reader.now c.loop-next.reader c.read_stream.new.reader c.loop-next.streams.items c.in-Some.item so_far file limit xs known left r.field-0.0 r.ensures.of_file))
+
+pub returns-in-Err-clause-fetches : goal.returns-in-Err-clause-fetches
+returns-in-Err-clause-fetches g c = record {
+  fetches = FetchesSome_then c.args.reader.now.lister.source c.loop-next.reader.lister.source c.read_stream.new.reader.lister.source c.loop-next.invariant.fetches c.in_ok-stream.ensures.fetches.fetches;
+  told = tt;
+  good = λ file good. refl;
+}
+
+pub loop-next-smaller-in-Ok-push : goal.loop-next-smaller-in-Ok-push
+loop-next-smaller-in-Ok-push g c = rw c.in-Some.is (fewer_left c.loop-next.reader.lister c.in-Some.item c.in_ok-stream.behind c.read_stream.new.reader.lister c.in_ok-stream.ensures.going)
+
+pub loop-next-preserved-in-Ok-push : goal.loop-next-preserved-in-Ok-push
+loop-next-preserved-in-Ok-push g c =
+    let r = c.in_ok-stream in
+    let mid = c.loop-next.reader in
+    let new = c.read_stream.new.reader in
+    let so_far = rw c.in-Some.is at c.loop-next.invariant in
+    rw c.in-Ok-push.ensures.items (record {
+      fetches = FetchesSome_then c.args.reader.now.lister.source mid.lister.source new.lister.source so_far.fetches r.ensures.fetches.fetches;
+      awaited = awaited_going mid.lister r.behind new.lister r.ensures.going;
+      of_file = λ file limit xs known left.
+          more_read c.args.reader.now mid new c.loop-next.streams.items c.in-Some.item so_far file limit xs known left r.stream c.in-Some-stream.stream r.behind r.ensures.of_file c.in-Some-stream.is;
+    })
+
+pub loop-next-smaller : goal.loop-next-smaller
+loop-next-smaller g c = rw c.in-Some.is (fewer_left c.loop-next.reader.lister c.in-Some.item c.in_ok-stream.behind c.read_stream.new.reader.lister c.in_ok-stream.ensures.going)
+
+pub loop-next-preserved : goal.loop-next-preserved
+loop-next-preserved g c =
+    let r = c.in_ok-stream in
+    let mid = c.loop-next.reader in
+    let new = c.read_stream.new.reader in
+    let so_far = rw c.in-Some.is at c.loop-next.invariant in
+    record {
+      fetches = FetchesSome_then c.args.reader.now.lister.source mid.lister.source new.lister.source so_far.fetches r.ensures.fetches.fetches;
+      awaited = awaited_going mid.lister r.behind new.lister r.ensures.going;
+      of_file = λ file limit xs known left.
+          absurd (never_none c.args.reader.now mid new c.loop-next.streams.items c.in-Some.item so_far file limit xs known left r.stream r.behind r.ensures.of_file c.in_default-stream.is);
+    }
+
+pub returns-clause-of_file : goal.returns-clause-of_file
+returns-clause-of_file g c =
+    let all = rw c.in_default-next.is at c.loop-next.invariant in
+    rw c.new.ensures (λ file limit xs known left.
+    let read = all.of_file file limit xs known left in (
+      all_read file limit xs c.args.reader.now c.loop-next.streams.items c.loop-next.reader read,
+      none_refused_behind file limit xs c.args.reader.now c.loop-next.streams.items c.loop-next.reader read,
+    ))

@@ -1,0 +1,28 @@
+use Rattle.std.proofs.Common.{◌≡◌, ◌∙◌, length, arith, refl, sym}
+use Rattle.mdmp_dump.proofs.Budget.{array_is, Fetches-none, inside_is, taken-all, take-refused, take-taken}
+use Rattle.mdmp_dump.proofs.reader.Reader.bytes.Goals as goal
+
+pub returns-then-size-self-clause-takes : goal.returns-then-size-self-clause-takes
+returns-then-size-self-clause-takes g c = record {
+  same = refl;
+  fetches = Fetches-none _ c.args.self.now.lister.source refl;
+  settles = λ rest last own. take-refused c.args.self.now.left c.args.place.entry c.args.place.index c.args.size rest last c.if-size-self.true;
+}
+
+pub returns-clause-takes : goal.returns-clause-takes
+returns-clause-takes g c = record {
+  same = c.in-Ok-read_part.ensures.reads.same;
+  fetches = record { fetches = record { count = _; fetches = c.in-Ok-read_part.ensures.reads.fetches }; told = tt; good = λ file good. tt };
+  settles = λ rest last. take-taken c.args.self.now.left c.args.place.entry c.args.place.index c.args.size rest last (omega (arith, c.if-size-self.false));
+}
+
+pub returns-clause-of_file : goal.returns-clause-of_file
+returns-clause-of_file g c = λ file known.
+    let len : length c.read_part.new.out ≡ c.args.size = omega (arith, c.deref_mut.ensures.len, c.in-Ok.ensures.len) in
+    let same = c.in-Ok-read_part.ensures.bytes file known in
+    let all = taken-all c.read_part.new.out c.in-Ok.bytes.items c.in-Ok.bytes.len (omega (arith, len, c.in-Ok.ensures.len)) in
+    record {
+      len = rw (c.new.ensures, all) len;
+      inside = inside_is file c.args.at c.args.size _ c.requires.inside (rw known at c.requires.sized);
+      same = array_is file c.args.at c.args.size ∙ sym (rw len at same) ∙ sym (c.new.ensures ∙ all);
+    }

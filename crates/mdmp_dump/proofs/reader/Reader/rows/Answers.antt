@@ -1,0 +1,57 @@
+use Rattle.std.proofs.Common.{rules, ◌≡◌, ◌∙◌, ◌+◌, ◌∷◌, [], ◌++◌, ℕ, length, length-append, refl, Some, Err, arith, subst, sym}
+use Rattle.mdmp_dump.specs.Left.{left_from}
+use Rattle.mdmp_dump.proofs.Given.{rows-all, rows-more}
+use Rattle.mdmp_dump.proofs.Taking.{FetchesSome_then, Fetches_later}
+use Rattle.mdmp_dump.proofs.reader.Reader.rows.Goals as goal
+
+pub returns-in_err-row-clause-fetches : goal.returns-in_err-row-clause-fetches
+returns-in_err-row-clause-fetches g c =
+    let fault = c.in_err-row.field-0.0 in
+    let is : c.from_residual.result ≡ Err fault = search rules in
+    let told = c.in_err-row.ensures.fetches in
+    rw is (Fetches_later (Err fault) c.args.self.now.lister.source c.loop-rows.self.lister.source c.next.new.self.lister.source c.loop-rows.invariant.fetches (record { fetches = told.fetches; told = told.told; good = told.good }))
+
+pub loop-rows-preserved : goal.loop-rows-preserved
+loop-rows-preserved g c =
+    let before = c.loop-rows.invariant in
+    let rows = c.loop-rows.rows.items in
+    let row = c.in-Row.row in
+    let going = rw c.in-Row.is at c.in_ok-row.ensures.going in
+    let pushed : c.push_reserved.new.self.items ≡ rows ++ (row ∷ []) = rw c.reserve_exact.ensures.items at c.push_reserved.ensures.items in
+    let len : length rows + 1 ≡ length c.push_reserved.new.self.items = rw pushed (sym (length-append rows (row ∷ []))) in
+    record {
+      going = going.0;
+      fetches = FetchesSome_then c.args.self.now.lister.source c.loop-rows.self.lister.source c.next.new.self.lister.source before.fetches c.in_ok-row.ensures.fetches.fetches;
+      rests = omega (arith, before.rests, going.1);
+      of_file = λ file limit x xs known left kind.
+          let so_far = before.of_file file limit x xs known left kind in
+          let given = rw c.in-Row.is at (c.in_ok-row.ensures.of_file file limit x (length rows) xs (before.fetches.fetches.same_content ∙ known) so_far.0 kind) in (
+            subst (λ (n : ℕ). c.next.new.self.lister.left ≡ Some (left_from file limit x n xs)) len given.0.1,
+            (rw pushed (rows-more file x g.T.Row.kind (g.T.Row.IsAt file x.entry.location.rva) rows row so_far.1.0 given.0.0), so_far.1.1 ∙ given.1),
+          );
+    }
+
+pub returns-in-Err-clause-fetches : goal.returns-in-Err-clause-fetches
+returns-in-Err-clause-fetches g c = record {
+  fetches = FetchesSome_then c.args.self.now.lister.source c.loop-rows.self.lister.source c.next.new.self.lister.source c.loop-rows.invariant.fetches c.in_ok-row.ensures.fetches.fetches;
+  told = tt;
+  good = λ file good. refl;
+}
+
+pub returns-in-Behind-clause-fetches : goal.returns-in-Behind-clause-fetches
+returns-in-Behind-clause-fetches g c = record {
+  fetches = FetchesSome_then c.args.self.now.lister.source c.loop-rows.self.lister.source c.next.new.self.lister.source c.loop-rows.invariant.fetches c.in_ok-row.ensures.fetches.fetches;
+  told = tt;
+  good = λ file good. tt;
+}
+
+pub returns-in-Behind-clause-of_file : goal.returns-in-Behind-clause-of_file
+returns-in-Behind-clause-of_file g c = λ file limit x xs known left kind.
+    let before = c.loop-rows.invariant in
+    let rows = c.loop-rows.rows.items in
+    let so_far = before.of_file file limit x xs known left kind in
+    let given = rw c.in-Behind.is at (c.in_ok-row.ensures.of_file file limit x (length rows) xs (before.fetches.fetches.same_content ∙ known) so_far.0 kind) in
+    record {
+      value = (rw c.new.ensures (rows-all file x g.T.Row.kind (g.T.Row.IsAt file x.entry.location.rva) rows kind so_far.1.0 given.0.0), given.0.1);
+      settles = so_far.1.1 ∙ given.1;
+    }

@@ -1,0 +1,38 @@
+use Rattle.std.proofs.Common.{rules, ◌≡◌, ◌∙◌, refl, Err}
+use Rattle.mdmp_dump.proofs.Given.{behind-given, no-row-after-one, one-read}
+use Rattle.mdmp_dump.proofs.Taking.{FetchesSome_then, Fetches_later}
+use Rattle.mdmp_dump.proofs.reader.Reader.single.Goals as goal
+
+pub returns-in_err-behind-in-Row-clause-fetches : goal.returns-in_err-behind-in-Row-clause-fetches
+returns-in_err-behind-in-Row-clause-fetches g c =
+    let fault = c.in_err-behind-in-Row.field-0.0 in
+    let is : c.from_residual-in_err-behind-in-Row.result ≡ Err fault = search rules in
+    let told = c.in_err-behind-in-Row.ensures.fetches in
+    rw is (Fetches_later (Err fault) c.args.self.now.lister.source c.next.new.self.lister.source c.behind.new.self.lister.source c.in_ok-row.ensures.fetches.fetches (record { fetches = told.fetches; told = told.told; good = told.good }))
+
+pub returns-in_err-behind-in-Row-clause-of_file : goal.returns-in_err-behind-in-Row-clause-of_file
+returns-in_err-behind-in-Row-clause-of_file g c = λ file limit x xs known left kind one.
+    let fault = c.in_err-behind-in-Row.field-0.0 in
+    let is : c.from_residual-in_err-behind-in-Row.result ≡ Err fault = search rules in
+    let given = rw c.in-Row.is at (c.in_ok-row.ensures.of_file file limit x 0 xs known left kind) in
+    let first = no-row-after-one file limit x xs g.T.Row.kind (g.T.Row.IsAt file x.entry.location.rva) kind one c.in-Row.row given.0.0 in
+    let behind = c.in_err-behind-in-Row.ensures.gives file _ (c.in_ok-row.ensures.fetches.fetches.fetches.same_content ∙ known) given.0.1 first in
+    rw is (record { value = tt; settles = λ own. given.1 ∙ behind.1 own })
+
+pub returns-in_ok-behind-in-Row-clause-fetches : goal.returns-in_ok-behind-in-Row-clause-fetches
+returns-in_ok-behind-in-Row-clause-fetches g c = record {
+  fetches = FetchesSome_then c.args.self.now.lister.source c.next.new.self.lister.source c.behind.new.self.lister.source c.in_ok-row.ensures.fetches.fetches c.in_ok-behind-in-Row.ensures.fetches.fetches;
+  told = tt;
+  good = λ file good. tt;
+}
+
+pub returns-in_ok-behind-in-Row-clause-of_file : goal.returns-in_ok-behind-in-Row-clause-of_file
+returns-in_ok-behind-in-Row-clause-of_file g c = λ file limit x xs known left kind one.
+    let given = rw c.in-Row.is at (c.in_ok-row.ensures.of_file file limit x 0 xs known left kind) in
+    let first = no-row-after-one file limit x xs g.T.Row.kind (g.T.Row.IsAt file x.entry.location.rva) kind one c.in-Row.row given.0.0 in
+    let behind = c.in_ok-behind-in-Row.ensures.gives file _ (c.in_ok-row.ensures.fetches.fetches.fetches.same_content ∙ known) given.0.1 first in
+    let all = behind-given file limit x 1 xs c.in_ok-behind-in-Row.field-0 c.behind.new.self.lister.left behind.0 in
+    record {
+      value = ((c.in-Row.row, (refl, one-read file limit x xs g.T.Row.kind (g.T.Row.IsAt file x.entry.location.rva) kind one c.in-Row.row given.0.0 all.0)), all.1);
+      settles = given.1 ∙ behind.1;
+    }

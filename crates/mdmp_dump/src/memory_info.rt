@@ -1,0 +1,51 @@
+//! A region of memory of a dump, which is the record itself.
+ghost use Rattle.mdmp_dump.specs.Reading.{IsRowRead};
+ghost use Rattle.std.specs.Prelude.{[], ◌≡◌};
+ghost use Rattle.mdmp_lister.specs.declared.kind.Kind.TheVariants as kinds;
+ghost use Rattle.mdmp_wire.specs.MemoryInfo.{memory_info_at};
+ghost use Rattle.mdmp_dump.specs.MemoryInfo.{memory_info_told};
+ghost use Rattle.mdmp_dump.specs.TellingLaws.{memory_info_tells};
+
+use crate::fault::ReadFault;
+use crate::reader::Reader;
+use crate::row::{Found, Place, Row};
+use mdmp_lister::Item;
+use mdmp_source::Store;
+use mdmp_wire::{MemoryInfoRecord, Units};
+use std::alloc::Allocator;
+
+impl<S: Store + Drop, A: Allocator + Copy> Row<S, A> for MemoryInfoRecord {
+    type Fields = MemoryInfoRecord;
+
+    ghost kind = { kinds.MemoryInfo };
+
+    ghost told = { memory_info_told };
+
+    ghost steps = { λ z x. [] };
+
+    ghost IsAt = { λ file at k o row. memory_info_at file o ≡ row };
+
+    fn find(item: &Item<'_>) -> Option<Found<MemoryInfoRecord>> {
+        match item {
+            Item::MemoryInfo(region) => Some(Found {
+                place: Place {
+                    entry: region.entry,
+                    index: region.index,
+                },
+                fields: region.fields,
+            }),
+            _ => None,
+        }
+    }
+
+    fn read(
+        reader: &mut Reader<S, A>,
+        place: Place,
+        fields: MemoryInfoRecord,
+        name: &mut Option<Units<A>>,
+    ) -> Result<Self, ReadFault> {
+        Ok(fields)
+    }
+
+    ghost tells = { memory_info_tells };
+}

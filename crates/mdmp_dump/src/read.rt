@@ -1,0 +1,180 @@
+//! Reading a file into a value.
+ghost use Rattle.std.specs.Prelude.{◌≡◌, ℕ, List, None, Some, IfOk};
+ghost use Rattle.mdmp_source.specs.Source.{SourceState};
+ghost use Rattle.mdmp_source.specs.Store.{IsGood};
+ghost use Rattle.mdmp_lister.specs.Format.Listing.{Numbered};
+ghost use Rattle.mdmp_dump.specs.LaysOut.{AreStreams, LaysOut};
+ghost use Rattle.mdmp_dump.specs.Left.{is_item_of, left_from, run_of};
+ghost use Rattle.mdmp_dump.specs.Reading.{Fetches, IsAnswered, IsEntryRead, IsGoing, IsOneStream, IsRaw, Settles, owed, refusal_of};
+ghost use Rattle.mdmp_dump.specs.Refusal.{read_refusal};
+
+use crate::dump::{Dump, Stream};
+use crate::exception::Exception;
+use crate::fault::ReadFault;
+use crate::memory::MemoryRange;
+use crate::memory64::Memory64Range;
+use crate::module::Module;
+use crate::reader::Reader;
+use crate::records::Records;
+use crate::row::Place;
+use crate::system::System;
+use crate::thread::Thread;
+use crate::unloaded::Unloaded;
+use mdmp_lister::{Choice, Limits, Lister, OpenFault, StreamItem};
+use mdmp_source::{Source, Store, inside};
+use mdmp_wire::MemoryInfoRecord;
+use std::alloc::Allocator;
+
+/// Reads the chosen entries of a file into a value.
+pub fn read_dump<S: Store + Drop, A: Allocator + Copy>(
+    alloc: A,
+    source: Source<S>,
+    limits: Limits,
+    choice: Choice,
+    parts: u64,
+) -> Result<Dump<A>, ReadFault>
+    ensures lays_out { (file : List ℕ) → source.store.content ≡ Some file → IfOk result (LaysOut file choice) }
+    ensures refuses { (file : List ℕ) → IsGood source.store file → IsAnswered (read_refusal file choice limits.name parts) result }
+    ensures cause { (later : SourceState) × Fetches result source later }
+{
+    let all = matches!(&choice, Choice::All);
+    let lister = match Lister::open(alloc, source, limits, choice) {
+        Ok(lister) => lister,
+        Err(refused) => return Err(refusal(refused.fault)),
+    };
+    let header = lister.header();
+    let mut reader = Reader {
+        lister,
+        alloc,
+        left: parts,
+    };
+    // How many entries some types choose is not known before they are listed.
+    let room = if all {
+        header.number_of_streams as usize
+    } else {
+        0
+    };
+    let streams = read_streams(&mut reader, room)?;
+    Ok(Dump {
+        version_high: (header.version >> 16) as u16,
+        checksum: header.checksum,
+        time: header.time_date_stamp,
+        flags: header.flags,
+        streams,
+    })
+}
+
+/// A file that can't be listed gives no dump.
+fn refusal(fault: OpenFault) -> ReadFault
+    ensures { result ≡ refusal_of fault }
+{
+    match fault {
+        OpenFault::Memory => ReadFault::Memory,
+        fault => ReadFault::Opening(fault),
+    }
+}
+
+/// The streams of all chosen entries, in a list that has room for so many at first.
+fn read_streams<S: Store + Drop, A: Allocator + Copy>(
+    reader: &mut Reader<S, A>,
+    room: usize,
+) -> Result<Records<Stream<A>, A>, ReadFault>
+    requires { reader.old.lister.stop ≡ None }
+    ensures fetches { Fetches result reader.old.lister.source reader.new.lister.source }
+    ensures of_file { (file : List ℕ) (limit : ℕ) (xs : List Numbered) → reader.old.lister.source.store.content ≡ Some file
+        → reader.old.lister.left ≡ Some (run_of file limit xs)
+        → IfOk result (AreStreams file xs) × Settles (owed file reader.old.left None reader.old.lister.left) result (λ _. None) }
+{
+    let Ok(mut streams) = Vec::with_capacity(reader.alloc, room) else {
+        return Err(ReadFault::Memory);
+    };
+    let mut next = reader.behind()?;
+    while let Some(item) = next {
+        let (stream, behind) = read_stream(reader, item)?;
+        if let Some(stream) = stream {
+            match streams.push(stream) {
+                Ok(()) => {}
+                Err(_) => return Err(ReadFault::Memory),
+            }
+        }
+        next = behind;
+    }
+    Ok(Records::new(streams))
+}
+
+/// The stream of an entry whose Stream item was given, and what stands behind it.
+fn read_stream<S: Store + Drop, A: Allocator + Copy>(
+    reader: &mut Reader<S, A>,
+    item: StreamItem,
+) -> Result<(Option<Stream<A>>, Option<StreamItem>), ReadFault>
+    requires { reader.old.lister.stop ≡ None }
+    ensures fetches { Fetches result reader.old.lister.source reader.new.lister.source }
+    ensures going { IfOk result (λ r. IsGoing reader.old.lister r.1 reader.new.lister) }
+    ensures of_file { (file : List ℕ) (limit : ℕ) (x : Numbered) (xs : List Numbered) → reader.old.lister.source.store.content ≡ Some file
+        → reader.old.lister.left ≡ Some (left_from file limit x 0 xs) → item ≡ is_item_of x
+        → IsEntryRead file limit xs (IsOneStream file x.entry) (owed file reader.old.left (Some item) reader.old.lister.left) result reader.new }
+{
+    match item.stream_type {
+        0 => Ok((Some(Stream::Unused), reader.behind()?)),
+        3 => {
+            let (threads, next) = reader.rows::<Thread<A>>()?;
+            Ok((Some(Stream::Threads(threads)), next))
+        }
+        4 => {
+            let (modules, next) = reader.rows::<Module<A>>()?;
+            Ok((Some(Stream::Modules(modules)), next))
+        }
+        5 => {
+            let (ranges, next) = reader.rows::<MemoryRange<A>>()?;
+            Ok((Some(Stream::Memory(ranges)), next))
+        }
+        6 => {
+            let (exception, next) = reader.single::<Exception<A>>()?;
+            Ok((exception.map(|x| Stream::Exception(x)), next))
+        }
+        7 => {
+            let (system, next) = reader.single::<System<A>>()?;
+            Ok((system.map(|x| Stream::System(x)), next))
+        }
+        9 => {
+            let (ranges, next) = reader.rows::<Memory64Range<A>>()?;
+            Ok((Some(Stream::Memory64(ranges)), next))
+        }
+        14 => {
+            let (modules, next) = reader.rows::<Unloaded<A>>()?;
+            Ok((Some(Stream::Unloaded(modules)), next))
+        }
+        16 => {
+            let (regions, next) = reader.rows::<MemoryInfoRecord>()?;
+            Ok((Some(Stream::MemoryInfo(regions)), next))
+        }
+        _ => read_raw(reader, item),
+    }
+}
+
+/// The bytes of a stream whose records are not known, and what stands behind it. Outside the file it
+/// has none, and is the fault that the listing has next.
+fn read_raw<S: Store + Drop, A: Allocator + Copy>(
+    reader: &mut Reader<S, A>,
+    item: StreamItem,
+) -> Result<(Option<Stream<A>>, Option<StreamItem>), ReadFault>
+    requires { reader.old.lister.stop ≡ None }
+    ensures fetches { Fetches result reader.old.lister.source reader.new.lister.source }
+    ensures going { IfOk result (λ r. IsGoing reader.old.lister r.1 reader.new.lister) }
+    ensures of_file { (file : List ℕ) (limit : ℕ) (x : Numbered) (xs : List Numbered) → reader.old.lister.source.store.content ≡ Some file
+        → reader.old.lister.left ≡ Some (left_from file limit x 0 xs) → item ≡ is_item_of x → IsRaw x.entry.stream_type
+        → IsEntryRead file limit xs (IsOneStream file x.entry) (owed file reader.old.left (Some item) reader.old.lister.left) result reader.new }
+{
+    let place = Place {
+        entry: item.entry,
+        index: 0,
+    };
+    let at = u64::from(item.location.rva);
+    let size = u64::from(item.location.size);
+    let stream = if inside(at, size, reader.lister.size()) {
+        Some(Stream::Raw(item.stream_type, reader.bytes(place, at, size)?))
+    } else {
+        None
+    };
+    Ok((stream, reader.behind()?))
+}

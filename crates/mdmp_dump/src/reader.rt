@@ -1,0 +1,310 @@
+//! A lister that is read into values.
+ghost use Rattle.std.specs.Prelude.{◌≡◌, ◌<◌, ◌^◌, ◌∷◌, [], ℕ, List, length, Option, Some, None, Ok, IfOk, MatchResult};
+ghost use Rattle.mdmp_source.specs.Extent.{extent_of};
+ghost use Rattle.mdmp_source.specs.Range.{IsInside};
+ghost use Rattle.mdmp_source.specs.Store.{IsSizeOf};
+ghost use Rattle.mdmp_lister.specs.Format.Item.{plain, range_extent_of};
+ghost use Rattle.mdmp_lister.specs.Format.Name.{plain_name};
+ghost use Rattle.mdmp_lister.specs.Format.Kind.{kind_of};
+ghost use Rattle.mdmp_lister.specs.Format.Listing.{Numbered, Run};
+ghost use Rattle.mdmp_lister.specs.Format.Summary.{summary_of};
+ghost use Rattle.mdmp_dump.specs.LaysOut.{HasRecords};
+ghost use Rattle.mdmp_dump.specs.Left.{left_from};
+ghost use Rattle.mdmp_dump.specs.Part.{IsPart};
+ghost use Rattle.mdmp_dump.specs.Reading.{
+  Fetches,
+  HasBytesAt,
+  HasOneRecord,
+  IsEntryRead,
+  IsFound,
+  IsGoing,
+  IsGoingOn,
+  IsNameTaken,
+  IsNext,
+  IsNextStream,
+  IsToldGoing,
+  IsToldOf,
+  NoRowFirst,
+  Settles,
+  Takes,
+  behind_of,
+  name_steps_of,
+  owed,
+  refusal_found,
+};
+ghost use Rattle.mdmp_dump.specs.Refusal.{Take, location_steps, name_steps, part_steps};
+ghost use Rattle.mdmp_dump.specs.declared.part.Part.TheVariants as parts;
+
+use crate::bytes::Bytes;
+use crate::fault::{PartName, ReadFault};
+use crate::part::{Part, PositiveSize};
+use crate::records::Records;
+use crate::row::{Found, Place, Row};
+use mdmp_lister::{Item, Lister, Name, StreamItem};
+use mdmp_source::{Extent, Location, Store, inside};
+use mdmp_wire::Units;
+use std::alloc::{AllocError, Allocator};
+
+/// A lister, what its values take their memory of, and how many bytes of parts they may still take.
+#[derive(Drop)]
+pub(crate) struct Reader<S: Store + Drop, A: Allocator + Copy> {
+    pub(crate) lister: Lister<S, A>,
+    pub(crate) alloc: A,
+    pub(crate) left: u64,
+}
+
+/// What an item tells: a record and its name, or what stands behind the records.
+#[derive(Drop)]
+pub(crate) enum Told<F: Copy + Drop, A: Allocator> {
+    Record(Found<F>, Option<Units<A>>),
+    Behind(Option<StreamItem>),
+}
+
+/// What stands behind a record.
+#[derive(Drop)]
+pub(crate) enum Next<T: Drop> {
+    /// Another record of the same stream.
+    Row(T),
+    /// The Stream item of the next entry, or the end of the listing.
+    Behind(Option<StreamItem>),
+}
+
+impl<S: Store + Drop, A: Allocator + Copy> Reader<S, A> {
+    /// The bytes at an offset, of a part or of a stream.
+    pub(crate) fn bytes(&mut self, place: Place, at: u64, size: u64) -> Result<Bytes<A>, ReadFault>
+        requires inside { IsInside at size self.old.lister.source.size }
+        requires sized { IsSizeOf self.old.lister.source.store.content self.old.lister.source.size }
+        ensures takes { Takes (Take place.entry place.index size ∷ []) self.old result self.new }
+        ensures of_file { (file : List ℕ) → self.old.lister.source.store.content ≡ Some file → IfOk result (HasBytesAt file at size) }
+    {
+        if size > self.left {
+            return Err(ReadFault::PartsTooLarge {
+                entry: place.entry,
+                index: place.index,
+            });
+        }
+        let mut bytes = match vec![in self.alloc; 0; size as usize] {
+            Ok(bytes) => bytes,
+            Err(AllocError) => return Err(ReadFault::Memory),
+        };
+        match self.lister.read_part(at, &mut bytes) {
+            Ok(()) => {}
+            Err(fault) => return Err(ReadFault::Source(fault)),
+        }
+        self.left -= size;
+        Ok(Bytes::new(bytes))
+    }
+
+    /// The bytes of a part at an offset, unless that or its end lies outside the file.
+    pub(crate) fn bytes_at(
+        &mut self,
+        place: Place,
+        name: PartName,
+        offset: u128,
+        size: u64,
+    ) -> Result<Bytes<A>, ReadFault>
+        ensures takes { Takes (part_steps place.entry place.index name offset size (range_extent_of offset size self.old.lister.source.size)) self.old result self.new }
+        ensures of_file { (file : List ℕ) → self.old.lister.source.store.content ≡ Some file → IfOk result (HasBytesAt file offset size) }
+    {
+        if size == 0 {
+            return Ok(Bytes::new(Vec::new(self.alloc)));
+        }
+        let file_size = self.lister.size();
+        if offset > u128::from(file_size) || !inside(offset as u64, size, file_size) {
+            return Err(ReadFault::PartOutside {
+                entry: place.entry,
+                index: place.index,
+                part: name,
+                offset,
+                size,
+            });
+        }
+        self.bytes(place, offset as u64, size)
+    }
+
+    /// The part that a location names.
+    pub(crate) fn part(
+        &mut self,
+        place: Place,
+        name: PartName,
+        location: Location,
+    ) -> Result<Part<A>, ReadFault>
+        ensures takes { Takes (location_steps place.entry place.index name location (extent_of location self.old.lister.source.size)) self.old result self.new }
+        ensures of_file { (file : List ℕ) → self.old.lister.source.store.content ≡ Some file → IfOk result (IsPart file location) }
+    {
+        let size = u64::from(location.size);
+        match location.classify(self.lister.size()) {
+            Extent::Absent => absent(size),
+            _ => {
+                let bytes = self.bytes_at(place, name, u128::from(location.rva), size)?;
+                Ok(Part::Bytes(bytes))
+            }
+        }
+    }
+
+    /// The next Stream item, or none at the end of the listing.
+    pub(crate) fn behind(&mut self) -> Result<Option<StreamItem>, ReadFault>
+        requires { self.old.lister.stop ≡ None }
+        ensures fetches { Fetches result self.old.lister.source self.new.lister.source }
+        ensures going { IfOk result (λ next. IsGoing self.old.lister next self.new.lister) }
+        ensures gives { (file : List ℕ) (run : Run) → self.old.lister.source.store.content ≡ Some file → self.old.lister.left ≡ Some run → NoRowFirst run
+            → IfOk result (λ next. IsNextStream run next self.new.lister.left) × Settles (owed file self.old.left None self.old.lister.left) result (λ next. owed file self.new.left next self.new.lister.left) }
+    {
+        match self.lister.next() {
+            Ok(Some(Item::Stream(item))) => Ok(Some(item)),
+            // No record stands behind the last one.
+            Ok(_) => Ok(None),
+            Err(fault) => Err(ReadFault::List(fault)),
+        }
+    }
+
+    /// What the next item tells.
+    fn find<T: Row<S, A>>(&mut self) -> Result<Told<T::Fields, A>, ReadFault>
+        requires { self.old.lister.stop ≡ None }
+        ensures fetches { Fetches result self.old.lister.source self.new.lister.source }
+        ensures left { self.new.left ≡ self.old.left }
+        ensures of_file { (file : List ℕ) (limit : ℕ) (x : Numbered) (k : ℕ) (xs : List Numbered) → self.old.lister.source.store.content ≡ Some file
+            → self.old.lister.left ≡ Some (left_from file limit x k xs) → kind_of x.entry.stream_type ≡ Some T.kind
+            → IfOk result (λ told. IsFound file limit x k xs T.kind T.told told self.new.lister.left)
+            × Settles (owed file self.old.left None self.old.lister.left) result (λ told. refusal_found file self.new.left T.steps told self.new.lister.left) }
+        ensures going { IfOk result (λ told. IsToldGoing self.old.lister told self.new.lister) }
+    {
+        let alloc = self.alloc;
+        match self.lister.next() {
+            Ok(Some(item)) => told_of::<S, A, T>(alloc, &item),
+            Ok(None) => Ok(Told::Behind(None)),
+            Err(fault) => Err(ReadFault::List(fault)),
+        }
+    }
+
+    /// The next record of the current entry, or what stands behind its records.
+    fn next<T: Row<S, A>>(&mut self) -> Result<Next<T>, ReadFault>
+        requires { self.old.lister.stop ≡ None }
+        ensures fetches { Fetches result self.old.lister.source self.new.lister.source }
+        ensures going { IfOk result (λ next. IsGoingOn self.old.lister next self.new.lister) }
+        ensures of_file { (file : List ℕ) (limit : ℕ) (x : Numbered) (k : ℕ) (xs : List Numbered) → self.old.lister.source.store.content ≡ Some file
+            → self.old.lister.left ≡ Some (left_from file limit x k xs) → kind_of x.entry.stream_type ≡ Some T.kind
+            → IfOk result (λ next. IsNext file limit x k xs T.kind (T.IsAt file x.entry.location.rva) next self.new.lister.left)
+            × Settles (owed file self.old.left None self.old.lister.left) result (λ next. owed file self.new.left (behind_of next) self.new.lister.left) }
+    {
+        // Its answer is the length of the file: what a record's parts ask is told by that.
+        let _size = self.lister.size();
+        match self.find::<T>()? {
+            Told::Record(found, mut name) => {
+                Ok(Next::Row(T::read(self, found.place, found.fields, &mut name)?))
+            }
+            Told::Behind(next) => Ok(Next::Behind(next)),
+        }
+    }
+
+    /// The records of the current entry, and what stands behind them.
+    pub(crate) fn rows<T: Row<S, A>>(
+        &mut self,
+    ) -> Result<(Records<T, A>, Option<StreamItem>), ReadFault>
+        requires { self.old.lister.stop ≡ None }
+        ensures fetches { Fetches result self.old.lister.source self.new.lister.source }
+        ensures going { IfOk result (λ r. IsGoing self.old.lister r.1 self.new.lister) }
+        ensures of_file { (file : List ℕ) (limit : ℕ) (x : Numbered) (xs : List Numbered) → self.old.lister.source.store.content ≡ Some file
+            → self.old.lister.left ≡ Some (left_from file limit x 0 xs) → kind_of x.entry.stream_type ≡ Some T.kind
+            → IsEntryRead file limit xs (HasRecords file x.entry.location T.kind (T.IsAt file x.entry.location.rva)) (owed file self.old.left None self.old.lister.left) result self.new }
+    {
+        let mut rows = Vec::new(self.alloc);
+        loop {
+            match self.next::<T>()? {
+                Next::Row(row) => {
+                    // Taken once: behind the first record there is room for all of them.
+                    let room = self.lister.records_left().saturating_add(1);
+                    match rows.reserve_exact(room as usize) {
+                        Ok(()) => {}
+                        Err(AllocError) => return Err(ReadFault::Memory),
+                    }
+                    rows.push_reserved(row);
+                }
+                Next::Behind(next) => return Ok((Records::new(rows), next)),
+            }
+        }
+    }
+
+    /// The one record of the current entry, and what stands behind it.
+    pub(crate) fn single<T: Row<S, A>>(
+        &mut self,
+    ) -> Result<(Option<T>, Option<StreamItem>), ReadFault>
+        requires { self.old.lister.stop ≡ None }
+        ensures fetches { Fetches result self.old.lister.source self.new.lister.source }
+        ensures going { IfOk result (λ r. IsGoing self.old.lister r.1 self.new.lister) }
+        ensures of_file { (file : List ℕ) (limit : ℕ) (x : Numbered) (xs : List Numbered) → self.old.lister.source.store.content ≡ Some file
+            → self.old.lister.left ≡ Some (left_from file limit x 0 xs) → kind_of x.entry.stream_type ≡ Some T.kind → HasOneRecord file x T.kind
+            → IsEntryRead file limit xs (λ row. (one : T) × ((row ≡ Some one) × HasRecords file x.entry.location T.kind (T.IsAt file x.entry.location.rva) (one ∷ []))) (owed file self.old.left None self.old.lister.left) result self.new }
+    {
+        match self.next::<T>()? {
+            Next::Row(row) => Ok((Some(row), self.behind()?)),
+            Next::Behind(next) => Ok((None, next)),
+        }
+    }
+}
+
+/// A part of which the producer kept nothing but its size. A size of 0 or of more than 32 bits,
+/// which no such part has, can't be told, and is refused as want of memory is.
+pub(crate) fn absent<A: Allocator>(size: u64) -> Result<Part<A>, ReadFault>
+    ensures { MatchResult result (λ part. part ≡ parts.Absent size) (λ fault. fault ≡ ReadFault.Memory) }
+{
+    match u32::try_from(size)
+        .ok()
+        .and_then(|size| PositiveSize::new(size))
+    {
+        Some(size) => Ok(Part::Absent(size)),
+        None => Err(ReadFault::Memory),
+    }
+}
+
+/// What an item tells of a record of one kind, or that it is a Stream item. One of another kind
+/// tells nothing: it never stands where records of this one are read.
+fn told_of<S: Store + Drop, A: Allocator + Copy, T: Row<S, A>>(
+    alloc: A,
+    item: &Item<'_>,
+) -> Result<Told<T::Fields, A>, ReadFault>
+    ensures { IsToldOf T.told (plain item.now) result }
+{
+    if let Item::Stream(stream) = item {
+        return Ok(Told::Behind(Some(*stream)));
+    }
+    match T::find(item) {
+        Some(found) => Ok(Told::Record(found, name_of(alloc, item)?)),
+        None => Ok(Told::Behind(None)),
+    }
+}
+
+/// The name of an item, in memory of its own.
+fn name_of<A: Allocator>(alloc: A, item: &Item<'_>) -> Result<Option<Units<A>>, ReadFault>
+    ensures { IsNameTaken (name_steps_of (plain item.now)) (summary_of (plain item.now)).name result }
+{
+    match item {
+        Item::Module(module) => owned_name(alloc, module.entry, module.index, &module.name),
+        Item::Unloaded(module) => owned_name(alloc, module.entry, module.index, &module.name),
+        Item::System(system) => owned_name(alloc, system.entry, system.index, &system.name),
+        _ => Ok(None),
+    }
+}
+
+/// A name in memory of its own.
+fn owned_name<A: Allocator>(
+    alloc: A,
+    entry: u32,
+    index: u64,
+    name: &Name<'_>,
+) -> Result<Option<Units<A>>, ReadFault>
+    ensures { IsNameTaken (name_steps entry index (plain_name name.now)) (plain_name name.now) result }
+{
+    match name {
+        Name::None => Ok(None),
+        Name::Units(units) => match units.to_owned(alloc) {
+            Ok(units) => Ok(Some(units)),
+            Err(AllocError) => Err(ReadFault::Memory),
+        },
+        Name::Long(length) => Err(ReadFault::NameTooLong {
+            entry,
+            index,
+            length: *length,
+        }),
+    }
+}
