@@ -37,6 +37,32 @@ pub const OVERLAPPING: [u32; 14] = [
     5, 36, 44, 2, 0x1000, 0, 4, 80, 0x1002, 0, 4, 84, 0x44434241, 0x7a797877,
 ];
 
+/// One thread, without its stack, and behind the list the one byte of its context.
+pub const ABSENT_STACK: [u32; 17] = [
+    3, 52, 44, 1, 7, 0, 0, 0, 0, 0, 28672, 0, 256, 0, 1, 96, 0xaa,
+];
+
+/// A thread and an exception, whose parts have 14 bytes in all.
+pub const CRASH: [u32; 65] = [
+    3, 52, 56, 6, 168, 120, // the directory
+    1, 7, 0, 32, 0, 0x5000, 0, 0x7000, 0, 4, 108, 6, 112, // the thread
+    0x4b415453, 0x04030201, 0x0605, // its stack and its context
+    7, 0, 0xc0000005, 0, 0, 0, 0x401000, 0, 2, 0, 1, 0, 16, 0, // the exception
+    0, 0, 0, 0, 0, 0, 0, 0, 0, 0, 0, 0, 0, 0, 0, 0, 0, 0, 0, 0, 0, 0, 0, 0, 0, 0, 4, 288,
+    0xddccbbaa,
+];
+
+/// A module with a name, a CodeView record and a miscellaneous one behind it.
+pub const MODULE: [u32; 34] = [
+    4, 112, 44, 1, // the directory, and the count
+    1, 2, 3, 4, 5, 156, 6, 7, 8, 9, 10, 11, 12, 13, 14, 15, 16, 17, 18, // up to the version
+    4, 164, 2, 166, 19, 0, 0, 20, // the module's parts
+    4, 0x00620061, 0x53445352, // its name, and its parts' bytes
+];
+
+/// A comment of five bytes, and three that are not of it.
+pub const COMMENT: [u32; 5] = [10, 5, 44, 0x04030201, 5];
+
 /// A file of these numbers, each of four bytes, behind a header that names so many entries at 32.
 pub fn file(rt: &HostRuntime, entries: u32, numbers: &[u32]) -> Result<Vec<u8, Global>, Fail> {
     let mut file = Vec::new(rt.alloc());
@@ -60,4 +86,11 @@ pub fn crowded(rt: &HostRuntime, ranges: u16) -> Result<Vec<u8, Global>, Fail> {
         numbers.extend_from_slice(&[0; 4])?;
     }
     file(rt, 16384, &numbers)
+}
+
+/// A file with an unloaded module whose name is said to stand at `rva`, and these bytes at 80.
+pub fn named(rt: &HostRuntime, rva: u32, bytes: &[u8]) -> Result<Vec<u8, Global>, Fail> {
+    let mut file = file(rt, 1, &[14, 36, 44, 12, 24, 1, 0, 0, 0, 0, 0, rva])?;
+    file.extend_from_slice(bytes)?;
+    Ok(file)
 }

@@ -1,22 +1,9 @@
 //! Dumps as values: built, looked at, compared and printed.
-use mdmp_dump::{
-    Bytes, Dump, Memory64Range, MemoryRange, Part, PositiveSize, Records, Stream, Unloaded,
-};
+use super::built::{bytes, one};
+use mdmp_dump::{Dump, Memory64Range, MemoryRange, Part, PositiveSize, Stream, Unloaded};
 use mdmp_wire::Units;
 use std::alloc::{AllocError, Allocator};
 use std::test::Fail;
-
-/// These bytes in memory of their own.
-fn bytes<A: Allocator>(alloc: A, bytes: &[u8]) -> Result<Bytes<A>, AllocError> {
-    Ok(Bytes::new(bytes.to_vec(alloc)?))
-}
-
-/// One record, or one stream.
-fn one<T: Drop, A: Allocator>(alloc: A, record: T) -> Result<Records<T, A>, AllocError> {
-    let mut list = Vec::with_capacity(alloc, 1)?;
-    list.push(record)?;
-    Ok(Records::new(list))
-}
 
 /// A module that was unloaded, of this name.
 fn unloaded<A: Allocator>(alloc: A, name: &str) -> Result<Unloaded<A>, AllocError> {

@@ -1,0 +1,62 @@
+//! Values of dumps that are built by hand, and files that are read into values.
+use mdmp_dump::{Bytes, Dump, ReadFault, Records, Stream, read_dump};
+use mdmp_lister::{Choice, Limits};
+use mdmp_source::{MemoryStore, Source};
+use std::alloc::{AllocError, Allocator};
+
+/// These bytes in memory of their own.
+pub fn bytes<A: Allocator>(alloc: A, bytes: &[u8]) -> Result<Bytes<A>, AllocError> {
+    Ok(Bytes::new(bytes.to_vec(alloc)?))
+}
+
+/// One record, or one stream.
+pub fn one<T: Drop, A: Allocator>(alloc: A, record: T) -> Result<Records<T, A>, AllocError> {
+    let mut list = Vec::with_capacity(alloc, 1)?;
+    list.push(record)?;
+    Ok(Records::new(list))
+}
+
+/// Two records, or two streams.
+pub fn two<T: Drop, A: Allocator>(
+    alloc: A,
+    first: T,
+    second: T,
+) -> Result<Records<T, A>, AllocError> {
+    let mut list = Vec::with_capacity(alloc, 2)?;
+    list.push(first)?;
+    list.push(second)?;
+    Ok(Records::new(list))
+}
+
+/// A dump of these streams whose header says nothing more.
+pub fn dump_of<A: Allocator>(streams: Records<Stream<A>, A>) -> Dump<A> {
+    Dump {
+        version_high: 0,
+        checksum: 0,
+        time: 0,
+        flags: 0,
+        streams,
+    }
+}
+
+/// Reads these entries of a file, whose parts have at most so many bytes.
+pub fn read_chosen<A: Allocator + Copy>(
+    alloc: A,
+    file: &[u8],
+    limits: Limits,
+    choice: Choice,
+    parts: u64,
+) -> Result<Dump<A>, ReadFault> {
+    let source = Source::new(MemoryStore::new(file));
+    read_dump(alloc, source, limits, choice, parts)
+}
+
+/// Reads all entries of a file, whose parts have at most so many bytes.
+pub fn read<A: Allocator + Copy>(
+    alloc: A,
+    file: &[u8],
+    limits: Limits,
+    parts: u64,
+) -> Result<Dump<A>, ReadFault> {
+    read_chosen(alloc, file, limits, Choice::All, parts)
+}
