@@ -1,7 +1,10 @@
-//! Lists the real dumps of the folder data, one after the other, as the command does, and counts
-//! their items.
+//! Lists the real dumps of the folder data, one after the other, as the command does, counts their
+//! items, and compares the value of each with its list.
 #![tactic(auto)]
 
+mod value;
+
+use crate::value::{Totals, totals_of};
 use mdmp_lister::{Choice, Limits, Lister, StopAt};
 use mdmp_source::{FileStore, Source, WriteOut};
 use mdmp_tool::run_words;
@@ -41,6 +44,20 @@ fn main(rt: HostRuntime) -> ExitCode {
             return ExitCode::from(1);
         };
         if writeln!(rt.stdout(), "{dump}: {items} items").is_err() {
+            return ExitCode::from(3);
+        }
+    }
+    for dump in DUMPS {
+        let Some(Totals { streams, records }) = totals_of(&rt, dump) else {
+            return ExitCode::from(1);
+        };
+        let mut out = rt.stdout();
+        if writeln!(
+            out,
+            "{dump}: value of {streams} streams, {records} records, as listed"
+        )
+        .is_err()
+        {
             return ExitCode::from(3);
         }
     }

@@ -1,0 +1,123 @@
+//! A dump read into a value, and compared with its list.
+
+use mdmp_dump::{Stream, read_dump};
+use mdmp_lister::{Choice, Item, Kind, Limits, Lister, StreamItem};
+use mdmp_source::{FileStore, Source};
+use std::alloc::Global;
+
+/// How much a stream has.
+#[derive(Clone, Copy, PartialEq, Eq)]
+enum Length {
+    Records(u64),
+    Bytes(u64),
+}
+
+/// What is told of a stream, by the list and by the value.
+#[derive(Clone, Copy, PartialEq, Eq)]
+struct Told {
+    stream_type: u32,
+    length: Length,
+}
+
+impl Told {
+    fn records(stream_type: u32, count: usize) -> Told {
+        Told {
+            stream_type,
+            length: Length::Records(count as u64),
+        }
+    }
+}
+
+/// How many streams and records a value has.
+#[derive(Clone, Copy)]
+pub struct Totals {
+    pub streams: u64,
+    pub records: u64,
+}
+
+/// The totals of a dump's value, or none where it can't be read or its streams are not those of its
+/// list.
+pub fn totals_of(rt: &HostRuntime, dump: &str) -> Option<Totals> {
+    let streams = told_by_value(rt, dump)?;
+    if streams != told_by_list(rt, dump)? {
+        return None;
+    }
+    let mut records: u64 = 0;
+    for stream in &streams {
+        if let Length::Records(count) = stream.length {
+            records = records.saturating_add(count);
+        }
+    }
+    Some(Totals {
+        streams: streams.len() as u64,
+        records,
+    })
+}
+
+/// The streams of a dump's value.
+fn told_by_value(rt: &HostRuntime, dump: &str) -> Option<Vec<Told, Global>> {
+    let source = Source::new(FileStore::open(rt, dump).ok()?);
+    let limits = Limits::default();
+    let value = read_dump(rt.alloc(), source, limits, Choice::All, u64::MAX).ok()?;
+    let mut streams = Vec::new(rt.alloc());
+    for stream in value.streams.as_slice() {
+        streams.push(told_of(stream)).ok()?;
+    }
+    Some(streams)
+}
+
+fn told_of(stream: &Stream<Global>) -> Told {
+    match stream {
+        Stream::Unused => Told::records(0, 0),
+        Stream::Threads(threads) => Told::records(3, threads.as_slice().len()),
+        Stream::Modules(modules) => Told::records(4, modules.as_slice().len()),
+        Stream::Memory(ranges) => Told::records(5, ranges.as_slice().len()),
+        Stream::Exception(_) => Told::records(6, 1),
+        Stream::System(_) => Told::records(7, 1),
+        Stream::Memory64(ranges) => Told::records(9, ranges.as_slice().len()),
+        Stream::Unloaded(modules) => Told::records(14, modules.as_slice().len()),
+        Stream::MemoryInfo(regions) => Told::records(16, regions.as_slice().len()),
+        Stream::Raw(stream_type, bytes) => Told {
+            stream_type: *stream_type,
+            length: Length::Bytes(bytes.as_slice().len() as u64),
+        },
+    }
+}
+
+/// The streams of a dump's list.
+fn told_by_list(rt: &HostRuntime, dump: &str) -> Option<Vec<Told, Global>> {
+    let source = Source::new(FileStore::open(rt, dump).ok()?);
+    let mut lister = Lister::open(rt.alloc(), source, Limits::default(), Choice::All).ok()?;
+    let mut streams = Vec::new(rt.alloc());
+    for _ in 0..u64::MAX {
+        match lister.next().ok()? {
+            Some(Item::Stream(stream)) => streams.push(begun(&stream)).ok()?,
+            Some(_) => count_record(streams.last_mut()?)?,
+            None => return Some(streams),
+        }
+    }
+    None
+}
+
+/// A stream of which no record was listed yet. One whose records are never listed has its bytes.
+fn begun(stream: &StreamItem) -> Told {
+    let stream_type = stream.stream_type;
+    if stream_type == 0 || Kind::of_type(stream_type).is_some() {
+        return Told::records(stream_type, 0);
+    }
+    Told {
+        stream_type,
+        length: Length::Bytes(u64::from(stream.location.size)),
+    }
+}
+
+/// Another record of a stream, or none where its records are not listed.
+fn count_record(stream: &mut Told) -> Option<()> {
+    match &mut stream.length {
+        Length::Records(count) => {
+            *count = count.saturating_add(1);
+            Some(())
+        }
+        Length::Bytes(_) => None,
+    }
+}
