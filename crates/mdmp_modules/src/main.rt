@@ -1,22 +1,23 @@
-//! Prints the base and the name of each module of a dump: the library in use, for its README.
+//! Prints the base and the name of each module of a dump that has one: the library in use, for the
+//! README.
 #![tactic(auto)]
 
-use mdmp_lister::{Choice, Item, Limits, Lister, Name, TypeSet};
+use mdmp_dump::{Stream, read_dump};
+use mdmp_lister::{Choice, Limits, TypeSet};
 use mdmp_source::{FileStore, Source};
 use std::test::Fail;
 
 fn main(rt: HostRuntime) -> Result<(), Fail> {
-    let store = FileStore::open(&rt, "crash.dmp")?;
+    let source = Source::new(FileStore::open(&rt, "crash.dmp")?);
     let choice = Choice::Types(TypeSet::new(&[4]).ok_or("types")?);
-    let opened = Lister::open(rt.alloc(), Source::new(store), Limits::default(), choice);
-    let mut lister = opened.map_err(|refused| refused.fault)?;
-    while let Some(item) = lister.next()? {
-        if let Item::Module(module) = item {
-            let base = module.fields.base_of_image;
-            match module.name {
-                Name::Units(units) => println!(rt; "{base:#x} {}", units.to_utf8(rt.alloc())?)?,
-                Name::Long(length) => println!(rt; "{base:#x}, a name of {length} bytes")?,
-                Name::None => println!(rt; "{base:#x}, no name")?,
+    let dump = read_dump(rt.alloc(), source, Limits::default(), choice, 1 << 20)?;
+    for stream in &dump.streams {
+        if let Stream::Modules(modules) = stream {
+            for module in modules {
+                if let Some(name) = &module.name {
+                    let name = name.view().to_utf8(rt.alloc())?;
+                    println!(rt; "{:#x} {name}", module.base_of_image)?;
+                }
             }
         }
     }
