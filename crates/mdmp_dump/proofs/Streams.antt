@@ -13,7 +13,7 @@ use Rattle.mdmp_lister.specs.declared.kind.Kind.TheVariants as kinds
 use Rattle.mdmp_lister.specs.declared.shape.Shape.{Shape}
 use Rattle.mdmp_wire.specs.declared.entry.Entry.{Entry}
 use Rattle.mdmp_lister.specs.Format.Classes.{IsStream as IsStreamItem}
-use Rattle.mdmp_lister.specs.Format.Kind.{is_known, kind_of}
+use Rattle.mdmp_lister.specs.Format.Kind.{form_of, is_known, kind_of}
 use Rattle.mdmp_lister.specs.Format.Listing.{Numbered, Run, list_fault, only_fault}
 use Rattle.mdmp_lister.specs.Format.Shape.{location_fault, shape_of, single}
 use Rattle.mdmp_dump.specs.declared.fault.ReadFault.{ReadFault}
@@ -224,13 +224,9 @@ one_by : (short : Bool) (f : Fault) (size : ℕ) (shape : Shape) → (if short t
 one_by true f size shape is = absurd (cc)
 one_by false f size shape is = let same : record { first = 0; stride = size; count = 1 } ≡ shape = cc in sym (ap (λ (s : Shape). s.count) same)
 
-pub one_exception : (F : List ℕ) (x : Numbered) → HasOneRecord F x kinds.Exception
+pub one_single : (F : List ℕ) (x : Numbered) (kind : Kind) → form_of kind ≡ form_of kinds.System → HasOneRecord F x kind
 unfolding shape_of
-one_exception F x shape is = one_by _ _ _ shape is
-
-pub one_system : (F : List ℕ) (x : Numbered) → HasOneRecord F x kinds.System
-unfolding shape_of
-one_system F x shape is = one_by _ _ _ shape is
+one_single F x kind form shape is = one_by _ _ _ shape (rw form at is)
 
 -- ---- an entry that is not used
 

@@ -9,7 +9,7 @@ use Rattle.mdmp_dump.specs.Thread.{IsThread}
 use Rattle.mdmp_dump.specs.Unloaded.{IsUnloaded}
 use Rattle.mdmp_dump.specs.Exception.{IsException}
 use Rattle.mdmp_dump.specs.System.{IsSystem}
-use Rattle.mdmp_dump.proofs.Streams.{fetches_err, one_exception, one_system, stream_read, stream_refused, unused_read}
+use Rattle.mdmp_dump.proofs.Streams.{fetches_err, one_single, stream_read, stream_refused, unused_read}
 use Rattle.mdmp_dump.proofs.Taking.{FetchesSome_none}
 use Rattle.mdmp_dump.proofs.read.read_stream.Goals as goal
 
@@ -57,7 +57,7 @@ returns-in_ok-exception-in-6-clause-of_file g c =
     let cases = rw has.1.0 at c.map.ensures.cases in
     let same : c.map.result ≡ Some (streams.Exception has.0) = search rules in
     (streams.Exception has.0, (same, record { type_is = type; stands = has.1.1 })))
-    (λ F limit x xs known left kind. r.ensures.of_file F limit x xs known left kind (one_exception F x))
+    (λ F limit x xs known left kind. r.ensures.of_file F limit x xs known left kind (one_single F x kinds.Exception refl))
 
 pub returns-in_err-exception-in-6-clause-of_file : goal.returns-in_err-exception-in-6-clause-of_file
 returns-in_err-exception-in-6-clause-of_file g c =
@@ -65,7 +65,7 @@ returns-in_err-exception-in-6-clause-of_file g c =
     let is : c.from_residual-in_err-exception-in-6.result ≡ Err fault = search rules in
     rw is (stream_refused c.args.reader.now c.single.new.self c.args.item 6 c.in-6.is (λ size e at. refl) kinds.Exception refl
     (λ F at row. (one : _) × ((row ≡ Some one) × HasRecords F at kinds.Exception (λ k. IsException F) (one ∷ []))) fault
-    (λ F limit x xs known left kind. c.in_err-exception-in-6.ensures.of_file F limit x xs known left kind (one_exception F x)))
+    (λ F limit x xs known left kind. c.in_err-exception-in-6.ensures.of_file F limit x xs known left kind (one_single F x kinds.Exception refl)))
 
 pub returns-in_ok-system-in-7-clause-of_file : goal.returns-in_ok-system-in-7-clause-of_file
 returns-in_ok-system-in-7-clause-of_file g c =
@@ -76,7 +76,7 @@ returns-in_ok-system-in-7-clause-of_file g c =
     let cases = rw has.1.0 at c.map-in-7.ensures.cases in
     let same : c.map-in-7.result ≡ Some (streams.System has.0) = search rules in
     (streams.System has.0, (same, record { type_is = type; stands = has.1.1 })))
-    (λ F limit x xs known left kind. r.ensures.of_file F limit x xs known left kind (one_system F x))
+    (λ F limit x xs known left kind. r.ensures.of_file F limit x xs known left kind (one_single F x kinds.System refl))
 
 pub returns-in_err-system-in-7-clause-of_file : goal.returns-in_err-system-in-7-clause-of_file
 returns-in_err-system-in-7-clause-of_file g c =
@@ -84,7 +84,7 @@ returns-in_err-system-in-7-clause-of_file g c =
     let is : c.from_residual-in_err-system-in-7.result ≡ Err fault = search rules in
     rw is (stream_refused c.args.reader.now c.single-in-7.new.self c.args.item 7 c.in-7.is (λ size e at. refl) kinds.System refl
     (λ F at row. (one : _) × ((row ≡ Some one) × HasRecords F at kinds.System (λ k. IsSystem F) (one ∷ []))) fault
-    (λ F limit x xs known left kind. c.in_err-system-in-7.ensures.of_file F limit x xs known left kind (one_system F x)))
+    (λ F limit x xs known left kind. c.in_err-system-in-7.ensures.of_file F limit x xs known left kind (one_single F x kinds.System refl)))
 
 pub returns-in_ok-behind-in-0-clause-of_file : goal.returns-in_ok-behind-in-0-clause-of_file
 returns-in_ok-behind-in-0-clause-of_file g c =
