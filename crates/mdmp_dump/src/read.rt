@@ -1,11 +1,10 @@
 //! Reading a file into a value.
-ghost use Rattle.std.specs.Prelude.{◌≡◌, ℕ, List, None, Some, IfOk};
-ghost use Rattle.mdmp_source.specs.Source.{SourceState};
+ghost use Rattle.std.specs.Prelude.{◌≡◌, ℕ, List, None, Some, IfErr, IfOk};
 ghost use Rattle.mdmp_source.specs.Store.{IsGood};
 ghost use Rattle.mdmp_lister.specs.Format.Listing.{Numbered};
 ghost use Rattle.mdmp_dump.specs.LaysOut.{AreStreams, LaysOut};
 ghost use Rattle.mdmp_dump.specs.Left.{is_item_of, left_from, run_of};
-ghost use Rattle.mdmp_dump.specs.Reading.{Fetches, IsAnswered, IsEntryRead, IsGoing, IsOneStream, IsRaw, Settles, owed, refusal_of};
+ghost use Rattle.mdmp_dump.specs.Reading.{Fetches, IsAnswered, IsEntryRead, IsGoing, IsOneStream, IsRaw, Settles, owed, refusal_of, store_fault};
 ghost use Rattle.mdmp_dump.specs.Refusal.{read_refusal};
 
 use crate::dump::{Dump, Stream};
@@ -25,7 +24,21 @@ use mdmp_source::{Source, Store, inside};
 use mdmp_wire::MemoryInfoRecord;
 use std::alloc::Allocator;
 
-/// Reads the chosen entries of a file into a value.
+/// What reading a file answered, and the source that was read.
+#[derive(Drop)]
+pub struct Answered<S: Store + Drop, A: Allocator> {
+    /// The dump, or why there is none.
+    pub answer: Result<Dump<A>, ReadFault>,
+    /// The source, whose counts tell the cause of its faults.
+    pub source: Source<S>,
+}
+
+/// Reads the chosen entries of a file into a value. The parts of its records, and the streams whose
+/// records are not known, may have at most `parts` bytes in all; a name may have as many as the
+/// limits say.
+///
+/// It answers the first reason in the order of the listing why the file gives no dump, or want of
+/// memory, which is told as [`ReadFault::Memory`] wherever it comes, or the fault of the store.
 pub fn read_dump<S: Store + Drop, A: Allocator + Copy>(
     alloc: A,
     source: Source<S>,
@@ -35,12 +48,32 @@ pub fn read_dump<S: Store + Drop, A: Allocator + Copy>(
 ) -> Result<Dump<A>, ReadFault>
     ensures lays_out { (file : List ℕ) → source.store.content ≡ Some file → IfOk result (LaysOut file choice) }
     ensures refuses { (file : List ℕ) → IsGood source.store file → IsAnswered (read_refusal file choice limits.name parts) result }
-    ensures cause { (later : SourceState) × Fetches result source later }
+    ensures good { (file : List ℕ) → IsGood source.store file → IfErr result (λ fault. store_fault fault ≡ None) }
+{
+    read_source(alloc, source, limits, choice, parts).answer
+}
+
+/// Does what `read_dump` does, and hands the source back, whose counts tell the cause of its faults.
+pub fn read_source<S: Store + Drop, A: Allocator + Copy>(
+    alloc: A,
+    source: Source<S>,
+    limits: Limits,
+    choice: Choice,
+    parts: u64,
+) -> Answered<S, A>
+    ensures lays_out { (file : List ℕ) → source.store.content ≡ Some file → IfOk result.answer (LaysOut file choice) }
+    ensures refuses { (file : List ℕ) → IsGood source.store file → IsAnswered (read_refusal file choice limits.name parts) result.answer }
+    ensures cause { Fetches result.answer source result.source }
 {
     let all = matches!(&choice, Choice::All);
     let lister = match Lister::open(alloc, source, limits, choice) {
         Ok(lister) => lister,
-        Err(refused) => return Err(refusal(refused.fault)),
+        Err(refused) => {
+            return Answered {
+                answer: Err(refusal(refused.fault)),
+                source: refused.source,
+            };
+        }
     };
     let header = lister.header();
     let mut reader = Reader {
@@ -54,14 +87,22 @@ pub fn read_dump<S: Store + Drop, A: Allocator + Copy>(
     } else {
         0
     };
-    let streams = read_streams(&mut reader, room)?;
-    Ok(Dump {
-        version_high: (header.version >> 16) as u16,
-        checksum: header.checksum,
-        time: header.time_date_stamp,
-        flags: header.flags,
-        streams,
-    })
+    match read_streams(&mut reader, room) {
+        Ok(streams) => Answered {
+            answer: Ok(Dump {
+                version_high: (header.version >> 16) as u16,
+                checksum: header.checksum,
+                time: header.time_date_stamp,
+                flags: header.flags,
+                streams,
+            }),
+            source: reader.lister.into_source(),
+        },
+        Err(fault) => Answered {
+            answer: Err(fault),
+            source: reader.lister.into_source(),
+        },
+    }
 }
 
 /// A file that can't be listed gives no dump.

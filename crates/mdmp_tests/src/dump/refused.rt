@@ -3,7 +3,7 @@ use super::built::read;
 use crate::files::{ABSENT_STACK, COMMENT, CRASH, FAULTY, MEMORY64, file, named};
 use crate::opening::fault;
 use crate::script::LEAST;
-use mdmp_dump::{PartName, ReadFault, read_dump};
+use mdmp_dump::{Answered, PartName, ReadFault, read_dump, read_source};
 use mdmp_lister::{Choice, FaultKind, Limits, ListFault, OpenFault};
 use mdmp_source::{PatchyStore, Source, SourceFault};
 use std::test::Fail;
@@ -142,5 +142,15 @@ fn store_that_fails_gives_no_dump(rt: HostRuntime) -> Result<(), Fail> {
         let read = read_dump(rt.alloc(), Source::new(store), LEAST, Choice::All, 14);
         assert_eq!(rt; read.err().and_then(place_of), place, "at {call}");
     }
+    Ok(())
+}
+
+#[test]
+fn source_of_a_file_comes_back(rt: HostRuntime) -> Result<(), Fail> {
+    let file = file(&rt, 2, &CRASH)?;
+    let source = Source::new(PatchyStore::new(&file, &[4096], Some(5)));
+    let Answered { answer, source } = read_source(rt.alloc(), source, LEAST, Choice::All, 14);
+    assert_eq!(rt; answer.err().and_then(place_of), Some(108));
+    assert_eq!(rt; source.calls(), 6);
     Ok(())
 }
