@@ -2,8 +2,9 @@
 use super::built::read;
 use crate::files::{CRASH, MODULE, OVERLAPPING, SYSTEM, file};
 use linked_list_allocator::LocalHeap;
-use mdmp_dump::ReadFault;
+use mdmp_dump::{ReadFault, Stream, Thread};
 use mdmp_lister::Limits;
+use std::mem::size_of;
 use std::test::Fail;
 
 /// A window of 176 bytes and names of 32, both multiples of 16 as a heap's blocks are.
@@ -43,5 +44,37 @@ fn want_of_memory_is_told_at_each_growth(rt: HostRuntime) -> Result<(), Fail> {
     assert_eq!(rt; first_other(&rt, &file(&rt, 1, &OVERLAPPING)?)?, (None, 0));
     // The window, the directory and the name alone take 224 bytes.
     assert_eq!(rt; fault_in(&rt, 224, &SYSTEM)?, (Some(ReadFault::Memory), 0));
+    Ok(())
+}
+
+/// How much of a heap a dump uses.
+fn used_by(rt: &HostRuntime, file: &[u8]) -> Result<usize, Fail> {
+    let heap = LocalHeap::new(rt.alloc(), 1 << 16)?;
+    let dump = read(&heap, file, LIMITS, 14);
+    if dump.is_err() {
+        return Err(Fail::from("read"));
+    }
+    Ok(heap.used())
+}
+
+/// How much of a heap a list of so many bytes takes.
+fn block(bytes: usize) -> usize {
+    bytes.div_ceil(16).saturating_mul(16)
+}
+
+#[test]
+fn memory_is_that_of_the_lists_which_take_their_room_once(rt: HostRuntime) -> Result<(), Fail> {
+    let file = file(&rt, 2, &CRASH)?;
+    let streams = block(2 * size_of::<Stream<&LocalHeap>>());
+    let threads = block(size_of::<Thread<&LocalHeap>>());
+    // And three parts of one block each.
+    let value = streams.saturating_add(threads).saturating_add(48);
+    assert_eq!(rt; used_by(&rt, &file)?, value);
+    // Beside it stand a directory of 32 bytes, a window of 176 and a name of 32.
+    assert_eq!(rt;
+        fault_in(&rt, value.saturating_add(224), &file)?,
+        (Some(ReadFault::Memory), 0)
+    );
+    assert_eq!(rt; fault_in(&rt, value.saturating_add(240), &file)?, (None, 0));
     Ok(())
 }
