@@ -40,20 +40,23 @@ fn file_that_is_not_listed_gives_no_dump(rt: HostRuntime) {
 
 #[test]
 fn parts_over_their_limit_give_no_dump(rt: HostRuntime) -> Result<(), Fail> {
-    let absent_stack = file(&rt, 1, &ABSENT_STACK)?;
-    assert_eq!(rt; fault_of(&rt, &absent_stack[..97], LEAST, 0), too_large(0));
+    let mut absent_stack = file(&rt, 1, &ABSENT_STACK)?;
+    absent_stack.truncate(97);
+    assert_eq!(rt; fault_of(&rt, &absent_stack, LEAST, 0), too_large(0));
     let crash = file(&rt, 2, &CRASH)?;
     assert_eq!(rt; fault_of(&rt, &crash, LEAST, 13), too_large(1));
-    let comment = file(&rt, 1, &COMMENT)?;
-    assert_eq!(rt; fault_of(&rt, &comment[..49], LEAST, 4), too_large(0));
+    let mut comment = file(&rt, 1, &COMMENT)?;
+    comment.truncate(49);
+    assert_eq!(rt; fault_of(&rt, &comment, LEAST, 4), too_large(0));
     Ok(())
 }
 
 #[test]
 fn part_outside_the_file_gives_no_dump(rt: HostRuntime) -> Result<(), Fail> {
-    let file = file(&rt, 1, &ABSENT_STACK)?;
+    let mut file = file(&rt, 1, &ABSENT_STACK)?;
+    file.truncate(96);
     let context = outside(0, PartName::Context, 96, 1);
-    assert_eq!(rt; fault_of(&rt, &file[..96], LEAST, 1), context);
+    assert_eq!(rt; fault_of(&rt, &file, LEAST, 1), context);
     Ok(())
 }
 
@@ -94,10 +97,11 @@ fn fault_of_the_listing_gives_no_dump(rt: HostRuntime) -> Result<(), Fail> {
         fault_of(&rt, &faulty, LEAST, 0),
         Some(ReadFault::List(name))
     );
-    let comment = file(&rt, 1, &COMMENT)?;
+    let mut comment = file(&rt, 1, &COMMENT)?;
+    comment.truncate(48);
     let stream = fault(None, FaultKind::StreamOutside, 44, 5);
     assert_eq!(rt;
-        fault_of(&rt, &comment[..48], LEAST, 4),
+        fault_of(&rt, &comment, LEAST, 4),
         Some(ReadFault::List(stream))
     );
     Ok(())
