@@ -2,7 +2,7 @@
 use super::built::read;
 use crate::files::{CRASH, MODULE, OVERLAPPING, SYSTEM, file};
 use linked_list_allocator::LocalHeap;
-use mdmp_dump::{ReadFault, Stream, Thread};
+use mdmp_dump::{MemoryRange, ReadFault, Stream, Thread};
 use mdmp_lister::Limits;
 use std::mem::size_of;
 use std::test::Fail;
@@ -76,5 +76,16 @@ fn memory_is_that_of_the_lists_which_take_their_room_once(rt: HostRuntime) -> Re
         (Some(ReadFault::Memory), 0)
     );
     assert_eq!(rt; fault_in(&rt, value.saturating_add(240), &file)?, (None, 0));
+    Ok(())
+}
+
+#[test]
+fn list_of_records_takes_no_more_room_than_its_records(rt: HostRuntime) -> Result<(), Fail> {
+    let file = file(&rt, 1, &OVERLAPPING)?;
+    let streams = block(size_of::<Stream<&LocalHeap>>());
+    let ranges = block(2 * size_of::<MemoryRange<&LocalHeap>>());
+    // And the bytes of each range, a block each.
+    let value = streams.saturating_add(ranges).saturating_add(32);
+    assert_eq!(rt; used_by(&rt, &file)?, value);
     Ok(())
 }
