@@ -5,7 +5,10 @@
 //! [`Module`] ..); any other has its bytes. A record of a dump has the fields of the structure that
 //! it is in a file, but where that says where a name or a part stands, it has the name's units or
 //! the part itself, a [`Part`]. [`Bytes`] and [`Records`] are lists in memory of their own.
-//! [`ReadFault`] says why a file gives no dump.
+//!
+//! [`read_dump`] reads a file into a dump; [`ReadFault`] says why a file gives none. [`read_source`]
+//! also hands the source back. A limit on parts bounds their bytes, and not how many records or names
+//! a dump has: a file may name one list many times.
 //!
 //! ```text
 //! for stream in &dump.streams {

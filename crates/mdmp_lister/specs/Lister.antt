@@ -73,7 +73,7 @@ abbrev pub listing_behind : ListerState → ℕ → Option Run
 listing_behind v i = option_map (λ file. listing_from file v.choice v.limit i) v.source.store.content
 
 -- n records of the current entry are left in this file: they follow those that were given, up to the count in the head of
--- its stream, and what is left begins with them
+-- its stream, and what is left begins with them, up to the first whose name has a fault
 pub record HasRecordsLeft (file : List ℕ) (v : ListerState) (n : ℕ) : Type 0 where
   pub kind : Kind
   pub shape : Shape

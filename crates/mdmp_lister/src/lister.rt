@@ -188,9 +188,9 @@ impl<S: Store + Drop, A: Allocator + Copy> Lister<S, A> {
         }
     }
 
-    /// How many records of the current entry are still to come. It is 0 before the first of them was
-    /// given, since the head of the stream that counts them is not read before that, and behind the
-    /// last one.
+    /// How many records of the current entry are still to come, by the head of its stream: fewer come
+    /// where a name has a fault. It is 0 before the first of them was given, since the head is not
+    /// read before that, behind the last one, behind a fault and where the entry was skipped.
     pub fn records_left(&self) -> u64
         ensures { IsRecordsLeft self.now result }
     {
