@@ -1,7 +1,7 @@
 -- What the opening of a file tells of the dump that it lays out.
-use Rattle.std.proofs.Common.{◌≡◌, ◌≤◌, ◌*◌, ℕ, List, length, Option, Some, None, Err, Bool, true, false, nat_lt, if◌then◌else◌, arith, ltb-false, inl, inr, refl}
+use Rattle.std.proofs.Common.{◌≡◌, ◌≤◌, ◌*◌, ℕ, List, length, Option, Some, None, Err, Bool, true, false, nat_lt, if◌then◌else◌, arith, ltb-false, refl}
 use Rattle.std.proofs.lemmas.Grind.{common_steps}
-use Rattle.std.specs.Prelude.{IsTrue, ◌⊎◌}
+use Rattle.std.specs.Prelude.{IsTrue}
 use Rattle.mdmp_source.specs.Range.{is_inside}
 use Rattle.mdmp_source.specs.Source.{SourceState, FetchesAtMost}
 use Rattle.mdmp_source.specs.Store.{IsGood}
@@ -15,9 +15,7 @@ use Rattle.mdmp_lister.specs.declared.fault.OpenFault.TheVariants as opening
 use Rattle.mdmp_lister.specs.Format.Listing.{entry_count}
 use Rattle.mdmp_lister.specs.Format.Refusal.{behind_directory, behind_header, directory_fault, directory_refusal, opening_fault}
 use Rattle.mdmp_lister.specs.Opening.{IsRefusalOf, IsUnread, IsUnreadFor}
-use Rattle.mdmp_dump.specs.declared.fault.ReadFault.{ReadFault}
-use Rattle.mdmp_dump.specs.declared.fault.ReadFault.TheVariants as faults
-use Rattle.mdmp_dump.specs.Reading.{Fetches, IsOwn, refusal_of, store_fault}
+use Rattle.mdmp_dump.specs.Reading.{Fetches, IsOwn, refusal_of}
 use Rattle.mdmp_dump.specs.Refusal.{read_refusal}
 use Rattle.mdmp_dump.proofs.Budget.{Fetches-read}
 
@@ -54,12 +52,12 @@ opened-head F choice none =
 
 -- ---- a refused opening
 
--- it is the refusal of the file, or want of memory
-pub opening-answered : (F : List ℕ) (choice : Choice) (limit parts : ℕ) (fault : OpenFault) → IsRefusalOf F choice fault → (IsUnread fault → ⊥)
-    → (refusal_of fault ≡ faults.Memory) ⊎ (read_refusal F choice limit parts ≡ Some (refusal_of fault))
-opening-answered F choice limit parts (opening.Source fault) is read = absurd (read tt)
-opening-answered F choice limit parts opening.Memory is read = inl refl
-opening-answered F choice limit parts fault is read = inr (rw is refl)
+-- it is the refusal of the file, but for want of memory and a fault of the store
+pub opening-settles : (F : List ℕ) (choice : Choice) (limit parts : ℕ) (fault : OpenFault) → IsRefusalOf F choice fault
+    → (IsOwn (refusal_of fault) → ⊥) → read_refusal F choice limit parts ≡ Some (refusal_of fault)
+opening-settles F choice limit parts (opening.Source fault) is own = absurd (own (fault, refl))
+opening-settles F choice limit parts opening.Memory is own = absurd (own tt)
+opening-settles F choice limit parts fault is own = rw is refl
 
 -- of which a fault of the store is told as such
 pub opening-fetches : {T : Type 0} (n : ℕ) (fault : OpenFault) (old new : SourceState) → FetchesAtMost n old new → IsUnreadFor fault old new
@@ -68,11 +66,3 @@ opening-fetches {T = T} n (opening.Source fault) old new fetches cause good =
     let read = Fetches-read {T = T} n fault old new fetches cause.0 (λ file is. good file is tt) in
     record { fetches = read.fetches; told = read.told; good = read.good }
 opening-fetches n fault old new fetches cause good = record { fetches = record { count = n; fetches = fetches }; told = tt; good = λ file is. refl }
-
--- ---- answers
-
--- over a good store a fault that is not want of memory is that of the file
-pub answered : (refusal : Option ReadFault) (fault : ReadFault) → ((IsOwn fault → ⊥) → refusal ≡ Some fault) → store_fault fault ≡ None
-    → (fault ≡ faults.Memory) ⊎ (refusal ≡ Some fault)
-answered refusal faults.Memory settles good = inl refl
-answered refusal fault settles good = inr (settles (λ own. let told = own.1 in absurd (cc (good, told))))

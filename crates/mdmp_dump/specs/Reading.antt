@@ -1,5 +1,5 @@
 -- What reading a file into a value does, step by step.
-use Rattle.std.specs.Prelude.{◌≡◌, ◌≤◌, ◌<◌, ◌+◌, ◌*◌, ℕ, List, [], ◌∷◌, ◌++◌, length, Option, Some, None, Result, Ok, Err, IsTrue, IsFalse, ◌==◌, ◌⊎◌, IfErr, IfOk, slice_get, flat_map, option_map}
+use Rattle.std.specs.Prelude.{◌≡◌, ◌≤◌, ◌<◌, ◌+◌, ◌*◌, ℕ, List, [], ◌∷◌, ◌++◌, length, Option, Some, None, Result, Ok, Err, IsTrue, IsFalse, ◌==◌, IfErr, IfOk, slice_get, flat_map, option_map}
 use Rattle.mdmp_source.specs.Source.{SourceState, FetchesSome, IsTold}
 use Rattle.mdmp_source.specs.Store.{IsGood}
 use Rattle.mdmp_source.specs.declared.fault.SourceFault.{SourceFault}
@@ -227,9 +227,3 @@ IsRaw t = IsFalse (t == 0) × (kind_of t ≡ None)
 -- the entry names this one stream
 abbrev pub IsOneStream : {Z : Type 0} → List ℕ → Entry → Option (Stream Z) → Type 0
 IsOneStream {Z} F e stream = (one : Stream Z) × ((stream ≡ Some one) × IsStream F e one)
-
--- the refusal that there is was told, or a value where there is none; unless memory was wanting
-abbrev pub IsAnswered : {T : Type 0} → Option ReadFault → Result T ReadFault → Type 0
-IsAnswered None (Ok x) = Unit {0}
-IsAnswered (Some fault) (Ok x) = ⊥
-IsAnswered refusal (Err fault) = (fault ≡ faults.Memory) ⊎ (refusal ≡ Some fault)

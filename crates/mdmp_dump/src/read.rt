@@ -4,7 +4,7 @@ ghost use Rattle.mdmp_source.specs.Store.{IsGood};
 ghost use Rattle.mdmp_lister.specs.Format.Listing.{Numbered};
 ghost use Rattle.mdmp_dump.specs.LaysOut.{AreStreams, LaysOut};
 ghost use Rattle.mdmp_dump.specs.Left.{is_item_of, left_from, run_of};
-ghost use Rattle.mdmp_dump.specs.Reading.{Fetches, IsAnswered, IsEntryRead, IsGoing, IsOneStream, IsRaw, Settles, owed, refusal_of, store_fault};
+ghost use Rattle.mdmp_dump.specs.Reading.{Fetches, IsEntryRead, IsGoing, IsOneStream, IsRaw, Settles, owed, refusal_of, store_fault};
 ghost use Rattle.mdmp_dump.specs.Refusal.{read_refusal};
 
 use crate::dump::{Dump, Stream};
@@ -47,7 +47,7 @@ pub fn read_dump<S: Store + Drop, A: Allocator + Copy>(
     parts: u64,
 ) -> Result<Dump<A>, ReadFault>
     ensures lays_out { (file : List ℕ) → source.store.content ≡ Some file → IfOk result (LaysOut file choice) }
-    ensures refuses { (file : List ℕ) → IsGood source.store file → IsAnswered (read_refusal file choice limits.name parts) result }
+    ensures refuses { (file : List ℕ) → source.store.content ≡ Some file → Settles (read_refusal file choice limits.name parts) result (λ _. None) }
     ensures good { (file : List ℕ) → IsGood source.store file → IfErr result (λ fault. store_fault fault ≡ None) }
 {
     read_source(alloc, source, limits, choice, parts).answer
@@ -62,7 +62,7 @@ pub fn read_source<S: Store + Drop, A: Allocator + Copy>(
     parts: u64,
 ) -> Answered<S, A>
     ensures lays_out { (file : List ℕ) → source.store.content ≡ Some file → IfOk result.answer (LaysOut file choice) }
-    ensures refuses { (file : List ℕ) → IsGood source.store file → IsAnswered (read_refusal file choice limits.name parts) result.answer }
+    ensures refuses { (file : List ℕ) → source.store.content ≡ Some file → Settles (read_refusal file choice limits.name parts) result.answer (λ _. None) }
     ensures cause { Fetches result.answer source result.source }
 {
     let all = matches!(&choice, Choice::All);

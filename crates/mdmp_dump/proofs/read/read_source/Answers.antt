@@ -1,32 +1,29 @@
 use Rattle.std.proofs.Common.{◌≡◌, ◌∙◌, refl, sym, Some, None, Err}
 use Rattle.mdmp_lister.specs.Format.Listing.{chosen}
 use Rattle.mdmp_lister.specs.Format.Refusal.{opening_fault}
-use Rattle.mdmp_lister.proofs.Fetches.{IsGood-later}
 use Rattle.mdmp_dump.specs.Left.{run_of}
 use Rattle.mdmp_dump.specs.Reading.{owed}
 use Rattle.mdmp_dump.specs.Refusal.{read_refusal}
-use Rattle.mdmp_dump.proofs.Opened.{answered, opened-head, opening-answered, opening-fetches}
+use Rattle.mdmp_dump.proofs.Opened.{opened-head, opening-fetches, opening-settles}
 use Rattle.mdmp_dump.proofs.Taking.{FetchesSome_then, Fetches_later}
 use Rattle.mdmp_dump.proofs.read.read_source.Goals as goal
 
 pub returns-in-Err-clause-refuses : goal.returns-in-Err-clause-refuses
-returns-in-Err-clause-refuses g c = λ file good.
-    rw c.refusal.ensures (opening-answered file c.args.choice c.args.limits.name c.args.parts c.in-Err.refused.fault (c.in-Err.ensures.opens file good.known) (c.in-Err.ensures.good file good))
+returns-in-Err-clause-refuses g c = λ file known.
+    rw c.refusal.ensures (opening-settles file c.args.choice c.args.limits.name c.args.parts c.in-Err.refused.fault (c.in-Err.ensures.opens file known))
 
 pub returns-in-Err-clause-cause : goal.returns-in-Err-clause-cause
 returns-in-Err-clause-cause g c =
     rw c.refusal.ensures (opening-fetches _ c.in-Err.refused.fault c.args.source c.in-Err.refused.source c.in-Err.ensures.handed_back.fetches c.in-Err.ensures.cause c.in-Err.ensures.good)
 
 pub returns-in-Err-read_streams-clause-refuses : goal.returns-in-Err-read_streams-clause-refuses
-returns-in-Err-read_streams-clause-refuses g c = λ file good.
-    let fault = c.in-Err-read_streams.fault in
+returns-in-Err-read_streams-clause-refuses g c = λ file known own.
     let opened = c.in-Ok.ensures.new in
-    let none : opening_fault file c.args.choice ≡ None = c.in-Ok.ensures.opens file good.known in
-    let left : c.in-Ok.lister.left ≡ Some (run_of file c.args.limits.name (chosen file c.args.choice)) = opened.left ∙ (rw good.known refl) in
-    let read = c.in-Err-read_streams.ensures.of_file file c.args.limits.name (chosen file c.args.choice) (opened.fetches.same_content ∙ good.known) left in
-    let later = c.in-Err-read_streams.ensures.fetches.good file (IsGood-later file _ c.args.source c.in-Ok.lister.source opened.fetches good) in
+    let none : opening_fault file c.args.choice ≡ None = c.in-Ok.ensures.opens file known in
+    let left : c.in-Ok.lister.left ≡ Some (run_of file c.args.limits.name (chosen file c.args.choice)) = opened.left ∙ (rw known refl) in
+    let read = c.in-Err-read_streams.ensures.of_file file c.args.limits.name (chosen file c.args.choice) (opened.fetches.same_content ∙ known) left in
     let owes : owed file c.args.parts None c.in-Ok.lister.left ≡ read_refusal file c.args.choice c.args.limits.name c.args.parts = rw (left, none) refl in
-    answered (read_refusal file c.args.choice c.args.limits.name c.args.parts) fault (rw owes at read.1) later
+    sym owes ∙ read.1 own
 
 pub returns-in-Err-read_streams-clause-cause : goal.returns-in-Err-read_streams-clause-cause
 returns-in-Err-read_streams-clause-cause g c =
@@ -44,14 +41,13 @@ returns-in-Ok-read_streams-clause-lays_out g c = λ file known.
     rw header (record { header = head.0; version_high = refl; checksum = refl; time = refl; flags = refl; directory = head.1; streams = read.0 })
 
 pub returns-in-Ok-read_streams-clause-refuses : goal.returns-in-Ok-read_streams-clause-refuses
-returns-in-Ok-read_streams-clause-refuses g c = λ file good.
+returns-in-Ok-read_streams-clause-refuses g c = λ file known.
     let opened = c.in-Ok.ensures.new in
-    let none : opening_fault file c.args.choice ≡ None = c.in-Ok.ensures.opens file good.known in
-    let left : c.in-Ok.lister.left ≡ Some (run_of file c.args.limits.name (chosen file c.args.choice)) = opened.left ∙ (rw good.known refl) in
-    let read = c.in-Ok-read_streams.ensures.of_file file c.args.limits.name (chosen file c.args.choice) (opened.fetches.same_content ∙ good.known) left in
+    let none : opening_fault file c.args.choice ≡ None = c.in-Ok.ensures.opens file known in
+    let left : c.in-Ok.lister.left ≡ Some (run_of file c.args.limits.name (chosen file c.args.choice)) = opened.left ∙ (rw known refl) in
+    let read = c.in-Ok-read_streams.ensures.of_file file c.args.limits.name (chosen file c.args.choice) (opened.fetches.same_content ∙ known) left in
     let owes : owed file c.args.parts None c.in-Ok.lister.left ≡ read_refusal file c.args.choice c.args.limits.name c.args.parts = rw (left, none) refl in
-    let no_refusal : read_refusal file c.args.choice c.args.limits.name c.args.parts ≡ None = sym owes ∙ read.1 in
-    rw no_refusal tt
+    sym owes ∙ read.1
 
 pub returns-in-Ok-read_streams-clause-cause : goal.returns-in-Ok-read_streams-clause-cause
 returns-in-Ok-read_streams-clause-cause g c = rw c.into_source.ensures.value (record {
