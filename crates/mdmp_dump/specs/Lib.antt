@@ -15,3 +15,4 @@ pub mod TellingLaws
 pub mod Thread
 pub mod Unloaded
 pub mod Value
+pub mod Within
