@@ -12,3 +12,4 @@ pub mod Streams
 pub mod Taking
 pub mod Unique
 pub mod Walked
+pub mod Within

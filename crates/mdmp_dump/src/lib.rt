@@ -47,7 +47,9 @@ pub use crate::bytes::Bytes;
 pub use crate::dump::{Dump, Stream};
 pub use crate::exception::Exception;
 pub use crate::fault::{PartName, ReadFault};
-pub use crate::laws::{a_choice_lays_out_a_part, a_file_lays_out_one_dump};
+pub use crate::laws::{
+    a_choice_lays_out_a_part, a_dump_within_limits_is_read, a_file_lays_out_one_dump,
+};
 pub use crate::memory::MemoryRange;
 pub use crate::memory64::Memory64Range;
 pub use crate::module::Module;

@@ -1,0 +1,19 @@
+-- The item of an exception asks for its context.
+use Rattle.std.proofs.Common.{ℕ, List, length, refl}
+use Rattle.mdmp_wire.specs.Exception.{exception_at}
+use Rattle.mdmp_lister.specs.declared.item.Item.TheVariants as items
+use Rattle.mdmp_lister.specs.declared.kind.Kind.TheVariants as kinds
+use Rattle.mdmp_lister.specs.Format.Item.{exception_item}
+use Rattle.mdmp_dump.specs.declared.fault.PartName.TheVariants.{Context}
+use Rattle.mdmp_dump.specs.Exception.{IsException}
+use Rattle.mdmp_dump.specs.Within.{part_size}
+use Rattle.mdmp_dump.proofs.Within.Part.{location_taken}
+use Rattle.mdmp_dump.proofs.Within.Records.{AreTaken}
+
+pub exception_taken : {Z : Type 0} (F : List ℕ) (limit at : ℕ)
+    → AreTaken F limit at kinds.Exception (λ k o. IsException {Z = Z} F o) (λ x. Unit {0}) (λ x. part_size x.context)
+exception_taken F limit at e k o x is fits = record {
+  item = items.Exception (exception_item (length F) e k (exception_at F o));
+  given = refl;
+  steps = location_taken F (exception_at F o).thread_context e k Context x.context is.context;
+}

@@ -1,0 +1,19 @@
+-- The item of a range of memory asks for its bytes.
+use Rattle.std.proofs.Common.{ℕ, List, length, refl}
+use Rattle.mdmp_wire.specs.Descriptor.{descriptor_at}
+use Rattle.mdmp_lister.specs.declared.item.Item.TheVariants as items
+use Rattle.mdmp_lister.specs.declared.kind.Kind.TheVariants as kinds
+use Rattle.mdmp_lister.specs.Format.Item.{range_item}
+use Rattle.mdmp_dump.specs.declared.fault.PartName.TheVariants as names
+use Rattle.mdmp_dump.specs.Memory.{IsMemory}
+use Rattle.mdmp_dump.specs.Within.{part_size}
+use Rattle.mdmp_dump.proofs.Within.Part.{location_taken}
+use Rattle.mdmp_dump.proofs.Within.Records.{AreTaken}
+
+pub memory_taken : {Z : Type 0} (F : List ℕ) (limit at : ℕ)
+    → AreTaken F limit at kinds.Memory (λ k o. IsMemory {Z = Z} F o) (λ x. Unit {0}) (λ x. part_size x.bytes)
+memory_taken F limit at e k o x is fits = record {
+  item = items.Range (range_item (length F) e k (descriptor_at F o));
+  given = refl;
+  steps = location_taken F (descriptor_at F o).memory e k names.Memory x.bytes is.bytes;
+}
