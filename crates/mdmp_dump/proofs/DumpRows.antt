@@ -1,5 +1,5 @@
 -- Worked files, and the dumps and streams that they lay out.
-use Rattle.std.proofs.Common.{List, [], ◌∷◌, ◌++◌, Some, refl, arith, ℕ}
+use Rattle.std.proofs.Common.{◌≡◌, ◌<◌, zero, suc, slice_index_or, List, [], ◌∷◌, ◌++◌, Some, refl, arith, ℕ}
 use Rattle.std.specs.Prelude.{codes, replicate}
 use Rattle.mdmp_wire.specs.Number.{number_at, numbers_at, array_at, le}
 use Rattle.mdmp_lister.specs.declared.choice.Choice.TheVariants.{All}
@@ -13,6 +13,7 @@ use Rattle.mdmp_dump.specs.declared.dump.Stream.{Stream}
 use Rattle.mdmp_dump.specs.declared.dump.Stream.TheVariants as streams
 use Rattle.mdmp_dump.specs.declared.dump.Dump.{Dump}
 use Rattle.mdmp_dump.specs.LaysOut.{AreStreams, LaysOut}
+use Rattle.mdmp_dump.specs.Within.{IsNameWithin, IsWithin, NamesWithin, memory_ranges, part_bytes}
 
 module _ (Z : Type 0) where
   -- the streams of all entries
@@ -100,3 +101,42 @@ module _ (Z : Type 0) where
       (streams.Memory64 (record { start = 0x1000; bytes = codes "ABCD" } ∷ record { start = 0x2000; bytes = codes "EFGH" } ∷ []) ∷ [])
   unfolding number_at numbers_at array_at le name_at shape_of entries_from only_chosen sizes_before
   ranges64-laid_out = (record { type_is = refl; stands = record { inside = refl; shape = _; shaped = refl; count = refl; each = (record { fields = refl; inside = refl; bytes = refl }, (record { fields = refl; inside = refl; bytes = refl }, tt)) } }, tt)
+
+  -- ---- limits
+
+  -- four parts of 14 bytes together, and no names
+  crash-within : IsWithin 0 14 crash_dump
+  crash-within = record { names = short; parts = omega arith; ranges = omega arith } where
+    short : (k : ℕ) (d : Stream Z) → k < 2 → NamesWithin 0 (slice_index_or crash_dump.streams k d)
+    short zero d lt = tt
+    short (suc zero) d lt = tt
+    short (suc (suc k)) d lt = absurd (omega (arith, lt))
+
+  -- an absent stack has no bytes, of which only its context has one
+  absent_stack-bytes : part_bytes {Z = Z} (streams.Threads (record {
+    thread_id = 7;
+    suspend_count = 0;
+    priority_class = 0;
+    priority = 0;
+    teb = 0;
+    stack_start = 0x7000;
+    stack = parts.Absent 256;
+    context = parts.Bytes (0xAA ∷ []);
+  } ∷ [])) ≡ 1
+  absent_stack-bytes = refl
+
+  opaque-bytes : part_bytes {Z = Z} (streams.Raw 10 (1 ∷ 2 ∷ 3 ∷ 4 ∷ 5 ∷ [])) ≡ 5
+  opaque-bytes = refl
+
+  ranges64-bytes : part_bytes {Z = Z} (streams.Memory64 (record { start = 0x1000; bytes = codes "ABCD" } ∷ record { start = 0x2000; bytes = codes "EFGH" } ∷ [])) ≡ 8
+  ranges64-bytes = refl
+
+  ranges64-count : memory_ranges {Z = Z} (streams.Memory64 (record { start = 0x1000; bytes = codes "ABCD" } ∷ record { start = 0x2000; bytes = codes "EFGH" } ∷ [])) ≡ 2
+  ranges64-count = refl
+
+-- a name of two units has four bytes
+name-within : IsNameWithin 4 (Some (codes "ab"))
+name-within = omega arith
+
+name-over : IsNameWithin 3 (Some (codes "ab")) → ⊥
+name-over within = absurd (omega (arith, within))

@@ -31,11 +31,8 @@ use Rattle.mdmp_lister.proofs.Heads.{listed-inside}
 use Rattle.mdmp_dump.proofs.Budget.{inside_is}
 use Rattle.mdmp_dump.proofs.More.{each_more}
 use Rattle.mdmp_dump.proofs.Left.{all_given, no_row_first, row_given, stream_given}
+use Rattle.mdmp_dump.proofs.Refusal.{refusal-end}
 use Rattle.mdmp_dump.specs.Refusal.{Refuse, Step, first_refusal, item_steps}
-
-refusal-end : (left : ℕ) (last : Option ReadFault) → first_refusal left 0 [] last ≡ last
-unfolding first_refusal
-refusal-end left last = refl
 
 not-of-store : (kind : FaultKind) → (((told : SourceFault) × (store_fault_in kind ≡ Some told)) → ⊥) → IsOfSource kind → ⊥
 not-of-store (Source fault) own is = own (fault, refl)

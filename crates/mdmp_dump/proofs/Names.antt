@@ -20,7 +20,7 @@ use Rattle.mdmp_dump.specs.TellingLaws.{item_made, made}
 use Rattle.mdmp_dump.specs.Name.{IsName, name_told}
 
 -- bytes inside a file are no more than it has
-inside_few : (at len size : ℕ) → is_inside at len size ≡ true → nat_lt size len ≡ false
+pub inside_few : (at len size : ℕ) → is_inside at len size ≡ true → nat_lt size len ≡ false
 inside_few at len size inside = grind (arith, nat_tests)
 
 module _ (n : Name) (name : Option (List ℕ)) (told : name_told n ≡ Some name) where

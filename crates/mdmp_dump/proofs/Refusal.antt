@@ -1,4 +1,4 @@
--- The first refusal, where some of the limit was spent.
+-- The first refusal, where some of the limit was spent, and where no step is left.
 use Rattle.std.proofs.Common.{◌≡◌, ◌∙◌, ◌+◌, ℕ, Bool, true, false, List, [], ◌∷◌, Option, Some, arith, ap, ap₂, refl, nat_lt, if◌then◌else◌, ltb-true, ltb-false, lt-ltb, le-ltb}
 use Rattle.mdmp_dump.specs.declared.fault.ReadFault.{ReadFault}
 use Rattle.mdmp_dump.specs.declared.fault.ReadFault.TheVariants as faults
@@ -23,3 +23,8 @@ module _ (spent limit : ℕ) where
       ap (λ n. if nat_lt (spent + limit) n then Some (faults.PartsTooLarge e k) else first_refusal (spent + limit) n steps last) sum
       ∙ ap₂ (λ (b : Bool) (rest : Option ReadFault). if b then Some (faults.PartsTooLarge e k) else rest)
       (lt-moved (total + size)) (refusal_moved (total + size) steps last)
+
+-- behind the last step only the last fault is left
+pub refusal-end : (left : ℕ) (last : Option ReadFault) → first_refusal left 0 [] last ≡ last
+unfolding first_refusal
+refusal-end left last = refl

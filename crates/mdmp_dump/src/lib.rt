@@ -21,8 +21,9 @@
 //! ```
 //!
 //! The definitions in `specs/LaysOut.antt` say when a file lays out a dump, those in
-//! `specs/Refusal.antt` why it gives none. Two laws are functions that do nothing:
-//! [`a_file_lays_out_one_dump`] and [`a_choice_lays_out_a_part`].
+//! `specs/Refusal.antt` why it gives none. Three laws are functions that do nothing:
+//! [`a_file_lays_out_one_dump`], [`a_choice_lays_out_a_part`] and
+//! [`a_dump_within_limits_is_read`].
 #![tactic(auto)]
 
 mod bytes;

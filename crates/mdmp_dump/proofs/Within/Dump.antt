@@ -1,16 +1,11 @@
 -- A file that lays out a dump within limits is not refused.
-use Rattle.std.proofs.Common.{◌≡◌, ◌∙◌, ◌+◌, ◌*◌, ◌≤◌, ℕ, true, false, List, [], ◌∷◌, length, Option, Some, None, Result, Ok, ap, ap₂, arith, le-ltb, nat_lt, refl, subst, sym, if◌then◌else◌}
+use Rattle.std.proofs.Common.{◌≡◌, ◌∙◌, ◌+◌, ◌≤◌, ℕ, false, List, [], ◌∷◌, length, None, ap, ap₂, arith, le-ltb, nat_lt, refl, subst, sym}
 use Rattle.std.specs.Prelude.{All, option_map, sum_by}
-use Rattle.std.proofs.lemmas.Grind.{common_steps}
 use Rattle.std.proofs.lemmas.List.Elements.{All-cons, All-head, All-tail}
 use Rattle.std.proofs.lemmas.List.Sums.{sum_by-cons}
 use Rattle.mdmp_source.specs.declared.location.Location.{Location}
 use Rattle.mdmp_wire.specs.declared.entry.Entry.{Entry}
-use Rattle.mdmp_wire.specs.Header.{header_at}
-use Rattle.mdmp_wire.specs.HeaderFault.{HasHeader, header_fault}
-use Rattle.mdmp_wire.specs.MemoryInfo.{memory_info_at}
 use Rattle.mdmp_lister.specs.declared.choice.Choice.{Choice}
-use Rattle.mdmp_lister.specs.declared.fault.Fault.{Fault}
 use Rattle.mdmp_lister.specs.declared.kind.Kind.TheVariants as kinds
 use Rattle.mdmp_lister.specs.Format.Kind.{kind_of}
 use Rattle.mdmp_lister.specs.Format.Listing.{Numbered, Run, chosen, entry_listing, listing}
@@ -20,18 +15,17 @@ use Rattle.mdmp_dump.specs.declared.fault.ReadFault.TheVariants as faults
 use Rattle.mdmp_dump.specs.declared.dump.Stream.{Stream}
 use Rattle.mdmp_dump.specs.declared.dump.Stream.TheVariants as streams
 use Rattle.mdmp_dump.specs.declared.dump.Dump.{Dump}
-use Rattle.mdmp_dump.specs.LaysOut.{AreStreams, IsStream, LaysOut, StandsAt}
+use Rattle.mdmp_dump.specs.LaysOut.{AreStreams, LaysOut, StandsAt}
 use Rattle.mdmp_dump.specs.Left.{run_of}
 use Rattle.mdmp_dump.specs.Refusal.{opened_refusal, read_refusal, run_refusal}
 use Rattle.mdmp_dump.specs.declared.system.System.{System}
 use Rattle.mdmp_dump.specs.Value.{type_of}
-use Rattle.mdmp_dump.specs.Within.{IsNameWithin, IsWithin, NamesWithin, memory_ranges, part_bytes, part_size}
+use Rattle.mdmp_dump.specs.Within.{IsNameWithin, IsWithin, NamesWithin, memory_ranges, part_bytes}
 use Rattle.mdmp_dump.proofs.Within.Exception.{exception_taken}
 use Rattle.mdmp_dump.proofs.Within.Memory.{memory_taken}
 use Rattle.mdmp_dump.proofs.Within.Memory64.{memory64_taken}
 use Rattle.mdmp_dump.proofs.Within.MemoryInfo.{memory_info_taken}
 use Rattle.mdmp_dump.proofs.Within.Module.{module_taken}
-use Rattle.mdmp_dump.proofs.Within.Part.{length-array_at}
 use Rattle.mdmp_dump.proofs.Within.Records.{entry_taken, raw_taken, records_counted, sum_by-none}
 use Rattle.mdmp_dump.proofs.Within.Runs.{IsRunTaken, item_taken, joined_taken, nothing_taken}
 use Rattle.mdmp_dump.proofs.Within.Steps.{last_refused, none_taken}

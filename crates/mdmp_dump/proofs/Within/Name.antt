@@ -1,5 +1,5 @@
 -- A name within the limit is not refused.
-use Rattle.std.proofs.Common.{◌≡◌, ◌∙◌, ◌+◌, ◌*◌, ◌/◌, ◌%◌, ◌≤◌, ◌==◌, ℕ, Bool, true, false, List, [], length, Option, Some, None, Result, Ok, Err, arith, ap, nat_lt, refl, subst, sym, le-ltb, if◌then◌else◌}
+use Rattle.std.proofs.Common.{◌≡◌, ◌+◌, ◌*◌, ◌/◌, ◌%◌, ◌≤◌, ◌==◌, ℕ, Bool, true, false, List, [], length, Option, Some, Result, Ok, Err, arith, nat_lt, refl, subst, if◌then◌else◌}
 use Rattle.std.specs.Prelude.{not}
 use Rattle.std.specs.Result.{result_map_both}
 use Rattle.std.proofs.lemmas.Bool.Decides.{nat_tests}
@@ -15,6 +15,7 @@ use Rattle.mdmp_lister.specs.Format.Name.{name_at}
 use Rattle.mdmp_dump.specs.Name.{IsName, name_told}
 use Rattle.mdmp_dump.specs.Refusal.{name_steps}
 use Rattle.mdmp_dump.specs.Within.{IsNameWithin}
+use Rattle.mdmp_dump.proofs.Names.{inside_few}
 use Rattle.mdmp_dump.proofs.Within.Part.{length-array_at}
 
 -- it is read, and asks for nothing
@@ -40,10 +41,6 @@ module _ (limit bytes : ℕ) (units : UnitsRef) (name : Option (List ℕ)) (with
       let same : name ≡ Some (units_in units) = cc (told) in
       let size : 2 * length (units_in units) ≤ limit = subst (λ (n : Option (List ℕ)). IsNameWithin limit n) same within in
       rw (few refl refl size) (record { name = names.Units units; given = refl; asked = λ e k. refl })
-
--- bytes inside a file are no more than it has
-inside_few : (at len size : ℕ) → is_inside at len size ≡ true → nat_lt size len ≡ false
-inside_few at len size inside = grind (arith, nat_tests)
 
 -- even bytes inside the file are two for each unit
 units_few : (F : List ℕ) (at bytes limit : ℕ) → (bytes % 2 == 1) ≡ false → is_inside at bytes (length F) ≡ true

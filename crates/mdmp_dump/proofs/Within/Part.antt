@@ -1,6 +1,5 @@
 -- The bytes of a part are taken.
-use Rattle.std.proofs.Common.{◌≡◌, ◌∙◌, ◌+◌, ◌≤◌, ◌==◌, ◌||◌, ℕ, Bool, true, false, List, [], length, length-drop, Some, None, arith, ap, refl, subst, sym, nat_le, take, drop, eq-eqb, if◌then◌else◌}
-use Rattle.std.proofs.lemmas.Grind.{common_steps}
+use Rattle.std.proofs.Common.{◌≡◌, ◌∙◌, ◌==◌, ℕ, Bool, true, false, List, [], length, length-drop, Some, arith, ap, refl, subst, sym, drop, if◌then◌else◌}
 use Rattle.std.proofs.lemmas.List.{length-take}
 use Rattle.std.proofs.lemmas.Bool.Decides.{nat_tests}
 use Rattle.mdmp_source.specs.Extent.{extent_of}

@@ -1,5 +1,5 @@
 -- The records of a stream are listed without a fault, and what their items ask is taken.
-use Rattle.std.proofs.Common.{◌≡◌, ◌∙◌, ◌+◌, ◌*◌, ◌==◌, ◌||◌, ◌&&◌, ℕ, Bool, true, false, List, [], ◌∷◌, length, Option, Some, None, Ok, ap, arith, refl, subst, sym, if◌then◌else◌}
+use Rattle.std.proofs.Common.{◌≡◌, ◌∙◌, ◌+◌, ◌*◌, ◌==◌, ◌||◌, ◌&&◌, ℕ, Bool, true, false, List, [], ◌∷◌, length, Some, None, Ok, ap, arith, refl, subst, sym, if◌then◌else◌}
 use Rattle.std.specs.Prelude.{All, not, sum_by}
 use Rattle.std.proofs.lemmas.List.Elements.{All-head, All-tail}
 use Rattle.std.proofs.lemmas.List.Sums.{sum_by-cons}
@@ -12,7 +12,7 @@ use Rattle.mdmp_lister.specs.declared.shape.Shape.{Shape}
 use Rattle.mdmp_lister.specs.Format.Item.{item_at}
 use Rattle.mdmp_lister.specs.Format.Kind.{kind_of}
 use Rattle.mdmp_lister.specs.Format.Listing.{Numbered, body_of, entry_listing, items_from, item_then, stream_item}
-use Rattle.mdmp_lister.specs.Format.Shape.{location_fault, record_count, shape_of}
+use Rattle.mdmp_lister.specs.Format.Shape.{location_fault, record_count}
 use Rattle.mdmp_dump.specs.LaysOut.{EachFrom, HasBytes, HasRecords}
 use Rattle.mdmp_dump.specs.Refusal.{Take, item_steps, stream_steps}
 use Rattle.mdmp_dump.proofs.Within.Part.{length-array_at}

@@ -1,11 +1,11 @@
 -- Runs whose items' steps are all taken.
-use Rattle.std.proofs.Common.{◌≡◌, ◌∙◌, ◌+◌, ℕ, List, [], ◌∷◌, ◌++◌, Option, Some, None, ap, refl, subst, sym}
+use Rattle.std.proofs.Common.{◌≡◌, ◌+◌, ℕ, List, Option, None, refl}
 use Rattle.std.specs.Prelude.{flat_map}
 use Rattle.std.proofs.lemmas.Grind.{flat_map-append}
 use Rattle.mdmp_lister.specs.declared.item.Item.{Item}
 use Rattle.mdmp_lister.specs.declared.fault.ListFault.{ListFault}
 use Rattle.mdmp_lister.specs.Format.Listing.{Run, joined, nothing, with_item}
-use Rattle.mdmp_dump.specs.Refusal.{Step, item_steps}
+use Rattle.mdmp_dump.specs.Refusal.{item_steps}
 use Rattle.mdmp_dump.proofs.Within.Steps.{IsTaken, both_taken, none_taken}
 
 -- there is no fault, and what the items of a file of z bytes ask is taken
