@@ -1,4 +1,4 @@
--- Worked files, and the dumps and streams that they lay out.
+-- Worked files, the dumps and streams that they lay out, and what those are within.
 use Rattle.std.proofs.Common.{◌≡◌, ◌<◌, zero, suc, slice_index_or, List, [], ◌∷◌, ◌++◌, Some, refl, arith, ℕ}
 use Rattle.std.specs.Prelude.{codes, replicate}
 use Rattle.mdmp_wire.specs.Number.{number_at, numbers_at, array_at, le}
@@ -67,7 +67,8 @@ module _ (Z : Type 0) where
   }
 
   -- a thread whose stack was not kept
-  absent_stack-laid_out : AreAll absent_stack_file (streams.Threads (record {
+  abbrev absent_stack : Stream Z
+  absent_stack = streams.Threads (record {
     thread_id = 7;
     suspend_count = 0;
     priority_class = 0;
@@ -76,12 +77,17 @@ module _ (Z : Type 0) where
     stack_start = 0x7000;
     stack = parts.Absent 256;
     context = parts.Bytes (0xAA ∷ []);
-  } ∷ []) ∷ [])
+  } ∷ [])
+
+  absent_stack-laid_out : AreAll absent_stack_file (absent_stack ∷ [])
   unfolding number_at numbers_at array_at le name_at shape_of entries_from only_chosen sizes_before
   absent_stack-laid_out = (record { type_is = refl; stands = record { inside = refl; shape = _; shaped = refl; count = refl; each = (record { fields = refl; stack = refl; context = refl }, tt) } }, tt)
 
   -- a stream of another type, as its bytes
-  opaque-laid_out : AreAll opaque_file (streams.Raw 10 (1 ∷ 2 ∷ 3 ∷ 4 ∷ 5 ∷ []) ∷ [])
+  abbrev opaque : Stream Z
+  opaque = streams.Raw 10 (1 ∷ 2 ∷ 3 ∷ 4 ∷ 5 ∷ [])
+
+  opaque-laid_out : AreAll opaque_file (opaque ∷ [])
   unfolding number_at numbers_at array_at le name_at shape_of entries_from only_chosen sizes_before
   opaque-laid_out = (record { type_is = refl; stands = record { used = refl; opaque = refl; inside = refl; bytes_are = refl } }, tt)
 
@@ -97,41 +103,37 @@ module _ (Z : Type 0) where
   name-laid_out = (record { type_is = refl; stands = record { inside = refl; shape = _; shaped = refl; count = refl; each = (record { fields = refl; name = refl }, tt) } }, tt)
 
   -- two ranges, the bytes of the second behind those of the first
-  ranges64-laid_out : AreAll (memory64_file ++ codes "GH")
-      (streams.Memory64 (record { start = 0x1000; bytes = codes "ABCD" } ∷ record { start = 0x2000; bytes = codes "EFGH" } ∷ []) ∷ [])
+  abbrev ranges64 : Stream Z
+  ranges64 = streams.Memory64 (record { start = 0x1000; bytes = codes "ABCD" } ∷ record { start = 0x2000; bytes = codes "EFGH" } ∷ [])
+
+  ranges64-laid_out : AreAll (memory64_file ++ codes "GH") (ranges64 ∷ [])
   unfolding number_at numbers_at array_at le name_at shape_of entries_from only_chosen sizes_before
   ranges64-laid_out = (record { type_is = refl; stands = record { inside = refl; shape = _; shaped = refl; count = refl; each = (record { fields = refl; inside = refl; bytes = refl }, (record { fields = refl; inside = refl; bytes = refl }, tt)) } }, tt)
 
   -- ---- limits
 
-  -- four parts of 14 bytes together, and no names
+  -- three parts of 14 bytes together, and neither names nor ranges
   crash-within : IsWithin 0 14 crash_dump
-  crash-within = record { names = short; parts = omega arith; ranges = omega arith } where
-    short : (k : ℕ) (d : Stream Z) → k < 2 → NamesWithin 0 (slice_index_or crash_dump.streams k d)
-    short zero d lt = tt
-    short (suc zero) d lt = tt
-    short (suc (suc k)) d lt = absurd (omega (arith, lt))
+  crash-within = record { names = unnamed; parts = omega arith; ranges = omega arith } where
+    unnamed : (k : ℕ) (d : Stream Z) → k < 2 → NamesWithin 0 (slice_index_or crash_dump.streams k d)
+    unnamed zero d lt = tt
+    unnamed (suc zero) d lt = tt
+    unnamed (suc (suc k)) d lt = absurd (omega (arith, lt))
 
-  -- an absent stack has no bytes, of which only its context has one
-  absent_stack-bytes : part_bytes {Z = Z} (streams.Threads (record {
-    thread_id = 7;
-    suspend_count = 0;
-    priority_class = 0;
-    priority = 0;
-    teb = 0;
-    stack_start = 0x7000;
-    stack = parts.Absent 256;
-    context = parts.Bytes (0xAA ∷ []);
-  } ∷ [])) ≡ 1
+  crash-over : IsWithin 0 13 crash_dump → ⊥
+  crash-over within = absurd (omega (arith, within.parts))
+
+  -- of the absent stack there are no bytes, of the context there is one
+  absent_stack-bytes : part_bytes absent_stack ≡ 1
   absent_stack-bytes = refl
 
-  opaque-bytes : part_bytes {Z = Z} (streams.Raw 10 (1 ∷ 2 ∷ 3 ∷ 4 ∷ 5 ∷ [])) ≡ 5
+  opaque-bytes : part_bytes opaque ≡ 5
   opaque-bytes = refl
 
-  ranges64-bytes : part_bytes {Z = Z} (streams.Memory64 (record { start = 0x1000; bytes = codes "ABCD" } ∷ record { start = 0x2000; bytes = codes "EFGH" } ∷ [])) ≡ 8
+  ranges64-bytes : part_bytes ranges64 ≡ 8
   ranges64-bytes = refl
 
-  ranges64-count : memory_ranges {Z = Z} (streams.Memory64 (record { start = 0x1000; bytes = codes "ABCD" } ∷ record { start = 0x2000; bytes = codes "EFGH" } ∷ [])) ≡ 2
+  ranges64-count : memory_ranges ranges64 ≡ 2
   ranges64-count = refl
 
 -- a name of two units has four bytes

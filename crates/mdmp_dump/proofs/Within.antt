@@ -3,7 +3,6 @@ pub mod Dump
 pub mod Exception
 pub mod Memory
 pub mod Memory64
-pub mod MemoryInfo
 pub mod Module
 pub mod Name
 pub mod Part

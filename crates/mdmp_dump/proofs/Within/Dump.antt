@@ -24,9 +24,8 @@ use Rattle.mdmp_dump.specs.Within.{IsNameWithin, IsWithin, NamesWithin, memory_r
 use Rattle.mdmp_dump.proofs.Within.Exception.{exception_taken}
 use Rattle.mdmp_dump.proofs.Within.Memory.{memory_taken}
 use Rattle.mdmp_dump.proofs.Within.Memory64.{memory64_taken}
-use Rattle.mdmp_dump.proofs.Within.MemoryInfo.{memory_info_taken}
 use Rattle.mdmp_dump.proofs.Within.Module.{module_taken}
-use Rattle.mdmp_dump.proofs.Within.Records.{entry_taken, raw_taken, records_counted, sum_by-none}
+use Rattle.mdmp_dump.proofs.Within.Records.{entry_taken, entry_unasked, raw_taken, records_counted, sum_by-none}
 use Rattle.mdmp_dump.proofs.Within.Runs.{IsRunTaken, item_taken, joined_taken, nothing_taken}
 use Rattle.mdmp_dump.proofs.Within.Steps.{last_refused, none_taken}
 use Rattle.mdmp_dump.proofs.Within.System.{system_taken}
@@ -48,14 +47,14 @@ module _ {Z : Type 0} (F : List ℕ) where
   stands_taken : (limit e : ℕ) (at : Location) (s : Stream Z) → StandsAt F at s → NamesWithin limit s
       → IsRunTaken (length F) (entry_listing F limit (record { number = e; entry = entry_of_stream at s })) (part_bytes s)
   stands_taken limit e at streams.Unused has names = item_taken none_taken nothing_taken
-  stands_taken limit e at (streams.Threads xs) has names = entry_taken F at kinds.Threads _ xs has 3 refl limit e _ _ (thread_taken F limit at.rva) (λ k d lt. tt) _ refl
-  stands_taken limit e at (streams.Modules xs) has names = entry_taken F at kinds.Modules _ xs has 4 refl limit e _ _ (module_taken F limit at.rva) names _ refl
-  stands_taken limit e at (streams.Memory xs) has names = entry_taken F at kinds.Memory _ xs has 5 refl limit e _ _ (memory_taken F limit at.rva) (λ k d lt. tt) _ refl
-  stands_taken limit e at (streams.Exception x) has names = entry_taken F at kinds.Exception _ (x ∷ []) has 6 refl limit e _ _ (exception_taken F limit at.rva) (λ k d lt. tt) _ (omega arith)
-  stands_taken limit e at (streams.System x) has names = entry_taken F at kinds.System _ (x ∷ []) has 7 refl limit e _ _ (system_taken F limit at.rva) (All-cons (λ (y : System Z). IsNameWithin limit y.name) x [] names (λ k d lt. absurd (omega (arith, lt)))) _ refl
-  stands_taken limit e at (streams.Memory64 xs) has names = entry_taken F at kinds.Memory64 _ xs has 9 refl limit e _ _ (memory64_taken F limit at.rva) (λ k d lt. tt) _ refl
-  stands_taken limit e at (streams.Unloaded xs) has names = entry_taken F at kinds.Unloaded _ xs has 14 refl limit e _ _ (unloaded_taken F limit at.rva) names _ (sum_by-none xs)
-  stands_taken limit e at (streams.MemoryInfo xs) has names = entry_taken F at kinds.MemoryInfo _ xs has 16 refl limit e _ _ (memory_info_taken F limit at.rva) (λ k d lt. tt) _ (sum_by-none xs)
+  stands_taken limit e at (streams.Threads xs) has names = entry_taken F at kinds.Threads _ xs has 3 refl limit e _ _ (thread_taken F limit e at.rva) (λ k d lt. tt) _ refl
+  stands_taken limit e at (streams.Modules xs) has names = entry_taken F at kinds.Modules _ xs has 4 refl limit e _ _ (module_taken F limit e at.rva) names _ refl
+  stands_taken limit e at (streams.Memory xs) has names = entry_taken F at kinds.Memory _ xs has 5 refl limit e _ _ (memory_taken F limit e at.rva) (λ k d lt. tt) _ refl
+  stands_taken limit e at (streams.Exception x) has names = entry_taken F at kinds.Exception _ (x ∷ []) has 6 refl limit e _ _ (exception_taken F limit e at.rva) (λ k d lt. tt) _ (omega arith)
+  stands_taken limit e at (streams.System x) has names = entry_taken F at kinds.System _ (x ∷ []) has 7 refl limit e _ _ (system_taken F limit e at.rva) (All-cons (λ (y : System Z). IsNameWithin limit y.name) x [] names (λ k d lt. absurd (omega (arith, lt)))) _ refl
+  stands_taken limit e at (streams.Memory64 xs) has names = entry_taken F at kinds.Memory64 _ xs has 9 refl limit e _ _ (memory64_taken F limit e at.rva) (λ k d lt. tt) _ refl
+  stands_taken limit e at (streams.Unloaded xs) has names = entry_taken F at kinds.Unloaded _ xs has 14 refl limit e _ _ (unloaded_taken F limit e at.rva) names _ (sum_by-none xs)
+  stands_taken limit e at (streams.MemoryInfo xs) has names = entry_unasked F at kinds.MemoryInfo _ xs has 16 refl limit e (λ k o. record { item = _; given = refl; steps = none_taken })
   stands_taken limit e at (streams.Raw t bytes) has names = raw_taken F limit e at t bytes has
 
   -- and it has the stream's ranges

@@ -10,9 +10,9 @@ use Rattle.mdmp_dump.specs.Within.{part_size}
 use Rattle.mdmp_dump.proofs.Within.Part.{location_taken}
 use Rattle.mdmp_dump.proofs.Within.Records.{AreTaken}
 
-pub exception_taken : {Z : Type 0} (F : List ℕ) (limit at : ℕ)
-    → AreTaken F limit at kinds.Exception (λ k o. IsException {Z = Z} F o) (λ x. Unit {0}) (λ x. part_size x.context)
-exception_taken F limit at e k o x is fits = record {
+pub exception_taken : {Z : Type 0} (F : List ℕ) (limit e at : ℕ)
+    → AreTaken F limit e at kinds.Exception (λ k o. IsException {Z = Z} F o) (λ x. Unit {0}) (λ x. part_size x.context)
+exception_taken F limit e at k o x is fits = record {
   item = items.Exception (exception_item (length F) e k (exception_at F o));
   given = refl;
   steps = location_taken F (exception_at F o).thread_context e k Context x.context is.context;

@@ -10,9 +10,9 @@ use Rattle.mdmp_dump.specs.Within.{part_size}
 use Rattle.mdmp_dump.proofs.Within.Part.{location_taken}
 use Rattle.mdmp_dump.proofs.Within.Records.{AreTaken}
 
-pub memory_taken : {Z : Type 0} (F : List ℕ) (limit at : ℕ)
-    → AreTaken F limit at kinds.Memory (λ k o. IsMemory {Z = Z} F o) (λ x. Unit {0}) (λ x. part_size x.bytes)
-memory_taken F limit at e k o x is fits = record {
+pub memory_taken : {Z : Type 0} (F : List ℕ) (limit e at : ℕ)
+    → AreTaken F limit e at kinds.Memory (λ k o. IsMemory {Z = Z} F o) (λ x. Unit {0}) (λ x. part_size x.bytes)
+memory_taken F limit e at k o x is fits = record {
   item = items.Range (range_item (length F) e k (descriptor_at F o));
   given = refl;
   steps = location_taken F (descriptor_at F o).memory e k names.Memory x.bytes is.bytes;

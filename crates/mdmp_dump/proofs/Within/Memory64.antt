@@ -10,9 +10,9 @@ use Rattle.mdmp_dump.specs.Memory64.{IsMemory64}
 use Rattle.mdmp_dump.proofs.Within.Part.{range_taken}
 use Rattle.mdmp_dump.proofs.Within.Records.{AreTaken}
 
-pub memory64_taken : {Z : Type 0} (F : List ℕ) (limit at : ℕ)
-    → AreTaken F limit at kinds.Memory64 (IsMemory64 {Z = Z} F at) (λ x. Unit {0}) (λ x. length x.bytes)
-memory64_taken F limit at e k o x is fits =
+pub memory64_taken : {Z : Type 0} (F : List ℕ) (limit e at : ℕ)
+    → AreTaken F limit e at kinds.Memory64 (IsMemory64 {Z = Z} F at) (λ x. Unit {0}) (λ x. length x.bytes)
+memory64_taken F limit e at k o x is fits =
     let size : (descriptor64_at F o).data_size ≡ length x.bytes = ap (λ (r : Descriptor64). r.data_size) is.fields in
     record {
       item = items.Range (range64_item (length F) e k (descriptor64_at F o) (range_offset F at k));

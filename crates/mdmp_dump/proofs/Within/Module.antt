@@ -12,9 +12,9 @@ use Rattle.mdmp_dump.proofs.Within.Part.{location_taken}
 use Rattle.mdmp_dump.proofs.Within.Records.{AreTaken}
 use Rattle.mdmp_dump.proofs.Within.Steps.{both_taken}
 
-pub module_taken : {Z : Type 0} (F : List ℕ) (limit at : ℕ)
-    → AreTaken F limit at kinds.Modules (λ k o. IsModule {Z = Z} F o) (λ x. IsNameWithin limit x.name) (λ x. part_size x.codeview + part_size x.misc)
-module_taken F limit at e k o x is fits =
+pub module_taken : {Z : Type 0} (F : List ℕ) (limit e at : ℕ)
+    → AreTaken F limit e at kinds.Modules (λ k o. IsModule {Z = Z} F o) (λ x. IsNameWithin limit x.name) (λ x. part_size x.codeview + part_size x.misc)
+module_taken F limit e at k o x is fits =
     let short = name_short F (module_at F o).module_name_rva limit x.name is.name fits in
     record {
       item = items.Module (module_item (length F) e k (module_at F o) short.name);

@@ -10,8 +10,8 @@ use Rattle.mdmp_dump.proofs.Within.Name.{name_short}
 use Rattle.mdmp_dump.proofs.Within.Records.{AreTaken}
 use Rattle.mdmp_dump.proofs.Within.Steps.{none_taken}
 
-pub system_taken : {Z : Type 0} (F : List ℕ) (limit at : ℕ)
-    → AreTaken F limit at kinds.System (λ k o. IsSystem {Z = Z} F o) (λ x. IsNameWithin limit x.name) (λ x. 0)
-system_taken F limit at e k o x is fits =
+pub system_taken : {Z : Type 0} (F : List ℕ) (limit e at : ℕ)
+    → AreTaken F limit e at kinds.System (λ k o. IsSystem {Z = Z} F o) (λ x. IsNameWithin limit x.name) (λ x. 0)
+system_taken F limit e at k o x is fits =
     let short = name_short F (system_at F o).csd_version_rva limit x.name is.name fits in
     record { item = items.System (system_item e k (system_at F o) short.name); given = rw short.given refl; steps = rw (short.asked e k) none_taken }

@@ -11,9 +11,9 @@ use Rattle.mdmp_dump.proofs.Within.Part.{location_taken}
 use Rattle.mdmp_dump.proofs.Within.Records.{AreTaken}
 use Rattle.mdmp_dump.proofs.Within.Steps.{both_taken}
 
-pub thread_taken : {Z : Type 0} (F : List ℕ) (limit at : ℕ)
-    → AreTaken F limit at kinds.Threads (λ k o. IsThread {Z = Z} F o) (λ x. Unit {0}) (λ x. part_size x.stack + part_size x.context)
-thread_taken F limit at e k o x is fits = record {
+pub thread_taken : {Z : Type 0} (F : List ℕ) (limit e at : ℕ)
+    → AreTaken F limit e at kinds.Threads (λ k o. IsThread {Z = Z} F o) (λ x. Unit {0}) (λ x. part_size x.stack + part_size x.context)
+thread_taken F limit e at k o x is fits = record {
   item = items.Thread (thread_item (length F) e k (thread_at F o));
   given = refl;
   steps = both_taken
