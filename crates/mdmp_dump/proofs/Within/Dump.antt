@@ -66,6 +66,7 @@ module _ {Z : Type 0} (F : List ℕ) where
 
   -- ---- all entries and their streams
 
+  -- what they give asks for the bytes of all streams
   streams_taken : (limit : ℕ) (xs : List Numbered) (ss : List (Stream Z)) → AreStreams F xs ss → All (NamesWithin limit) ss
       → IsRunTaken (length F) (run_of F limit xs) (sum_by part_bytes ss)
   streams_taken limit [] [] are names = nothing_taken
@@ -78,6 +79,7 @@ module _ {Z : Type 0} (F : List ℕ) where
       let rest = streams_taken limit xs ss are.1 (All-tail (NamesWithin limit) s ss names) in
       subst (λ (n : ℕ). IsRunTaken (length F) (run_of F limit (x ∷ xs)) n) (sym (sum_by-cons part_bytes s ss)) (joined_taken first rest)
 
+  -- and they have the ranges of all streams
   streams_ranged : (xs : List Numbered) (ss : List (Stream Z)) → AreStreams F xs ss → ranges_of_all F xs ≡ sum_by memory_ranges ss
   streams_ranged [] [] are = refl
   streams_ranged [] (s ∷ ss) are = absurd are
@@ -100,6 +102,7 @@ module _ {Z : Type 0} (F : List ℕ) where
       let short : nat_lt most_ranges (range_count F choice) ≡ false = le-ltb _ _ (rw all few) in
       rw (long, lays.header.signature, lays.header.version, inside, short) refl
 
+  -- the file of a dump within limits has no refusal
   pub unrefused : (choice : Choice) (name_limit part_limit : ℕ) (d : Dump Z) → LaysOut F choice d → IsWithin name_limit part_limit d
       → read_refusal F choice name_limit part_limit ≡ None
   unrefused choice name_limit part_limit d lays within =

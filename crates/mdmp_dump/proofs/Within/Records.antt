@@ -37,6 +37,7 @@ inside_placed t at z inside = rw inside (by (t == 0) _) where
   by false f = refl
 
 module _ {X : Type 0} (F : List ℕ) (limit e at : ℕ) (kind : Kind) (IsAt : ℕ → ℕ → X → Type 0) (Fits : X → Type 0) (bytes : X → ℕ) (are : AreTaken F limit e at kind IsAt Fits bytes) where
+  -- the items of records that stand one behind the other
   items_taken : (shape : Shape) (k : ℕ) (xs : List X) → EachFrom IsAt (at + shape.first) shape.stride k xs → All Fits xs
       → IsRunTaken (length F) (items_from F limit e at kind shape (length xs) k) (sum_by bytes xs)
   items_taken shape k [] each fit = nothing_taken
@@ -68,7 +69,7 @@ module _ {X : Type 0} (F : List ℕ) (at : Location) (kind : Kind) (IsAt : ℕ �
   body_taken limit e Fits bytes are fit =
       rw (inside_placed t at (length F) has.inside, known, has.shaped, has.count) (items_taken F limit e at.rva kind IsAt Fits bytes are has.shape 0 xs has.each fit)
 
-  -- and with it
+  -- and all that it gives
   pub entry_taken : (limit e : ℕ) (Fits : X → Type 0) (bytes : X → ℕ) → AreTaken F limit e at.rva kind IsAt Fits bytes → All Fits xs → (all : ℕ) → sum_by bytes xs ≡ all
       → IsRunTaken (length F) (entry_listing F limit (record { number = e; entry = record { stream_type = t; location = at } })) all
   entry_taken limit e Fits bytes are fit all sum =
