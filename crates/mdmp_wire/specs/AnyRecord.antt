@@ -3,6 +3,14 @@ use Rattle.std.specs.Prelude.{ℕ, Option, Some, None, List, [], ◌∷◌}
 use Rattle.mdmp_source.specs.declared.location.Location.{Location}
 use Rattle.mdmp_wire.specs.declared.any_record.AnyRecord.{AnyRecord}
 use Rattle.mdmp_wire.specs.declared.any_record.AnyRecord.TheVariants as any
+use Rattle.mdmp_wire.specs.Descriptor.{descriptor_bytes}
+use Rattle.mdmp_wire.specs.Descriptor64.{descriptor64_bytes}
+use Rattle.mdmp_wire.specs.Exception.{exception_bytes}
+use Rattle.mdmp_wire.specs.MemoryInfo.{memory_info_bytes}
+use Rattle.mdmp_wire.specs.Module.{module_bytes}
+use Rattle.mdmp_wire.specs.System.{system_bytes}
+use Rattle.mdmp_wire.specs.Thread.{thread_bytes}
+use Rattle.mdmp_wire.specs.Unloaded.{unloaded_bytes}
 
 -- where its name stands, of a kind that has one
 abbrev pub name_rva : AnyRecord → Option ℕ
@@ -18,3 +26,14 @@ parts_of (any.Module image) = image.cv_record ∷ image.misc_record ∷ []
 parts_of (any.Memory range) = range.memory ∷ []
 parts_of (any.Exception exception) = exception.thread_context ∷ []
 parts_of _ = []
+
+-- its bytes
+abbrev pub any_bytes : AnyRecord → List ℕ
+any_bytes (any.Thread thread) = thread_bytes thread
+any_bytes (any.Module image) = module_bytes image
+any_bytes (any.Memory range) = descriptor_bytes range
+any_bytes (any.Exception exception) = exception_bytes exception
+any_bytes (any.System system) = system_bytes system
+any_bytes (any.Memory64 range) = descriptor64_bytes range
+any_bytes (any.Unloaded image) = unloaded_bytes image
+any_bytes (any.MemoryInfo region) = memory_info_bytes region

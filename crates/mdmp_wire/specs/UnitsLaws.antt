@@ -2,7 +2,9 @@
 use Rattle.std.specs.Prelude.{◌≡◌, ◌≤◌, ◌<◌, ℕ, ◌+◌, ◌-◌, ◌*◌, ◌/◌, ◌%◌, List, [], ◌++◌, length, slice_index, take, drop}
 use Rattle.std.proofs.Common.{arith, length-append, length-drop, refl, ◌∙◌}
 use Rattle.std.proofs.lemmas.List.{append-nil, length-take}
-use Rattle.mdmp_wire.specs.Number.{les, numbers_at}
+use Rattle.std.proofs.Common.{zero, suc, ◌∷◌, sym, ap}
+use Rattle.std.proofs.lemmas.List.{drop_more}
+use Rattle.mdmp_wire.specs.Number.{le, les, number_at, numbers_at}
 use Rattle.mdmp_wire.specs.NumberLaws.{length-les, numbers_at-append, numbers_at-front, numbers_at-les, numbers_at-past, numbers_at-within}
 use Rattle.mdmp_wire.specs.Units.{units_of}
 
@@ -31,3 +33,38 @@ units_of-append bytes units even fits =
     let next : numbers_at (bytes ++ les 2 units) (length bytes + 0) 2 (length units) ≡ units =
     numbers_at-past (length bytes) 0 2 (length units) bytes (les 2 units) refl ∙ (rw append-nil at again) in
     rw (len, numbers_at-append, place, first, next) refl
+
+-- a unit's bytes are those that it stands in
+le_of_pair : (a b : ℕ) → a < 256 → b < 256 → le 2 (a + 256 * (b + 256 * 0)) ≡ a ∷ b ∷ []
+unfolding le
+le_of_pair a b low high =
+    let first : (a + 256 * (b + 256 * 0)) % 256 ≡ a = omega arith in
+    let second : (a + 256 * (b + 256 * 0)) / 256 % 256 ≡ b = omega arith in
+    λ i. first i ∷ second i ∷ []
+
+unit_bytes_at : (bytes : List ℕ) (o : ℕ) → ((k : ℕ) → slice_index bytes k < 256) → le 2 (number_at bytes o 2) ≡ slice_index bytes o ∷ slice_index bytes (suc o) ∷ []
+unfolding number_at
+unit_bytes_at bytes o fits = le_of_pair (slice_index bytes o) (slice_index bytes (suc o)) (fits o) (fits (suc o))
+
+les_from : (bytes : List ℕ) (o n : ℕ) → ((k : ℕ) → slice_index bytes k < 256) → o + 2 * n ≤ length bytes → les 2 (numbers_at bytes o 2 n) ≡ take (2 * n) (drop o bytes)
+unfolding numbers_at
+les_from bytes o zero fits room = refl
+les_from bytes o (suc n) fits room =
+    let here : o < length bytes = omega arith in
+    let next : suc o < length bytes = omega arith in
+    let next_again : o + 1 < length bytes = omega arith in
+    let two : 2 * suc n ≡ suc (suc (2 * n)) = omega arith in
+    let places : o + 1 ≡ suc o = omega arith in
+    let behind : suc o + 1 ≡ o + 2 = omega arith in
+    let split : drop o bytes ≡ slice_index bytes o ∷ slice_index bytes (suc o) ∷ drop (o + 2) bytes =
+    drop_more bytes o 0 here ∙ ap (λ (xs : List ℕ). slice_index bytes o ∷ xs) (ap (λ (k : ℕ). drop k bytes) places ∙ drop_more bytes (suc o) 0 next ∙ ap (λ (k : ℕ). slice_index bytes (suc o) ∷ drop k bytes) behind) in
+    let rest = les_from bytes (o + 2) n fits (omega arith) in
+    ap (λ (xs : List ℕ). xs ++ les 2 (numbers_at bytes (o + 2) 2 n)) (unit_bytes_at bytes o fits)
+    ∙ ap (λ (xs : List ℕ). slice_index bytes o ∷ slice_index bytes (suc o) ∷ xs) rest
+    ∙ ap (λ (xs : List ℕ). take (suc (suc (2 * n))) xs) (sym split) ∙ ap (λ (k : ℕ). take k (drop o bytes)) (sym two)
+
+-- the bytes of units are those that they stand in
+pub les_of_units : (bytes : List ℕ) (n : ℕ) → ((k : ℕ) → slice_index bytes k < 256) → n ≡ length bytes - length bytes % 2 → les 2 (units_of bytes) ≡ take n bytes
+les_of_units bytes n fits e =
+    let even : 2 * (length bytes / 2) ≡ n = omega arith in
+    les_from bytes 0 (length bytes / 2) fits (omega arith) ∙ ap (λ (k : ℕ). take k bytes) even

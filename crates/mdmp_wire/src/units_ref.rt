@@ -5,6 +5,7 @@ ghost use Rattle.std.specs.Cmp.Lexicographic.{pointwise};
 ghost use Rattle.std.specs.Cmp.Rules.{comparing};
 ghost use Rattle.mdmp_source.specs.Output.{Puts};
 ghost use Rattle.mdmp_wire.specs.Escape.{escaped, escaped_unit, is_plain};
+ghost use Rattle.mdmp_wire.specs.Number.{les};
 ghost use Rattle.mdmp_wire.specs.Units.{units_of, units_in, units_over, plain_units, utf8_of};
 
 use crate::digits::hex_digits;
@@ -56,13 +57,18 @@ impl<'a> UnitsRef<'a> {
         get_at(self.bytes, 2 * index)
     }
 
+    /// The bytes that the units stand in, two to each and the lower first.
+    pub fn bytes(&self) -> &'a [u8]
+        ensures { result.now ≡ les 2 (units_in self.now) }
+    {
+        whole_units(self.bytes)
+    }
+
     /// The same units in memory of their own.
     pub fn to_owned<A: Allocator>(&self, alloc: A) -> Result<Units<A>, AllocError>
         ensures { IfOk result (λ units. units ≡ units_in self.now) }
     {
-        // `over` was given an even number of bytes, so this is all of them.
-        let end = self.bytes.len() - self.bytes.len() % 2;
-        Units::from_le(alloc, &self.bytes[..end])
+        Units::from_le(alloc, whole_units(self.bytes))
     }
 
     /// The text of the units, with U+FFFD for each surrogate without its other half.
@@ -127,6 +133,17 @@ impl<'a> Debug for UnitsRef<'a> {
         }
         f.write_str("\"")
     }
+}
+
+/// The bytes of the units that stand whole in these bytes: `over` was given an even number, so they are
+/// all of them.
+fn whole_units(bytes: &[u8]) -> &[u8]
+    ensures even { length result.now % 2 ≡ 0 }
+    ensures units { units_of result.now ≡ units_of bytes.now }
+    ensures bytes { result.now ≡ les 2 (units_of bytes.now) }
+{
+    let end = bytes.len() - bytes.len() % 2;
+    &bytes[..end]
 }
 
 /// Whether a unit is printed as it is.
