@@ -1,6 +1,6 @@
+pub mod Begun
 pub mod Budget
 pub mod DumpRows
-pub mod Given
 pub mod Left
 pub mod More
 pub mod Names
@@ -8,8 +8,10 @@ pub mod Opened
 pub mod Refusal
 pub mod Rows
 pub mod Selected
+pub mod Settled
 pub mod Streams
 pub mod Taking
 pub mod Unique
+pub mod Values
 pub mod Walked
 pub mod Within

@@ -1,4 +1,5 @@
 pub mod Exception
+pub mod Fits
 pub mod LaysOut
 pub mod Left
 pub mod Memory
@@ -7,12 +8,18 @@ pub mod MemoryInfo
 pub mod Module
 pub mod Name
 pub mod Part
+pub mod Placed
+pub mod Places
 pub mod Reading
 pub mod Refusal
+pub mod Seen
+pub mod Shape
+pub mod ShapeLaws
 pub mod System
 pub mod Telling
 pub mod TellingLaws
 pub mod Thread
 pub mod Unloaded
 pub mod Value
+pub mod View
 pub mod Within

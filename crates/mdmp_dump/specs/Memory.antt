@@ -1,10 +1,10 @@
 -- A range of memory of a dump: MINIDUMP_MEMORY_DESCRIPTOR.
-use Rattle.std.specs.Prelude.{◌≡◌, ℕ, List, Option, Some, None, []}
+use Rattle.std.specs.Prelude.{◌≡◌, ℕ, List, Option, Some, None, [], ◌<◌, ◌^◌, ◌∷◌}
 use Rattle.mdmp_source.specs.declared.location.Location.{Location}
 use Rattle.mdmp_wire.specs.declared.descriptor.Descriptor.{Descriptor}
 use Rattle.mdmp_wire.specs.Descriptor.{descriptor_at}
 use Rattle.mdmp_dump.specs.declared.memory.MemoryRange.{MemoryRange}
-use Rattle.mdmp_dump.specs.Part.{IsPart}
+use Rattle.mdmp_dump.specs.Part.{IsPart, PartFits}
 use Rattle.mdmp_lister.specs.declared.item.Item.{Item}
 use Rattle.mdmp_lister.specs.declared.item.Item.TheVariants as items
 use Rattle.mdmp_dump.specs.declared.row.Found.{Found}
@@ -14,6 +14,9 @@ use Rattle.mdmp_source.specs.declared.location.Extent.TheVariants as classes
 use Rattle.mdmp_lister.specs.Format.Item.{range_extent_of}
 use Rattle.mdmp_dump.specs.Refusal.{Step, part_steps}
 use Rattle.mdmp_dump.specs.declared.fault.PartName.TheVariants.{Memory}
+use Rattle.mdmp_wire.specs.declared.any_record.AnyRecord.TheVariants as any
+use Rattle.mdmp_dump.specs.Seen.{Seen, seen, nowhere, size_of, bytes_of}
+use Rattle.mdmp_dump.specs.declared.view.PartSize.TheVariants.{NoPart}
 
 module _ {Z : Type 0} where
   -- its record in a file, with the location of its bytes
@@ -24,6 +27,15 @@ module _ {Z : Type 0} where
   pub record IsMemory (F : List ℕ) (o : ℕ) (x : MemoryRange Z) : Type 0 where
     pub fields : descriptor_at F o ≡ memory_record x (descriptor_at F o).memory
     pub bytes : IsPart F (descriptor_at F o).memory x.bytes
+
+  -- as a view gives it
+  abbrev pub memory_seen : MemoryRange Z → Seen
+  memory_seen x = seen (any.Memory (memory_record x nowhere)) (size_of x.bytes ∷ NoPart ∷ NoPart ∷ []) (bytes_of x.bytes ∷ [] ∷ [] ∷ [])
+
+  -- its numbers fit their fields
+  pub record MemoryFits (x : MemoryRange Z) : Type 0 where
+    pub start : x.start < 2 ^ 64
+    pub bytes : PartFits x.bytes
 
 -- what an item tells of such a record, but for its name
 abbrev pub range_told : Item → Option (Found RangeItem)

@@ -1,5 +1,5 @@
 -- The part of a record that a location names.
-use Rattle.std.specs.Prelude.{◌≡◌, ℕ, List, [], length, Option, Some, None}
+use Rattle.std.specs.Prelude.{◌≡◌, ℕ, List, [], length, Option, Some, None, ◌<◌, ◌^◌}
 use Rattle.mdmp_source.specs.Extent.{extent_of}
 use Rattle.mdmp_source.specs.declared.location.Location.{Location}
 use Rattle.mdmp_source.specs.declared.location.Extent.{Extent}
@@ -19,3 +19,8 @@ module _ {Z : Type 0} where
   -- the location names the part
   abbrev pub IsPart : List ℕ → Location → Part Z → Type 0
   IsPart F at part = part_in F at (extent_of at (length F)) ≡ Some part
+
+  -- the size of an absent part is over 0, and has 32 bits
+  abbrev pub PartFits : Part Z → Type 0
+  PartFits (parts.Bytes bytes) = Unit {0}
+  PartFits (parts.Absent size) = (0 < size) × (size < 2 ^ 32)

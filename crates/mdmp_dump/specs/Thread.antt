@@ -1,16 +1,19 @@
 -- A thread of a dump: MINIDUMP_THREAD.
-use Rattle.std.specs.Prelude.{◌≡◌, ℕ, List, Option, Some, None, ◌++◌}
+use Rattle.std.specs.Prelude.{◌≡◌, ℕ, List, Option, Some, None, ◌++◌, ◌<◌, ◌^◌, [], ◌∷◌}
 use Rattle.mdmp_source.specs.declared.location.Location.{Location}
 use Rattle.mdmp_wire.specs.declared.thread.ThreadRecord.{ThreadRecord}
 use Rattle.mdmp_wire.specs.Thread.{thread_at}
 use Rattle.mdmp_dump.specs.declared.thread.Thread.{Thread}
-use Rattle.mdmp_dump.specs.Part.{IsPart}
+use Rattle.mdmp_dump.specs.Part.{IsPart, PartFits}
 use Rattle.mdmp_lister.specs.declared.item.Item.{Item}
 use Rattle.mdmp_lister.specs.declared.item.Item.TheVariants as items
 use Rattle.mdmp_dump.specs.declared.row.Found.{Found}
 use Rattle.mdmp_source.specs.Extent.{extent_of}
 use Rattle.mdmp_dump.specs.Refusal.{Step, location_steps}
 use Rattle.mdmp_dump.specs.declared.fault.PartName.TheVariants.{Stack, Context}
+use Rattle.mdmp_wire.specs.declared.any_record.AnyRecord.TheVariants as any
+use Rattle.mdmp_dump.specs.Seen.{Seen, seen, nowhere, size_of, bytes_of}
+use Rattle.mdmp_dump.specs.declared.view.PartSize.TheVariants.{NoPart}
 
 module _ {Z : Type 0} where
   -- its record in a file, with the locations of its stack and its context
@@ -30,6 +33,23 @@ module _ {Z : Type 0} where
     pub fields : thread_at F o ≡ thread_record x (thread_at F o).stack.memory (thread_at F o).thread_context
     pub stack : IsPart F (thread_at F o).stack.memory x.stack
     pub context : IsPart F (thread_at F o).thread_context x.context
+
+  -- as a view gives it
+  abbrev pub thread_seen : Thread Z → Seen
+  thread_seen x =
+      seen (any.Thread (thread_record x nowhere nowhere)) (size_of x.stack ∷ size_of x.context ∷ NoPart ∷ [])
+      (bytes_of x.stack ∷ bytes_of x.context ∷ [] ∷ [])
+
+  -- its numbers fit their fields
+  pub record ThreadFits (x : Thread Z) : Type 0 where
+    pub thread_id : x.thread_id < 2 ^ 32
+    pub suspend_count : x.suspend_count < 2 ^ 32
+    pub priority_class : x.priority_class < 2 ^ 32
+    pub priority : x.priority < 2 ^ 32
+    pub teb : x.teb < 2 ^ 64
+    pub stack_start : x.stack_start < 2 ^ 64
+    pub stack : PartFits x.stack
+    pub context : PartFits x.context
 
 -- what an item tells of such a record, but for its name
 abbrev pub thread_told : Item → Option (Found ThreadRecord)

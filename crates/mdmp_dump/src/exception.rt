@@ -1,16 +1,20 @@
 //! The exception of a dump.
 ghost use Rattle.mdmp_dump.specs.Reading.{IsRowRead};
 ghost use Rattle.mdmp_lister.specs.declared.kind.Kind.TheVariants as kinds;
-ghost use Rattle.mdmp_dump.specs.Exception.{IsException, exception_told, exception_steps};
+ghost use Rattle.mdmp_dump.specs.Exception.{ExceptionFits, IsException, exception_seen, exception_steps, exception_told};
 ghost use Rattle.mdmp_dump.specs.TellingLaws.{exception_tells};
+ghost use Rattle.std.specs.Prelude.{◌≡◌, ◌<◌, ◌^◌, ℕ, length, slice_index};
 
 use crate::fault::{PartName, ReadFault};
+use crate::fits::Fitting;
+use crate::given::{Given, bytes_of, nowhere, size_of};
 use crate::part::Part;
 use crate::reader::Reader;
 use crate::row::{Found, Place, Row};
+use crate::view::{Fields, PartSize};
 use mdmp_lister::Item;
 use mdmp_source::Store;
-use mdmp_wire::{ExceptionRecord, Units};
+use mdmp_wire::{AnyRecord, ExceptionRecord, Units};
 use std::alloc::Allocator;
 
 /// An exception of the dumped process: `MINIDUMP_EXCEPTION_STREAM`, with the
@@ -34,6 +38,32 @@ pub struct Exception<A: Allocator> {
     pub exception_information: [u64; 15],
     /// The registers of its thread, its `ThreadContext`.
     pub context: Part<A>,
+}
+
+/// Each value has 64 bits.
+fn values_fit(values: &[u64])
+    ensures { (i : ℕ) → slice_index values.now i < 2 ^ 64 }
+{}
+
+/// An array has as many values as its type says.
+fn values_are_15(values: &[u64; 15])
+    ensures { length values.now ≡ 15 }
+{}
+
+impl<A: Allocator> Fitting for Exception<A> {
+    ghost Fit = { ExceptionFits };
+
+    fn fits(&self) {
+        let _thread_id = self.thread_id;
+        let _exception_code = self.exception_code;
+        let _exception_flags = self.exception_flags;
+        let _exception_record = self.exception_record;
+        let _exception_address = self.exception_address;
+        let _number_parameters = self.number_parameters;
+        values_fit(&self.exception_information);
+        values_are_15(&self.exception_information);
+        self.context.fits();
+    }
 }
 
 impl<S: Store + Drop, A: Allocator + Copy> Row<S, A> for Exception<A> {
@@ -81,4 +111,31 @@ impl<S: Store + Drop, A: Allocator + Copy> Row<S, A> for Exception<A> {
     }
 
     ghost tells = { exception_tells };
+}
+
+impl<A: Allocator> Given for Exception<A> {
+    ghost see = { exception_seen };
+
+    fn fields(&self) -> Fields {
+        Fields {
+            wire: AnyRecord::Exception(ExceptionRecord {
+                thread_id: self.thread_id,
+                exception_code: self.exception_code,
+                exception_flags: self.exception_flags,
+                exception_record: self.exception_record,
+                exception_address: self.exception_address,
+                number_parameters: self.number_parameters,
+                exception_information: self.exception_information,
+                thread_context: nowhere(),
+            }),
+            parts: [size_of(&self.context), PartSize::NoPart, PartSize::NoPart],
+        }
+    }
+
+    fn part(&self, which: usize) -> &[u8] {
+        match which {
+            0 => bytes_of(&self.context),
+            _ => &[],
+        }
+    }
 }

@@ -20,22 +20,30 @@
 //! }
 //! ```
 //!
+//! A [`DumpView`] is a dump given a record at a time, so that what takes one, as a writer does, need
+//! not hold it: of each stream the records, with 0 for their locations, and behind each the bytes of
+//! its name and its parts. [`Dump::view`] is that of a value, a [`ValueView`], which never answers a
+//! fault. What a view gives of a dump is defined in `specs/View.antt`.
+//!
 //! The definitions in `specs/LaysOut.antt` say when a file lays out a dump, those in
-//! `specs/Refusal.antt` why it gives none. Three laws are functions that do nothing:
-//! [`a_file_lays_out_one_dump`], [`a_choice_lays_out_a_part`] and
-//! [`a_dump_within_limits_is_read`].
+//! `specs/Refusal.antt` why it gives none. Four laws are functions that do nothing:
+//! [`a_file_lays_out_one_dump`], [`a_choice_lays_out_a_part`], [`a_dump_within_limits_is_read`] and
+//! [`the_numbers_of_a_dump_fit`].
 #![tactic(auto)]
 
 mod bytes;
 mod dump;
 mod exception;
 mod fault;
+mod fits;
+mod given;
 mod laws;
 mod memory;
 mod memory64;
 mod memory_info;
 mod module;
 mod part;
+mod placed;
 mod read;
 mod reader;
 mod records;
@@ -43,6 +51,8 @@ mod row;
 mod system;
 mod thread;
 mod unloaded;
+mod value_view;
+mod view;
 
 pub use crate::bytes::Bytes;
 pub use crate::dump::{Dump, Stream};
@@ -50,6 +60,7 @@ pub use crate::exception::Exception;
 pub use crate::fault::{PartName, ReadFault};
 pub use crate::laws::{
     a_choice_lays_out_a_part, a_dump_within_limits_is_read, a_file_lays_out_one_dump,
+    the_numbers_of_a_dump_fit,
 };
 pub use crate::memory::MemoryRange;
 pub use crate::memory64::Memory64Range;
@@ -60,3 +71,5 @@ pub use crate::records::Records;
 pub use crate::system::System;
 pub use crate::thread::Thread;
 pub use crate::unloaded::Unloaded;
+pub use crate::value_view::ValueView;
+pub use crate::view::{DumpView, Fields, HeaderFields, Kind, PartSize, ViewFault};

@@ -1,16 +1,19 @@
 //! A range of memory of a dump.
 ghost use Rattle.mdmp_dump.specs.Reading.{IsRowRead};
 ghost use Rattle.mdmp_lister.specs.declared.kind.Kind.TheVariants as kinds;
-ghost use Rattle.mdmp_dump.specs.Memory.{IsMemory, memory_steps, range_told};
+ghost use Rattle.mdmp_dump.specs.Memory.{IsMemory, MemoryFits, memory_seen, memory_steps, range_told};
 ghost use Rattle.mdmp_dump.specs.TellingLaws.{memory_tells};
 
 use crate::fault::{PartName, ReadFault};
+use crate::fits::Fitting;
+use crate::given::{Given, bytes_of, nowhere, size_of};
 use crate::part::Part;
 use crate::reader::{Reader, absent};
 use crate::row::{Found, Place, Row};
+use crate::view::{Fields, PartSize};
 use mdmp_lister::{Item, RangeItem};
 use mdmp_source::{Extent, Store};
-use mdmp_wire::Units;
+use mdmp_wire::{AnyRecord, Descriptor, Units};
 use std::alloc::Allocator;
 
 /// A range of the dumped process's memory: `MINIDUMP_MEMORY_DESCRIPTOR`.
@@ -21,6 +24,15 @@ pub struct MemoryRange<A: Allocator> {
     pub start: u64,
     /// Its bytes, `Memory`.
     pub bytes: Part<A>,
+}
+
+impl<A: Allocator> Fitting for MemoryRange<A> {
+    ghost Fit = { MemoryFits };
+
+    fn fits(&self) {
+        let _start = self.start;
+        self.bytes.fits();
+    }
 }
 
 impl<S: Store + Drop, A: Allocator + Copy> Row<S, A> for MemoryRange<A> {
@@ -72,4 +84,25 @@ impl<S: Store + Drop, A: Allocator + Copy> Row<S, A> for MemoryRange<A> {
     }
 
     ghost tells = { memory_tells };
+}
+
+impl<A: Allocator> Given for MemoryRange<A> {
+    ghost see = { memory_seen };
+
+    fn fields(&self) -> Fields {
+        Fields {
+            wire: AnyRecord::Memory(Descriptor {
+                start_of_memory_range: self.start,
+                memory: nowhere(),
+            }),
+            parts: [size_of(&self.bytes), PartSize::NoPart, PartSize::NoPart],
+        }
+    }
+
+    fn part(&self, which: usize) -> &[u8] {
+        match which {
+            0 => bytes_of(&self.bytes),
+            _ => &[],
+        }
+    }
 }

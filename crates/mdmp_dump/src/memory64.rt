@@ -2,16 +2,19 @@
 ghost use Rattle.mdmp_dump.specs.Reading.{IsRowRead};
 ghost use Rattle.mdmp_lister.specs.declared.kind.Kind.TheVariants as kinds;
 ghost use Rattle.mdmp_dump.specs.Memory.{range_told};
-ghost use Rattle.mdmp_dump.specs.Memory64.{IsMemory64, memory64_steps};
+ghost use Rattle.mdmp_dump.specs.Memory64.{IsMemory64, Memory64Fits, memory64_seen, memory64_steps};
 ghost use Rattle.mdmp_dump.specs.TellingLaws.{memory64_tells};
 
 use crate::bytes::Bytes;
 use crate::fault::{PartName, ReadFault};
+use crate::fits::Fitting;
+use crate::given::Given;
 use crate::reader::Reader;
 use crate::row::{Found, Place, Row};
+use crate::view::{Fields, PartSize};
 use mdmp_lister::{Item, RangeItem};
 use mdmp_source::Store;
-use mdmp_wire::Units;
+use mdmp_wire::{AnyRecord, Descriptor64, Units};
 use std::alloc::Allocator;
 
 /// A range of the dumped process's memory, which is never absent: `MINIDUMP_MEMORY_DESCRIPTOR64`.
@@ -22,6 +25,14 @@ pub struct Memory64Range<A: Allocator> {
     pub start: u64,
     /// Its bytes, `DataSize` of them.
     pub bytes: Bytes<A>,
+}
+
+impl<A: Allocator> Fitting for Memory64Range<A> {
+    ghost Fit = { Memory64Fits };
+
+    fn fits(&self) {
+        let _start = self.start;
+    }
 }
 
 impl<S: Store + Drop, A: Allocator + Copy> Row<S, A> for Memory64Range<A> {
@@ -62,4 +73,26 @@ impl<S: Store + Drop, A: Allocator + Copy> Row<S, A> for Memory64Range<A> {
     }
 
     ghost tells = { memory64_tells };
+}
+
+impl<A: Allocator> Given for Memory64Range<A> {
+    ghost see = { memory64_seen };
+
+    fn fields(&self) -> Fields {
+        let size = self.bytes.as_slice().len() as u64;
+        Fields {
+            wire: AnyRecord::Memory64(Descriptor64 {
+                start_of_memory_range: self.start,
+                data_size: size,
+            }),
+            parts: [PartSize::Size(size), PartSize::NoPart, PartSize::NoPart],
+        }
+    }
+
+    fn part(&self, which: usize) -> &[u8] {
+        match which {
+            0 => self.bytes.as_slice(),
+            _ => &[],
+        }
+    }
 }

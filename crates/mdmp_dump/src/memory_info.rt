@@ -3,16 +3,33 @@ ghost use Rattle.mdmp_dump.specs.Reading.{IsRowRead};
 ghost use Rattle.std.specs.Prelude.{[], ◌≡◌};
 ghost use Rattle.mdmp_lister.specs.declared.kind.Kind.TheVariants as kinds;
 ghost use Rattle.mdmp_wire.specs.MemoryInfo.{memory_info_at};
-ghost use Rattle.mdmp_dump.specs.MemoryInfo.{memory_info_told};
+ghost use Rattle.mdmp_dump.specs.MemoryInfo.{MemoryInfoFits, memory_info_seen, memory_info_told};
 ghost use Rattle.mdmp_dump.specs.TellingLaws.{memory_info_tells};
 
 use crate::fault::ReadFault;
+use crate::fits::Fitting;
+use crate::given::Given;
 use crate::reader::Reader;
 use crate::row::{Found, Place, Row};
+use crate::view::{Fields, PartSize};
 use mdmp_lister::Item;
 use mdmp_source::Store;
-use mdmp_wire::{MemoryInfoRecord, Units};
+use mdmp_wire::{AnyRecord, MemoryInfoRecord, Units};
 use std::alloc::Allocator;
+
+impl Fitting for MemoryInfoRecord {
+    ghost Fit = { MemoryInfoFits };
+
+    fn fits(&self) {
+        let _base_address = self.base_address;
+        let _allocation_base = self.allocation_base;
+        let _allocation_protect = self.allocation_protect;
+        let _region_size = self.region_size;
+        let _state = self.state;
+        let _protect = self.protect;
+        let _memory_type = self.memory_type;
+    }
+}
 
 impl<S: Store + Drop, A: Allocator + Copy> Row<S, A> for MemoryInfoRecord {
     type Fields = MemoryInfoRecord;
@@ -48,4 +65,19 @@ impl<S: Store + Drop, A: Allocator + Copy> Row<S, A> for MemoryInfoRecord {
     }
 
     ghost tells = { memory_info_tells };
+}
+
+impl Given for MemoryInfoRecord {
+    ghost see = { memory_info_seen };
+
+    fn fields(&self) -> Fields {
+        Fields {
+            wire: AnyRecord::MemoryInfo(*self),
+            parts: [PartSize::NoPart, PartSize::NoPart, PartSize::NoPart],
+        }
+    }
+
+    fn part(&self, _which: usize) -> &[u8] {
+        &[]
+    }
 }

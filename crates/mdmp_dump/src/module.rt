@@ -1,16 +1,19 @@
 //! A module of a dump.
 ghost use Rattle.mdmp_dump.specs.Reading.{IsRowRead};
 ghost use Rattle.mdmp_lister.specs.declared.kind.Kind.TheVariants as kinds;
-ghost use Rattle.mdmp_dump.specs.Module.{IsModule, module_told, module_steps};
+ghost use Rattle.mdmp_dump.specs.Module.{IsModule, ModuleFits, VersionFits, module_seen, module_steps, module_told};
 ghost use Rattle.mdmp_dump.specs.TellingLaws.{module_tells};
 
 use crate::fault::{PartName, ReadFault};
+use crate::fits::{Fitting, name_fits};
+use crate::given::{Given, bytes_of, name_size, nowhere, size_of, unit_bytes};
 use crate::part::Part;
 use crate::reader::Reader;
 use crate::row::{Found, Place, Row};
+use crate::view::Fields;
 use mdmp_lister::Item;
 use mdmp_source::Store;
-use mdmp_wire::{ModuleRecord, Units, VersionInfo};
+use mdmp_wire::{AnyRecord, ModuleRecord, Units, VersionInfo};
 use std::alloc::Allocator;
 
 /// A module of the dumped process: `MINIDUMP_MODULE`.
@@ -37,6 +40,43 @@ pub struct Module<A: Allocator> {
     pub reserved0: u64,
     /// `Reserved1`.
     pub reserved1: u64,
+}
+
+impl Fitting for VersionInfo {
+    ghost Fit = { VersionFits };
+
+    fn fits(&self) {
+        self.signature.fits();
+        self.structure_version.fits();
+        self.file_version_ms.fits();
+        self.file_version_ls.fits();
+        self.product_version_ms.fits();
+        self.product_version_ls.fits();
+        self.file_flags_mask.fits();
+        self.file_flags.fits();
+        self.file_os.fits();
+        self.file_type.fits();
+        self.file_subtype.fits();
+        self.file_date_ms.fits();
+        self.file_date_ls.fits();
+    }
+}
+
+impl<A: Allocator> Fitting for Module<A> {
+    ghost Fit = { ModuleFits };
+
+    fn fits(&self) {
+        let _base_of_image = self.base_of_image;
+        let _size_of_image = self.size_of_image;
+        let _checksum = self.checksum;
+        let _time_date_stamp = self.time_date_stamp;
+        let _reserved0 = self.reserved0;
+        let _reserved1 = self.reserved1;
+        name_fits(&self.name);
+        self.version_info.fits();
+        self.codeview.fits();
+        self.misc.fits();
+    }
 }
 
 impl<S: Store + Drop, A: Allocator + Copy> Row<S, A> for Module<A> {
@@ -86,4 +126,40 @@ impl<S: Store + Drop, A: Allocator + Copy> Row<S, A> for Module<A> {
     }
 
     ghost tells = { module_tells };
+}
+
+impl<A: Allocator> Given for Module<A> {
+    ghost see = { module_seen };
+
+    fn fields(&self) -> Fields {
+        let module = ModuleRecord {
+            base_of_image: self.base_of_image,
+            size_of_image: self.size_of_image,
+            checksum: self.checksum,
+            time_date_stamp: self.time_date_stamp,
+            module_name_rva: 0,
+            version_info: self.version_info,
+            cv_record: nowhere(),
+            misc_record: nowhere(),
+            reserved0: self.reserved0,
+            reserved1: self.reserved1,
+        };
+        Fields {
+            wire: AnyRecord::Module(module),
+            parts: [
+                name_size(&self.name),
+                size_of(&self.codeview),
+                size_of(&self.misc),
+            ],
+        }
+    }
+
+    fn part(&self, which: usize) -> &[u8] {
+        match which {
+            0 => unit_bytes(&self.name),
+            1 => bytes_of(&self.codeview),
+            2 => bytes_of(&self.misc),
+            _ => &[],
+        }
+    }
 }

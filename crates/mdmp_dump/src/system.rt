@@ -1,16 +1,19 @@
 //! The system of a dump.
 ghost use Rattle.mdmp_dump.specs.Reading.{IsRowRead};
-ghost use Rattle.std.specs.Prelude.{[]};
+ghost use Rattle.std.specs.Prelude.{[], ◌≡◌, length};
 ghost use Rattle.mdmp_lister.specs.declared.kind.Kind.TheVariants as kinds;
-ghost use Rattle.mdmp_dump.specs.System.{IsSystem, system_told};
+ghost use Rattle.mdmp_dump.specs.System.{IsSystem, SystemFits, system_seen, system_told};
 ghost use Rattle.mdmp_dump.specs.TellingLaws.{system_tells};
 
 use crate::fault::ReadFault;
+use crate::fits::{Fitting, name_fits};
+use crate::given::{Given, name_size, unit_bytes};
 use crate::reader::Reader;
 use crate::row::{Found, Place, Row};
+use crate::view::{Fields, PartSize};
 use mdmp_lister::Item;
 use mdmp_source::Store;
-use mdmp_wire::{SystemRecord, Units};
+use mdmp_wire::{AnyRecord, SystemRecord, Units};
 use std::alloc::Allocator;
 
 /// The system that the dumped process ran on: `MINIDUMP_SYSTEM_INFO`.
@@ -43,6 +46,31 @@ pub struct System<A: Allocator> {
     pub reserved2: u16,
     /// `Cpu`, whose 24 bytes are kept as they are.
     pub cpu: [u8; 24],
+}
+
+/// An array has as many bytes as its type says.
+fn bytes_are_24(bytes: &[u8; 24])
+    ensures { length bytes.now ≡ 24 }
+{}
+
+impl<A: Allocator> Fitting for System<A> {
+    ghost Fit = { SystemFits };
+
+    fn fits(&self) {
+        self.processor_architecture.fits();
+        self.processor_level.fits();
+        self.processor_revision.fits();
+        self.number_of_processors.fits();
+        self.product_type.fits();
+        self.major_version.fits();
+        self.minor_version.fits();
+        self.build_number.fits();
+        self.platform_id.fits();
+        self.suite_mask.fits();
+        self.reserved2.fits();
+        bytes_are_24(&self.cpu);
+        name_fits(&self.name);
+    }
 }
 
 impl<S: Store + Drop, A: Allocator + Copy> Row<S, A> for System<A> {
@@ -94,4 +122,37 @@ impl<S: Store + Drop, A: Allocator + Copy> Row<S, A> for System<A> {
     }
 
     ghost tells = { system_tells };
+}
+
+impl<A: Allocator> Given for System<A> {
+    ghost see = { system_seen };
+
+    fn fields(&self) -> Fields {
+        let system = SystemRecord {
+            processor_architecture: self.processor_architecture,
+            processor_level: self.processor_level,
+            processor_revision: self.processor_revision,
+            number_of_processors: self.number_of_processors,
+            product_type: self.product_type,
+            major_version: self.major_version,
+            minor_version: self.minor_version,
+            build_number: self.build_number,
+            platform_id: self.platform_id,
+            csd_version_rva: 0,
+            suite_mask: self.suite_mask,
+            reserved2: self.reserved2,
+            cpu: self.cpu,
+        };
+        Fields {
+            wire: AnyRecord::System(system),
+            parts: [name_size(&self.name), PartSize::NoPart, PartSize::NoPart],
+        }
+    }
+
+    fn part(&self, which: usize) -> &[u8] {
+        match which {
+            0 => unit_bytes(&self.name),
+            _ => &[],
+        }
+    }
 }

@@ -1,16 +1,19 @@
 //! A thread of a dump.
 ghost use Rattle.mdmp_dump.specs.Reading.{IsRowRead};
 ghost use Rattle.mdmp_lister.specs.declared.kind.Kind.TheVariants as kinds;
-ghost use Rattle.mdmp_dump.specs.Thread.{IsThread, thread_told, thread_steps};
+ghost use Rattle.mdmp_dump.specs.Thread.{IsThread, ThreadFits, thread_seen, thread_steps, thread_told};
 ghost use Rattle.mdmp_dump.specs.TellingLaws.{thread_tells};
 
 use crate::fault::{PartName, ReadFault};
+use crate::fits::Fitting;
+use crate::given::{Given, bytes_of, nowhere, size_of};
 use crate::part::Part;
 use crate::reader::Reader;
 use crate::row::{Found, Place, Row};
+use crate::view::{Fields, PartSize};
 use mdmp_lister::Item;
 use mdmp_source::Store;
-use mdmp_wire::{ThreadRecord, Units};
+use mdmp_wire::{AnyRecord, Descriptor, ThreadRecord, Units};
 use std::alloc::Allocator;
 
 /// A thread of the dumped process: `MINIDUMP_THREAD`.
@@ -33,6 +36,21 @@ pub struct Thread<A: Allocator> {
     pub stack: Part<A>,
     /// The registers, its `ThreadContext`.
     pub context: Part<A>,
+}
+
+impl<A: Allocator> Fitting for Thread<A> {
+    ghost Fit = { ThreadFits };
+
+    fn fits(&self) {
+        let _thread_id = self.thread_id;
+        let _suspend_count = self.suspend_count;
+        let _priority_class = self.priority_class;
+        let _priority = self.priority;
+        let _teb = self.teb;
+        let _stack_start = self.stack_start;
+        self.stack.fits();
+        self.context.fits();
+    }
 }
 
 impl<S: Store + Drop, A: Allocator + Copy> Row<S, A> for Thread<A> {
@@ -80,4 +98,38 @@ impl<S: Store + Drop, A: Allocator + Copy> Row<S, A> for Thread<A> {
     }
 
     ghost tells = { thread_tells };
+}
+
+impl<A: Allocator> Given for Thread<A> {
+    ghost see = { thread_seen };
+
+    fn fields(&self) -> Fields {
+        Fields {
+            wire: AnyRecord::Thread(ThreadRecord {
+                thread_id: self.thread_id,
+                suspend_count: self.suspend_count,
+                priority_class: self.priority_class,
+                priority: self.priority,
+                teb: self.teb,
+                stack: Descriptor {
+                    start_of_memory_range: self.stack_start,
+                    memory: nowhere(),
+                },
+                thread_context: nowhere(),
+            }),
+            parts: [
+                size_of(&self.stack),
+                size_of(&self.context),
+                PartSize::NoPart,
+            ],
+        }
+    }
+
+    fn part(&self, which: usize) -> &[u8] {
+        match which {
+            0 => bytes_of(&self.stack),
+            1 => bytes_of(&self.context),
+            _ => &[],
+        }
+    }
 }

@@ -2,15 +2,18 @@
 ghost use Rattle.mdmp_dump.specs.Reading.{IsRowRead};
 ghost use Rattle.std.specs.Prelude.{[]};
 ghost use Rattle.mdmp_lister.specs.declared.kind.Kind.TheVariants as kinds;
-ghost use Rattle.mdmp_dump.specs.Unloaded.{IsUnloaded, unloaded_told};
+ghost use Rattle.mdmp_dump.specs.Unloaded.{IsUnloaded, UnloadedFits, unloaded_seen, unloaded_told};
 ghost use Rattle.mdmp_dump.specs.TellingLaws.{unloaded_tells};
 
 use crate::fault::ReadFault;
+use crate::fits::{Fitting, name_fits};
+use crate::given::{Given, name_size, unit_bytes};
 use crate::reader::Reader;
 use crate::row::{Found, Place, Row};
+use crate::view::{Fields, PartSize};
 use mdmp_lister::Item;
 use mdmp_source::Store;
-use mdmp_wire::{Units, UnloadedRecord};
+use mdmp_wire::{AnyRecord, Units, UnloadedRecord};
 use std::alloc::Allocator;
 
 /// A module that the dumped process had unloaded: `MINIDUMP_UNLOADED_MODULE`.
@@ -27,6 +30,18 @@ pub struct Unloaded<A: Allocator> {
     pub time_date_stamp: u32,
     /// The name at its `ModuleNameRva`; none where that is 0.
     pub name: Option<Units<A>>,
+}
+
+impl<A: Allocator> Fitting for Unloaded<A> {
+    ghost Fit = { UnloadedFits };
+
+    fn fits(&self) {
+        let _base_of_image = self.base_of_image;
+        let _size_of_image = self.size_of_image;
+        let _checksum = self.checksum;
+        let _time_date_stamp = self.time_date_stamp;
+        name_fits(&self.name);
+    }
 }
 
 impl<S: Store + Drop, A: Allocator + Copy> Row<S, A> for Unloaded<A> {
@@ -69,4 +84,28 @@ impl<S: Store + Drop, A: Allocator + Copy> Row<S, A> for Unloaded<A> {
     }
 
     ghost tells = { unloaded_tells };
+}
+
+impl<A: Allocator> Given for Unloaded<A> {
+    ghost see = { unloaded_seen };
+
+    fn fields(&self) -> Fields {
+        Fields {
+            wire: AnyRecord::Unloaded(UnloadedRecord {
+                base_of_image: self.base_of_image,
+                size_of_image: self.size_of_image,
+                checksum: self.checksum,
+                time_date_stamp: self.time_date_stamp,
+                module_name_rva: 0,
+            }),
+            parts: [name_size(&self.name), PartSize::NoPart, PartSize::NoPart],
+        }
+    }
+
+    fn part(&self, which: usize) -> &[u8] {
+        match which {
+            0 => unit_bytes(&self.name),
+            _ => &[],
+        }
+    }
 }

@@ -1,4 +1,4 @@
-use Rattle.mdmp_dump.proofs.Given.{fault-owed}
+use Rattle.mdmp_dump.proofs.Settled.{fault-owed}
 use Rattle.mdmp_dump.proofs.reader.Reader.behind.Goals as goal
 
 pub returns-in-Err-clause-gives : goal.returns-in-Err-clause-gives

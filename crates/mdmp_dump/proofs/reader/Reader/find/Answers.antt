@@ -1,7 +1,7 @@
 use Rattle.std.proofs.Common.{◌≡◌, refl, Some}
 use Rattle.mdmp_lister.specs.Lister.{tail}
 use Rattle.mdmp_dump.specs.Left.{left_from}
-use Rattle.mdmp_dump.proofs.Given.{end-given, fault-owed, found-given}
+use Rattle.mdmp_dump.proofs.Settled.{end-given, fault-owed, found-given}
 use Rattle.mdmp_dump.proofs.reader.Reader.find.Goals as goal
 
 pub returns-in-Err-clause-of_file : goal.returns-in-Err-clause-of_file

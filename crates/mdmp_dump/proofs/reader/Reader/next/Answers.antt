@@ -1,5 +1,5 @@
 use Rattle.std.proofs.Common.{rules, ◌≡◌, ◌∙◌, length, Err}
-use Rattle.mdmp_dump.proofs.Given.{row-read, row-refused}
+use Rattle.mdmp_dump.proofs.Settled.{row-read, row-refused}
 use Rattle.mdmp_dump.proofs.Taking.{FetchesSome_then, Fetches_later}
 use Rattle.mdmp_dump.proofs.reader.Reader.next.Goals as goal
 

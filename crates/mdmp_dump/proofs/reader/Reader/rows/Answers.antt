@@ -1,6 +1,6 @@
 use Rattle.std.proofs.Common.{rules, ◌≡◌, ◌∙◌, ◌+◌, ◌∷◌, [], ◌++◌, ℕ, length, length-append, refl, Some, Err, arith, subst, sym}
 use Rattle.mdmp_dump.specs.Left.{left_from}
-use Rattle.mdmp_dump.proofs.Given.{rows-all, rows-more}
+use Rattle.mdmp_dump.proofs.Settled.{rows-all, rows-more}
 use Rattle.mdmp_dump.proofs.Taking.{FetchesSome_then, Fetches_later}
 use Rattle.mdmp_dump.proofs.reader.Reader.rows.Goals as goal
 

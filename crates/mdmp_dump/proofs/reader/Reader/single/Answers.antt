@@ -1,5 +1,5 @@
 use Rattle.std.proofs.Common.{rules, ◌≡◌, ◌∙◌, refl, Err}
-use Rattle.mdmp_dump.proofs.Given.{behind-given, no-row-after-one, one-read}
+use Rattle.mdmp_dump.proofs.Settled.{behind-given, no-row-after-one, one-read}
 use Rattle.mdmp_dump.proofs.Taking.{FetchesSome_then, Fetches_later}
 use Rattle.mdmp_dump.proofs.reader.Reader.single.Goals as goal
 

@@ -1,0 +1,109 @@
+-- A record that a view gives, as it is written: one rule for all kinds.
+use Rattle.std.specs.Prelude.{ℕ, ◌+◌, List, [], ◌∷◌, ◌++◌, get_or}
+use Rattle.mdmp_source.specs.declared.location.Location.{Location}
+use Rattle.mdmp_wire.specs.AnyRecord.{any_bytes}
+use Rattle.mdmp_wire.specs.Number.{le, zeros}
+use Rattle.mdmp_dump.specs.declared.view.PartSize.{PartSize}
+use Rattle.mdmp_dump.specs.declared.view.PartSize.TheVariants.{NoPart, Size, Absent}
+use Rattle.mdmp_wire.specs.declared.any_record.AnyRecord.{AnyRecord}
+use Rattle.mdmp_wire.specs.declared.any_record.AnyRecord.TheVariants as any
+use Rattle.mdmp_dump.specs.declared.view.Fields.{Fields}
+use Rattle.mdmp_dump.specs.Seen.{Seen, nowhere}
+use Rattle.mdmp_dump.specs.Places.{up, bytes_location}
+
+abbrev pub size_at : Fields → ℕ → PartSize
+size_at f k = get_or f.parts k NoPart
+
+-- the bytes that a part has
+abbrev pub size_in : PartSize → ℕ
+size_in NoPart = 0
+size_in (Size n) = n
+size_in (Absent n) = 0
+
+abbrev pub bytes_in : Seen → ℕ → List ℕ
+bytes_in s k = get_or s.parts k []
+
+-- the location of a part that is written at a place
+abbrev pub location_of : PartSize → ℕ → Location
+location_of NoPart at = nowhere
+location_of (Size n) at = bytes_location n at
+location_of (Absent n) at = record { size = n; rva = 0 }
+
+-- the room that it takes
+abbrev pub part_room : PartSize → ℕ
+part_room NoPart = 0
+part_room (Size n) = up n
+part_room (Absent n) = 0
+
+-- the address of a name that is written at a place, the room that it takes, and its bytes
+abbrev pub address_of : PartSize → ℕ → ℕ
+address_of (Size n) at = at
+address_of _ at = 0
+
+abbrev pub name_room : PartSize → ℕ
+name_room (Size n) = up (4 + n + 2)
+name_room _ = 0
+
+abbrev pub name_around : PartSize → List ℕ → List ℕ
+name_around (Size n) bytes = le 4 n ++ bytes ++ zeros 2
+name_around _ bytes = []
+
+-- the record with its locations, where its parts begin at a place
+abbrev pub placed_by : AnyRecord → Fields → ℕ → AnyRecord
+placed_by (any.Thread r) f at = any.Thread (record r {
+  stack = record r.stack { memory = location_of (size_at f 0) at };
+  thread_context = location_of (size_at f 1) (at + part_room (size_at f 0));
+})
+placed_by (any.Module r) f at = any.Module (record r {
+  module_name_rva = address_of (size_at f 0) at;
+  cv_record = location_of (size_at f 1) (at + name_room (size_at f 0));
+  misc_record = location_of (size_at f 2) (at + name_room (size_at f 0) + part_room (size_at f 1));
+})
+placed_by (any.Memory r) f at = any.Memory (record r { memory = location_of (size_at f 0) at })
+placed_by (any.Exception r) f at = any.Exception (record r { thread_context = location_of (size_at f 0) at })
+placed_by (any.System r) f at = any.System (record r { csd_version_rva = address_of (size_at f 0) at })
+placed_by (any.Memory64 r) f at = any.Memory64 r
+placed_by (any.Unloaded r) f at = any.Unloaded (record r { module_name_rva = address_of (size_at f 0) at })
+placed_by (any.MemoryInfo r) f at = any.MemoryInfo r
+
+abbrev pub placed : Fields → ℕ → AnyRecord
+placed f at = placed_by f.wire f at
+
+-- its row, and the parts that are written behind the stream's body
+abbrev pub seen_row : Seen → ℕ → List ℕ
+seen_row s at = any_bytes (placed s.fields at)
+
+abbrev pub parts_by : AnyRecord → Seen → List (List ℕ)
+parts_by (any.Thread r) s = bytes_in s 0 ∷ bytes_in s 1 ∷ []
+parts_by (any.Module r) s = name_around (size_at s.fields 0) (bytes_in s 0) ∷ bytes_in s 1 ∷ bytes_in s 2 ∷ []
+parts_by (any.Memory r) s = bytes_in s 0 ∷ []
+parts_by (any.Exception r) s = bytes_in s 0 ∷ []
+parts_by (any.System r) s = name_around (size_at s.fields 0) (bytes_in s 0) ∷ []
+parts_by (any.Memory64 r) s = []
+parts_by (any.Unloaded r) s = name_around (size_at s.fields 0) (bytes_in s 0) ∷ []
+parts_by (any.MemoryInfo r) s = []
+
+abbrev pub seen_parts : Seen → List (List ℕ)
+seen_parts s = parts_by s.fields.wire s
+
+-- the room that the parts of a record take
+abbrev pub room_by : AnyRecord → Fields → ℕ
+room_by (any.Thread r) f = part_room (size_at f 0) + part_room (size_at f 1)
+room_by (any.Module r) f = name_room (size_at f 0) + part_room (size_at f 1) + part_room (size_at f 2)
+room_by (any.Memory r) f = part_room (size_at f 0)
+room_by (any.Exception r) f = part_room (size_at f 0)
+room_by (any.System r) f = name_room (size_at f 0)
+room_by (any.Memory64 r) f = 0
+room_by (any.Unloaded r) f = name_room (size_at f 0)
+room_by (any.MemoryInfo r) f = 0
+
+abbrev pub fields_room : Fields → ℕ
+fields_room f = room_by f.wire f
+
+-- the bytes of 64-bit memory that a record has, which stand elsewhere
+abbrev pub far_by : AnyRecord → Fields → ℕ
+far_by (any.Memory64 r) f = size_in (size_at f 0)
+far_by _ f = 0
+
+abbrev pub far_room : Fields → ℕ
+far_room f = far_by f.wire f

@@ -1,0 +1,178 @@
+-- What a view is: a shape that stays, and a cursor that moves.
+use Rattle.std.specs.Prelude.{◌≡◌, ◌^◌, ℕ, zero, suc, ◌+◌, ◌-◌, ◌*◌, List, [], ◌∷◌, length, map, get_or, drop, Option, Some, option_map, Bool, true, false, ◌==◌, if◌then◌else◌, min}
+use Rattle.mdmp_dump.specs.declared.view.Fields.{Fields}
+use Rattle.mdmp_dump.specs.declared.view.Kind.{Kind}
+use Rattle.mdmp_dump.specs.declared.view.Kind.TheVariants as kinds
+use Rattle.mdmp_dump.specs.declared.dump.Stream.{Stream}
+use Rattle.mdmp_dump.specs.declared.dump.Dump.{Dump}
+use Rattle.mdmp_dump.specs.Seen.{Seen, nothing_seen}
+use Rattle.mdmp_dump.specs.View.{DumpSeen, StreamSeen, dump_seen, kind_in, raw_in, records_seen}
+use Rattle.mdmp_dump.specs.Placed.{size_at, size_in, fields_room, far_room}
+
+-- ---- kinds
+
+-- the records' bytes stand behind all streams
+abbrev pub is_far : Kind → Bool
+is_far (kinds.Known t) = t == 9
+is_far _ = false
+
+-- the bytes before the records of a stream of this type, as it is written; none before a single record
+abbrev pub head_of : ℕ → ℕ
+head_of t =
+    if t == 3 then 4 else if t == 4 then 4 else if t == 5 then 4
+    else if t == 9 then 16 else if t == 14 then 12 else if t == 16 then 16 else 0
+
+-- the bytes of a record of it. No view gives another type as known: its records would have 1.
+abbrev pub row_of : ℕ → ℕ
+row_of t =
+    if t == 3 then 48 else if t == 4 then 108 else if t == 5 then 16 else if t == 6 then 168 else if t == 7 then 56
+    else if t == 9 then 16 else if t == 14 then 24 else if t == 16 then 48 else 1
+
+abbrev pub body_by : Kind → ℕ → ℕ → ℕ
+body_by kinds.Unused records raw = 0
+body_by (kinds.Known t) records raw = head_of t + records * row_of t
+body_by (kinds.Raw t) records raw = raw
+
+-- ---- what stays
+
+-- a stream: its kind, how many records and raw bytes it has, and the room of its parts; of 64-bit memory their plain sum
+pub record StreamShape : Type 0 where
+  pub kind : Kind
+  pub records : ℕ
+  pub raw : ℕ
+  pub parts : ℕ
+
+-- the bytes of its body, the room of its parts behind it, and its bytes of 64-bit memory
+abbrev pub body_of : StreamShape → ℕ
+body_of s = body_by s.kind s.records s.raw
+
+abbrev pub room_of : StreamShape → ℕ
+room_of s = if is_far s.kind then 0 else s.parts
+
+abbrev pub far_of : StreamShape → ℕ
+far_of s = if is_far s.kind then s.parts else 0
+
+-- a view: its streams, whether none of its calls answers a fault, and what it gives where that is known
+pub record Shape : Type 0 where
+  pub streams : List StreamShape
+  pub is_reliable : Bool
+  pub seen : Option DumpSeen
+
+abbrev pub unused_shape : StreamShape
+unused_shape = record { kind = kinds.Unused; records = 0; raw = 0; parts = 0 }
+
+abbrev pub unused_seen : StreamSeen
+unused_seen = record { kind = kinds.Unused; records = []; raw = [] }
+
+-- the room of the parts of some records, and their bytes of 64-bit memory
+unfoldable pub rooms : List Seen → ℕ
+rooms [] = 0
+rooms (x ∷ xs) = fields_room x.fields + rooms xs
+
+unfoldable pub fars : List Seen → ℕ
+fars [] = 0
+fars (x ∷ xs) = far_room x.fields + fars xs
+
+abbrev pub parts_in : Kind → List Seen → ℕ
+parts_in kind xs = if is_far kind then fars xs else rooms xs
+
+abbrev pub shape_of : StreamSeen → StreamShape
+shape_of s = record { kind = s.kind; records = length s.records; raw = length s.raw; parts = parts_in s.kind s.records }
+
+-- known content has this shape
+abbrev pub IsSound : Shape → Type 0
+IsSound s = (x : DumpSeen) → s.seen ≡ Some x → s.streams ≡ map shape_of x.streams
+
+abbrev pub stream_at : Shape → ℕ → StreamShape
+stream_at s k = get_or s.streams k unused_shape
+
+abbrev pub seen_at : DumpSeen → ℕ → StreamSeen
+seen_at x k = get_or x.streams k unused_seen
+
+-- a size as it is told: it stops at the greatest
+abbrev pub told : ℕ → ℕ
+told n = min n (2 ^ 64 - 1)
+
+-- ---- what moves
+
+-- what is still to be given of a stream: how many records, the room of their parts and their bytes of 64-bit
+-- memory, and the records where they are known. Then what `part` can be asked for: the sizes of the parts of the
+-- record given last, or of the raw bytes as part 0, and their bytes where they are known.
+pub record Cursor : Type 0 where
+  pub records : ℕ
+  pub room : ℕ
+  pub far : ℕ
+  pub seen : Option (List Seen)
+  pub sizes : ℕ → ℕ
+  pub parts : Option (List (List ℕ))
+
+abbrev pub raw_sizes : ℕ → ℕ → ℕ
+raw_sizes n zero = n
+raw_sizes n (suc k) = 0
+
+-- a stream is begun
+abbrev pub begun : Shape → ℕ → Cursor
+begun s k = record {
+  records = (stream_at s k).records;
+  room = room_of (stream_at s k);
+  far = far_of (stream_at s k);
+  seen = option_map (λ x. (seen_at x k).records) s.seen;
+  sizes = raw_sizes (stream_at s k).raw;
+  parts = option_map (λ x. (seen_at x k).raw ∷ []) s.seen;
+}
+
+-- a record's parts have the sizes that its fields tell
+abbrev pub IsSized : Seen → Type 0
+IsSized x = (k : ℕ) → length (get_or x.parts k []) ≡ size_in (size_at x.fields k)
+
+-- of known records the first was given
+pub record GivesSeen (xs : List Seen) (f : Fields) (new : Cursor) : Type 0 where
+  pub first : Seen
+  pub others : List Seen
+  pub split : xs ≡ first ∷ others
+  pub fields : first.fields ≡ f
+  pub sized : IsSized first
+  pub left : new.seen ≡ Some others
+  pub parts : new.parts ≡ Some first.parts
+
+-- a record was given: its parts never pass the room that is left, and with the last record none is left
+pub record GivesRecord (old : Cursor) (f : Fields) (new : Cursor) : Type 0 where
+  pub records : old.records ≡ new.records + 1
+  pub room : old.room ≡ fields_room f + new.room
+  pub far : old.far ≡ far_room f + new.far
+  pub last : new.records ≡ 0 → (new.room ≡ 0) × (new.far ≡ 0)
+  pub sizes : (k : ℕ) → new.sizes k ≡ size_in (size_at f k)
+  pub seen : (xs : List Seen) → old.seen ≡ Some xs → GivesSeen xs f new
+
+-- ---- of a value
+
+module _ {Z : Type 0} where
+  abbrev pub value_shape : Dump Z → Shape
+  value_shape d = record { streams = map shape_of (dump_seen d).streams; is_reliable = true; seen = Some (dump_seen d) }
+
+  -- a view of this value
+  abbrev pub IsViewOf : Dump Z → Shape → Type 0
+  IsViewOf d s = s.seen ≡ Some (dump_seen d)
+
+  -- the record of a stream with this index
+  abbrev pub record_at : Stream Z → ℕ → Seen
+  record_at s k = get_or (records_seen s) k nothing_seen
+
+  abbrev pub sizes_at : Stream Z → ℕ → ℕ → ℕ
+  sizes_at s zero = raw_sizes (length (raw_in s))
+  sizes_at s (suc k) = λ which. size_in (size_at (record_at s k).fields which)
+
+  abbrev pub parts_at : Stream Z → ℕ → List (List ℕ)
+  parts_at s zero = raw_in s ∷ []
+  parts_at s (suc k) = (record_at s k).parts
+
+  -- so many records of a stream were given
+  abbrev pub value_cursor : Stream Z → ℕ → Cursor
+  value_cursor s k = record {
+    records = length (drop k (records_seen s));
+    room = if is_far (kind_in s) then 0 else parts_in (kind_in s) (drop k (records_seen s));
+    far = if is_far (kind_in s) then parts_in (kind_in s) (drop k (records_seen s)) else 0;
+    seen = Some (drop k (records_seen s));
+    sizes = sizes_at s k;
+    parts = Some (parts_at s k);
+  }

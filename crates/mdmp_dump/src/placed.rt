@@ -1,0 +1,166 @@
+//! A record as it is written, with the places of its name and parts.
+ghost use Rattle.std.specs.Prelude.{◌≡◌, ◌+◌, ◌<◌, ◌≤◌, ◌^◌};
+ghost use Rattle.mdmp_dump.specs.Places.{up};
+ghost use Rattle.mdmp_dump.specs.Placed.{address_of, far_room, fields_room, location_of, name_room, part_room, placed, size_in};
+
+use crate::view::{Fields, PartSize};
+use mdmp_source::Location;
+use mdmp_wire::{
+    AnyRecord, Descriptor, ExceptionRecord, ModuleRecord, SystemRecord, ThreadRecord,
+    UnloadedRecord,
+};
+
+impl PartSize {
+    /// How many bytes it has: none where there is no part, or where that is absent.
+    pub fn size(self) -> u64
+        ensures { result ≡ size_in self }
+    {
+        match self {
+            PartSize::NoPart | PartSize::Absent(_) => 0,
+            PartSize::Size(size) => size,
+        }
+    }
+}
+
+impl Fields {
+    /// How many bytes its name and parts take as they are written, each padded to a multiple of 4. The
+    /// bytes of 64-bit memory stand elsewhere, and are none of them.
+    pub fn room(&self) -> u128
+        ensures value { result ≡ fields_room self.now }
+        ensures bound { result ≤ 2 ^ 70 }
+    {
+        let [first, second, third] = self.parts;
+        match self.wire {
+            AnyRecord::Thread(_) => part_room(first) + part_room(second),
+            AnyRecord::Module(_) => name_room(first) + part_room(second) + part_room(third),
+            AnyRecord::Memory(_) => part_room(first),
+            AnyRecord::Exception(_) => part_room(first),
+            AnyRecord::System(_) => name_room(first),
+            AnyRecord::Memory64(_) => 0,
+            AnyRecord::Unloaded(_) => name_room(first),
+            AnyRecord::MemoryInfo(_) => 0,
+        }
+    }
+
+    /// The record as it is written, where its name and its parts stand one behind the other from an
+    /// offset in the file on, all of them below 2^32. Where there is no name its RVA is 0; an empty part
+    /// has the location of no bytes at 0, and an absent one its size and the RVA 0.
+    pub fn placed(&self, at: u64) -> AnyRecord
+        requires { at + fields_room self.now < 2 ^ 32 }
+        ensures { result ≡ placed self.now at }
+    {
+        let [first, second, third] = self.parts;
+        match self.wire {
+            AnyRecord::Thread(thread) => AnyRecord::Thread(ThreadRecord {
+                stack: Descriptor {
+                    memory: location(first, at),
+                    ..thread.stack
+                },
+                thread_context: location(second, at + part_room(first) as u64),
+                ..thread
+            }),
+            AnyRecord::Module(module) => {
+                let codeview = at + name_room(first) as u64;
+                AnyRecord::Module(ModuleRecord {
+                    module_name_rva: address(first, at),
+                    cv_record: location(second, codeview),
+                    misc_record: location(third, codeview + part_room(second) as u64),
+                    ..module
+                })
+            },
+            AnyRecord::Memory(range) => AnyRecord::Memory(Descriptor {
+                memory: location(first, at),
+                ..range
+            }),
+            AnyRecord::Exception(exception) => AnyRecord::Exception(ExceptionRecord {
+                thread_context: location(first, at),
+                ..exception
+            }),
+            AnyRecord::System(system) => AnyRecord::System(SystemRecord {
+                csd_version_rva: address(first, at),
+                ..system
+            }),
+            AnyRecord::Memory64(range) => AnyRecord::Memory64(range),
+            AnyRecord::Unloaded(module) => AnyRecord::Unloaded(UnloadedRecord {
+                module_name_rva: address(first, at),
+                ..module
+            }),
+            AnyRecord::MemoryInfo(region) => AnyRecord::MemoryInfo(region),
+        }
+    }
+}
+
+/// Where a part stands that is written at a place.
+fn location(part: PartSize, at: u64) -> Location
+    requires { at + part_room part < 2 ^ 32 }
+    ensures { result ≡ location_of part at }
+{
+    match part {
+        PartSize::NoPart => Location { size: 0, rva: 0 },
+        PartSize::Size(size) => {
+            let rva = if size == 0 { 0 } else { at };
+            Location {
+                size: size as u32,
+                rva: rva as u32,
+            }
+        },
+        PartSize::Absent(size) => Location { size, rva: 0 },
+    }
+}
+
+/// The RVA of a name that is written at a place.
+fn address(name: PartSize, at: u64) -> u32
+    requires { at < 2 ^ 32 }
+    ensures { result ≡ address_of name at }
+{
+    match name {
+        PartSize::NoPart => 0,
+        PartSize::Size(_) => at as u32,
+        PartSize::Absent(_) => 0,
+    }
+}
+
+/// The least multiple of 4 that is at least `n`.
+fn up(n: u128) -> u128
+    requires { n ≤ 2 ^ 64 + 6 }
+    ensures same { result ≡ up n }
+    ensures bound { result ≤ 2 ^ 64 + 8 }
+{
+    (n + 3) / 4 * 4
+}
+
+/// The bytes of a part, and what pads them.
+fn part_room(part: PartSize) -> u128
+    ensures same { result ≡ part_room part }
+    ensures bound { result ≤ 2 ^ 64 + 8 }
+{
+    match part {
+        PartSize::NoPart => 0,
+        PartSize::Size(size) => up(u128::from(size)),
+        PartSize::Absent(_) => 0,
+    }
+}
+
+/// The length of a name, its units with a last one of 0, and what pads them.
+fn name_room(name: PartSize) -> u128
+    ensures same { result ≡ name_room name }
+    ensures bound { result ≤ 2 ^ 64 + 8 }
+{
+    match name {
+        PartSize::NoPart => 0,
+        PartSize::Size(size) => up(4 + u128::from(size) + 2),
+        PartSize::Absent(_) => 0,
+    }
+}
+
+/// How many bytes of 64-bit memory a record has, which stand behind all streams.
+pub(crate) fn far_room(fields: &Fields) -> u128
+    ensures same { result ≡ far_room fields.now }
+    ensures bound { result ≤ 2 ^ 70 }
+{
+    let [first, _, _] = fields.parts;
+    match fields.wire {
+        AnyRecord::Memory64(_) => u128::from(first.size()),
+        _ => 0,
+    }
+}

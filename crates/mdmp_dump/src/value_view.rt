@@ -1,0 +1,281 @@
+//! A dump in memory, given a record at a time.
+ghost use Rattle.std.specs.Prelude.{◌≡◌, ◌<◌, ◌≤◌, ◌+◌, ◌*◌, [], length, take, drop, get_or};
+ghost use Rattle.mdmp_dump.specs.declared.dump.Stream.TheVariants.{Unused};
+ghost use Rattle.mdmp_dump.specs.View.{kind_in, raw_in, records_seen, stream_seen};
+ghost use Rattle.mdmp_dump.specs.Shape.{body_of, parts_at, parts_in, record_at, shape_of, told, value_cursor, value_shape};
+ghost use Rattle.mdmp_dump.specs.ShapeLaws.{value_sound};
+
+use crate::dump::{Dump, Stream};
+use crate::given::{Given, far_of_all, fields_at, part_at, room_of_all, room_of_one};
+use crate::view::{DumpView, Fields, HeaderFields, Kind, PartSize, ViewFault};
+use mdmp_wire::{AnyRecord, Descriptor64};
+use std::alloc::Allocator;
+
+/// What a stream is, by the types of `MINIDUMP_STREAM_TYPE`.
+fn stream_kind<A: Allocator>(stream: &Stream<A>) -> Kind
+    ensures { result ≡ kind_in stream.now }
+{
+    match stream {
+        Stream::Unused => Kind::Unused,
+        Stream::Threads(_) => Kind::Known(3),
+        Stream::Modules(_) => Kind::Known(4),
+        Stream::Memory(_) => Kind::Known(5),
+        Stream::Exception(_) => Kind::Known(6),
+        Stream::System(_) => Kind::Known(7),
+        Stream::Memory64(_) => Kind::Known(9),
+        Stream::Unloaded(_) => Kind::Known(14),
+        Stream::MemoryInfo(_) => Kind::Known(16),
+        Stream::Raw(stream_type, _) => Kind::Raw(*stream_type),
+    }
+}
+
+/// The bytes of a stream that has no records; none of any other.
+fn raw_bytes<A: Allocator>(stream: &Stream<A>) -> &[u8]
+    ensures { result.now ≡ raw_in stream.now }
+{
+    match stream {
+        Stream::Raw(_, bytes) => bytes.as_slice(),
+        _ => &[],
+    }
+}
+
+/// How many records a stream has.
+fn record_count<A: Allocator>(stream: &Stream<A>) -> usize
+    ensures { result ≡ length (records_seen stream.now) }
+{
+    match stream {
+        Stream::Threads(threads) => threads.as_slice().len(),
+        Stream::Modules(modules) => modules.as_slice().len(),
+        Stream::Memory(ranges) => ranges.as_slice().len(),
+        Stream::Exception(_) | Stream::System(_) => 1,
+        Stream::Memory64(ranges) => ranges.as_slice().len(),
+        Stream::Unloaded(modules) => modules.as_slice().len(),
+        Stream::MemoryInfo(regions) => regions.as_slice().len(),
+        Stream::Unused | Stream::Raw(_, _) => 0,
+    }
+}
+
+/// The bytes of a head and of some records behind it, of at most 168 bytes each.
+fn rows_size(head: u64, count: usize, row: u64) -> u64
+    requires { row ≤ 168 }
+    ensures { result ≡ told (head + count * row) }
+{
+    let size = u128::from(head) + count as u128 * u128::from(row);
+    size.min(u128::from(u64::MAX)) as u64
+}
+
+/// How many bytes the body of a stream has: those of its list's head and records, or its raw bytes.
+fn body_size<A: Allocator>(stream: &Stream<A>) -> u64
+    ensures { result ≡ told (body_of (shape_of (stream_seen stream.now))) }
+{
+    let count = record_count(stream);
+    match stream {
+        Stream::Unused => 0,
+        Stream::Threads(_) => rows_size(4, count, 48),
+        Stream::Modules(_) => rows_size(4, count, 108),
+        Stream::Memory(_) => rows_size(4, count, 16),
+        Stream::Exception(_) => 168,
+        Stream::System(_) => 56,
+        Stream::Memory64(_) => rows_size(16, count, 16),
+        Stream::Unloaded(_) => rows_size(12, count, 24),
+        Stream::MemoryInfo(_) => rows_size(16, count, 48),
+        Stream::Raw(_, bytes) => bytes.as_slice().len() as u64,
+    }
+}
+
+/// What the names and parts of a stream take behind its body; of 64-bit memory its bytes.
+#[tactic(auto, unfolding(crate::specs::Shape::rooms))]
+fn parts_size<A: Allocator>(stream: &Stream<A>) -> u64
+    ensures { result ≡ told (parts_in (kind_in stream.now) (records_seen stream.now)) }
+{
+    match stream {
+        Stream::Threads(threads) => room_of_all(threads.as_slice()),
+        Stream::Modules(modules) => room_of_all(modules.as_slice()),
+        Stream::Memory(ranges) => room_of_all(ranges.as_slice()),
+        Stream::Exception(exception) => room_of_one(exception),
+        Stream::System(system) => room_of_one(system),
+        Stream::Memory64(ranges) => far_of_all(ranges.as_slice()),
+        Stream::Unloaded(modules) => room_of_all(modules.as_slice()),
+        Stream::MemoryInfo(regions) => room_of_all(regions.as_slice()),
+        Stream::Unused | Stream::Raw(_, _) => 0,
+    }
+}
+
+/// The fields of one record of a stream.
+fn record_fields<A: Allocator>(stream: &Stream<A>, index: usize) -> Fields
+    requires { index < length (records_seen stream.now) }
+    ensures { result ≡ (record_at stream.now index).fields }
+{
+    match stream {
+        Stream::Threads(threads) => fields_at(threads.as_slice(), index),
+        Stream::Modules(modules) => fields_at(modules.as_slice(), index),
+        Stream::Memory(ranges) => fields_at(ranges.as_slice(), index),
+        Stream::Exception(exception) => exception.fields(),
+        Stream::System(system) => system.fields(),
+        Stream::Memory64(ranges) => fields_at(ranges.as_slice(), index),
+        Stream::Unloaded(modules) => fields_at(modules.as_slice(), index),
+        Stream::MemoryInfo(regions) => fields_at(regions.as_slice(), index),
+        Stream::Unused | Stream::Raw(_, _) => Fields {
+            wire: AnyRecord::Memory64(Descriptor64 {
+                start_of_memory_range: 0,
+                data_size: 0,
+            }),
+            parts: [PartSize::NoPart, PartSize::NoPart, PartSize::NoPart],
+        },
+    }
+}
+
+/// A part of one record of a stream.
+fn record_part<A: Allocator>(stream: &Stream<A>, index: usize, which: usize) -> &[u8]
+    requires { index < length (records_seen stream.now) }
+    ensures { result.now ≡ get_or (record_at stream.now index).parts which [] }
+{
+    match stream {
+        Stream::Threads(threads) => part_at(threads.as_slice(), index, which),
+        Stream::Modules(modules) => part_at(modules.as_slice(), index, which),
+        Stream::Memory(ranges) => part_at(ranges.as_slice(), index, which),
+        Stream::Exception(exception) => exception.part(which),
+        Stream::System(system) => system.part(which),
+        Stream::Memory64(ranges) => part_at(ranges.as_slice(), index, which),
+        Stream::Unloaded(modules) => part_at(modules.as_slice(), index, which),
+        Stream::MemoryInfo(regions) => part_at(regions.as_slice(), index, which),
+        Stream::Unused | Stream::Raw(_, _) => &[],
+    }
+}
+
+/// A part of the record that was given last, where so many were given; where none was, the raw bytes
+/// as part 0.
+fn stream_part<A: Allocator>(stream: &Stream<A>, given: usize, which: usize) -> &[u8]
+    requires { given ≤ length (records_seen stream.now) }
+    ensures { result.now ≡ get_or (parts_at stream.now given) which [] }
+{
+    if given > 0 {
+        record_part(stream, given - 1, which)
+    } else if which == 0 {
+        raw_bytes(stream)
+    } else {
+        &[]
+    }
+}
+
+/// One of some streams.
+fn stream_of<A: Allocator>(streams: &[Stream<A>], index: usize) -> &Stream<A>
+    requires { index < length streams.now }
+    ensures { result.now ≡ get_or streams.now index Unused }
+{
+    &streams[index]
+}
+
+/// The next record of one of some streams, and how many are given then.
+#[tactic(auto, using(crate::proofs::Begun::begun_inside))]
+fn next_fields<A: Allocator>(streams: &[Stream<A>], stream: usize, given: usize) -> (Fields, usize)
+    requires { given < length (records_seen (get_or streams.now stream Unused)) }
+    ensures fields { result.0 ≡ (record_at (get_or streams.now stream Unused) given).fields }
+    ensures next { result.1 ≡ given + 1 }
+{
+    let chosen = stream_of(streams, stream);
+    // So many fit, and `given` is less.
+    let _count = record_count(chosen);
+    (record_fields(chosen, given), given + 1)
+}
+
+/// What `stream_part` gives of one of some streams; nothing behind the last.
+fn part_of<A: Allocator>(streams: &[Stream<A>], stream: usize, given: usize, which: usize) -> &[u8]
+    requires { given ≤ length (records_seen (get_or streams.now stream Unused)) }
+    ensures { result.now ≡ get_or (parts_at (get_or streams.now stream Unused) given) which [] }
+{
+    if stream < streams.len() {
+        stream_part(stream_of(streams, stream), given, which)
+    } else {
+        &[]
+    }
+}
+
+/// Copies some bytes from a place on.
+fn copy_part(bytes: &[u8], at: u64, out: &mut [u8])
+    requires { at + length out.old ≤ length bytes.now }
+    ensures { out.new ≡ take (length out.old) (drop at bytes.now) }
+{
+    let at = at as usize;
+    out.copy_from_slice(&bytes[at..at + out.len()]);
+}
+
+/// A dump in memory, given a record at a time: its records as the structures that they are in a file,
+/// and its names and parts as their bytes. No call of it answers a fault.
+#[derive(Drop)]
+pub struct ValueView<'a, A: Allocator> {
+    dump: &'a Dump<A>,
+    stream: usize,
+    given: usize,
+    ghost within: { given ≤ length (records_seen (get_or dump.now.streams stream Unused)) },
+}
+
+impl<A: Allocator> Dump<A> {
+    /// A view of this dump, which stands before the records of its first stream. `rewind` begins a
+    /// stream.
+    pub fn view<'a>(&'a self) -> ValueView<'a, A>
+        ensures shape { ⟦<ValueView<'a, A> as DumpView>⟧.shape result ≡ value_shape self.now }
+        ensures cursor { ⟦<ValueView<'a, A> as DumpView>⟧.cursor result ≡ value_cursor (get_or self.now.streams 0 Unused) 0 }
+    {
+        ValueView {
+            dump: self,
+            stream: 0,
+            given: 0,
+        }
+    }
+}
+
+impl<'a, A: Allocator> DumpView for ValueView<'a, A> {
+    type Memory = A;
+
+    ghost shape = { λ v. value_shape v.dump.now };
+
+    ghost cursor = { λ v. value_cursor (get_or v.dump.now.streams v.stream Unused) v.given };
+
+    ghost sound = { λ v. value_sound v.dump.now };
+
+    fn streams(&mut self) -> u64 {
+        self.dump.streams.as_slice().len() as u64
+    }
+
+    fn header(&mut self) -> HeaderFields {
+        HeaderFields {
+            version_high: self.dump.version_high,
+            checksum: self.dump.checksum,
+            time: self.dump.time,
+            flags: self.dump.flags,
+        }
+    }
+
+    fn kind(&mut self, stream: u64) -> Kind {
+        stream_kind(stream_of(self.dump.streams.as_slice(), stream as usize))
+    }
+
+    fn body_size(&mut self, stream: u64) -> u64 {
+        body_size(stream_of(self.dump.streams.as_slice(), stream as usize))
+    }
+
+    fn parts_size(&mut self, stream: u64) -> u64 {
+        parts_size(stream_of(self.dump.streams.as_slice(), stream as usize))
+    }
+
+    fn rewind(&mut self, stream: u64) -> Result<(), ViewFault> {
+        self.given = 0;
+        self.stream = stream as usize;
+        Ok(())
+    }
+
+    fn next_record(&mut self) -> Result<Fields, ViewFault> {
+        let streams = self.dump.streams.as_slice();
+        let (fields, next) = next_fields(streams, self.stream, self.given);
+        self.given = next;
+        Ok(fields)
+    }
+
+    fn part(&mut self, which: usize, at: u64, out: &mut [u8]) -> Result<(), ViewFault> {
+        let streams = self.dump.streams.as_slice();
+        let bytes = part_of(streams, self.stream, self.given, which);
+        copy_part(bytes, at, out);
+        Ok(())
+    }
+}
