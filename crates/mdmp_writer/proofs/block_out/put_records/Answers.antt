@@ -1,0 +1,51 @@
+use Rattle.std.proofs.Common.{◌≡◌, ◌+◌, ◌∙◌, ◌++◌, ℕ, Some, ap, true}
+use Rattle.mdmp_dump.specs.Shape.{Shape, seen_at, stream_at}
+use Rattle.mdmp_dump.specs.View.{DumpSeen}
+use Rattle.mdmp_writer.specs.Gather.{gathered}
+use Rattle.mdmp_writer.specs.Written.{all_padded, block_text, head_text, padding, parts_of, rows}
+use Rattle.mdmp_writer.proofs.Blocks.{block_known, known_size}
+use Rattle.mdmp_writer.proofs.Causes.{cause_after}
+use Rattle.mdmp_writer.proofs.Sending.{cut_before, cut_behind, cut_same, puts_puts, writes_same, writes_then}
+use Rattle.mdmp_writer.proofs.block_out.put_records.Given.{Over}
+use Rattle.mdmp_writer.proofs.block_out.put_records.Goals.{After-put_body}
+use Rattle.mdmp_writer.proofs.block_out.put_records.Goals as goal
+
+-- what is written, in the order of the calls
+is_block : (g : Over) (c : After-put_body g) (x : DumpSeen) → (g.V.DumpView.shape c.args.view.now).seen ≡ Some x
+    → block_text (seen_at x c.args.stream) c.args.place.at c.args.place.far
+    ≡ (head_text c.args.stream_type c.count_of-count.result c.args.place.far ++ rows (c.args.place.at + c.up.result) (seen_at x c.args.stream).records)
+    ++ padding c.args.body ++ all_padded (parts_of (seen_at x c.args.stream).records)
+is_block g c x known =
+    let s = g.V.DumpView.shape c.args.view.now in
+    let k = c.args.stream in
+    let t = c.args.stream_type in
+    let n = (stream_at s k).records in
+    block_known s x k t c.args.place.at c.args.place.far c.args.body c.count_of-count.result (c.args.place.at + c.up.result)
+    (g.met.V.DumpView.sound c.args.view.now x known) c.requires.kind c.requires.body
+    (c.count_of-count.ensures.count n (c.requires.body ∙ known_size (stream_at s k) t c.requires.kind)) (ap (λ (m : ℕ). c.args.place.at + m) c.up.ensures)
+
+pub returns-in-Ok-put_padding-clause-writes : goal.returns-in-Ok-put_padding-clause-writes
+returns-in-Ok-put_padding-clause-writes g c x known =
+    let state = g.O.Out.state in
+    let zeros = padding c.args.body in
+    writes_same c.put_stream_parts.result (gathered (state c.args.out.now) c.args.gather.now) (gathered (state c.put_stream_parts.new.out) c.put_stream_parts.new.gather) _ _
+    (is_block g (goal.at.returns-in-Ok-put_padding-clause-writes g c).After-put_body x known)
+    (writes_then c.put_stream_parts.result _ _ _ (_ ++ zeros) (all_padded (parts_of (seen_at x c.args.stream).records))
+    (puts_puts _ _ _ _ zeros (c.in-Ok.ensures.writes x known) c.in-Ok-put_padding.ensures.writes)
+    (c.put_stream_parts.ensures.writes x (ap (λ (s : Shape). s.seen) c.put_body.ensures.shape ∙ known)))
+
+pub returns-in-Ok-put_padding-clause-cause : goal.returns-in-Ok-put_padding-clause-cause
+returns-in-Ok-put_padding-clause-cause g c =
+    let state = g.O.Out.state in
+    cause_after c.put_stream_parts.result (state c.args.out.now) (state c.put_padding.new.out) (state c.put_stream_parts.new.out) _ _
+    (c.in-Ok-put_padding.ensures.cause true ∙ c.in-Ok.ensures.cause) (ap (λ (s : Shape). s.is_reliable) c.put_body.ensures.shape) c.put_stream_parts.ensures.cause
+
+pub returns-in-Err-put_padding-clause-writes : goal.returns-in-Err-put_padding-clause-writes
+returns-in-Err-put_padding-clause-writes g c x known =
+    cut_same _ _ _ _ (is_block g (goal.at.returns-in-Err-put_padding-clause-writes g c).After-put_body x known)
+    (cut_before _ _ _ _ (cut_behind _ _ _ _ (padding c.args.body) (c.in-Ok.ensures.writes x known) c.in-Err-put_padding.ensures.writes))
+
+pub returns-in-Err-clause-writes : goal.returns-in-Err-clause-writes
+returns-in-Err-clause-writes g c x known =
+    cut_same _ _ _ _ (is_block g (goal.at.returns-in-Err-clause-writes g c).After-put_body x known)
+    (cut_before _ _ _ _ (cut_before _ _ _ (padding c.args.body) (c.in-Err.ensures.writes x known)))

@@ -1,0 +1,22 @@
+use Rattle.std.proofs.Common.{◌∙◌, sym, ap, true}
+use Rattle.mdmp_dump.specs.Shape.{Cursor, Shape, seen_at}
+use Rattle.mdmp_writer.specs.Written.{head_text, rows}
+use Rattle.mdmp_writer.proofs.Blocks.{begun_seen, known_count}
+use Rattle.mdmp_writer.proofs.Causes.{cause_after}
+use Rattle.mdmp_writer.proofs.Sending.{writes_then}
+use Rattle.mdmp_writer.proofs.body_out.put_body.Goals as goal
+
+pub returns-in-Ok-put_head-clause-writes : goal.returns-in-Ok-put_head-clause-writes
+returns-in-Ok-put_head-clause-writes g c x known =
+    let s = g.V.DumpView.shape c.args.view.now in
+    let k = c.args.stream in
+    let xs = (seen_at x k).records in
+    writes_then c.put_rows.result _ _ _ (head_text c.args.stream_type c.args.count c.args.place.far) (rows c.args.place.at xs) c.in-Ok-put_head.ensures.writes
+    (c.put_rows.ensures.writes xs (ap (λ (u : Cursor). u.seen) c.in-Ok.ensures.begins ∙ begun_seen s x k known)
+    (sym (known_count s x k c.args.count (g.met.V.DumpView.sound c.args.view.now x known) c.requires.count)))
+
+pub returns-in-Ok-put_head-clause-cause : goal.returns-in-Ok-put_head-clause-cause
+returns-in-Ok-put_head-clause-cause g c =
+    let state = g.O.Out.state in
+    cause_after c.put_rows.result (state c.args.out.now) (state c.put_head.new.out) (state c.put_rows.new.out) _ _ (c.in-Ok-put_head.ensures.cause true)
+    (ap (λ (s : Shape). s.is_reliable) c.rewind.ensures.shape) c.put_rows.ensures.cause

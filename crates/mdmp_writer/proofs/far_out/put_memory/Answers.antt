@@ -1,0 +1,28 @@
+use Rattle.std.proofs.Common.{◌∙◌, sym, ap}
+use Rattle.mdmp_dump.specs.Shape.{Cursor, seen_at}
+use Rattle.mdmp_writer.specs.Gather.{gathered}
+use Rattle.mdmp_writer.specs.Written.{padding, ranges_text}
+use Rattle.mdmp_writer.proofs.Blocks.{begun_seen, far_known, known_count}
+use Rattle.mdmp_writer.proofs.Sending.{cut_before, cut_same, writes_same, writes_then}
+use Rattle.mdmp_writer.proofs.far_out.put_memory.Goals as goal
+
+pub returns-in-Ok-put_ranges-clause-writes : goal.returns-in-Ok-put_ranges-clause-writes
+returns-in-Ok-put_ranges-clause-writes g c x known =
+    let state = g.O.Out.state in
+    let s = g.V.DumpView.shape c.args.view.now in
+    let k = c.args.stream in
+    let xs = (seen_at x k).records in
+    let sound = g.met.V.DumpView.sound c.args.view.now x known in
+    let put = c.in-Ok-put_ranges.ensures.writes xs (ap (λ (u : Cursor). u.seen) c.in-Ok.ensures.begins ∙ begun_seen s x k known) (sym (known_count s x k c.args.count sound c.requires.count)) in
+    writes_same c.put_padding.result (gathered (state c.args.out.now) c.args.gather.now) (gathered (state c.put_padding.new.out) c.put_padding.new.gather) _ _
+    (far_known s x k c.args.size sound c.requires.kind c.requires.size)
+    (writes_then c.put_padding.result _ _ _ (ranges_text xs) (padding c.args.size) put c.put_padding.ensures.writes)
+
+pub returns-in-Err-put_ranges-clause-writes : goal.returns-in-Err-put_ranges-clause-writes
+returns-in-Err-put_ranges-clause-writes g c x known =
+    let s = g.V.DumpView.shape c.args.view.now in
+    let k = c.args.stream in
+    let xs = (seen_at x k).records in
+    let sound = g.met.V.DumpView.sound c.args.view.now x known in
+    let cut = c.in-Err-put_ranges.ensures.writes xs (ap (λ (u : Cursor). u.seen) c.in-Ok.ensures.begins ∙ begun_seen s x k known) (sym (known_count s x k c.args.count sound c.requires.count)) in
+    cut_same _ _ _ _ (far_known s x k c.args.size sound c.requires.kind c.requires.size) (cut_before _ _ (ranges_text xs) (padding c.args.size) cut)

@@ -1,0 +1,52 @@
+use Rattle.std.proofs.Common.{◌≡◌, ◌∙◌, Err, arith, refl, sym, ap}
+use Rattle.mdmp_dump.specs.declared.view.Fields.{Fields}
+use Rattle.mdmp_dump.specs.Placed.{size_at, size_in}
+use Rattle.mdmp_dump.specs.Shape.{Cursor, Shape}
+use Rattle.mdmp_writer.specs.Written.{ranges_text}
+use Rattle.mdmp_writer.proofs.Causes.{cause_after}
+use Rattle.mdmp_writer.proofs.Loops.{next_of, rest_begin, ranges_cut, ranges_put, ranges_stop, ranges_done}
+use Rattle.mdmp_writer.proofs.far_out.put_ranges.Goals as goal
+
+pub loop-left-init : goal.loop-left-init
+loop-left-init g c = record {
+  shape = refl;
+  count = sym c.requires;
+  ranges = λ xs known len. rest_begin _ ranges_text xs _ _ known len;
+  steady = refl;
+}
+
+pub returns-in-Err-clause-writes : goal.returns-in-Err-clause-writes
+returns-in-Err-clause-writes g c xs known len = ranges_stop _ _ _ c.loop-left.left _ (c.loop-left.invariant.ranges xs known len)
+
+pub returns-in-Err-put_part-clause-writes : goal.returns-in-Err-put_part-clause-writes
+returns-in-Err-put_part-clause-writes g c xs known len =
+    let old = g.V.DumpView.cursor c.loop-left.view in
+    let new = g.V.DumpView.cursor c.next_record.new.self in
+    let n = next_of old new c.in-Ok.fields c.loop-left.left _ (c.loop-left.invariant.ranges xs known len) c.in-Ok.ensures.gives in
+    ranges_cut _ _ _ _ new c.in-Ok.fields c.loop-left.left n (c.in-Err-put_part.ensures.writes n.first.parts n.parts (n.sized 0 ∙ ap (λ (h : Fields). size_in (size_at h 0)) n.same ∙ sym c.size.ensures))
+
+pub returns-in-Err-put_part-clause-cause : goal.returns-in-Err-put_part-clause-cause
+returns-in-Err-put_part-clause-cause g c =
+    let state = g.O.Out.state in
+    cause_after (Err c.in-Err-put_part.fault) (state c.args.out.now) (state c.loop-left.out) (state c.put_part.new.out) _ _ c.loop-left.invariant.steady
+    (ap (λ (s : Shape). s.is_reliable) (c.next_record.ensures.shape ∙ c.loop-left.invariant.shape)) c.in-Err-put_part.ensures.cause
+
+pub loop-left-preserved : goal.loop-left-preserved
+loop-left-preserved g c =
+    let old = g.V.DumpView.cursor c.loop-left.view in
+    let new = g.V.DumpView.cursor c.next_record.new.self in
+    let now = g.V.DumpView.cursor c.put_part.new.view in
+    let stays : now ≡ new = c.in-Ok-put_part.ensures.cursor in
+    let gives = c.in-Ok.ensures.gives in
+    record {
+      shape = c.put_part.ensures.shape ∙ c.next_record.ensures.shape ∙ c.loop-left.invariant.shape;
+      count = rw stays (omega (arith, gives.records, c.loop-left.invariant.count));
+      ranges = λ xs known len.
+          let n = next_of old new c.in-Ok.fields c.loop-left.left _ (c.loop-left.invariant.ranges xs known len) gives in
+          ranges_put _ _ _ _ new now c.in-Ok.fields _ c.loop-left.left n (omega arith) (ap (λ (k : Cursor). k.seen) stays)
+          (c.in-Ok-put_part.ensures.writes n.first.parts n.parts (n.sized 0 ∙ ap (λ (h : Fields). size_in (size_at h 0)) n.same ∙ sym c.size.ensures));
+      steady = c.in-Ok-put_part.ensures.cause ∙ c.loop-left.invariant.steady;
+    }
+
+pub returns-clause-writes : goal.returns-clause-writes
+returns-clause-writes g c xs known len = ranges_done _ _ _ c.loop-left.left _ (omega arith) (c.loop-left.invariant.ranges xs known len)

@@ -1,0 +1,20 @@
+use Rattle.std.proofs.Common.{◌≡◌, List, Some, length}
+use Rattle.mdmp_dump.specs.Seen.{Seen}
+use Rattle.mdmp_writer.specs.Gather.{gathered}
+use Rattle.mdmp_writer.specs.Written.{ranges_text}
+use Rattle.mdmp_writer.proofs.Loops.{RestIs, RangesLeft}
+use Rattle.mdmp_writer.proofs.far_out.put_ranges.Given as goal
+
+abbrev pub invariant-loop-left : goal.invariant-loop-left
+invariant-loop-left g l =
+    let state = g.O.Out.state in
+    record {
+      shape : g.V.DumpView.shape l.view ≡ g.V.DumpView.shape l.fn.view;
+      count : (g.V.DumpView.cursor l.view).records ≡ l.left;
+      ranges : (xs : List Seen) → (g.V.DumpView.cursor l.fn.view).seen ≡ Some xs → length xs ≡ l.count
+          → RestIs (g.V.DumpView.cursor l.view).seen l.left (RangesLeft (gathered (state l.fn.out) l.fn.gather) (ranges_text xs) (gathered (state l.out) l.gather));
+      steady : (state l.out).failures ≡ (state l.fn.out).failures;
+    }
+
+abbrev pub decreases-loop-left : goal.decreases-loop-left
+decreases-loop-left g l = l.left

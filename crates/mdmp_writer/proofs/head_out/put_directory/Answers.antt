@@ -1,0 +1,74 @@
+use Rattle.std.proofs.Common.{◌≡◌, ◌<◌, ◌≤◌, ◌+◌, ◌^◌, ◌∙◌, ap, arith, refl, sym, subst, length, ℕ, true}
+use Rattle.mdmp_dump.specs.Shape.{Shape, body_of, stream_at}
+use Rattle.mdmp_writer.specs.Layout.{block_size, far_size}
+use Rattle.mdmp_writer.specs.Written.{entry_of}
+use Rattle.mdmp_writer.proofs.Sending.{left_begin, left_none}
+use Rattle.mdmp_writer.proofs.Streaming.{directory_none, entry_cut, entry_put}
+use Rattle.mdmp_writer.proofs.Sums.{blocks_next, ends_below, far_within}
+use Rattle.mdmp_writer.proofs.head_out.put_directory.Goals as goal
+
+pub loop-stream-init : goal.loop-stream-init
+loop-stream-init g c = record {
+  shape = c.streams-stream-end.ensures.shape;
+  steady = refl;
+  at = omega (arith, c.requires.first);
+  left = left_begin _ _;
+}
+
+pub room_for-room-requires-clause-block : goal.room_for-room-requires-clause-block
+room_for-room-requires-clause-block g c =
+    let s = g.V.DumpView.shape c.args.view.now in
+    let k = c.loop-stream.stream in
+    let fewer : k < length s.streams = omega (arith, c.loop-stream-test.true, c.streams-stream-end.ensures.count) in
+    subst (λ (t : Shape). block_size (stream_at t k) < 2 ^ 33) (sym c.loop-stream.invariant.shape) (omega (arith, ends_below s k c.loop-stream.at fewer c.loop-stream.invariant.at, c.requires.low))
+
+pub room_for-room-requires-clause-far : goal.room_for-room-requires-clause-far
+room_for-room-requires-clause-far g c =
+    let s = g.V.DumpView.shape c.args.view.now in
+    let k = c.loop-stream.stream in
+    subst (λ (t : Shape). far_size (stream_at t k) < 2 ^ 64) (sym c.loop-stream.invariant.shape) (omega (arith, far_within s.streams k, c.requires.short))
+
+pub entry_for-entry-requires-clause-body : goal.entry_for-entry-requires-clause-body
+entry_for-entry-requires-clause-body g c =
+    let s = g.V.DumpView.shape c.args.view.now in
+    let k = c.loop-stream.stream in
+    let fewer : k < length s.streams = omega (arith, c.loop-stream-test.true, c.streams-stream-end.ensures.count) in
+    subst (λ (t : Shape). body_of (stream_at t k) < 2 ^ 32) (sym (c.room_for-room.ensures.shape ∙ c.loop-stream.invariant.shape)) (omega (arith, ends_below s k c.loop-stream.at fewer c.loop-stream.invariant.at, c.requires.low))
+
+pub overflow_add-at : goal.overflow_add-at
+overflow_add-at g c =
+    let s = g.V.DumpView.shape c.args.view.now in
+    let k = c.loop-stream.stream in
+    let fewer : k < length s.streams = omega (arith, c.loop-stream-test.true, c.streams-stream-end.ensures.count) in
+    let room : c.room_for-room.result.block ≡ block_size (stream_at s k) = c.room_for-room.ensures.room.0 ∙ ap (λ (t : Shape). block_size (stream_at t k)) c.loop-stream.invariant.shape in
+    omega (arith, room, ends_below s k c.loop-stream.at fewer c.loop-stream.invariant.at, c.requires.low)
+
+pub returns-in-Err-clause-writes : goal.returns-in-Err-clause-writes
+returns-in-Err-clause-writes g c =
+    let s = g.V.DumpView.shape c.args.view.now in
+    let k = c.loop-stream.stream in
+    let at = c.loop-stream.at in
+    let fewer : k < length s.streams = omega (arith, c.loop-stream-test.true, c.streams-stream-end.ensures.count) in
+    let is : c.entry_for-entry.result ≡ entry_of (stream_at s k) at = c.entry_for-entry.ensures.entry ∙ ap (λ (t : Shape). entry_of (stream_at t k) at) (c.room_for-room.ensures.shape ∙ c.loop-stream.invariant.shape) in
+    entry_cut s k at c.entry_for-entry.result _ _ _ _ fewer is c.loop-stream.invariant.left c.in-Err.ensures.writes
+
+pub loop-stream-preserved : goal.loop-stream-preserved
+loop-stream-preserved g c =
+    let s = g.V.DumpView.shape c.args.view.now in
+    let k = c.loop-stream.stream in
+    let at = c.loop-stream.at in
+    let fewer : k < length s.streams = omega (arith, c.loop-stream-test.true, c.streams-stream-end.ensures.count) in
+    let is : c.entry_for-entry.result ≡ entry_of (stream_at s k) at = c.entry_for-entry.ensures.entry ∙ ap (λ (t : Shape). entry_of (stream_at t k) at) (c.room_for-room.ensures.shape ∙ c.loop-stream.invariant.shape) in
+    let room : c.room_for-room.result.block ≡ block_size (stream_at s k) = c.room_for-room.ensures.room.0 ∙ ap (λ (t : Shape). block_size (stream_at t k)) c.loop-stream.invariant.shape in
+    record {
+      shape = c.entry_for-entry.ensures.shape ∙ c.room_for-room.ensures.shape ∙ c.loop-stream.invariant.shape;
+      steady = c.in-Ok.ensures.cause true ∙ c.loop-stream.invariant.steady;
+      at = omega (arith, room, blocks_next s k fewer, c.loop-stream.invariant.at);
+      left = entry_put s k at _ c.entry_for-entry.result _ _ _ _ fewer is (ap (λ (n : ℕ). at + n) room) c.loop-stream.invariant.left c.in-Ok.ensures.writes;
+    }
+
+pub returns-clause-writes : goal.returns-clause-writes
+returns-clause-writes g c =
+    let s = g.V.DumpView.shape c.args.view.now in
+    let past : length s.streams ≤ c.loop-stream.stream = omega (arith, c.loop-stream-test.false, c.streams-stream-end.ensures.count) in
+    left_none _ _ _ _ (directory_none s c.loop-stream.stream c.loop-stream.at past) c.loop-stream.invariant.left

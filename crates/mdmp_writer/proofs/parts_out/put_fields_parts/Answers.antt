@@ -1,0 +1,55 @@
+use Rattle.std.proofs.Common.{◌∙◌, List, ℕ, refl, sym, ap, subst}
+use Rattle.mdmp_dump.specs.declared.view.Fields.{Fields}
+use Rattle.mdmp_dump.specs.Placed.{size_at, size_in}
+use Rattle.mdmp_dump.specs.Shape.{Cursor}
+use Rattle.mdmp_writer.specs.Gather.{Puts, gathered}
+use Rattle.mdmp_writer.proofs.Padded.{exception_text, memory_text, module_text, name_text, no_text, system_text, unloaded_text}
+use Rattle.mdmp_writer.proofs.Sending.{cut_before, cut_same, puts_nothing, writes_same, writes_then}
+use Rattle.mdmp_writer.proofs.parts_out.put_fields_parts.Goals as goal
+
+pub returns-in-Memory-clause-writes : goal.returns-in-Memory-clause-writes
+returns-in-Memory-clause-writes g c x known sized same =
+    let state = g.O.Out.state in
+    writes_same c.put_padded.result (gathered (state c.args.out.now) c.args.gather.now) (gathered (state c.put_padded.new.out) c.put_padded.new.gather) _ _ (memory_text _ x c.args.fields.now same c.in-Memory.is)
+    (c.put_padded.ensures.writes x.parts known (sized 0 ∙ ap (λ (h : Fields). size_in (size_at h 0)) same))
+
+pub returns-in-Exception-clause-writes : goal.returns-in-Exception-clause-writes
+returns-in-Exception-clause-writes g c x known sized same =
+    let state = g.O.Out.state in
+    writes_same c.put_padded-in-Exception.result (gathered (state c.args.out.now) c.args.gather.now) (gathered (state c.put_padded-in-Exception.new.out) c.put_padded-in-Exception.new.gather) _ _ (exception_text _ x c.args.fields.now same c.in-Exception.is)
+    (c.put_padded-in-Exception.ensures.writes x.parts known (sized 0 ∙ ap (λ (h : Fields). size_in (size_at h 0)) same))
+
+pub returns-in-System-clause-writes : goal.returns-in-System-clause-writes
+returns-in-System-clause-writes g c x known sized same =
+    let state = g.O.Out.state in
+    writes_same c.put_name-in-System.result (gathered (state c.args.out.now) c.args.gather.now) (gathered (state c.put_name-in-System.new.out) c.put_name-in-System.new.gather) _ _ (system_text _ x c.args.fields.now same c.in-System.is)
+    (c.put_name-in-System.ensures.writes x.parts known (sized 0 ∙ ap (λ (h : Fields). size_in (size_at h 0)) same))
+
+pub returns-in-Unloaded-clause-writes : goal.returns-in-Unloaded-clause-writes
+returns-in-Unloaded-clause-writes g c x known sized same =
+    let state = g.O.Out.state in
+    writes_same c.put_name-in-Unloaded.result (gathered (state c.args.out.now) c.args.gather.now) (gathered (state c.put_name-in-Unloaded.new.out) c.put_name-in-Unloaded.new.gather) _ _ (unloaded_text _ x c.args.fields.now same c.in-Unloaded.is)
+    (c.put_name-in-Unloaded.ensures.writes x.parts known (sized 0 ∙ ap (λ (h : Fields). size_in (size_at h 0)) same))
+
+pub returns-in-Ok-clause-writes : goal.returns-in-Ok-clause-writes
+returns-in-Ok-clause-writes g c x known sized same =
+    let state = g.O.Out.state in
+    let size = λ (k : ℕ). sized k ∙ ap (λ (h : Fields). size_in (size_at h k)) same in
+    writes_same c.put_two-in-Ok.result (gathered (state c.args.out.now) c.args.gather.now) (gathered (state c.put_two-in-Ok.new.out) c.put_two-in-Ok.new.gather) _ _ (module_text _ x c.args.fields.now same c.in-Module.is)
+    (writes_then c.put_two-in-Ok.result _ _ _ (name_text x c.args.fields.now) _ (c.in-Ok.ensures.writes x.parts known (size 0))
+    (c.put_two-in-Ok.ensures.writes x.parts (ap (λ (k : Cursor). k.parts) c.in-Ok.ensures.cursor ∙ known) (size 1) (size 2)))
+
+pub returns-in-Err-clause-writes : goal.returns-in-Err-clause-writes
+returns-in-Err-clause-writes g c x known sized same =
+    cut_same _ _ _ _ (module_text _ x c.args.fields.now same c.in-Module.is)
+    (cut_before _ _ (name_text x c.args.fields.now) _ (c.in-Err.ensures.writes x.parts known (sized 0 ∙ ap (λ (h : Fields). size_in (size_at h 0)) same)))
+
+pub returns-in-Memory64-clause-writes : goal.returns-in-Memory64-clause-writes
+returns-in-Memory64-clause-writes g c x known sized same =
+    subst (λ (t : List ℕ). Puts (gathered (g.O.Out.state c.args.out.now) c.args.gather.now) t (gathered (g.O.Out.state c.args.out.now) c.args.gather.now))
+    (sym (no_text x c.args.fields.now _ same c.in-Memory64.is refl)) (puts_nothing _)
+
+pub returns-in-MemoryInfo-clause-writes : goal.returns-in-MemoryInfo-clause-writes
+returns-in-MemoryInfo-clause-writes g c x known sized same =
+    subst (λ (t : List ℕ). Puts (gathered (g.O.Out.state c.args.out.now) c.args.gather.now) t (gathered (g.O.Out.state c.args.out.now) c.args.gather.now))
+    (sym (no_text x c.args.fields.now _ same c.in-MemoryInfo.is refl)) (puts_nothing _)

@@ -1,0 +1,30 @@
+use Rattle.std.proofs.Common.{◌≡◌, ◌+◌, ◌++◌, [], get_or, length, refl, sym, true}
+use Rattle.mdmp_wire.specs.Number.{le, zeros}
+use Rattle.mdmp_writer.specs.Gather.{gathered}
+use Rattle.mdmp_writer.specs.Written.{padding}
+use Rattle.mdmp_writer.proofs.Causes.{cause_after}
+use Rattle.mdmp_writer.proofs.Padded.{around_units}
+use Rattle.mdmp_writer.proofs.Sending.{cut_before, cut_same, writes_same, writes_then}
+use Rattle.mdmp_writer.proofs.parts_out.put_name.Goals as goal
+
+pub returns-in-Ok-clause-writes : goal.returns-in-Ok-clause-writes
+returns-in-Ok-clause-writes g c ps known len =
+    let state = g.O.Out.state in
+    let b = get_or ps 0 [] in
+    let n = c.in-Size.size in
+    let size : length b ≡ n = rw c.in-Size.is at len in
+    rw c.in-Size.is
+    (writes_same c.put_units.result (gathered (state c.args.out.now) c.args.gather.now) (gathered (state c.put_units.new.out) c.put_units.new.gather) _ _ (sym (around_units n b size))
+    (writes_then c.put_units.result _ _ _ (le 4 n) (b ++ zeros 2 ++ padding (4 + n + 2)) c.in-Ok.ensures.writes (c.put_units.ensures.writes ps known size)))
+
+pub returns-in-Ok-clause-cause : goal.returns-in-Ok-clause-cause
+returns-in-Ok-clause-cause g c =
+    let state = g.O.Out.state in
+    cause_after c.put_units.result (state c.args.out.now) (state c.put_record.new.out) (state c.put_units.new.out) _ _ (c.in-Ok.ensures.cause true) refl c.put_units.ensures.cause
+
+pub returns-in-Err-clause-writes : goal.returns-in-Err-clause-writes
+returns-in-Err-clause-writes g c ps known len =
+    let b = get_or ps 0 [] in
+    let n = c.in-Size.size in
+    let size : length b ≡ n = rw c.in-Size.is at len in
+    rw c.in-Size.is (cut_same _ _ _ _ (sym (around_units n b size)) (cut_before _ _ (le 4 n) (b ++ zeros 2 ++ padding (4 + n + 2)) c.in-Err.ensures.writes))

@@ -1,0 +1,21 @@
+use Rattle.std.proofs.Common.{◌≡◌, ◌≤◌, List, Some, length}
+use Rattle.mdmp_dump.specs.Seen.{Seen}
+use Rattle.mdmp_writer.specs.Gather.{gathered}
+use Rattle.mdmp_writer.specs.Written.{all_padded, parts_of}
+use Rattle.mdmp_writer.proofs.Loops.{RestIs, PartsLeft}
+use Rattle.mdmp_writer.proofs.parts_out.put_parts.Given as goal
+
+abbrev pub invariant-loop-left : goal.invariant-loop-left
+invariant-loop-left g l =
+    let state = g.O.Out.state in
+    record {
+      shape : g.V.DumpView.shape l.view ≡ g.V.DumpView.shape l.fn.view;
+      count : (g.V.DumpView.cursor l.view).records ≡ l.left;
+      room : (g.V.DumpView.cursor l.view).room ≤ (g.V.DumpView.cursor l.fn.view).room;
+      parts : (xs : List Seen) → (g.V.DumpView.cursor l.fn.view).seen ≡ Some xs → length xs ≡ l.count
+          → RestIs (g.V.DumpView.cursor l.view).seen l.left (PartsLeft (gathered (state l.fn.out) l.fn.gather) (all_padded (parts_of xs)) (gathered (state l.out) l.gather));
+      steady : (state l.out).failures ≡ (state l.fn.out).failures;
+    }
+
+abbrev pub decreases-loop-left : goal.decreases-loop-left
+decreases-loop-left g l = l.left

@@ -1,0 +1,24 @@
+use Rattle.std.proofs.Common.{◌∙◌, [], get_or, arith, ap}
+use Rattle.mdmp_dump.specs.Shape.{Cursor}
+use Rattle.mdmp_writer.proofs.Sending.{cut_none, cut_at, puts_piece}
+use Rattle.mdmp_writer.proofs.pieces.put_part.Goals as goal
+
+pub returns-in-Err-clause-writes : goal.returns-in-Err-clause-writes
+returns-in-Err-clause-writes g c ps known len = cut_none _ _ _ (get_or ps c.args.which []) c.in-Err.ensures.held
+
+pub loop-at-preserved : goal.loop-at-preserved
+loop-at-preserved g c =
+    let so_far = c.loop-at.invariant in
+    let more = c.in-Ok-fetch_more.ensures in
+    record {
+      shape = c.fetch_more.ensures.shape ∙ so_far.shape;
+      cursor = more.bound.2 ∙ so_far.cursor;
+      within = omega (arith, more.bound);
+      puts = λ ps known. puts_piece _ _ _ (get_or ps c.args.which []) c.loop-at.at c.in-Ok-fetch_more.count (so_far.puts ps known)
+          (more.puts ps (ap (λ (k : Cursor). k.parts) so_far.cursor ∙ known));
+      steady = more.cause ∙ so_far.steady;
+    }
+
+pub returns-in-Err-fetch_more-clause-writes : goal.returns-in-Err-fetch_more-clause-writes
+returns-in-Err-fetch_more-clause-writes g c ps known len =
+    cut_at _ _ _ (get_or ps c.args.which []) c.loop-at.at (c.loop-at.invariant.puts ps known) c.in-Err-fetch_more.ensures.puts

@@ -1,0 +1,46 @@
+use Rattle.std.proofs.Common.{◌+◌, ◌∙◌, ℕ, arith, refl, sym, ap, true, Err}
+use Rattle.mdmp_writer.specs.Written.{rows}
+use Rattle.mdmp_writer.proofs.Causes.{cause_after}
+use Rattle.mdmp_writer.proofs.Loops.{next_of, rest_begin, row_cut, row_put, rows_stop, rows_done}
+use Rattle.mdmp_writer.proofs.rows_out.put_rows.Goals as goal
+
+pub loop-left-init : goal.loop-left-init
+loop-left-init g c = record {
+  shape = refl;
+  count = sym c.requires.count;
+  room = refl;
+  rows = λ xs known len. rest_begin _ (rows c.args.at) xs _ _ known len;
+  steady = refl;
+}
+
+pub returns-in-Err-clause-writes : goal.returns-in-Err-clause-writes
+returns-in-Err-clause-writes g c xs known len = rows_stop _ _ _ c.loop-left.place c.loop-left.left _ (c.loop-left.invariant.rows xs known len)
+
+pub returns-in-Err-put_any-clause-writes : goal.returns-in-Err-put_any-clause-writes
+returns-in-Err-put_any-clause-writes g c xs known len =
+    let old = g.V.DumpView.cursor c.loop-left.view in
+    let new = g.V.DumpView.cursor c.next_record.new.self in
+    row_cut _ _ _ _ new c.in-Ok.fields c.loop-left.place c.loop-left.left (next_of old new c.in-Ok.fields c.loop-left.left _ (c.loop-left.invariant.rows xs known len) c.in-Ok.ensures.gives) (rw c.placed.ensures at c.in-Err-put_any.ensures.writes)
+
+pub returns-in-Err-put_any-clause-cause : goal.returns-in-Err-put_any-clause-cause
+returns-in-Err-put_any-clause-cause g c =
+    let state = g.O.Out.state in
+    cause_after (Err c.in-Err-put_any.fault) (state c.args.out.now) (state c.loop-left.out) (state c.put_any.new.out) _ _ c.loop-left.invariant.steady refl (c.in-Err-put_any.ensures.cause (g.V.DumpView.shape c.args.view.now).is_reliable)
+
+pub loop-left-preserved : goal.loop-left-preserved
+loop-left-preserved g c =
+    let old = g.V.DumpView.cursor c.loop-left.view in
+    let new = g.V.DumpView.cursor c.next_record.new.self in
+    let gives = c.in-Ok.ensures.gives in
+    record {
+      shape = c.next_record.ensures.shape ∙ c.loop-left.invariant.shape;
+      count = omega (arith, gives.records, c.loop-left.invariant.count);
+      room = omega (arith, gives.room, c.loop-left.invariant.room, c.room.ensures.value);
+      rows = λ xs known len. row_put _ _ _ _ new c.in-Ok.fields c.loop-left.place _ _ c.loop-left.left
+          (next_of old new c.in-Ok.fields c.loop-left.left _ (c.loop-left.invariant.rows xs known len) gives) (omega arith)
+          (ap (λ (n : ℕ). c.loop-left.place + n) c.room.ensures.value) (rw c.placed.ensures at c.in-Ok-put_any.ensures.writes);
+      steady = c.in-Ok-put_any.ensures.cause true ∙ c.loop-left.invariant.steady;
+    }
+
+pub returns-clause-writes : goal.returns-clause-writes
+returns-clause-writes g c xs known len = rows_done _ _ _ c.loop-left.place c.loop-left.left _ (omega arith) (c.loop-left.invariant.rows xs known len)

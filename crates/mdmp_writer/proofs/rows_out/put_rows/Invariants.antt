@@ -1,0 +1,21 @@
+use Rattle.std.proofs.Common.{◌≡◌, ◌+◌, List, Some, length}
+use Rattle.mdmp_dump.specs.Seen.{Seen}
+use Rattle.mdmp_writer.specs.Gather.{gathered}
+use Rattle.mdmp_writer.specs.Written.{rows}
+use Rattle.mdmp_writer.proofs.Loops.{RestIs, RowsLeft}
+use Rattle.mdmp_writer.proofs.rows_out.put_rows.Given as goal
+
+abbrev pub invariant-loop-left : goal.invariant-loop-left
+invariant-loop-left g l =
+    let state = g.O.Out.state in
+    record {
+      shape : g.V.DumpView.shape l.view ≡ g.V.DumpView.shape l.fn.view;
+      count : (g.V.DumpView.cursor l.view).records ≡ l.left;
+      room : l.place + (g.V.DumpView.cursor l.view).room ≡ l.at + (g.V.DumpView.cursor l.fn.view).room;
+      rows : (xs : List Seen) → (g.V.DumpView.cursor l.fn.view).seen ≡ Some xs → length xs ≡ l.count
+          → RestIs (g.V.DumpView.cursor l.view).seen l.left (RowsLeft (gathered (state l.fn.out) l.fn.gather) (rows l.at xs) (gathered (state l.out) l.gather) l.place);
+      steady : (state l.out).failures ≡ (state l.fn.out).failures;
+    }
+
+abbrev pub decreases-loop-left : goal.decreases-loop-left
+decreases-loop-left g l = l.left

@@ -1,0 +1,82 @@
+use Rattle.std.proofs.Common.{◌≡◌, ◌<◌, ◌≤◌, ◌+◌, ◌^◌, ◌∙◌, ℕ, ap, arith, refl, sym, subst, length}
+use Rattle.mdmp_dump.specs.Shape.{Shape, stream_at}
+use Rattle.mdmp_writer.specs.Layout.{block_size, far_size}
+use Rattle.mdmp_writer.proofs.Sending.{left_begin, left_none}
+use Rattle.mdmp_writer.proofs.Streaming.{blocks_none, block_cut, block_put}
+use Rattle.mdmp_writer.proofs.Sums.{blocks_next, fars_next, ends_below, far_within}
+use Rattle.mdmp_writer.proofs.streams_out.put_blocks.Goals as goal
+
+pub loop-stream-init : goal.loop-stream-init
+loop-stream-init g c = record {
+  shape = c.streams-stream-end.ensures.shape;
+  steady = refl;
+  at = omega (arith, c.requires.at);
+  far = omega (arith, c.requires.far);
+  left = λ x known all. left_begin _ _;
+}
+
+pub room_for-room-requires-clause-block : goal.room_for-room-requires-clause-block
+room_for-room-requires-clause-block g c =
+    let s = g.V.DumpView.shape c.args.view.now in
+    let k = c.loop-stream.stream in
+    let fewer : k < length s.streams = omega (arith, c.loop-stream-test.true, c.streams-stream-end.ensures.count) in
+    subst (λ (t : Shape). block_size (stream_at t k) < 2 ^ 33) (sym c.loop-stream.invariant.shape) (omega (arith, ends_below s k c.loop-stream.at fewer c.loop-stream.invariant.at, c.requires.low))
+
+pub room_for-room-requires-clause-far : goal.room_for-room-requires-clause-far
+room_for-room-requires-clause-far g c =
+    let s = g.V.DumpView.shape c.args.view.now in
+    let k = c.loop-stream.stream in
+    subst (λ (t : Shape). far_size (stream_at t k) < 2 ^ 64) (sym c.loop-stream.invariant.shape) (omega (arith, far_within s.streams k, c.requires.short))
+
+pub put_block-requires-clause-room : goal.put_block-requires-clause-room
+put_block-requires-clause-room g c =
+    let s = g.V.DumpView.shape c.args.view.now in
+    let k = c.loop-stream.stream in
+    let fewer : k < length s.streams = omega (arith, c.loop-stream-test.true, c.streams-stream-end.ensures.count) in
+    subst (λ (t : Shape). c.loop-stream.at + block_size (stream_at t k) < 2 ^ 32) (sym (c.room_for-room.ensures.shape ∙ c.loop-stream.invariant.shape)) (omega (arith, ends_below s k c.loop-stream.at fewer c.loop-stream.invariant.at, c.requires.low))
+
+pub returns-in-Err-clause-writes : goal.returns-in-Err-clause-writes
+returns-in-Err-clause-writes g c x known all =
+    let s = g.V.DumpView.shape c.args.view.now in
+    let k = c.loop-stream.stream in
+    let fewer : k < length s.streams = omega (arith, c.loop-stream-test.true, c.streams-stream-end.ensures.count) in
+    block_cut s x k c.loop-stream.at c.loop-stream.far _ _ _ _ (g.met.V.DumpView.sound c.args.view.now x known) fewer (c.loop-stream.invariant.left x known all)
+    (c.in-Err.ensures.writes x (ap (λ (t : Shape). t.seen) (c.room_for-room.ensures.shape ∙ c.loop-stream.invariant.shape) ∙ known) (all k))
+
+pub loop-stream-preserved : goal.loop-stream-preserved
+loop-stream-preserved g c =
+    let s = g.V.DumpView.shape c.args.view.now in
+    let k = c.loop-stream.stream in
+    let fewer : k < length s.streams = omega (arith, c.loop-stream-test.true, c.streams-stream-end.ensures.count) in
+    let block : c.room_for-room.result.block ≡ block_size (stream_at s k) = c.room_for-room.ensures.room.0 ∙ ap (λ (t : Shape). block_size (stream_at t k)) c.loop-stream.invariant.shape in
+    let far : c.room_for-room.result.far ≡ far_size (stream_at s k) = c.room_for-room.ensures.room.1 ∙ ap (λ (t : Shape). far_size (stream_at t k)) c.loop-stream.invariant.shape in
+    record {
+      shape = c.put_block.ensures.shape ∙ c.room_for-room.ensures.shape ∙ c.loop-stream.invariant.shape;
+      steady = c.in-Ok.ensures.cause ∙ c.loop-stream.invariant.steady;
+      at = omega (arith, block, blocks_next s k fewer, c.loop-stream.invariant.at);
+      far = omega (arith, far, fars_next s k fewer, c.loop-stream.invariant.far);
+      left = λ x known all. block_put s x k c.loop-stream.at c.loop-stream.far _ _ _ _ _ _ (g.met.V.DumpView.sound c.args.view.now x known) fewer (ap (λ (n : ℕ). c.loop-stream.at + n) block) (ap (λ (n : ℕ). c.loop-stream.far + n) far)
+          (c.loop-stream.invariant.left x known all) (c.in-Ok.ensures.writes x (ap (λ (t : Shape). t.seen) (c.room_for-room.ensures.shape ∙ c.loop-stream.invariant.shape) ∙ known) (all k));
+    }
+
+pub returns-clause-writes : goal.returns-clause-writes
+returns-clause-writes g c x known all =
+    let s = g.V.DumpView.shape c.args.view.now in
+    let past : length s.streams ≤ c.loop-stream.stream = omega (arith, c.loop-stream-test.false, c.streams-stream-end.ensures.count) in
+    left_none _ _ _ _ (blocks_none s x c.loop-stream.stream c.loop-stream.at c.loop-stream.far (g.met.V.DumpView.sound c.args.view.now x known) past) (c.loop-stream.invariant.left x known all)
+
+pub overflow_add-at : goal.overflow_add-at
+overflow_add-at g c =
+    let s = g.V.DumpView.shape c.args.view.now in
+    let k = c.loop-stream.stream in
+    let fewer : k < length s.streams = omega (arith, c.loop-stream-test.true, c.streams-stream-end.ensures.count) in
+    let block : c.room_for-room.result.block ≡ block_size (stream_at s k) = c.room_for-room.ensures.room.0 ∙ ap (λ (t : Shape). block_size (stream_at t k)) c.loop-stream.invariant.shape in
+    omega (arith, block, ends_below s k c.loop-stream.at fewer c.loop-stream.invariant.at, c.requires.low)
+
+pub overflow_add-far : goal.overflow_add-far
+overflow_add-far g c =
+    let s = g.V.DumpView.shape c.args.view.now in
+    let k = c.loop-stream.stream in
+    let fewer : k < length s.streams = omega (arith, c.loop-stream-test.true, c.streams-stream-end.ensures.count) in
+    let far : c.room_for-room.result.far ≡ far_size (stream_at s k) = c.room_for-room.ensures.room.1 ∙ ap (λ (t : Shape). far_size (stream_at t k)) c.loop-stream.invariant.shape in
+    omega (arith, far, fars_next s k fewer, c.loop-stream.invariant.far, c.requires.short)

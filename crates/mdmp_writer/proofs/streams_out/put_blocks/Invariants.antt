@@ -1,0 +1,17 @@
+use Rattle.std.proofs.Common.{◌≡◌, ◌+◌, drop, Some}
+use Rattle.mdmp_dump.specs.View.{DumpSeen}
+use Rattle.mdmp_writer.specs.Block.{AllAreKnown}
+use Rattle.mdmp_writer.specs.Gather.{gathered, IsLeft}
+use Rattle.mdmp_writer.specs.Layout.{blocks_end, blocks_size, fars_size, file_size}
+use Rattle.mdmp_writer.specs.Written.{blocks}
+use Rattle.mdmp_writer.proofs.streams_out.put_blocks.Given as goal
+
+abbrev pub invariant-loop-stream : goal.invariant-loop-stream
+invariant-loop-stream g l = record {
+  shape : g.V.DumpView.shape l.view ≡ g.V.DumpView.shape l.fn.view;
+  steady : (g.O.Out.state l.out).failures ≡ (g.O.Out.state l.fn.out).failures;
+  at : l.at + blocks_size (drop l.stream (g.V.DumpView.shape l.fn.view).streams) ≡ blocks_end (g.V.DumpView.shape l.fn.view).streams;
+  far : l.far + fars_size (drop l.stream (g.V.DumpView.shape l.fn.view).streams) ≡ file_size (g.V.DumpView.shape l.fn.view).streams;
+  left : (x : DumpSeen) → (g.V.DumpView.shape l.fn.view).seen ≡ Some x → AllAreKnown x
+      → IsLeft (gathered (g.O.Out.state l.fn.out) l.fn.gather) (blocks x.streams l.fn.first.at l.fn.first.far) (gathered (g.O.Out.state l.out) l.gather) (blocks (drop l.stream x.streams) l.at l.far);
+}

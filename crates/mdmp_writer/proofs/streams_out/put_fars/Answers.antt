@@ -1,0 +1,50 @@
+use Rattle.std.proofs.Common.{◌<◌, ◌≤◌, ◌^◌, ◌∙◌, ap, arith, refl, sym, subst, length}
+use Rattle.mdmp_dump.specs.Shape.{Shape, body_of, stream_at}
+use Rattle.mdmp_writer.specs.Layout.{far_size}
+use Rattle.mdmp_writer.proofs.Sending.{left_begin, left_none}
+use Rattle.mdmp_writer.proofs.Streaming.{fars_none, far_cut, far_put}
+use Rattle.mdmp_writer.proofs.Sums.{block_within, far_within}
+use Rattle.mdmp_writer.proofs.streams_out.put_fars.Goals as goal
+
+pub loop-stream-init : goal.loop-stream-init
+loop-stream-init g c = record {
+  shape = c.streams-stream-end.ensures.shape;
+  steady = refl;
+  left = λ x known. left_begin _ _;
+}
+
+pub put_far-requires-clause-room : goal.put_far-requires-clause-room
+put_far-requires-clause-room g c =
+    let s = g.V.DumpView.shape c.args.view.now in
+    let k = c.loop-stream.stream in
+    subst (λ (t : Shape). far_size (stream_at t k) < 2 ^ 64) (sym c.loop-stream.invariant.shape) (omega (arith, far_within s.streams k, c.requires.short))
+
+pub returns-in-Err-clause-writes : goal.returns-in-Err-clause-writes
+returns-in-Err-clause-writes g c x known =
+    let s = g.V.DumpView.shape c.args.view.now in
+    let k = c.loop-stream.stream in
+    let fewer : k < length s.streams = omega (arith, c.loop-stream-test.true, c.streams-stream-end.ensures.count) in
+    far_cut s x k _ _ _ _ (g.met.V.DumpView.sound c.args.view.now x known) fewer (c.loop-stream.invariant.left x known) (c.in-Err.ensures.writes x (ap (λ (t : Shape). t.seen) c.loop-stream.invariant.shape ∙ known))
+
+pub loop-stream-preserved : goal.loop-stream-preserved
+loop-stream-preserved g c =
+    let s = g.V.DumpView.shape c.args.view.now in
+    let k = c.loop-stream.stream in
+    let fewer : k < length s.streams = omega (arith, c.loop-stream-test.true, c.streams-stream-end.ensures.count) in
+    record {
+      shape = c.put_far.ensures.shape ∙ c.loop-stream.invariant.shape;
+      steady = c.in-Ok.ensures.cause ∙ c.loop-stream.invariant.steady;
+      left = λ x known. far_put s x k _ _ _ _ (g.met.V.DumpView.sound c.args.view.now x known) fewer (c.loop-stream.invariant.left x known) (c.in-Ok.ensures.writes x (ap (λ (t : Shape). t.seen) c.loop-stream.invariant.shape ∙ known));
+    }
+
+pub returns-clause-writes : goal.returns-clause-writes
+returns-clause-writes g c x known =
+    let s = g.V.DumpView.shape c.args.view.now in
+    let past : length s.streams ≤ c.loop-stream.stream = omega (arith, c.loop-stream-test.false, c.streams-stream-end.ensures.count) in
+    left_none _ _ _ _ (fars_none s x c.loop-stream.stream (g.met.V.DumpView.sound c.args.view.now x known) past) (c.loop-stream.invariant.left x known)
+
+pub put_far-requires-clause-body : goal.put_far-requires-clause-body
+put_far-requires-clause-body g c =
+    let s = g.V.DumpView.shape c.args.view.now in
+    let k = c.loop-stream.stream in
+    subst (λ (t : Shape). body_of (stream_at t k) < 2 ^ 32) (sym c.loop-stream.invariant.shape) (omega (arith, block_within s.streams k, c.requires.low))

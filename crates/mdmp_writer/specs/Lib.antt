@@ -1,0 +1,7 @@
+pub mod Block
+pub mod Cause
+pub mod Gather
+pub mod Layout
+pub mod RoundTrip
+pub mod Writing
+pub mod Written

@@ -1,0 +1,122 @@
+//! A stream to an output: its body, and behind it its names and parts.
+ghost use Rattle.std.specs.Prelude.{◌≡◌, ◌<◌, ◌+◌, ◌^◌, ◌++◌, Some, length};
+ghost use Rattle.mdmp_dump.specs.declared.view.Kind.TheVariants.{Known, Raw};
+ghost use Rattle.mdmp_dump.specs.Places.{up};
+ghost use Rattle.mdmp_dump.specs.Shape.{body_of, room_of, seen_at, stream_at};
+ghost use Rattle.mdmp_dump.specs.View.{DumpSeen};
+ghost use Rattle.mdmp_writer.specs.Block.{RecordsAreKnown};
+ghost use Rattle.mdmp_writer.specs.Gather.{gathered, Writes};
+ghost use Rattle.mdmp_writer.specs.Layout.{block_size};
+ghost use Rattle.mdmp_writer.specs.Cause.{HasCause};
+ghost use Rattle.mdmp_writer.specs.Written.{all_padded, block_text, head_text, padded, padding, parts_of, rows};
+
+use crate::body_out::put_body;
+use crate::fault::WriteFault;
+use crate::gather::Gather;
+use crate::parts_out::put_parts;
+use crate::pieces::{put_padded, put_padding};
+use crate::place::{Place, up};
+use crate::sizes::count_of;
+use mdmp_dump::{DumpView, Kind, PartSize};
+use mdmp_source::Out;
+
+/// Writes the names and parts of a stream of so many records.
+fn put_stream_parts<V: DumpView, O: Out>(
+    view: &mut V,
+    out: &mut O,
+    gather: &mut Gather<'_>,
+    stream: u64,
+    count: u64,
+) -> Result<(), WriteFault>
+    requires stream { stream < length (V.shape view.old).streams }
+    requires count { count ≡ (stream_at (V.shape view.old) stream).records }
+    requires room { room_of (stream_at (V.shape view.old) stream) < 2 ^ 32 }
+    ensures shape { V.shape view.new ≡ V.shape view.old }
+    ensures writes { (x : DumpSeen) → (V.shape view.old).seen ≡ Some x
+        → Writes result (gathered (O.state out.old) gather.old) (all_padded (parts_of (seen_at x stream).records)) (gathered (O.state out.new) gather.new) }
+    ensures cause { HasCause (V.shape view.old).is_reliable result (O.state out.old) (O.state out.new) }
+{
+    match view.rewind(stream) {
+        Ok(()) => put_parts(view, out, gather, count),
+        Err(fault) => Err(WriteFault::View(fault)),
+    }
+}
+
+/// Writes a stream of records of this type, whose body has so many bytes.
+fn put_records<V: DumpView, O: Out>(
+    view: &mut V,
+    out: &mut O,
+    gather: &mut Gather<'_>,
+    stream: u64,
+    stream_type: u32,
+    body: u64,
+    place: Place,
+) -> Result<(), WriteFault>
+    requires stream { stream < length (V.shape view.old).streams }
+    requires kind { (stream_at (V.shape view.old) stream).kind ≡ Known stream_type }
+    requires body { body ≡ body_of (stream_at (V.shape view.old) stream) }
+    requires room { place.at + block_size (stream_at (V.shape view.old) stream) < 2 ^ 32 }
+    ensures shape { V.shape view.new ≡ V.shape view.old }
+    ensures writes { (x : DumpSeen) → (V.shape view.old).seen ≡ Some x
+        → Writes result (gathered (O.state out.old) gather.old) (block_text (seen_at x stream) place.at place.far) (gathered (O.state out.new) gather.new) }
+    ensures cause { HasCause (V.shape view.old).is_reliable result (O.state out.old) (O.state out.new) }
+{
+    let count = count_of(stream_type, body);
+    let behind = Place {
+        at: place.at + up(body),
+        far: place.far,
+    };
+    match put_body(view, out, gather, stream, stream_type, count, behind) {
+        Ok(()) => match put_padding(out, gather, body) {
+            Ok(()) => put_stream_parts(view, out, gather, stream, count),
+            Err(fault) => Err(fault),
+        },
+        Err(fault) => Err(fault),
+    }
+}
+
+/// Writes a stream of raw bytes, so many, and the zeros behind them.
+fn put_raw<V: DumpView, O: Out>(
+    view: &mut V,
+    out: &mut O,
+    gather: &mut Gather<'_>,
+    stream: u64,
+    size: u64,
+) -> Result<(), WriteFault>
+    requires stream { stream < length (V.shape view.old).streams }
+    requires size { size ≡ (stream_at (V.shape view.old) stream).raw }
+    ensures shape { V.shape view.new ≡ V.shape view.old }
+    ensures writes { (x : DumpSeen) → (V.shape view.old).seen ≡ Some x
+        → Writes result (gathered (O.state out.old) gather.old) (padded (seen_at x stream).raw) (gathered (O.state out.new) gather.new) }
+    ensures cause { HasCause (V.shape view.old).is_reliable result (O.state out.old) (O.state out.new) }
+{
+    match view.rewind(stream) {
+        Ok(()) => put_padded(view, out, gather, 0, PartSize::Size(size)),
+        Err(fault) => Err(WriteFault::View(fault)),
+    }
+}
+
+/// Writes a stream: its block begins at a place, and its 64-bit memory at another.
+pub(crate) fn put_block<V: DumpView, O: Out>(
+    view: &mut V,
+    out: &mut O,
+    gather: &mut Gather<'_>,
+    stream: u64,
+    place: Place,
+) -> Result<(), WriteFault>
+    requires stream { stream < length (V.shape view.old).streams }
+    requires room { place.at + block_size (stream_at (V.shape view.old) stream) < 2 ^ 32 }
+    ensures shape { V.shape view.new ≡ V.shape view.old }
+    ensures writes { (x : DumpSeen) → (V.shape view.old).seen ≡ Some x → RecordsAreKnown (seen_at x stream)
+        → Writes result (gathered (O.state out.old) gather.old) (block_text (seen_at x stream) place.at place.far) (gathered (O.state out.new) gather.new) }
+    ensures cause { HasCause (V.shape view.old).is_reliable result (O.state out.old) (O.state out.new) }
+{
+    let body = view.body_size(stream);
+    match view.kind(stream) {
+        Kind::Unused => Ok(()),
+        Kind::Known(stream_type) => {
+            put_records(view, out, gather, stream, stream_type, body, place)
+        },
+        Kind::Raw(_) => put_raw(view, out, gather, stream, body),
+    }
+}

@@ -1,0 +1,93 @@
+//! The body of a stream of records to an output.
+ghost use Rattle.std.specs.Prelude.{◌≡◌, ◌<◌, ◌+◌, ◌^◌, ◌++◌, Bool, Some, length};
+ghost use Rattle.mdmp_dump.specs.Shape.{room_of, seen_at, stream_at};
+ghost use Rattle.mdmp_dump.specs.View.{DumpSeen};
+ghost use Rattle.mdmp_writer.specs.Gather.{gathered, Writes};
+ghost use Rattle.mdmp_writer.specs.Cause.{HasCause};
+ghost use Rattle.mdmp_writer.specs.Written.{head_text, rows};
+
+use crate::fault::WriteFault;
+use crate::gather::Gather;
+use crate::place::Place;
+use crate::record_bytes::put_record;
+use crate::rows_out::put_rows;
+use mdmp_dump::DumpView;
+use mdmp_source::Out;
+use mdmp_wire::{Memory64List, MemoryInfoList, UnloadedList};
+
+/// Writes what stands before the records of a stream of this type, so many, whose 64-bit memory
+/// begins at a place.
+fn put_head<O: Out>(
+    out: &mut O,
+    gather: &mut Gather<'_>,
+    stream_type: u32,
+    count: u64,
+    far: u64,
+) -> Result<(), WriteFault>
+    requires { count < 2 ^ 32 }
+    ensures writes { Writes result (gathered (O.state out.old) gather.old) (head_text stream_type count far) (gathered (O.state out.new) gather.new) }
+    ensures cause { (reliable : Bool) → HasCause reliable result (O.state out.old) (O.state out.new) }
+{
+    match stream_type {
+        3 => put_record(out, gather, &(count as u32)),
+        4 => put_record(out, gather, &(count as u32)),
+        5 => put_record(out, gather, &(count as u32)),
+        9 => put_record(
+            out,
+            gather,
+            &Memory64List {
+                number_of_memory_ranges: count,
+                base_rva: far,
+            },
+        ),
+        14 => put_record(
+            out,
+            gather,
+            &UnloadedList {
+                size_of_header: 12,
+                size_of_entry: 24,
+                number_of_entries: count as u32,
+            },
+        ),
+        16 => put_record(
+            out,
+            gather,
+            &MemoryInfoList {
+                size_of_header: 16,
+                size_of_entry: 48,
+                number_of_entries: count,
+            },
+        ),
+        _ => Ok(()),
+    }
+}
+
+/// Writes the body of a stream of this type, with so many records, whose names and parts begin at
+/// `place.at`.
+pub(crate) fn put_body<V: DumpView, O: Out>(
+    view: &mut V,
+    out: &mut O,
+    gather: &mut Gather<'_>,
+    stream: u64,
+    stream_type: u32,
+    count: u64,
+    place: Place,
+) -> Result<(), WriteFault>
+    requires stream { stream < length (V.shape view.old).streams }
+    requires count { count ≡ (stream_at (V.shape view.old) stream).records }
+    requires few { count < 2 ^ 32 }
+    requires room { place.at + room_of (stream_at (V.shape view.old) stream) < 2 ^ 32 }
+    ensures shape { V.shape view.new ≡ V.shape view.old }
+    ensures writes { (x : DumpSeen) → (V.shape view.old).seen ≡ Some x
+        → Writes result (gathered (O.state out.old) gather.old)
+        (head_text stream_type count place.far ++ rows place.at (seen_at x stream).records) (gathered (O.state out.new) gather.new) }
+    ensures cause { HasCause (V.shape view.old).is_reliable result (O.state out.old) (O.state out.new) }
+{
+    match view.rewind(stream) {
+        Ok(()) => match put_head(out, gather, stream_type, count, place.far) {
+            Ok(()) => put_rows(view, out, gather, count, place.at),
+            Err(fault) => Err(fault),
+        },
+        Err(fault) => Err(WriteFault::View(fault)),
+    }
+}

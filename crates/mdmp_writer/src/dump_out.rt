@@ -1,0 +1,105 @@
+//! A dump to an output.
+ghost use Rattle.std.specs.Prelude.{◌≡◌, ◌<◌, ◌++◌, None, Some, length};
+ghost use Rattle.mdmp_dump.specs.declared.dump.Dump.{Dump};
+ghost use Rattle.mdmp_dump.specs.Shape.{IsViewOf};
+ghost use Rattle.mdmp_dump.specs.View.{DumpSeen};
+ghost use Rattle.mdmp_writer.specs.Block.{AllAreKnown};
+ghost use Rattle.mdmp_writer.specs.Gather.{gathered, Writes};
+ghost use Rattle.mdmp_writer.specs.Layout.{AreEnds, blocks_end, first_block, shape_fault};
+ghost use Rattle.mdmp_writer.specs.Cause.{HasCause};
+ghost use Rattle.mdmp_writer.specs.Writing.{IsWritingOf, IsWritingOfDump};
+ghost use Rattle.mdmp_writer.specs.Written.{blocks, fars, text_of};
+
+use crate::fault::WriteFault;
+use crate::gather::Gather;
+use crate::head_out::{put_directory, put_header};
+use crate::layout::{Ends, layout};
+use crate::place::Place;
+use crate::streams_out::{put_blocks, put_fars};
+use mdmp_dump::DumpView;
+use mdmp_source::Out;
+
+/// Writes a dump to an output, from front to back, and answers how many bytes it has.
+///
+/// Small pieces are gathered in `buffer`, which must not be empty, and parts are fetched into it: no
+/// memory is taken, and nothing that went out is written again. A dump that can't be written is
+/// refused before any byte goes out. Where the output refuses or the view answers a fault, a first part
+/// of the dump went out, perhaps none of it. The output is not flushed, and the view wants a `rewind`
+/// before it is asked for records again. Raw streams are written as their bytes: offsets in them are not
+/// moved.
+pub fn write_dump<V: DumpView, O: Out>(
+    view: &mut V,
+    out: &mut O,
+    buffer: &mut [u8],
+) -> Result<u64, WriteFault>
+    requires { 0 < length buffer.old }
+    ensures shape { V.shape view.new ≡ V.shape view.old }
+    ensures ends { IsWritingOf (V.shape view.old) result (O.state out.old) (O.state out.new) }
+    ensures writes { (d : Dump V.Memory) → IsViewOf d (V.shape view.old) → IsWritingOfDump d result (O.state out.old) (O.state out.new) }
+{
+    let ends = match layout(view) {
+        Ok(ends) => ends,
+        Err(fault) => return Err(WriteFault::Layout(fault)),
+    };
+    let mut gather = Gather::new(buffer);
+    match put_dump(view, out, &mut gather, ends) {
+        Ok(()) => match gather.flush(out) {
+            Ok(()) => Ok(ends.file),
+            Err(fault) => Err(fault),
+        },
+        Err(fault) => Err(fault),
+    }
+}
+
+/// Writes a dump that can be written, and that ends here.
+fn put_dump<V: DumpView, O: Out>(
+    view: &mut V,
+    out: &mut O,
+    gather: &mut Gather<'_>,
+    ends: Ends,
+) -> Result<(), WriteFault>
+    requires fault { shape_fault (V.shape view.old).streams ≡ None }
+    requires ends { AreEnds (V.shape view.old).streams ends }
+    ensures shape { V.shape view.new ≡ V.shape view.old }
+    ensures writes { (x : DumpSeen) → (V.shape view.old).seen ≡ Some x → AllAreKnown x
+        → Writes result (gathered (O.state out.old) gather.old) (text_of x) (gathered (O.state out.new) gather.new) }
+    ensures cause { HasCause (V.shape view.old).is_reliable result (O.state out.old) (O.state out.new) }
+{
+    let header = view.header();
+    let streams = view.streams();
+    let first = 32 + 12 * streams;
+    match put_header(out, gather, header, streams) {
+        Ok(()) => match put_directory(view, out, gather, first) {
+            Ok(()) => {
+                let place = Place {
+                    at: first,
+                    far: ends.blocks,
+                };
+                put_streams(view, out, gather, place)
+            },
+            Err(fault) => Err(fault),
+        },
+        Err(fault) => Err(fault),
+    }
+}
+
+/// Writes all streams, and their 64-bit memory behind them.
+fn put_streams<V: DumpView, O: Out>(
+    view: &mut V,
+    out: &mut O,
+    gather: &mut Gather<'_>,
+    first: Place,
+) -> Result<(), WriteFault>
+    requires fault { shape_fault (V.shape view.old).streams ≡ None }
+    requires at { first.at ≡ first_block (V.shape view.old).streams }
+    requires far { first.far ≡ blocks_end (V.shape view.old).streams }
+    ensures shape { V.shape view.new ≡ V.shape view.old }
+    ensures writes { (x : DumpSeen) → (V.shape view.old).seen ≡ Some x → AllAreKnown x
+        → Writes result (gathered (O.state out.old) gather.old) (blocks x.streams first.at first.far ++ fars x.streams) (gathered (O.state out.new) gather.new) }
+    ensures cause { HasCause (V.shape view.old).is_reliable result (O.state out.old) (O.state out.new) }
+{
+    match put_blocks(view, out, gather, first) {
+        Ok(()) => put_fars(view, out, gather),
+        Err(fault) => Err(fault),
+    }
+}

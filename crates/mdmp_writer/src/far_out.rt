@@ -1,0 +1,103 @@
+//! 64-bit memory to an output.
+ghost use Rattle.std.specs.Prelude.{◌≡◌, ◌<◌, ◌^◌, List, Some, length};
+ghost use Rattle.mdmp_dump.specs.declared.view.Kind.TheVariants.{Known};
+ghost use Rattle.mdmp_dump.specs.Seen.{Seen};
+ghost use Rattle.mdmp_dump.specs.Shape.{body_of, far_of, seen_at, stream_at};
+ghost use Rattle.mdmp_dump.specs.View.{DumpSeen};
+ghost use Rattle.mdmp_writer.specs.Gather.{gathered, Writes};
+ghost use Rattle.mdmp_writer.specs.Layout.{far_size};
+ghost use Rattle.mdmp_writer.specs.Cause.{HasCause};
+ghost use Rattle.mdmp_writer.specs.Written.{far_text, ranges_text};
+
+use crate::fault::WriteFault;
+use crate::gather::Gather;
+use crate::pieces::{put_padding, put_part};
+use crate::sizes::count_of;
+use mdmp_dump::{DumpView, Kind};
+use mdmp_source::Out;
+
+/// Writes the bytes of all ranges that are left of a stream, so many.
+fn put_ranges<V: DumpView, O: Out>(
+    view: &mut V,
+    out: &mut O,
+    gather: &mut Gather<'_>,
+    count: u64,
+) -> Result<(), WriteFault>
+    requires { count ≡ (V.cursor view.old).records }
+    ensures shape { V.shape view.new ≡ V.shape view.old }
+    ensures writes { (xs : List Seen) → (V.cursor view.old).seen ≡ Some xs → length xs ≡ count
+        → Writes result (gathered (O.state out.old) gather.old) (ranges_text xs) (gathered (O.state out.new) gather.new) }
+    ensures cause { HasCause (V.shape view.old).is_reliable result (O.state out.old) (O.state out.new) }
+{
+    let mut left = count;
+    while left > 0 {
+        match view.next_record() {
+            Ok(fields) => {
+                let [range, _, _] = fields.parts;
+                match put_part(view, out, gather, 0, range.size()) {
+                    Ok(()) => left -= 1,
+                    Err(fault) => return Err(fault),
+                }
+            },
+            Err(fault) => return Err(WriteFault::View(fault)),
+        }
+    }
+    Ok(())
+}
+
+/// Writes the bytes of the ranges of a stream of 64-bit memory, so many, and the zeros behind them:
+/// they have so many bytes.
+fn put_memory<V: DumpView, O: Out>(
+    view: &mut V,
+    out: &mut O,
+    gather: &mut Gather<'_>,
+    stream: u64,
+    count: u64,
+    size: u64,
+) -> Result<(), WriteFault>
+    requires stream { stream < length (V.shape view.old).streams }
+    requires kind { (stream_at (V.shape view.old) stream).kind ≡ Known 9 }
+    requires count { count ≡ (stream_at (V.shape view.old) stream).records }
+    requires size { size ≡ (stream_at (V.shape view.old) stream).parts }
+    ensures shape { V.shape view.new ≡ V.shape view.old }
+    ensures writes { (x : DumpSeen) → (V.shape view.old).seen ≡ Some x
+        → Writes result (gathered (O.state out.old) gather.old) (far_text (seen_at x stream)) (gathered (O.state out.new) gather.new) }
+    ensures cause { HasCause (V.shape view.old).is_reliable result (O.state out.old) (O.state out.new) }
+{
+    match view.rewind(stream) {
+        Ok(()) => match put_ranges(view, out, gather, count) {
+            Ok(()) => put_padding(out, gather, size),
+            Err(fault) => Err(fault),
+        },
+        Err(fault) => Err(WriteFault::View(fault)),
+    }
+}
+
+/// Writes the 64-bit memory of a stream and the zeros behind it: nothing of a stream of another kind.
+pub(crate) fn put_far<V: DumpView, O: Out>(
+    view: &mut V,
+    out: &mut O,
+    gather: &mut Gather<'_>,
+    stream: u64,
+) -> Result<(), WriteFault>
+    requires stream { stream < length (V.shape view.old).streams }
+    requires body { body_of (stream_at (V.shape view.old) stream) < 2 ^ 32 }
+    requires room { far_size (stream_at (V.shape view.old) stream) < 2 ^ 64 }
+    ensures shape { V.shape view.new ≡ V.shape view.old }
+    ensures writes { (x : DumpSeen) → (V.shape view.old).seen ≡ Some x
+        → Writes result (gathered (O.state out.old) gather.old) (far_text (seen_at x stream)) (gathered (O.state out.new) gather.new) }
+    ensures cause { HasCause (V.shape view.old).is_reliable result (O.state out.old) (O.state out.new) }
+{
+    match view.kind(stream) {
+        Kind::Unused => Ok(()),
+        Kind::Known(stream_type) => {
+            if stream_type != 9 {
+                return Ok(());
+            }
+            let count = count_of(9, view.body_size(stream));
+            let size = view.parts_size(stream);
+            put_memory(view, out, gather, stream, count, size)
+        },
+        Kind::Raw(_) => Ok(()),
+    }
+}

@@ -1,0 +1,170 @@
+//! The caller's buffer, in which small pieces of a text are gathered.
+ghost use Rattle.std.specs.Prelude.{◌≡◌, ◌≤◌, ◌<◌, ◌+◌, ◌-◌, ◌++◌, ℕ, List, [], length, take, drop, get_or, min, nat_lt, Bool, IsTrue, Some, IfErr, IfOk, OnOk, MatchResult};
+ghost use Rattle.mdmp_source.specs.Count.{raised_if};
+ghost use Rattle.mdmp_source.specs.Output.{Takes};
+ghost use Rattle.mdmp_writer.specs.Gather.{gathered, Puts, Writes};
+ghost use Rattle.mdmp_writer.specs.Cause.{HasCause};
+
+use crate::fault::WriteFault;
+use mdmp_dump::{DumpView, ViewFault};
+use mdmp_source::{Out, send};
+use std::marker::Model;
+
+/// What a writer holds back until the caller's buffer is full, so that a text of many small pieces
+/// reaches the output by few calls.
+///
+/// What an output refused is still held, and `flush` can be called again.
+#[derive(Drop)]
+pub(crate) struct Gather<'b> {
+    buffer: &'b mut [u8],
+    held: usize,
+}
+
+impl<'b> Model for Gather<'b> {
+    ghost use Rattle.std.specs.Prelude.{◌≤◌, ◌<◌, List, ℕ, length, take};
+
+    ghost Value = { List ℕ };
+
+    ghost view = { λ g. take g.held g.buffer.now };
+
+    ghost invariant = { λ g. (0 < length g.buffer.now) × (g.held ≤ length g.buffer.now) };
+}
+
+impl<'b> Gather<'b> {
+    /// Nothing is held.
+    pub(crate) fn new(buffer: &'b mut [u8]) -> Self
+        requires { 0 < length buffer.old }
+        ensures { result ≡ [] }
+    {
+        Gather { buffer, held: 0 }
+    }
+
+    /// Sends what is held to the output. Where that refuses, what it did not take is still held.
+    pub(crate) fn flush<O: Out>(&mut self, out: &mut O) -> Result<(), WriteFault>
+        ensures puts { Puts (gathered (O.state out.old) self.old) [] (gathered (O.state out.new) self.new) }
+        ensures empties { OnOk result (self.new ≡ []) }
+        ensures cause { (reliable : Bool) → HasCause reliable result (O.state out.old) (O.state out.new) }
+    {
+        self.held = send_front(out, self.buffer, self.held);
+        if self.held == 0 {
+            Ok(())
+        } else {
+            Err(WriteFault::Out)
+        }
+    }
+
+    /// Puts bytes behind those that are held.
+    pub(crate) fn put<O: Out>(&mut self, out: &mut O, bytes: &[u8]) -> Result<(), WriteFault>
+        ensures writes { Writes result (gathered (O.state out.old) self.old) bytes.now (gathered (O.state out.new) self.new) }
+        ensures cause { (reliable : Bool) → HasCause reliable result (O.state out.old) (O.state out.new) }
+    {
+        let mut at = self.hold(bytes);
+        while at < bytes.len() {
+            match self.flush(out) {
+                Ok(()) => at += self.hold(&bytes[at..]),
+                Err(fault) => return Err(fault),
+            }
+        }
+        Ok(())
+    }
+
+    /// Holds the first of some bytes, as many as there is room for, and answers how many.
+    fn hold(&mut self, bytes: &[u8]) -> usize
+        ensures bound { result ≤ length bytes.now }
+        ensures some { self.old ≡ [] → 0 < length bytes.now → 0 < result }
+        ensures held { self.new ≡ self.old ++ take result bytes.now }
+    {
+        let count = copy_behind(self.buffer, self.held, bytes);
+        self.held += count;
+        count
+    }
+
+    /// Fetches bytes of a part from a place on into the buffer, at most so many and as many as there
+    /// is room for, and answers how many.
+    pub(crate) fn fetch<V: DumpView>(
+        &mut self,
+        view: &mut V,
+        which: usize,
+        at: u64,
+        most: u64,
+    ) -> Result<u64, ViewFault>
+        requires { at + most ≤ (V.cursor view.old).sizes which }
+        ensures shape { V.shape view.new ≡ V.shape view.old }
+        ensures bound { IfOk result (λ k. (k ≤ most) × (self.old ≡ [] → 0 < most → 0 < k) × (V.cursor view.new ≡ V.cursor view.old)) }
+        ensures held { MatchResult result
+            (λ k. (parts : List (List ℕ)) → (V.cursor view.old).parts ≡ Some parts
+            → self.new ≡ self.old ++ take k (drop at (get_or parts which [])))
+            (λ _. self.new ≡ self.old) }
+        ensures reliable { IsTrue (V.shape view.old).is_reliable → IfErr result (λ _. ⊥) }
+    {
+        let count = most.min((self.buffer.len() - self.held) as u64);
+        if count == 0 {
+            return Ok(0);
+        }
+        match fetch_behind(view, which, at, self.buffer, self.held, count as usize) {
+            Ok(()) => {
+                self.held += count as usize;
+                Ok(count)
+            },
+            Err(fault) => Err(fault),
+        }
+    }
+}
+
+/// Sends the first `held` bytes to the output, up to its first refusal, moves what is left to the
+/// front, and answers how many these are.
+fn send_front<O: Out>(out: &mut O, buffer: &mut [u8], held: usize) -> usize
+    requires { held ≤ length buffer.old }
+    ensures len { length buffer.new ≡ length buffer.old }
+    ensures bound { result ≤ held }
+    ensures puts { Puts (gathered (O.state out.old) (take held buffer.old)) [] (gathered (O.state out.new) (take result buffer.new)) }
+    ensures failures { (O.state out.new).failures ≡ raised_if (nat_lt 0 result) (O.state out.old).failures }
+{
+    let sent = send(out, &buffer[..held]);
+    move_front(buffer, sent, held);
+    held - sent
+}
+
+/// Moves the bytes from `start` up to `end` to the front.
+fn move_front(buffer: &mut [u8], start: usize, end: usize)
+    requires start { start ≤ end }
+    requires end { end ≤ length buffer.old }
+    ensures len { length buffer.new ≡ length buffer.old }
+    ensures bytes { take (end - start) buffer.new ≡ drop start (take end buffer.old) }
+{
+    buffer.copy_within(start..end, 0);
+}
+
+/// Copies the first of some bytes behind the first `held`, as many as there is room for, and answers
+/// how many.
+fn copy_behind(buffer: &mut [u8], held: usize, bytes: &[u8]) -> usize
+    requires { held ≤ length buffer.old }
+    ensures len { length buffer.new ≡ length buffer.old }
+    ensures count { result ≡ min (length bytes.now) (length buffer.old - held) }
+    ensures bytes { take (held + result) buffer.new ≡ take held buffer.old ++ take result bytes.now }
+{
+    let count = bytes.len().min(buffer.len() - held);
+    buffer[held..held + count].copy_from_slice(&bytes[..count]);
+    count
+}
+
+/// Fetches bytes of a part from a place on, so many, behind the first `held`.
+fn fetch_behind<V: DumpView>(
+    view: &mut V,
+    which: usize,
+    at: u64,
+    buffer: &mut [u8],
+    held: usize,
+    count: usize,
+) -> Result<(), ViewFault>
+    requires room { held + count ≤ length buffer.old }
+    requires within { at + count ≤ (V.cursor view.old).sizes which }
+    ensures shape { V.shape view.new ≡ V.shape view.old }
+    ensures held { (length buffer.new ≡ length buffer.old) × (take held buffer.new ≡ take held buffer.old) }
+    ensures gives { OnOk result ((V.cursor view.new ≡ V.cursor view.old)
+        × ((parts : List (List ℕ)) → (V.cursor view.old).parts ≡ Some parts
+        → take (held + count) buffer.new ≡ take held buffer.old ++ take count (drop at (get_or parts which [])))) }
+    ensures reliable { IsTrue (V.shape view.old).is_reliable → IfErr result (λ _. ⊥) }
+{
+    view.part(which, at, &mut buffer[held..held + count])
+}

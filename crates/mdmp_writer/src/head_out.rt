@@ -1,0 +1,96 @@
+//! The header of a dump and its directory to an output.
+ghost use Rattle.std.specs.Prelude.{◌≡◌, ◌<◌, ◌+◌, ◌^◌, length, Bool};
+ghost use Rattle.mdmp_dump.specs.Shape.{body_of, stream_at};
+ghost use Rattle.mdmp_wire.specs.Entry.{entry_bytes};
+ghost use Rattle.mdmp_wire.specs.Header.{header_bytes};
+ghost use Rattle.mdmp_writer.specs.Gather.{gathered, Writes};
+ghost use Rattle.mdmp_writer.specs.Layout.{block_size, blocks_end, file_size, first_block};
+ghost use Rattle.mdmp_writer.specs.Cause.{HasCause};
+ghost use Rattle.mdmp_writer.specs.Written.{directory, entry_of, header_of, type_by};
+
+use crate::fault::WriteFault;
+use crate::gather::Gather;
+use crate::layout::room_for;
+use crate::record_bytes::put_record;
+use mdmp_dump::{DumpView, HeaderFields, Kind};
+use mdmp_source::{Location, Out};
+use mdmp_wire::{Entry, Header};
+
+/// Writes the header of a dump of so many streams.
+pub(crate) fn put_header<O: Out>(
+    out: &mut O,
+    gather: &mut Gather<'_>,
+    header: HeaderFields,
+    streams: u64,
+) -> Result<(), WriteFault>
+    requires { streams < 2 ^ 32 }
+    ensures writes { Writes result (gathered (O.state out.old) gather.old) (header_bytes (header_of header streams)) (gathered (O.state out.new) gather.new) }
+    ensures cause { (reliable : Bool) → HasCause reliable result (O.state out.old) (O.state out.new) }
+{
+    let header = Header {
+        signature: Header::SIGNATURE,
+        version: u32::from(Header::VERSION) + 65536 * u32::from(header.version_high),
+        number_of_streams: streams as u32,
+        stream_directory_rva: 32,
+        checksum: header.checksum,
+        time_date_stamp: header.time,
+        flags: header.flags,
+    };
+    put_record(out, gather, &header)
+}
+
+/// The type that a stream has in the directory.
+fn type_by(kind: Kind) -> u32
+    ensures { result ≡ type_by kind }
+{
+    match kind {
+        Kind::Unused => 0,
+        Kind::Known(stream_type) => stream_type,
+        Kind::Raw(stream_type) => stream_type,
+    }
+}
+
+/// The entry of a stream at a place; one without bytes names the address 0.
+fn entry_for<V: DumpView>(view: &mut V, stream: u64, at: u64) -> Entry
+    requires stream { stream < length (V.shape view.old).streams }
+    requires place { at < 2 ^ 32 }
+    requires body { body_of (stream_at (V.shape view.old) stream) < 2 ^ 32 }
+    ensures shape { V.shape view.new ≡ V.shape view.old }
+    ensures entry { result ≡ entry_of (stream_at (V.shape view.old) stream) at }
+{
+    let body = view.body_size(stream);
+    let rva = if body == 0 { 0 } else { at };
+    Entry {
+        stream_type: type_by(view.kind(stream)),
+        location: Location {
+            size: body as u32,
+            rva: rva as u32,
+        },
+    }
+}
+
+/// Writes the directory of all streams, of which the first stands at a place.
+pub(crate) fn put_directory<V: DumpView, O: Out>(
+    view: &mut V,
+    out: &mut O,
+    gather: &mut Gather<'_>,
+    first: u64,
+) -> Result<(), WriteFault>
+    requires first { first ≡ first_block (V.shape view.old).streams }
+    requires low { blocks_end (V.shape view.old).streams < 2 ^ 32 }
+    requires short { file_size (V.shape view.old).streams < 2 ^ 64 }
+    ensures shape { V.shape view.new ≡ V.shape view.old }
+    ensures writes { Writes result (gathered (O.state out.old) gather.old) (directory (V.shape view.old).streams first) (gathered (O.state out.new) gather.new) }
+    ensures cause { (reliable : Bool) → HasCause reliable result (O.state out.old) (O.state out.new) }
+{
+    let mut at = first;
+    for stream in 0..view.streams() {
+        let room = room_for(view, stream);
+        let entry = entry_for(view, stream, at);
+        match put_record(out, gather, &entry) {
+            Ok(()) => at += room.block,
+            Err(fault) => return Err(fault),
+        }
+    }
+    Ok(())
+}

@@ -1,0 +1,193 @@
+//! Where the streams of a dump stand as it is written, and whether it can be.
+ghost use Rattle.std.specs.Prelude.{◌≡◌, ◌<◌, ◌^◌, length, IsTrue, IsFalse, MatchOption, MatchResult, None, Some, ◌≤◌, ◌+◌, ◌*◌};
+ghost use Rattle.mdmp_dump.specs.declared.dump.Dump.{Dump};
+ghost use Rattle.mdmp_dump.specs.Shape.{is_far, IsViewOf, stream_at};
+ghost use Rattle.mdmp_writer.specs.Layout.{AreEnds, block_size, far_size, first_misnamed, is_misnamed, is_too_large, IsRoom, shape_fault, size_answer, layout_fault, size_or, written_size};
+
+use crate::fault::LayoutFault;
+use crate::place::up;
+use mdmp_dump::{DumpView, Kind};
+
+/// What a stream takes.
+#[derive(Clone, Copy)]
+pub(crate) struct Room {
+    /// Its body and behind it its names and parts.
+    pub block: u64,
+    /// Its 64-bit memory, which stands behind all streams.
+    pub far: u64,
+}
+
+/// Where what is written ends.
+#[derive(Clone, Copy)]
+pub(crate) struct Ends {
+    /// The streams; the 64-bit memory stands behind them.
+    pub blocks: u64,
+    /// The file.
+    pub file: u64,
+}
+
+/// How many bytes a dump has as it is written, or why it can't be written. It asks the view for
+/// sizes alone.
+pub fn written_size<V: DumpView>(view: &mut V) -> Result<u64, LayoutFault>
+    ensures shape { V.shape view.new ≡ V.shape view.old }
+    ensures cursor { V.cursor view.new ≡ V.cursor view.old }
+    ensures answer { result ≡ size_answer (V.shape view.old).streams }
+    ensures value { (d : Dump V.Memory) → IsViewOf d (V.shape view.old) → result ≡ size_or (written_size d) (layout_fault d) }
+{
+    match layout(view) {
+        Ok(ends) => Ok(ends.file),
+        Err(fault) => Err(fault),
+    }
+}
+
+/// Where what is written ends, or why it can't be written.
+pub(crate) fn layout<V: DumpView>(view: &mut V) -> Result<Ends, LayoutFault>
+    ensures shape { V.shape view.new ≡ V.shape view.old }
+    ensures cursor { V.cursor view.new ≡ V.cursor view.old }
+    ensures ends { MatchResult result
+        (λ ends. (shape_fault (V.shape view.old).streams ≡ None) × AreEnds (V.shape view.old).streams ends)
+        (λ fault. shape_fault (V.shape view.old).streams ≡ Some fault) }
+{
+    if let Some(stream) = misnamed_stream(view) {
+        return Err(LayoutFault::RawKnownType { stream });
+    }
+    match find_ends(view) {
+        Some(ends) => Ok(ends),
+        None => Err(LayoutFault::TooLarge),
+    }
+}
+
+/// Whether a stream holds raw bytes under the type of an unused stream, or under one whose records are
+/// known.
+fn is_misnamed(kind: Kind) -> bool
+    ensures { result ≡ is_misnamed kind }
+{
+    match kind {
+        Kind::Unused => false,
+        Kind::Known(_) => false,
+        Kind::Raw(stream_type) => {
+            stream_type == 0 || mdmp_lister::Kind::of_type(stream_type).is_some()
+        },
+    }
+}
+
+/// The first of them.
+fn misnamed_stream<V: DumpView>(view: &mut V) -> Option<u64>
+    ensures shape { V.shape view.new ≡ V.shape view.old }
+    ensures cursor { V.cursor view.new ≡ V.cursor view.old }
+    ensures first { result ≡ first_misnamed 0 (V.shape view.old).streams }
+{
+    for stream in 0..view.streams() {
+        if is_misnamed(view.kind(stream)) {
+            return Some(stream);
+        }
+    }
+    None
+}
+
+/// Whether the bytes of a stream's records stand behind all streams.
+pub(crate) fn is_far(kind: Kind) -> bool
+    ensures { result ≡ is_far kind }
+{
+    match kind {
+        Kind::Unused => false,
+        Kind::Known(stream_type) => stream_type == 9,
+        Kind::Raw(_) => false,
+    }
+}
+
+/// What a stream takes that is not too much.
+pub(crate) fn room_for<V: DumpView>(view: &mut V, stream: u64) -> Room
+    requires stream { stream < length (V.shape view.old).streams }
+    requires block { block_size (stream_at (V.shape view.old) stream) < 2 ^ 33 }
+    requires far { far_size (stream_at (V.shape view.old) stream) < 2 ^ 64 }
+    ensures shape { V.shape view.new ≡ V.shape view.old }
+    ensures cursor { V.cursor view.new ≡ V.cursor view.old }
+    ensures room { IsRoom (stream_at (V.shape view.old) stream) (Some result) }
+{
+    let body = up(view.body_size(stream));
+    let parts = view.parts_size(stream);
+    if is_far(view.kind(stream)) {
+        Room {
+            block: body,
+            far: up(parts),
+        }
+    } else {
+        Room {
+            block: body + parts,
+            far: 0,
+        }
+    }
+}
+
+/// What a stream takes, or none where that is too much.
+fn room_if<V: DumpView>(view: &mut V, stream: u64) -> Option<Room>
+    requires stream { stream < length (V.shape view.old).streams }
+    ensures shape { V.shape view.new ≡ V.shape view.old }
+    ensures cursor { V.cursor view.new ≡ V.cursor view.old }
+    ensures room { IsRoom (stream_at (V.shape view.old) stream) result }
+{
+    let body = view.body_size(stream);
+    let parts = view.parts_size(stream);
+    if body > u64::from(u32::MAX) - 3 {
+        return None;
+    }
+    if is_far(view.kind(stream)) {
+        if parts > u64::MAX - 3 {
+            return None;
+        }
+        return Some(room_for(view, stream));
+    }
+    if parts > u64::from(u32::MAX) {
+        return None;
+    }
+    Some(room_for(view, stream))
+}
+
+/// The directory's end, or none where it is past 2^32 - 1.
+fn directory_end(streams: u64) -> Option<u64>
+    ensures { MatchOption result (2 ^ 32 ≤ 32 + streams * 12) (λ at. (at ≡ 32 + streams * 12) × (at < 2 ^ 32)) }
+{
+    if streams > (u64::from(u32::MAX) - 32) / 12 {
+        return None;
+    }
+    Some(32 + 12 * streams)
+}
+
+/// Where the streams and the file end, or none where that is past the greatest address.
+fn find_ends<V: DumpView>(view: &mut V) -> Option<Ends>
+    ensures shape { V.shape view.new ≡ V.shape view.old }
+    ensures cursor { V.cursor view.new ≡ V.cursor view.old }
+    ensures ends { MatchOption result
+        (IsTrue (is_too_large (V.shape view.old).streams))
+        (λ ends. IsFalse (is_too_large (V.shape view.old).streams) × AreEnds (V.shape view.old).streams ends) }
+{
+    let count = view.streams();
+    let mut blocks = match directory_end(count) {
+        Some(at) => at,
+        None => return None,
+    };
+    let mut far = 0u64;
+    for stream in 0..count {
+        match room_if(view, stream) {
+            Some(room) => {
+                if room.block > u64::from(u32::MAX) - blocks {
+                    return None;
+                }
+                if room.far > u64::MAX - far {
+                    return None;
+                }
+                blocks += room.block;
+                far += room.far;
+            },
+            None => return None,
+        }
+    }
+    if far > u64::MAX - blocks {
+        return None;
+    }
+    Some(Ends {
+        blocks,
+        file: blocks + far,
+    })
+}

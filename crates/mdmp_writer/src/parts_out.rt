@@ -1,0 +1,152 @@
+//! The names and parts of records to an output.
+ghost use Rattle.std.specs.Prelude.{◌≡◌, ◌<◌, ◌≤◌, ◌+◌, ◌^◌, ◌++◌, ℕ, List, [], ◌∷◌, Some, length, get_or, OnOk};
+ghost use Rattle.mdmp_dump.specs.Placed.{fields_room, name_around, name_room, seen_parts, size_at, size_in};
+ghost use Rattle.mdmp_dump.specs.Seen.{Seen};
+ghost use Rattle.mdmp_dump.specs.Shape.{IsSized};
+ghost use Rattle.mdmp_wire.specs.Number.{zeros};
+ghost use Rattle.mdmp_writer.specs.Gather.{gathered, Writes};
+ghost use Rattle.mdmp_writer.specs.Cause.{HasCause};
+ghost use Rattle.mdmp_writer.specs.Written.{all_padded, padded, padding, parts_of};
+
+use crate::fault::WriteFault;
+use crate::gather::Gather;
+use crate::pieces::{put_padded, put_padding, put_part};
+use crate::record_bytes::put_record;
+use mdmp_dump::{DumpView, Fields, PartSize};
+use mdmp_source::Out;
+use mdmp_wire::AnyRecord;
+
+/// Writes the units of a name, of so many bytes, and the zeros behind them: two, and those up to a
+/// multiple of 4.
+fn put_units<V: DumpView, O: Out>(
+    view: &mut V,
+    out: &mut O,
+    gather: &mut Gather<'_>,
+    size: u64,
+) -> Result<(), WriteFault>
+    requires within { size ≤ (V.cursor view.old).sizes 0 }
+    requires room { 4 + size + 2 < 2 ^ 64 }
+    ensures shape { V.shape view.new ≡ V.shape view.old }
+    ensures cursor { OnOk result (V.cursor view.new ≡ V.cursor view.old) }
+    ensures writes { (parts : List (List ℕ)) → (V.cursor view.old).parts ≡ Some parts → length (get_or parts 0 []) ≡ size
+        → Writes result (gathered (O.state out.old) gather.old)
+        (get_or parts 0 [] ++ zeros 2 ++ padding (4 + size + 2)) (gathered (O.state out.new) gather.new) }
+    ensures cause { HasCause (V.shape view.old).is_reliable result (O.state out.old) (O.state out.new) }
+{
+    match put_part(view, out, gather, 0, size) {
+        Ok(()) => match put_record(out, gather, &0u16) {
+            Ok(()) => put_padding(out, gather, 4 + size + 2),
+            Err(fault) => Err(fault),
+        },
+        Err(fault) => Err(fault),
+    }
+}
+
+/// Writes a name with its length, and the zeros behind it.
+fn put_name<V: DumpView, O: Out>(
+    view: &mut V,
+    out: &mut O,
+    gather: &mut Gather<'_>,
+    name: PartSize,
+) -> Result<(), WriteFault>
+    requires within { size_in name ≤ (V.cursor view.old).sizes 0 }
+    requires room { name_room name < 2 ^ 32 }
+    ensures shape { V.shape view.new ≡ V.shape view.old }
+    ensures cursor { OnOk result (V.cursor view.new ≡ V.cursor view.old) }
+    ensures writes { (parts : List (List ℕ)) → (V.cursor view.old).parts ≡ Some parts → length (get_or parts 0 []) ≡ size_in name
+        → Writes result (gathered (O.state out.old) gather.old) (padded (name_around name (get_or parts 0 []))) (gathered (O.state out.new) gather.new) }
+    ensures cause { HasCause (V.shape view.old).is_reliable result (O.state out.old) (O.state out.new) }
+{
+    match name {
+        PartSize::NoPart => Ok(()),
+        PartSize::Size(size) => match put_record(out, gather, &(size as u32)) {
+            Ok(()) => put_units(view, out, gather, size),
+            Err(fault) => Err(fault),
+        },
+        PartSize::Absent(_) => Ok(()),
+    }
+}
+
+/// Writes two parts.
+fn put_two<V: DumpView, O: Out>(
+    view: &mut V,
+    out: &mut O,
+    gather: &mut Gather<'_>,
+    which: usize,
+    first: PartSize,
+    second: PartSize,
+) -> Result<(), WriteFault>
+    requires which { which < 8 }
+    requires first { size_in first ≤ (V.cursor view.old).sizes which }
+    requires second { size_in second ≤ (V.cursor view.old).sizes (which + 1) }
+    ensures shape { V.shape view.new ≡ V.shape view.old }
+    ensures cursor { OnOk result (V.cursor view.new ≡ V.cursor view.old) }
+    ensures writes { (parts : List (List ℕ)) → (V.cursor view.old).parts ≡ Some parts
+        → length (get_or parts which []) ≡ size_in first → length (get_or parts (which + 1) []) ≡ size_in second
+        → Writes result (gathered (O.state out.old) gather.old)
+        (all_padded (get_or parts which [] ∷ get_or parts (which + 1) [] ∷ [])) (gathered (O.state out.new) gather.new) }
+    ensures cause { HasCause (V.shape view.old).is_reliable result (O.state out.old) (O.state out.new) }
+{
+    match put_padded(view, out, gather, which, first) {
+        Ok(()) => put_padded(view, out, gather, which + 1, second),
+        Err(fault) => Err(fault),
+    }
+}
+
+/// Writes the names and parts of the record given last.
+fn put_fields_parts<V: DumpView, O: Out>(
+    view: &mut V,
+    out: &mut O,
+    gather: &mut Gather<'_>,
+    fields: &Fields,
+) -> Result<(), WriteFault>
+    requires sizes { (k : ℕ) → (V.cursor view.old).sizes k ≡ size_in (size_at fields.now k) }
+    requires room { fields_room fields.now < 2 ^ 32 }
+    ensures shape { V.shape view.new ≡ V.shape view.old }
+    ensures cursor { OnOk result (V.cursor view.new ≡ V.cursor view.old) }
+    ensures writes { (x : Seen) → (V.cursor view.old).parts ≡ Some x.parts → IsSized x → x.fields ≡ fields.now
+        → Writes result (gathered (O.state out.old) gather.old) (all_padded (seen_parts x)) (gathered (O.state out.new) gather.new) }
+    ensures cause { HasCause (V.shape view.old).is_reliable result (O.state out.old) (O.state out.new) }
+{
+    let [first, second, third] = fields.parts;
+    match fields.wire {
+        AnyRecord::Thread(_) => put_two(view, out, gather, 0, first, second),
+        AnyRecord::Module(_) => match put_name(view, out, gather, first) {
+            Ok(()) => put_two(view, out, gather, 1, second, third),
+            Err(fault) => Err(fault),
+        },
+        AnyRecord::Memory(_) => put_padded(view, out, gather, 0, first),
+        AnyRecord::Exception(_) => put_padded(view, out, gather, 0, first),
+        AnyRecord::System(_) => put_name(view, out, gather, first),
+        AnyRecord::Memory64(_) => Ok(()),
+        AnyRecord::Unloaded(_) => put_name(view, out, gather, first),
+        AnyRecord::MemoryInfo(_) => Ok(()),
+    }
+}
+
+/// Writes the names and parts of all records that are left of a stream, so many.
+pub(crate) fn put_parts<V: DumpView, O: Out>(
+    view: &mut V,
+    out: &mut O,
+    gather: &mut Gather<'_>,
+    count: u64,
+) -> Result<(), WriteFault>
+    requires count { count ≡ (V.cursor view.old).records }
+    requires room { (V.cursor view.old).room < 2 ^ 32 }
+    ensures shape { V.shape view.new ≡ V.shape view.old }
+    ensures writes { (xs : List Seen) → (V.cursor view.old).seen ≡ Some xs → length xs ≡ count
+        → Writes result (gathered (O.state out.old) gather.old) (all_padded (parts_of xs)) (gathered (O.state out.new) gather.new) }
+    ensures cause { HasCause (V.shape view.old).is_reliable result (O.state out.old) (O.state out.new) }
+{
+    let mut left = count;
+    while left > 0 {
+        match view.next_record() {
+            Ok(fields) => match put_fields_parts(view, out, gather, &fields) {
+                Ok(()) => left -= 1,
+                Err(fault) => return Err(fault),
+            },
+            Err(fault) => return Err(WriteFault::View(fault)),
+        }
+    }
+    Ok(())
+}

@@ -1,0 +1,104 @@
+//! The bytes of parts to an output.
+ghost use Rattle.std.specs.Prelude.{◌≡◌, ◌<◌, ◌≤◌, ◌+◌, ℕ, List, [], Some, length, take, drop, get_or, Bool, IfOk, OnOk, MatchResult};
+ghost use Rattle.mdmp_dump.specs.Placed.{size_in};
+ghost use Rattle.mdmp_writer.specs.Gather.{gathered, Puts, Writes};
+ghost use Rattle.mdmp_writer.specs.Cause.{HasCause};
+ghost use Rattle.mdmp_writer.specs.Written.{padded, padding};
+
+use crate::fault::WriteFault;
+use crate::gather::Gather;
+use mdmp_dump::{DumpView, PartSize};
+use mdmp_source::Out;
+
+/// Sends what is held, and fetches bytes of a part from a place on, at most so many; answers how
+/// many.
+fn fetch_more<V: DumpView, O: Out>(
+    view: &mut V,
+    out: &mut O,
+    gather: &mut Gather<'_>,
+    which: usize,
+    at: u64,
+    most: u64,
+) -> Result<u64, WriteFault>
+    requires some { 0 < most }
+    requires within { at + most ≤ (V.cursor view.old).sizes which }
+    ensures shape { V.shape view.new ≡ V.shape view.old }
+    ensures bound { IfOk result (λ k. (0 < k) × (k ≤ most) × (V.cursor view.new ≡ V.cursor view.old)) }
+    ensures puts { MatchResult result
+        (λ k. (parts : List (List ℕ)) → (V.cursor view.old).parts ≡ Some parts
+        → Puts (gathered (O.state out.old) gather.old) (take k (drop at (get_or parts which []))) (gathered (O.state out.new) gather.new))
+        (λ _. Puts (gathered (O.state out.old) gather.old) [] (gathered (O.state out.new) gather.new)) }
+    ensures cause { HasCause (V.shape view.old).is_reliable result (O.state out.old) (O.state out.new) }
+{
+    match gather.flush(out) {
+        Ok(()) => match gather.fetch(view, which, at, most) {
+            Ok(count) => Ok(count),
+            Err(fault) => Err(WriteFault::View(fault)),
+        },
+        Err(fault) => Err(fault),
+    }
+}
+
+/// Writes the bytes of a part, a bufferful at a time.
+pub(crate) fn put_part<V: DumpView, O: Out>(
+    view: &mut V,
+    out: &mut O,
+    gather: &mut Gather<'_>,
+    which: usize,
+    size: u64,
+) -> Result<(), WriteFault>
+    requires { size ≤ (V.cursor view.old).sizes which }
+    ensures shape { V.shape view.new ≡ V.shape view.old }
+    ensures cursor { OnOk result (V.cursor view.new ≡ V.cursor view.old) }
+    ensures writes { (parts : List (List ℕ)) → (V.cursor view.old).parts ≡ Some parts → length (get_or parts which []) ≡ size
+        → Writes result (gathered (O.state out.old) gather.old) (get_or parts which []) (gathered (O.state out.new) gather.new) }
+    ensures cause { HasCause (V.shape view.old).is_reliable result (O.state out.old) (O.state out.new) }
+{
+    let mut at = match gather.fetch(view, which, 0, size) {
+        Ok(count) => count,
+        Err(fault) => return Err(WriteFault::View(fault)),
+    };
+    while at < size {
+        match fetch_more(view, out, gather, which, at, size - at) {
+            Ok(count) => at += count,
+            Err(fault) => return Err(fault),
+        }
+    }
+    Ok(())
+}
+
+/// Writes the zeros behind so many bytes.
+pub(crate) fn put_padding<O: Out>(
+    out: &mut O,
+    gather: &mut Gather<'_>,
+    size: u64,
+) -> Result<(), WriteFault>
+    ensures writes { Writes result (gathered (O.state out.old) gather.old) (padding size) (gathered (O.state out.new) gather.new) }
+    ensures cause { (reliable : Bool) → HasCause reliable result (O.state out.old) (O.state out.new) }
+{
+    let zeros = [0u8; 3];
+    let count = ((4 - size % 4) % 4) as usize;
+    gather.put(out, &zeros[..count])
+}
+
+/// Writes a part and the zeros behind it.
+pub(crate) fn put_padded<V: DumpView, O: Out>(
+    view: &mut V,
+    out: &mut O,
+    gather: &mut Gather<'_>,
+    which: usize,
+    part: PartSize,
+) -> Result<(), WriteFault>
+    requires { size_in part ≤ (V.cursor view.old).sizes which }
+    ensures shape { V.shape view.new ≡ V.shape view.old }
+    ensures cursor { OnOk result (V.cursor view.new ≡ V.cursor view.old) }
+    ensures writes { (parts : List (List ℕ)) → (V.cursor view.old).parts ≡ Some parts → length (get_or parts which []) ≡ size_in part
+        → Writes result (gathered (O.state out.old) gather.old) (padded (get_or parts which [])) (gathered (O.state out.new) gather.new) }
+    ensures cause { HasCause (V.shape view.old).is_reliable result (O.state out.old) (O.state out.new) }
+{
+    let size = part.size();
+    match put_part(view, out, gather, which, size) {
+        Ok(()) => put_padding(out, gather, size),
+        Err(fault) => Err(fault),
+    }
+}

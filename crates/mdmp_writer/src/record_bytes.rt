@@ -1,0 +1,47 @@
+//! Records to an output.
+ghost use Rattle.std.specs.Prelude.{◌≡◌, ◌≤◌, Bool};
+ghost use Rattle.mdmp_wire.specs.AnyRecord.{any_bytes};
+ghost use Rattle.mdmp_writer.specs.Gather.{gathered, Writes};
+ghost use Rattle.mdmp_writer.specs.Cause.{HasCause};
+
+use crate::fault::WriteFault;
+use crate::gather::Gather;
+use mdmp_source::Out;
+use mdmp_wire::{AnyRecord, Record};
+
+/// Writes a record of at most 168 bytes, which the longest has.
+pub(crate) fn put_record<R: Record, O: Out>(
+    out: &mut O,
+    gather: &mut Gather<'_>,
+    value: &R,
+) -> Result<(), WriteFault>
+    requires { R.SIZE ≤ 168 }
+    ensures writes { Writes result (gathered (O.state out.old) gather.old) (R.bytes_of value.now) (gathered (O.state out.new) gather.new) }
+    ensures cause { (reliable : Bool) → HasCause reliable result (O.state out.old) (O.state out.new) }
+{
+    let mut buffer = [0; 168];
+    let bytes = &mut buffer[..R::SIZE];
+    value.write(bytes);
+    gather.put(out, bytes)
+}
+
+/// Writes a record of any kind.
+pub(crate) fn put_any<O: Out>(
+    out: &mut O,
+    gather: &mut Gather<'_>,
+    row: &AnyRecord,
+) -> Result<(), WriteFault>
+    ensures writes { Writes result (gathered (O.state out.old) gather.old) (any_bytes row.now) (gathered (O.state out.new) gather.new) }
+    ensures cause { (reliable : Bool) → HasCause reliable result (O.state out.old) (O.state out.new) }
+{
+    match row {
+        AnyRecord::Thread(thread) => put_record(out, gather, thread),
+        AnyRecord::Module(module) => put_record(out, gather, module),
+        AnyRecord::Memory(range) => put_record(out, gather, range),
+        AnyRecord::Exception(exception) => put_record(out, gather, exception),
+        AnyRecord::System(system) => put_record(out, gather, system),
+        AnyRecord::Memory64(range) => put_record(out, gather, range),
+        AnyRecord::Unloaded(module) => put_record(out, gather, module),
+        AnyRecord::MemoryInfo(region) => put_record(out, gather, region),
+    }
+}

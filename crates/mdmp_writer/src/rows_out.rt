@@ -1,0 +1,44 @@
+//! The records of a stream to an output.
+ghost use Rattle.std.specs.Prelude.{◌≡◌, ◌<◌, ◌+◌, ◌^◌, List, Some, length};
+ghost use Rattle.mdmp_dump.specs.Seen.{Seen};
+ghost use Rattle.mdmp_writer.specs.Gather.{gathered, Writes};
+ghost use Rattle.mdmp_writer.specs.Cause.{HasCause};
+ghost use Rattle.mdmp_writer.specs.Written.{rows};
+
+use crate::fault::WriteFault;
+use crate::gather::Gather;
+use crate::record_bytes::put_any;
+use mdmp_dump::DumpView;
+use mdmp_source::Out;
+
+/// Writes all records that are left of a stream, so many, whose parts will begin at a place.
+pub(crate) fn put_rows<V: DumpView, O: Out>(
+    view: &mut V,
+    out: &mut O,
+    gather: &mut Gather<'_>,
+    count: u64,
+    at: u64,
+) -> Result<(), WriteFault>
+    requires count { count ≡ (V.cursor view.old).records }
+    requires room { at + (V.cursor view.old).room < 2 ^ 32 }
+    ensures shape { V.shape view.new ≡ V.shape view.old }
+    ensures writes { (xs : List Seen) → (V.cursor view.old).seen ≡ Some xs → length xs ≡ count
+        → Writes result (gathered (O.state out.old) gather.old) (rows at xs) (gathered (O.state out.new) gather.new) }
+    ensures cause { HasCause (V.shape view.old).is_reliable result (O.state out.old) (O.state out.new) }
+{
+    let mut place = at;
+    let mut left = count;
+    while left > 0 {
+        match view.next_record() {
+            Ok(fields) => match put_any(out, gather, &fields.placed(place)) {
+                Ok(()) => {
+                    place += fields.room() as u64;
+                    left -= 1;
+                },
+                Err(fault) => return Err(fault),
+            },
+            Err(fault) => return Err(WriteFault::View(fault)),
+        }
+    }
+    Ok(())
+}

@@ -1,0 +1,70 @@
+//! All streams to an output, and their 64-bit memory behind them.
+ghost use Rattle.std.specs.Prelude.{◌≡◌, ◌<◌, ◌^◌, Some};
+ghost use Rattle.mdmp_dump.specs.View.{DumpSeen};
+ghost use Rattle.mdmp_writer.specs.Block.{AllAreKnown};
+ghost use Rattle.mdmp_writer.specs.Gather.{gathered, Writes};
+ghost use Rattle.mdmp_writer.specs.Layout.{blocks_end, file_size, first_block};
+ghost use Rattle.mdmp_writer.specs.Cause.{HasCause};
+ghost use Rattle.mdmp_writer.specs.Written.{blocks, fars};
+
+use crate::block_out::put_block;
+use crate::far_out::put_far;
+use crate::fault::WriteFault;
+use crate::gather::Gather;
+use crate::layout::room_for;
+use crate::place::Place;
+use mdmp_dump::DumpView;
+use mdmp_source::Out;
+
+/// Writes all streams, from the place of the first.
+pub(crate) fn put_blocks<V: DumpView, O: Out>(
+    view: &mut V,
+    out: &mut O,
+    gather: &mut Gather<'_>,
+    first: Place,
+) -> Result<(), WriteFault>
+    requires at { first.at ≡ first_block (V.shape view.old).streams }
+    requires far { first.far ≡ blocks_end (V.shape view.old).streams }
+    requires low { blocks_end (V.shape view.old).streams < 2 ^ 32 }
+    requires short { file_size (V.shape view.old).streams < 2 ^ 64 }
+    ensures shape { V.shape view.new ≡ V.shape view.old }
+    ensures writes { (x : DumpSeen) → (V.shape view.old).seen ≡ Some x → AllAreKnown x
+        → Writes result (gathered (O.state out.old) gather.old) (blocks x.streams first.at first.far) (gathered (O.state out.new) gather.new) }
+    ensures cause { HasCause (V.shape view.old).is_reliable result (O.state out.old) (O.state out.new) }
+{
+    let mut at = first.at;
+    let mut far = first.far;
+    for stream in 0..view.streams() {
+        let room = room_for(view, stream);
+        match put_block(view, out, gather, stream, Place { at, far }) {
+            Ok(()) => {
+                at += room.block;
+                far += room.far;
+            },
+            Err(fault) => return Err(fault),
+        }
+    }
+    Ok(())
+}
+
+/// Writes the 64-bit memory of all streams.
+pub(crate) fn put_fars<V: DumpView, O: Out>(
+    view: &mut V,
+    out: &mut O,
+    gather: &mut Gather<'_>,
+) -> Result<(), WriteFault>
+    requires low { blocks_end (V.shape view.old).streams < 2 ^ 32 }
+    requires short { file_size (V.shape view.old).streams < 2 ^ 64 }
+    ensures shape { V.shape view.new ≡ V.shape view.old }
+    ensures writes { (x : DumpSeen) → (V.shape view.old).seen ≡ Some x
+        → Writes result (gathered (O.state out.old) gather.old) (fars x.streams) (gathered (O.state out.new) gather.new) }
+    ensures cause { HasCause (V.shape view.old).is_reliable result (O.state out.old) (O.state out.new) }
+{
+    for stream in 0..view.streams() {
+        match put_far(view, out, gather, stream) {
+            Ok(()) => {},
+            Err(fault) => return Err(fault),
+        }
+    }
+    Ok(())
+}
