@@ -1,7 +1,9 @@
 //! Tests of `mdmp_dump`.
-mod built;
+pub mod built;
 mod memory;
+mod placed;
 mod read;
 mod refused;
 mod sizes;
 mod values;
+mod view;

@@ -52,6 +52,21 @@ pub const CRASH: [u32; 65] = [
     0xddccbbaa,
 ];
 
+/// A system with its name, the thread of a crash, no modules, its exception, no ranges of memory,
+/// and a stream of four bytes.
+pub const SIX: [u32; 103] = [
+    7, 56, 104, 3, 52, 196, 4, 4, 260, 6, 168, 264, 5, 4, 436, 12, 4, 440, // the directory
+    0x00060009, 0x01040003, 6, 1, 7601, 2, 160, 0x0100, 0, 0, 0, 0, 0, 0, // the system
+    28, 0x00650053, 0x00760072, 0x00630069, 0x00200065, 0x00610050, 0x006b0063, 0x00310020, 0, 1,
+    7, 0, 32, 0, 0x5000, 0, 0x7000, 0, 4, 248, 6, 252, // the thread
+    0x4b415453, 0x04030201, 0x0605, // its stack and its context
+    0, // no modules
+    7, 0, 0xc0000005, 0, 0, 0, 0x401000, 0, 2, 0, 1, 0, 16, 0, // the exception
+    0, 0, 0, 0, 0, 0, 0, 0, 0, 0, 0, 0, 0, 0, 0, 0, 0, 0, 0, 0, 0, 0, 0, 0, 0, 0, 4, 432,
+    0xddccbbaa, 0, // its context, and no ranges
+    0x04030201,
+];
+
 /// A module with a name, a CodeView record and a miscellaneous one behind it.
 pub const MODULE: [u32; 34] = [
     4, 112, 44, 1, // the directory, and the count

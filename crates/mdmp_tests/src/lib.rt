@@ -24,3 +24,5 @@ mod script;
 mod source;
 #[cfg(test)]
 mod wire;
+#[cfg(test)]
+mod writer;

@@ -1,8 +1,9 @@
 //! Values of dumps that are built by hand, and files that are read into values.
-use mdmp_dump::{Bytes, Dump, ReadFault, Records, Stream, read_dump};
+use mdmp_dump::{Bytes, Dump, Part, PositiveSize, ReadFault, Records, Stream, System, read_dump};
 use mdmp_lister::{Choice, Limits};
 use mdmp_source::{MemoryStore, Source};
-use std::alloc::{AllocError, Allocator};
+use std::alloc::{AllocError, Allocator, Global};
+use std::test::Fail;
 
 /// These bytes in memory of their own.
 pub fn bytes<A: Allocator>(alloc: A, bytes: &[u8]) -> Result<Bytes<A>, AllocError> {
@@ -36,6 +37,40 @@ pub fn dump_of<A: Allocator>(streams: Records<Stream<A>, A>) -> Dump<A> {
         time: 0,
         flags: 0,
         streams,
+    }
+}
+
+/// A part of these bytes.
+pub fn part(alloc: Global, list: &[u8]) -> Result<Part<Global>, AllocError> {
+    Ok(Part::Bytes(bytes(alloc, list)?))
+}
+
+/// A part of which its size alone is known.
+pub fn absent(size: u32) -> Result<Part<Global>, Fail> {
+    Ok(Part::Absent(PositiveSize::new(size).ok_or("a size over 0")?))
+}
+
+/// A dump of one stream.
+pub fn of_one(alloc: Global, stream: Stream<Global>) -> Result<Dump<Global>, AllocError> {
+    Ok(dump_of(one(alloc, stream)?))
+}
+
+/// A system of which the file says nothing.
+pub fn zeros() -> System<Global> {
+    System {
+        processor_architecture: 0,
+        processor_level: 0,
+        processor_revision: 0,
+        number_of_processors: 0,
+        product_type: 0,
+        major_version: 0,
+        minor_version: 0,
+        build_number: 0,
+        platform_id: 0,
+        name: None,
+        suite_mask: 0,
+        reserved2: 0,
+        cpu: [0; 24],
     }
 }
 

@@ -1,51 +1,15 @@
 //! Files that are read into values: one of each kind of stream.
-use super::built::{bytes, dump_of, one, read, read_chosen, two};
+use super::built::{absent, bytes, dump_of, of_one, one, part, read, read_chosen, two, zeros};
 use crate::files::{
     ABSENT_STACK, COMMENT, CRASH, FAULTY, MEMORY64, MODULE, OVERLAPPING, SYSTEM, file, named,
 };
 use crate::opening::chosen;
 use crate::script::{LEAST, NAMED};
 use mdmp_dump::{
-    Dump, Exception, Memory64Range, MemoryRange, Module, Part, PositiveSize, Records, Stream,
-    System, Thread, Unloaded,
+    Dump, Exception, Memory64Range, MemoryRange, Module, Records, Stream, Thread, Unloaded,
 };
 use mdmp_wire::{MemoryInfoRecord, Units, VersionInfo};
-use std::alloc::{AllocError, Global};
 use std::test::Fail;
-
-/// A part of these bytes.
-fn part(alloc: Global, list: &[u8]) -> Result<Part<Global>, AllocError> {
-    Ok(Part::Bytes(bytes(alloc, list)?))
-}
-
-/// A part of which its size alone is known.
-fn absent(size: u32) -> Result<Part<Global>, Fail> {
-    Ok(Part::Absent(PositiveSize::new(size).ok_or("a size over 0")?))
-}
-
-/// A dump of one stream.
-fn of_one(alloc: Global, stream: Stream<Global>) -> Result<Dump<Global>, AllocError> {
-    Ok(dump_of(one(alloc, stream)?))
-}
-
-/// A system of which the file says nothing.
-fn zeros() -> System<Global> {
-    System {
-        processor_architecture: 0,
-        processor_level: 0,
-        processor_revision: 0,
-        number_of_processors: 0,
-        product_type: 0,
-        major_version: 0,
-        minor_version: 0,
-        build_number: 0,
-        platform_id: 0,
-        name: None,
-        suite_mask: 0,
-        reserved2: 0,
-        cpu: [0; 24],
-    }
-}
 
 #[test]
 fn numbers_of_the_header_are_read(rt: HostRuntime) -> Result<(), Fail> {

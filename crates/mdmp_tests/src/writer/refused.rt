@@ -1,0 +1,159 @@
+//! Dumps that can't be written, and why.
+ghost use Rattle.std.specs.Prelude.{[], ◌∷◌, false, None};
+ghost use Rattle.mdmp_dump.specs.declared.view.Kind.TheVariants as kinds;
+ghost use Rattle.std.proofs.lemmas.Option.{none-some};
+
+use super::{open_out, size_of, write_value, write_view};
+use crate::dump::built::{bytes, dump_of, of_one, two};
+use mdmp_dump::{DumpView, Fields, HeaderFields, Kind, Stream, ViewFault};
+use mdmp_source::SourceFault;
+use mdmp_writer::{LayoutFault, WriteFault, written_size};
+use std::alloc::Global;
+use std::test::Fail;
+
+/// A view that only tells sizes: of a stream of raw bytes, and of one of 64-bit memory in no range.
+#[derive(Drop)]
+struct Sizes {
+    stream_type: u32,
+    raw: u64,
+    far: u64,
+}
+
+impl DumpView for Sizes {
+    type Memory = Global;
+
+    ghost shape = { λ v. record {
+      streams = record { kind = kinds.Raw v.stream_type; records = 0; raw = v.raw; parts = 0 }
+          ∷ record { kind = kinds.Known 9; records = 0; raw = 0; parts = v.far } ∷ [];
+      is_reliable = false;
+      seen = None;
+    } };
+
+    ghost cursor = { λ v. record { records = 0; room = 0; far = 0; seen = None; sizes = λ k. 0; parts = None } };
+
+    fn streams(&mut self) -> u64 {
+        2
+    }
+
+    fn header(&mut self) -> HeaderFields {
+        HeaderFields {
+            version_high: 0,
+            checksum: 0,
+            time: 0,
+            flags: 0,
+        }
+    }
+
+    fn kind(&mut self, stream: u64) -> Kind {
+        if stream == 0 {
+            Kind::Raw(self.stream_type)
+        } else {
+            Kind::Known(9)
+        }
+    }
+
+    fn body_size(&mut self, stream: u64) -> u64 {
+        let raw = self.raw;
+        if stream == 0 { raw } else { 16 }
+    }
+
+    fn parts_size(&mut self, stream: u64) -> u64 {
+        let far = self.far;
+        if stream == 0 { 0 } else { far }
+    }
+
+    fn rewind(&mut self, _stream: u64) -> Result<(), ViewFault> {
+        Err(no_bytes())
+    }
+
+    fn next_record(&mut self) -> Result<Fields, ViewFault> {
+        Err(no_bytes())
+    }
+
+    fn part(&mut self, _which: usize, _at: u64, _out: &mut [u8]) -> Result<(), ViewFault> {
+        Err(no_bytes())
+    }
+
+    ghost sound = { λ v x known. absurd (none-some x known) };
+}
+
+/// Sizes alone are known.
+fn no_bytes() -> ViewFault {
+    ViewFault::Source(SourceFault::Failed { at: 0 })
+}
+
+/// How large a dump of a raw stream of so many bytes and of so much 64-bit memory is. Its streams end
+/// 72 bytes behind the raw ones, up to a multiple of 4.
+fn size_by(stream_type: u32, raw: u64, far: u64) -> Result<u64, LayoutFault> {
+    written_size(&mut Sizes {
+        stream_type,
+        raw,
+        far,
+    })
+}
+
+#[test]
+fn raw_bytes_of_a_known_type_are_refused(rt: HostRuntime) -> Result<(), Fail> {
+    for stream_type in [0, 3, 4, 5, 6, 7, 9, 14, 16] {
+        let raw = Stream::Raw(stream_type, bytes(rt.alloc(), &[1])?);
+        let dump = of_one(rt.alloc(), raw)?;
+        let fault = LayoutFault::RawKnownType { stream: 0 };
+        assert_eq!(rt; size_of(&dump), Err(fault), "{stream_type}");
+        let mut out = open_out(rt.alloc())?;
+        let answer = write_value(&dump, &mut out, 1);
+        assert_eq!(rt; answer, Err(WriteFault::Layout(fault)), "{stream_type}");
+        assert_eq!(rt; out.bytes(), b"".as_slice(), "{stream_type}");
+    }
+    Ok(())
+}
+
+#[test]
+fn first_such_stream_is_told(rt: HostRuntime) -> Result<(), Fail> {
+    let raw = Stream::Raw(3, bytes(rt.alloc(), &[])?);
+    let dump = dump_of(two(rt.alloc(), Stream::Unused, raw)?);
+    let fault = LayoutFault::RawKnownType { stream: 1 };
+    assert_eq!(rt; size_of(&dump), Err(fault));
+    Ok(())
+}
+
+#[test]
+fn streams_end_below_2_to_the_32(rt: HostRuntime) {
+    let end: u64 = 1 << 32;
+    for raw in [end - 72, end - 75, end, u64::MAX] {
+        assert_eq!(rt; size_by(10, raw, 0), Err(LayoutFault::TooLarge), "{raw}");
+    }
+    for raw in [end - 76, end - 79] {
+        assert_eq!(rt; size_by(10, raw, 0), Ok(end - 4), "{raw}");
+    }
+    assert_eq!(rt; size_by(10, end - 76, end), Ok(2 * end - 4));
+}
+
+#[test]
+fn file_ends_below_2_to_the_64(rt: HostRuntime) {
+    for far in [u64::MAX - 71, u64::MAX - 74, u64::MAX] {
+        assert_eq!(rt; size_by(10, 0, far), Err(LayoutFault::TooLarge), "{far}");
+    }
+    for far in [u64::MAX - 75, u64::MAX - 78] {
+        assert_eq!(rt; size_by(10, 0, far), Ok(u64::MAX - 3), "{far}");
+    }
+}
+
+#[test]
+fn dump_that_is_too_large_is_not_begun(rt: HostRuntime) -> Result<(), Fail> {
+    let mut view = Sizes {
+        stream_type: 10,
+        raw: 1 << 32,
+        far: 0,
+    };
+    let mut out = open_out(rt.alloc())?;
+    let fault = WriteFault::Layout(LayoutFault::TooLarge);
+    assert_eq!(rt; write_view(&mut view, &mut out, 1), Err(fault));
+    assert_eq!(rt; out.bytes(), b"".as_slice());
+    Ok(())
+}
+
+#[test]
+fn type_is_told_before_the_size(rt: HostRuntime) {
+    let fault = LayoutFault::RawKnownType { stream: 0 };
+    assert_eq!(rt; size_by(3, u64::MAX, u64::MAX), Err(fault));
+}

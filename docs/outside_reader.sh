@@ -1,0 +1,31 @@
+#!/bin/sh
+# Writes the value of each real dump anew, and compares what a reader that is not of this repository
+# finds in the dump and in the file that was written: LLVM's obj2yaml, which prints a dump's records,
+# names and bytes, and no place where they stand.
+#
+# It wants obj2yaml of LLVM 19 (Debian: llvm-19), and the program of crates/mdmp_rewrite, which
+# 'rt run' leaves in that folder's out/. Both have another place in OBJ2YAML and REWRITE.
+set -eu
+cd "$(dirname "$0")/.."
+obj2yaml=${OBJ2YAML:-/usr/lib/llvm-19/bin/obj2yaml}
+rewrite=${REWRITE:-crates/mdmp_rewrite/out/mdmp_rewrite}
+folder=$(mktemp -d)
+trap 'rm -r "$folder"' EXIT
+status=0
+for dump in crates/mdmp_samples/data/*.dmp; do
+    name=$(basename "$dump")
+    if ! "$obj2yaml" "$dump" > "$folder/read" 2> "$folder/why"; then
+        echo "$name: not read by obj2yaml: $(cat "$folder/why")"
+        status=1
+        continue
+    fi
+    size=$("$rewrite" "$dump" "$folder/$name")
+    "$obj2yaml" "$folder/$name" > "$folder/again"
+    if diff "$folder/read" "$folder/again"; then
+        echo "$name: written in $size, $(wc -l < "$folder/read") lines, no difference"
+    else
+        echo "$name: written in $size, other lines"
+        status=1
+    fi
+done
+exit $status
