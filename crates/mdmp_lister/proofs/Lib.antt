@@ -1,8 +1,10 @@
 pub mod AddressRows
 pub mod Addresses
 pub mod Advancing
+pub mod Asides
 pub mod Bodies
 pub mod Classes
+pub mod CodeViews
 pub mod Costs
 pub mod Directory
 pub mod Ending

@@ -1,5 +1,5 @@
 -- What a contract sees of a lister.
-use Rattle.std.specs.Prelude.{◌≡◌, ◌≤◌, ◌<◌, ◌+◌, ◌-◌, ◌*◌, ℕ, length, List, [], ◌∷◌, ◌++◌, drop, slice_get, Bool, true, false, Option, None, Some, Result, Ok, Err, IfOk, IfErr, IfSome, IsOk}
+use Rattle.std.specs.Prelude.{◌≡◌, ◌≤◌, ◌<◌, ◌+◌, ◌-◌, ◌*◌, ℕ, length, List, [], ◌∷◌, ◌++◌, drop, slice_get, Bool, true, false, not, is_some, ◌==◌, ◌&&◌, Option, None, Some, Result, Ok, Err, IfOk, IfErr, IfSome, IsOk}
 use Rattle.std.specs.Option.{option_map}
 use Rattle.mdmp_source.specs.Count.{raised}
 use Rattle.mdmp_source.specs.Source.{SourceState, FetchesAtMost, IsTold}
@@ -136,6 +136,10 @@ abbrev pub is_for_good : Option (Option ListFault) → Bool
 is_for_good None = false
 is_for_good (Some None) = true
 is_for_good (Some (Some f)) = is_of_source f.kind
+
+-- no item, verdict or fault was given yet, nor the end
+abbrev pub is_fresh : ListerState → Bool
+is_fresh v = v.passed == 0 && not (is_some v.stop)
 
 -- a lister that was opened over a source, and has given nothing
 pub record IsNewLister (source : SourceState) (choice : Choice) (limits : Limits) (new : ListerState) : Type 0 where

@@ -29,6 +29,7 @@
 
 mod addressing;
 mod choice;
+mod codeview;
 mod counting;
 mod counts;
 mod fault;
@@ -53,6 +54,7 @@ mod verdict;
 mod walk;
 
 pub use crate::choice::{Choice, TypeSet};
+pub use crate::codeview::CodeViewBytes;
 pub use crate::counts::Counts;
 pub use crate::fault::{Fault, FaultKind, ListFault, OpenFault};
 pub use crate::item::{

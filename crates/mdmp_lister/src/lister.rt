@@ -4,6 +4,8 @@ ghost use Rattle.std.specs.Borrow.{sem};
 ghost use Rattle.std.specs.Io.BufRead.{Rests};
 ghost use Rattle.mdmp_source.specs.Range.{IsInside, bytes_at};
 ghost use Rattle.mdmp_source.specs.Store.{IsGood, IsSizeOf};
+ghost use Rattle.mdmp_wire.specs.CodeView.{codeview_of};
+ghost use Rattle.mdmp_lister.specs.CodeView.{codeview_told};
 ghost use Rattle.mdmp_lister.specs.Opening.{IsHandedBack, IsOpenRefusal, IsRefusalOf, IsUnread, IsUnreadFor};
 ghost use Rattle.mdmp_lister.specs.Format.Refusal.{opening_fault};
 ghost use Rattle.mdmp_map.specs.Map.{free_of};
@@ -18,6 +20,7 @@ ghost use Rattle.mdmp_lister.specs.Stage.{stop_after, stop_after_run};
 
 use crate::addressing::read_addresses;
 use crate::choice::Choice;
+use crate::codeview::CodeViewBytes;
 use crate::counts::{Counts, listed_bytes};
 use crate::fault::{ListFault, OpenFault};
 use crate::item::Item;
@@ -27,7 +30,7 @@ use crate::sink::{RunFault, Sink, Stopped};
 use crate::stage::Stage;
 use crate::walk::{Walk, refused};
 use mdmp_map::AddressMap;
-use mdmp_source::{Extent, Source, SourceFault, Store};
+use mdmp_source::{Extent, Location, Source, SourceFault, Store};
 use mdmp_wire::{Entry, Header, Record};
 use std::alloc::{AllocError, Allocator};
 use std::marker::Model;
@@ -81,7 +84,7 @@ impl<S: Store + Drop, A: Allocator + Copy> Model for Lister<S, A> {
 impl<S: Store + Drop, A: Allocator + Copy> Lister<S, A> {
     ghost use Rattle.mdmp_lister.specs.contracts.lister.Lister.{the_row};
     ghost use Rattle.mdmp_lister.specs.Sink.{RunLeaves};
-    ghost use Rattle.mdmp_lister.specs.Lister.{Gives, IsNewLister, IsRecordsLeft, IsSameLister, Leaves, ReadsAside, is_for_good, listing_behind};
+    ghost use Rattle.mdmp_lister.specs.Lister.{Gives, IsNewLister, IsRecordsLeft, IsSameLister, Leaves, ReadsAside, is_for_good, is_fresh, listing_behind};
 
     /// Opens a file. Its header is read; memory is taken for the directory, the window and a name; the
     /// directory is read, and the ranges of the chosen memory lists are counted by their heads; then
@@ -200,6 +203,17 @@ impl<S: Store + Drop, A: Allocator + Copy> Lister<S, A> {
         }
     }
 
+    /// Whether no item, verdict or fault was given yet, nor the end. Calls aside don't change it.
+    pub fn is_fresh(&self) -> bool
+        ensures { result ≡ is_fresh self.now }
+    {
+        match self.walk.stage {
+            Stage::Between => self.walk.next == 0,
+            Stage::Head | Stage::Records { .. } | Stage::Bad(_) | Stage::Failed(_) | Stage::Ended =>
+                false,
+        }
+    }
+
     /// Drops what is left of the entry whose Stream item was given last. Before the first one, behind
     /// the end and after a fault of the store it changes nothing.
     pub fn skip_entry(&mut self)
@@ -282,6 +296,20 @@ impl<S: Store + Drop, A: Allocator + Copy> Lister<S, A> {
         ensures reads { ReadsAside (length out.new) result self.old self.new }
     {
         self.walk.meter.fetch_aside(at, out)
+    }
+
+    /// Fetches the CodeView record of a module, which its `CvRecord` locates and which lies inside the
+    /// file: [`CodeViewBytes::read`] says what it tells. At most 24 bytes are fetched and, of a record of
+    /// the kind RSDS, as many of those behind them as the limit on names: they are lent until the next
+    /// call. After a fault of the store what is listed stays as it was.
+    pub fn codeview(&mut self, location: Location) -> Result<CodeViewBytes<'_>, SourceFault>
+        requires { IsInside location.rva location.size self.old.source.size }
+        ensures value { (file : List ℕ) → self.old.source.store.content ≡ Some file → IfOk result (λ bytes. codeview_told bytes ≡ codeview_of file location self.old.limit) }
+        ensures* reads { sem 𝓛 (Rests (the_row S.row A.row S.Store A.Allocator) self.entry (ReadsAside (24 + self.old.limit) result self.old)) }
+        ensures good { (file : List ℕ) → IsGood self.old.source.store file → IsOk result }
+    {
+        let read = self.walk.fetch_codeview(location)?;
+        Ok(self.walk.codeview(read))
     }
 
     /// Hands the source back.

@@ -1,11 +1,14 @@
 //! The walk over the entries of a file, without its public face.
 ghost use Rattle.std.specs.Prelude.{◌≡◌, ◌+◌, ◌^◌, ◌≤◌, ◌<◌, ◌-◌, IfOk, IfErr, MatchResult, vec_len};
+ghost use Rattle.mdmp_source.specs.Range.{IsInside};
+ghost use Rattle.mdmp_lister.specs.CodeView.{codeview_read, codeview_told};
 ghost use Rattle.mdmp_lister.specs.Opening.{IsRefused};
 ghost use Rattle.mdmp_lister.specs.Stage.{fault_stage};
 ghost use Rattle.mdmp_lister.specs.Step.{IsItemOf, IsNameHeld, bytes_behind};
 ghost use Rattle.mdmp_lister.specs.Walk.Owing.{HasRoom, count_answered};
 
 use crate::choice::Choice;
+use crate::codeview::{CodeViewBytes, CodeViewRead, read_codeview};
 use crate::counting::count_ranges;
 use crate::fault::{Fault, FaultKind, ListFault, OpenFault};
 use crate::heading::head_at;
@@ -46,7 +49,7 @@ pub(crate) struct Walk<S: Store + Drop, A: Allocator + Copy> {
 }
 
 impl<S: Store + Drop, A: Allocator + Copy> Walk<S, A> {
-    ghost use Rattle.mdmp_lister.specs.Walk.Requests.{Answered, EntrySkipped, HeadRead, StepTaken};
+    ghost use Rattle.mdmp_lister.specs.Walk.Requests.{Answered, CodeViewFetched, EntrySkipped, HeadRead, StepTaken};
     ghost use Rattle.mdmp_lister.specs.Walk.{CountsRanges, IsListing, IsNewWalk, IsSound, IsThrough};
 
     /// Reads the header and the directory of a file, and takes all the memory that a walk needs.
@@ -129,6 +132,29 @@ impl<S: Store + Drop, A: Allocator + Copy> Walk<S, A> {
         match step {
             Step::Stream(stream) => Item::Stream(stream),
             Step::Record(read) => record_item(read, &self.name, self.meter.size()),
+        }
+    }
+
+    /// Fetches what a CodeView record tells, the bytes behind its first 24 into the front of the buffer of
+    /// names.
+    pub(crate) fn fetch_codeview(&mut self, location: Location) -> Result<CodeViewRead, SourceFault>
+        requires sound { IsSound self.old }
+        requires inside { IsInside location.rva location.size self.old.meter.source.size }
+        ensures { CodeViewFetched location self.old result self.new }
+    {
+        read_codeview(&mut self.meter, location, &mut self.name)
+    }
+
+    /// The bytes of a CodeView record that were fetched, those behind the first 24 lent.
+    pub(crate) fn codeview(&self, read: CodeViewRead) -> CodeViewBytes<'_>
+        requires { read.rest ≤ vec_len self.now.name }
+        ensures { codeview_told result ≡ codeview_read self.now.name.items read }
+    {
+        let CodeViewRead { head, rest, size } = read;
+        CodeViewBytes {
+            head,
+            rest: &self.name[..rest],
+            size,
         }
     }
 

@@ -2,9 +2,13 @@
 use Rattle.std.specs.Prelude.{◌≡◌, ◌≤◌, ◌<◌, ◌+◌, ℕ, List, Option, Some, None, Result, IfOk, IfErr, IfSome, IsTrue, false, vec_len}
 use Rattle.mdmp_source.specs.Source.{FetchesAtMost}
 use Rattle.mdmp_source.specs.Store.{IsGood}
+use Rattle.mdmp_source.specs.declared.fault.SourceFault.{SourceFault}
+use Rattle.mdmp_source.specs.declared.location.Location.{Location}
+use Rattle.mdmp_lister.specs.declared.codeview.CodeViewRead.{CodeViewRead}
 use Rattle.mdmp_lister.specs.declared.fault.ListFault.{ListFault}
 use Rattle.mdmp_lister.specs.declared.step.Step.{Step}
 use Rattle.mdmp_lister.specs.declared.walk.Walk.{Walk}
+use Rattle.mdmp_lister.specs.CodeView.{ReadsCodeView}
 use Rattle.mdmp_lister.specs.Costs.{given_spent, head_left, head_told}
 use Rattle.mdmp_lister.specs.Heading.{head_of}
 use Rattle.mdmp_lister.specs.Meter.{Books, Moves, counts_of}
@@ -81,3 +85,9 @@ module _ {S A : Type 0} where
     pub paid : (allowed before : ℕ) → IsPaid allowed before old → IsPaid allowed before new
     pub room : (room : ℕ) → HasRoom room 0 old → HasRoom room 0 new
     pub rests : work_of new ≤ work_of old
+
+  -- a CodeView record was read, and but for what was counted and the bytes of the buffer of names the walk stays
+  pub record CodeViewFetched (at : Location) (old : Walk S A) (result : Result CodeViewRead SourceFault) (new : Walk S A) : Type 0 where
+    pub same : new ≡ record old { meter = new.meter; name = new.name }
+    pub room : vec_len new.name ≡ vec_len old.name
+    pub read : ReadsCodeView at (vec_len old.name) new.name.items result old.meter new.meter

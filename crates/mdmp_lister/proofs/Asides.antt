@@ -1,0 +1,74 @@
+-- What is read beside the listing leaves of a walk.
+use Rattle.std.proofs.Common.{◌≡◌, ◌+◌, ◌-◌, ◌∙◌, ℕ, List, Result, ap, sym, vec_len}
+use Rattle.std.specs.Option.{option_map}
+use Rattle.mdmp_source.specs.declared.fault.SourceFault.{SourceFault}
+use Rattle.mdmp_source.specs.declared.location.Location.{Location}
+use Rattle.mdmp_map.specs.Map.{MapState}
+use Rattle.mdmp_lister.specs.declared.codeview.CodeViewRead.{CodeViewRead}
+use Rattle.mdmp_lister.specs.declared.walk.Walk.{Walk}
+use Rattle.mdmp_lister.specs.Costs.{head_left}
+use Rattle.mdmp_lister.specs.Format.Listing.{Run, joined, listing_from}
+use Rattle.mdmp_lister.specs.Lister.{ListerState}
+use Rattle.mdmp_lister.specs.Meter.{BooksAside}
+use Rattle.mdmp_lister.specs.Walk.Mapping.{IsMapped}
+use Rattle.mdmp_lister.specs.Walk.Requests.{CodeViewFetched}
+use Rattle.mdmp_lister.specs.Walk.{left_of, left_of_entry}
+
+-- what a lister is to its callers
+abbrev pub viewed : {T : Type 0} {x y : T} → x ≡ y → T
+viewed {T} {x} {y} same = x
+
+pub state_aside : (old new : ListerState) → new ≡ record old { source = new.source; counts = new.counts; limit = new.limit; left = new.left; head = new.head } → new.limit ≡ old.limit → new.left ≡ old.left → new.head ≡ old.head
+    → new ≡ record old { source = new.source; counts = new.counts }
+state_aside old new is limit left head =
+    is ∙ ap (λ n. record old { source = new.source; counts = new.counts; limit = n; left = new.left; head = new.head }) limit
+    ∙ ap (λ run. record old { source = new.source; counts = new.counts; left = run; head = new.head }) left
+    ∙ ap (λ n. record old { source = new.source; counts = new.counts; head = n }) head
+
+module _ {S A : Type 0} where
+  -- but for what was counted and the bytes of the buffer of names it stays
+  aside_mapped : (n : ℕ) (w new : Walk S A) (map : MapState) → IsMapped w map → BooksAside n w.meter new.meter → vec_len new.name ≡ vec_len w.name → IsMapped (record w { meter = new.meter; name = new.name }) map
+  aside_mapped n w new map old books room =
+      let content = books.fetches.same_content in
+      let size = books.fetches.same_size in
+      record {
+        sound = record {
+          sized = rw (content, size) old.sound.sized;
+          window = old.sound.window;
+          small = rw room old.sound.small;
+          few = old.sound.few;
+          placed = old.sound.placed;
+          staged = rw size old.sound.staged;
+          headed = λ file known. old.sound.headed file (sym content ∙ known);
+          ended = old.sound.ended;
+          directory = λ file known. old.sound.directory file (sym content ∙ known);
+          header_is = λ file known. old.sound.header_is file (sym content ∙ known);
+          unfailed = λ file good. old.sound.unfailed file (record { known = sym content ∙ good.known; reliable = rw (← books.fetches.same_reliable) good.reliable });
+        };
+        room = record { ahead = old.room.ahead; owed = λ file known. old.room.owed file (sym content ∙ known) };
+        inside = rw size old.inside;
+        bounded = record {
+          bytes = rw (size, room, books.spends.same_fetched, books.spends.same_names) old.bounded.bytes;
+          names = rw books.spends.same_names old.bounded.names;
+        };
+        counted = λ file known. old.counted file (sym content ∙ known);
+      }
+
+  pub codeview_mapped : (at : Location) (w new : Walk S A) (result : Result CodeViewRead SourceFault) (map : MapState) → CodeViewFetched at w result new → IsMapped w map → IsMapped new map
+  codeview_mapped at w new result map fetched old = rw fetched.same (aside_mapped (24 + vec_len w.name) w new map old fetched.read.reads.books fetched.room)
+
+  -- what is left, where names have at most `limit` bytes
+  abbrev left_by : ℕ → Walk S A → List ℕ → Run
+  left_by limit w file = joined (left_of_entry file limit (w.next - 1) w.current w.stage) (listing_from file w.choice limit w.next)
+
+  pub codeview_left : (at : Location) (w new : Walk S A) (result : Result CodeViewRead SourceFault) → CodeViewFetched at w result new
+      → option_map (left_of new) new.meter.source.store.content ≡ option_map (left_of w) w.meter.source.store.content
+  codeview_left at w new result fetched =
+      ap (λ (n : Walk S A). option_map (left_of n) n.meter.source.store.content) fetched.same
+      ∙ ap (λ limit. option_map (left_by limit w) new.meter.source.store.content) fetched.room
+      ∙ ap (option_map (left_of w)) fetched.read.reads.books.fetches.same_content
+
+  pub codeview_head : (at : Location) (w new : Walk S A) (result : Result CodeViewRead SourceFault) → CodeViewFetched at w result new
+      → head_left new.meter.source.size new.current new.stage ≡ head_left w.meter.source.size w.current w.stage
+  codeview_head at w new result fetched =
+      ap (λ (n : Walk S A). head_left n.meter.source.size n.current n.stage) fetched.same ∙ ap (λ size. head_left size w.current w.stage) fetched.read.reads.books.fetches.same_size

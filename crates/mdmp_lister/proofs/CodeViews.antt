@@ -1,0 +1,35 @@
+-- What is fetched of a CodeView record.
+use Rattle.std.proofs.Common.{◌≡◌, ◌≤◌, ◌+◌, ◌-◌, ◌++◌, ◌∙◌, ℕ, List, ap, arith, drop, length, min, subst, take}
+use Rattle.std.proofs.Math.Seq.{take-append_seam}
+use Rattle.mdmp_source.specs.SourceLaws.{fetches_then}
+use Rattle.mdmp_source.specs.declared.location.Location.{Location}
+use Rattle.mdmp_wire.specs.CodeView.{codeview_in, codeview_of}
+use Rattle.mdmp_wire.specs.Number.{array_at}
+use Rattle.mdmp_lister.specs.Meter.{MeterState, BooksAside}
+use Rattle.mdmp_lister.proofs.Fetches.{FetchesAtMost-within}
+
+pub BooksAside-then : (m n k : ℕ) (a b c : MeterState) → m + n ≤ k → BooksAside m a b → BooksAside n b c → BooksAside k a c
+BooksAside-then m n k a b c le first then = record {
+  fetches = FetchesAtMost-within (m + n) k a.source c.source le (fetches_then m n a.source b.source c.source first.fetches then.fetches);
+  spends = record {
+    aside = omega (arith, le, first.spends.aside, then.spends.aside);
+    more = omega (arith, first.spends.more, then.spends.more);
+    same_fetched = then.spends.same_fetched ∙ first.spends.same_fetched;
+    same_calls = then.spends.same_calls ∙ first.spends.same_calls;
+    same_names = then.spends.same_names ∙ first.spends.same_names;
+    same_start = then.spends.same_start ∙ first.spends.same_start;
+  };
+}
+
+-- the front of a buffer, of which so many bytes were written
+pub front-kept : (front past : List ℕ) (count : ℕ) → length front ≡ count → take count (front ++ past) ≡ front
+front-kept front past count long = subst (λ n. take n (front ++ past) ≡ front) long (take-append_seam front past)
+
+-- what a record tells by its first bytes and the fetched ones behind them
+pub codeview-fetched : (F head name past : List ℕ) (at : Location) (limit count : ℕ) → head ≡ take (length head) (drop at.rva F) → length head ≡ min at.size 24
+    → name ≡ take (length name) (drop (at.rva + 24) F) → length name ≡ count → count ≡ min (at.size - 24) limit → codeview_in head (take count (name ++ past)) at.size ≡ codeview_of F at limit
+unfolding array_at
+codeview-fetched F head name past at limit count first size behind long fits =
+    let front : head ≡ array_at F at.rva (min at.size 24) = subst (λ n. head ≡ take n (drop at.rva F)) size first in
+    let rest : name ≡ array_at F (at.rva + 24) (min (at.size - 24) limit) = subst (λ n. name ≡ take n (drop (at.rva + 24) F)) (long ∙ fits) behind in
+    ap (λ bytes. codeview_in bytes (take count (name ++ past)) at.size) front ∙ ap (λ bytes. codeview_in (array_at F at.rva (min at.size 24)) bytes at.size) (front-kept name past count long ∙ rest)

@@ -1,0 +1,59 @@
+use Rattle.std.proofs.Common.{◌≡◌, ◌∙◌, Err, refl, rules}
+use Rattle.mdmp_lister.proofs.Asides.{codeview_head, codeview_left, codeview_mapped, state_aside, viewed}
+use Rattle.mdmp_lister.proofs.Fetches.{good_caused}
+use Rattle.mdmp_lister.proofs.lister.Lister.codeview.Goals as goal
+
+pub returns-in_err-read : goal.returns-in_err-read
+returns-in_err-read g c =
+    let w = c.self.inside.walk in
+    let n = c.fetch_codeview.new.self in
+    let e = c.in_err-read.ensures in
+    let f = c.in_err-read.field-0.0 in
+    let books = e.read.reads.books in
+    let is : c.from_residual.result ≡ Err f = search rules in
+    rw (← c.self.view_is) (rw is (
+      (
+        refl,
+        λ _. tt,
+        record {
+          same = state_aside (viewed c.self.view_is) _ (rw e.same refl) e.room (codeview_left c.args.location w n _ e) (codeview_head c.args.location w n _ e);
+          aside = books.spends;
+          fetches = books.fetches;
+          told = e.read.reads.caused.told;
+          good = λ file good. good_caused {T = Unit {0}} w.meter.source n.meter.source (Err f) file e.read.reads.caused good;
+        },
+      ),
+      record {
+        value = λ file known. tt;
+        reads = tt;
+        good = λ file good. good_caused {T = Unit {0}} w.meter.source n.meter.source (Err f) file e.read.reads.caused good;
+      },
+    ))
+
+pub returns : goal.returns
+returns g c =
+    let w = c.self.inside.walk in
+    let n = c.fetch_codeview.new.self in
+    let e = c.in_ok-read.ensures in
+    let books = e.read.reads.books in
+    rw (← c.self.view_is) (
+      (
+        refl,
+        λ _. tt,
+        record {
+          same = state_aside (viewed c.self.view_is) _ (rw e.same refl) e.room (codeview_left c.args.location w n _ e) (codeview_head c.args.location w n _ e);
+          aside = books.spends;
+          fetches = books.fetches;
+          told = tt;
+          good = λ file good. refl;
+        },
+      ),
+      record {
+        value = λ file known. c.codeview.ensures ∙ e.read.reads.of_file file known;
+        reads = tt;
+        good = λ file good. refl;
+      },
+    )
+
+pub invariant_of-self-2 : goal.invariant_of-self-2
+invariant_of-self-2 g c = codeview_mapped c.args.location c.self.inside.walk c.fetch_codeview.new.self c.fetch_codeview.result c.self.inside.map c.fetch_codeview.ensures c.self.invariant
