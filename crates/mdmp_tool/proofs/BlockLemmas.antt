@@ -1,18 +1,19 @@
--- Runs of `list` and `hex` whose output is gathered into blocks.
-use Rattle.std.proofs.Common.{◌≡◌, ◌≤◌, ◌∙◌, ◌++◌, ℕ, List, [], Option, Some, None, ap, sym, refl, append_assoc, append-nil, subst, arith, inl, inr}
+-- A run whose output is gathered into blocks, and the flush behind it.
+use Rattle.std.proofs.Common.{◌≡◌, ◌≤◌, ◌∙◌, ◌++◌, ℕ, Bool, true, false, List, [], ◌∷◌, Option, Some, None, ap, sym, refl, append_assoc, append-nil, subst, arith, inl, inr}
 use Rattle.std.specs.Prelude.{Result, Ok, Err}
 use Rattle.std.specs.Io.KnownBytes.{append_known}
 use Rattle.mdmp_source.specs.Count.{HasRisen}
 use Rattle.mdmp_source.specs.Output.{OutState, Keeps, Takes, TakesPrefix, PutsAll}
 use Rattle.mdmp_source.specs.Blocks.{MovesFront}
 use Rattle.mdmp_source.specs.BlockLaws.{Keeps-moved}
+use Rattle.mdmp_source.specs.OutputLaws.{PutsAll-nothing}
 use Rattle.mdmp_tool.specs.declared.fault.ToolFault.{ToolFault}
 use Rattle.mdmp_tool.specs.declared.fault.ToolFault.TheVariants.{Opening, List as BadList, Source, Out, Memory}
-use Rattle.mdmp_tool.specs.Text.{list_text}
-use Rattle.mdmp_tool.specs.Runs.{Lists, StopsShort}
-use Rattle.mdmp_lister.specs.Format.Listing.{listing, memory_lists}
-use Rattle.mdmp_tool.specs.HexRuns.{Hexes, hex_of_run}
-use Rattle.mdmp_tool.specs.Blockwise.{EndsFlushed, HexesThrough, IsFlushed, IsFirstPart, ListsThrough, RefusesWithin, stands, refused}
+use Rattle.mdmp_source.specs.Store.{StoreState}
+use Rattle.mdmp_lister.specs.declared.choice.Choice.{Choice}
+use Rattle.mdmp_tool.proofs.Engining.{cause_from}
+use Rattle.mdmp_tool.specs.Causes.{HasOutCause}
+use Rattle.mdmp_tool.specs.Engines.{EndsFlushed, IsFirstPart, IsFlushed, IsQuiet, RefusesWithin, Runs, RunsThrough, StopsShort, Tells, UnlessEarly, Writes, directly, early_text, in_blocks, refused, stands}
 
 -- ---- what has been taken, with nothing pending
 
@@ -57,8 +58,20 @@ TakesPrefix-Keeps a b c text cut kept = record {
   took = λ start known. kept (start ++ cut.sent) (cut.took start known);
 }
 
+sent_none : (sent rest : List ℕ) → [] ≡ sent ++ rest → sent ≡ []
+sent_none [] rest whole = refl
+sent_none (x ∷ sent) rest whole = absurd (cc)
+
 nothing : (a b : Option (List ℕ)) (text : List ℕ) → Takes a [] b → TakesPrefix a text b
 nothing a b text took = record { sent = []; rest = text; whole = refl; took = took }
+
+none_of : (a b : Option (List ℕ)) (text : List ℕ) → TakesPrefix a [] b → TakesPrefix a text b
+none_of a b text cut = record {
+  sent = [];
+  rest = text;
+  whole = refl;
+  took = subst (λ (sent : List ℕ). Takes a sent b) (sent_none cut.sent cut.rest cut.whole) cut.took;
+}
 
 all : (a b : Option (List ℕ)) (text : List ℕ) → Takes a text b → TakesPrefix a text b
 all a b text took = record { sent = text; rest = []; whole = sym (append-nil text); took = took }
@@ -104,109 +117,108 @@ part_out a b c old pending left text f risen cut = record {
   refused = risen;
 }
 
--- ---- a run of `list`
+-- ---- what a run says of its output
 
 -- whatever the answer, what was written is a prefix of the text
-Lists-prefix : (F : List ℕ) (limit : ℕ) (a b : OutState) (r : Result (Unit {0}) ToolFault) → Lists F limit a r b → TakesPrefix a.taken (list_text F limit) b.taken
-Lists-prefix F limit a b (Ok x) listed = all a.taken b.taken (list_text F limit) listed.text.took
-Lists-prefix F limit a b (Err (BadList f)) listed = all a.taken b.taken (list_text F limit) listed.text.took
-Lists-prefix F limit a b (Err (Opening f)) listed = nothing a.taken b.taken (list_text F limit) listed.nothing.took
-Lists-prefix F limit a b (Err Memory) listed = nothing a.taken b.taken (list_text F limit) listed.nothing.took
-Lists-prefix F limit a b (Err (Source f)) fails = elim fails [
-  | inl none ↦ nothing a.taken b.taken (list_text F limit) none.took
-  | inr begun ↦ begun.short.took
-]
-Lists-prefix F limit a b (Err Out) cut = cut.took
+Writes-prefix : (is_early : Bool) (text : List ℕ) (a b : OutState) (r : Result (Unit {0}) ToolFault) → Writes is_early text a r b → TakesPrefix a.taken text b.taken
+Writes-prefix is_early text a b (Ok x) put = all a.taken b.taken text put.took
+Writes-prefix is_early text a b (Err (BadList f)) put = all a.taken b.taken text put.took
+Writes-prefix is_early text a b (Err (Opening f)) put = nothing a.taken b.taken text put.took
+Writes-prefix is_early text a b (Err Memory) put = nothing a.taken b.taken text put.took
+Writes-prefix true text a b (Err (Source f)) short = short.took
+Writes-prefix false text a b (Err (Source f)) short = none_of a.taken b.taken text short.took
+Writes-prefix is_early text a b (Err Out) cut = cut.took
 
--- an output's count of refusals does not fall
-Lists-failures : (F : List ℕ) (limit : ℕ) (a b : OutState) (r : Result (Unit {0}) ToolFault) → Lists F limit a r b → a.failures ≤ b.failures
-Lists-failures F limit a b (Ok x) l = omega (arith, l.text.steady)
-Lists-failures F limit a b (Err (BadList f)) l = omega (arith, l.text.steady)
-Lists-failures F limit a b (Err (Opening f)) l = omega (arith, l.nothing.steady)
-Lists-failures F limit a b (Err Memory) l = omega (arith, l.nothing.steady)
-Lists-failures F limit a b (Err (Source f)) fails = elim fails [ inl none ↦ omega (arith, none.steady) | inr l ↦ omega (arith, l.short.steady) ]
-Lists-failures F limit a b (Err Out) l = omega (arith, l.refused)
+-- the output's count of refusals does not fall
+no_fewer : (a b : OutState) (r : Result (Unit {0}) ToolFault) → HasOutCause a r b → a.failures ≤ b.failures
+no_fewer a b (Ok x) cause = omega (arith, cause)
+no_fewer a b (Err (BadList f)) cause = omega (arith, cause)
+no_fewer a b (Err (Opening f)) cause = omega (arith, cause)
+no_fewer a b (Err Memory) cause = omega (arith, cause)
+no_fewer a b (Err (Source f)) cause = omega (arith, cause)
+no_fewer a b (Err Out) cause = omega (arith, cause)
 
-pub ListsThrough-flushed : (F : List ℕ) (limit : ℕ) (a b c : OutState) (old pending left : List ℕ) (r s : Result (Unit {0}) ToolFault) → old ≡ []
-    → MovesFront b pending c left → IsFlushed s left → EndsFlushed r s b c → Lists F limit (with_pending a old) r (with_pending b pending) → ListsThrough F limit a s c
-ListsThrough-flushed F limit a b c old pending left r s none moved flushed ends listed = by ends where
+-- ---- a run that is flushed
+
+pub Runs-flushed : (F : List ℕ) (choice : Choice) (Ends : Result (Unit {0}) ToolFault → Type 0) (is_early : Bool) (text : List ℕ) (a b c : OutState) (old pending left : List ℕ)
+    (r s : Result (Unit {0}) ToolFault) → old ≡ [] → MovesFront b pending c left → IsFlushed s left → EndsFlushed r s b c → HasOutCause (with_pending a old) r (with_pending b pending)
+    → Runs F choice Ends is_early text (with_pending a old) r (with_pending b pending) → RunsThrough F choice Ends is_early text a s c
+Runs-flushed F choice Ends is_early text a b c old pending left r s none moved flushed ends cause run = by ends where
   flush : Flush a b c old pending left
   flush = record { none = none; moved = moved }
 
-  cut : HasRisen a.failures c.failures → RefusesWithin a (list_text F limit) c
-  cut risen = part_out a b c old pending left (list_text F limit) flush risen (Lists-prefix F limit (with_pending a old) (with_pending b pending) r listed)
-
-  put : (text : List ℕ) → left ≡ [] → c.failures ≡ b.failures → PutsAll (with_pending a old) text (with_pending b pending) → PutsAll a text c
-  put text = all_out a b c old pending left text flush
-
-  through : (r : Result (Unit {0}) ToolFault) → IsFlushed r left → c.failures ≡ b.failures → Lists F limit (with_pending a old) r (with_pending b pending)
-      → (HasRisen a.failures c.failures → RefusesWithin a (list_text F limit) c) → ListsThrough F limit a r c
-  through (Ok x) done same l cut = record { opened = l.opened; ends = l.ends; text = put (list_text F limit) done same l.text }
-  through (Err (BadList f)) done same l cut = record { opened = l.opened; ends = l.ends; text = put (list_text F limit) done same l.text }
-  through (Err (Opening f)) done same l cut = record { refused = l.refused; nothing = put [] done same l.nothing }
-  through (Err Memory) done same l cut = record { opened = l.opened; nothing = put [] done same l.nothing }
-  through (Err (Source f)) done same fails cut = elim fails [
-    | inl none ↦ inl (put [] done same none)
-    | inr l ↦ inr (record { opened = l.opened; short = first_out a b c old pending left (list_text F limit) flush done same l.short })
-  ]
-  through (Err Out) done same l cut = cut (subst (λ (n : ℕ). HasRisen a.failures n) (sym same) l.refused)
-
-  by : EndsFlushed r s b c → ListsThrough F limit a s c
-  by (stands same steady) =
-      let done : IsFlushed r left = subst (λ (x : Result (Unit {0}) ToolFault). IsFlushed x left) same flushed in
-      subst (λ (x : Result (Unit {0}) ToolFault). ListsThrough F limit a x c) (sym same) (through r done steady listed cut)
-  by (refused out more) =
-      let no_fewer : a.failures ≤ b.failures = Lists-failures F limit (with_pending a old) (with_pending b pending) r listed in
-      subst (λ (x : Result (Unit {0}) ToolFault). ListsThrough F limit a x c) (sym out) (cut (omega (arith, more, no_fewer)))
-
--- ---- a run of `hex`
-
-Hexes-failures : (F : List ℕ) (limit address count : ℕ) (a b : OutState) (r : Result (Unit {0}) ToolFault) → Hexes F limit address count a r b → a.failures ≤ b.failures
-Hexes-failures F limit address count a b (Ok x) h = let put = h.1.1 in omega (arith, put.steady)
-Hexes-failures F limit address count a b (Err (BadList f)) h = let put = h.1.1 in omega (arith, put.steady)
-Hexes-failures F limit address count a b (Err (Opening f)) h = let put = h.1 in omega (arith, put.steady)
-Hexes-failures F limit address count a b (Err Memory) h = let put = h.1 in omega (arith, put.steady)
-Hexes-failures F limit address count a b (Err (Source f)) h = omega (arith, h.steady)
-Hexes-failures F limit address count a b (Err Out) h = let put = h.1.1 in omega (arith, put.refused)
-
-pub HexesThrough-flushed : (F : List ℕ) (limit address count : ℕ) (a b c : OutState) (old pending left : List ℕ) (r s : Result (Unit {0}) ToolFault) → old ≡ []
-    → MovesFront b pending c left → IsFlushed s left → EndsFlushed r s b c → Hexes F limit address count (with_pending a old) r (with_pending b pending)
-    → HexesThrough F limit address count a s c
-HexesThrough-flushed F limit address count a b c old pending left r s none moved flushed ends hexes = by ends where
-  text : List ℕ
-  text = hex_of_run F (listing F memory_lists limit) address count
-
-  flush : Flush a b c old pending left
-  flush = record { none = none; moved = moved }
-
-  part : (whole : List ℕ) → HasRisen a.failures c.failures → TakesPrefix (with_pending a old).taken whole (with_pending b pending).taken → RefusesWithin a whole c
-  part whole = part_out a b c old pending left whole flush
-
-  cut : (r : Result (Unit {0}) ToolFault) → HasRisen a.failures c.failures → Hexes F limit address count (with_pending a old) r (with_pending b pending)
-      → HexesThrough F limit address count a (Err Out) c
-  cut (Ok x) risen h = inr (record { opened = h.0; ends = h.1.0; part = part text risen (all _ _ text h.1.1.took) })
-  cut (Err Out) risen h = inr (record { opened = h.0; ends = h.1.0; part = part text risen h.1.1.took })
-  cut (Err (BadList f)) risen h = inl (part [] risen (all _ _ [] h.1.1.took))
-  cut (Err (Opening f)) risen h = inl (part [] risen (all _ _ [] h.1.took))
-  cut (Err Memory) risen h = inl (part [] risen (all _ _ [] h.1.took))
-  cut (Err (Source f)) risen h = inl (part [] risen (all _ _ [] h.took))
+  cut : HasRisen a.failures c.failures → RefusesWithin a text c
+  cut risen = part_out a b c old pending left text flush risen (Writes-prefix is_early text (with_pending a old) (with_pending b pending) r run.writes)
 
   put : (whole : List ℕ) → left ≡ [] → c.failures ≡ b.failures → PutsAll (with_pending a old) whole (with_pending b pending) → PutsAll a whole c
   put whole = all_out a b c old pending left whole flush
 
-  through : (r : Result (Unit {0}) ToolFault) → IsFlushed r left → c.failures ≡ b.failures → Hexes F limit address count (with_pending a old) r (with_pending b pending)
-      → HexesThrough F limit address count a r c
-  through (Ok x) done same h = (h.0, (h.1.0, put text done same h.1.1))
-  through (Err (BadList f)) done same h = (h.0, (h.1.0, put [] done same h.1.1))
-  through (Err (Opening f)) done same h = (h.0, put [] done same h.1)
-  through (Err Memory) done same h = (h.0, put [] done same h.1)
-  through (Err (Source f)) done same h = put [] done same h
-  through (Err Out) done same h = cut (Err Out) (subst (λ (n : ℕ). HasRisen a.failures n) (sym same) h.1.1.refused) h
+  through : (r : Result (Unit {0}) ToolFault) → IsFlushed r left → c.failures ≡ b.failures
+      → Runs F choice Ends is_early text (with_pending a old) r (with_pending b pending)
+      → (HasRisen a.failures c.failures → RefusesWithin a text c) → RunsThrough F choice Ends is_early text a r c
+  through (Ok x) done same run cut = record { says = run.says; writes = put text done same run.writes }
+  through (Err (BadList f)) done same run cut = record { says = run.says; writes = put text done same run.writes }
+  through (Err (Opening f)) done same run cut = record { says = run.says; writes = put [] done same run.writes }
+  through (Err Memory) done same run cut = record { says = run.says; writes = put [] done same run.writes }
+  through (Err (Source f)) done same run cut = record {
+    says = run.says;
+    writes = first_out a b c old pending left (early_text is_early text) flush done same run.writes;
+  }
+  through (Err Out) done same run cut =
+      let writes = run.writes in
+      cut (subst (λ (n : ℕ). HasRisen a.failures n) (sym same) writes.refused)
 
-  by : EndsFlushed r s b c → HexesThrough F limit address count a s c
+  by : EndsFlushed r s b c → RunsThrough F choice Ends is_early text a s c
   by (stands same steady) =
       let done : IsFlushed r left = subst (λ (x : Result (Unit {0}) ToolFault). IsFlushed x left) same flushed in
-      subst (λ (x : Result (Unit {0}) ToolFault). HexesThrough F limit address count a x c) (sym same) (through r done steady hexes)
+      subst (λ (x : Result (Unit {0}) ToolFault). RunsThrough F choice Ends is_early text a x c) (sym same) (through r done steady run cut)
   by (refused out more) =
-      let no_fewer : a.failures ≤ b.failures = Hexes-failures F limit address count (with_pending a old) (with_pending b pending) r hexes in
-      subst (λ (x : Result (Unit {0}) ToolFault). HexesThrough F limit address count a x c) (sym out) (cut r (omega (arith, more, no_fewer)) hexes)
+      let fewer : a.failures ≤ b.failures = no_fewer (with_pending a old) (with_pending b pending) r cause in
+      subst (λ (x : Result (Unit {0}) ToolFault). RunsThrough F choice Ends is_early text a x c) (sym out) (cut (omega (arith, more, fewer)))
+
+-- ---- what is said of whatever file
+
+-- an output that is as it was has taken nothing
+put_none : (a b : OutState) → b ≡ a → PutsAll a [] b
+put_none a b same = subst (λ (x : OutState). PutsAll a [] x) (sym same) (PutsAll-nothing a)
+
+unless_early : (is_early : Bool) (P Q : Type 0) → (P → Q) → UnlessEarly is_early P → UnlessEarly is_early Q
+unless_early true P Q from quiet = tt
+unless_early false P Q from quiet = from quiet
+
+quiet_from : (is_early : Bool) (r : Result (Unit {0}) ToolFault) (left : List ℕ) (P Q : Type 0) → IsFlushed r left → (left ≡ [] → P → Q) → IsQuiet is_early r P → IsQuiet is_early r Q
+quiet_from is_early (Ok x) left P Q done from quiet = tt
+quiet_from is_early (Err Out) left P Q done from quiet = tt
+quiet_from is_early (Err (Opening f)) left P Q done from quiet = from done quiet
+quiet_from is_early (Err Memory) left P Q done from quiet = from done quiet
+quiet_from is_early (Err (BadList f)) left P Q done from quiet = unless_early is_early P Q (from done) quiet
+quiet_from is_early (Err (Source f)) left P Q done from quiet = unless_early is_early P Q (from done) quiet
+
+pub Tells-flushed : (is_early : Bool) (store : StoreState) (size : ℕ) (a b c : OutState) (old pending left : List ℕ) (r s : Result (Unit {0}) ToolFault) → old ≡ []
+    → MovesFront b pending c left → IsFlushed s left → EndsFlushed r s b c
+    → Tells directly is_early store size (with_pending a old) r (with_pending b pending) → Tells in_blocks is_early store size a s c
+Tells-flushed is_early store size a b c old pending left r s none moved flushed ends tells = by ends where
+  flush : Flush a b c old pending left
+  flush = record { none = none; moved = moved }
+
+  fewer : a.failures ≤ b.failures
+  fewer = no_fewer (with_pending a old) (with_pending b pending) r tells.out_cause
+
+  by : EndsFlushed r s b c → Tells in_blocks is_early store size a s c
+  by (stands same steady) =
+      let done : IsFlushed r left = subst (λ (x : Result (Unit {0}) ToolFault). IsFlushed x left) same flushed in
+      subst (λ (x : Result (Unit {0}) ToolFault). Tells in_blocks is_early store size a x c) (sym same) (record {
+        good = tells.good;
+        refusal = tells.refusal;
+        short = λ few. inl (tells.short few);
+        quiet = quiet_from is_early r left _ _ done (λ empty is. all_out a b c old pending left [] flush empty steady (put_none _ _ is)) tells.quiet;
+        out_cause = cause_from (with_pending a old) (with_pending b pending) a c r refl steady tells.out_cause;
+      })
+  by (refused out more) =
+      subst (λ (x : Result (Unit {0}) ToolFault). Tells in_blocks is_early store size a x c) (sym out) (record {
+        good = λ file good. tt;
+        refusal = tt;
+        short = λ few. inr refl;
+        quiet = tt;
+        out_cause = omega (arith, more, fewer);
+      })

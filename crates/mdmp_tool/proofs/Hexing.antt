@@ -1,5 +1,5 @@
 -- A run of `hex`, from its parts.
-use Rattle.std.proofs.Common.{◌≡◌, ◌∙◌, ◌∷◌, [], ℕ, List, Option, Some, None, refl, sym, ap, inl, inr}
+use Rattle.std.proofs.Common.{◌≡◌, ◌∙◌, ◌∷◌, [], ℕ, List, Some, None, sym, ap, inl, inr}
 use Rattle.std.specs.Prelude.{Result, Ok, Err}
 use Rattle.std.proofs.lemmas.List.{append-nil}
 use Rattle.mdmp_map.specs.declared.range.Range.{Range}
@@ -8,16 +8,18 @@ use Rattle.mdmp_source.specs.OutputLaws.{PutsAll-nothing}
 use Rattle.mdmp_lister.specs.declared.item.Item.{Item}
 use Rattle.mdmp_lister.specs.declared.sink.Stopped.{Stopped}
 use Rattle.mdmp_lister.specs.Sink.{TakenToStop, give_all}
-use Rattle.mdmp_lister.specs.declared.fault.OpenFault.{OpenFault}
-use Rattle.mdmp_lister.specs.declared.fault.OpenFault.TheVariants as opening
-use Rattle.mdmp_lister.specs.Format.Listing.{Run, listing, memory_lists, nothing}
-use Rattle.mdmp_lister.specs.Opening.{IsRefusalOf}
-use Rattle.mdmp_lister.specs.Format.Refusal.{behind_directory, directory_refusal, opening_fault}
+use Rattle.mdmp_lister.specs.declared.fault.FaultKind.{FaultKind}
+use Rattle.mdmp_lister.specs.declared.fault.FaultKind.TheVariants as kinds
+use Rattle.mdmp_lister.specs.declared.fault.ListFault.{ListFault}
+use Rattle.mdmp_lister.specs.Fault.{IsOfSource}
+use Rattle.mdmp_lister.specs.Format.Listing.{Run, nothing}
 use Rattle.mdmp_lister.specs.Format.Ranges.{ranges_of}
 use Rattle.mdmp_tool.specs.declared.fault.ToolFault.{ToolFault}
 use Rattle.mdmp_tool.specs.declared.fault.ToolFault.TheVariants.{Opening, List as BadList, Source, Out, Memory}
-use Rattle.mdmp_tool.specs.HexRuns.{Hexes, HexesMemory, HexesRun}
-use Rattle.mdmp_tool.specs.Telling.{opening_told}
+use Rattle.mdmp_tool.proofs.Engining.{StopsShort-none, StopsShort-nothing}
+use Rattle.mdmp_tool.specs.HexRuns.{HexesMemory, HexesRun, run_hex_text}
+use Rattle.mdmp_tool.specs.HexText.{hex_text}
+use Rattle.mdmp_tool.specs.Telling.{list_told, told_by}
 
 -- a sink that always takes its item never stops a run
 pub never_stopped : {K : Type 0} (xs : List Item) (k new : K) → TakenToStop (λ (old : K) (x : Item) (r : Result (Unit {0}) Stopped) (m : K). r ≡ Ok tt) k xs new → ⊥
@@ -35,34 +37,40 @@ ranges-all left xs all = (
 -- what was printed by the ranges of all items
 pub HexesRun-printed : (F : List ℕ) (ranges : List Range) (left : Run) (address count : ℕ) (before after : OutState) (r : Result (Unit {0}) ToolFault) → left.fault ≡ None → ranges ≡ ranges_of left.items
     → HexesMemory F ranges address count before r after → HexesRun F left address count before r after
-HexesRun-printed F ranges left address count before after (Ok x) none same puts = (none, rw (← same) puts)
-HexesRun-printed F ranges left address count before after (Err Out) none same puts = (none, rw (← same) puts)
-HexesRun-printed F ranges left address count before after (Err (Source fault)) none same puts = puts
-HexesRun-printed F ranges left address count before after (Err (BadList fault)) none same puts = absurd puts
-HexesRun-printed F ranges left address count before after (Err (Opening fault)) none same puts = absurd puts
-HexesRun-printed F ranges left address count before after (Err Memory) none same puts = absurd puts
+HexesRun-printed F ranges left address count before after r none same puts = by r puts where
+  whole : hex_text F ranges address count ≡ run_hex_text F left address count
+  whole = rw none (ap (λ (x : List Range). hex_text F x address count) same)
 
--- the header and the directory of a file that was opened are good
-behind-opened : (F : List ℕ) (refusal : Option OpenFault) → behind_directory F memory_lists refusal ≡ None → refusal ≡ None
-behind-opened F None opened = refl
-behind-opened F (Some fault) opened = cc
+  by : (r : Result (Unit {0}) ToolFault) → HexesMemory F ranges address count before r after → HexesRun F left address count before r after
+  by (Ok x) puts = record { ends = none; writes = rw (← whole) puts }
+  by (Err Out) puts = record { ends = none; writes = rw (← whole) puts }
+  by (Err (Source fault)) puts = record { ends = tt; writes = StopsShort-none before after puts }
+  by (Err (BadList fault)) puts = absurd puts
+  by (Err (Opening fault)) puts = absurd puts
+  by (Err Memory) puts = absurd puts
 
--- a file that was opened
-pub Hexes-opened : (F : List ℕ) (limit address count : ℕ) (before after : OutState) (r : Result (Unit {0}) ToolFault) → opening_fault F memory_lists ≡ None
-    → HexesRun F (listing F memory_lists limit) address count before r after → Hexes F limit address count before r after
-Hexes-opened F limit address count before after (Ok x) opened run = (opened, run)
-Hexes-opened F limit address count before after (Err Out) opened run = (opened, run)
-Hexes-opened F limit address count before after (Err (BadList fault)) opened run = (opened, run)
-Hexes-opened F limit address count before after (Err (Source fault)) opened run = run
-Hexes-opened F limit address count before after (Err Memory) opened run = (behind-opened F (directory_refusal F) opened, run)
-Hexes-opened F limit address count before after (Err (Opening fault)) opened run = absurd run
+-- the run has a fault, or the store has one: nothing is written
+HexesRun-told : (F : List ℕ) (left : Run) (address count : ℕ) (before : OutState) (fault : ListFault) (kind : FaultKind) → ((IsOfSource kind → ⊥) → left.fault ≡ Some fault)
+    → HexesRun F left address count before (Err (told_by kind fault)) before
+HexesRun-told F left address count before fault kind ends = by kind ends where
+  faulty : left.fault ≡ Some fault → HexesRun F left address count before (Err (BadList fault)) before
+  faulty is = record { ends = is; writes = rw is (PutsAll-nothing before) }
 
--- and one that was not: nothing is written
-pub Hexes-unopened : (F : List ℕ) (limit address count : ℕ) (before : OutState) (fault : OpenFault) → IsRefusalOf F memory_lists fault → Hexes F limit address count before (Err (opening_told fault)) before
-Hexes-unopened F limit address count before (opening.Source f) refused = PutsAll-nothing before
-Hexes-unopened F limit address count before (opening.Memory) refused = (refused, PutsAll-nothing before)
-Hexes-unopened F limit address count before (opening.TooShort size) refused = (refused, PutsAll-nothing before)
-Hexes-unopened F limit address count before (opening.BadSignature) refused = (refused, PutsAll-nothing before)
-Hexes-unopened F limit address count before (opening.BadVersion low) refused = (refused, PutsAll-nothing before)
-Hexes-unopened F limit address count before (opening.DirectoryOutside offset size) refused = (refused, PutsAll-nothing before)
-Hexes-unopened F limit address count before (opening.TooManyRanges ranges) refused = (refused, PutsAll-nothing before)
+  by : (kind : FaultKind) → ((IsOfSource kind → ⊥) → left.fault ≡ Some fault) → HexesRun F left address count before (Err (told_by kind fault)) before
+  by (kinds.Source f) ends = record { ends = tt; writes = StopsShort-nothing before [] }
+  by kinds.StreamOutside ends = faulty (ends (λ x. x))
+  by kinds.ShortStream ends = faulty (ends (λ x. x))
+  by kinds.BadHeaderSize ends = faulty (ends (λ x. x))
+  by kinds.BadEntrySize ends = faulty (ends (λ x. x))
+  by kinds.BadCount ends = faulty (ends (λ x. x))
+  by kinds.NameLengthOutside ends = faulty (ends (λ x. x))
+  by kinds.NameOdd ends = faulty (ends (λ x. x))
+  by kinds.NameUnitsOutside ends = faulty (ends (λ x. x))
+
+pub HexesRun-faulty : (F : List ℕ) (left : Run) (address count : ℕ) (before : OutState) (fault : ListFault) → ((IsOfSource fault.kind → ⊥) → left.fault ≡ Some fault)
+    → HexesRun F left address count before (Err (list_told fault)) before
+HexesRun-faulty F left address count before fault = HexesRun-told F left address count before fault fault.kind
+
+-- there was no memory for the bytes
+pub HexesRun-wanting : (F : List ℕ) (left : Run) (address count : ℕ) (before : OutState) → HexesRun F left address count before (Err Memory) before
+HexesRun-wanting F left address count before = record { ends = tt; writes = PutsAll-nothing before }

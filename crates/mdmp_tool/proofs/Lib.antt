@@ -1,4 +1,5 @@
 pub mod BlockLemmas
+pub mod Engining
 pub mod HexLemmas
 pub mod HexRows
 pub mod Hexing

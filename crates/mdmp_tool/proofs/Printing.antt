@@ -11,7 +11,7 @@ use Rattle.mdmp_lister.specs.Format.Item.{plain}
 use Rattle.mdmp_lister.specs.Lister.{tail}
 use Rattle.mdmp_lister.specs.Format.Listing.{Run}
 use Rattle.mdmp_tool.specs.ItemLines.{item_line}
-use Rattle.mdmp_tool.specs.Runs.{IsListed, StopsShort}
+use Rattle.mdmp_tool.specs.Engines.{StopsShort}
 use Rattle.mdmp_tool.specs.Text.{run_text}
 use Rattle.mdmp_tool.proofs.PlainLines.{item_line-plain}
 
@@ -50,6 +50,11 @@ HasPrinted-more run left before now after x printed first put = record {
 -- the text of a run is that of the items given, and of those left
 text_split : (run left : Run) (before now : OutState) (printed : HasPrinted run before left now) → run_text run ≡ flat_map item_line printed.given ++ run_text left
 text_split run left before now printed = ap (flat_map item_line) printed.items ∙ flat_map-append item_line printed.given left.items
+
+-- the text was written, and the run ends with this fault or none
+pub record IsListed (run : Run) (fault : Option ListFault) (before : OutState) (after : OutState) : Type 0 where
+  pub ends : run.fault ≡ fault
+  pub text : PutsAll before (run_text run) after
 
 -- no item is left
 pub IsListed-end : (run left : Run) (before now : OutState) (fault : Option ListFault) → HasPrinted run before left now → left ≡ record { items = []; fault = fault } → IsListed run fault before now

@@ -11,15 +11,20 @@ use Rattle.mdmp_lister.specs.declared.fault.FaultKind.TheVariants as kinds
 use Rattle.mdmp_lister.specs.declared.fault.ListFault.{ListFault}
 use Rattle.mdmp_tool.specs.declared.fault.ToolFault.{ToolFault}
 use Rattle.mdmp_tool.specs.declared.fault.ToolFault.TheVariants as tool
+use Rattle.mdmp_tool.specs.Telling.{told}
 use Rattle.mdmp_wire.specs.Digits.{hex}
+
+-- the exit status of a fault that is told as what it is
+abbrev pub own_status : ToolFault → ℕ
+own_status (tool.Opening fault) = 1
+own_status (tool.List fault) = 1
+own_status (tool.Source fault) = 3
+own_status (tool.Out) = 3
+own_status (tool.Memory) = 3
 
 -- the exit status: 1 where the file is at fault, 3 where its store, the output or memory is
 abbrev pub status_of : ToolFault → ℕ
-status_of (tool.Opening fault) = 1
-status_of (tool.List fault) = 1
-status_of (tool.Source fault) = 3
-status_of (tool.Out) = 3
-status_of (tool.Memory) = 3
+status_of fault = own_status (told fault)
 
 -- ---- what a fault says
 
@@ -72,9 +77,13 @@ abbrev pub list_fault_text : ListFault → List ℕ
 list_fault_text f = concat (codes "entry " ∷ decimal f.entry ∷ item_text f.index
     ∷ codes ": " ∷ kind_words f.kind ∷ codes ": offset " ∷ decimal f.offset ∷ codes " size " ∷ decimal f.size ∷ [])
 
+-- what a fault says that is told as what it is
+abbrev pub own_text : ToolFault → List ℕ
+own_text (tool.Opening fault) = opening_text fault
+own_text (tool.List fault) = list_fault_text fault
+own_text (tool.Source fault) = source_text fault
+own_text (tool.Out) = output_text
+own_text (tool.Memory) = memory_text
+
 abbrev pub fault_text : ToolFault → List ℕ
-fault_text (tool.Opening fault) = opening_text fault
-fault_text (tool.List fault) = list_fault_text fault
-fault_text (tool.Source fault) = source_text fault
-fault_text (tool.Out) = output_text
-fault_text (tool.Memory) = memory_text
+fault_text fault = own_text (told fault)

@@ -1,13 +1,14 @@
 -- What a run of `hex` answers, and what it leaves written.
-use Rattle.std.specs.Prelude.{◌≡◌, ℕ, List, [], Some, None, Result, Ok, Err}
+use Rattle.std.specs.Prelude.{◌≡◌, ℕ, false, List, [], Option, Some, None, Result, Ok, Err}
 use Rattle.mdmp_map.specs.declared.range.Range.{Range}
 use Rattle.mdmp_source.specs.Output.{OutState, PutsAll, PutsPrefix}
+use Rattle.mdmp_lister.specs.declared.fault.ListFault.{ListFault}
 use Rattle.mdmp_lister.specs.Format.Listing.{Run, listing, memory_lists}
-use Rattle.mdmp_lister.specs.Format.Refusal.{directory_refusal, opening_fault}
+use Rattle.mdmp_lister.specs.Format.Refusal.{opening_fault}
 use Rattle.mdmp_lister.specs.Format.Ranges.{ranges_of}
-use Rattle.mdmp_lister.specs.Fault.{IsOfSource}
 use Rattle.mdmp_tool.specs.declared.fault.ToolFault.{ToolFault}
 use Rattle.mdmp_tool.specs.declared.fault.ToolFault.TheVariants.{Opening, List as BadList, Source, Out, Memory}
+use Rattle.mdmp_tool.specs.Engines.{Runs, RunsThrough, Writes, unless_refused}
 use Rattle.mdmp_tool.specs.HexText.{hex_text}
 
 -- the text of so many addresses by some ranges was written; where the store failed nothing was
@@ -17,36 +18,37 @@ HexesMemory F ranges address length before (Err (Source fault)) after = PutsAll 
 HexesMemory F ranges address length before (Err Out) after = PutsPrefix before (hex_text F ranges address length) after
 HexesMemory F ranges address length before (Err _) after = ⊥
 
--- the bytes of F at so many addresses from this one on, by the ranges of a run
-abbrev pub hex_of_run : List ℕ → Run → ℕ → ℕ → List ℕ
-hex_of_run F run address length = hex_text F (ranges_of run.items) address length
+-- what may end the printing of the bytes by the ranges of a run, which are printed only where the run has no fault
+abbrev pub HexEnds : Run → Result (Unit {0}) ToolFault → Type 0
+HexEnds run (Ok x) = run.fault ≡ None
+HexEnds run (Err (BadList fault)) = run.fault ≡ Some fault
+HexEnds run (Err (Source fault)) = Unit {0}
+HexEnds run (Err Memory) = Unit {0}
+HexEnds run (Err Out) = run.fault ≡ None
+HexEnds run (Err (Opening fault)) = ⊥
 
--- a run that has no fault: its text was written; on a fault nothing was
-abbrev pub HexesRun : List ℕ → Run → ℕ → ℕ → OutState → Result (Unit {0}) ToolFault → OutState → Type 0
-HexesRun F run address length before (Ok _) after = (run.fault ≡ None) × PutsAll before (hex_of_run F run address length) after
-HexesRun F run address length before (Err (BadList fault)) after = (run.fault ≡ Some fault) × PutsAll before [] after
-HexesRun F run address length before (Err (Source fault)) after = PutsAll before [] after
-HexesRun F run address length before (Err Memory) after = PutsAll before [] after
-HexesRun F run address length before (Err Out) after = (run.fault ≡ None) × PutsPrefix before (hex_of_run F run address length) after
-HexesRun F run address length before (Err (Opening fault)) after = ⊥
+-- a text that is printed where a listing has no fault
+abbrev pub unless_faulty : Option ListFault → List ℕ → List ℕ
+unless_faulty None text = text
+unless_faulty (Some fault) text = []
 
--- the fault, if any, is not the opening's, and one of the listing is the file's own
-abbrev pub IsBehindOpening : Result (Unit {0}) ToolFault → Type 0
-IsBehindOpening (Err (Opening fault)) = ⊥
-IsBehindOpening (Err (BadList fault)) = IsOfSource fault.kind → ⊥
-IsBehindOpening _ = Unit {0}
+-- the bytes of F at so many addresses from this one on, by the ranges of a run that has no fault
+abbrev pub run_hex_text : List ℕ → Run → ℕ → ℕ → List ℕ
+run_hex_text F run address length = unless_faulty run.fault (hex_text F (ranges_of run.items) address length)
 
--- on a fault other than the output's nothing was written, whatever the store holds
-abbrev pub IsQuiet : OutState → Result (Unit {0}) ToolFault → OutState → Type 0
-IsQuiet before (Ok _) after = Unit {0}
-IsQuiet before (Err Out) after = Unit {0}
-IsQuiet before (Err fault) after = after ≡ before
+-- the bytes were printed by the ranges of a run, unless it has a fault
+pub record HexesRun (F : List ℕ) (run : Run) (address length : ℕ) (before : OutState) (answer : Result (Unit {0}) ToolFault) (after : OutState) : Type 0 where
+  pub ends : HexEnds run answer
+  pub writes : Writes false (run_hex_text F run address length) before answer after
 
--- a run of `hex` over F: its text, where the memory lists of F can be listed to their end; nothing where F is refused, or
--- its memory lists have a fault
+-- all that is printed of F: nothing where it is refused, or its memory lists have a fault
+abbrev pub file_hex_text : List ℕ → ℕ → ℕ → ℕ → List ℕ
+file_hex_text F limit address length = unless_refused (opening_fault F memory_lists) (run_hex_text F (listing F memory_lists limit) address length)
+
+-- a run of `hex` over F, of which no text is printed before all is read
 abbrev pub Hexes : List ℕ → ℕ → ℕ → ℕ → OutState → Result (Unit {0}) ToolFault → OutState → Type 0
-Hexes F limit address length before (Err (Opening fault)) after = (opening_fault F memory_lists ≡ Some fault) × PutsAll before [] after
-Hexes F limit address length before (Err (Source fault)) after = PutsAll before [] after
-Hexes F limit address length before (Err Memory) after = (directory_refusal F ≡ None) × PutsAll before [] after
-Hexes F limit address length before result after =
-    (opening_fault F memory_lists ≡ None) × HexesRun F (listing F memory_lists limit) address length before result after
+Hexes F limit address length = Runs F memory_lists (HexEnds (listing F memory_lists limit)) false (file_hex_text F limit address length)
+
+-- the same through blocks
+abbrev pub HexesThrough : List ℕ → ℕ → ℕ → ℕ → OutState → Result (Unit {0}) ToolFault → OutState → Type 0
+HexesThrough F limit address length = RunsThrough F memory_lists (HexEnds (listing F memory_lists limit)) false (file_hex_text F limit address length)

@@ -1,5 +1,5 @@
-pub mod Blockwise
 pub mod Causes
+pub mod Engines
 pub mod Faults
 pub mod HexRuns
 pub mod HexText

@@ -1,4 +1,4 @@
--- The lister's faults, as a command tells them.
+-- Faults, as a command tells them.
 use Rattle.mdmp_lister.specs.declared.fault.FaultKind.{FaultKind}
 use Rattle.mdmp_lister.specs.declared.fault.FaultKind.TheVariants as kinds
 use Rattle.mdmp_lister.specs.declared.fault.ListFault.{ListFault}
@@ -19,3 +19,9 @@ told_by kind f = tool.List f
 
 abbrev pub list_told : ListFault → ToolFault
 list_told f = told_by f.kind f
+
+-- a fault of the store or want of memory is told as such, also where a fault of the file has it inside
+abbrev pub told : ToolFault → ToolFault
+told (tool.Opening fault) = opening_told fault
+told (tool.List fault) = list_told fault
+told fault = fault

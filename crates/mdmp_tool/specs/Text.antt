@@ -1,22 +1,17 @@
 -- What `list` prints.
-use Rattle.std.specs.Prelude.{ℕ, List, [], ◌++◌, Option, Some, None}
+use Rattle.std.specs.Prelude.{ℕ, List, ◌++◌}
 use Rattle.std.specs.List.{flat_map}
 use Rattle.mdmp_wire.specs.Header.{header_at}
 use Rattle.mdmp_lister.specs.declared.choice.Choice.TheVariants.{All}
-use Rattle.mdmp_lister.specs.declared.fault.OpenFault.{OpenFault}
 use Rattle.mdmp_lister.specs.Format.Listing.{Run, listing}
 use Rattle.mdmp_lister.specs.Format.Refusal.{opening_fault}
+use Rattle.mdmp_tool.specs.Engines.{unless_refused}
 use Rattle.mdmp_tool.specs.ItemLines.{item_line}
 use Rattle.mdmp_tool.specs.Lines.{dump_line}
 
 -- a line for each item
 abbrev pub run_text : Run → List ℕ
 run_text run = flat_map item_line run.items
-
--- a text that is printed where a file can be listed
-abbrev pub unless_refused : Option OpenFault → List ℕ → List ℕ
-unless_refused None text = text
-unless_refused (Some fault) text = []
 
 -- the dump line, and a line for each item of the listing, whose names of more than `limit` bytes are told by their length
 abbrev pub list_text : List ℕ → ℕ → List ℕ

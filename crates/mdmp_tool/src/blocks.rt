@@ -1,18 +1,16 @@
 //! `list` and `hex` to an output that gathers blocks.
-ghost use Rattle.std.specs.Prelude.{◌≡◌, ◌≤◌, ◌<◌, ◌+◌, ◌⊎◌, ℕ, List, Some, Err, []};
+ghost use Rattle.std.specs.Prelude.{◌≡◌, ◌≤◌, ◌<◌, ◌+◌, ℕ, List, Some, [], false, true};
 ghost use Rattle.mdmp_map.specs.Ranges.{address_end};
-ghost use Rattle.mdmp_source.specs.Blocks.{MovesFront};
-ghost use Rattle.mdmp_source.specs.Store.{IsGood};
-ghost use Rattle.mdmp_source.specs.Source.{FetchesSome};
-ghost use Rattle.mdmp_tool.specs.Blockwise.{EndsFlushed, HexesThrough, IsFlushed, ListsThrough};
-ghost use Rattle.mdmp_tool.specs.Causes.{IsNoSourceFault, HasSourceCause, HasOutCause, IsRefusal};
+ghost use Rattle.mdmp_tool.specs.Engines.{IsFlushed, Reads, Tells, in_blocks};
+ghost use Rattle.mdmp_tool.specs.HexRuns.{HexesThrough};
 ghost use Rattle.mdmp_tool.specs.HexWords.{length_limit};
+ghost use Rattle.mdmp_tool.specs.Runs.{ListsThrough};
 
-use crate::fault::ToolFault;
-use crate::hex::hex_source;
-use crate::list::{Answered, list_source};
-use mdmp_lister::{Limits, OpenFault};
-use mdmp_source::{BlockOut, Out, OutFailed, Source, Store};
+use crate::engine::{Answered, run_in_blocks};
+use crate::hex::HexEngine;
+use crate::list::ListEngine;
+use mdmp_lister::Limits;
+use mdmp_source::{BlockOut, Out, Source, Store};
 use std::alloc::Allocator;
 
 /// Does what `list_source` does, by few writes: the lines reach the inner output in blocks, and what
@@ -27,16 +25,10 @@ pub fn list_in_blocks<S: Store + Drop, A: Allocator + Copy, O: Out, B: Allocator
     requires { blocks.old.pending ≡ [] }
     ensures lists { (file : List ℕ) → source.store.content ≡ Some file → ListsThrough file limits.name blocks.old.inner result.answer blocks.new.inner }
     ensures flushed { IsFlushed result.answer blocks.new.pending }
-    ensures good { (file : List ℕ) → IsGood source.store file → IsNoSourceFault result.answer }
-    ensures refusal { IsRefusal source.size result.answer }
-    ensures short { source.size < 32
-        → (result.answer ≡ Err (ToolFault.Opening (OpenFault.TooShort source.size))) ⊎ (result.answer ≡ Err ToolFault.Out) }
-    ensures source_cause { HasSourceCause source result.answer result.source }
-    ensures fetches { FetchesSome source result.source }
-    ensures out_cause { HasOutCause blocks.old.inner result.answer blocks.new.inner }
+    ensures tells { Tells in_blocks true source.store source.size blocks.old.inner result.answer blocks.new.inner }
+    ensures reads { Reads source result.answer result.source }
 {
-    let listed = list_source(alloc, source, limits, blocks);
-    flushed(listed, blocks)
+    run_in_blocks(ListEngine, alloc, source, limits, blocks)
 }
 
 /// Does what `hex_source` does, by few writes: the lines reach the inner output in blocks, and what
@@ -56,38 +48,8 @@ pub fn hex_in_blocks<S: Store + Drop, A: Allocator + Copy, O: Out, B: Allocator>
     ensures hexes { (file : List ℕ) → source.store.content ≡ Some file
         → HexesThrough file limits.name address length blocks.old.inner result.answer blocks.new.inner }
     ensures flushed { IsFlushed result.answer blocks.new.pending }
-    ensures good { (file : List ℕ) → IsGood source.store file → IsNoSourceFault result.answer }
-    ensures refusal { IsRefusal source.size result.answer }
-    ensures short { source.size < 32
-        → (result.answer ≡ Err (ToolFault.Opening (OpenFault.TooShort source.size))) ⊎ (result.answer ≡ Err ToolFault.Out) }
-    ensures source_cause { HasSourceCause source result.answer result.source }
-    ensures fetches { FetchesSome source result.source }
-    ensures out_cause { HasOutCause blocks.old.inner result.answer blocks.new.inner }
+    ensures tells { Tells in_blocks false source.store source.size blocks.old.inner result.answer blocks.new.inner }
+    ensures reads { Reads source result.answer result.source }
 {
-    let listed = hex_source(alloc, source, limits, address, length, blocks);
-    flushed(listed, blocks)
-}
-
-/// Writes what is pending after a run, and answers what the run did, or the output's fault where the
-/// inner output refuses.
-fn flushed<S: Store + Drop, O: Out, B: Allocator>(
-    listed: Answered<S>,
-    blocks: &mut BlockOut<O, B>,
-) -> Answered<S>
-    ensures ends { EndsFlushed listed.answer result.answer blocks.old.inner blocks.new.inner }
-    ensures moved { MovesFront blocks.old.inner blocks.old.pending blocks.new.inner blocks.new.pending }
-    ensures flushed { IsFlushed result.answer blocks.new.pending }
-    ensures source { result.source ≡ listed.source }
-{
-    let Answered { answer, source } = listed;
-    if let Err(ToolFault::Out) = answer {
-        return Answered { answer, source };
-    }
-    match blocks.flush() {
-        Ok(()) => Answered { answer, source },
-        Err(OutFailed) => Answered {
-            answer: Err(ToolFault::Out),
-            source,
-        },
-    }
+    run_in_blocks(HexEngine { address, length }, alloc, source, limits, blocks)
 }

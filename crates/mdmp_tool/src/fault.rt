@@ -1,8 +1,9 @@
 //! Why a command ends early.
 ghost use Rattle.std.specs.Prelude.{◌≡◌};
 ghost use Rattle.mdmp_tool.specs.Faults.{status_of};
+ghost use Rattle.mdmp_tool.specs.Telling.{list_told, opening_told, told};
 
-use mdmp_lister::{ListFault, OpenFault};
+use mdmp_lister::{FaultKind, ListFault, OpenFault};
 use mdmp_source::SourceFault;
 
 /// Why a command ends early.
@@ -21,12 +22,45 @@ pub enum ToolFault {
 }
 
 /// The exit status of a command that ends with this fault: 1 where the file is at fault, 3 where its
-/// store, the output or memory is.
+/// store, the output or memory is, also where `Opening` or `List` has a fault of the store or want
+/// of memory inside.
 pub fn status(fault: &ToolFault) -> u8
     ensures { result ≡ status_of fault.now }
 {
-    match fault {
+    match told(*fault) {
         ToolFault::Opening(_) | ToolFault::List(_) => 1,
         ToolFault::Source(_) | ToolFault::Out | ToolFault::Memory => 3,
+    }
+}
+
+/// A fault as what it is: one of the store and want of memory as such.
+pub(crate) fn told(fault: ToolFault) -> ToolFault
+    ensures { result ≡ told fault }
+{
+    match fault {
+        ToolFault::Opening(fault) => told_opening(fault),
+        ToolFault::List(fault) => told_list(fault),
+        fault => fault,
+    }
+}
+
+/// A fault of the opening, as a command tells it.
+pub(crate) fn told_opening(fault: OpenFault) -> ToolFault
+    ensures { result ≡ opening_told fault }
+{
+    match fault {
+        OpenFault::Source(fault) => ToolFault::Source(fault),
+        OpenFault::Memory => ToolFault::Memory,
+        fault => ToolFault::Opening(fault),
+    }
+}
+
+/// A fault of the listing, as a command tells it.
+pub(crate) fn told_list(fault: ListFault) -> ToolFault
+    ensures { result ≡ list_told fault }
+{
+    match fault.kind {
+        FaultKind::Source(fault) => ToolFault::Source(fault),
+        _ => ToolFault::List(fault),
     }
 }

@@ -4,20 +4,21 @@ ghost use Rattle.mdmp_source.specs.Output.{Puts};
 ghost use Rattle.mdmp_tool.specs.Lines.{error_line};
 ghost use Rattle.mdmp_tool.specs.Faults.{source_text, output_text, memory_text, version_text, ranges_text, opening_text, list_fault_text, fault_text};
 
-use crate::fault::ToolFault;
+use crate::fault::{ToolFault, told};
 use crate::pieces::{Piece, put_error_line};
 use mdmp_lister::{ListFault, OpenFault};
 use mdmp_source::{Out, OutFailed, SourceFault};
 
-/// Writes the line of a fault, `mdmp: ` and what it says. Where the output refuses, the first part
-/// of the line went out.
+/// Writes the line of a fault, `mdmp: ` and what it says; a fault of the store or want of memory
+/// says the same inside `Opening` or `List`. Where the output refuses, the first part of the line
+/// went out.
 pub fn fault_line<O: Out>(fault: &ToolFault, out: &mut O) -> Result<(), OutFailed>
     ensures { Puts result (O.state out.old) (error_line (fault_text fault.now)) (O.state out.new) }
 {
-    match fault {
-        ToolFault::Opening(fault) => put_opening_fault(fault, out),
-        ToolFault::List(fault) => put_list_fault(fault, out),
-        ToolFault::Source(fault) => put_source_fault(fault, out),
+    match told(*fault) {
+        ToolFault::Opening(fault) => put_opening_fault(&fault, out),
+        ToolFault::List(fault) => put_list_fault(&fault, out),
+        ToolFault::Source(fault) => put_source_fault(&fault, out),
         ToolFault::Out => put_output_fault(out),
         ToolFault::Memory => put_memory_fault(out),
     }

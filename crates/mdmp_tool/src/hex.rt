@@ -1,19 +1,19 @@
 //! The command `hex`.
-ghost use Rattle.std.specs.Prelude.{◌≡◌, ◌≤◌, ◌<◌, ◌+◌, ℕ, List, [], Some, None, Err, IfErr, MatchResult, length};
+ghost use Rattle.std.specs.Prelude.{◌≡◌, ◌≤◌, ◌<◌, ◌+◌, ℕ, List, [], Some, None, Err, IfErr, MatchResult, length, false};
 ghost use Rattle.mdmp_map.specs.Ranges.{address_end};
 ghost use Rattle.mdmp_source.specs.Store.{IsGood};
 ghost use Rattle.mdmp_source.specs.Source.{FetchesSome};
 ghost use Rattle.mdmp_lister.specs.Format.Listing.{Run};
 ghost use Rattle.mdmp_lister.specs.Format.Ranges.{ranges_of};
 ghost use Rattle.mdmp_lister.specs.Fault.{IsOfSource, IsToldIn};
-ghost use Rattle.mdmp_tool.specs.Causes.{IsNoSourceFault, HasSourceCause, HasOutCause, IsRefusal};
-ghost use Rattle.mdmp_tool.specs.HexRuns.{Hexes, HexesMemory, HexesRun, IsBehindOpening, IsQuiet};
+ghost use Rattle.mdmp_tool.specs.Engines.{Leaves, Reads, Tells, directly};
+ghost use Rattle.mdmp_tool.specs.HexRuns.{Hexes, HexesMemory, HexesRun};
 ghost use Rattle.mdmp_tool.specs.HexWords.{length_limit};
 
-use crate::fault::ToolFault;
+use crate::engine::{Answered, Engine, run, run_source};
+use crate::fault::{ToolFault, told_list};
 use crate::hex_lines::put_hex_lines;
-use crate::list::{Answered, told_fault, told_opening};
-use mdmp_lister::{Choice, Item, Limits, ListFault, Lister, OpenFault, RunFault, Sink, Stopped};
+use mdmp_lister::{Choice, Item, Limits, ListFault, Lister, RunFault, Sink, Stopped};
 use mdmp_source::{Out, OutFailed, Source, Store};
 use std::alloc::Allocator;
 
@@ -34,21 +34,9 @@ pub fn run_hex<S: Store + Drop, A: Allocator + Copy, O: Out>(
     requires within { address + length ≤ address_end }
     requires limited { length ≤ length_limit }
     ensures hexes { (file : List ℕ) → (S.state store).content ≡ Some file → Hexes file limits.name address length (O.state out.old) result (O.state out.new) }
-    ensures good { (file : List ℕ) → IsGood (S.state store) file → IsNoSourceFault result }
-    ensures refusal { IsRefusal (S.state store).size result }
-    ensures short { (S.state store).size < 32 → result ≡ Err (ToolFault.Opening (OpenFault.TooShort (S.state store).size)) }
-    ensures quiet { IsQuiet (O.state out.old) result (O.state out.new) }
-    ensures out_cause { HasOutCause (O.state out.old) result (O.state out.new) }
+    ensures tells { Tells directly false (S.state store) (S.state store).size (O.state out.old) result (O.state out.new) }
 {
-    let Answered { answer, source: _ } = hex_source(
-        alloc,
-        Source::new(store),
-        limits,
-        address,
-        length,
-        out,
-    );
-    answer
+    run(HexEngine { address, length }, alloc, store, limits, out)
 }
 
 /// Does what `run_hex` does, and hands the source back, whose counts tell the cause of its faults.
@@ -63,27 +51,46 @@ pub fn hex_source<S: Store + Drop, A: Allocator + Copy, O: Out>(
     requires within { address + length ≤ address_end }
     requires limited { length ≤ length_limit }
     ensures hexes { (file : List ℕ) → source.store.content ≡ Some file → Hexes file limits.name address length (O.state out.old) result.answer (O.state out.new) }
-    ensures good { (file : List ℕ) → IsGood source.store file → IsNoSourceFault result.answer }
-    ensures refusal { IsRefusal source.size result.answer }
-    ensures short { source.size < 32 → result.answer ≡ Err (ToolFault.Opening (OpenFault.TooShort source.size)) }
-    ensures source_cause { HasSourceCause source result.answer result.source }
-    ensures fetches { FetchesSome source result.source }
-    ensures quiet { IsQuiet (O.state out.old) result.answer (O.state out.new) }
-    ensures out_cause { HasOutCause (O.state out.old) result.answer (O.state out.new) }
+    ensures tells { Tells directly false source.store source.size (O.state out.old) result.answer (O.state out.new) }
+    ensures reads { Reads source result.answer result.source }
 {
-    let mut lister = match Lister::open(alloc, source, limits, Choice::memory_lists()) {
-        Ok(lister) => lister,
-        Err(refused) => {
-            return Answered {
-                answer: Err(told_opening(refused.fault)),
-                source: refused.source,
-            };
-        }
-    };
-    let answer = hex_listed(alloc, &mut lister, address, length, out);
-    Answered {
-        answer,
-        source: lister.into_source(),
+    run_source(HexEngine { address, length }, alloc, source, limits, out)
+}
+
+/// The engine of `hex`, which reads all before it prints.
+#[derive(Clone, Copy)]
+pub(crate) struct HexEngine {
+    pub(crate) address: u64,
+    pub(crate) length: u32,
+}
+
+impl Engine for HexEngine {
+    ghost use Rattle.std.specs.Prelude.{◌≤◌, ◌+◌, false};
+    ghost use Rattle.mdmp_map.specs.Ranges.{address_end};
+    ghost use Rattle.mdmp_lister.specs.Format.Listing.{listing, memory_lists};
+    ghost use Rattle.mdmp_tool.specs.HexRuns.{HexEnds, run_hex_text};
+
+    ghost choice = { memory_lists };
+
+    ghost is_early = { false };
+
+    ghost can_put = { λ hex. hex.address + hex.length ≤ address_end };
+
+    ghost Ends = { λ _ file limit. HexEnds (listing file memory_lists limit) };
+
+    ghost text = { λ hex file limit. run_hex_text file (listing file memory_lists limit) hex.address hex.length };
+
+    fn chosen(&self) -> Choice {
+        Choice::memory_lists()
+    }
+
+    fn put<S: Store + Drop, A: Allocator + Copy, O: Out>(
+        &self,
+        alloc: A,
+        lister: &mut Lister<S, A>,
+        out: &mut O,
+    ) -> Result<(), ToolFault> {
+        hex_listed(alloc, lister, self.address, self.length, out)
     }
 }
 
@@ -100,16 +107,11 @@ fn hex_listed<S: Store + Drop, A: Allocator + Copy, O: Out>(
     requires within { address + length ≤ address_end }
     ensures hexes { (file : List ℕ) → lister.old.source.store.content ≡ Some file → (left : Run) → lister.old.left ≡ Some left
         → HexesRun file left address length (O.state out.old) result (O.state out.new) }
-    ensures good { (file : List ℕ) → IsGood lister.old.source.store file → IsNoSourceFault result }
-    ensures kind { IsBehindOpening result }
-    ensures source_cause { HasSourceCause lister.old.source result lister.new.source }
-    ensures fetches { FetchesSome lister.old.source lister.new.source }
-    ensures quiet { IsQuiet (O.state out.old) result (O.state out.new) }
-    ensures out_cause { HasOutCause (O.state out.old) result (O.state out.new) }
+    ensures leaves { Leaves false (O.state out.new ≡ O.state out.old) lister.old.source (O.state out.old) result lister.new.source (O.state out.new) }
 {
     match list_ranges(lister) {
         Ok(()) => {}
-        Err(fault) => return Err(told_fault(fault)),
+        Err(fault) => return Err(told_list(fault)),
     }
     let Ok(mut bytes) = vec![in alloc; 0; length as usize] else {
         return Err(ToolFault::Memory);
@@ -132,12 +134,7 @@ fn put_memory<S: Store + Drop, A: Allocator + Copy, O: Out>(
     requires within { address + length bytes.old ≤ address_end }
     ensures hexes { (file : List ℕ) → lister.old.source.store.content ≡ Some file
         → HexesMemory file lister.old.ranges address (length bytes.new) (O.state out.old) result (O.state out.new) }
-    ensures good { (file : List ℕ) → IsGood lister.old.source.store file → IsNoSourceFault result }
-    ensures kind { IsBehindOpening result }
-    ensures source_cause { HasSourceCause lister.old.source result lister.new.source }
-    ensures fetches { FetchesSome lister.old.source lister.new.source }
-    ensures quiet { IsQuiet (O.state out.old) result (O.state out.new) }
-    ensures out_cause { HasOutCause (O.state out.old) result (O.state out.new) }
+    ensures leaves { Leaves false (O.state out.new ≡ O.state out.old) lister.old.source (O.state out.old) result lister.new.source (O.state out.new) }
 {
     match lister.read_address(address, bytes, known) {
         Ok(()) => {}

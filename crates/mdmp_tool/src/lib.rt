@@ -10,6 +10,7 @@
 #![tactic(auto)]
 
 mod blocks;
+mod engine;
 mod fault;
 mod fault_lines;
 mod hex;
@@ -22,9 +23,10 @@ mod pieces;
 mod words;
 
 pub use crate::blocks::{hex_in_blocks, list_in_blocks};
+pub use crate::engine::Answered;
 pub use crate::fault::{ToolFault, status};
 pub use crate::fault_lines::fault_line;
 pub use crate::hex::{hex_source, run_hex};
-pub use crate::list::{Answered, list_source, run_list};
+pub use crate::list::{list_source, run_list};
 pub use crate::words::run_words;
 pub use mdmp_lister::{FaultKind, Limits, ListFault, OpenFault};

@@ -1,27 +1,16 @@
 //! The command `list`.
-ghost use Rattle.std.specs.Prelude.{◌≡◌, ◌≤◌, ◌<◌, ℕ, List, None, Some, Err, false};
-ghost use Rattle.mdmp_source.specs.Store.{IsGood};
-ghost use Rattle.mdmp_source.specs.Source.{FetchesSome};
+ghost use Rattle.std.specs.Prelude.{◌≡◌, ◌≤◌, ◌<◌, ℕ, List, None, Some, false, true};
 ghost use Rattle.mdmp_lister.specs.Format.Listing.{Run};
-ghost use Rattle.mdmp_tool.specs.Runs.{IsOfRun, Lists, ListsFile, ListsRun};
-ghost use Rattle.mdmp_tool.specs.Causes.{IsNoSourceFault, HasSourceCause, HasOutCause, IsRefusal};
-ghost use Rattle.mdmp_tool.specs.Telling.{list_told, opening_told};
+ghost use Rattle.mdmp_tool.specs.Engines.{Leaves, Reads, Tells, directly};
+ghost use Rattle.mdmp_tool.specs.Runs.{Lists, ListsFile, ListsRun};
 
-use crate::fault::ToolFault;
+use crate::engine::{Answered, Engine, run, run_source};
+use crate::fault::{ToolFault, told_list};
 use crate::item_lines::put_item_line;
 use crate::lines::put_dump_line;
-use mdmp_lister::{Choice, FaultKind, Limits, ListFault, Lister, OpenFault};
+use mdmp_lister::{Choice, Limits, Lister};
 use mdmp_source::{Out, OutFailed, Source, Store};
 use std::alloc::Allocator;
-
-/// What a run answered, and the source that it read.
-#[derive(Drop)]
-pub struct Answered<S: Store + Drop> {
-    /// Whether all lines were printed, or why not.
-    pub answer: Result<(), ToolFault>,
-    /// The source, whose counts tell the cause of its faults.
-    pub source: Source<S>,
-}
 
 /// Prints what a file holds: a line for its header, and one for each item of its listing, up to the
 /// first fault. No CodeView records are told (`pdb`).
@@ -37,14 +26,10 @@ pub fn run_list<S: Store + Drop, A: Allocator + Copy, O: Out>(
 ) -> Result<(), ToolFault>
     requires { pdb ≡ false }
     ensures lists { (file : List ℕ) → (S.state store).content ≡ Some file → Lists file limits.name (O.state out.old) result (O.state out.new) }
-    ensures good { (file : List ℕ) → IsGood (S.state store) file → IsNoSourceFault result }
-    ensures refusal { IsRefusal (S.state store).size result }
-    ensures short { (S.state store).size < 32 → result ≡ Err (ToolFault.Opening (OpenFault.TooShort (S.state store).size)) }
-    ensures out_cause { HasOutCause (O.state out.old) result (O.state out.new) }
+    ensures tells { Tells directly true (S.state store) (S.state store).size (O.state out.old) result (O.state out.new) }
 {
     let _ = pdb;
-    let Answered { answer, source: _ } = list_source(alloc, Source::new(store), limits, out);
-    answer
+    run(ListEngine, alloc, store, limits, out)
 }
 
 /// Does what `run_list` does, and hands the source back, whose counts tell the cause of its faults.
@@ -55,26 +40,47 @@ pub fn list_source<S: Store + Drop, A: Allocator + Copy, O: Out>(
     out: &mut O,
 ) -> Answered<S>
     ensures lists { (file : List ℕ) → source.store.content ≡ Some file → Lists file limits.name (O.state out.old) result.answer (O.state out.new) }
-    ensures good { (file : List ℕ) → IsGood source.store file → IsNoSourceFault result.answer }
-    ensures refusal { IsRefusal source.size result.answer }
-    ensures short { source.size < 32 → result.answer ≡ Err (ToolFault.Opening (OpenFault.TooShort source.size)) }
-    ensures source_cause { HasSourceCause source result.answer result.source }
-    ensures fetches { FetchesSome source result.source }
-    ensures out_cause { HasOutCause (O.state out.old) result.answer (O.state out.new) }
+    ensures tells { Tells directly true source.store source.size (O.state out.old) result.answer (O.state out.new) }
+    ensures reads { Reads source result.answer result.source }
 {
-    let mut lister = match Lister::open(alloc, source, limits, Choice::All) {
-        Ok(lister) => lister,
-        Err(refused) => {
-            return Answered {
-                answer: Err(told_opening(refused.fault)),
-                source: refused.source,
-            };
-        }
-    };
-    let answer = put_listing(&mut lister, out);
-    Answered {
-        answer,
-        source: lister.into_source(),
+    run_source(ListEngine, alloc, source, limits, out)
+}
+
+/// The engine of `list`, which prints each item as it is read.
+#[derive(Clone, Copy)]
+pub(crate) struct ListEngine;
+
+impl Engine for ListEngine {
+    ghost use Rattle.std.specs.Prelude.{◌++◌, true};
+    ghost use Rattle.mdmp_wire.specs.Header.{header_at};
+    ghost use Rattle.mdmp_lister.specs.declared.choice.Choice.TheVariants.{All};
+    ghost use Rattle.mdmp_lister.specs.Format.Listing.{listing};
+    ghost use Rattle.mdmp_tool.specs.Lines.{dump_line};
+    ghost use Rattle.mdmp_tool.specs.Runs.{ListEnds};
+    ghost use Rattle.mdmp_tool.specs.Text.{run_text};
+
+    ghost choice = { All };
+
+    ghost is_early = { true };
+
+    ghost can_put = { λ _. Unit {0} };
+
+    ghost Ends = { λ _ file limit. ListEnds (listing file All limit) };
+
+    ghost text = { λ _ file limit. dump_line (header_at file 0) ++ run_text (listing file All limit) };
+
+    fn chosen(&self) -> Choice {
+        Choice::All
+    }
+
+    fn put<S: Store + Drop, A: Allocator + Copy, O: Out>(
+        &self,
+        alloc: A,
+        lister: &mut Lister<S, A>,
+        out: &mut O,
+    ) -> Result<(), ToolFault> {
+        let _ = alloc;
+        put_listing(lister, out)
     }
 }
 
@@ -85,11 +91,7 @@ fn put_listing<S: Store + Drop, A: Allocator + Copy, O: Out>(
 ) -> Result<(), ToolFault>
     requires { lister.old.stop ≡ None }
     ensures lists { (left : Run) → lister.old.left ≡ Some left → ListsFile lister.old.header left (O.state out.old) result (O.state out.new) }
-    ensures good { (file : List ℕ) → IsGood lister.old.source.store file → IsNoSourceFault result }
-    ensures kind { IsOfRun result }
-    ensures source_cause { HasSourceCause lister.old.source result lister.new.source }
-    ensures fetches { FetchesSome lister.old.source lister.new.source }
-    ensures out_cause { HasOutCause (O.state out.old) result (O.state out.new) }
+    ensures leaves { Leaves true (O.state out.new ≡ O.state out.old) lister.old.source (O.state out.old) result lister.new.source (O.state out.new) }
 {
     if let Err(OutFailed) = put_dump_line(&lister.header(), out) {
         return Err(ToolFault::Out);
@@ -104,11 +106,7 @@ fn list_items<S: Store + Drop, A: Allocator + Copy, O: Out>(
 ) -> Result<(), ToolFault>
     requires { lister.old.stop ≡ None }
     ensures lists { (left : Run) → lister.old.left ≡ Some left → ListsRun left (O.state out.old) result (O.state out.new) }
-    ensures good { (file : List ℕ) → IsGood lister.old.source.store file → IsNoSourceFault result }
-    ensures kind { IsOfRun result }
-    ensures source_cause { HasSourceCause lister.old.source result lister.new.source }
-    ensures fetches { FetchesSome lister.old.source lister.new.source }
-    ensures out_cause { HasOutCause (O.state out.old) result (O.state out.new) }
+    ensures leaves { Leaves true ⊥ lister.old.source (O.state out.old) result lister.new.source (O.state out.new) }
 {
     loop {
         match lister.next() {
@@ -117,28 +115,7 @@ fn list_items<S: Store + Drop, A: Allocator + Copy, O: Out>(
                 Ok(()) => {}
                 Err(OutFailed) => return Err(ToolFault::Out),
             },
-            Err(fault) => return Err(told_fault(fault)),
+            Err(fault) => return Err(told_list(fault)),
         }
-    }
-}
-
-/// A fault of the opening, as a command tells it.
-pub(crate) fn told_opening(fault: OpenFault) -> ToolFault
-    ensures { result ≡ opening_told fault }
-{
-    match fault {
-        OpenFault::Source(fault) => ToolFault::Source(fault),
-        OpenFault::Memory => ToolFault::Memory,
-        fault => ToolFault::Opening(fault),
-    }
-}
-
-/// A fault of the listing, as a command tells it.
-pub(crate) fn told_fault(fault: ListFault) -> ToolFault
-    ensures { result ≡ list_told fault }
-{
-    match fault.kind {
-        FaultKind::Source(fault) => ToolFault::Source(fault),
-        _ => ToolFault::List(fault),
     }
 }

@@ -35,6 +35,8 @@ fn faults_have_a_status_and_a_line(rt: HostRuntime) -> Result<(), Fail> {
     let source = SourceFault::Failed {
         at: 18446744073709551615,
     };
+    let mut unread = outside;
+    unread.kind = FaultKind::Source(source);
     let directory = OpenFault::DirectoryOutside {
         offset: 32,
         size: 12,
@@ -97,6 +99,18 @@ fn faults_have_a_status_and_a_line(rt: HostRuntime) -> Result<(), Fail> {
         ),
         (ToolFault::Out, 3, "output failed"),
         (ToolFault::Memory, 3, "out of memory"),
+        // Faults of the store and want of memory inside the others are told as such.
+        (
+            ToolFault::Opening(OpenFault::Source(source)),
+            3,
+            "store failed at 18446744073709551615",
+        ),
+        (ToolFault::Opening(OpenFault::Memory), 3, "out of memory"),
+        (
+            ToolFault::List(unread),
+            3,
+            "store failed at 18446744073709551615",
+        ),
     ];
     for (fault, code, text) in rows {
         assert_eq!(rt; status(&fault), code);

@@ -1,4 +1,4 @@
-use Rattle.std.proofs.Common.{◌≡◌, ◌∙◌, ◌+◌, length, arith}
+use Rattle.std.proofs.Common.{rules, ◌≡◌, ◌∙◌, ◌+◌, length, arith}
 use Rattle.mdmp_source.specs.SourceLaws.{fetches_then}
 use Rattle.mdmp_tool.proofs.Hexing.{HexesRun-printed}
 use Rattle.mdmp_tool.proofs.hex.hex_listed.Goals as goal
@@ -10,8 +10,16 @@ returns-clause-hexes g c = λ file known left given.
     let printed = c.put_memory.ensures.hexes file (c.list_ranges.ensures.fetches.fetches.same_content ∙ known) in
     HexesRun-printed file c.list_ranges.new.lister.ranges left c.args.address c.args.length _ _ c.put_memory.result listed.0 listed.1 (rw room at printed)
 
-pub returns-clause-fetches : goal.returns-clause-fetches
-returns-clause-fetches g c =
+pub returns-clause-leaves : goal.returns-clause-leaves
+returns-clause-leaves g c =
     let first = c.list_ranges.ensures.fetches in
-    let more = c.put_memory.ensures.fetches in
-    record { count = first.count + more.count; fetches = fetches_then _ _ _ _ _ first.fetches more.fetches }
+    let more = c.put_memory.ensures.leaves in
+    record {
+      good = search rules;
+      behind = search rules;
+      reads = record {
+        cause = search rules;
+        fetches = record { count = first.count + more.reads.fetches.count; fetches = fetches_then _ _ _ _ _ first.fetches more.reads.fetches.fetches };
+      };
+      out_cause = more.out_cause;
+    }

@@ -1,0 +1,64 @@
+-- A run of a command over the listing of a file, from its parts.
+use Rattle.std.proofs.Common.{◌≡◌, ◌∙◌, ℕ, Bool, List, [], refl, sym, arith}
+use Rattle.std.specs.Prelude.{Result, Ok, Err}
+use Rattle.mdmp_source.specs.Output.{OutState, PutsAll}
+use Rattle.mdmp_source.specs.OutputLaws.{PutsAll-nothing, Takes-nothing}
+use Rattle.mdmp_lister.specs.declared.choice.Choice.{Choice}
+use Rattle.mdmp_lister.specs.declared.fault.OpenFault.{OpenFault}
+use Rattle.mdmp_lister.specs.declared.fault.OpenFault.TheVariants as opening
+use Rattle.mdmp_lister.specs.Opening.{IsRefusalOf}
+use Rattle.mdmp_tool.specs.declared.fault.ToolFault.{ToolFault}
+use Rattle.mdmp_tool.specs.declared.fault.ToolFault.TheVariants.{Opening, List as BadList, Source, Out, Memory}
+use Rattle.mdmp_tool.specs.Causes.{HasOutCause, IsRefusal}
+use Rattle.mdmp_tool.specs.Engines.{IsBehind, IsQuiet, Runs, StopsShort}
+use Rattle.mdmp_tool.specs.Telling.{opening_told}
+
+pub StopsShort-nothing : (before : OutState) (text : List ℕ) → StopsShort before text before
+StopsShort-nothing before text = record {
+  took = record { sent = []; rest = text; whole = refl; took = Takes-nothing before.taken };
+  steady = refl;
+}
+
+-- nothing is the first part of no text
+pub StopsShort-none : (before after : OutState) → PutsAll before [] after → StopsShort before [] after
+StopsShort-none before after none = record {
+  took = record { sent = []; rest = []; whole = refl; took = none.took };
+  steady = none.steady;
+}
+
+-- a file that was not opened: nothing is written
+pub Runs-unopened : (F : List ℕ) (choice : Choice) (Ends : Result (Unit {0}) ToolFault → Type 0) (is_early : Bool) (text : List ℕ) (before : OutState) (fault : OpenFault)
+    → IsRefusalOf F choice fault → Runs F choice Ends is_early text before (Err (opening_told fault)) before
+Runs-unopened F choice Ends is_early text before (opening.Source f) refused = record { says = tt; writes = StopsShort-nothing before _ }
+Runs-unopened F choice Ends is_early text before (opening.Memory) refused = record { says = refused; writes = PutsAll-nothing before }
+Runs-unopened F choice Ends is_early text before (opening.TooShort size) refused = record { says = refused; writes = PutsAll-nothing before }
+Runs-unopened F choice Ends is_early text before (opening.BadSignature) refused = record { says = refused; writes = PutsAll-nothing before }
+Runs-unopened F choice Ends is_early text before (opening.BadVersion low) refused = record { says = refused; writes = PutsAll-nothing before }
+Runs-unopened F choice Ends is_early text before (opening.DirectoryOutside offset size) refused = record { says = refused; writes = PutsAll-nothing before }
+Runs-unopened F choice Ends is_early text before (opening.TooManyRanges count) refused = record { says = refused; writes = PutsAll-nothing before }
+
+-- what ends a command behind the opening
+pub IsRefusal-behind : (is_early : Bool) (untouched : Type 0) (size : ℕ) (r : Result (Unit {0}) ToolFault) → IsBehind is_early r untouched → IsRefusal size r
+IsRefusal-behind is_early untouched size (Ok x) behind = tt
+IsRefusal-behind is_early untouched size (Err (BadList fault)) behind = behind.0
+IsRefusal-behind is_early untouched size (Err (Opening fault)) behind = absurd behind
+IsRefusal-behind is_early untouched size (Err Memory) behind = tt
+IsRefusal-behind is_early untouched size (Err (Source fault)) behind = tt
+IsRefusal-behind is_early untouched size (Err Out) behind = tt
+
+pub IsQuiet-behind : (is_early : Bool) (untouched : Type 0) (r : Result (Unit {0}) ToolFault) → IsBehind is_early r untouched → IsQuiet is_early r untouched
+IsQuiet-behind is_early untouched (Ok x) behind = tt
+IsQuiet-behind is_early untouched (Err (BadList fault)) behind = behind.1
+IsQuiet-behind is_early untouched (Err (Opening fault)) behind = absurd behind
+IsQuiet-behind is_early untouched (Err Memory) behind = behind
+IsQuiet-behind is_early untouched (Err (Source fault)) behind = behind
+IsQuiet-behind is_early untouched (Err Out) behind = tt
+
+-- the counts of refusals are the same elsewhere
+pub cause_from : (a b start c : OutState) (r : Result (Unit {0}) ToolFault) → start.failures ≡ a.failures → c.failures ≡ b.failures → HasOutCause a r b → HasOutCause start r c
+cause_from a b start c (Ok x) before same cause = same ∙ cause ∙ sym before
+cause_from a b start c (Err (BadList f)) before same cause = same ∙ cause ∙ sym before
+cause_from a b start c (Err (Opening f)) before same cause = same ∙ cause ∙ sym before
+cause_from a b start c (Err Memory) before same cause = same ∙ cause ∙ sym before
+cause_from a b start c (Err (Source f)) before same cause = same ∙ cause ∙ sym before
+cause_from a b start c (Err Out) before same cause = omega (arith, before, same, cause)

@@ -1,0 +1,32 @@
+use Rattle.std.proofs.Common.{rules, ◌≡◌, ◌∙◌, ◌+◌}
+use Rattle.mdmp_source.specs.SourceLaws.{fetches_then}
+use Rattle.mdmp_tool.proofs.Engining.{IsQuiet-behind, IsRefusal-behind, Runs-unopened}
+use Rattle.mdmp_tool.proofs.engine.run_source.Goals as goal
+
+pub returns-in-Err-clause-runs : goal.returns-in-Err-clause-runs
+returns-in-Err-clause-runs g c = λ file known.
+    rw c.told_opening.ensures (Runs-unopened file g.E.Engine.choice _ _ _ _ c.in-Err.refused.fault (rw c.chosen.ensures at (c.in-Err.ensures.opens file known)))
+
+pub returns-clause-tells : goal.returns-clause-tells
+returns-clause-tells g c =
+    let new = c.in-Ok.ensures.new in
+    let put = c.put-answer.ensures.leaves in
+    let untouched : Type 0 = g.O.Out.state c.put-answer.new.out ≡ g.O.Out.state c.args.out.now in
+    record {
+      good = λ file good. put.good file (record { known = new.fetches.same_content ∙ good.known; reliable = rw new.fetches.same_reliable good.reliable });
+      refusal = IsRefusal-behind g.E.Engine.is_early untouched c.args.source.size c.put-answer.result put.behind;
+      short = λ few. absurd (c.in-Ok.ensures.short few);
+      quiet = IsQuiet-behind g.E.Engine.is_early untouched c.put-answer.result put.behind;
+      out_cause = put.out_cause;
+    }
+
+pub returns-clause-reads : goal.returns-clause-reads
+returns-clause-reads g c =
+    let more = c.put-answer.ensures.leaves.reads in
+    rw c.into_source.ensures.value (record {
+      cause = search rules;
+      fetches = record {
+        count = _ + more.fetches.count;
+        fetches = fetches_then _ _ _ _ _ c.in-Ok.ensures.new.fetches more.fetches.fetches;
+      };
+    })

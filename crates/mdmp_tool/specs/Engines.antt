@@ -1,0 +1,161 @@
+-- What every command over a listing promises, whatever it prints.
+use Rattle.std.specs.Prelude.{◌≡◌, ◌<◌, ◌⊎◌, ◌++◌, ℕ, Bool, true, false, List, [], Option, Some, None, Result, Ok, Err}
+use Rattle.mdmp_source.specs.Count.{HasRisen, raised}
+use Rattle.mdmp_source.specs.Output.{OutState, PutsAll, PutsPrefix, TakesPrefix}
+use Rattle.mdmp_source.specs.Source.{SourceState, FetchesSome}
+use Rattle.mdmp_source.specs.Store.{StoreState, IsGood}
+use Rattle.mdmp_lister.specs.declared.choice.Choice.{Choice}
+use Rattle.mdmp_lister.specs.declared.fault.OpenFault.{OpenFault}
+use Rattle.mdmp_lister.specs.declared.fault.OpenFault.TheVariants.{TooShort}
+use Rattle.mdmp_lister.specs.Fault.{IsOfSource}
+use Rattle.mdmp_lister.specs.Format.Refusal.{directory_refusal, opening_fault}
+use Rattle.mdmp_tool.specs.declared.fault.ToolFault.{ToolFault}
+use Rattle.mdmp_tool.specs.declared.fault.ToolFault.TheVariants.{Opening, List as BadList, Source, Out, Memory}
+use Rattle.mdmp_tool.specs.Causes.{HasOutCause, HasSourceCause, IsNoSourceFault, IsRefusal}
+
+-- ---- what is written, by the class of the answer
+
+-- the first part of a text was written, without a refusal
+pub record StopsShort (before : OutState) (text : List ℕ) (after : OutState) : Type 0 where
+  pub took : TakesPrefix before.taken text after.taken
+  pub steady : after.failures ≡ before.failures
+
+-- what may be out of a text where its reading ended early: of one that is printed while it is read the first part
+abbrev pub early_text : Bool → List ℕ → List ℕ
+early_text true text = text
+early_text false text = []
+
+-- the text was written, up to the first fault of the listing or whole; nothing where the file is refused or memory is
+-- wanting; the first part of it behind a fault of the store, if it is printed early; else the first part up to a refusal
+abbrev pub Writes : Bool → List ℕ → OutState → Result (Unit {0}) ToolFault → OutState → Type 0
+Writes is_early text before (Ok _) after = PutsAll before text after
+Writes is_early text before (Err (BadList fault)) after = PutsAll before text after
+Writes is_early text before (Err (Opening fault)) after = PutsAll before [] after
+Writes is_early text before (Err Memory) after = PutsAll before [] after
+Writes is_early text before (Err (Source fault)) after = StopsShort before (early_text is_early text) after
+Writes is_early text before (Err Out) after = PutsPrefix before text after
+
+-- ---- what an answer says of the file
+
+-- a file F is refused with this fault; or memory was wanting, and its header and directory are good; or it can be opened,
+-- and then Ends says what may end a command over it
+abbrev pub Says : List ℕ → Choice → (Result (Unit {0}) ToolFault → Type 0) → Result (Unit {0}) ToolFault → Type 0
+Says F choice Ends (Err (Opening fault)) = opening_fault F choice ≡ Some fault
+Says F choice Ends (Err Memory) = directory_refusal F ≡ None
+Says F choice Ends (Err (Source fault)) = Unit {0}
+Says F choice Ends (Ok _) = (opening_fault F choice ≡ None) × Ends (Ok tt)
+Says F choice Ends (Err (BadList fault)) = (opening_fault F choice ≡ None) × Ends (Err (BadList fault))
+Says F choice Ends (Err Out) = (opening_fault F choice ≡ None) × Ends (Err Out)
+
+-- a text that is printed where a file can be listed
+abbrev pub unless_refused : Option OpenFault → List ℕ → List ℕ
+unless_refused None text = text
+unless_refused (Some fault) text = []
+
+-- a run over F: what its answer says of F, and that the text was written as far as that answer tells
+pub record Runs (F : List ℕ) (choice : Choice) (Ends : Result (Unit {0}) ToolFault → Type 0) (is_early : Bool) (text : List ℕ) (before : OutState)
+    (answer : Result (Unit {0}) ToolFault) (after : OutState) : Type 0 where
+  pub says : Says F choice Ends answer
+  pub writes : Writes is_early text before answer after
+
+-- ---- the same through blocks
+
+-- what an output has taken is a first part of these bytes
+pub record IsFirstPart (taken : Option (List ℕ)) (whole : List ℕ) : Type 0 where
+  pub out : List ℕ
+  pub rest : List ℕ
+  pub known : taken ≡ Some out
+  pub splits : whole ≡ out ++ rest
+
+-- the output refused, and what it has taken is a first part of what it had taken before and the text
+pub record RefusesWithin (before : OutState) (text : List ℕ) (after : OutState) : Type 0 where
+  pub within : (start : List ℕ) → before.taken ≡ Some start → IsFirstPart after.taken (start ++ text)
+  pub refused : HasRisen before.failures after.failures
+
+-- a run through blocks, of which the last is flushed, and may be refused behind any answer of the run
+abbrev pub RunsThrough : List ℕ → Choice → (Result (Unit {0}) ToolFault → Type 0) → Bool → List ℕ → OutState → Result (Unit {0}) ToolFault → OutState → Type 0
+RunsThrough F choice Ends is_early text before (Err Out) after = RefusesWithin before text after
+RunsThrough F choice Ends is_early text before (Ok x) after = Runs F choice Ends is_early text before (Ok x) after
+RunsThrough F choice Ends is_early text before (Err (BadList fault)) after = Runs F choice Ends is_early text before (Err (BadList fault)) after
+RunsThrough F choice Ends is_early text before (Err (Opening fault)) after = Runs F choice Ends is_early text before (Err (Opening fault)) after
+RunsThrough F choice Ends is_early text before (Err Memory) after = Runs F choice Ends is_early text before (Err Memory) after
+RunsThrough F choice Ends is_early text before (Err (Source fault)) after = Runs F choice Ends is_early text before (Err (Source fault)) after
+
+-- nothing is pending, but where the output refused
+abbrev pub IsFlushed : Result (Unit {0}) ToolFault → List ℕ → Type 0
+IsFlushed (Err Out) pending = Unit {0}
+IsFlushed (Ok x) pending = pending ≡ []
+IsFlushed (Err (BadList fault)) pending = pending ≡ []
+IsFlushed (Err (Opening fault)) pending = pending ≡ []
+IsFlushed (Err Memory) pending = pending ≡ []
+IsFlushed (Err (Source fault)) pending = pending ≡ []
+
+-- what a run answers after the flush: the same, or the output's fault where the flush was refused
+pub data EndsFlushed (answer flushed : Result (Unit {0}) ToolFault) (before after : OutState) : Type 0 where
+  stands : flushed ≡ answer → after.failures ≡ before.failures → EndsFlushed answer flushed before after
+  refused : flushed ≡ Err Out → after.failures ≡ raised before.failures 1 → EndsFlushed answer flushed before after
+
+-- ---- of whatever file
+
+-- how a run reaches its output: directly, or through blocks, of which the last is flushed
+pub data Way : Type 0 where
+  directly : Way
+  in_blocks : Way
+
+-- a file of so few bytes is told as that, unless the flush was refused
+abbrev pub IsShort : Way → ℕ → Result (Unit {0}) ToolFault → Type 0
+IsShort directly size answer = answer ≡ Err (Opening (TooShort size))
+IsShort in_blocks size answer = (answer ≡ Err (Opening (TooShort size))) ⊎ (answer ≡ Err Out)
+
+-- nothing was written: the output is as it was; the one behind blocks took nothing and did not refuse
+abbrev pub IsUntouched : Way → OutState → OutState → Type 0
+IsUntouched directly before after = after ≡ before
+IsUntouched in_blocks before after = PutsAll before [] after
+
+-- so it is, if nothing is printed early
+abbrev pub UnlessEarly : Bool → Type 0 → Type 0
+UnlessEarly true untouched = Unit {0}
+UnlessEarly false untouched = untouched
+
+-- nothing was written where the file is refused or memory is wanting; nor, where all is read before the first byte is
+-- printed, behind a fault of the listing or of the store
+abbrev pub IsQuiet : Bool → Result (Unit {0}) ToolFault → Type 0 → Type 0
+IsQuiet is_early (Ok x) untouched = Unit {0}
+IsQuiet is_early (Err Out) untouched = Unit {0}
+IsQuiet is_early (Err (Opening fault)) untouched = untouched
+IsQuiet is_early (Err Memory) untouched = untouched
+IsQuiet is_early (Err (BadList fault)) untouched = UnlessEarly is_early untouched
+IsQuiet is_early (Err (Source fault)) untouched = UnlessEarly is_early untouched
+
+-- what every command answers over a store of this size, and how it leaves its output
+pub record Tells (way : Way) (is_early : Bool) (store : StoreState) (size : ℕ) (before : OutState) (answer : Result (Unit {0}) ToolFault)
+    (after : OutState) : Type 0 where
+  -- over a good store all bytes are obtained
+  pub good : (file : List ℕ) → IsGood store file → IsNoSourceFault answer
+  pub refusal : IsRefusal size answer
+  pub short : size < 32 → IsShort way size answer
+  pub quiet : IsQuiet is_early answer (IsUntouched way before after)
+  pub out_cause : HasOutCause before answer after
+
+-- and how it leaves its source
+pub record Reads (old : SourceState) (answer : Result (Unit {0}) ToolFault) (new : SourceState) : Type 0 where
+  pub cause : HasSourceCause old answer new
+  pub fetches : FetchesSome old new
+
+-- what ends the part of a command behind the opening: no fault of the opening, and of the listing only the file's own;
+-- where nothing was written the output is untouched, which is ⊥ where some text is out already
+abbrev pub IsBehind : Bool → Result (Unit {0}) ToolFault → Type 0 → Type 0
+IsBehind is_early (Ok x) untouched = Unit {0}
+IsBehind is_early (Err Out) untouched = Unit {0}
+IsBehind is_early (Err (Opening fault)) untouched = ⊥
+IsBehind is_early (Err Memory) untouched = untouched
+IsBehind is_early (Err (BadList fault)) untouched = (IsOfSource fault.kind → ⊥) × UnlessEarly is_early untouched
+IsBehind is_early (Err (Source fault)) untouched = UnlessEarly is_early untouched
+
+-- and how that part leaves its source and its output
+pub record Leaves (is_early : Bool) (untouched : Type 0) (old : SourceState) (before : OutState) (answer : Result (Unit {0}) ToolFault) (new : SourceState)
+    (after : OutState) : Type 0 where
+  pub good : (file : List ℕ) → IsGood old.store file → IsNoSourceFault answer
+  pub behind : IsBehind is_early answer untouched
+  pub reads : Reads old answer new
+  pub out_cause : HasOutCause before answer after

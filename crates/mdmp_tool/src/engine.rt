@@ -1,0 +1,161 @@
+//! What is the same for each command over the listing of a file.
+ghost use Rattle.std.specs.Prelude.{◌≡◌, ◌≤◌, ◌<◌, ℕ, List, [], None, Some, Err};
+ghost use Rattle.mdmp_source.specs.Blocks.{MovesFront};
+ghost use Rattle.mdmp_lister.specs.Format.Refusal.{opening_fault};
+ghost use Rattle.mdmp_tool.specs.Engines.{EndsFlushed, IsFlushed, Reads, Runs, RunsThrough, Tells, directly, in_blocks, unless_refused};
+
+use crate::fault::{ToolFault, told_opening};
+use mdmp_lister::{Choice, Limits, Lister};
+use mdmp_source::{BlockOut, Out, OutFailed, Source, Store};
+use std::alloc::Allocator;
+
+/// What a run answered, and the source that it read.
+#[derive(Drop)]
+pub struct Answered<S: Store + Drop> {
+    /// Whether all lines were printed, or why not.
+    pub answer: Result<(), ToolFault>,
+    /// The source, whose counts tell the cause of its faults.
+    pub source: Source<S>,
+}
+
+/// A command over the listing of a file.
+pub(crate) trait Engine: Copy {
+    ghost use Rattle.std.specs.Prelude.{◌≡◌, ℕ, Bool, List, [], None, Some, Result};
+    ghost use Rattle.mdmp_wire.specs.Header.{header_at};
+    ghost use Rattle.mdmp_lister.specs.declared.choice.Choice.{Choice};
+    ghost use Rattle.mdmp_lister.specs.Format.Listing.{listing};
+    ghost use Rattle.mdmp_tool.specs.declared.fault.ToolFault.{ToolFault};
+    ghost use Rattle.mdmp_tool.specs.Engines.{Leaves, Writes};
+
+    // The streams that are listed.
+    ghost choice: { Choice };
+
+    // Whether it prints while it reads; if not, it reads all before.
+    ghost is_early: { Bool };
+
+    // What may be asked.
+    ghost can_put: { Self → Type 0 };
+
+    // What may end it over a file that can be opened, with names up to a limit.
+    ghost Ends: { Self → List ℕ → ℕ → Result (Unit {0}) ToolFault → Type 0 };
+
+    // All that it prints of such a file.
+    ghost text: { Self → List ℕ → ℕ → List ℕ };
+
+    /// The streams that are listed.
+    fn chosen(&self) -> Choice
+        ensures { result ≡ choice };
+
+    /// Prints what there is to print of a file that was opened.
+    fn put<S: Store + Drop, A: Allocator + Copy, O: Out>(
+        &self,
+        alloc: A,
+        lister: &mut Lister<S, A>,
+        out: &mut O,
+    ) -> Result<(), ToolFault>
+        requires can { can_put self.now }
+        requires going { lister.old.stop ≡ None }
+        requires none { lister.old.ranges ≡ [] }
+        ensures ends { (file : List ℕ) → lister.old.source.store.content ≡ Some file
+            → (limit : ℕ) → lister.old.left ≡ Some (listing file choice limit) → Ends self.now file limit result }
+        ensures writes { (file : List ℕ) → lister.old.source.store.content ≡ Some file → lister.old.header ≡ header_at file 0
+            → (limit : ℕ) → lister.old.left ≡ Some (listing file choice limit)
+            → Writes is_early (text self.now file limit) (O.state out.old) result (O.state out.new) }
+        ensures leaves { Leaves is_early (O.state out.new ≡ O.state out.old) lister.old.source (O.state out.old) result lister.new.source (O.state out.new) };
+}
+
+/// Runs a command over a store.
+pub(crate) fn run<E: Engine, S: Store + Drop, A: Allocator + Copy, O: Out>(
+    engine: E,
+    alloc: A,
+    store: S,
+    limits: Limits,
+    out: &mut O,
+) -> Result<(), ToolFault>
+    requires { E.can_put engine }
+    ensures runs { (file : List ℕ) → (S.state store).content ≡ Some file
+        → Runs file E.choice (E.Ends engine file limits.name) E.is_early (unless_refused (opening_fault file E.choice) (E.text engine file limits.name))
+        (O.state out.old) result (O.state out.new) }
+    ensures tells { Tells directly E.is_early (S.state store) (S.state store).size (O.state out.old) result (O.state out.new) }
+{
+    let Answered { answer, source: _ } = run_source(engine, alloc, Source::new(store), limits, out);
+    answer
+}
+
+/// Runs a command over a source, and hands it back.
+///
+/// The file is opened before the first touch of the output.
+pub(crate) fn run_source<E: Engine, S: Store + Drop, A: Allocator + Copy, O: Out>(
+    engine: E,
+    alloc: A,
+    source: Source<S>,
+    limits: Limits,
+    out: &mut O,
+) -> Answered<S>
+    requires { E.can_put engine }
+    ensures runs { (file : List ℕ) → source.store.content ≡ Some file
+        → Runs file E.choice (E.Ends engine file limits.name) E.is_early (unless_refused (opening_fault file E.choice) (E.text engine file limits.name))
+        (O.state out.old) result.answer (O.state out.new) }
+    ensures tells { Tells directly E.is_early source.store source.size (O.state out.old) result.answer (O.state out.new) }
+    ensures reads { Reads source result.answer result.source }
+{
+    let mut lister = match Lister::open(alloc, source, limits, engine.chosen()) {
+        Ok(lister) => lister,
+        Err(refused) => {
+            return Answered {
+                answer: Err(told_opening(refused.fault)),
+                source: refused.source,
+            };
+        }
+    };
+    let answer = engine.put(alloc, &mut lister, out);
+    Answered {
+        answer,
+        source: lister.into_source(),
+    }
+}
+
+/// Runs a command over a source through blocks, and writes what is pending at the end.
+pub(crate) fn run_in_blocks<E: Engine, S: Store + Drop, A: Allocator + Copy, O: Out, B: Allocator>(
+    engine: E,
+    alloc: A,
+    source: Source<S>,
+    limits: Limits,
+    blocks: &mut BlockOut<O, B>,
+) -> Answered<S>
+    requires can { E.can_put engine }
+    requires none { blocks.old.pending ≡ [] }
+    ensures runs { (file : List ℕ) → source.store.content ≡ Some file
+        → RunsThrough file E.choice (E.Ends engine file limits.name) E.is_early (unless_refused (opening_fault file E.choice) (E.text engine file limits.name))
+        blocks.old.inner result.answer blocks.new.inner }
+    ensures flushed { IsFlushed result.answer blocks.new.pending }
+    ensures tells { Tells in_blocks E.is_early source.store source.size blocks.old.inner result.answer blocks.new.inner }
+    ensures reads { Reads source result.answer result.source }
+{
+    let answered = run_source(engine, alloc, source, limits, blocks);
+    flushed(answered, blocks)
+}
+
+/// Writes what is pending after a run, and answers what the run did, or the output's fault where the
+/// inner output refuses.
+fn flushed<S: Store + Drop, O: Out, B: Allocator>(
+    answered: Answered<S>,
+    blocks: &mut BlockOut<O, B>,
+) -> Answered<S>
+    ensures ends { EndsFlushed answered.answer result.answer blocks.old.inner blocks.new.inner }
+    ensures moved { MovesFront blocks.old.inner blocks.old.pending blocks.new.inner blocks.new.pending }
+    ensures flushed { IsFlushed result.answer blocks.new.pending }
+    ensures source { result.source ≡ answered.source }
+{
+    let Answered { answer, source } = answered;
+    if let Err(ToolFault::Out) = answer {
+        return Answered { answer, source };
+    }
+    match blocks.flush() {
+        Ok(()) => Answered { answer, source },
+        Err(OutFailed) => Answered {
+            answer: Err(ToolFault::Out),
+            source,
+        },
+    }
+}
