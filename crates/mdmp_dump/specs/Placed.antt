@@ -29,21 +29,23 @@ location_of NoPart at = nowhere
 location_of (Size n) at = bytes_location n at
 location_of (Absent n) at = record { size = n; rva = 0 }
 
--- the room that it takes
+-- the room that a part takes
 abbrev pub part_room : PartSize → ℕ
 part_room NoPart = 0
 part_room (Size n) = up n
 part_room (Absent n) = 0
 
--- the address of a name that is written at a place, the room that it takes, and its bytes
+-- the RVA of a name that is written at a place
 abbrev pub address_of : PartSize → ℕ → ℕ
 address_of (Size n) at = at
 address_of _ at = 0
 
+-- the room that it takes
 abbrev pub name_room : PartSize → ℕ
 name_room (Size n) = up (4 + n + 2)
 name_room _ = 0
 
+-- its bytes: its length, its units and two zeros
 abbrev pub name_around : PartSize → List ℕ → List ℕ
 name_around (Size n) bytes = le 4 n ++ bytes ++ zeros 2
 name_around _ bytes = []

@@ -55,7 +55,7 @@ impl<A: Allocator> Fitting for Part<A> {
     }
 }
 
-/// The numbers of each of these values do.
+/// The numbers of each of some values fit.
 pub(crate) fn all_fit<T: Fitting>(values: &[T])
     ensures { All T.Fit values.now }
 {
@@ -74,7 +74,7 @@ fn units_fit<A: Allocator>(units: &Units<A>)
     }
 }
 
-/// So do those of a name, if there is one.
+/// The units of a name, if there is one, have 16 bits each.
 pub(crate) fn name_fits<A: Allocator>(name: &Option<Units<A>>)
     ensures { NameFits name.now }
 {

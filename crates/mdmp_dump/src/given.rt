@@ -56,7 +56,7 @@ pub(crate) fn room_of_one<T: Given>(one: &T) -> u64
     add_told(0, one.fields().room())
 }
 
-/// What those of some records take.
+/// What the names and parts of some records take.
 pub(crate) fn room_of_all<T: Given>(records: &[T]) -> u64
     ensures { result ≡ told (rooms (map T.see records.now)) }
 {

@@ -1,4 +1,4 @@
-//! Reads the dump IN into a value and writes that to the new file OUT: the writer in use.
+//! Reads the dump IN into a value and writes that to OUT, which it makes or empties: the writer in use.
 #![tactic(auto)]
 
 use mdmp_dump::read_dump;

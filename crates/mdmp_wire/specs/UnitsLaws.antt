@@ -1,9 +1,7 @@
 -- Units in a part of a file.
 use Rattle.std.specs.Prelude.{◌≡◌, ◌≤◌, ◌<◌, ℕ, ◌+◌, ◌-◌, ◌*◌, ◌/◌, ◌%◌, List, [], ◌++◌, length, slice_index, take, drop}
-use Rattle.std.proofs.Common.{arith, length-append, length-drop, refl, ◌∙◌}
-use Rattle.std.proofs.lemmas.List.{append-nil, length-take}
-use Rattle.std.proofs.Common.{zero, suc, ◌∷◌, sym, ap}
-use Rattle.std.proofs.lemmas.List.{drop_more}
+use Rattle.std.proofs.Common.{zero, suc, ◌∷◌, arith, length-append, length-drop, refl, sym, ap, ◌∙◌}
+use Rattle.std.proofs.lemmas.List.{append-nil, drop_more, length-take}
 use Rattle.mdmp_wire.specs.Number.{le, les, number_at, numbers_at}
 use Rattle.mdmp_wire.specs.NumberLaws.{length-les, numbers_at-append, numbers_at-front, numbers_at-les, numbers_at-past, numbers_at-within}
 use Rattle.mdmp_wire.specs.Units.{units_of}

@@ -71,7 +71,7 @@ fn is_misnamed(kind: Kind) -> bool
     }
 }
 
-/// The first of them.
+/// The first stream that is misnamed.
 fn misnamed_stream<V: DumpView>(view: &mut V) -> Option<u64>
     ensures shape { V.shape view.new ≡ V.shape view.old }
     ensures cursor { V.cursor view.new ≡ V.cursor view.old }
