@@ -29,7 +29,7 @@ impl DumpView for Sizes {
       seen = None;
     } };
 
-    ghost cursor = { λ v. record { records = 0; room = 0; far = 0; seen = None; sizes = λ k. 0; parts = None } };
+    ghost cursor = { λ v. record { records = 1; room = 0; far = 0; seen = None; sizes = λ k. 0; parts = None } };
 
     fn streams(&mut self) -> u64 {
         2
