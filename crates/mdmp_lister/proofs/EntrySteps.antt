@@ -21,6 +21,7 @@ use Rattle.mdmp_lister.specs.Meter.{Books}
 use Rattle.mdmp_lister.specs.Stage.{fault_stage}
 use Rattle.mdmp_lister.specs.Step.{bytes_behind, step_item}
 use Rattle.mdmp_lister.specs.Walk.{IsReading, IsSound, SameEntry}
+use Rattle.mdmp_lister.specs.Walk.Checking.{RecordGiven}
 use Rattle.mdmp_lister.specs.Walk.Requests.{Answered, FaultMet, HeadRead}
 use Rattle.mdmp_lister.proofs.Bodies.{body-shaped, records-faulted, records-given}
 use Rattle.mdmp_lister.proofs.Costs.{fault_cost-told}
@@ -84,6 +85,20 @@ module _ {S A : Type 0} (old new : Walk S A) (kind : Kind) (shape : Shape) (k of
   reading : IsReading old.meter.source.size old.next old.current kind shape k offset
   reading = rw at at sound.staged
 
+  -- the rest of the entry is left behind it
+  pub given_record : (step : Step) (next : ℕ) → new.stage ≡ stage.Records kind shape (k + 1) next
+      → ((file : List ℕ) → old.meter.source.store.content ≡ Some file → (kind ≡ Memory64 → offset ≡ range_offset file old.current.location.rva k)
+      → item_at file (vec_len old.name) (old.next - 1) k old.current.location.rva place kind ≡ Ok (step_item old.meter.source.size new.name.items step))
+      → RecordGiven old step new
+  given_record step next on item = record {
+    same = same;
+    stage = rw on tt;
+    left = λ file known.
+        let here = (rw at at (sound.headed file known)).1 in
+        rw (on, at, same.room.name, same.next, same.current)
+        (records-given file (vec_len old.name) (old.next - 1) old.current.location.rva kind shape k left _ (rw stands at (item file known here)));
+  }
+
   pub answered_record : (step : Step) (next : ℕ) → new.stage ≡ stage.Records kind shape (k + 1) next → next ≡ offset + bytes_behind step → next < offset + 2 ^ 64
       → ReadsRecord (vec_len old.name) kind (Ok step) old.meter new.meter → TellsRecord (vec_len old.name) kind step
       → ((file : List ℕ) → old.meter.source.store.content ≡ Some file → (kind ≡ Memory64 → offset ≡ range_offset file old.current.location.rva k)
@@ -110,9 +125,7 @@ module _ {S A : Type 0} (old new : Walk S A) (kind : Kind) (shape : Shape) (k of
       reads.fetches (omega arith)
       reads.spends (rw (on, at) (record_less shape.count k (record_size kind) left))
       reads.named
-      (λ file known.
-      let here = (rw at at (sound.headed file known)).1 in
-      rw (on, at, same.room.name, same.next, same.current) (records-given file (vec_len old.name) (old.next - 1) e.location.rva kind shape k left _ (rw stands at (item file known here))))
+      (given_record step next on item).left
 
   pub answered_record_fault : (fault : Fault) (f : ListFault) → new.stage ≡ fault_stage f → ReadsRecord (vec_len old.name) kind (Err fault) old.meter new.meter
       → IsListFaultOf (old.next - 1) (Some k) fault f

@@ -14,6 +14,7 @@ pub mod Fetches
 pub mod Files
 pub mod Handing
 pub mod Heads
+pub mod Judging
 pub mod LawsLemmas
 pub mod Listed
 pub mod Mapping
@@ -35,3 +36,4 @@ pub mod Runs
 pub mod Sizes
 pub mod Soundness
 pub mod Summary
+pub mod Verdicts

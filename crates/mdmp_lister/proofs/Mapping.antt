@@ -27,7 +27,7 @@ use Rattle.mdmp_lister.proofs.Summary.{given, ranges_of-told, summary_of-item_of
 
 -- ---- the ranges of an item
 
-ranges_of-plain : (x : Item) → ranges_of (plain x ∷ []) ≡ ranges_of (x ∷ [])
+pub ranges_of-plain : (x : Item) → ranges_of (plain x ∷ []) ≡ ranges_of (x ∷ [])
 ranges_of-plain x = ap (λ (s : Summary). given s.range) (summary_of-plain x)
 
 pub ranges_of-more : (old mid new : List Range) (xs : List Item) (x : Item) → mid ≡ old ++ ranges_of xs → new ≡ mid ++ ranges_of (x ∷ []) → new ≡ old ++ ranges_of (xs ++ plain x ∷ [])

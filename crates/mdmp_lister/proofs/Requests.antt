@@ -50,7 +50,7 @@ stage_by-good : (f : ListFault) (kind : FaultKind) → failure_of (stage_by kind
 stage_by-good f (Source fault) none of = absurd (cc)
 stage_by-good f _ none of = of
 
-listing-going : (stage : Stage) → IsListing stage → stop_of stage ≡ None
+pub listing-going : (stage : Stage) → IsListing stage → stop_of stage ≡ None
 listing-going Between listing = refl
 listing-going (Records kind shape index offset) listing = refl
 listing-going _ listing = absurd listing
@@ -65,7 +65,7 @@ through-going Between through = refl
 through-going (Records kind shape index offset) through = refl
 through-going _ through = absurd through
 
-stage-through : (F : List ℕ) (limit number : ℕ) (e : Entry) (stage : Stage) → IsThrough stage → left_of_entry F limit number e stage ≡ nothing
+pub stage-through : (F : List ℕ) (limit number : ℕ) (e : Entry) (stage : Stage) → IsThrough stage → left_of_entry F limit number e stage ≡ nothing
 stage-through F limit number e Between through = refl
 stage-through F limit number e (Records kind shape index offset) through =
     let none : shape.count - index ≡ 0 = omega (arith, through) in

@@ -1,4 +1,5 @@
 pub mod Addressing
+pub mod Check
 pub mod CodeView
 pub mod Costs
 pub mod Counts

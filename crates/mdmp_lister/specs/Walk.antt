@@ -1,4 +1,5 @@
 -- What is left of a walk.
+pub mod Checking
 pub mod Mapping
 pub mod Owing
 pub mod Paying

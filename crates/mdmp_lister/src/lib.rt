@@ -8,9 +8,10 @@
 //! under it `Kind` and `Shape` (which streams have records, and where those stand), `Item` (what a
 //! record gives), `Name` and `Refusal` (which files can't be listed at all).
 //!
-//! [`Lister`] lists a file through a window, one item at a time or all of them into a [`Sink`];
-//! [`Choice`] says which entries are listed, [`Limits`] how long the window and a name may be. The
-//! ranges of memory that were given are kept in a map: [`Lister::read_address`] reads memory by it.
+//! [`Lister`] lists a file through a window, one item at a time or all of them into a [`Sink`], or hands
+//! the verdict on each entry, its first fault or none, to a [`VerdictSink`]; [`Choice`] says which
+//! entries are listed, [`Limits`] how long the window and a name may be. The ranges of memory that were
+//! given are kept in a map: [`Lister::read_address`] reads memory by it.
 //! [`Lister::read_part`] reads any bytes of the file, beside the listing.
 //! [`name_at`] and [`shape_of`] read a name and where the records of a stream stand, of a file that is
 //! wholly in memory.
@@ -28,6 +29,7 @@
 #![tactic(auto)]
 
 mod addressing;
+mod checking;
 mod choice;
 mod codeview;
 mod counting;
@@ -68,6 +70,6 @@ pub use crate::lister::Lister;
 pub use crate::name::{Name, name_at};
 pub use crate::opening::OpenRefused;
 pub use crate::shape::{Shape, shape_of};
-pub use crate::sink::{RunFault, Sink, Stopped};
+pub use crate::sink::{RunFault, Sink, Stopped, VerdictSink};
 pub use crate::stop_at::StopAt;
 pub use crate::verdict::Verdict;

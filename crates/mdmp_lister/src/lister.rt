@@ -19,6 +19,7 @@ ghost use Rattle.mdmp_lister.specs.Fault.{IsOfSource, IsToldIn};
 ghost use Rattle.mdmp_lister.specs.Stage.{stop_after, stop_after_run};
 
 use crate::addressing::read_addresses;
+use crate::checking::check_entries;
 use crate::choice::Choice;
 use crate::codeview::CodeViewBytes;
 use crate::counts::{Counts, listed_bytes};
@@ -26,7 +27,7 @@ use crate::fault::{ListFault, OpenFault};
 use crate::item::Item;
 use crate::limits::Limits;
 use crate::opening::OpenRefused;
-use crate::sink::{RunFault, Sink, Stopped};
+use crate::sink::{RunFault, Sink, Stopped, VerdictSink};
 use crate::stage::Stage;
 use crate::walk::{Walk, refused};
 use mdmp_map::AddressMap;
@@ -83,6 +84,7 @@ impl<S: Store + Drop, A: Allocator + Copy> Model for Lister<S, A> {
 
 impl<S: Store + Drop, A: Allocator + Copy> Lister<S, A> {
     ghost use Rattle.mdmp_lister.specs.contracts.lister.Lister.{the_row};
+    ghost use Rattle.mdmp_lister.specs.Check.{CheckLeaves};
     ghost use Rattle.mdmp_lister.specs.Sink.{RunLeaves};
     ghost use Rattle.mdmp_lister.specs.Lister.{Gives, IsNewLister, IsRecordsLeft, IsSameLister, Leaves, ReadsAside, is_for_good, is_fresh, listing_behind};
 
@@ -260,6 +262,25 @@ impl<S: Store + Drop, A: Allocator + Copy> Lister<S, A> {
         }
     }
 
+    /// Hands a sink the verdict on each chosen entry, in the order of the directory: its first fault,
+    /// or none. Each entry is read to its end or its fault, and its ranges that lie inside the file are
+    /// put into the map; behind a bad entry the next one is read. A fault of the store ends the check,
+    /// which gives no verdict on that entry, and so does a sink that wants no more; the verdict that it
+    /// was handed then counts as given, and the next item is the entry behind it.
+    ///
+    /// No item, verdict or fault was given before: see [`Lister::is_fresh`].
+    pub fn check_into<K: VerdictSink>(&mut self, sink: &mut K) -> Result<(), RunFault>
+        requires { IsTrue (is_fresh self.old) }
+        ensures checks { CheckLeaves K.step self.old sink.old result self.new sink.new }
+        ensures told { IfErr result (λ r. (fault : _) → r ≡ RunFault.At fault
+            → IsOfSource fault.kind × IsToldIn self.new.current fault self.old.source self.new.source) }
+        ensures good { (file : List ℕ) → IsGood self.old.source.store file
+            → IfErr result (λ r. (fault : _) → r ≡ RunFault.At fault → ⊥) }
+        ensures rests { self.new.work ≤ self.old.work }
+    {
+        check_entries(&mut self.walk, &mut self.map, sink)
+    }
+
     /// The ranges of memory inside the file that were given so far, in order.
     pub fn map(&self) -> &AddressMap<A>
         ensures map { result.now ≡ record { ranges = self.now.ranges; room = self.now.rooms.ranges } }
@@ -323,7 +344,7 @@ impl<S: Store + Drop, A: Allocator + Copy> Lister<S, A> {
 }
 
 /// Puts a range that lies inside the file behind those of a map.
-fn push_range<A: Allocator>(map: &mut AddressMap<A>, item: &Item)
+pub(crate) fn push_range<A: Allocator>(map: &mut AddressMap<A>, item: &Item)
     requires placed { IsPlacedIn (2 ^ 64 - 1) item.now }
     requires room { length (ranges_of (item.now ∷ [])) ≤ free_of map.old }
     ensures { map.new ≡ record map.old { ranges = map.old.ranges ++ ranges_of (item.now ∷ []) } }

@@ -1,6 +1,7 @@
-//! Takers of items.
+//! Takers of items, and of verdicts.
 use crate::fault::ListFault;
 use crate::item::Item;
+use crate::verdict::Verdict;
 
 /// A sink wants no more.
 #[derive(Clone, Copy, Debug, PartialEq, Eq)]
@@ -21,12 +22,27 @@ pub trait Sink {
         ensures { step self.old (plain item.now) result self.new };
 }
 
-/// Why a run ended before the end of the listing.
+/// Takes the verdicts on entries, one a call.
+pub trait VerdictSink {
+    ghost use Rattle.std.specs.Prelude.{Result};
+    ghost use Rattle.mdmp_lister.specs.declared.sink.Stopped.{Stopped};
+    ghost use Rattle.mdmp_lister.specs.declared.verdict.Verdict.{Verdict};
+
+    /// What one call does: the sink before it, the verdict, the answer, the sink after it.
+    ghost step: { Self → Verdict → Result (Unit {0}) Stopped → Self → Type 0 };
+
+    /// Takes the next verdict. It has the verdict also where it answers that it wants no more.
+    fn take(&mut self, verdict: &Verdict) -> Result<(), Stopped>
+        ensures { step self.old verdict.now result self.new };
+}
+
+/// Why a run ended before its end.
 #[derive(Clone, Copy, Debug, PartialEq, Eq)]
 pub enum RunFault {
     /// The listing has this fault next, or the store failed there: the sink has all items before
-    /// it.
+    /// it. Of a run of verdicts, that the store failed: the sink has the verdicts on the entries
+    /// before the one that the fault names.
     At(ListFault),
-    /// The sink wanted no more: the item that it had last is the last that was given.
+    /// The sink wanted no more: the item or verdict that it had last is the last that was given.
     Stopped,
 }

@@ -3,12 +3,13 @@ ghost use Rattle.std.specs.Prelude.{◌≡◌};
 ghost use Rattle.mdmp_lister.specs.StopAt.{StopAtState};
 
 use crate::item::Item;
-use crate::sink::{Sink, Stopped};
+use crate::sink::{Sink, Stopped, VerdictSink};
+use crate::verdict::Verdict;
 use std::marker::Model;
 
 /// A sink that answers at one call alone that it wants no more: at call `stop_at`, counted from 0.
 /// It counts its calls, up to the greatest `u64` (a sink that is to stop there stops at each later
-/// call), and keeps no item. It is for tests of what hands items to a sink.
+/// call), and keeps no item or verdict. It is for tests of what hands those to a sink.
 #[derive(Drop)]
 pub struct StopAt {
     stop_at: u64,
@@ -37,12 +38,13 @@ impl StopAt {
     }
 }
 
-impl Sink for StopAt {
+impl StopAt {
     ghost use Rattle.mdmp_lister.specs.StopAt.{IsStopAtCall};
 
-    ghost step = { λ old item result new. IsStopAtCall old result new };
-
-    fn take(&mut self, _item: &Item<'_>) -> Result<(), Stopped> {
+    /// One call.
+    fn call(&mut self) -> Result<(), Stopped>
+        ensures { IsStopAtCall self.old result self.new }
+    {
         let call = self.calls;
         self.calls = call.saturating_add(1);
         if call == self.stop_at {
@@ -50,5 +52,25 @@ impl Sink for StopAt {
         } else {
             Ok(())
         }
+    }
+}
+
+impl Sink for StopAt {
+    ghost use Rattle.mdmp_lister.specs.StopAt.{IsStopAtCall};
+
+    ghost step = { λ old item result new. IsStopAtCall old result new };
+
+    fn take(&mut self, _item: &Item<'_>) -> Result<(), Stopped> {
+        self.call()
+    }
+}
+
+impl VerdictSink for StopAt {
+    ghost use Rattle.mdmp_lister.specs.StopAt.{IsStopAtCall};
+
+    ghost step = { λ old verdict result new. IsStopAtCall old result new };
+
+    fn take(&mut self, _verdict: &Verdict) -> Result<(), Stopped> {
+        self.call()
     }
 }

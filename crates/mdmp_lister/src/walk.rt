@@ -1,5 +1,5 @@
 //! The walk over the entries of a file, without its public face.
-ghost use Rattle.std.specs.Prelude.{◌≡◌, ◌+◌, ◌^◌, ◌≤◌, ◌<◌, ◌-◌, IfOk, IfErr, MatchResult, vec_len};
+ghost use Rattle.std.specs.Prelude.{◌≡◌, ◌+◌, ◌^◌, ◌≤◌, ◌<◌, ◌-◌, IfOk, IfErr, MatchOption, MatchResult, vec_len};
 ghost use Rattle.mdmp_source.specs.Range.{IsInside};
 ghost use Rattle.mdmp_lister.specs.CodeView.{codeview_read, codeview_told};
 ghost use Rattle.mdmp_lister.specs.Opening.{IsRefused};
@@ -50,6 +50,7 @@ pub(crate) struct Walk<S: Store + Drop, A: Allocator + Copy> {
 
 impl<S: Store + Drop, A: Allocator + Copy> Walk<S, A> {
     ghost use Rattle.mdmp_lister.specs.Walk.Requests.{Answered, CodeViewFetched, EntrySkipped, HeadRead, StepTaken};
+    ghost use Rattle.mdmp_lister.specs.Walk.Checking.{EntryBegun, NoneLeft, RecordRead, RecordTaken};
     ghost use Rattle.mdmp_lister.specs.Walk.{CountsRanges, IsListing, IsNewWalk, IsSound, IsThrough};
 
     /// Reads the header and the directory of a file, and takes all the memory that a walk needs.
@@ -175,20 +176,16 @@ impl<S: Store + Drop, A: Allocator + Copy> Walk<S, A> {
         requires stage { IsListing self.old.stage }
         ensures { StepTaken self.old result self.new }
     {
-        match self.stage {
-            Stage::Records {
-                kind,
-                shape,
-                index,
-                offset,
-            } if index < shape.count => self.read_record(kind, shape, index, offset),
-            _ => Ok(self.next_stream()),
+        match self.next_record() {
+            Ok(Some(step)) => Ok(Some(step)),
+            Ok(None) => Ok(self.next_stream()),
+            Err(fault) => Err(fault),
         }
     }
 
     /// Reads where the records of the current entry stand. A memory list that counts more than `room`
     /// ranges has changed since the file was opened.
-    fn read_head(&mut self, room: usize) -> Result<(), ListFault>
+    pub(crate) fn read_head(&mut self, room: usize) -> Result<(), ListFault>
         requires sound { IsSound self.old }
         requires room { HasRoom room 0 self.old }
         requires head { self.old.stage ≡ Stage.Head }
@@ -227,6 +224,26 @@ impl<S: Store + Drop, A: Allocator + Copy> Walk<S, A> {
         }
     }
 
+    /// Gives the next record of the current entry, whose head was read, or none behind the last one.
+    pub(crate) fn next_record(&mut self) -> Result<Option<Step>, ListFault>
+        requires sound { IsSound self.old }
+        requires stage { IsListing self.old.stage }
+        ensures { RecordTaken self.old result self.new }
+    {
+        match self.stage {
+            Stage::Records {
+                kind,
+                shape,
+                index,
+                offset,
+            } if index < shape.count => match self.read_record(kind, shape, index, offset) {
+                Ok(step) => Ok(Some(step)),
+                Err(fault) => Err(fault),
+            },
+            _ => Ok(None),
+        }
+    }
+
     /// Gives a record that is left.
     fn read_record(
         &mut self,
@@ -234,11 +251,11 @@ impl<S: Store + Drop, A: Allocator + Copy> Walk<S, A> {
         shape: Shape,
         index: u64,
         offset: u128,
-    ) -> Result<Option<Step>, ListFault>
+    ) -> Result<Step, ListFault>
         requires sound { IsSound self.old }
         requires stage { self.old.stage ≡ Stage.Records kind shape index offset }
         requires left { index < shape.count }
-        ensures { StepTaken self.old result self.new }
+        ensures { RecordRead self.old result self.new }
     {
         let number = (self.next - 1) as u32;
         let at = record_at(self.current.location, kind, shape, index, self.meter.size());
@@ -259,17 +276,18 @@ impl<S: Store + Drop, A: Allocator + Copy> Walk<S, A> {
                     index: index + 1,
                     offset: offset_behind(step, offset),
                 };
-                Ok(Some(step))
+                Ok(step)
             }
             Err(fault) => self.stop_at(ListFault::of_entry(number, Some(index), fault)),
         }
     }
 
     /// Gives the Stream item of the next chosen entry.
-    fn next_stream(&mut self) -> Option<Step>
+    pub(crate) fn next_stream(&mut self) -> Option<Step>
         requires sound { IsSound self.old }
         requires through { IsThrough self.old.stage }
-        ensures { StepTaken self.old (Ok result) self.new }
+        ensures taken { StepTaken self.old (Ok result) self.new }
+        ensures begins { MatchOption result (NoneLeft self.old self.new) (λ step. EntryBegun self.old self.new) }
     {
         let Some(at) = next_chosen(&self.entries, self.next, &self.choice) else {
             self.next = self.entries.len();

@@ -67,17 +67,21 @@ pub struct Given {
     pub name: Named,
 }
 
-/// A text as a name.
-pub fn spelled(text: &str) -> Named {
-    let from = text.as_bytes();
+/// These bytes as a short text.
+pub fn short_text(from: &[u8]) -> Text {
     let mut bytes = [0; 16];
     for i in 0..from.len().min(16) {
         bytes[i] = from[i];
     }
-    Named::Text(Text {
+    Text {
         len: from.len(),
         bytes,
-    })
+    }
+}
+
+/// A text as a name.
+pub fn spelled(name: &str) -> Named {
+    Named::Text(short_text(name.as_bytes()))
 }
 
 /// The entry of the directory with this number, and the three numbers that stand there.

@@ -3,6 +3,7 @@ mod addresses;
 mod bounds;
 mod calls;
 mod changes;
+mod checks;
 mod choices;
 mod codeview;
 mod counts;

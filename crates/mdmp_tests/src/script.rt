@@ -33,6 +33,8 @@ pub enum Step {
     NewSink(u64),
     /// Hand what is left to the sink of the step before.
     SameSink,
+    /// Hand the verdicts on all entries to a new sink, which stops at this call.
+    Check(u64),
     /// How many ranges the map has, and has room for.
     Room,
     /// Where the map finds an address.
@@ -57,6 +59,8 @@ pub enum Answer {
     Fault(ListFault),
     /// How a run ended, and how often its sink was called so far.
     Ran(Option<RunFault>, u64),
+    /// Something was given before, so no verdict can be.
+    Begun,
     Room { len: usize, free: usize },
     Place(Option<Place>),
     /// What was read, with zeros behind it, and which of its bytes are known.
@@ -118,6 +122,16 @@ pub fn runs(stop_at: u64, fault: Option<RunFault>, calls: u64) -> Call {
 /// A further run into the same sink.
 pub fn runs_on(fault: Option<RunFault>, calls: u64) -> Call {
     called(Step::SameSink, Answer::Ran(fault, calls))
+}
+
+/// Verdicts for a new sink that stops at this call.
+pub fn checks(stop_at: u64, fault: Option<RunFault>, calls: u64) -> Call {
+    called(Step::Check(stop_at), Answer::Ran(fault, calls))
+}
+
+/// No verdicts any more.
+pub fn has_begun() -> Call {
+    called(Step::Check(u64::MAX), Answer::Begun)
 }
 
 pub fn has_room(len: usize, free: usize) -> Call {
@@ -194,6 +208,14 @@ fn run<S: Store + Drop>(lister: &mut Lister<S, Global>, sink: &mut StopAt) -> An
     Answer::Ran(fault, sink.calls())
 }
 
+fn check<S: Store + Drop>(lister: &mut Lister<S, Global>, sink: &mut StopAt) -> Answer {
+    if !lister.is_fresh() {
+        return Answer::Begun;
+    }
+    let fault = lister.check_into(sink).err();
+    Answer::Ran(fault, sink.calls())
+}
+
 fn read<S: Store + Drop>(lister: &mut Lister<S, Global>, address: u64, len: usize) -> Answer {
     let len = len.min(16);
     // What stands there before is no answer.
@@ -242,6 +264,10 @@ fn answer_of<S: Store + Drop>(
             run(lister, sink)
         }
         Step::SameSink => run(lister, sink),
+        Step::Check(stop_at) => {
+            *sink = StopAt::new(stop_at);
+            check(lister, sink)
+        }
         Step::Room => Answer::Room {
             len: lister.map().len(),
             free: lister.map().free(),

@@ -2,53 +2,116 @@
 ghost use Rattle.mdmp_source.specs.Range.{IsInside};
 
 use crate::files::file;
+use crate::given::{Text, short_text};
 use mdmp_lister::{Choice, Limits, Lister};
 use mdmp_source::{Location, MemoryStore, Source, Store, inside};
 use mdmp_wire::CodeView;
 use std::alloc::Allocator;
 use std::test::Fail;
+use uuid::Uuid;
 
-/// The least window, and room for three bytes of a name.
-const LIMITS: Limits = Limits {
-    window: 168,
-    name: 3,
-};
+/// What a record tells, to be compared.
+#[derive(Clone, Copy, Debug, PartialEq)]
+enum Told {
+    Rsds {
+        guid: Uuid,
+        age: u32,
+        name: Text,
+        ended: bool,
+    },
+    Other {
+        signature: [u8; 4],
+        size: u32,
+    },
+    Short {
+        size: u32,
+    },
+}
 
-/// The age that a record tells, how long its name is and whether a zero byte ended it.
-fn symbol_file_of<S: Store + Drop, A: Allocator + Copy>(
+/// The symbol file with this name, and whether a zero byte ends it.
+fn symbol_file(name: &str, ended: bool) -> Told {
+    let guid = Uuid::from_bytes(
+        *b"\x00\x11\x22\x33\x44\x55\x66\x77\x88\x99\xaa\xbb\xcc\xdd\xee\xff",
+    );
+    Told::Rsds {
+        guid,
+        age: 1,
+        name: short_text(name.as_bytes()),
+        ended,
+    }
+}
+
+fn told_of<S: Store + Drop, A: Allocator + Copy>(
     lister: &mut Lister<S, A>,
     location: Location,
-) -> Result<(u32, usize, bool), Fail>
+) -> Result<Told, Fail>
     requires { IsInside location.rva location.size lister.old.source.size }
 {
     let Ok(bytes) = lister.codeview(location) else {
         return Err(Fail::from("codeview"));
     };
-    match bytes.read() {
+    Ok(match bytes.read() {
         CodeView::Rsds {
+            guid,
             age,
             name,
             ended,
-            ..
-        } => Ok((age, name.len(), ended)),
-        _ => Err(Fail::from("another kind")),
-    }
+        } => Told::Rsds {
+            guid,
+            age,
+            name: short_text(name),
+            ended,
+        },
+        CodeView::Other { signature, size } => Told::Other { signature, size },
+        CodeView::Short { size } => Told::Short { size },
+    })
 }
 
-#[test]
-fn symbol_file_is_named_up_to_the_limit(rt: HostRuntime) -> Result<(), Fail> {
-    // `RSDS`, an identity, an age of 9 and `a.pdb` with three zero bytes.
-    let file = file(&rt, 0, &[0x53445352, 1, 2, 3, 4, 9, 0x64702e61, 0x00000062])?;
+/// What the first `size` bytes of a record tell, whose first four are this number, where names have at
+/// most `limit` bytes; and how many bytes were fetched for it.
+fn read(rt: &HostRuntime, signature: u32, size: u32, limit: u32) -> Result<(Told, u128), Fail> {
+    // An identity, an age of 1, and `a.pdb` with its zero byte.
+    let numbers = [
+        signature, 0x00112233, 0x66774455, 0xbbaa9988, 0xffeeddcc, 1, 0x64702e61, 0x00000062,
+    ];
+    let file = file(rt, 0, &numbers)?;
     let source = Source::new(MemoryStore::new(&file));
-    let Ok(mut lister) = Lister::open(rt.alloc(), source, LIMITS, Choice::All) else {
+    let limits = Limits::new(168, limit).ok_or("limits")?;
+    let Ok(mut lister) = Lister::open(rt.alloc(), source, limits, Choice::All) else {
         return Err(Fail::from("open"));
     };
-    let at = Location { size: 32, rva: 32 };
+    let at = Location { size, rva: 32 };
     if !inside(u64::from(at.rva), u64::from(at.size), lister.size()) {
         return Err(Fail::from("outside"));
     }
-    let told = symbol_file_of(&mut lister, at)?;
-    assert_eq!(rt; told, (9, 3, false));
-    assert_eq!(rt; lister.counts().aside, 27);
+    let told = told_of(&mut lister, at)?;
+    Ok((told, lister.counts().aside))
+}
+
+const RSDS: u32 = 0x53445352;
+
+#[test]
+fn symbol_file_is_named_up_to_the_limit(rt: HostRuntime) -> Result<(), Fail> {
+    for (size, limit, name, ended, fetched) in [
+        (30, 4096, "a.pdb", true, 30),
+        (30, 3, "a.p", false, 27),
+        (30, 0, "", false, 24),
+        (24, 4096, "", false, 24),
+    ] {
+        let expected = (symbol_file(name, ended), fetched);
+        assert_eq!(rt; read(&rt, RSDS, size, limit)?, expected);
+    }
+    Ok(())
+}
+
+#[test]
+fn short_and_other_records_name_no_symbol_file(rt: HostRuntime) -> Result<(), Fail> {
+    let short = (Told::Short { size: 23 }, 23);
+    assert_eq!(rt; read(&rt, RSDS, 23, 4096)?, short);
+    let other = Told::Other {
+        signature: *b"NSDS",
+        size: 30,
+    };
+    assert_eq!(rt; read(&rt, 0x5344534e, 30, 4096)?, (other, 24));
     Ok(())
 }

@@ -1,6 +1,6 @@
 use Rattle.std.proofs.Common.{◌≡◌, ◌∙◌, length, refl, rules, vec_len}
 use Rattle.mdmp_lister.proofs.Bodies.{take-lent}
-use Rattle.mdmp_lister.proofs.EntrySteps.{answered_record, answered_record_fault}
+use Rattle.mdmp_lister.proofs.EntrySteps.{answered_record, answered_record_fault, given_record}
 use Rattle.mdmp_lister.proofs.walk.Walk.read_record.Goals as goal
 
 pub returns-in-Ok : goal.returns-in-Ok
@@ -8,14 +8,18 @@ returns-in-Ok g c =
     let w = c.args.self.now in
     let a = c.args in
     let of = c.in-Ok.ensures in
-    let room : length c.read_item.new.buffer ≡ vec_len w.name = of.length ∙ c.deref_mut-2.ensures.len in
-    record {
-      answered =
-          answered_record w _ a.kind a.shape a.index a.offset c.record_at-at.result c.requires.stage c.requires.left c.requires.sound (search rules) c.record_at-at.ensures.place
-          c.in-Ok.step c.offset_behind.result refl c.offset_behind.ensures.range c.offset_behind.ensures.bound (rw room at of.reads) (rw room at of.tells)
-          (λ file known here. rw (take-lent (vec_len w.name) c.read_item.new.buffer _ room) (rw room at (of.item file known w.current.location.rva here)));
-      room = search rules;
-    }
+    let room : length c.read_item.new.buffer ≡ vec_len w.name = of.length ∙ c.deref_mut-2.ensures.len in (
+      record {
+        answered =
+            answered_record w _ a.kind a.shape a.index a.offset c.record_at-at.result c.requires.stage c.requires.left c.requires.sound (search rules) c.record_at-at.ensures.place
+            c.in-Ok.step c.offset_behind.result refl c.offset_behind.ensures.range c.offset_behind.ensures.bound (rw room at of.reads) (rw room at of.tells)
+            (λ file known here. rw (take-lent (vec_len w.name) c.read_item.new.buffer _ room) (rw room at (of.item file known w.current.location.rva here)));
+        room = search rules;
+      },
+      given_record w _ a.kind a.shape a.index a.offset c.record_at-at.result c.requires.stage c.requires.left c.requires.sound (search rules) c.record_at-at.ensures.place
+          c.in-Ok.step c.offset_behind.result refl
+          (λ file known here. rw (take-lent (vec_len w.name) c.read_item.new.buffer _ room) (rw room at (of.item file known w.current.location.rva here))),
+    )
 
 pub returns-in-Err : goal.returns-in-Err
 returns-in-Err g c =
@@ -23,10 +27,9 @@ returns-in-Err g c =
     let a = c.args in
     let of = c.in-Err.ensures in
     let room : length c.read_item.new.buffer ≡ vec_len w.name = of.length ∙ c.deref_mut-2.ensures.len in
-    record {
+    rw (c.stop_at.ensures.1, c.stop_at.ensures.0) (record {
       answered =
-          rw (c.stop_at.ensures.1, c.stop_at.ensures.0)
-          (answered_record_fault w _ a.kind a.shape a.index a.offset c.record_at-at.result c.requires.stage c.requires.left c.requires.sound (search rules) c.record_at-at.ensures.place
-          c.in-Err.fault c.of_entry.result refl (rw room at of.reads) c.of_entry.ensures (λ file known here other. rw room at (of.item file known w.current.location.rva here other)));
+          answered_record_fault w _ a.kind a.shape a.index a.offset c.record_at-at.result c.requires.stage c.requires.left c.requires.sound (search rules) c.record_at-at.ensures.place
+          c.in-Err.fault c.of_entry.result refl (rw room at of.reads) c.of_entry.ensures (λ file known here other. rw room at (of.item file known w.current.location.rva here other));
       room = search rules;
-    }
+    })

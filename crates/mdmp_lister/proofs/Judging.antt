@@ -1,0 +1,323 @@
+-- What a check reads of an entry: items one behind the other, and the fault or the end behind them.
+use Rattle.std.proofs.Common.{◌≡◌, ◌≤◌, ◌+◌, ◌-◌, ◌++◌, ◌∷◌, [], ◌∙◌, ℕ, List, false, Option, Some, None, Ok, Err, arith, ap, append_assoc, append-nil, refl, sym, vec_len}
+use Rattle.std.proofs.lemmas.List.Elements.{filter_map-append}
+use Rattle.std.proofs.lemmas.List.Sums.{sum_by-append, sum_by-cons}
+use Rattle.std.specs.Prelude.{map}
+use Rattle.mdmp_source.specs.Source.{SourceState, FetchesSome}
+use Rattle.mdmp_source.specs.SourceLaws.{fetches_then}
+use Rattle.mdmp_map.specs.Map.{MapState, free_of}
+use Rattle.mdmp_lister.specs.declared.fault.FaultKind.{FaultKind}
+use Rattle.mdmp_lister.specs.declared.fault.FaultKind.TheVariants.{Source}
+use Rattle.mdmp_lister.specs.declared.fault.ListFault.{ListFault}
+use Rattle.mdmp_lister.specs.declared.item.Item.{Item}
+use Rattle.mdmp_lister.specs.declared.stage.Stage.{Stage}
+use Rattle.mdmp_lister.specs.declared.stage.Stage.TheVariants.{Between, Records}
+use Rattle.mdmp_lister.specs.declared.step.Step.{Step}
+use Rattle.mdmp_lister.specs.declared.walk.Walk.{Walk}
+use Rattle.mdmp_lister.specs.Fault.{IsOfSource}
+use Rattle.mdmp_lister.specs.Format.Item.{plain}
+use Rattle.mdmp_lister.specs.Format.Listing.{Numbered, Run, all_joined, chosen_from, entry_listing, joined, only_fault}
+use Rattle.mdmp_lister.specs.Format.Numbers.{faulty_name, maybe_name, names_of}
+use Rattle.mdmp_lister.specs.Format.Ranges.{range_of, ranges_of}
+use Rattle.mdmp_lister.specs.Meter.{MeterState, Moves, counts_of}
+use Rattle.mdmp_lister.specs.Sink.{give_all, names_of_all}
+use Rattle.mdmp_lister.specs.Stage.{ends, stage_by, stop_of}
+use Rattle.mdmp_lister.specs.Step.{IsItemOf}
+use Rattle.mdmp_lister.specs.Walk.{IsThrough, SameEntry, SameRoom, current_of, rest_of}
+use Rattle.mdmp_lister.specs.Walk.Checking.{EntryJudged, FaultRead, ItemsRead, OneRead, RecordGiven, judged_by}
+use Rattle.mdmp_lister.specs.Walk.Mapping.{IsMapped}
+use Rattle.mdmp_lister.specs.Walk.Owing.{HasRoom}
+use Rattle.mdmp_lister.specs.Walk.Requests.{Answered, HeadRead, StepTaken}
+use Rattle.mdmp_lister.proofs.Fetches.{FetchesAtMost-none, told_in_later}
+use Rattle.mdmp_lister.proofs.Mapping.{kept, mapped, ranges-given, ranges_of-plain, ranges_of-within, same_file}
+use Rattle.mdmp_lister.proofs.Naming.{faulty_most, names_given, names_of-plain}
+use Rattle.mdmp_lister.proofs.Paying.{bounded_then}
+use Rattle.mdmp_lister.proofs.Requests.{Moves-none, stage-through}
+use Rattle.mdmp_lister.proofs.Soundness.{IsGood-after}
+
+-- ---- fetches, counts and ranges of more than one step
+
+pub fetched_none : (a : SourceState) → FetchesSome a a
+fetched_none a = record { count = 0; fetches = FetchesAtMost-none a }
+
+pub fetched_then : (a b c : SourceState) → FetchesSome a b → FetchesSome b c → FetchesSome a c
+fetched_then a b c first then = record { count = _; fetches = fetches_then first.count then.count a b c first.fetches then.fetches }
+
+pub moves_then : (m n k : ℕ) (a b c : MeterState) → m + n ≤ k → Moves m (counts_of a) (counts_of b) → Moves n (counts_of b) (counts_of c) → Moves k (counts_of a) (counts_of c)
+moves_then m n k a b c le first then = record {
+  more = omega (arith, first.more, then.more);
+  more_calls = omega (arith, first.more_calls, then.more_calls);
+  more_names = omega (arith, first.more_names, then.more_names);
+  most_names = omega (arith, le, first.most_names, then.most_names);
+  same_aside = then.same_aside ∙ first.same_aside;
+  same_start = then.same_start ∙ first.same_start;
+}
+
+pub ranges_then : (xs ys : List Item) (m n o : MapState) → n ≡ record m { ranges = m.ranges ++ ranges_of xs } → o ≡ record n { ranges = n.ranges ++ ranges_of ys }
+    → o ≡ record m { ranges = m.ranges ++ ranges_of (xs ++ ys) }
+ranges_then xs ys m n o first then = then ∙ rw (first, filter_map-append range_of xs ys, append_assoc) refl
+
+pub ranges_none : (m : MapState) → m ≡ record m { ranges = m.ranges ++ ranges_of [] }
+ranges_none m = rw append-nil refl
+
+pub names_of_all-append : (xs ys : List Item) → names_of_all (xs ++ ys) ≡ names_of_all xs + names_of_all ys
+names_of_all-append xs ys = sum_by-append names_of xs ys
+
+module _ {S A : Type 0} where
+  pub same_room_then : (a b c : Walk S A) → SameRoom a b → SameRoom b c → SameRoom a c
+  same_room_then a b c first then = record {
+    header_is = then.header_is ∙ first.header_is;
+    entries = then.entries ∙ first.entries;
+    choice = then.choice ∙ first.choice;
+    window = then.window ∙ first.window;
+    name = then.name ∙ first.name;
+  }
+
+  pub same_entry_then : (a b c : Walk S A) → SameEntry a b → SameEntry b c → SameEntry a c
+  same_entry_then a b c first then = record {
+    room = same_room_then a b c first.room then.room;
+    next = then.next ∙ first.next;
+    current = then.current ∙ first.current;
+  }
+
+  same_entry_none : (a : Walk S A) → SameEntry a a
+  same_entry_none a = record { room = record { header_is = refl; entries = refl; choice = refl; window = refl; name = refl }; next = refl; current = refl }
+
+  -- ---- items
+
+  pub items_then : (xs ys : List Item) (a b c : Walk S A) (m n o : MapState) → ItemsRead xs a m b n → ItemsRead ys b n c o → ItemsRead (xs ++ ys) a m c o
+  items_then xs ys a b c m n o first then =
+      let all = names_of_all-append xs ys in
+      record {
+        mapped = then.mapped;
+        same = same_entry_then a b c first.same then.same;
+        ranges = ranges_then xs ys m n o first.ranges then.ranges;
+        left = λ file known.
+            first.left file known
+            ∙ ap (give_all xs) (then.left file (first.fetches.fetches.same_content ∙ known))
+            ∙ ap (λ (zs : List Item). record { items = zs; fault = (current_of c file).fault }) (sym (append_assoc xs ys (current_of c file).items));
+        counts = moves_then (names_of_all xs) (names_of_all ys) (names_of_all (xs ++ ys)) a.meter b.meter c.meter (omega (arith, all)) first.counts then.counts;
+        names = omega (arith, all, first.names, then.names);
+        fetches = fetched_then a.meter.source b.meter.source c.meter.source first.fetches then.fetches;
+        rests = omega (arith, first.rests, then.rests);
+      }
+
+  -- none was read
+  pub no_items : (a : Walk S A) (m : MapState) → IsMapped a m → ItemsRead [] a m a m
+  no_items a m old = record {
+    mapped = old;
+    same = same_entry_none a;
+    ranges = ranges_none m;
+    left = λ file known. refl;
+    counts = Moves-none 0 a.meter;
+    names = omega arith;
+    fetches = fetched_none a.meter.source;
+    rests = omega arith;
+  }
+
+  -- the head was read, and no item
+  pub head_items : (a b : Walk S A) (m : MapState) → IsMapped a m → HeadRead a b → HasRoom (free_of m) 0 b → ItemsRead [] a m b m
+  head_items a b m old head room =
+      let books = head.books in
+      record {
+        mapped = kept a b m old head.sound (same_file _ a b books.fetches head.same.room) room (bounded_then a b old.bounded head.paid head.same.room books.fetches.same_size);
+        same = head.same;
+        ranges = ranges_none m;
+        left = λ file known. sym (head.left file known);
+        counts = record {
+          more = books.more;
+          more_calls = books.more_calls;
+          more_names = omega (arith, books.same_names);
+          most_names = omega (arith, books.same_names);
+          same_aside = books.same_aside;
+          same_start = books.same_start;
+        };
+        names = omega (arith, books.same_names);
+        fetches = record { count = _; fetches = books.fetches };
+        rests = omega (arith, head.falls);
+      }
+
+  -- one record was read
+  pub one_item : (a b : Walk S A) (m n : MapState) (step : Step) (x : Item) → IsMapped a m → StepTaken a (Ok (Some step)) b → RecordGiven a step b
+      → IsItemOf b.meter.source.size b.name.items step x → n ≡ record m { ranges = m.ranges ++ ranges_of (x ∷ []) } → OneRead a m b n
+  one_item a b m n step x old taken given item pushed =
+      let e = taken.answered in
+      let size = e.fetches.same_size in
+      let held = e.given.held in
+      let names : b.meter.names ≡ a.meter.names + names_of x =
+      names_given b.meter.source.size b.name.items _ step x a.meter.names b.meter.names held.1 item.item (omega (arith, old.bounded.names)) e.named in
+      let one = sum_by-cons names_of (plain x) [] in
+      let same = names_of-plain x in
+      record {
+        item = plain x;
+        read = record {
+          mapped = rw pushed (mapped a b m (ranges_of (x ∷ [])) _ old e.sound (same_file _ a b e.fetches e.same) (taken.room (free_of m) old.room)
+              (bounded_then a b old.bounded e.paid e.same size)
+              (ranges_of-within _ x (rw size at item.placed))
+              (ranges-given b.meter.source.size b.name.items step x item.item));
+          same = given.same;
+          ranges = pushed ∙ ap (λ rs. record m { ranges = m.ranges ++ rs }) (sym (ranges_of-plain x));
+          left = λ file known.
+              given.left file known
+              ∙ ap (λ (y : Item). give_all (y ∷ []) (current_of b file)) (rw size at (sym item.item));
+          counts = record {
+            more = e.counts.more;
+            more_calls = e.counts.more_calls;
+            more_names = e.counts.more_names;
+            most_names = omega (arith, names, one, same);
+            same_aside = e.counts.same_aside;
+            same_start = e.counts.same_start;
+          };
+          names = omega (arith, names, one, same);
+          fetches = record { count = _; fetches = e.fetches };
+          rests = e.rests;
+        };
+        stage = given.stage;
+        falls = e.given.falls;
+      }
+
+  -- a fault was met
+  pub fault_read : (a b : Walk S A) (m : MapState) (f : ListFault) → IsMapped a m → Answered a (Err f) b → HasRoom (free_of m) 0 b → FaultRead a m f b m
+  fault_read a b m f old e room = record {
+    answered = e;
+    mapped = kept a b m old e.sound (same_file _ a b e.fetches e.same) room (bounded_then a b old.bounded e.paid e.same e.fetches.same_size);
+    same = refl;
+  }
+
+-- ---- the fault of an entry
+
+-- a fault that is next in what is left of an entry and the entries behind it is that of the entry, since each of those
+-- begins with an item
+listed_begins : (F : List ℕ) (limit : ℕ) (xs : List Numbered) → (all_joined (map (entry_listing F limit) xs)).items ≡ [] → (all_joined (map (entry_listing F limit) xs)).fault ≡ None
+listed_begins F limit [] none = refl
+listed_begins F limit (x ∷ xs) none = begun (entry_listing F limit x).fault refl where
+  begun : (fault : Option ListFault) → (entry_listing F limit x).fault ≡ fault → (all_joined (map (entry_listing F limit) (x ∷ xs))).fault ≡ None
+  begun None same = let no = rw same at none in absurd (cc)
+  begun (Some f) same = let no = rw same at none in absurd (cc)
+
+joined_fault : (items : List Item) (fault : Option ListFault) (rest : Run) (f : ListFault) → (rest.items ≡ [] → rest.fault ≡ None)
+    → joined (record { items = items; fault = fault }) rest ≡ only_fault f → record { items = items; fault = fault } ≡ only_fault f
+joined_fault [] None rest f begins same =
+    let none : rest.items ≡ [] = ap (λ (run : Run). run.items) same in
+    let fault : rest.fault ≡ Some f = ap (λ (run : Run). run.fault) same in
+    let no = begins none in absurd (cc)
+joined_fault (x ∷ xs) None rest f begins same =
+    let none : x ∷ (xs ++ rest.items) ≡ [] = ap (λ (run : Run). run.items) same in absurd (cc)
+joined_fault items (Some g) rest f begins same = same
+
+stage_by-ends : (f : ListFault) (kind : FaultKind) → (IsOfSource kind → ⊥) → ends (stage_by kind f) ≡ false
+stage_by-ends f (Source fault) not = absurd (not tt)
+stage_by-ends f _ not = refl
+
+through-ends : (stage : Stage) → IsThrough stage → ends stage ≡ false
+through-ends Between through = refl
+through-ends (Records kind shape index offset) through = refl
+through-ends _ through = absurd through
+
+maybe_bad : (kind : FaultKind) → (IsOfSource kind → ⊥) → maybe_name kind ≡ faulty_name kind
+maybe_bad (Source fault) not = absurd (not tt)
+maybe_bad _ not = refl
+
+module _ {S A : Type 0} where
+  pub fault_left : (a b : Walk S A) (f : ListFault) (file : List ℕ) → Answered a (Err f) b → a.meter.source.store.content ≡ Some file → (IsOfSource f.kind → ⊥)
+      → current_of a file ≡ only_fault f
+  fault_left a b f file e known not =
+      let left = current_of a file in
+      joined_fault left.items left.fault (rest_of a file) f (listed_begins file (vec_len a.name) (chosen_from file a.choice a.next)) (e.listing file known not).0
+
+-- ---- an entry that was judged
+
+module _ {S A : Type 0} (items : List Item) (a b : Walk S A) (m n : MapState) (read : ItemsRead items a m b n) where
+  -- no record is left
+  pub end_judged : IsThrough b.stage → EntryJudged a m (Ok None) b n
+  end_judged through = record {
+    items = items;
+    mapped = read.mapped;
+    same = read.same;
+    ranges = read.ranges;
+    left = λ file known.
+        read.left file known
+        ∙ ap (give_all items) (stage-through file (vec_len b.name) (b.next - 1) b.current b.stage through)
+        ∙ ap (λ (xs : List Item). record { items = xs; fault = None }) (append-nil items);
+    counts = moves_then (names_of_all items) 0 (names_of_all items + 0) a.meter b.meter b.meter (omega arith) read.counts (Moves-none 0 b.meter);
+    names = omega (arith, read.names);
+    fetches = read.fetches;
+    at_end = (through-ends b.stage through, tt);
+    rests = read.rests;
+  }
+
+  module _ (c : Walk S A) (o : MapState) (f : ListFault) (going : stop_of b.stage ≡ None) (met : FaultRead b n f c o) where
+    fetched : FetchesSome a.meter.source c.meter.source
+    fetched = fetched_then a.meter.source b.meter.source c.meter.source read.fetches (record { count = _; fetches = met.answered.fetches })
+
+    here : SameEntry b c
+    here = record { room = met.answered.same; next = met.answered.passed; current = met.answered.current }
+
+    -- a fault of the file stands behind the items
+    bad_judged : (IsOfSource f.kind → ⊥) → EntryJudged a m (Ok (Some f)) c o
+    bad_judged not =
+        let e = met.answered in
+        let named = (e.met going).named in
+        let most = maybe_bad f.kind not in
+        let small = read.mapped.bounded.names in
+        record {
+          items = items;
+          mapped = rw met.same met.mapped;
+          same = same_entry_then a b c read.same here;
+          ranges = met.same ∙ read.ranges;
+          left = λ file known.
+              read.left file known
+              ∙ ap (give_all items) (fault_left b c f file e (read.fetches.fetches.same_content ∙ known) not)
+              ∙ ap (λ (xs : List Item). record { items = xs; fault = Some f }) (append-nil items);
+          counts = moves_then (names_of_all items) (faulty_name f.kind) (names_of_all items + faulty_name f.kind) a.meter b.meter c.meter (omega arith) read.counts (record {
+            more = e.counts.more;
+            more_calls = e.counts.more_calls;
+            more_names = e.counts.more_names;
+            most_names = omega (arith, named.1, most);
+            same_aside = e.counts.same_aside;
+            same_start = e.counts.same_start;
+          });
+          names = omega (arith, read.names, named.0, small, faulty_most f.kind);
+          fetches = fetched;
+          at_end = (rw e.stage (stage_by-ends f f.kind not), (omega (arith, (e.met going).number, e.passed), not));
+          rests = omega (arith, read.rests, e.rests);
+        }
+
+    -- or the store failed
+    failed_judged : IsOfSource f.kind → EntryJudged a m (Err f) c o
+    failed_judged of =
+        let e = met.answered in
+        let told = e.met going in
+        let k = read.fetches.fetches in
+        record {
+          items = items;
+          mapped = rw met.same met.mapped;
+          same = same_entry_then a b c read.same here;
+          ranges = met.same ∙ read.ranges;
+          left = λ file known. ((current_of b file).items, ap (λ (run : Run). run.items) (read.left file known));
+          counts = moves_then (names_of_all items) (maybe_name f.kind) (names_of_all items + maybe_name f.kind) a.meter b.meter c.meter (omega arith) read.counts (record {
+            more = e.counts.more;
+            more_calls = e.counts.more_calls;
+            more_names = e.counts.more_names;
+            most_names = told.named.1;
+            same_aside = e.counts.same_aside;
+            same_start = e.counts.same_start;
+          });
+          names = omega (arith, read.names, e.counts.more_names);
+          fetches = fetched;
+          at_end = record {
+            of = of;
+            stage = e.stage;
+            told = rw here.current (told_in_later b.current f read.fetches.count a.meter.source b.meter.source c.meter.source k told.told);
+            number = told.number ∙ sym here.next;
+            unreliable = λ file good. e.good file (IsGood-after read.fetches.count a.meter.source b.meter.source file k good) of;
+          };
+          rests = omega (arith, read.rests, e.rests);
+        }
+
+    judged_at : (kind : FaultKind) → f.kind ≡ kind → EntryJudged a m (judged_by kind f) c o
+    judged_at (Source fault) is = failed_judged (rw is tt)
+    judged_at _ is = bad_judged (λ of. rw is at of)
+
+    pub fault_judged : EntryJudged a m (judged_by f.kind f) c o
+    fault_judged = judged_at f.kind refl
