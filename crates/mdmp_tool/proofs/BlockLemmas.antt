@@ -120,7 +120,7 @@ part_out a b c old pending left text f risen cut = record {
 -- ---- what a run says of its output
 
 -- whatever the answer, what was written is a prefix of the text
-Writes-prefix : (is_early : Bool) (text : List ℕ) (a b : OutState) (r : Result (Unit {0}) ToolFault) → Writes is_early text a r b → TakesPrefix a.taken text b.taken
+Writes-prefix : {T : Type 0} (is_early : Bool) (text : List ℕ) (a b : OutState) (r : Result T ToolFault) → Writes is_early text a r b → TakesPrefix a.taken text b.taken
 Writes-prefix is_early text a b (Ok x) put = all a.taken b.taken text put.took
 Writes-prefix is_early text a b (Err (BadList f)) put = all a.taken b.taken text put.took
 Writes-prefix is_early text a b (Err (Opening f)) put = nothing a.taken b.taken text put.took
@@ -128,22 +128,19 @@ Writes-prefix is_early text a b (Err Memory) put = nothing a.taken b.taken text 
 Writes-prefix true text a b (Err (Source f)) short = short.took
 Writes-prefix false text a b (Err (Source f)) short = none_of a.taken b.taken text short.took
 Writes-prefix is_early text a b (Err Out) cut = cut.took
+Writes-prefix is_early text a b (Err fault) never = absurd never
 
 -- the output's count of refusals does not fall
-no_fewer : (a b : OutState) (r : Result (Unit {0}) ToolFault) → HasOutCause a r b → a.failures ≤ b.failures
-no_fewer a b (Ok x) cause = omega (arith, cause)
-no_fewer a b (Err (BadList f)) cause = omega (arith, cause)
-no_fewer a b (Err (Opening f)) cause = omega (arith, cause)
-no_fewer a b (Err Memory) cause = omega (arith, cause)
-no_fewer a b (Err (Source f)) cause = omega (arith, cause)
+no_fewer : {T : Type 0} (a b : OutState) (r : Result T ToolFault) → HasOutCause a r b → a.failures ≤ b.failures
 no_fewer a b (Err Out) cause = omega (arith, cause)
+no_fewer a b r cause = omega (arith, cause)
 
 -- ---- a run that is flushed
 
-pub Runs-flushed : (F : List ℕ) (choice : Choice) (Ends : Result (Unit {0}) ToolFault → Type 0) (is_early : Bool) (text : List ℕ) (a b c : OutState) (old pending left : List ℕ)
-    (r s : Result (Unit {0}) ToolFault) → old ≡ [] → MovesFront b pending c left → IsFlushed s left → EndsFlushed r s b c → HasOutCause (with_pending a old) r (with_pending b pending)
+pub Runs-flushed : {T : Type 0} (F : List ℕ) (choice : Choice) (Ends : Result T ToolFault → Type 0) (is_early : Bool) (text : List ℕ) (a b c : OutState) (old pending left : List ℕ)
+    (r s : Result T ToolFault) → old ≡ [] → MovesFront b pending c left → IsFlushed s left → EndsFlushed r s b c → HasOutCause (with_pending a old) r (with_pending b pending)
     → Runs F choice Ends is_early text (with_pending a old) r (with_pending b pending) → RunsThrough F choice Ends is_early text a s c
-Runs-flushed F choice Ends is_early text a b c old pending left r s none moved flushed ends cause run = by ends where
+Runs-flushed {T = T} F choice Ends is_early text a b c old pending left r s none moved flushed ends cause run = by ends where
   flush : Flush a b c old pending left
   flush = record { none = none; moved = moved }
 
@@ -153,7 +150,7 @@ Runs-flushed F choice Ends is_early text a b c old pending left r s none moved f
   put : (whole : List ℕ) → left ≡ [] → c.failures ≡ b.failures → PutsAll (with_pending a old) whole (with_pending b pending) → PutsAll a whole c
   put whole = all_out a b c old pending left whole flush
 
-  through : (r : Result (Unit {0}) ToolFault) → IsFlushed r left → c.failures ≡ b.failures
+  through : (r : Result T ToolFault) → IsFlushed r left → c.failures ≡ b.failures
       → Runs F choice Ends is_early text (with_pending a old) r (with_pending b pending)
       → (HasRisen a.failures c.failures → RefusesWithin a text c) → RunsThrough F choice Ends is_early text a r c
   through (Ok x) done same run cut = record { says = run.says; writes = put text done same run.writes }
@@ -167,14 +164,15 @@ Runs-flushed F choice Ends is_early text a b c old pending left r s none moved f
   through (Err Out) done same run cut =
       let writes = run.writes in
       cut (subst (λ (n : ℕ). HasRisen a.failures n) (sym same) writes.refused)
+  through (Err fault) done same run cut = absurd run.writes
 
   by : EndsFlushed r s b c → RunsThrough F choice Ends is_early text a s c
   by (stands same steady) =
-      let done : IsFlushed r left = subst (λ (x : Result (Unit {0}) ToolFault). IsFlushed x left) same flushed in
-      subst (λ (x : Result (Unit {0}) ToolFault). RunsThrough F choice Ends is_early text a x c) (sym same) (through r done steady run cut)
+      let done : IsFlushed r left = subst (λ (x : Result T ToolFault). IsFlushed x left) same flushed in
+      subst (λ (x : Result T ToolFault). RunsThrough F choice Ends is_early text a x c) (sym same) (through r done steady run cut)
   by (refused out more) =
       let fewer : a.failures ≤ b.failures = no_fewer (with_pending a old) (with_pending b pending) r cause in
-      subst (λ (x : Result (Unit {0}) ToolFault). RunsThrough F choice Ends is_early text a x c) (sym out) (cut (omega (arith, more, fewer)))
+      subst (λ (x : Result T ToolFault). RunsThrough F choice Ends is_early text a x c) (sym out) (cut (omega (arith, more, fewer)))
 
 -- ---- what is said of whatever file
 
@@ -186,18 +184,19 @@ unless_early : (is_early : Bool) (P Q : Type 0) → (P → Q) → UnlessEarly is
 unless_early true P Q from quiet = tt
 unless_early false P Q from quiet = from quiet
 
-quiet_from : (is_early : Bool) (r : Result (Unit {0}) ToolFault) (left : List ℕ) (P Q : Type 0) → IsFlushed r left → (left ≡ [] → P → Q) → IsQuiet is_early r P → IsQuiet is_early r Q
+quiet_from : {T : Type 0} (is_early : Bool) (r : Result T ToolFault) (left : List ℕ) (P Q : Type 0) → IsFlushed r left → (left ≡ [] → P → Q) → IsQuiet is_early r P → IsQuiet is_early r Q
 quiet_from is_early (Ok x) left P Q done from quiet = tt
 quiet_from is_early (Err Out) left P Q done from quiet = tt
 quiet_from is_early (Err (Opening f)) left P Q done from quiet = from done quiet
 quiet_from is_early (Err Memory) left P Q done from quiet = from done quiet
 quiet_from is_early (Err (BadList f)) left P Q done from quiet = unless_early is_early P Q (from done) quiet
 quiet_from is_early (Err (Source f)) left P Q done from quiet = unless_early is_early P Q (from done) quiet
+quiet_from is_early (Err fault) left P Q done from never = absurd never
 
-pub Tells-flushed : (is_early : Bool) (store : StoreState) (size : ℕ) (a b c : OutState) (old pending left : List ℕ) (r s : Result (Unit {0}) ToolFault) → old ≡ []
+pub Tells-flushed : {T : Type 0} (is_early : Bool) (store : StoreState) (size : ℕ) (a b c : OutState) (old pending left : List ℕ) (r s : Result T ToolFault) → old ≡ []
     → MovesFront b pending c left → IsFlushed s left → EndsFlushed r s b c
     → Tells directly is_early store size (with_pending a old) r (with_pending b pending) → Tells in_blocks is_early store size a s c
-Tells-flushed is_early store size a b c old pending left r s none moved flushed ends tells = by ends where
+Tells-flushed {T = T} is_early store size a b c old pending left r s none moved flushed ends tells = by ends where
   flush : Flush a b c old pending left
   flush = record { none = none; moved = moved }
 
@@ -206,8 +205,8 @@ Tells-flushed is_early store size a b c old pending left r s none moved flushed 
 
   by : EndsFlushed r s b c → Tells in_blocks is_early store size a s c
   by (stands same steady) =
-      let done : IsFlushed r left = subst (λ (x : Result (Unit {0}) ToolFault). IsFlushed x left) same flushed in
-      subst (λ (x : Result (Unit {0}) ToolFault). Tells in_blocks is_early store size a x c) (sym same) (record {
+      let done : IsFlushed r left = subst (λ (x : Result T ToolFault). IsFlushed x left) same flushed in
+      subst (λ (x : Result T ToolFault). Tells in_blocks is_early store size a x c) (sym same) (record {
         good = tells.good;
         refusal = tells.refusal;
         short = λ few. inl (tells.short few);
@@ -215,7 +214,7 @@ Tells-flushed is_early store size a b c old pending left r s none moved flushed 
         out_cause = cause_from (with_pending a old) (with_pending b pending) a c r refl steady tells.out_cause;
       })
   by (refused out more) =
-      subst (λ (x : Result (Unit {0}) ToolFault). Tells in_blocks is_early store size a x c) (sym out) (record {
+      subst (λ (x : Result T ToolFault). Tells in_blocks is_early store size a x c) (sym out) (record {
         good = λ file good. tt;
         refusal = tt;
         short = λ few. inr refl;

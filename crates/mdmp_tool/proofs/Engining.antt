@@ -1,16 +1,21 @@
 -- A run of a command over the listing of a file, from its parts.
-use Rattle.std.proofs.Common.{◌≡◌, ◌∙◌, ℕ, Bool, List, [], refl, sym, arith}
+use Rattle.std.proofs.Common.{◌≡◌, ◌∙◌, ℕ, Bool, List, [], Some, ap, refl, sym, arith}
 use Rattle.std.specs.Prelude.{Result, Ok, Err}
 use Rattle.mdmp_source.specs.Output.{OutState, PutsAll}
 use Rattle.mdmp_source.specs.OutputLaws.{PutsAll-nothing, Takes-nothing}
 use Rattle.mdmp_lister.specs.declared.choice.Choice.{Choice}
 use Rattle.mdmp_lister.specs.declared.fault.OpenFault.{OpenFault}
 use Rattle.mdmp_lister.specs.declared.fault.OpenFault.TheVariants as opening
+use Rattle.std.specs.Option.{option_map}
+use Rattle.mdmp_source.specs.Source.{SourceState}
+use Rattle.mdmp_lister.specs.declared.limits.Limits.{Limits}
+use Rattle.mdmp_lister.specs.Format.Listing.{listing}
+use Rattle.mdmp_lister.specs.Lister.{IsNewLister, ListerState}
 use Rattle.mdmp_lister.specs.Opening.{IsRefusalOf}
 use Rattle.mdmp_tool.specs.declared.fault.ToolFault.{ToolFault}
-use Rattle.mdmp_tool.specs.declared.fault.ToolFault.TheVariants.{Opening, List as BadList, Source, Out, Memory}
+use Rattle.mdmp_tool.specs.declared.fault.ToolFault.TheVariants.{List as BadList, Source, Out, Memory}
 use Rattle.mdmp_tool.specs.Causes.{HasOutCause, IsRefusal}
-use Rattle.mdmp_tool.specs.Engines.{IsBehind, IsQuiet, Runs, StopsShort}
+use Rattle.mdmp_tool.specs.Engines.{IsBehind, IsOpened, IsQuiet, Runs, StopsShort}
 use Rattle.mdmp_tool.specs.Telling.{opening_told}
 
 pub StopsShort-nothing : (before : OutState) (text : List ℕ) → StopsShort before text before
@@ -27,7 +32,7 @@ StopsShort-none before after none = record {
 }
 
 -- a file that was not opened: nothing is written
-pub Runs-unopened : (F : List ℕ) (choice : Choice) (Ends : Result (Unit {0}) ToolFault → Type 0) (is_early : Bool) (text : List ℕ) (before : OutState) (fault : OpenFault)
+pub Runs-unopened : {T : Type 0} (F : List ℕ) (choice : Choice) (Ends : Result T ToolFault → Type 0) (is_early : Bool) (text : List ℕ) (before : OutState) (fault : OpenFault)
     → IsRefusalOf F choice fault → Runs F choice Ends is_early text before (Err (opening_told fault)) before
 Runs-unopened F choice Ends is_early text before (opening.Source f) refused = record { says = tt; writes = StopsShort-nothing before _ }
 Runs-unopened F choice Ends is_early text before (opening.Memory) refused = record { says = refused; writes = PutsAll-nothing before }
@@ -38,27 +43,34 @@ Runs-unopened F choice Ends is_early text before (opening.DirectoryOutside offse
 Runs-unopened F choice Ends is_early text before (opening.TooManyRanges count) refused = record { says = refused; writes = PutsAll-nothing before }
 
 -- what ends a command behind the opening
-pub IsRefusal-behind : (is_early : Bool) (untouched : Type 0) (size : ℕ) (r : Result (Unit {0}) ToolFault) → IsBehind is_early r untouched → IsRefusal size r
+pub IsRefusal-behind : {T : Type 0} (is_early : Bool) (untouched : Type 0) (size : ℕ) (r : Result T ToolFault) → IsBehind is_early r untouched → IsRefusal size r
 IsRefusal-behind is_early untouched size (Ok x) behind = tt
 IsRefusal-behind is_early untouched size (Err (BadList fault)) behind = behind.0
-IsRefusal-behind is_early untouched size (Err (Opening fault)) behind = absurd behind
 IsRefusal-behind is_early untouched size (Err Memory) behind = tt
 IsRefusal-behind is_early untouched size (Err (Source fault)) behind = tt
 IsRefusal-behind is_early untouched size (Err Out) behind = tt
+IsRefusal-behind is_early untouched size (Err fault) behind = absurd behind
 
-pub IsQuiet-behind : (is_early : Bool) (untouched : Type 0) (r : Result (Unit {0}) ToolFault) → IsBehind is_early r untouched → IsQuiet is_early r untouched
+pub IsQuiet-behind : {T : Type 0} (is_early : Bool) (untouched : Type 0) (r : Result T ToolFault) → IsBehind is_early r untouched → IsQuiet is_early r untouched
 IsQuiet-behind is_early untouched (Ok x) behind = tt
 IsQuiet-behind is_early untouched (Err (BadList fault)) behind = behind.1
-IsQuiet-behind is_early untouched (Err (Opening fault)) behind = absurd behind
 IsQuiet-behind is_early untouched (Err Memory) behind = behind
 IsQuiet-behind is_early untouched (Err (Source fault)) behind = behind
 IsQuiet-behind is_early untouched (Err Out) behind = tt
+IsQuiet-behind is_early untouched (Err fault) behind = absurd behind
 
 -- the counts of refusals are the same elsewhere
-pub cause_from : (a b start c : OutState) (r : Result (Unit {0}) ToolFault) → start.failures ≡ a.failures → c.failures ≡ b.failures → HasOutCause a r b → HasOutCause start r c
-cause_from a b start c (Ok x) before same cause = same ∙ cause ∙ sym before
-cause_from a b start c (Err (BadList f)) before same cause = same ∙ cause ∙ sym before
-cause_from a b start c (Err (Opening f)) before same cause = same ∙ cause ∙ sym before
-cause_from a b start c (Err Memory) before same cause = same ∙ cause ∙ sym before
-cause_from a b start c (Err (Source f)) before same cause = same ∙ cause ∙ sym before
+pub cause_from : {T : Type 0} (a b start c : OutState) (r : Result T ToolFault) → start.failures ≡ a.failures → c.failures ≡ b.failures → HasOutCause a r b → HasOutCause start r c
 cause_from a b start c (Err Out) before same cause = omega (arith, before, same, cause)
+cause_from a b start c r before same cause = same ∙ cause ∙ sym before
+
+-- a lister that was opened has given nothing
+pub IsOpened-new : (source : SourceState) (choice : Choice) (limits : Limits) (new : ListerState) → IsNewLister source choice limits new → IsOpened choice new
+IsOpened-new source choice limits new is = record {
+  choice_is = is.choice_is;
+  passed = is.passed;
+  stop = is.stop;
+  ranges = is.ranges;
+  header_is = λ file known. is.header_is file (sym is.fetches.same_content ∙ known);
+  left = λ file known. is.left ∙ ap (option_map (λ (file : List ℕ). listing file choice limits.name)) (sym is.fetches.same_content ∙ known) ∙ ap (λ (limit : ℕ). Some (listing file choice limit)) (sym is.limit_is);
+}

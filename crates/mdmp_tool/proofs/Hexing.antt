@@ -15,7 +15,7 @@ use Rattle.mdmp_lister.specs.Fault.{IsOfSource}
 use Rattle.mdmp_lister.specs.Format.Listing.{Run, nothing}
 use Rattle.mdmp_lister.specs.Format.Ranges.{ranges_of}
 use Rattle.mdmp_tool.specs.declared.fault.ToolFault.{ToolFault}
-use Rattle.mdmp_tool.specs.declared.fault.ToolFault.TheVariants.{Opening, List as BadList, Source, Out, Memory}
+use Rattle.mdmp_tool.specs.declared.fault.ToolFault.TheVariants.{List as BadList, Source, Out, Memory}
 use Rattle.mdmp_tool.proofs.Engining.{StopsShort-none, StopsShort-nothing}
 use Rattle.mdmp_tool.specs.HexRuns.{HexesMemory, HexesRun, run_hex_text}
 use Rattle.mdmp_tool.specs.HexText.{hex_text}
@@ -45,9 +45,7 @@ HexesRun-printed F ranges left address count before after r none same puts = by 
   by (Ok x) puts = record { ends = none; writes = rw (← whole) puts }
   by (Err Out) puts = record { ends = none; writes = rw (← whole) puts }
   by (Err (Source fault)) puts = record { ends = tt; writes = StopsShort-none before after puts }
-  by (Err (BadList fault)) puts = absurd puts
-  by (Err (Opening fault)) puts = absurd puts
-  by (Err Memory) puts = absurd puts
+  by (Err fault) puts = absurd puts
 
 -- the run has a fault, or the store has one: nothing is written
 HexesRun-told : (F : List ℕ) (left : Run) (address count : ℕ) (before : OutState) (fault : ListFault) (kind : FaultKind) → ((IsOfSource kind → ⊥) → left.fault ≡ Some fault)

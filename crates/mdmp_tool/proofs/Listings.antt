@@ -1,5 +1,5 @@
 -- A run of `list`, from its parts.
-use Rattle.std.proofs.Common.{◌≡◌, ◌∙◌, ◌++◌, ℕ, true, List, refl, sym}
+use Rattle.std.proofs.Common.{◌≡◌, ◌∙◌, ◌++◌, ℕ, Bool, true, List, refl, sym}
 use Rattle.std.specs.Prelude.{Result, Ok, Err}
 use Rattle.mdmp_source.specs.Output.{OutState, PutsAll}
 use Rattle.mdmp_source.specs.Source.{SourceState}
@@ -7,7 +7,7 @@ use Rattle.mdmp_source.specs.OutputLaws.{PutsAll-PutsAll, PutsPrefix-last, Takes
 use Rattle.mdmp_wire.specs.declared.header.Header.{Header}
 use Rattle.mdmp_lister.specs.Format.Listing.{Run}
 use Rattle.mdmp_tool.specs.declared.fault.ToolFault.{ToolFault}
-use Rattle.mdmp_tool.specs.declared.fault.ToolFault.TheVariants.{Opening, List as BadList, Source, Out, Memory}
+use Rattle.mdmp_tool.specs.declared.fault.ToolFault.TheVariants.{List as BadList, Source, Out}
 use Rattle.mdmp_tool.proofs.Engining.{cause_from}
 use Rattle.mdmp_tool.specs.Engines.{IsBehind, Leaves, Writes}
 use Rattle.mdmp_tool.specs.Lines.{dump_line}
@@ -23,15 +23,14 @@ Writes-behind run head text before now after (Err (Source f)) ends first short =
   steady = short.steady ∙ first.steady;
 }
 Writes-behind run head text before now after (Err Out) ends first cut = PutsPrefix-last before now after head text first cut
-Writes-behind run head text before now after (Err (Opening f)) ends first put = absurd ends
-Writes-behind run head text before now after (Err Memory) ends first put = absurd ends
+Writes-behind run head text before now after (Err f) ends first put = absurd ends
 
 -- the items behind the line of the header
-pub ListsFile-behind : (h : Header) (run : Run) (before now after : OutState) (r : Result (Unit {0}) ToolFault)
-    → PutsAll before (dump_line h) now → ListsRun run now r after → ListsFile h run before r after
-ListsFile-behind h run before now after r head listed = record {
+pub ListsFile-behind : (pdb : Bool) (F : List ℕ) (limit : ℕ) (h : Header) (run : Run) (before now after : OutState) (r : Result (Unit {0}) ToolFault)
+    → PutsAll before (dump_line h) now → ListsRun pdb F limit run now r after → ListsFile pdb F limit h run before r after
+ListsFile-behind pdb F limit h run before now after r head listed = record {
   ends = listed.ends;
-  writes = Writes-behind run (dump_line h) (run_text run) before now after r listed.ends head listed.writes;
+  writes = Writes-behind run (dump_line h) (run_text pdb F limit run) before now after r listed.ends head listed.writes;
 }
 
 -- the end of the items is that of all that is printed
@@ -40,8 +39,7 @@ IsBehind-touched (Ok x) untouched behind = tt
 IsBehind-touched (Err (BadList f)) untouched behind = behind
 IsBehind-touched (Err (Source f)) untouched behind = tt
 IsBehind-touched (Err Out) untouched behind = tt
-IsBehind-touched (Err (Opening f)) untouched behind = behind
-IsBehind-touched (Err Memory) untouched behind = absurd behind
+IsBehind-touched (Err f) untouched behind = absurd behind
 
 pub Leaves-behind : (old new : SourceState) (before now after : OutState) (r : Result (Unit {0}) ToolFault) (untouched : Type 0) → now.failures ≡ before.failures
     → Leaves true ⊥ old now r new after → Leaves true untouched old before r new after

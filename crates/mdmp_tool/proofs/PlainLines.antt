@@ -1,5 +1,5 @@
 -- A line does not tell where the units of a name are lent from.
-use Rattle.std.proofs.Common.{◌≡◌, refl}
+use Rattle.std.proofs.Common.{◌≡◌, ℕ, List, Bool, true, false, refl}
 use Rattle.mdmp_lister.specs.declared.name.Name.{Name}
 use Rattle.mdmp_lister.specs.declared.name.Name.TheVariants.{Units}
 use Rattle.mdmp_lister.specs.declared.item.Item.{Item}
@@ -7,6 +7,7 @@ use Rattle.mdmp_lister.specs.declared.item.Item.TheVariants as items
 use Rattle.mdmp_lister.specs.Format.Item.{plain}
 use Rattle.mdmp_lister.specs.Format.Name.{plain_name}
 use Rattle.mdmp_tool.specs.ItemLines.{name_text, item_line}
+use Rattle.mdmp_tool.specs.Text.{item_lines, symbols_of}
 
 name_text-plain : (n : Name) → name_text (plain_name n) ≡ name_text n
 name_text-plain (Units units) = refl
@@ -18,3 +19,14 @@ item_line-plain (items.Module m) = rw (name_text-plain m.name) refl
 item_line-plain (items.Unloaded u) = rw (name_text-plain u.name) refl
 item_line-plain (items.System s) = rw (name_text-plain s.name) refl
 item_line-plain _ = refl
+
+pub symbols_of-plain : (pdb : Bool) (x : Item) → symbols_of pdb (plain x) ≡ symbols_of pdb x
+symbols_of-plain false x = refl
+symbols_of-plain true (items.Module m) = refl
+symbols_of-plain true (items.Unloaded u) = refl
+symbols_of-plain true (items.System s) = refl
+symbols_of-plain true _ = refl
+
+-- nor do its lines
+pub item_lines-plain : (pdb : Bool) (F : List ℕ) (limit : ℕ) (x : Item) → item_lines pdb F limit (plain x) ≡ item_lines pdb F limit x
+item_lines-plain pdb F limit x = rw (item_line-plain x, symbols_of-plain pdb x) refl

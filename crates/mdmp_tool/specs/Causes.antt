@@ -10,7 +10,7 @@ use Rattle.mdmp_lister.specs.declared.fault.OpenFault.TheVariants as opening
 use Rattle.mdmp_lister.specs.Opening.{IsOpenRefusal}
 use Rattle.mdmp_lister.specs.Fault.{IsOfSource}
 use Rattle.mdmp_tool.specs.declared.fault.ToolFault.{ToolFault}
-use Rattle.mdmp_tool.specs.declared.fault.ToolFault.TheVariants.{Opening, List, Source, Out}
+use Rattle.mdmp_tool.specs.declared.fault.ToolFault.TheVariants.{Opening, List, Reading, Layout, Source, Out, NotCopied}
 
 -- all bytes that were asked for were obtained
 abbrev pub IsNoSourceFault : {T : Type 0} → Result T ToolFault → Type 0
@@ -39,8 +39,11 @@ IsOfFile (opening.Source fault) = ⊥
 IsOfFile opening.Memory = ⊥
 IsOfFile fault = Unit {0}
 
--- a file of size bytes that is refused may be, and what is told of the file is its own
+-- a listing of a file of size bytes that is refused may be, and what is told of the file is its own; no listing is a copy
 abbrev pub IsRefusal : {T : Type 0} → ℕ → Result T ToolFault → Type 0
 IsRefusal size (Err (Opening fault)) = IsOfFile fault × IsOpenRefusal size fault
 IsRefusal size (Err (List fault)) = IsOfSource fault.kind → ⊥
-IsRefusal size _ = Unit {0}
+IsRefusal size (Err (Reading fault)) = ⊥
+IsRefusal size (Err (Layout fault)) = ⊥
+IsRefusal size (Err (NotCopied t)) = ⊥
+IsRefusal size answer = Unit {0}

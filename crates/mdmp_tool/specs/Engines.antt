@@ -8,6 +8,9 @@ use Rattle.mdmp_lister.specs.declared.choice.Choice.{Choice}
 use Rattle.mdmp_lister.specs.declared.fault.OpenFault.{OpenFault}
 use Rattle.mdmp_lister.specs.declared.fault.OpenFault.TheVariants.{TooShort}
 use Rattle.mdmp_lister.specs.Fault.{IsOfSource}
+use Rattle.mdmp_lister.specs.Format.Listing.{listing}
+use Rattle.mdmp_lister.specs.Lister.{ListerState}
+use Rattle.mdmp_wire.specs.Header.{header_at}
 use Rattle.mdmp_lister.specs.Format.Refusal.{directory_refusal, opening_fault}
 use Rattle.mdmp_tool.specs.declared.fault.ToolFault.{ToolFault}
 use Rattle.mdmp_tool.specs.declared.fault.ToolFault.TheVariants.{Opening, List as BadList, Source, Out, Memory}
@@ -27,25 +30,35 @@ early_text false text = []
 
 -- the text was written, up to the first fault of the listing or whole; nothing where the file is refused or memory is
 -- wanting; the first part of it behind a fault of the store, if it is printed early; else the first part up to a refusal
-abbrev pub Writes : Bool → List ℕ → OutState → Result (Unit {0}) ToolFault → OutState → Type 0
-Writes is_early text before (Ok _) after = PutsAll before text after
+abbrev pub Writes : {T : Type 0} → Bool → List ℕ → OutState → Result T ToolFault → OutState → Type 0
+Writes is_early text before (Ok x) after = PutsAll before text after
 Writes is_early text before (Err (BadList fault)) after = PutsAll before text after
 Writes is_early text before (Err (Opening fault)) after = PutsAll before [] after
 Writes is_early text before (Err Memory) after = PutsAll before [] after
 Writes is_early text before (Err (Source fault)) after = StopsShort before (early_text is_early text) after
 Writes is_early text before (Err Out) after = PutsPrefix before text after
+Writes is_early text before (Err fault) after = ⊥
+
+-- ---- what a command is given
+
+-- a lister that was opened for this choice of a file, and has given nothing
+pub record IsOpened (choice : Choice) (lister : ListerState) : Type 0 where
+  pub choice_is : lister.choice ≡ choice
+  pub passed : lister.passed ≡ 0
+  pub stop : lister.stop ≡ None
+  pub ranges : lister.ranges ≡ []
+  pub header_is : (file : List ℕ) → lister.source.store.content ≡ Some file → lister.header ≡ header_at file 0
+  pub left : (file : List ℕ) → lister.source.store.content ≡ Some file → lister.left ≡ Some (listing file choice lister.limit)
 
 -- ---- what an answer says of the file
 
 -- a file F is refused with this fault; or memory was wanting, and its header and directory are good; or it can be opened,
 -- and then Ends says what may end a command over it
-abbrev pub Says : List ℕ → Choice → (Result (Unit {0}) ToolFault → Type 0) → Result (Unit {0}) ToolFault → Type 0
+abbrev pub Says : {T : Type 0} → List ℕ → Choice → (Result T ToolFault → Type 0) → Result T ToolFault → Type 0
 Says F choice Ends (Err (Opening fault)) = opening_fault F choice ≡ Some fault
 Says F choice Ends (Err Memory) = directory_refusal F ≡ None
 Says F choice Ends (Err (Source fault)) = Unit {0}
-Says F choice Ends (Ok _) = (opening_fault F choice ≡ None) × Ends (Ok tt)
-Says F choice Ends (Err (BadList fault)) = (opening_fault F choice ≡ None) × Ends (Err (BadList fault))
-Says F choice Ends (Err Out) = (opening_fault F choice ≡ None) × Ends (Err Out)
+Says F choice Ends answer = (opening_fault F choice ≡ None) × Ends answer
 
 -- a text that is printed where a file can be listed
 abbrev pub unless_refused : Option OpenFault → List ℕ → List ℕ
@@ -53,8 +66,8 @@ unless_refused None text = text
 unless_refused (Some fault) text = []
 
 -- a run over F: what its answer says of F, and that the text was written as far as that answer tells
-pub record Runs (F : List ℕ) (choice : Choice) (Ends : Result (Unit {0}) ToolFault → Type 0) (is_early : Bool) (text : List ℕ) (before : OutState)
-    (answer : Result (Unit {0}) ToolFault) (after : OutState) : Type 0 where
+pub record Runs {T : Type 0} (F : List ℕ) (choice : Choice) (Ends : Result T ToolFault → Type 0) (is_early : Bool) (text : List ℕ) (before : OutState)
+    (answer : Result T ToolFault) (after : OutState) : Type 0 where
   pub says : Says F choice Ends answer
   pub writes : Writes is_early text before answer after
 
@@ -73,25 +86,17 @@ pub record RefusesWithin (before : OutState) (text : List ℕ) (after : OutState
   pub refused : HasRisen before.failures after.failures
 
 -- a run through blocks, of which the last is flushed, and may be refused behind any answer of the run
-abbrev pub RunsThrough : List ℕ → Choice → (Result (Unit {0}) ToolFault → Type 0) → Bool → List ℕ → OutState → Result (Unit {0}) ToolFault → OutState → Type 0
+abbrev pub RunsThrough : {T : Type 0} → List ℕ → Choice → (Result T ToolFault → Type 0) → Bool → List ℕ → OutState → Result T ToolFault → OutState → Type 0
 RunsThrough F choice Ends is_early text before (Err Out) after = RefusesWithin before text after
-RunsThrough F choice Ends is_early text before (Ok x) after = Runs F choice Ends is_early text before (Ok x) after
-RunsThrough F choice Ends is_early text before (Err (BadList fault)) after = Runs F choice Ends is_early text before (Err (BadList fault)) after
-RunsThrough F choice Ends is_early text before (Err (Opening fault)) after = Runs F choice Ends is_early text before (Err (Opening fault)) after
-RunsThrough F choice Ends is_early text before (Err Memory) after = Runs F choice Ends is_early text before (Err Memory) after
-RunsThrough F choice Ends is_early text before (Err (Source fault)) after = Runs F choice Ends is_early text before (Err (Source fault)) after
+RunsThrough F choice Ends is_early text before answer after = Runs F choice Ends is_early text before answer after
 
 -- nothing is pending, but where the output refused
-abbrev pub IsFlushed : Result (Unit {0}) ToolFault → List ℕ → Type 0
+abbrev pub IsFlushed : {T : Type 0} → Result T ToolFault → List ℕ → Type 0
 IsFlushed (Err Out) pending = Unit {0}
-IsFlushed (Ok x) pending = pending ≡ []
-IsFlushed (Err (BadList fault)) pending = pending ≡ []
-IsFlushed (Err (Opening fault)) pending = pending ≡ []
-IsFlushed (Err Memory) pending = pending ≡ []
-IsFlushed (Err (Source fault)) pending = pending ≡ []
+IsFlushed answer pending = pending ≡ []
 
 -- what a run answers after the flush: the same, or the output's fault where the flush was refused
-pub data EndsFlushed (answer flushed : Result (Unit {0}) ToolFault) (before after : OutState) : Type 0 where
+pub data EndsFlushed {T : Type 0} (answer flushed : Result T ToolFault) (before after : OutState) : Type 0 where
   stands : flushed ≡ answer → after.failures ≡ before.failures → EndsFlushed answer flushed before after
   refused : flushed ≡ Err Out → after.failures ≡ raised before.failures 1 → EndsFlushed answer flushed before after
 
@@ -103,7 +108,7 @@ pub data Way : Type 0 where
   in_blocks : Way
 
 -- a file of so few bytes is told as that, unless the flush was refused
-abbrev pub IsShort : Way → ℕ → Result (Unit {0}) ToolFault → Type 0
+abbrev pub IsShort : {T : Type 0} → Way → ℕ → Result T ToolFault → Type 0
 IsShort directly size answer = answer ≡ Err (Opening (TooShort size))
 IsShort in_blocks size answer = (answer ≡ Err (Opening (TooShort size))) ⊎ (answer ≡ Err Out)
 
@@ -119,16 +124,17 @@ UnlessEarly false untouched = untouched
 
 -- nothing was written where the file is refused or memory is wanting; nor, where all is read before the first byte is
 -- printed, behind a fault of the listing or of the store
-abbrev pub IsQuiet : Bool → Result (Unit {0}) ToolFault → Type 0 → Type 0
+abbrev pub IsQuiet : {T : Type 0} → Bool → Result T ToolFault → Type 0 → Type 0
 IsQuiet is_early (Ok x) untouched = Unit {0}
 IsQuiet is_early (Err Out) untouched = Unit {0}
 IsQuiet is_early (Err (Opening fault)) untouched = untouched
 IsQuiet is_early (Err Memory) untouched = untouched
 IsQuiet is_early (Err (BadList fault)) untouched = UnlessEarly is_early untouched
 IsQuiet is_early (Err (Source fault)) untouched = UnlessEarly is_early untouched
+IsQuiet is_early (Err fault) untouched = ⊥
 
 -- what every command answers over a store of this size, and how it leaves its output
-pub record Tells (way : Way) (is_early : Bool) (store : StoreState) (size : ℕ) (before : OutState) (answer : Result (Unit {0}) ToolFault)
+pub record Tells {T : Type 0} (way : Way) (is_early : Bool) (store : StoreState) (size : ℕ) (before : OutState) (answer : Result T ToolFault)
     (after : OutState) : Type 0 where
   -- over a good store all bytes are obtained
   pub good : (file : List ℕ) → IsGood store file → IsNoSourceFault answer
@@ -138,22 +144,22 @@ pub record Tells (way : Way) (is_early : Bool) (store : StoreState) (size : ℕ)
   pub out_cause : HasOutCause before answer after
 
 -- and how it leaves its source
-pub record Reads (old : SourceState) (answer : Result (Unit {0}) ToolFault) (new : SourceState) : Type 0 where
+pub record Reads {T : Type 0} (old : SourceState) (answer : Result T ToolFault) (new : SourceState) : Type 0 where
   pub cause : HasSourceCause old answer new
   pub fetches : FetchesSome old new
 
 -- what ends the part of a command behind the opening: no fault of the opening, and of the listing only the file's own;
 -- where nothing was written the output is untouched, which is ⊥ where some text is out already
-abbrev pub IsBehind : Bool → Result (Unit {0}) ToolFault → Type 0 → Type 0
+abbrev pub IsBehind : {T : Type 0} → Bool → Result T ToolFault → Type 0 → Type 0
 IsBehind is_early (Ok x) untouched = Unit {0}
 IsBehind is_early (Err Out) untouched = Unit {0}
-IsBehind is_early (Err (Opening fault)) untouched = ⊥
 IsBehind is_early (Err Memory) untouched = untouched
 IsBehind is_early (Err (BadList fault)) untouched = (IsOfSource fault.kind → ⊥) × UnlessEarly is_early untouched
 IsBehind is_early (Err (Source fault)) untouched = UnlessEarly is_early untouched
+IsBehind is_early (Err fault) untouched = ⊥
 
 -- and how that part leaves its source and its output
-pub record Leaves (is_early : Bool) (untouched : Type 0) (old : SourceState) (before : OutState) (answer : Result (Unit {0}) ToolFault) (new : SourceState)
+pub record Leaves {T : Type 0} (is_early : Bool) (untouched : Type 0) (old : SourceState) (before : OutState) (answer : Result T ToolFault) (new : SourceState)
     (after : OutState) : Type 0 where
   pub good : (file : List ℕ) → IsGood old.store file → IsNoSourceFault answer
   pub behind : IsBehind is_early answer untouched

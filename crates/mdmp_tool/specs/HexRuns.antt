@@ -7,7 +7,7 @@ use Rattle.mdmp_lister.specs.Format.Listing.{Run, listing, memory_lists}
 use Rattle.mdmp_lister.specs.Format.Refusal.{opening_fault}
 use Rattle.mdmp_lister.specs.Format.Ranges.{ranges_of}
 use Rattle.mdmp_tool.specs.declared.fault.ToolFault.{ToolFault}
-use Rattle.mdmp_tool.specs.declared.fault.ToolFault.TheVariants.{Opening, List as BadList, Source, Out, Memory}
+use Rattle.mdmp_tool.specs.declared.fault.ToolFault.TheVariants.{List as BadList, Source, Out, Memory}
 use Rattle.mdmp_tool.specs.Engines.{Runs, RunsThrough, Writes, unless_refused}
 use Rattle.mdmp_tool.specs.HexText.{hex_text}
 
@@ -25,7 +25,7 @@ HexEnds run (Err (BadList fault)) = run.fault ≡ Some fault
 HexEnds run (Err (Source fault)) = Unit {0}
 HexEnds run (Err Memory) = Unit {0}
 HexEnds run (Err Out) = run.fault ≡ None
-HexEnds run (Err (Opening fault)) = ⊥
+HexEnds run (Err fault) = ⊥
 
 -- a text that is printed where a listing has no fault
 abbrev pub unless_faulty : Option ListFault → List ℕ → List ℕ

@@ -1,4 +1,8 @@
 pub mod Causes
+pub mod CheckRuns
+pub mod CheckText
+pub mod Commands
+pub mod Copying
 pub mod Engines
 pub mod Faults
 pub mod HexRuns
@@ -6,7 +10,10 @@ pub mod HexText
 pub mod HexWords
 pub mod ItemLines
 pub mod Lines
+pub mod OptionWords
+pub mod PdbLines
 pub mod Pieces
+pub mod Requests
 pub mod Runs
 pub mod Telling
 pub mod Text

@@ -3,10 +3,12 @@ use Rattle.std.specs.Prelude.{ℕ, List}
 use Rattle.std.specs.Fmt.{decimal}
 use Rattle.std.specs.List.{flat_map}
 use Rattle.mdmp_wire.specs.Digits.{hex}
-use Rattle.mdmp_tool.specs.Faults.{item_text, kind_words}
+use Rattle.mdmp_wire.specs.Escape.{escaped_bytes}
+use Rattle.mdmp_tool.specs.Faults.{item_text, kind_words, part_words}
 use Rattle.mdmp_tool.specs.declared.pieces.Piece.{Piece}
 use Rattle.mdmp_tool.specs.ItemLines.{extent_text, name_text, information_text}
-use Rattle.mdmp_tool.specs.declared.pieces.Piece.TheVariants.{Text, Decimal, WideDecimal, Hex2, Hex4, Hex8, Hex16, Extent, Name, Information, Item, Kind}
+use Rattle.mdmp_tool.specs.PdbLines.{cut_text, digits_text, guid_text}
+use Rattle.mdmp_tool.specs.declared.pieces.Piece.TheVariants.{Text, Decimal, WideDecimal, Hex2, Hex4, Hex8, Hex16, Extent, Name, Information, Item, Kind, Part, Guid, Escaped, Digits, Cut}
 
 -- the bytes of one piece
 abbrev pub piece_text : Piece → List ℕ
@@ -22,6 +24,11 @@ piece_text (Name name) = name_text name.now
 piece_text (Information count values) = information_text count values.now
 piece_text (Item index) = item_text index
 piece_text (Kind kind) = kind_words kind
+piece_text (Part part) = part_words part
+piece_text (Guid guid) = guid_text guid.now
+piece_text (Escaped bytes) = escaped_bytes bytes.now
+piece_text (Digits bytes) = digits_text bytes.now
+piece_text (Cut ended) = cut_text ended
 
 -- the bytes of all of them
 abbrev pub text_of : List Piece → List ℕ

@@ -1,4 +1,6 @@
 -- Faults, as a command tells them.
+use Rattle.mdmp_dump.specs.declared.fault.ReadFault.{ReadFault}
+use Rattle.mdmp_dump.specs.declared.fault.ReadFault.TheVariants as reading
 use Rattle.mdmp_lister.specs.declared.fault.FaultKind.{FaultKind}
 use Rattle.mdmp_lister.specs.declared.fault.FaultKind.TheVariants as kinds
 use Rattle.mdmp_lister.specs.declared.fault.ListFault.{ListFault}
@@ -6,6 +8,7 @@ use Rattle.mdmp_lister.specs.declared.fault.OpenFault.{OpenFault}
 use Rattle.mdmp_lister.specs.declared.fault.OpenFault.TheVariants as opening
 use Rattle.mdmp_tool.specs.declared.fault.ToolFault.{ToolFault}
 use Rattle.mdmp_tool.specs.declared.fault.ToolFault.TheVariants as tool
+use Rattle.mdmp_writer.specs.declared.fault.LayoutFault.TheVariants.{TooLarge}
 
 -- a fault of the store and want of memory are told as such, every other one as the file's
 abbrev pub opening_told : OpenFault → ToolFault
@@ -20,8 +23,19 @@ told_by kind f = tool.List f
 abbrev pub list_told : ListFault → ToolFault
 list_told f = told_by f.kind f
 
+-- more bytes of parts than a dump may have are too many for the copy; a part outside the file and a name that is too long are
+-- told as what they are
+abbrev pub reading_told : ReadFault → ToolFault
+reading_told (reading.Opening fault) = opening_told fault
+reading_told (reading.List fault) = list_told fault
+reading_told (reading.PartsTooLarge e k) = tool.Layout TooLarge
+reading_told reading.Memory = tool.Memory
+reading_told (reading.Source fault) = tool.Source fault
+reading_told fault = tool.Reading fault
+
 -- a fault of the store or want of memory is told as such, also where a fault of the file has it inside
 abbrev pub told : ToolFault → ToolFault
 told (tool.Opening fault) = opening_told fault
 told (tool.List fault) = list_told fault
+told (tool.Reading fault) = reading_told fault
 told fault = fault

@@ -1,73 +1,123 @@
--- What the words of a command line come to.
-use Rattle.std.specs.Prelude.{◌≡◌, ◌≤◌, ◌+◌, ◌⊎◌, ℕ, List, [], ◌∷◌, Some, codes}
+-- How the words of a command line end.
+use Rattle.std.specs.Prelude.{◌≡◌, ◌⊎◌, ◌∷◌, ℕ, false, List, [], Some, None, codes}
 use Rattle.std.specs.List.{concat}
 use denote.Ref.{Bor}
-use Rattle.mdmp_map.specs.Ranges.{address_end}
 use Rattle.mdmp_source.specs.Output.{OutState, PutsAll, PutsPrefix}
-use Rattle.mdmp_tool.specs.declared.hex_words.Span.{Span}
-use Rattle.mdmp_tool.specs.declared.words.Command.{Command}
-use Rattle.mdmp_tool.specs.declared.words.Command.TheVariants.{List as Listing, Hex}
-use Rattle.mdmp_tool.specs.HexWords.{length_limit, span_named}
-use Rattle.mdmp_tool.specs.declared.fault.ToolFault.{ToolFault}
-use Rattle.mdmp_tool.specs.Lines.{error_line}
+use Rattle.mdmp_source.specs.Source.{SourceState}
+use Rattle.mdmp_source.specs.Store.{IsNew}
+use Rattle.mdmp_tool.specs.Commands.{HasCopied, HasPrinted, IsTold}
+use Rattle.mdmp_tool.specs.Copying.{first_not_copied}
 use Rattle.mdmp_tool.specs.Faults.{fault_text, status_of}
+use Rattle.mdmp_tool.specs.Requests.{AsksNothing, IsValid}
+use Rattle.mdmp_tool.specs.declared.fault.ToolFault.{ToolFault}
+use Rattle.mdmp_tool.specs.declared.fault.ToolFault.TheVariants.{Memory, NotCopied, Out}
+use Rattle.mdmp_tool.specs.declared.request.Asked.{Asked}
+use Rattle.mdmp_tool.specs.declared.request.Asked.TheVariants as asks
+use Rattle.mdmp_tool.specs.declared.request.Command.{Command}
+use Rattle.mdmp_tool.specs.declared.request.Command.TheVariants as commands
+use Rattle.mdmp_tool.specs.declared.request.Print.{Print}
 
--- the words are `list` and a name
-abbrev pub IsList : List (Bor (List ℕ)) → Type 0
-IsList [] = ⊥
-IsList (command ∷ []) = ⊥
-IsList (command ∷ name ∷ []) = command.now ≡ codes "list"
-IsList (command ∷ name ∷ next ∷ more) = ⊥
+-- both outputs, before and after
+pub record Outputs : Type 0 where
+  pub out : OutState
+  pub err : OutState
 
--- the words are `hex`, a name, and an address and a length that name this span
-abbrev pub IsHex : List (Bor (List ℕ)) → Span → Type 0
-IsHex [] span = ⊥
-IsHex (command ∷ []) span = ⊥
-IsHex (command ∷ name ∷ []) span = ⊥
-IsHex (command ∷ name ∷ address ∷ []) span = ⊥
-IsHex (command ∷ name ∷ address ∷ length ∷ []) span = (command.now ≡ codes "hex") × (span_named address.now length.now ≡ Some span)
-IsHex (command ∷ name ∷ address ∷ length ∷ next ∷ more) span = ⊥
+-- ---- before a file is read
 
--- the second word
-abbrev pub name_of : List (Bor (List ℕ)) → List ℕ
-name_of [] = []
-name_of (command ∷ []) = []
-name_of (command ∷ name ∷ more) = name.now
+-- a line was told, this is the status, and nothing was written
+pub record Refuses (wanted : ℕ) (text : List ℕ) (before : Outputs) (status : ℕ) (after : Outputs) : Type 0 where
+  pub own : status ≡ wanted
+  pub quiet : after.out ≡ before.out
+  pub told : IsTold before.err text after.err
 
--- a line was told: all of it, or the first part where the output refused
-abbrev pub IsTold : OutState → List ℕ → OutState → Type 0
-IsTold before text after = PutsAll before (error_line text) after ⊎ PutsPrefix before (error_line text) after
+abbrev pub RefusesFault : ToolFault → Outputs → ℕ → Outputs → Type 0
+RefusesFault fault = Refuses (status_of fault) (fault_text fault)
 
--- the words were refused: nothing was written, and that was told
-pub record IsBadLine (status : ℕ) (out_before out_after err_before err_after : OutState) : Type 0 where
+-- a file of this name could not be opened, or made
+abbrev pub unopened_text : List ℕ → List ℕ
+unopened_text name = concat (codes "cannot open " ∷ name ∷ [])
+
+abbrev pub unmade_text : List ℕ → List ℕ
+unmade_text name = concat (codes "cannot create " ∷ name ∷ [])
+
+-- this text, which explains the words, went to the errors, and nothing was written
+pub record Explains (text : List ℕ) (before : Outputs) (status : ℕ) (after : Outputs) : Type 0 where
   pub two : status ≡ 2
-  pub quiet : out_after ≡ out_before
-  pub told : IsTold err_before (codes "bad command line") err_after
+  pub quiet : after.out ≡ before.out
+  pub told : PutsAll before.err text after.err ⊎ PutsPrefix before.err text after.err
 
--- all went well, and nothing was told
-pub record IsWell (status : ℕ) (err_before err_after : OutState) : Type 0 where
+-- this text, which was asked for, was written
+pub record Helps (text : List ℕ) (before : Outputs) (status : ℕ) (after : Outputs) : Type 0 where
   pub zero : status ≡ 0
-  pub quiet : err_after ≡ err_before
+  pub written : PutsAll before.out text after.out
+  pub quiet : after.err ≡ before.err
 
--- a fault was told, and the status is its own
-pub record IsFault (status : ℕ) (err_before err_after : OutState) : Type 0 where
-  pub fault : ToolFault
-  pub own : status ≡ status_of fault
-  pub told : IsTold err_before (fault_text fault) err_after
+-- or the output refused it, and that was told
+pub record HelpsInPart (text : List ℕ) (before : Outputs) (status : ℕ) (after : Outputs) : Type 0 where
+  pub own : status ≡ status_of Out
+  pub cut : PutsPrefix before.out text after.out
+  pub told : IsTold before.err (fault_text Out) after.err
 
--- the file could not be opened: nothing was written, and that was told
-pub record IsUnopened (status : ℕ) (name : List ℕ) (out_before out_after err_before err_after : OutState) : Type 0 where
-  pub three : status ≡ 3
-  pub quiet : out_after ≡ out_before
-  pub told : IsTold err_before (concat (codes "cannot open " ∷ name ∷ [])) err_after
+-- ---- commands
 
--- how a command over a file of this name ends
-pub data EndsRun (status : ℕ) (name : List ℕ) (out_before out_after err_before err_after : OutState) : Type 0 where
-  well : IsWell status err_before err_after → EndsRun status name out_before out_after err_before err_after
-  faulty : IsFault status err_before err_after → EndsRun status name out_before out_after err_before err_after
-  unopened : IsUnopened status name out_before out_after err_before err_after → EndsRun status name out_before out_after err_before err_after
+-- a source over a file of the system: no contract knows its bytes
+pub record IsOfSystem (source : SourceState) : Type 0 where
+  pub store : IsNew source.store None false
+  pub fetched : source.fetched ≡ 0
 
--- the addresses that a command asks for are not too many, and pass no last address
-abbrev pub IsWithin : Command → Type 0
-IsWithin Listing = Unit {0}
-IsWithin (Hex span) = (span.length ≤ length_limit) × (span.address + span.length ≤ address_end)
+-- there was no memory for the blocks, and that was told
+pub record IsWanting (before : Outputs) (status : ℕ) (after : Outputs) : Type 0 where
+  pub own : status ≡ status_of Memory
+  pub told : IsTold before.err (fault_text Memory) after.err
+
+-- this was printed of a file, through blocks: `behind` is what the output behind them came to
+pub record Prints (print : Print) (limit : ℕ) (before : Outputs) (status : ℕ) (after : Outputs) : Type 0 where
+  pub old : SourceState
+  pub new : SourceState
+  pub behind : OutState
+  pub opened : IsOfSystem old
+  pub printed : HasPrinted print limit old before.out before.err status new behind after.err
+
+-- how a command ends that prints this of the file of this name, with names up to a limit
+pub data EndsPrint (print : Print) (limit : ℕ) (file : List ℕ) (before : Outputs) (status : ℕ) (after : Outputs) : Type 0 where
+  unopened : Refuses 3 (unopened_text file) before status after → EndsPrint print limit file before status after
+  wanting : IsWanting before status after → EndsPrint print limit file before status after
+  printed : Prints print limit before status after → EndsPrint print limit file before status after
+
+-- the streams of these types were copied to a file that was made
+pub record CopiesTo (Z : Type 0) (types : List ℕ) (limit : ℕ) (before : Outputs) (status : ℕ) (after : Outputs) : Type 0 where
+  pub old : SourceState
+  pub new : SourceState
+  pub made : OutState
+  pub written : OutState
+  pub opened : IsOfSystem old
+  pub copied : HasCopied Z types limit old made before.err status new written after.err
+  pub quiet : after.out ≡ before.out
+
+-- how a command ends that copies these types of one file to another: a type that is not copied is told before a file is opened
+pub data EndsCopy (Z : Type 0) (types : List ℕ) (limit : ℕ) (file target : List ℕ) (before : Outputs) (status : ℕ) (after : Outputs) : Type 0 where
+  refused : (t : ℕ) → first_not_copied types ≡ Some t → RefusesFault (NotCopied t) before status after → EndsCopy Z types limit file target before status after
+  unread : first_not_copied types ≡ None → Refuses 3 (unopened_text file) before status after → EndsCopy Z types limit file target before status after
+  unmade : first_not_copied types ≡ None → Refuses 3 (unmade_text target) before status after → EndsCopy Z types limit file target before status after
+  copied : first_not_copied types ≡ None → CopiesTo Z types limit before status after → EndsCopy Z types limit file target before status after
+
+abbrev pub EndsCommand : Type 0 → Command → ℕ → List ℕ → Outputs → ℕ → Outputs → Type 0
+EndsCommand Z (commands.Print print) limit file = EndsPrint print limit file
+EndsCommand Z (commands.Copy target types) limit file = EndsCopy Z types limit file target.now
+
+-- ---- words
+
+-- how that ends which some words ask for
+abbrev pub EndsAsked : Type 0 → Asked → Outputs → ℕ → Outputs → Type 0
+EndsAsked Z (asks.Run request) before status after = EndsCommand Z request.command request.limits.name request.file.now before status after
+EndsAsked Z (asks.Help text) before status after = Helps text.bytes.items before status after ⊎ HelpsInPart text.bytes.items before status after
+EndsAsked Z (asks.Refused text) before status after = Explains text.bytes.items before status after
+EndsAsked Z asks.Bad before status after = Refuses 2 (codes "bad command line") before status after
+EndsAsked Z asks.Memory before status after = RefusesFault Memory before status after
+
+-- the words ask for something, no words for nothing that is run or helped, and it ends so
+pub record EndsWords (Z : Type 0) (words : List (Bor (List ℕ))) (before : Outputs) (status : ℕ) (after : Outputs) : Type 0 where
+  pub asked : Asked
+  pub valid : IsValid asked
+  pub empty : words ≡ [] → AsksNothing asked
+  pub ends : EndsAsked Z asked before status after

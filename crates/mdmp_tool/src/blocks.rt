@@ -1,17 +1,37 @@
-//! `list` and `hex` to an output that gathers blocks.
+//! `check`, `list` and `hex` to an output that gathers blocks.
 ghost use Rattle.std.specs.Prelude.{◌≡◌, ◌≤◌, ◌<◌, ◌+◌, ℕ, List, Some, [], false, true};
 ghost use Rattle.mdmp_map.specs.Ranges.{address_end};
+ghost use Rattle.mdmp_tool.specs.CheckRuns.{ChecksThrough};
 ghost use Rattle.mdmp_tool.specs.Engines.{IsFlushed, Reads, Tells, in_blocks};
 ghost use Rattle.mdmp_tool.specs.HexRuns.{HexesThrough};
 ghost use Rattle.mdmp_tool.specs.HexWords.{length_limit};
 ghost use Rattle.mdmp_tool.specs.Runs.{ListsThrough};
 
+use crate::check::CheckEngine;
 use crate::engine::{Answered, run_in_blocks};
 use crate::hex::HexEngine;
 use crate::list::ListEngine;
 use mdmp_lister::Limits;
 use mdmp_source::{BlockOut, Out, Source, Store};
 use std::alloc::Allocator;
+
+/// Does what `check_source` does, by few writes: the lines reach the inner output in blocks, and what
+/// is pending at the end, or before a fault, is flushed. Where the inner output refuses a block, the
+/// last one too, the answer is the output's fault.
+pub fn check_in_blocks<S: Store + Drop, A: Allocator + Copy, O: Out, B: Allocator>(
+    alloc: A,
+    source: Source<S>,
+    limits: Limits,
+    blocks: &mut BlockOut<O, B>,
+) -> Answered<u64, S>
+    requires { blocks.old.pending ≡ [] }
+    ensures checks { (file : List ℕ) → source.store.content ≡ Some file → ChecksThrough file limits.name blocks.old.inner result.answer blocks.new.inner }
+    ensures flushed { IsFlushed result.answer blocks.new.pending }
+    ensures tells { Tells in_blocks true source.store source.size blocks.old.inner result.answer blocks.new.inner }
+    ensures reads { Reads source result.answer result.source }
+{
+    run_in_blocks(CheckEngine, alloc, source, limits, blocks)
+}
 
 /// Does what `list_source` does, by few writes: the lines reach the inner output in blocks, and what
 /// is pending at the end, or before a fault, is flushed. Where the inner output refuses a block, the
@@ -20,15 +40,16 @@ pub fn list_in_blocks<S: Store + Drop, A: Allocator + Copy, O: Out, B: Allocator
     alloc: A,
     source: Source<S>,
     limits: Limits,
+    pdb: bool,
     blocks: &mut BlockOut<O, B>,
-) -> Answered<S>
+) -> Answered<(), S>
     requires { blocks.old.pending ≡ [] }
-    ensures lists { (file : List ℕ) → source.store.content ≡ Some file → ListsThrough file limits.name blocks.old.inner result.answer blocks.new.inner }
+    ensures lists { (file : List ℕ) → source.store.content ≡ Some file → ListsThrough pdb file limits.name blocks.old.inner result.answer blocks.new.inner }
     ensures flushed { IsFlushed result.answer blocks.new.pending }
     ensures tells { Tells in_blocks true source.store source.size blocks.old.inner result.answer blocks.new.inner }
     ensures reads { Reads source result.answer result.source }
 {
-    run_in_blocks(ListEngine, alloc, source, limits, blocks)
+    run_in_blocks(ListEngine { pdb }, alloc, source, limits, blocks)
 }
 
 /// Does what `hex_source` does, by few writes: the lines reach the inner output in blocks, and what
@@ -41,7 +62,7 @@ pub fn hex_in_blocks<S: Store + Drop, A: Allocator + Copy, O: Out, B: Allocator>
     address: u64,
     length: u32,
     blocks: &mut BlockOut<O, B>,
-) -> Answered<S>
+) -> Answered<(), S>
     requires none { blocks.old.pending ≡ [] }
     requires within { address + length ≤ address_end }
     requires limited { length ≤ length_limit }

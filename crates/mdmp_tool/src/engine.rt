@@ -11,21 +11,22 @@ use std::alloc::Allocator;
 
 /// What a run answered, and the source that it read.
 #[derive(Drop)]
-pub struct Answered<S: Store + Drop> {
-    /// Whether all lines were printed, or why not.
-    pub answer: Result<(), ToolFault>,
+pub struct Answered<T: Copy, S: Store + Drop> {
+    /// What the run comes to where all was written, or why not.
+    pub answer: Result<T, ToolFault>,
     /// The source, whose counts tell the cause of its faults.
     pub source: Source<S>,
 }
 
 /// A command over the listing of a file.
 pub(crate) trait Engine: Copy {
-    ghost use Rattle.std.specs.Prelude.{◌≡◌, ℕ, Bool, List, [], None, Some, Result};
-    ghost use Rattle.mdmp_wire.specs.Header.{header_at};
+    ghost use Rattle.std.specs.Prelude.{◌≡◌, ℕ, Bool, List, Some, Result};
     ghost use Rattle.mdmp_lister.specs.declared.choice.Choice.{Choice};
-    ghost use Rattle.mdmp_lister.specs.Format.Listing.{listing};
     ghost use Rattle.mdmp_tool.specs.declared.fault.ToolFault.{ToolFault};
-    ghost use Rattle.mdmp_tool.specs.Engines.{Leaves, Writes};
+    ghost use Rattle.mdmp_tool.specs.Engines.{IsOpened, Leaves, Writes};
+
+    /// What it answers where all was printed.
+    type Answer: Copy;
 
     // The streams that are listed.
     ghost choice: { Choice };
@@ -37,7 +38,7 @@ pub(crate) trait Engine: Copy {
     ghost can_put: { Self → Type 0 };
 
     // What may end it over a file that can be opened, with names up to a limit.
-    ghost Ends: { Self → List ℕ → ℕ → Result (Unit {0}) ToolFault → Type 0 };
+    ghost Ends: { Self → List ℕ → ℕ → Result Self.Answer ToolFault → Type 0 };
 
     // All that it prints of such a file.
     ghost text: { Self → List ℕ → ℕ → List ℕ };
@@ -52,15 +53,12 @@ pub(crate) trait Engine: Copy {
         alloc: A,
         lister: &mut Lister<S, A>,
         out: &mut O,
-    ) -> Result<(), ToolFault>
+    ) -> Result<Self::Answer, ToolFault>
         requires can { can_put self.now }
-        requires going { lister.old.stop ≡ None }
-        requires none { lister.old.ranges ≡ [] }
-        ensures ends { (file : List ℕ) → lister.old.source.store.content ≡ Some file
-            → (limit : ℕ) → lister.old.left ≡ Some (listing file choice limit) → Ends self.now file limit result }
-        ensures writes { (file : List ℕ) → lister.old.source.store.content ≡ Some file → lister.old.header ≡ header_at file 0
-            → (limit : ℕ) → lister.old.left ≡ Some (listing file choice limit)
-            → Writes is_early (text self.now file limit) (O.state out.old) result (O.state out.new) }
+        requires opened { IsOpened choice lister.old }
+        ensures ends { (file : List ℕ) → lister.old.source.store.content ≡ Some file → Ends self.now file lister.old.limit result }
+        ensures writes { (file : List ℕ) → lister.old.source.store.content ≡ Some file
+            → Writes is_early (text self.now file lister.old.limit) (O.state out.old) result (O.state out.new) }
         ensures leaves { Leaves is_early (O.state out.new ≡ O.state out.old) lister.old.source (O.state out.old) result lister.new.source (O.state out.new) };
 }
 
@@ -71,7 +69,7 @@ pub(crate) fn run<E: Engine, S: Store + Drop, A: Allocator + Copy, O: Out>(
     store: S,
     limits: Limits,
     out: &mut O,
-) -> Result<(), ToolFault>
+) -> Result<E::Answer, ToolFault>
     requires { E.can_put engine }
     ensures runs { (file : List ℕ) → (S.state store).content ≡ Some file
         → Runs file E.choice (E.Ends engine file limits.name) E.is_early (unless_refused (opening_fault file E.choice) (E.text engine file limits.name))
@@ -91,7 +89,7 @@ pub(crate) fn run_source<E: Engine, S: Store + Drop, A: Allocator + Copy, O: Out
     source: Source<S>,
     limits: Limits,
     out: &mut O,
-) -> Answered<S>
+) -> Answered<E::Answer, S>
     requires { E.can_put engine }
     ensures runs { (file : List ℕ) → source.store.content ≡ Some file
         → Runs file E.choice (E.Ends engine file limits.name) E.is_early (unless_refused (opening_fault file E.choice) (E.text engine file limits.name))
@@ -122,7 +120,7 @@ pub(crate) fn run_in_blocks<E: Engine, S: Store + Drop, A: Allocator + Copy, O: 
     source: Source<S>,
     limits: Limits,
     blocks: &mut BlockOut<O, B>,
-) -> Answered<S>
+) -> Answered<E::Answer, S>
     requires can { E.can_put engine }
     requires none { blocks.old.pending ≡ [] }
     ensures runs { (file : List ℕ) → source.store.content ≡ Some file
@@ -138,10 +136,10 @@ pub(crate) fn run_in_blocks<E: Engine, S: Store + Drop, A: Allocator + Copy, O: 
 
 /// Writes what is pending after a run, and answers what the run did, or the output's fault where the
 /// inner output refuses.
-fn flushed<S: Store + Drop, O: Out, B: Allocator>(
-    answered: Answered<S>,
+fn flushed<T: Copy, S: Store + Drop, O: Out, B: Allocator>(
+    answered: Answered<T, S>,
     blocks: &mut BlockOut<O, B>,
-) -> Answered<S>
+) -> Answered<T, S>
     ensures ends { EndsFlushed answered.answer result.answer blocks.old.inner blocks.new.inner }
     ensures moved { MovesFront blocks.old.inner blocks.old.pending blocks.new.inner blocks.new.pending }
     ensures flushed { IsFlushed result.answer blocks.new.pending }

@@ -1,10 +1,12 @@
 //! Why a command ends early.
 ghost use Rattle.std.specs.Prelude.{◌≡◌};
 ghost use Rattle.mdmp_tool.specs.Faults.{status_of};
-ghost use Rattle.mdmp_tool.specs.Telling.{list_told, opening_told, told};
+ghost use Rattle.mdmp_tool.specs.Telling.{list_told, opening_told, reading_told, told};
 
+use mdmp_dump::ReadFault;
 use mdmp_lister::{FaultKind, ListFault, OpenFault};
 use mdmp_source::SourceFault;
+use mdmp_writer::LayoutFault;
 
 /// Why a command ends early.
 #[derive(Clone, Copy, Debug, PartialEq, Eq)]
@@ -13,22 +15,30 @@ pub enum ToolFault {
     Opening(OpenFault),
     /// An entry or a record of the file has a fault.
     List(ListFault),
+    /// A part of a record lies outside the file, or a name is too long, so nothing is copied.
+    Reading(ReadFault),
+    /// What is to be copied can't be written.
+    Layout(LayoutFault),
     /// Bytes of the file were not obtained, or do not agree with what was read before.
     Source(SourceFault),
     /// The output failed, or took nothing.
     Out,
     /// There was no memory for what the command holds.
     Memory,
+    /// Streams of this type are not copied.
+    NotCopied(u32),
 }
 
-/// The exit status of a command that ends with this fault: 1 where the file is at fault, 3 where its
-/// store, the output or memory is, also where `Opening` or `List` has a fault of the store or want
-/// of memory inside.
+/// The exit status of a command that ends with this fault: 1 where the file is at fault, 2 where a type
+/// is not copied, 3 where the file's store, the output or memory is, also where `Opening`, `List` or
+/// `Reading` has a fault of the store or want of memory inside.
 pub fn status(fault: &ToolFault) -> u8
     ensures { result ≡ status_of fault.now }
 {
     match told(*fault) {
-        ToolFault::Opening(_) | ToolFault::List(_) => 1,
+        ToolFault::Opening(_) | ToolFault::List(_) | ToolFault::Reading(_) | ToolFault::Layout(_) =>
+            1,
+        ToolFault::NotCopied(_) => 2,
         ToolFault::Source(_) | ToolFault::Out | ToolFault::Memory => 3,
     }
 }
@@ -40,6 +50,7 @@ pub(crate) fn told(fault: ToolFault) -> ToolFault
     match fault {
         ToolFault::Opening(fault) => told_opening(fault),
         ToolFault::List(fault) => told_list(fault),
+        ToolFault::Reading(fault) => told_reading(fault),
         fault => fault,
     }
 }
@@ -62,5 +73,20 @@ pub(crate) fn told_list(fault: ListFault) -> ToolFault
     match fault.kind {
         FaultKind::Source(fault) => ToolFault::Source(fault),
         _ => ToolFault::List(fault),
+    }
+}
+
+/// A fault of reading a file into a dump, as a command tells it. That more bytes are asked for than a
+/// dump may have is a fault of the copy.
+pub(crate) fn told_reading(fault: ReadFault) -> ToolFault
+    ensures { result ≡ reading_told fault }
+{
+    match fault {
+        ReadFault::Opening(fault) => told_opening(fault),
+        ReadFault::List(fault) => told_list(fault),
+        ReadFault::PartsTooLarge { .. } => ToolFault::Layout(LayoutFault::TooLarge),
+        ReadFault::Memory => ToolFault::Memory,
+        ReadFault::Source(fault) => ToolFault::Source(fault),
+        fault => ToolFault::Reading(fault),
     }
 }

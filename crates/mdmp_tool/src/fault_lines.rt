@@ -2,15 +2,18 @@
 ghost use Rattle.std.specs.Prelude.{◌≡◌};
 ghost use Rattle.mdmp_source.specs.Output.{Puts};
 ghost use Rattle.mdmp_tool.specs.Lines.{error_line};
-ghost use Rattle.mdmp_tool.specs.Faults.{source_text, output_text, memory_text, version_text, ranges_text, opening_text, list_fault_text, fault_text};
+ghost use Rattle.mdmp_tool.specs.Pieces.{text_of};
+ghost use Rattle.mdmp_tool.specs.Faults.{source_text, output_text, memory_text, version_text, ranges_text, opening_text, list_fault_text, layout_text, part_text, long_name_text, reading_text, not_copied_text, fault_text};
 
 use crate::fault::{ToolFault, told};
 use crate::pieces::{Piece, put_error_line};
+use mdmp_dump::{PartName, ReadFault};
 use mdmp_lister::{ListFault, OpenFault};
 use mdmp_source::{Out, OutFailed, SourceFault};
+use mdmp_writer::LayoutFault;
 
 /// Writes the line of a fault, `mdmp: ` and what it says; a fault of the store or want of memory
-/// says the same inside `Opening` or `List`. Where the output refuses, the first part of the line
+/// says the same inside `Opening`, `List` or `Reading`. Where the output refuses, the first part of the line
 /// went out.
 pub fn fault_line<O: Out>(fault: &ToolFault, out: &mut O) -> Result<(), OutFailed>
     ensures { Puts result (O.state out.old) (error_line (fault_text fault.now)) (O.state out.new) }
@@ -18,9 +21,12 @@ pub fn fault_line<O: Out>(fault: &ToolFault, out: &mut O) -> Result<(), OutFaile
     match told(*fault) {
         ToolFault::Opening(fault) => put_opening_fault(&fault, out),
         ToolFault::List(fault) => put_list_fault(&fault, out),
+        ToolFault::Reading(fault) => put_reading_fault(&fault, out),
+        ToolFault::Layout(fault) => put_layout_fault(&fault, out),
         ToolFault::Source(fault) => put_source_fault(&fault, out),
         ToolFault::Out => put_output_fault(out),
         ToolFault::Memory => put_memory_fault(out),
+        ToolFault::NotCopied(stream_type) => put_not_copied(stream_type, out),
     }
 }
 
@@ -108,18 +114,124 @@ fn put_opening_fault<O: Out>(fault: &OpenFault, out: &mut O) -> Result<(), OutFa
 fn put_list_fault<O: Out>(fault: &ListFault, out: &mut O) -> Result<(), OutFailed>
     ensures { Puts result (O.state out.old) (error_line (list_fault_text fault.now)) (O.state out.new) }
 {
+    put_error_line(out, &fault_pieces(fault))
+}
+
+/// What is said of the fault of an entry.
+pub(crate) fn fault_pieces(fault: &ListFault) -> [Piece<'static>; 9]
+    ensures { text_of result ≡ list_fault_text fault.now }
+{
+    [
+        Piece::Text("entry "),
+        Piece::Decimal(fault.entry as u64),
+        Piece::Item(fault.index),
+        Piece::Text(": "),
+        Piece::Kind(fault.kind),
+        Piece::Text(": offset "),
+        Piece::Decimal(fault.offset),
+        Piece::Text(" size "),
+        Piece::Decimal(fault.size),
+    ]
+}
+
+fn put_layout_fault<O: Out>(fault: &LayoutFault, out: &mut O) -> Result<(), OutFailed>
+    ensures { Puts result (O.state out.old) (error_line (layout_text fault.now)) (O.state out.new) }
+{
+    match fault {
+        LayoutFault::RawKnownType { stream } => put_error_line(
+            out,
+            &[
+                Piece::Text("stream "),
+                Piece::Decimal(*stream),
+                Piece::Text(" holds raw bytes of a known type"),
+            ],
+        ),
+        LayoutFault::TooLarge => put_too_large(out),
+    }
+}
+
+fn put_too_large<O: Out>(out: &mut O) -> Result<(), OutFailed>
+    ensures { Puts result (O.state out.old) (error_line (layout_text LayoutFault.TooLarge)) (O.state out.new) }
+{
+    put_error_line(out, &[Piece::Text("the copy is too large")])
+}
+
+fn put_part_outside<O: Out>(
+    entry: u32,
+    index: u64,
+    part: PartName,
+    offset: u128,
+    size: u64,
+    out: &mut O,
+) -> Result<(), OutFailed>
+    ensures { Puts result (O.state out.old) (error_line (part_text entry index part offset size)) (O.state out.new) }
+{
     put_error_line(
         out,
         &[
             Piece::Text("entry "),
-            Piece::Decimal(fault.entry as u64),
-            Piece::Item(fault.index),
+            Piece::Decimal(entry as u64),
+            Piece::Text(" item "),
+            Piece::Decimal(index),
             Piece::Text(": "),
-            Piece::Kind(fault.kind),
-            Piece::Text(": offset "),
-            Piece::Decimal(fault.offset),
+            Piece::Part(part),
+            Piece::Text(" outside the file: offset "),
+            Piece::WideDecimal(offset),
             Piece::Text(" size "),
-            Piece::Decimal(fault.size),
+            Piece::Decimal(size),
+        ],
+    )
+}
+
+fn put_long_name<O: Out>(entry: u32, index: u64, length: u32, out: &mut O) -> Result<(), OutFailed>
+    ensures { Puts result (O.state out.old) (error_line (long_name_text entry index length)) (O.state out.new) }
+{
+    put_error_line(
+        out,
+        &[
+            Piece::Text("entry "),
+            Piece::Decimal(entry as u64),
+            Piece::Text(" item "),
+            Piece::Decimal(index),
+            Piece::Text(": name too long: "),
+            Piece::Decimal(length as u64),
+        ],
+    )
+}
+
+fn put_reading_fault<O: Out>(fault: &ReadFault, out: &mut O) -> Result<(), OutFailed>
+    ensures { Puts result (O.state out.old) (error_line (reading_text fault.now)) (O.state out.new) }
+{
+    match fault {
+        ReadFault::Opening(fault) => put_opening_fault(fault, out),
+        ReadFault::List(fault) => put_list_fault(fault, out),
+        ReadFault::PartOutside {
+            entry,
+            index,
+            part,
+            offset,
+            size,
+        } => put_part_outside(*entry, *index, *part, *offset, *size, out),
+        ReadFault::NameTooLong {
+            entry,
+            index,
+            length,
+        } => put_long_name(*entry, *index, *length, out),
+        ReadFault::PartsTooLarge { .. } => put_too_large(out),
+        ReadFault::Memory => put_memory_fault(out),
+        ReadFault::Source(fault) => put_source_fault(fault, out),
+    }
+}
+
+fn put_not_copied<O: Out>(stream_type: u32, out: &mut O) -> Result<(), OutFailed>
+    ensures { Puts result (O.state out.old) (error_line (not_copied_text stream_type)) (O.state out.new) }
+{
+    put_error_line(
+        out,
+        &[
+            Piece::Text("type "),
+            Piece::Decimal(stream_type as u64),
+            Piece::Text(" is not copied"),
         ],
     )
 }

@@ -47,7 +47,7 @@ pub fn hex_source<S: Store + Drop, A: Allocator + Copy, O: Out>(
     address: u64,
     length: u32,
     out: &mut O,
-) -> Answered<S>
+) -> Answered<(), S>
     requires within { address + length ≤ address_end }
     requires limited { length ≤ length_limit }
     ensures hexes { (file : List ℕ) → source.store.content ≡ Some file → Hexes file limits.name address length (O.state out.old) result.answer (O.state out.new) }
@@ -69,6 +69,8 @@ impl Engine for HexEngine {
     ghost use Rattle.mdmp_map.specs.Ranges.{address_end};
     ghost use Rattle.mdmp_lister.specs.Format.Listing.{listing, memory_lists};
     ghost use Rattle.mdmp_tool.specs.HexRuns.{HexEnds, run_hex_text};
+
+    type Answer = ();
 
     ghost choice = { memory_lists };
 

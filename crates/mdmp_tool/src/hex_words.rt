@@ -11,7 +11,7 @@ const ADDRESS_END: u128 = 1 << 64;
 
 /// Addresses that follow each other.
 #[derive(Clone, Copy, Debug, PartialEq, Eq)]
-pub(crate) struct Span {
+pub struct Span {
     /// The first address, of the dumped process.
     pub address: u64,
     /// How many addresses there are.

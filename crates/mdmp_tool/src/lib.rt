@@ -1,32 +1,54 @@
 //! The commands of `mdmp`: what they print, and the faults that end them.
 //!
-//! [`run_words`] reads the words behind the program's name and runs a command. Under it stands one
-//! engine for each command, whose contract says what is written. [`run_list`] writes of a good store
-//! the text of `specs/Text.antt`, whole or up to the first bad location, and of one that fails the
-//! first part of it. [`run_hex`] writes the text of `specs/HexText.antt`, or nothing where the store
-//! fails or the file's memory lists have a bad location. [`list_in_blocks`] and [`hex_in_blocks`] do
-//! the same by few writes.
+//! [`run_words`] reads the words behind the program's name and runs a command; [`request_of`] says
+//! what words ask for, by the crate `clap`. Under it stands a core over a source and two outputs,
+//! [`print_told`] and [`copy_told`], whose contract says what is written and told, and the exit
+//! status; and under that one engine for each command. [`run_list`] writes of a good store the text
+//! of `specs/Text.antt`, whole or up to the first bad location, and of one that fails the first part
+//! of it. [`run_check`] writes the text of `specs/CheckText.antt`, a line for each entry, and answers
+//! how many are bad. [`run_hex`] writes the text of `specs/HexText.antt`, or nothing where the store
+//! fails or the file's memory lists have a bad location. [`check_in_blocks`], [`list_in_blocks`] and
+//! [`hex_in_blocks`] do the same by few writes. [`run_copy`] writes the dump of the streams of some
+//! types as a file of its own, a first part of it where the output refuses, or nothing.
 //! A [`ToolFault`] has the exit status of [`status`] and the line of [`fault_line`].
 #![tactic(auto)]
 
+mod asking;
 mod blocks;
+mod check;
+mod command_line;
+mod copy;
 mod engine;
 mod fault;
 mod fault_lines;
+mod help;
 mod hex;
 mod hex_lines;
 mod hex_words;
 mod item_lines;
 mod lines;
 mod list;
+mod option_words;
+mod pdb_lines;
 mod pieces;
+mod request;
+mod running;
+mod verdict_lines;
 mod words;
 
-pub use crate::blocks::{hex_in_blocks, list_in_blocks};
+pub use crate::asking::request_of;
+pub use crate::blocks::{check_in_blocks, hex_in_blocks, list_in_blocks};
+pub use crate::check::{check_source, run_check};
+pub use crate::copy::{copied, copy_source, run_copy};
 pub use crate::engine::Answered;
 pub use crate::fault::{ToolFault, status};
 pub use crate::fault_lines::fault_line;
 pub use crate::hex::{hex_source, run_hex};
+pub use crate::hex_words::Span;
 pub use crate::list::{list_source, run_list};
+pub use crate::request::{Asked, Command, Print, Request};
+pub use crate::running::{Ended, copy_told, print_told};
 pub use crate::words::run_words;
-pub use mdmp_lister::{FaultKind, Limits, ListFault, OpenFault};
+pub use mdmp_dump::{PartName, ReadFault};
+pub use mdmp_lister::{FaultKind, Limits, ListFault, OpenFault, TypeSet};
+pub use mdmp_writer::LayoutFault;

@@ -1,19 +1,24 @@
 //! The command `list`.
-ghost use Rattle.std.specs.Prelude.{◌≡◌, ◌≤◌, ◌<◌, ℕ, List, None, Some, false, true};
+ghost use Rattle.std.specs.Prelude.{◌≡◌, ◌≤◌, ◌<◌, ℕ, List, None, Some, IfSome, false, true};
+ghost use Rattle.mdmp_source.specs.Range.{IsInside};
 ghost use Rattle.mdmp_lister.specs.Format.Listing.{Run};
 ghost use Rattle.mdmp_tool.specs.Engines.{Leaves, Reads, Tells, directly};
-ghost use Rattle.mdmp_tool.specs.Runs.{Lists, ListsFile, ListsRun};
+ghost use Rattle.mdmp_tool.specs.Runs.{Lists, ListsFile, ListsRun, PutsSymbols};
+ghost use Rattle.mdmp_tool.specs.Text.{symbols_of, symbols_text};
 
 use crate::engine::{Answered, Engine, run, run_source};
 use crate::fault::{ToolFault, told_list};
 use crate::item_lines::put_item_line;
 use crate::lines::put_dump_line;
-use mdmp_lister::{Choice, Limits, Lister};
-use mdmp_source::{Out, OutFailed, Source, Store};
+use crate::pdb_lines::put_pdb_line;
+use mdmp_lister::{Choice, Item, Limits, Lister};
+use mdmp_source::{Extent, Location, Out, OutFailed, Source, Store};
 use std::alloc::Allocator;
 
 /// Prints what a file holds: a line for its header, and one for each item of its listing, up to the
-/// first fault. No CodeView records are told (`pdb`).
+/// first fault. With `pdb` what the CodeView record of a module tells is one more line behind the
+/// module's, where that record lies inside the file; of its name at most as many bytes are read and
+/// printed as the limit on names.
 ///
 /// Where the file is refused nothing is written. After a fault of the store or the output the first
 /// part of the text went out. Memory is taken before the first byte of output.
@@ -24,12 +29,10 @@ pub fn run_list<S: Store + Drop, A: Allocator + Copy, O: Out>(
     pdb: bool,
     out: &mut O,
 ) -> Result<(), ToolFault>
-    requires { pdb ≡ false }
-    ensures lists { (file : List ℕ) → (S.state store).content ≡ Some file → Lists file limits.name (O.state out.old) result (O.state out.new) }
+    ensures lists { (file : List ℕ) → (S.state store).content ≡ Some file → Lists pdb file limits.name (O.state out.old) result (O.state out.new) }
     ensures tells { Tells directly true (S.state store) (S.state store).size (O.state out.old) result (O.state out.new) }
 {
-    let _ = pdb;
-    run(ListEngine, alloc, store, limits, out)
+    run(ListEngine { pdb }, alloc, store, limits, out)
 }
 
 /// Does what `run_list` does, and hands the source back, whose counts tell the cause of its faults.
@@ -37,18 +40,22 @@ pub fn list_source<S: Store + Drop, A: Allocator + Copy, O: Out>(
     alloc: A,
     source: Source<S>,
     limits: Limits,
+    pdb: bool,
     out: &mut O,
-) -> Answered<S>
-    ensures lists { (file : List ℕ) → source.store.content ≡ Some file → Lists file limits.name (O.state out.old) result.answer (O.state out.new) }
+) -> Answered<(), S>
+    ensures lists { (file : List ℕ) → source.store.content ≡ Some file → Lists pdb file limits.name (O.state out.old) result.answer (O.state out.new) }
     ensures tells { Tells directly true source.store source.size (O.state out.old) result.answer (O.state out.new) }
     ensures reads { Reads source result.answer result.source }
 {
-    run_source(ListEngine, alloc, source, limits, out)
+    run_source(ListEngine { pdb }, alloc, source, limits, out)
 }
 
 /// The engine of `list`, which prints each item as it is read.
 #[derive(Clone, Copy)]
-pub(crate) struct ListEngine;
+pub(crate) struct ListEngine {
+    /// Whether CodeView records are told.
+    pub pdb: bool,
+}
 
 impl Engine for ListEngine {
     ghost use Rattle.std.specs.Prelude.{◌++◌, true};
@@ -59,6 +66,8 @@ impl Engine for ListEngine {
     ghost use Rattle.mdmp_tool.specs.Runs.{ListEnds};
     ghost use Rattle.mdmp_tool.specs.Text.{run_text};
 
+    type Answer = ();
+
     ghost choice = { All };
 
     ghost is_early = { true };
@@ -67,7 +76,7 @@ impl Engine for ListEngine {
 
     ghost Ends = { λ _ file limit. ListEnds (listing file All limit) };
 
-    ghost text = { λ _ file limit. dump_line (header_at file 0) ++ run_text (listing file All limit) };
+    ghost text = { λ e file limit. dump_line (header_at file 0) ++ run_text e.pdb file limit (listing file All limit) };
 
     fn chosen(&self) -> Choice {
         Choice::All
@@ -80,42 +89,85 @@ impl Engine for ListEngine {
         out: &mut O,
     ) -> Result<(), ToolFault> {
         let _ = alloc;
-        put_listing(lister, out)
+        put_listing(lister, self.pdb, out)
     }
 }
 
 /// Prints the line of the header, and those of the items that are left.
 fn put_listing<S: Store + Drop, A: Allocator + Copy, O: Out>(
     lister: &mut Lister<S, A>,
+    pdb: bool,
     out: &mut O,
 ) -> Result<(), ToolFault>
     requires { lister.old.stop ≡ None }
-    ensures lists { (left : Run) → lister.old.left ≡ Some left → ListsFile lister.old.header left (O.state out.old) result (O.state out.new) }
+    ensures lists { (file : List ℕ) → lister.old.source.store.content ≡ Some file → (left : Run) → lister.old.left ≡ Some left
+        → ListsFile pdb file lister.old.limit lister.old.header left (O.state out.old) result (O.state out.new) }
     ensures leaves { Leaves true (O.state out.new ≡ O.state out.old) lister.old.source (O.state out.old) result lister.new.source (O.state out.new) }
 {
     if let Err(OutFailed) = put_dump_line(&lister.header(), out) {
         return Err(ToolFault::Out);
     }
-    list_items(lister, out)
+    list_items(lister, pdb, out)
 }
 
 /// Prints the lines of the items that are left.
 fn list_items<S: Store + Drop, A: Allocator + Copy, O: Out>(
     lister: &mut Lister<S, A>,
+    pdb: bool,
     out: &mut O,
 ) -> Result<(), ToolFault>
     requires { lister.old.stop ≡ None }
-    ensures lists { (left : Run) → lister.old.left ≡ Some left → ListsRun left (O.state out.old) result (O.state out.new) }
+    ensures lists { (file : List ℕ) → lister.old.source.store.content ≡ Some file → (left : Run) → lister.old.left ≡ Some left
+        → ListsRun pdb file lister.old.limit left (O.state out.old) result (O.state out.new) }
     ensures leaves { Leaves true ⊥ lister.old.source (O.state out.old) result lister.new.source (O.state out.new) }
 {
     loop {
-        match lister.next() {
+        let symbols = match lister.next() {
             Ok(None) => return Ok(()),
             Ok(Some(item)) => match put_item_line(&item, out) {
-                Ok(()) => {}
+                Ok(()) => symbols_of(pdb, &item),
                 Err(OutFailed) => return Err(ToolFault::Out),
             },
             Err(fault) => return Err(told_list(fault)),
-        }
+        };
+        put_symbols(lister, symbols, out)?;
+    }
+}
+
+/// Where the CodeView record of an item stands that is told: a module's, if it lies inside the file
+/// and such are asked for.
+fn symbols_of(pdb: bool, item: &Item<'_>) -> Option<Location>
+    ensures { result ≡ symbols_of pdb item.now }
+{
+    match item {
+        Item::Module(module) if pdb => match module.codeview {
+            Extent::Inside => Some(module.fields.cv_record),
+            Extent::Empty | Extent::Absent | Extent::Outside => None,
+        },
+        _ => None,
+    }
+}
+
+/// Prints the line of the CodeView record at a location, if there is one.
+fn put_symbols<S: Store + Drop, A: Allocator + Copy, O: Out>(
+    lister: &mut Lister<S, A>,
+    symbols: Option<Location>,
+    out: &mut O,
+) -> Result<(), ToolFault>
+    requires { IfSome symbols (λ at. IsInside at.rva at.size lister.old.source.size) }
+    ensures puts { (file : List ℕ) → lister.old.source.store.content ≡ Some file
+        → PutsSymbols (symbols_text file lister.old.limit symbols) (O.state out.old) result (O.state out.new) }
+    ensures stays { lister.new ≡ record lister.old { source = lister.new.source; counts = lister.new.counts } }
+    ensures leaves { Leaves true ⊥ lister.old.source (O.state out.old) result lister.new.source (O.state out.new) }
+{
+    let Some(location) = symbols else {
+        return Ok(());
+    };
+    match lister.codeview(location) {
+        Ok(bytes) => match put_pdb_line(&bytes.read(), out) {
+            Ok(()) => Ok(()),
+            Err(OutFailed) => Err(ToolFault::Out),
+        },
+        Err(fault) => Err(ToolFault::Source(fault)),
     }
 }

@@ -3,15 +3,19 @@ ghost use Rattle.std.specs.Prelude.{◌≡◌, Some};
 ghost use Rattle.std.specs.Fmt.{decimal};
 ghost use Rattle.mdmp_source.specs.Output.{Puts};
 ghost use Rattle.mdmp_wire.specs.Digits.{hex};
-ghost use Rattle.mdmp_tool.specs.Faults.{item_text, kind_words};
+ghost use Rattle.mdmp_wire.specs.Escape.{escaped_byte, escaped_bytes, is_plain};
+ghost use Rattle.mdmp_tool.specs.Faults.{item_text, kind_words, part_words};
 ghost use Rattle.mdmp_tool.specs.ItemLines.{extent_text, name_text, units_text, value_text, values_text, information_text, place_text, size_text, offset_text};
+ghost use Rattle.mdmp_tool.specs.PdbLines.{digits_text, guid_text};
 ghost use Rattle.mdmp_tool.specs.Pieces.{piece_text, text_of};
 ghost use Rattle.mdmp_tool.specs.Lines.{error_line};
 
 use itoa::Buffer;
+use mdmp_dump::PartName;
 use mdmp_lister::{FaultKind, Name};
 use mdmp_source::{Extent, Out, OutFailed, write_all};
 use mdmp_wire::{UnitsRef, hex_digits};
+use uuid::Uuid;
 
 /// A piece of a line. A number with digits in its name is printed by that many hexadecimal ones, in
 /// lower case.
@@ -39,6 +43,17 @@ pub(crate) enum Piece<'a> {
     /// The number of a record in its stream, where the fault is a record's.
     Item(Option<u64>),
     Kind(FaultKind),
+    Part(PartName),
+    /// The identity of a symbol file, by its bytes.
+    Guid(&'a [u8; 16]),
+    /// Bytes of a file name, those that are no plain characters as `\x` and two digits.
+    Escaped(&'a [u8]),
+    /// Two digits for each byte.
+    Digits(&'a [u8]),
+    /// That a name was cut, where no zero byte ended it.
+    Cut {
+        ended: bool,
+    },
 }
 
 /// Writes a text.
@@ -62,6 +77,15 @@ fn put_wide_decimal<O: Out>(out: &mut O, number: u128) -> Result<(), OutFailed>
 {
     let mut buffer = Buffer::new();
     write_all(out, buffer.format(number).as_bytes())
+}
+
+/// Writes a byte in two hexadecimal digits.
+fn put_hex2<O: Out>(out: &mut O, byte: u8) -> Result<(), OutFailed>
+    ensures { Puts result (O.state out.old) (hex 2 byte) (O.state out.new) }
+{
+    let mut digits = [0; 2];
+    hex_digits(u64::from(byte), &mut digits);
+    write_all(out, &digits)
 }
 
 /// Writes a number in sixteen hexadecimal digits.
@@ -95,6 +119,19 @@ fn words_of(kind: FaultKind) -> &'static str
         FaultKind::NameOdd => "odd name length",
         FaultKind::NameUnitsOutside => "name outside the file",
         FaultKind::Source(_) => "",
+    }
+}
+
+/// What a part is called.
+fn part_words(part: PartName) -> &'static str
+    ensures { result.now ≡ part_words part }
+{
+    match part {
+        PartName::Stack => "stack",
+        PartName::Context => "context",
+        PartName::CodeView => "codeview",
+        PartName::Misc => "misc",
+        PartName::Memory => "memory",
     }
 }
 
@@ -180,6 +217,54 @@ fn put_information<O: Out>(out: &mut O, count: u32, values: &[u64; 15]) -> Resul
     put_values(out, &values[..count])
 }
 
+/// Writes the identity of a symbol file.
+fn put_guid<O: Out>(out: &mut O, guid: &[u8; 16]) -> Result<(), OutFailed>
+    ensures { Puts result (O.state out.old) (guid_text guid.now) (O.state out.new) }
+{
+    let mut buffer = Uuid::encode_buffer();
+    let guid = Uuid::from_bytes(*guid).hyphenated();
+    put_text(out, guid.encode_lower(&mut buffer))
+}
+
+/// Writes bytes one behind the other, each as two hexadecimal digits.
+fn put_digits<O: Out>(out: &mut O, bytes: &[u8]) -> Result<(), OutFailed>
+    ensures { Puts result (O.state out.old) (digits_text bytes.now) (O.state out.new) }
+{
+    for byte in bytes {
+        put_hex2(out, *byte)?;
+    }
+    Ok(())
+}
+
+/// Whether a byte of a file name is printed as it is.
+fn is_plain(byte: u8) -> bool
+    ensures { result ≡ is_plain byte }
+{
+    0x20 <= byte && byte <= 0x7e && byte != 0x5c
+}
+
+/// Writes a byte of a file name as it is printed.
+fn put_escaped_byte<O: Out>(out: &mut O, byte: u8) -> Result<(), OutFailed>
+    ensures { Puts result (O.state out.old) (escaped_byte byte) (O.state out.new) }
+{
+    if is_plain(byte) {
+        return write_all(out, &[byte]);
+    }
+    let mut escape = *b"\\x00";
+    hex_digits(u64::from(byte), &mut escape[2..]);
+    write_all(out, &escape)
+}
+
+/// Writes bytes of a file name one behind the other, as they are printed.
+fn put_escaped<O: Out>(out: &mut O, bytes: &[u8]) -> Result<(), OutFailed>
+    ensures { Puts result (O.state out.old) (escaped_bytes bytes.now) (O.state out.new) }
+{
+    for byte in bytes {
+        put_escaped_byte(out, *byte)?;
+    }
+    Ok(())
+}
+
 /// Writes a piece.
 pub(crate) fn put_piece<O: Out>(out: &mut O, piece: Piece<'_>) -> Result<(), OutFailed>
     ensures { Puts result (O.state out.old) (piece_text piece.entry) (O.state out.new) }
@@ -188,11 +273,7 @@ pub(crate) fn put_piece<O: Out>(out: &mut O, piece: Piece<'_>) -> Result<(), Out
         Piece::Text(text) => put_text(out, text),
         Piece::Decimal(number) => put_decimal(out, number),
         Piece::WideDecimal(number) => put_wide_decimal(out, number),
-        Piece::Hex2(number) => {
-            let mut digits = [0; 2];
-            hex_digits(u64::from(number), &mut digits);
-            write_all(out, &digits)
-        }
+        Piece::Hex2(number) => put_hex2(out, number),
         Piece::Hex4(number) => {
             let mut digits = [0; 4];
             hex_digits(u64::from(number), &mut digits);
@@ -214,6 +295,12 @@ pub(crate) fn put_piece<O: Out>(out: &mut O, piece: Piece<'_>) -> Result<(), Out
         Piece::Item(None) => Ok(()),
         Piece::Item(Some(index)) => put_item(out, index),
         Piece::Kind(kind) => write_all(out, words_of(kind).as_bytes()),
+        Piece::Part(part) => write_all(out, part_words(part).as_bytes()),
+        Piece::Guid(guid) => put_guid(out, guid),
+        Piece::Escaped(bytes) => put_escaped(out, bytes),
+        Piece::Digits(bytes) => put_digits(out, bytes),
+        Piece::Cut { ended: true } => Ok(()),
+        Piece::Cut { ended: false } => write_all(out, b" cut"),
     }
 }
 

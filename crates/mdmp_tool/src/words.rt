@@ -1,108 +1,162 @@
-//! The words of the command line.
-ghost use Rattle.std.specs.Prelude.{◌≡◌, codes};
-ghost use Rattle.mdmp_tool.specs.Faults.{status_of, fault_text};
-ghost use Rattle.mdmp_tool.specs.Words.{IsHex, IsList, IsWithin, name_of, IsTold, IsBadLine, EndsRun};
+//! The words of the command line, run.
+ghost use Rattle.std.specs.Prelude.{◌≡◌, ◌⊎◌, ◌∷◌, []};
+ghost use Rattle.std.specs.List.{concat};
+ghost use Rattle.mdmp_source.specs.Output.{OutState};
+ghost use Rattle.mdmp_tool.specs.Commands.{IsTold};
+ghost use Rattle.mdmp_tool.specs.Requests.{IsPrintable, IsValid, IsWithin};
+ghost use Rattle.mdmp_tool.specs.Words.{EndsAsked, EndsCommand, EndsCopy, EndsPrint, EndsWords, Helps, HelpsInPart};
 
-use crate::blocks::{hex_in_blocks, list_in_blocks};
-use crate::fault::{ToolFault, status};
-use crate::fault_lines::fault_line;
-use crate::hex_words::{Span, span_of};
+use crate::asking::request_of;
+use crate::copy::first_not_copied;
+use crate::fault::ToolFault;
 use crate::pieces::{Piece, put_error_line};
-use mdmp_lister::Limits;
-use mdmp_source::{BlockOut, FileStore, Out, Source};
-use std::alloc::Allocator;
+use crate::request::{Asked, Command, Print, Request};
+use crate::running::{copy_told, print_told, tell};
+use mdmp_lister::{Limits, TypeSet};
+use mdmp_source::{BlockOut, FileStore, Out, OutFailed, Source, WriteOut, write_all};
+use std::alloc::{AllocGlobal, Allocator};
+use std::fs::OpenOptions;
 use std::rt::Files;
 
 /// How many bytes of output are gathered before they are written.
 const BLOCK: usize = 65536;
 
-/// What is done with a file.
-#[derive(Clone, Copy)]
-enum Command {
-    /// What it holds is listed.
-    List,
-    /// The bytes at these addresses are printed.
-    Hex(Span),
-}
-
-/// Runs the command that the words behind the program's name ask for: `list FILE`, or
-/// `hex FILE ADDRESS LENGTH`. An address is `0x` and one to sixteen hexadecimal digits, or a decimal
-/// number; a length is a decimal number up to 1048576, in bytes; and their sum is at most 2^64. All
-/// words are judged before the file is opened.
+/// Runs the command that the words behind the program's name ask for: `check FILE`,
+/// `list FILE [--pdb]`, `hex FILE ADDRESS LENGTH` or `copy IN OUT TYPE...`, each with `--window N` and
+/// `--name N`. All words are judged before a file is opened. `copy` makes OUT, which must not be there;
+/// after a fault OUT is left as far as it was written.
 ///
-/// It writes the lines to `out` and the line of a fault to `err`, and answers the exit status: 0
-/// where all went well, 1 where the file is at fault, 2 where the words are, 3 where the store, the
-/// output or memory is, or the file can't be opened. Where `err` refuses, the answer is the same.
-pub fn run_words<R: Files, A: Allocator + Copy, O: Out, E: Out>(
+/// It writes the lines, or the help that was asked for, to `out`, and the line of a fault to `err`, and
+/// answers the exit status: 0 where all went well; 1 where the file is at fault, for `check` where an
+/// entry is; 2 where the words are, or a type is not copied; 3 where the store, the output or memory
+/// is, or a file can't be opened or made. Where `err` refuses, the answer is the same.
+pub fn run_words<R: Files + AllocGlobal, A: Allocator + Copy, O: Out, E: Out>(
     rt: &R,
     alloc: A,
     words: &[&str],
     out: &mut O,
     err: &mut E,
 ) -> u8
-    ensures list { IsList words.now → EndsRun result (name_of words.now) (O.state out.old) (O.state out.new) (E.state err.old) (E.state err.new) }
-    ensures hex { (span : Span) → IsHex words.now span
-        → EndsRun result (name_of words.now) (O.state out.old) (O.state out.new) (E.state err.old) (E.state err.new) }
-    ensures bad { (IsList words.now → ⊥) → ((span : Span) → IsHex words.now span → ⊥)
-        → IsBadLine result (O.state out.old) (O.state out.new) (E.state err.old) (E.state err.new) }
+    ensures { EndsWords A words.now (record { out = O.state out.old; err = E.state err.old }) result (record { out = O.state out.new; err = E.state err.new }) }
 {
-    match words {
-        [command, file] if *command == "list" => run(rt, alloc, Command::List, file, out, err),
-        [command, file, address, length] if *command == "hex" => match span_of(address, length) {
-            Some(span) => run(rt, alloc, Command::Hex(span), file, out, err),
-            None => refuse_words(err),
-        },
-        _ => refuse_words(err),
+    run_asked(rt, alloc, request_of(rt.alloc(), words), out, err)
+}
+
+/// Does what some words ask for, and answers the exit status.
+fn run_asked<R: Files, A: Allocator + Copy, O: Out, E: Out>(
+    rt: &R,
+    alloc: A,
+    asked: Asked<'_>,
+    out: &mut O,
+    err: &mut E,
+) -> u8
+    requires { IsValid asked }
+    ensures { EndsAsked A asked.entry (record { out = O.state out.old; err = E.state err.old }) result (record { out = O.state out.new; err = E.state err.new }) }
+{
+    match asked {
+        Asked::Run(request) => run_request(rt, alloc, request, out, err),
+        Asked::Help(text) => put_help(&text, out, err),
+        Asked::Refused(text) => {
+            let _ = write_all(err, text.as_bytes());
+            2
+        }
+        Asked::Bad => {
+            let _ = put_error_line(err, &[Piece::Text("bad command line")]);
+            2
+        }
+        Asked::Memory => tell::<(), E>(Err(ToolFault::Memory), err),
     }
 }
 
-/// Tells that the words are no command, and answers the exit status.
-fn refuse_words<E: Out>(err: &mut E) -> u8
-    ensures status { result ≡ 2 }
-    ensures told { IsTold (E.state err.old) (codes "bad command line") (E.state err.new) }
+/// Writes a text that was asked for, and answers the exit status.
+fn put_help<O: Out, E: Out>(text: &str, out: &mut O, err: &mut E) -> u8
+    ensures { Helps text.now (record { out = O.state out.old; err = E.state err.old }) result (record { out = O.state out.new; err = E.state err.new })
+        ⊎ HelpsInPart text.now (record { out = O.state out.old; err = E.state err.old }) result (record { out = O.state out.new; err = E.state err.new }) }
 {
-    let _ = put_error_line(err, &[Piece::Text("bad command line")]);
-    2
+    match write_all(out, text.as_bytes()) {
+        Ok(()) => 0,
+        Err(OutFailed) => tell::<(), E>(Err(ToolFault::Out), err),
+    }
 }
 
-/// Runs a command over the file of this name.
-fn run<R: Files, A: Allocator + Copy, O: Out, E: Out>(
+/// Runs a command.
+fn run_request<R: Files, A: Allocator + Copy, O: Out, E: Out>(
     rt: &R,
     alloc: A,
-    command: Command,
+    request: Request<'_>,
+    out: &mut O,
+    err: &mut E,
+) -> u8
+    requires { IsWithin request.command }
+    ensures { EndsCommand A request.entry.command request.entry.limits.name request.entry.file.now (record { out = O.state out.old; err = E.state err.old }) result (record { out = O.state out.new; err = E.state err.new }) }
+{
+    let Request {
+        file,
+        limits,
+        command,
+    } = request;
+    match command {
+        Command::Print(print) => print_file(rt, alloc, print, limits, file, out, err),
+        Command::Copy { target, types } => copy_file(rt, alloc, types, limits, file, target, err),
+    }
+}
+
+/// Prints what is asked for of the file of this name.
+fn print_file<R: Files, A: Allocator + Copy, O: Out, E: Out>(
+    rt: &R,
+    alloc: A,
+    print: Print,
+    limits: Limits,
     file: &str,
     out: &mut O,
     err: &mut E,
 ) -> u8
-    requires { IsWithin command }
-    ensures { EndsRun result file.now (O.state out.old) (O.state out.new) (E.state err.old) (E.state err.new) }
+    requires { IsPrintable print }
+    ensures { EndsPrint print limits.name file.now (record { out = O.state out.old; err = E.state err.old }) result (record { out = O.state out.new; err = E.state err.new }) }
 {
     let Ok(store) = FileStore::open(rt, file) else {
-        let _ = put_error_line(err, &[Piece::Text("cannot open "), Piece::Text(file)]);
-        return 3;
+        return refuse_name("cannot open ", file, err);
     };
     let Ok(mut blocks) = BlockOut::with_room(alloc, BLOCK, out) else {
-        return ended(&ToolFault::Memory, err);
+        return tell::<(), E>(Err(ToolFault::Memory), err);
     };
-    let source = Source::new(store);
-    let limits = Limits::default();
-    let listed = match command {
-        Command::List => list_in_blocks(alloc, source, limits, &mut blocks),
-        Command::Hex(Span { address, length }) => {
-            hex_in_blocks(alloc, source, limits, address, length, &mut blocks)
-        }
-    };
-    match listed.answer {
-        Ok(()) => 0,
-        Err(fault) => ended(&fault, err),
-    }
+    print_told(alloc, print, Source::new(store), limits, &mut blocks, err).status
 }
 
-/// Tells a fault, and answers its exit status.
-fn ended<E: Out>(fault: &ToolFault, err: &mut E) -> u8
-    ensures own { result ≡ status_of fault.now }
-    ensures told { IsTold (E.state err.old) (fault_text fault.now) (E.state err.new) }
+/// Copies the streams of these types out of one file into another, which is made.
+fn copy_file<R: Files, A: Allocator + Copy, E: Out>(
+    rt: &R,
+    alloc: A,
+    types: TypeSet,
+    limits: Limits,
+    file: &str,
+    target: &str,
+    err: &mut E,
+) -> u8
+    ensures { (out : OutState) → EndsCopy A types limits.name file.now target.now (record { out = out; err = E.state err.old }) result (record { out = out; err = E.state err.new }) }
 {
-    let _ = fault_line(fault, err);
-    status(fault)
+    if let Some(stream_type) = first_not_copied(types.types()) {
+        return tell::<(), E>(Err(ToolFault::NotCopied(stream_type)), err);
+    }
+    let Ok(store) = FileStore::open(rt, file) else {
+        return refuse_name("cannot open ", file, err);
+    };
+    let made = OpenOptions::new()
+        .write(true)
+        .create_new(true)
+        .open(rt, target);
+    let Ok(copy) = made else {
+        return refuse_name("cannot create ", target, err);
+    };
+    let mut copy = WriteOut::new(copy);
+    copy_told(alloc, types, Source::new(store), limits, &mut copy, err).status
+}
+
+/// Tells that a file could not be opened or made, and answers the exit status.
+fn refuse_name<E: Out>(why: &str, name: &str, err: &mut E) -> u8
+    ensures status { result ≡ 3 }
+    ensures told { IsTold (E.state err.old) (concat (why.now ∷ name.now ∷ [])) (E.state err.new) }
+{
+    let _ = put_error_line(err, &[Piece::Text(why), Piece::Text(name)]);
+    3
 }

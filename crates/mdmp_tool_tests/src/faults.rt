@@ -2,7 +2,9 @@
 use crate::files::bad_name;
 use crate::runs::{BY_WHOLE, Room, told};
 use mdmp_source::SourceFault;
-use mdmp_tool::{FaultKind, ListFault, OpenFault, ToolFault, status};
+use mdmp_tool::{
+    FaultKind, LayoutFault, ListFault, OpenFault, PartName, ReadFault, ToolFault, status,
+};
 use std::alloc::Global;
 use std::process::Abort;
 use std::test::Fail;
@@ -139,12 +141,125 @@ fn each_kind_of_fault_has_its_words(rt: HostRuntime) -> Result<(), Fail> {
             offset: 52,
             size: 18446744073709551615,
         };
+        assert_eq!(rt; status(&ToolFault::List(fault)), 1);
         let (told_line, is_told) = told(rt.alloc(), &ToolFault::List(fault), BY_WHOLE)?;
         assert!(rt; is_told);
         let line = format!(in rt.alloc();
             "mdmp: entry 3: {words}: offset 52 size 18446744073709551615\n"
         )?;
         assert_eq!(rt; told_line.as_str(), line.as_str());
+    }
+    Ok(())
+}
+
+#[test]
+fn faults_of_a_copy_have_a_status_and_a_line(rt: HostRuntime) -> Result<(), Fail> {
+    let outside = |part| ReadFault::PartOutside {
+        entry: 0,
+        index: 0,
+        part,
+        offset: 96,
+        size: 1,
+    };
+    let long = ReadFault::NameTooLong {
+        entry: 0,
+        index: 0,
+        length: 10,
+    };
+    let misnamed = LayoutFault::RawKnownType { stream: 0 };
+    let rows = [
+        (
+            ToolFault::Reading(outside(PartName::Context)),
+            1,
+            "entry 0 item 0: context outside the file: offset 96 size 1",
+        ),
+        (
+            ToolFault::Reading(outside(PartName::CodeView)),
+            1,
+            "entry 0 item 0: codeview outside the file: offset 96 size 1",
+        ),
+        (
+            ToolFault::Reading(long),
+            1,
+            "entry 0 item 0: name too long: 10",
+        ),
+        (
+            ToolFault::Layout(misnamed),
+            1,
+            "stream 0 holds raw bytes of a known type",
+        ),
+        (
+            ToolFault::Layout(LayoutFault::TooLarge),
+            1,
+            "the copy is too large",
+        ),
+        (ToolFault::NotCopied(12), 2, "type 12 is not copied"),
+    ];
+    for (fault, code, text) in rows {
+        assert_eq!(rt; status(&fault), code);
+        assert_told(&rt, rt.alloc(), &fault, text)?;
+    }
+    Ok(())
+}
+
+#[test]
+fn each_part_has_its_word(rt: HostRuntime) -> Result<(), Fail> {
+    let rows = [
+        (PartName::Stack, "stack"),
+        (PartName::Context, "context"),
+        (PartName::CodeView, "codeview"),
+        (PartName::Misc, "misc"),
+        (PartName::Memory, "memory"),
+    ];
+    for (part, word) in rows {
+        let fault = ToolFault::Reading(ReadFault::PartOutside {
+            entry: 4294967295,
+            index: 18446744073709551615,
+            part,
+            offset: 1 << 92,
+            size: 18446744073709551615,
+        });
+        assert_eq!(rt; status(&fault), 1);
+        let text = format!(in rt.alloc();
+            "entry 4294967295 item 18446744073709551615: {word} outside the file: offset 4951760157141521099596496896 size 18446744073709551615"
+        )?;
+        assert_told(&rt, rt.alloc(), &fault, text.as_str())?;
+    }
+    Ok(())
+}
+
+#[test]
+fn fault_inside_a_reading_is_told_as_what_it_is(rt: HostRuntime) -> Result<(), Fail> {
+    let source = SourceFault::ShortRead { at: 7 };
+    let ended = "store ended at 7";
+    let mut unread = bad_name();
+    unread.kind = FaultKind::Source(source);
+    let rows = [
+        (
+            ReadFault::PartsTooLarge { entry: 0, index: 0 },
+            1,
+            "the copy is too large",
+        ),
+        (
+            ReadFault::Opening(OpenFault::BadSignature),
+            1,
+            "bad signature",
+        ),
+        (ReadFault::Opening(OpenFault::Source(source)), 3, ended),
+        (ReadFault::Opening(OpenFault::Memory), 3, "out of memory"),
+        (
+            ReadFault::List(bad_name()),
+            1,
+            "entry 1 item 0: name length outside the file: offset 4294967295 size 4",
+        ),
+        (ReadFault::List(unread), 3, ended),
+        (ReadFault::Source(source), 3, ended),
+        (ReadFault::Memory, 3, "out of memory"),
+    ];
+    for (fault, code, text) in rows {
+        let fault = ToolFault::Reading(fault);
+        assert_eq!(rt; status(&fault), code);
+        assert_told(&rt, rt.alloc(), &fault, text)?;
     }
     Ok(())
 }

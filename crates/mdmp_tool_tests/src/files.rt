@@ -84,6 +84,15 @@ stream 0 type 7 size 56 rva 68
 system architecture 0 level 0 revision 0 processors 0 product 0 version 0.0.0 platform 0 suite 0 csd none
 stream 1 type 4 size 112 rva 124\n";
 
+/// The line of its fault.
+pub const FAULTY_TOLD: &str =
+    "mdmp: entry 1 item 0: name length outside the file: offset 4294967295 size 4\n";
+
+/// What `check` prints of it.
+pub const FAULTY_VERDICTS: &str = "entry 0: ok
+entry 1 item 0: name length outside the file: offset 4294967295 size 4
+entry 2: stream outside the file: offset 236 size 5\n";
+
 /// Its fault.
 pub fn bad_name() -> ListFault {
     ListFault {

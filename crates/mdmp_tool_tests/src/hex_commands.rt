@@ -57,19 +57,13 @@ fn hex_prints_or_tells_the_fault(rt: HostRuntime) -> Result<(), Fail> {
 
 #[test]
 fn words_are_judged_before_the_file_is_opened(rt: HostRuntime) -> Result<(), Fail> {
-    let rows: [&[&str]; 12] = [
+    let rows: [&[&str]; 6] = [
         &["hex", "none.dmp", "0xFFFFFFFFFFFFFFF8", "9"],
         &["hex", "none.dmp", "0x1000", "1048577"],
         &["hex", "none.dmp", "0x1000", "0x10"],
         &["hex", "none.dmp", "0x", "4"],
         &["hex", "none.dmp", "0x00000000000001000", "4"],
         &["hex", "none.dmp", "+5", "4"],
-        &["hex"],
-        &["hex", "none.dmp"],
-        &["hex", "none.dmp", "0x1000"],
-        &["hex", "none.dmp", "0x1000", "4", "more"],
-        &["list", "none.dmp", "0x1000", "4"],
-        &["HEX", "none.dmp", "0x1000", "4"],
     ];
     for words in rows {
         let ended = run(&rt, rt.alloc(), words)?;

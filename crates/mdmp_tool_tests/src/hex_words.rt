@@ -1,7 +1,7 @@
 //! The words of `hex` that say which bytes it prints, by what it prints of a file without memory.
 use crate::files::head;
 use crate::runs::{BY_WHOLE, Room, run_with, write_file};
-use std::alloc::Global;
+use std::alloc::{AllocGlobal, Global};
 use std::rt::Files;
 use std::test::Fail;
 
@@ -37,7 +37,7 @@ fn unknown_bytes(text: &str) -> u64 {
 
 /// What two words ask for, or none where they are a bad command line.
 fn asked_by(
-    rt: &impl Files,
+    rt: &(impl Files + AllocGlobal),
     alloc: Global,
     address: &str,
     length: &str,
@@ -50,12 +50,18 @@ fn asked_by(
             length: unknown_bytes(text),
         })),
         (2, "", "mdmp: bad command line\n") => Ok(None),
+        // What looks like an option is refused by `clap`.
+        (2, "", told) if told.starts_with("error: ") => Ok(None),
         _ => Err(Fail::new("neither printed nor refused")),
     }
 }
 
 /// The address that a word names.
-fn address_of(rt: &impl Files, alloc: Global, word: &str) -> Result<Option<u64>, Fail> {
+fn address_of(
+    rt: &(impl Files + AllocGlobal),
+    alloc: Global,
+    word: &str,
+) -> Result<Option<u64>, Fail> {
     match asked_by(rt, alloc, word, "1")? {
         Some(
             Asked {
@@ -69,7 +75,11 @@ fn address_of(rt: &impl Files, alloc: Global, word: &str) -> Result<Option<u64>,
 }
 
 /// The length that a word names.
-fn length_of(rt: &impl Files, alloc: Global, word: &str) -> Result<Option<u64>, Fail> {
+fn length_of(
+    rt: &(impl Files + AllocGlobal),
+    alloc: Global,
+    word: &str,
+) -> Result<Option<u64>, Fail> {
     Ok(asked_by(rt, alloc, "0", word)?.map(|asked| asked.length))
 }
 

@@ -9,7 +9,7 @@ use mdmp_tool::{
     Answered, Limits, ToolFault, fault_line, hex_in_blocks, list_in_blocks, list_source, run_hex,
     run_list, run_words,
 };
-use std::alloc::{Allocator, Global};
+use std::alloc::{AllocGlobal, Allocator, Global};
 use std::fs;
 use std::process::Abort;
 use std::rt::Files;
@@ -29,6 +29,12 @@ pub const BY_SEVEN: Room = Room { all: 2000, call: 7 };
 pub const BY_WHOLE: Room = Room {
     all: 2000,
     call: 2000,
+};
+
+/// An output that takes the longest text of these tests but those of memory.
+pub const LONG: Room = Room {
+    all: 10_000,
+    call: 10_000,
 };
 
 /// What a run printed, and the fault that ended it.
@@ -109,6 +115,27 @@ pub fn assert_ended(
     assert_eq!(rt; ended.told.as_str(), told, "at {words:?}");
 }
 
+/// Asserts the exit status of this row, what it printed, and what it told.
+pub fn assert_row_ended(
+    rt: &impl Abort,
+    row: u64,
+    ended: &Ended,
+    status: u8,
+    text: &str,
+    told: &str,
+) {
+    assert_eq!(rt; ended.status, status, "at {row}");
+    assert_eq!(rt; ended.text.as_str(), text, "at {row}");
+    assert_eq!(rt; ended.told.as_str(), told, "at {row}");
+}
+
+/// Asserts that the words of a command line were refused, whoever judged them.
+pub fn assert_refused(rt: &impl Abort, words: &[&str], ended: &Ended) {
+    assert_eq!(rt; ended.status, 2, "at {words:?}");
+    assert_eq!(rt; ended.text.as_str(), "", "at {words:?}");
+    assert!(rt; !ended.told.is_empty(), "at {words:?}");
+}
+
 /// The first part of a text, of this size.
 pub fn start_of(text: &str, size: usize) -> Result<&str, Fail> {
     Ok(text.get(..size).ok_or("a shorter text")?)
@@ -143,7 +170,7 @@ fn printed_in(
 
 fn counted_in<S: Store + Drop>(
     alloc: Global,
-    answered: Answered<S>,
+    answered: Answered<(), S>,
     out: &PatchyOut<Global>,
 ) -> Result<Counted, Fail> {
     let Answered { answer, source } = answered;
@@ -178,11 +205,23 @@ pub fn list(alloc: Global, bytes: &[u8], name: u32) -> Result<Printed, Fail> {
     )
 }
 
+/// Lists a store with a line for each CodeView record of a module.
+pub fn list_pdb<S: Store + Drop>(
+    alloc: Global,
+    store: S,
+    limits: Limits,
+    room: Room,
+) -> Result<Printed, Fail> {
+    let mut out = empty_out(alloc, room)?;
+    let answer = run_list(alloc, store, limits, true, &mut out);
+    printed_in(alloc, answer, &out)
+}
+
 /// Lists a file with the least window and no name, and counts what was read.
 pub fn list_counted(alloc: Global, bytes: &[u8], room: Room) -> Result<Counted, Fail> {
     let mut out = empty_out(alloc, room)?;
     let source = Source::new(MemoryStore::new(bytes));
-    let answered = list_source(alloc, source, least(0)?, &mut out);
+    let answered = list_source(alloc, source, least(0)?, false, &mut out);
     counted_in(alloc, answered, &out)
 }
 
@@ -234,7 +273,7 @@ pub fn list_blocks(alloc: Global, bytes: &[u8], block: usize, room: Room) -> Res
     let out = empty_out(alloc, room)?;
     let mut blocks = BlockOut::with_room(alloc, block, out).ok().ok_or("room")?;
     let source = Source::new(MemoryStore::new(bytes));
-    let answered = list_in_blocks(alloc, source, Limits::default(), &mut blocks);
+    let answered = list_in_blocks(alloc, source, Limits::default(), false, &mut blocks);
     counted_in(alloc, answered, blocks.inner())
 }
 
@@ -264,7 +303,7 @@ pub fn write_file(rt: &impl Files, name: &str, bytes: &[u8]) -> Result<(), Fail>
 }
 
 /// Runs a command line with memory of this heap, to two outputs.
-pub fn run_with<R: Files, A: Allocator + Copy>(
+pub fn run_with<R: Files + AllocGlobal, A: Allocator + Copy>(
     rt: &R,
     alloc: Global,
     heap: A,
@@ -282,7 +321,7 @@ pub fn run_with<R: Files, A: Allocator + Copy>(
     })
 }
 
-fn status_of<R: Files, A: Allocator + Copy>(
+fn status_of<R: Files + AllocGlobal, A: Allocator + Copy>(
     rt: &R,
     heap: A,
     words: &[&str],
@@ -293,7 +332,7 @@ fn status_of<R: Files, A: Allocator + Copy>(
 }
 
 /// Runs a command line, to outputs that take all.
-pub fn run(rt: &impl Files, alloc: Global, words: &[&str]) -> Result<Ended, Fail> {
+pub fn run(rt: &(impl Files + AllocGlobal), alloc: Global, words: &[&str]) -> Result<Ended, Fail> {
     run_with(rt, alloc, alloc, words, BY_SEVEN, BY_SEVEN)
 }
 

@@ -8,18 +8,20 @@ use Rattle.mdmp_tool.proofs.Listings.{Leaves-behind, ListsFile-behind}
 use Rattle.mdmp_tool.proofs.list.put_listing.Goals as goal
 
 pub returns-in-Err-clause-lists : goal.returns-in-Err-clause-lists
-returns-in-Err-clause-lists g c = λ left known.
+returns-in-Err-clause-lists g c = λ file content left known.
     let before = g.O.Out.state c.args.out.now in
     let after = g.O.Out.state c.put_dump_line.new.out in
+    let lines = run_text c.args.pdb file c.args.lister.now.limit left in
     let cut : PutsPrefix before (dump_line c.args.lister.now.header) after = subst (λ (h : Header). PutsPrefix before (dump_line h) after) c.header.ensures c.in-Err.ensures in
-    record { ends = tt; writes = PutsPrefix-front before after (dump_line c.args.lister.now.header) (run_text left) cut }
+    record { ends = tt; writes = PutsPrefix-front before after (dump_line c.args.lister.now.header) lines cut }
 
 pub returns-clause-lists : goal.returns-clause-lists
-returns-clause-lists g c = λ left known.
+returns-clause-lists g c = λ file content left known.
     let before = g.O.Out.state c.args.out.now in
     let now = g.O.Out.state c.put_dump_line.new.out in
     let head : PutsAll before (dump_line c.args.lister.now.header) now = subst (λ (h : Header). PutsAll before (dump_line h) now) c.header.ensures c.in_default.ensures in
-    ListsFile-behind c.args.lister.now.header left before now (g.O.Out.state c.list_items.new.out) c.list_items.result head (c.list_items.ensures.lists left known)
+    ListsFile-behind c.args.pdb file c.args.lister.now.limit c.args.lister.now.header left before now (g.O.Out.state c.list_items.new.out) c.list_items.result head
+    (c.list_items.ensures.lists file content left known)
 
 pub returns-clause-leaves : goal.returns-clause-leaves
 returns-clause-leaves g c =

@@ -1,0 +1,17 @@
+use Rattle.std.proofs.Common.{subst}
+use Rattle.mdmp_wire.specs.declared.header.Header.{Header}
+use Rattle.mdmp_lister.specs.declared.choice.Choice.TheVariants.{All}
+use Rattle.mdmp_lister.specs.Format.Listing.{listing}
+use Rattle.mdmp_tool.specs.Runs.{ListsFile}
+use Rattle.mdmp_tool.proofs.list.ListEngineEngine.put.Goals as goal
+
+pub returns-clause-writes : goal.returns-clause-writes
+returns-clause-writes g c = λ file known.
+    let opened = c.requires.opened in
+    let pdb = c.args.self.now.pdb in
+    let limit = c.args.lister.now.limit in
+    let run = listing file All limit in
+    let before = g.O.Out.state c.args.out.now in
+    let after = g.O.Out.state c.put_listing.new.out in
+    let lists = c.put_listing.ensures.lists file known run (opened.left file known) in
+    (subst (λ (h : Header). ListsFile pdb file limit h run before c.put_listing.result after) (opened.header_is file known) lists).writes

@@ -1,0 +1,35 @@
+-- What a run of `check` answers, and what it leaves written.
+use Rattle.std.specs.Prelude.{◌≡◌, ◌+◌, ◌<◌, ◌^◌, ℕ, true, List, Result, Ok, Err}
+use Rattle.mdmp_source.specs.Output.{OutState, PutsAll, PutsPrefix}
+use Rattle.mdmp_lister.specs.declared.choice.Choice.TheVariants.{All}
+use Rattle.mdmp_lister.specs.declared.sink.Stopped.{Stopped}
+use Rattle.mdmp_lister.specs.declared.verdict.Verdict.{Verdict}
+use Rattle.mdmp_lister.specs.Format.Listing.{verdicts}
+use Rattle.mdmp_tool.specs.declared.fault.ToolFault.{ToolFault}
+use Rattle.mdmp_tool.specs.declared.fault.ToolFault.TheVariants.{Source, Out}
+use Rattle.mdmp_tool.specs.CheckText.{bad_count, check_text, fault_count, verdict_line}
+use Rattle.mdmp_tool.specs.Engines.{Runs, RunsThrough}
+
+-- the line of a verdict was put, and a bad entry counted; or the output refused
+pub record PutsVerdict (before : OutState) (bad_before : ℕ) (v : Verdict) (after : OutState) (bad_after : ℕ) : Type 0 where
+  pub line : PutsAll before (verdict_line v) after
+  pub counts : bad_before + fault_count v.fault < 2 ^ 64 → bad_after ≡ bad_before + fault_count v.fault
+
+abbrev pub TakesVerdict : OutState → ℕ → Verdict → Result (Unit {0}) Stopped → OutState → ℕ → Type 0
+TakesVerdict before bad_before v (Ok x) after bad_after = PutsVerdict before bad_before v after bad_after
+TakesVerdict before bad_before v (Err x) after bad_after = PutsPrefix before (verdict_line v) after
+
+-- what may end the check of F, with names up to a limit: it answers how many entries are bad, or the store or the output failed
+abbrev pub CheckEnds : List ℕ → ℕ → Result ℕ ToolFault → Type 0
+CheckEnds F limit (Ok bad) = bad ≡ bad_count (verdicts F All limit)
+CheckEnds F limit (Err (Source fault)) = Unit {0}
+CheckEnds F limit (Err Out) = Unit {0}
+CheckEnds F limit (Err fault) = ⊥
+
+-- a run of `check` over F, of which the text is printed while it is read
+abbrev pub Checks : List ℕ → ℕ → OutState → Result ℕ ToolFault → OutState → Type 0
+Checks F limit = Runs F All (CheckEnds F limit) true (check_text F limit)
+
+-- the same through blocks
+abbrev pub ChecksThrough : List ℕ → ℕ → OutState → Result ℕ ToolFault → OutState → Type 0
+ChecksThrough F limit = RunsThrough F All (CheckEnds F limit) true (check_text F limit)

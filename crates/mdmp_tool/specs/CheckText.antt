@@ -1,0 +1,43 @@
+-- What `check` prints.
+use Rattle.std.specs.Prelude.{ℕ, ◌+◌, List, [], ◌∷◌, ◌++◌, Option, Some, None, codes}
+use Rattle.std.specs.List.{concat, flat_map}
+use Rattle.std.specs.Fmt.{decimal}
+use Rattle.mdmp_lister.specs.declared.choice.Choice.TheVariants.{All}
+use Rattle.mdmp_lister.specs.declared.fault.ListFault.{ListFault}
+use Rattle.mdmp_lister.specs.declared.verdict.Verdict.{Verdict}
+use Rattle.mdmp_lister.specs.Format.Listing.{verdicts}
+use Rattle.mdmp_lister.specs.Format.Refusal.{opening_fault}
+use Rattle.mdmp_tool.specs.Engines.{unless_refused}
+use Rattle.mdmp_tool.specs.Faults.{list_fault_text}
+
+-- of entry e: `entry <e>: ok`, or what is said of its fault
+abbrev pub judged_text : ℕ → Option ListFault → List ℕ
+judged_text e None = concat (codes "entry " ∷ decimal e ∷ codes ": ok" ∷ [])
+judged_text e (Some fault) = list_fault_text fault
+
+-- the line of a verdict
+abbrev pub verdict_line : Verdict → List ℕ
+verdict_line v = judged_text v.entry v.fault ++ codes "\n"
+
+abbrev pub verdict_lines : List Verdict → List ℕ
+verdict_lines vs = flat_map verdict_line vs
+
+-- a line for each entry
+abbrev pub check_text : List ℕ → ℕ → List ℕ
+check_text F limit = unless_refused (opening_fault F All) (verdict_lines (verdicts F All limit))
+
+-- ---- bad entries
+
+-- 1 for a fault
+abbrev pub fault_count : Option ListFault → ℕ
+fault_count None = 0
+fault_count (Some fault) = 1
+
+-- how many entries have a fault
+abbrev pub bad_count : List Verdict → ℕ
+bad_count [] = 0
+bad_count (v ∷ vs) = fault_count v.fault + bad_count vs
+
+-- `<n> bad entries`
+abbrev pub bad_text : ℕ → List ℕ
+bad_text n = concat (decimal n ∷ codes " bad entries" ∷ [])

@@ -1,0 +1,60 @@
+-- What a command over a source prints and tells, and its exit status.
+use Rattle.std.specs.Prelude.{◌≡◌, ◌⊎◌, ℕ, zero, suc, Bool, true, false, List, Some, Result, Ok, Err}
+use Rattle.mdmp_source.specs.Output.{OutState, PutsAll, PutsPrefix}
+use Rattle.mdmp_source.specs.Source.{SourceState}
+use Rattle.mdmp_source.specs.Store.{IsGood}
+use Rattle.mdmp_tool.specs.declared.fault.ToolFault.{ToolFault}
+use Rattle.mdmp_tool.specs.declared.request.Print.{Print}
+use Rattle.mdmp_tool.specs.declared.request.Print.TheVariants.{Check, List as Listing, Hex}
+use Rattle.mdmp_tool.specs.Causes.{IsNoSourceFault}
+use Rattle.mdmp_tool.specs.CheckRuns.{ChecksThrough}
+use Rattle.mdmp_tool.specs.CheckText.{bad_text}
+use Rattle.mdmp_tool.specs.Copying.{Copies, first_not_copied}
+use Rattle.mdmp_tool.specs.Engines.{Reads, Tells, in_blocks}
+use Rattle.mdmp_tool.specs.Faults.{fault_text, status_of}
+use Rattle.mdmp_tool.specs.HexRuns.{HexesThrough}
+use Rattle.mdmp_tool.specs.Lines.{error_line}
+use Rattle.mdmp_tool.specs.Runs.{ListsThrough}
+
+-- ---- what is told of an answer
+
+-- a line was told: all of it, or the first part where the output refused
+abbrev pub IsTold : OutState → List ℕ → OutState → Type 0
+IsTold before text after = PutsAll before (error_line text) after ⊎ PutsPrefix before (error_line text) after
+
+-- status 0 where all went well, and nothing is told; or the fault is told, and the status is its own
+abbrev pub IsEnd : {T : Type 0} → Result T ToolFault → ℕ → OutState → OutState → Type 0
+IsEnd (Ok x) status before after = (status ≡ 0) × (after ≡ before)
+IsEnd (Err fault) status before after = (status ≡ status_of fault) × IsTold before (fault_text fault) after
+
+-- of a check: where entries are bad the status is 1, and how many is told
+abbrev pub IsCheckEnd : Result ℕ ToolFault → ℕ → OutState → OutState → Type 0
+IsCheckEnd (Ok zero) status before after = (status ≡ 0) × (after ≡ before)
+IsCheckEnd (Ok (suc n)) status before after = (status ≡ 1) × IsTold before (bad_text (suc n)) after
+IsCheckEnd (Err fault) status before after = IsEnd {T = ℕ} (Err fault) status before after
+
+-- ---- commands
+
+-- a command has run, of which this is the engine and this is told of its answer
+pub record HasRun {T : Type 0} (End : Result T ToolFault → ℕ → OutState → OutState → Type 0) (Through : List ℕ → OutState → Result T ToolFault → OutState → Type 0)
+    (is_early : Bool) (old : SourceState) (before err_before : OutState) (status : ℕ) (new : SourceState) (after err_after : OutState) : Type 0 where
+  pub answer : Result T ToolFault
+  pub ends : End answer status err_before err_after
+  pub writes : (file : List ℕ) → old.store.content ≡ Some file → Through file before answer after
+  pub tells : Tells in_blocks is_early old.store old.size before answer after
+  pub reads : Reads old answer new
+
+-- a command that prints, over a source and through blocks, with names up to a limit
+abbrev pub HasPrinted : Print → ℕ → SourceState → OutState → OutState → ℕ → SourceState → OutState → OutState → Type 0
+HasPrinted Check limit = HasRun IsCheckEnd (λ file. ChecksThrough file limit) true
+HasPrinted (Listing pdb) limit = HasRun IsEnd (λ file. ListsThrough pdb file limit) true
+HasPrinted (Hex span) limit = HasRun IsEnd (λ file. HexesThrough file limit span.address span.length) false
+
+-- the streams of these types were copied
+pub record HasCopied (Z : Type 0) (types : List ℕ) (limit : ℕ) (old : SourceState) (before err_before : OutState) (status : ℕ) (new : SourceState) (after err_after : OutState) : Type 0 where
+  pub answer : Result ℕ ToolFault
+  pub ends : IsEnd answer status err_before err_after
+  pub copies : Copies Z old.store.content types limit before answer after
+  pub good : (file : List ℕ) → IsGood old.store file → IsNoSourceFault answer
+  pub reads : Reads old answer new
+  pub unread : (t : ℕ) → first_not_copied types ≡ Some t → new ≡ old

@@ -1,0 +1,53 @@
+-- What the words of `--window`, `--name` and TYPE name. A word is the list of its bytes.
+use Rattle.std.specs.Prelude.{ℕ, ◌^◌, if◌then◌else◌, ◌&&◌, nat_lt, nat_le, List, [], ◌∷◌, Option, Some, None, length, option_map}
+use Rattle.std.specs.Option.{option_and_then}
+use Rattle.mdmp_lister.specs.Format.Kind.{greatest_record}
+use Rattle.mdmp_lister.specs.Limits.{most_bytes}
+use Rattle.mdmp_lister.specs.declared.limits.Limits.{Limits}
+use Rattle.mdmp_tool.specs.HexWords.{decimal_number}
+
+-- ---- numbers
+
+-- the number below 2^32 that digits `0` to `9` write, however many they are
+abbrev pub decimal32_number : List ℕ → Option ℕ
+decimal32_number word =
+    option_and_then (λ number. if nat_lt number (2 ^ 32) then Some number else None) (decimal_number word)
+
+-- the number that a word names, or the usual one where there is no word
+abbrev pub number_or : ℕ → Option (List ℕ) → Option ℕ
+number_or usual None = Some usual
+number_or usual (Some word) = decimal32_number word
+
+-- ---- limits
+
+-- how many bytes a window and a name may have
+pub record Sizes : Type 0 where
+  pub window : ℕ
+  pub name : ℕ
+
+abbrev pub sizes_of : Limits → Sizes
+sizes_of limits = record { window = limits.window; name = limits.name }
+
+-- these sizes, where they are limits
+abbrev pub sizes_within : ℕ → ℕ → Option Sizes
+sizes_within window name =
+    if nat_le greatest_record window && nat_le window most_bytes && nat_le name most_bytes
+    then Some (record { window = window; name = name }) else None
+
+-- the sizes that the two words name, a window of 65536 bytes and a name of 4096 where there is no word
+abbrev pub limits_named : Option (List ℕ) → Option (List ℕ) → Option Sizes
+limits_named window name =
+    option_and_then (λ w. option_and_then (sizes_within w) (number_or 4096 name)) (number_or 65536 window)
+
+-- ---- stream types
+
+-- the types that words name, in their order
+abbrev pub types_from : List (List ℕ) → Option (List ℕ)
+types_from [] = Some []
+types_from (word ∷ words) =
+    option_and_then (λ first. option_map (λ types. first ∷ types) (types_from words)) (decimal32_number word)
+
+-- the types that one to sixteen words name
+abbrev pub types_named : List (List ℕ) → Option (List ℕ)
+types_named words =
+    if nat_le 1 (length words) && nat_le (length words) 16 then types_from words else None

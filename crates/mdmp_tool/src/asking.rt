@@ -1,0 +1,125 @@
+//! What the words of a command line ask for.
+ghost use Rattle.std.specs.Prelude.{◌≡◌, [], IfSome, option_map, codes};
+ghost use Rattle.clap.specs.Matches.{found_of, has_subcommand};
+ghost use Rattle.clap.specs.Values.{kind_of};
+ghost use Rattle.mdmp_tool.specs.Requests.{AsksNothing, IsTextOf, IsValid, IsWithin, NamesBy, check_named, copy_named, hex_named, list_named, named_over, plain, plain_command};
+
+use crate::command_line::command_line;
+use crate::hex_words::span_of;
+use crate::option_words::{limits_of, types_of};
+use crate::request::{Asked, Command, Print, Request};
+use clap::error::ErrorKind;
+use clap::{ArgMatches, Error};
+use std::alloc::Global;
+
+/// What the words behind the program's name ask for. `clap` parts them into the words of a command
+/// and its options; the numbers among them are judged by this crate. A name is lent as it was given.
+pub fn request_of<'a>(alloc: Global, words: &'a [&'a str]) -> Asked<'a>
+    ensures valid { IsValid result }
+    ensures empty { words.entry.now ≡ [] → AsksNothing result }
+{
+    let Ok(mut commands) = command_line(alloc) else {
+        return Asked::Memory;
+    };
+    if words.is_empty() {
+        return match commands.render_help() {
+            Ok(text) => Asked::Refused(text),
+            Err(_) => Asked::Memory,
+        };
+    }
+    match commands.try_get_matches_from(words) {
+        Ok(matches) => asked_by(&matches),
+        Err(error) => told_of(alloc, &error),
+    }
+}
+
+/// What is asked for where the words ask for help or the version, or are none that `clap` takes.
+fn told_of<'a>(alloc: Global, error: &Error) -> Asked<'a>
+    ensures { IsTextOf (kind_of error.now) result }
+{
+    let kind = error.kind();
+    if kind == ErrorKind::OutOfMemory {
+        return Asked::Memory;
+    }
+    let Ok(text) = error.to_string(alloc) else {
+        return Asked::Memory;
+    };
+    match kind {
+        ErrorKind::DisplayHelp | ErrorKind::DisplayVersion => Asked::Help(text),
+        _ => Asked::Refused(text),
+    }
+}
+
+/// What is asked for by the command that was used.
+fn asked_by<'a>(matches: &ArgMatches<'a>) -> Asked<'a>
+    ensures { IsValid result }
+{
+    let Some((name, own)) = matches.subcommand() else {
+        return Asked::Bad;
+    };
+    match named_request(name, own) {
+        Some(request) => Asked::Run(request),
+        None => Asked::Bad,
+    }
+}
+
+/// The request of the command of this name.
+fn named_request<'a>(name: &str, matches: &ArgMatches<'a>) -> Option<Request<'a>>
+    ensures named { NamesBy name.now (found_of matches.now) result }
+    ensures within { IfSome result (λ request. IsWithin request.command) }
+{
+    match name {
+        "check" => check_request(matches),
+        "list" => list_request(matches),
+        "hex" => hex_request(matches),
+        "copy" => copy_request(matches),
+        _ => None,
+    }
+}
+
+fn check_request<'a>(matches: &ArgMatches<'a>) -> Option<Request<'a>>
+    ensures named { option_map plain result ≡ check_named (found_of matches.now) }
+    ensures within { IfSome result (λ request. IsWithin request.command) }
+{
+    request_over(matches, "FILE", Command::Print(Print::Check))
+}
+
+fn list_request<'a>(matches: &ArgMatches<'a>) -> Option<Request<'a>>
+    ensures named { option_map plain result ≡ list_named (found_of matches.now) }
+    ensures within { IfSome result (λ request. IsWithin request.command) }
+{
+    let pdb = matches.get_str("pdb").is_some_and(|flag| flag == "true");
+    request_over(matches, "FILE", Command::Print(Print::List { pdb }))
+}
+
+fn hex_request<'a>(matches: &ArgMatches<'a>) -> Option<Request<'a>>
+    ensures named { option_map plain result ≡ hex_named (found_of matches.now) }
+    ensures within { IfSome result (λ request. IsWithin request.command) }
+{
+    let span = span_of(matches.get_str("ADDRESS")?, matches.get_str("LENGTH")?)?;
+    request_over(matches, "FILE", Command::Print(Print::Hex(span)))
+}
+
+fn copy_request<'a>(matches: &ArgMatches<'a>) -> Option<Request<'a>>
+    ensures named { option_map plain result ≡ copy_named (found_of matches.now) }
+    ensures within { IfSome result (λ request. IsWithin request.command) }
+{
+    let target = matches.get_str("OUT")?;
+    let types = types_of(matches.get_strs("TYPE")?)?;
+    request_over(matches, "IN", Command::Copy { target, types })
+}
+
+/// A command over the file whose name stands under this id, within the limits that were given.
+fn request_over<'a>(matches: &ArgMatches<'a>, id: &str, command: Command<'a>) -> Option<Request<'a>>
+    ensures named { option_map plain result
+        ≡ named_over (found_of matches.now) id.now (plain_command command.entry) }
+    ensures same { IfSome result (λ request. request.command ≡ command.entry) }
+{
+    let limits = limits_of(matches.get_str("window"), matches.get_str("name"))?;
+    let file = matches.get_str(id)?;
+    Some(Request {
+        file,
+        limits,
+        command,
+    })
+}

@@ -1,0 +1,132 @@
+//! The command `check`.
+ghost use Rattle.std.specs.Prelude.{◌≡◌, ℕ, List, Some, true};
+ghost use Rattle.mdmp_lister.specs.declared.choice.Choice.TheVariants.{All};
+ghost use Rattle.mdmp_lister.specs.Format.Listing.{verdicts};
+ghost use Rattle.mdmp_tool.specs.CheckRuns.{CheckEnds, Checks};
+ghost use Rattle.mdmp_tool.specs.CheckText.{verdict_lines};
+ghost use Rattle.mdmp_tool.specs.Engines.{IsOpened, Leaves, Reads, Tells, Writes, directly};
+
+use crate::engine::{Answered, Engine, run, run_source};
+use crate::fault::{ToolFault, told_list};
+use crate::verdict_lines::put_verdict_line;
+use mdmp_lister::{Choice, Limits, Lister, RunFault, Stopped, Verdict, VerdictSink};
+use mdmp_source::{Out, OutFailed, Source, Store};
+use std::alloc::Allocator;
+
+/// Reads all entries of a file, and prints a line for each: that it is good, or its first fault. The
+/// answer is how many have a fault.
+///
+/// Where the file is refused nothing is written. After a fault of the store or the output the first
+/// part of the text went out. Memory is taken before the first byte of output.
+pub fn run_check<S: Store + Drop, A: Allocator + Copy, O: Out>(
+    alloc: A,
+    store: S,
+    limits: Limits,
+    out: &mut O,
+) -> Result<u64, ToolFault>
+    ensures checks { (file : List ℕ) → (S.state store).content ≡ Some file → Checks file limits.name (O.state out.old) result (O.state out.new) }
+    ensures tells { Tells directly true (S.state store) (S.state store).size (O.state out.old) result (O.state out.new) }
+{
+    run(CheckEngine, alloc, store, limits, out)
+}
+
+/// Does what `run_check` does, and hands the source back, whose counts tell the cause of its faults.
+pub fn check_source<S: Store + Drop, A: Allocator + Copy, O: Out>(
+    alloc: A,
+    source: Source<S>,
+    limits: Limits,
+    out: &mut O,
+) -> Answered<u64, S>
+    ensures checks { (file : List ℕ) → source.store.content ≡ Some file → Checks file limits.name (O.state out.old) result.answer (O.state out.new) }
+    ensures tells { Tells directly true source.store source.size (O.state out.old) result.answer (O.state out.new) }
+    ensures reads { Reads source result.answer result.source }
+{
+    run_source(CheckEngine, alloc, source, limits, out)
+}
+
+/// The engine of `check`, which prints the line of an entry as it was read.
+#[derive(Clone, Copy)]
+pub(crate) struct CheckEngine;
+
+impl Engine for CheckEngine {
+    ghost use Rattle.std.specs.Prelude.{true};
+    ghost use Rattle.mdmp_lister.specs.declared.choice.Choice.TheVariants.{All};
+    ghost use Rattle.mdmp_lister.specs.Format.Listing.{verdicts};
+    ghost use Rattle.mdmp_tool.specs.CheckRuns.{CheckEnds};
+    ghost use Rattle.mdmp_tool.specs.CheckText.{verdict_lines};
+
+    type Answer = u64;
+
+    ghost choice = { All };
+
+    ghost is_early = { true };
+
+    ghost can_put = { λ _. Unit {0} };
+
+    ghost Ends = { λ _ file limit. CheckEnds file limit };
+
+    ghost text = { λ _ file limit. verdict_lines (verdicts file All limit) };
+
+    fn chosen(&self) -> Choice {
+        Choice::All
+    }
+
+    fn put<S: Store + Drop, A: Allocator + Copy, O: Out>(
+        &self,
+        alloc: A,
+        lister: &mut Lister<S, A>,
+        out: &mut O,
+    ) -> Result<u64, ToolFault> {
+        let _ = alloc;
+        let mut lines = VerdictLines { out, bad: 0 };
+        check_listed(lister, &mut lines)
+    }
+}
+
+/// Prints the lines of all entries, and answers how many are bad.
+fn check_listed<S: Store + Drop, A: Allocator + Copy, O: Out>(
+    lister: &mut Lister<S, A>,
+    lines: &mut VerdictLines<'_, O>,
+) -> Result<u64, ToolFault>
+    requires opened { IsOpened All lister.old }
+    requires none { lines.old.bad ≡ 0 }
+    ensures same_output { lines.new.out.ghost_name ≡ lines.old.out.ghost_name }
+    ensures ends { (file : List ℕ) → lister.old.source.store.content ≡ Some file → CheckEnds file lister.old.limit result }
+    ensures writes { (file : List ℕ) → lister.old.source.store.content ≡ Some file
+        → Writes true (verdict_lines (verdicts file All lister.old.limit)) (O.state lines.old.out.now) result (O.state lines.new.out.now) }
+    ensures leaves { Leaves true (O.state lines.new.out.now ≡ O.state lines.old.out.now) lister.old.source (O.state lines.old.out.now) result lister.new.source (O.state lines.new.out.now) }
+{
+    // The prover needs that a directory has fewer than 2^32 entries: so the count is never at its greatest.
+    let _entries = lister.header().number_of_streams;
+    match lister.check_into(lines) {
+        Ok(()) => Ok(lines.bad),
+        Err(RunFault::At(fault)) => Err(told_list(fault)),
+        Err(RunFault::Stopped) => Err(ToolFault::Out),
+    }
+}
+
+/// A sink that prints a line for each verdict, and counts the bad entries.
+#[derive(Drop)]
+struct VerdictLines<'a, O: Out> {
+    out: &'a mut O,
+    bad: u64,
+}
+
+impl<'a, O: Out> VerdictSink for VerdictLines<'a, O> {
+    ghost use Rattle.std.specs.Prelude.{◌≡◌};
+    ghost use Rattle.mdmp_tool.specs.CheckRuns.{TakesVerdict};
+
+    ghost step = { λ old verdict result new. (new.out.ghost_name ≡ old.out.ghost_name)
+        × TakesVerdict (O.state old.out.now) old.bad verdict result (O.state new.out.now) new.bad };
+
+    fn take(&mut self, verdict: &Verdict) -> Result<(), Stopped> {
+        match put_verdict_line(verdict, self.out) {
+            Ok(()) => {}
+            Err(OutFailed) => return Err(Stopped),
+        }
+        if verdict.fault.is_some() {
+            self.bad = self.bad.saturating_add(1);
+        }
+        Ok(())
+    }
+}

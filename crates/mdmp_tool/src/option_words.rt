@@ -1,0 +1,57 @@
+//! The words that say how a file is read, and which streams are copied.
+ghost use Rattle.std.specs.Prelude.{◌≡◌, option_map, map};
+ghost use Rattle.mdmp_tool.specs.OptionWords.{decimal32_number, limits_named, number_or, sizes_of, types_named};
+
+use crate::hex_words::decimal_of;
+use mdmp_lister::{Limits, TypeSet};
+
+/// The most types that can be named.
+const MOST_TYPES: usize = 16;
+
+/// The limits that the words of `--window` and `--name` name, in bytes. Where one of them is not
+/// given, its default stands.
+pub(crate) fn limits_of(window: Option<&str>, name: Option<&str>) -> Option<Limits>
+    ensures { option_map sizes_of result
+        ≡ limits_named (option_map (λ w. w.now) window.entry) (option_map (λ w. w.now) name.entry) }
+{
+    let usual = Limits::default();
+    let window = given_or(window, usual.window)?;
+    let name = given_or(name, usual.name)?;
+    Limits::new(window, name)
+}
+
+/// The number that a word names, or this one where none is given.
+fn given_or(word: Option<&str>, usual: u32) -> Option<u32>
+    ensures { result ≡ number_or usual (option_map (λ w. w.now) word.entry) }
+{
+    match word {
+        Some(word) => decimal32_of(word),
+        None => Some(usual),
+    }
+}
+
+/// The stream types that one to sixteen words name.
+pub(crate) fn types_of(words: &[&str]) -> Option<TypeSet>
+    ensures { result ≡ types_named (map (λ w. w.now) words.now) }
+{
+    if words.len() > MOST_TYPES {
+        return None;
+    }
+    let mut types = [0; MOST_TYPES];
+    for i in 0..words.len() {
+        types[i] = decimal32_of(words[i])?;
+    }
+    TypeSet::new(&types[..words.len()])
+}
+
+/// The number that decimal digits write, however many they are. It is none where the number is 2^32
+/// or more.
+pub(crate) fn decimal32_of(word: &str) -> Option<u32>
+    ensures { result ≡ decimal32_number word.now }
+{
+    let number = decimal_of(word)?;
+    if number > u64::from(u32::MAX) {
+        return None;
+    }
+    Some(number as u32)
+}

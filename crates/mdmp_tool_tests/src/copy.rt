@@ -1,0 +1,181 @@
+//! `copy` over files, stores and outputs, and with little memory.
+use crate::copies::{ABSENT_STACK, ALL, CRASH, SIX, assert_wrote, copy_calls, copy_store};
+use crate::files::{entry, file, head, numbers, system_file};
+use crate::runs::{Room, least};
+use linked_list_allocator::LocalHeap;
+use mdmp_source::{MemoryStore, PatchyStore, Source, SourceFault};
+use mdmp_tool::{Limits, PartName, ReadFault, ToolFault, copied};
+use std::test::Fail;
+
+#[test]
+fn types_are_copied_or_not(rt: HostRuntime) {
+    for stream_type in [0, 3, 4, 5, 6, 7, 9, 10, 11, 14, 15, 16, 65536, 0x43500001] {
+        assert!(rt; copied(stream_type), "of {stream_type}");
+    }
+    for stream_type in [1, 2, 8, 12, 13, 17, 24, 0x8000, 65535] {
+        assert!(rt; !copied(stream_type), "of {stream_type}");
+    }
+}
+
+#[test]
+fn run_copy_succeeds(rt: HostRuntime) -> Result<(), Fail> {
+    let six = numbers(rt.alloc(), 6, &SIX)?;
+    let crash = numbers(rt.alloc(), 2, &CRASH)?;
+    for types in [&[3u32, 6] as &[u32], &[6, 200000, 3, 3]] {
+        let store = MemoryStore::new(&six);
+        let wrote = copy_store(rt.alloc(), rt.alloc(), store, least(0)?, types, ALL)?;
+        assert_wrote(&rt, 0, &wrote, Ok(292), &crash);
+    }
+    Ok(())
+}
+
+#[test]
+fn copy_of_no_stream_is_an_empty_dump(rt: HostRuntime) -> Result<(), Fail> {
+    let six = numbers(rt.alloc(), 6, &SIX)?;
+    let store = MemoryStore::new(&six);
+    let wrote = copy_store(rt.alloc(), rt.alloc(), store, least(0)?, &[200000], ALL)?;
+    assert_wrote(&rt, 0, &wrote, Ok(32), &head(0, 32));
+    Ok(())
+}
+
+#[test]
+fn stream_of_a_user_is_copied_as_its_bytes(rt: HostRuntime) -> Result<(), Fail> {
+    // Behind an unused entry, whose location is not looked at.
+    let unused = entry(0, 7, 0xffff_ffff);
+    let bytes = file(
+        rt.alloc(),
+        &[&head(2, 32), &unused, &entry(65536, 3, 60), b"gap!abc"],
+        63,
+    )?;
+    let copy = file(
+        rt.alloc(),
+        &[&head(2, 32), &entry(0, 0, 0), &entry(65536, 3, 56), b"abc"],
+        60,
+    )?;
+    let store = MemoryStore::new(&bytes);
+    let wrote = copy_store(rt.alloc(), rt.alloc(), store, least(0)?, &[65536, 0], ALL)?;
+    assert_wrote(&rt, 0, &wrote, Ok(60), &copy);
+    Ok(())
+}
+
+#[test]
+fn output_that_is_full_has_the_first_bytes_of_the_copy(rt: HostRuntime) -> Result<(), Fail> {
+    let six = numbers(rt.alloc(), 6, &SIX)?;
+    let crash = numbers(rt.alloc(), 2, &CRASH)?;
+    for all in [0, 40, 291] {
+        let store = MemoryStore::new(&six);
+        let room = Room { all, call: 4096 };
+        let wrote = copy_store(rt.alloc(), rt.alloc(), store, least(0)?, &[3, 6], room)?;
+        let first = crash.get(..all).ok_or("a first part")?;
+        assert_wrote(&rt, all as u64, &wrote, Err(ToolFault::Out), first);
+    }
+    Ok(())
+}
+
+#[test]
+fn type_that_is_not_copied_is_refused_before_the_store_is_read(
+    rt: HostRuntime,
+) -> Result<(), Fail> {
+    for (types, first) in [(&[12u32] as &[u32], 12), (&[3, 13, 12], 13)] {
+        // Its first call fails.
+        let source = Source::new(PatchyStore::new(b"MDMP", &[1], Some(0)));
+        let (wrote, calls) = copy_calls(rt.alloc(), source, types)?;
+        assert_wrote(&rt, 0, &wrote, Err(ToolFault::NotCopied(first)), b"");
+        assert_eq!(rt; calls, 0);
+    }
+    Ok(())
+}
+
+#[test]
+fn copy_source_succeeds(rt: HostRuntime) -> Result<(), Fail> {
+    let six = numbers(rt.alloc(), 6, &SIX)?;
+    let source = Source::new(MemoryStore::new(&six));
+    let (wrote, calls) = copy_calls(rt.alloc(), source, &[3, 6])?;
+    let crash = numbers(rt.alloc(), 2, &CRASH)?;
+    assert_wrote(&rt, 0, &wrote, Ok(292), &crash);
+    assert!(rt; calls > 0);
+    Ok(())
+}
+
+#[test]
+fn part_outside_is_not_copied(rt: HostRuntime) -> Result<(), Fail> {
+    let bytes = numbers(rt.alloc(), 1, &ABSENT_STACK)?;
+    let outside = ReadFault::PartOutside {
+        entry: 0,
+        index: 0,
+        part: PartName::Context,
+        offset: 96,
+        size: 1,
+    };
+    for (size, answer) in [(96, Err(ToolFault::Reading(outside))), (97, Ok(100))] {
+        let store = MemoryStore::new(bytes.get(..size).ok_or("a first part")?);
+        let wrote = copy_store(rt.alloc(), rt.alloc(), store, least(0)?, &[3], ALL)?;
+        assert_eq!(rt; wrote.answer, answer, "of {size}");
+        let written = if answer.is_ok() { 100 } else { 0 };
+        assert_eq!(rt; wrote.bytes.len(), written, "of {size}");
+    }
+    Ok(())
+}
+
+#[test]
+fn name_that_is_too_long_is_not_copied(rt: HostRuntime) -> Result<(), Fail> {
+    let bytes = system_file(rt.alloc())?;
+    let long = ReadFault::NameTooLong {
+        entry: 0,
+        index: 0,
+        length: 28,
+    };
+    let store = MemoryStore::new(&bytes);
+    let wrote = copy_store(rt.alloc(), rt.alloc(), store, least(27)?, &[7], ALL)?;
+    assert_wrote(&rt, 27, &wrote, Err(ToolFault::Reading(long)), b"");
+    let store = MemoryStore::new(&bytes);
+    let wrote = copy_store(rt.alloc(), rt.alloc(), store, least(28)?, &[7], ALL)?;
+    assert_wrote(&rt, 28, &wrote, Ok(136), &bytes);
+    Ok(())
+}
+
+#[test]
+fn store_that_fails_leaves_nothing_copied(rt: HostRuntime) -> Result<(), Fail> {
+    let six = numbers(rt.alloc(), 6, &SIX)?;
+    let crash = numbers(rt.alloc(), 2, &CRASH)?;
+    let mut failures = 0;
+    for fail_at in 0..1000 {
+        let store = PatchyStore::new(&six, &[1], Some(fail_at));
+        let limits = Limits::default();
+        let wrote = copy_store(rt.alloc(), rt.alloc(), store, limits, &[3, 6], ALL)?;
+        match wrote.answer {
+            Err(ToolFault::Source(SourceFault::Failed { .. })) => {
+                assert_eq!(rt; failures, fail_at);
+                assert!(rt; wrote.bytes.is_empty(), "at {fail_at}");
+                failures += 1;
+            }
+            _ => assert_wrote(&rt, fail_at, &wrote, Ok(292), &crash),
+        }
+    }
+    // The header, the directory, and both streams with their parts.
+    assert!(rt; failures >= 32 + 72 + 52 + 168 + 14);
+    assert!(rt; failures < 1000);
+    Ok(())
+}
+
+#[test]
+fn want_of_memory_is_told_before_anything_is_copied(rt: HostRuntime) -> Result<(), Fail> {
+    let six = numbers(rt.alloc(), 6, &SIX)?;
+    let crash = numbers(rt.alloc(), 2, &CRASH)?;
+    let mut enough = false;
+    for blocks in 0..1000 {
+        let heap = LocalHeap::new(rt.alloc(), 16 * blocks)?;
+        let store = MemoryStore::new(&six);
+        let wrote = copy_store(rt.alloc(), &heap, store, least(0)?, &[3, 6], ALL)?;
+        if wrote.answer.is_ok() {
+            enough = true;
+        }
+        if enough {
+            assert_wrote(&rt, blocks as u64, &wrote, Ok(292), &crash);
+        } else {
+            assert_wrote(&rt, blocks as u64, &wrote, Err(ToolFault::Memory), b"");
+        }
+    }
+    assert!(rt; enough);
+    Ok(())
+}

@@ -1,0 +1,96 @@
+//! Commands over a source and two outputs, as plain values.
+//!
+//! No function that a test calls here has a contract, so that the test knows nothing of what it did,
+//! and its own proof stays short.
+ghost use Rattle.mdmp_tool.specs.Requests.{IsPrintable};
+
+use crate::runs::{Ended, LONG, Room, empty_out, text_in};
+use mdmp_source::{BlockOut, PatchyOut, Source, Store};
+use mdmp_tool::{Limits, Print, Span, TypeSet, copy_told, print_told};
+use std::alloc::Global;
+use std::test::Fail;
+
+/// What is printed of a file.
+#[derive(Clone, Copy, Debug, PartialEq, Eq)]
+pub enum Shown {
+    Verdicts,
+    Items,
+    ItemsAndSymbols,
+    /// Two bytes from the address 16 on.
+    Memory,
+}
+
+/// How many bytes the blocks of these runs have.
+const BLOCK: usize = 16;
+
+fn print_of(shown: Shown) -> Print
+    ensures { IsPrintable result }
+{
+    match shown {
+        Shown::Verdicts => Print::Check,
+        Shown::Items => Print::List { pdb: false },
+        Shown::ItemsAndSymbols => Print::List { pdb: true },
+        Shown::Memory => Print::Hex(Span {
+            address: 16,
+            length: 2,
+        }),
+    }
+}
+
+/// Prints what is asked for of a store, in blocks, to this output and to one for the fault.
+pub fn print_store<S: Store + Drop>(
+    alloc: Global,
+    shown: Shown,
+    store: S,
+    room: Room,
+    err: Room,
+) -> Result<Ended, Fail> {
+    let out = empty_out(alloc, room)?;
+    let mut err = empty_out(alloc, err)?;
+    let mut blocks = BlockOut::with_room(alloc, BLOCK, out).ok().ok_or("room")?;
+    let source = Source::new(store);
+    let limits = Limits::default();
+    let status = print_told(
+        alloc,
+        print_of(shown),
+        source,
+        limits,
+        &mut blocks,
+        &mut err,
+    )
+    .status;
+    Ok(Ended {
+        status,
+        text: text_in(alloc, blocks.inner())?,
+        told: text_in(alloc, &err)?,
+    })
+}
+
+/// The exit status of a copy, the bytes that it wrote, and what it told of a fault.
+#[derive(Drop)]
+pub struct CopyEnded {
+    pub status: u8,
+    pub bytes: Vec<u8>,
+    pub told: String,
+}
+
+/// Copies the streams of these types out of a store, to this output.
+pub fn copy_store_to<S: Store + Drop>(
+    alloc: Global,
+    store: S,
+    types: &[u32],
+    out: &mut PatchyOut<Global>,
+) -> Result<CopyEnded, Fail> {
+    let mut err = empty_out(alloc, LONG)?;
+    let types = TypeSet::new(types).ok_or("types")?;
+    let source = Source::new(store);
+    let status = copy_told(alloc, types, source, Limits::default(), out, &mut err).status;
+    let mut bytes = Vec::new(alloc);
+    bytes.extend_from_slice(out.bytes())?;
+    let told = text_in(alloc, &err)?;
+    Ok(CopyEnded {
+        status,
+        bytes,
+        told,
+    })
+}
