@@ -1,9 +1,11 @@
 //! A dump read into a value, and compared with its list.
 
+use crate::status::{DIFFERS, UNWRITTEN};
 use mdmp_dump::{Stream, read_dump};
 use mdmp_lister::{Choice, Item, Kind, Limits, Lister, StreamItem};
 use mdmp_source::{FileStore, Source};
 use std::alloc::Global;
+use std::io::Write;
 
 /// How much a stream has.
 #[derive(Clone, Copy, PartialEq, Eq)]
@@ -30,14 +32,26 @@ impl Told {
 
 /// How many streams and records a value has.
 #[derive(Clone, Copy)]
-pub struct Totals {
-    pub streams: u64,
-    pub records: u64,
+struct Totals {
+    streams: u64,
+    records: u64,
+}
+
+/// Prints how many streams and records a dump's value has.
+pub fn tell_totals(rt: &HostRuntime, dump: &str) -> Result<(), u8> {
+    let Some(Totals { streams, records }) = totals_of(rt, dump) else {
+        return Err(DIFFERS);
+    };
+    writeln!(
+        rt.stdout(),
+        "{dump}: value of {streams} streams, {records} records, as listed"
+    )
+    .map_err(|_| UNWRITTEN)
 }
 
 /// The totals of a dump's value, or none where it can't be read or its streams are not those of its
 /// list.
-pub fn totals_of(rt: &HostRuntime, dump: &str) -> Option<Totals> {
+fn totals_of(rt: &HostRuntime, dump: &str) -> Option<Totals> {
     let streams = told_by_value(rt, dump)?;
     if streams != told_by_list(rt, dump)? {
         return None;
