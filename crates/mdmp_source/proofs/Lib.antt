@@ -1,3 +1,4 @@
 pub mod Bytes
 pub mod Filling
+pub mod Held
 pub mod Writing

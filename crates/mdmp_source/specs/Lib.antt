@@ -12,3 +12,4 @@ pub mod Source
 pub mod SourceLaws
 pub mod Store
 pub mod TwoFaces
+pub mod Window

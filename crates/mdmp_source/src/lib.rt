@@ -1,10 +1,11 @@
 //! Files as bytes that may fail to come, and texts as bytes that may fail to go.
 //!
 //! A [`Store`] gives the bytes of a file, a few at a time, and a [`Source`] makes whole fetches of
-//! it and counts them. An [`Out`] takes the bytes of a text or a dump. The stores are
-//! [`MemoryStore`], [`FileStore`] and, for tests, [`PatchyStore`] and [`TwoFaces`]; the outputs are
-//! [`WriteOut`] over any writer of std, [`BlockOut`], which gathers many small writes into blocks,
-//! and, for tests, [`PatchyOut`].
+//! it and counts them. A [`Window`] slides over a stretch of a file, so that many small pieces that
+//! stand one behind the other take few fetches. An [`Out`] takes the bytes of a text or a dump. The
+//! stores are [`MemoryStore`], [`FileStore`] and, for tests, [`PatchyStore`] and [`TwoFaces`]; the
+//! outputs are [`WriteOut`] over any writer of std, [`BlockOut`], which gathers many small writes
+//! into blocks, and, for tests, [`PatchyOut`].
 //!
 //! Beside them stand the tests of place that every layer above makes: [`inside`], and the class of
 //! a [`Location`].
@@ -28,6 +29,7 @@ mod range;
 mod source;
 mod store;
 mod two_faces;
+mod window;
 mod write_out;
 
 pub use crate::block_out::BlockOut;
@@ -42,4 +44,5 @@ pub use crate::range::inside;
 pub use crate::source::Source;
 pub use crate::store::{Store, StoreFailed, Tally};
 pub use crate::two_faces::TwoFaces;
+pub use crate::window::Window;
 pub use crate::write_out::WriteOut;

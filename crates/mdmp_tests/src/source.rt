@@ -4,6 +4,7 @@ mod outputs;
 mod places;
 mod stores;
 mod test_stores;
+mod windows;
 
 use mdmp_source::{Out, OutFailed, PatchyOut, write_all};
 use std::alloc::{AllocError, Global};

@@ -1,0 +1,44 @@
+use Rattle.std.proofs.Common.{◌+◌, ◌-◌, ◌≤◌, ◌∙◌, ap, sym, subst, arith, take, drop, vec_len}
+use Rattle.std.specs.Prelude.{OnErr, Result, Ok, Err}
+use Rattle.std.specs.Vec.{with_items}
+use Rattle.mdmp_source.specs.Window.{IsFilled, WindowState, next_len_of}
+use Rattle.mdmp_source.proofs.Held.{is_filled, is_kept, length-held, next_fits, window_of, written_behind}
+use borrow.Rule.Slice.PartMut.{put_mid}
+use Rattle.mdmp_source.proofs.window.Window.fill.Goals as goal
+
+on_err : {T E P : Type 0} (result : Result T E) → P → OnErr result P
+on_err (Ok x) p = tt
+on_err (Err e) p = p
+
+pub returns-in_err-fetch-clause-err : goal.returns-in_err-fetch-clause-err
+returns-in_err-fetch-clause-err g c =
+    let w = c.self.inside in
+    let moved = c.move_to_front in
+    let count = c.next_len-count.result in
+    let n = w.len + count - w.len in
+    let held = take w.len (drop w.first w.buffer.items) in
+    let held_len = length-held w.buffer.items w.first w.len (omega (arith, w.buffer.ok.0, c.self.invariant.0)) in
+    let next = c.next_len-count.ensures ∙ ap next_len_of (sym c.self.view_is) in
+    let fits : w.len + count ≤ vec_len moved.new.buffer = rw moved.ensures.len (next_fits w.place w.end (vec_len w.buffer) w.len count held held_len (omega (arith, c.self.invariant.0)) next) in
+    let written = written_behind moved.new.buffer c.deref_mut.result.now c.fetch.new.out held w.len count n
+    c.deref_mut.ensures.value (omega arith) c.fetch.auto.out moved.ensures.held fits in
+    on_err c.from_residual.result
+    (is_kept w.place w.end (vec_len w.buffer) (vec_len moved.new.buffer) w.len count held c.fetch.new.out _ moved.ensures.len written ∙ c.self.view_is)
+
+pub returns-clause-filled : goal.returns-clause-filled
+returns-clause-filled g c =
+    let w = c.self.inside in
+    let content = c.args.source.now.store.content in
+    let moved = c.move_to_front in
+    let count = c.next_len-count.result in
+    let n = w.len + count - w.len in
+    let held = take w.len (drop w.first w.buffer.items) in
+    let held_len = length-held w.buffer.items w.first w.len (omega (arith, w.buffer.ok.0, c.self.invariant.0)) in
+    let next = c.next_len-count.ensures ∙ ap next_len_of (sym c.self.view_is) in
+    let fits : w.len + count ≤ vec_len moved.new.buffer = rw moved.ensures.len (next_fits w.place w.end (vec_len w.buffer) w.len count held held_len (omega (arith, c.self.invariant.0)) next) in
+    let written = written_behind moved.new.buffer c.deref_mut.result.now c.fetch.new.out held w.len count n
+    c.deref_mut.ensures.value (omega arith) c.fetch.auto.out moved.ensures.held fits in
+    let filled = is_filled content w.place w.end (vec_len w.buffer) (vec_len moved.new.buffer) w.len count held c.fetch.new.out _ moved.ensures.len written
+    held_len next c.in_ok-fetch.ensures.bytes in
+    let items = (with_items moved.new.buffer (put_mid w.len n c.deref_mut.result.now c.fetch.new.out)).items in
+    subst (λ (old : WindowState). IsFilled content old (window_of w.place w.end (vec_len moved.new.buffer) (take (w.len + count) items))) c.self.view_is filled
