@@ -1,6 +1,6 @@
 -- What a read at a place asks of a file. Of a file of the system neither the position nor the bytes are known, of other
 -- readers both may be: what is proved for every reader holds the code to its seek and its read.
-use Rattle.std.specs.Prelude.{◌≡◌, ◌<◌, ℕ, List, Option, Some, Result, IfOk, IfSome, length, take}
+use Rattle.std.specs.Prelude.{◌≡◌, ◌<◌, ◌+◌, ◌^◌, ℕ, List, None, Option, Some, Result, Ok, Err, IfOk, IfSome, length, take, nat_lt, if◌then◌else◌}
 use Rattle.std.specs.Io.KnownBytes.{Consumes, IsAtEnd}
 
 -- a file that was sought to this place: the position is that, where positions are known
@@ -14,3 +14,9 @@ ReadsAt {F = F} position left before at result out after = IfOk result (λ k. (f
     × IsSought (position before) (position found) at
     × Consumes (left found) (left after) (take k out)
     × (k ≡ 0 → 0 < length out → IsAtEnd (left after)))
+
+-- where a file stands behind a read at this place, which failed or gave so many bytes: it is not known to where it
+-- failed, and no place is told from 2^64 on
+abbrev pub place_behind : {E : Type 0} → ℕ → Result ℕ E → Option ℕ
+place_behind at (Ok k) = if nat_lt (at + k) (2 ^ 64) then Some (at + k) else None
+place_behind at (Err e) = None
