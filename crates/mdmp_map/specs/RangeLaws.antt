@@ -81,6 +81,15 @@ pub place-first_range : (ranges : List Range) (address : ℕ) (place : Place) �
 place-first_range ranges address place is =
     mapped_from (λ r. record { offset = r.offset + (address - r.start); left = left_of ranges address r }) (first_range ranges address) place is
 
+nothing_mapped : {X Y : Type 0} (f : X → Y) (o : Option X) → None ≡ option_map f o → o ≡ None
+nothing_mapped f None is = refl
+nothing_mapped f (Some x) is = absurd cc
+
+-- where there is no place, no range holds the address
+pub none_found : (ranges : List Range) (address : ℕ) → None ≡ place_of ranges address → first_range ranges address ≡ None
+none_found ranges address is =
+    nothing_mapped (λ r. record { offset = r.offset + (address - r.start); left = left_of ranges address r }) (first_range ranges address) is
+
 -- at least one address is left, the one that was looked up
 pub place-left : (ranges : List Range) (address : ℕ) (place : Place) → place_of ranges address ≡ Some place → 0 < place.left
 place-left ranges address place is =

@@ -1,16 +1,21 @@
 //! The place of an address.
-ghost use Rattle.std.specs.Prelude.{◌≡◌, All, IfSome};
+ghost use Rattle.std.specs.Prelude.{◌≡◌, ◌≤◌, ◌<◌, ◌+◌, ◌-◌, ◌*◌, ◌^◌, All, IfSome, IsTrue, length};
 ghost use Rattle.mdmp_map.specs.declared.range.Range.{Range};
-ghost use Rattle.mdmp_map.specs.Ranges.{IsLeft, IsPlaced, first_range, place_of};
+ghost use Rattle.mdmp_map.specs.Finding.{IsFound, IsHalved, scan_len};
+ghost use Rattle.mdmp_map.specs.Ranges.{AreSorted, IsLeft, IsPlaced, first_range, place_of};
 
+use crate::found::Found;
+use crate::halves::halve;
 use crate::place::Place;
 use crate::range::Range;
-
-/// One behind the last address.
-const ADDRESS_END: u128 = 1 << 64;
+use crate::scan::scan;
+use crate::steps::Steps;
+use std::marker::Brand;
+use std::sync::ledger::{Blank, Ledger};
 
 /// Where the byte of an address stands, by the first of these ranges that holds it, or none where no
 /// range does. It looks at the ranges one after another.
+#[tactic(auto, using(crate::proofs::Places::left_greatest))]
 pub fn place_of(ranges: &[Range], address: u64) -> Option<Place>
     requires placed { All IsPlaced ranges.now }
     ensures place { result ≡ place_of ranges.now address }
@@ -19,20 +24,46 @@ pub fn place_of(ranges: &[Range], address: u64) -> Option<Place>
     ensures left { IfSome result (λ place. (r : Range) → first_range ranges.now address ≡ Some r
         → IsLeft ranges.now address r place.left) }
 {
-    // The lowest start behind the address among the ranges so far: from there on its range comes
-    // first.
-    let mut next_start = ADDRESS_END;
-    for range in ranges {
-        if range.holds(address) {
-            let end = range.end().min(next_start);
-            return Some(Place {
-                offset: range.offset + (address - range.start),
-                left: (end - u128::from(address)) as u64,
-            });
-        }
-        if address < range.start {
-            next_start = next_start.min(u128::from(range.start));
-        }
+    look_up(ranges, false, address).place()
+}
+
+/// Finds an address among ranges, and counts nothing.
+pub(crate) fn look_up(ranges: &[Range], is_sorted: bool, address: u64) -> Found
+    requires placed { All IsPlaced ranges.now }
+    requires sorted { IsTrue is_sorted → AreSorted ranges.now }
+    ensures { IsFound ranges.now address result }
+{
+    search_from::<Brand>(ranges, is_sorted, address, Blank::new(1))
+}
+
+/// Finds an address under a ledger that nothing reads.
+fn search_from<G: Ledger>(ranges: &[Range], is_sorted: bool, address: u64, blank: Blank) -> Found
+    requires placed { All IsPlaced ranges.now }
+    requires sorted { IsTrue is_sorted → AreSorted ranges.now }
+    requires name { blank.name ≡ G.name }
+    requires parts { blank.parts ≡ G.parts }
+    requires some { 0 < blank.parts }
+    ensures { IsFound ranges.now address result }
+{
+    search(ranges, is_sorted, address, &mut Steps::<G>::new(blank))
+}
+
+/// Finds an address among ranges: by halves where they are known to be sorted.
+pub(crate) fn search<G: Ledger>(
+    ranges: &[Range],
+    is_sorted: bool,
+    address: u64,
+    steps: &mut Steps<G>,
+) -> Found
+    requires placed { All IsPlaced ranges.now }
+    requires sorted { IsTrue is_sorted → AreSorted ranges.now }
+    ensures found { IsFound ranges.now address result }
+    ensures by_halves { IsTrue is_sorted → IsHalved (length ranges.now) steps.old steps.new }
+    ensures one_by_one { (IsTrue is_sorted → ⊥) → steps.new ≡ steps.old + scan_len ranges.now address }
+{
+    if is_sorted {
+        halve(ranges, address, steps)
+    } else {
+        scan(ranges, address, steps)
     }
-    None
 }

@@ -3,22 +3,31 @@
 //! A [`Range`] says where the bytes of some addresses stand in the file. Ranges may overlap: the first
 //! one in listing order that holds an address gives its byte. A [`Place`] is where that byte stands,
 //! and how far one can read on from there. [`place_of`] finds it among ranges, and an [`AddressMap`]
-//! holds ranges and finds it among them. Addresses end at 2^64 - 1 and do not wrap. The definitions in
-//! `specs/Ranges.antt` say it exactly, and `specs/RangeLaws.antt` has what follows from them.
+//! holds ranges and finds it among them: by halves while each begins at or past the end of the one
+//! before, else by a look at one after another. Where no range holds an address, it tells how far none
+//! does. Addresses end at 2^64 - 1 and do not wrap. The definitions in `specs/Ranges.antt` say it
+//! exactly, `specs/Finding.antt` tells in how many [`Steps`], and `specs/RangeLaws.antt` has what
+//! follows from them.
 //!
 //! ```text
 //! let mut map = AddressMap::with_room(alloc, 1)?;
 //! map.push(0x1000, 16, 44);
 //! let place = map.find(0x1004); // offset 48, 12 left
+//! let gap = map.gap(0xff8); // 8
 //! ```
 #![tactic(auto)]
 
 mod finding;
+mod found;
+mod halves;
 mod map;
 mod place;
 mod range;
+mod scan;
+mod steps;
 
 pub use crate::finding::place_of;
 pub use crate::map::AddressMap;
 pub use crate::place::Place;
 pub use crate::range::Range;
+pub use crate::steps::Steps;

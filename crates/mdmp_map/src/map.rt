@@ -1,14 +1,17 @@
 //! A map of the dumped process's memory.
-ghost use Rattle.std.specs.Prelude.{◌≡◌, ◌≤◌, ◌<◌, ◌+◌, ◌-◌, ◌^◌, ◌++◌, ◌∷◌, ◌↔◌, [], ℕ, All, IfOk, IfSome, IsTrue, length, vec_capacity};
+ghost use Rattle.std.specs.Prelude.{◌≡◌, ◌≤◌, ◌<◌, ◌+◌, ◌-◌, ◌^◌, ◌++◌, ◌∷◌, ◌↔◌, [], ℕ, All, IfOk, IfSome, IsTrue, Some, length, slice_index_or, vec_capacity};
 ghost use Rattle.mdmp_map.specs.declared.range.Range.{Range};
 ghost use Rattle.mdmp_map.specs.Map.{MapState, free_of};
-ghost use Rattle.mdmp_map.specs.Ranges.{IsLeft, IsPlaced, IsWithin, first_range, place_of};
+ghost use Rattle.mdmp_map.specs.Finding.{LooksAt};
+ghost use Rattle.mdmp_map.specs.Ranges.{AreSorted, IsGap, IsLeft, IsPlaced, IsWithin, first_range, place_of, range_end};
 
-use crate::finding::place_of;
+use crate::finding::{look_up, search};
 use crate::place::Place;
 use crate::range::Range;
+use crate::steps::Steps;
 use std::alloc::{AllocError, Allocator};
 use std::marker::Model;
+use std::sync::ledger::Ledger;
 
 /// Ranges of the dumped process's memory in listing order, with room for so many of them.
 ///
@@ -17,6 +20,7 @@ use std::marker::Model;
 #[derive(Drop)]
 pub struct AddressMap<A: Allocator> {
     ranges: Vec<Range, A>,
+    is_sorted: bool,
 }
 
 impl<A: Allocator> Model for AddressMap<A> {
@@ -24,7 +28,7 @@ impl<A: Allocator> Model for AddressMap<A> {
 
     ghost view = { λ m. record { ranges = m.ranges.items; room = vec_capacity m.ranges } };
 
-    ghost invariant = { λ m. All IsPlaced m.ranges.items };
+    ghost invariant = { λ m. (All IsPlaced m.ranges.items) × (IsTrue m.is_sorted ↔ AreSorted m.ranges.items) };
 }
 
 impl<A: Allocator> AddressMap<A> {
@@ -35,6 +39,7 @@ impl<A: Allocator> AddressMap<A> {
     {
         Ok(AddressMap {
             ranges: Vec::with_capacity(alloc, room)?,
+            is_sorted: true,
         })
     }
 
@@ -47,6 +52,7 @@ impl<A: Allocator> AddressMap<A> {
         requires within { offset + length ≤ 2 ^ 64 - 1 }
         ensures { self.new ≡ record self.old { ranges = self.old.ranges ++ (record { start = start; length = length; offset = offset }) ∷ [] } }
     {
+        self.is_sorted = self.is_sorted && begins_behind(&self.ranges, start);
         self.ranges.push_reserved(Range {
             start,
             length,
@@ -76,9 +82,17 @@ impl<A: Allocator> AddressMap<A> {
         self.ranges.capacity() - self.len()
     }
 
+    /// Whether each range begins at or past the end of the one before. While it is so, an address is
+    /// found by halves, else by a look at one range after another.
+    pub fn is_sorted(&self) -> bool
+        ensures { IsTrue result ↔ AreSorted self.now.ranges }
+    {
+        self.is_sorted
+    }
+
     /// Where the byte of an address of the dumped process stands, by the first range that holds it,
-    /// or none where no range does. It looks at the ranges one after another.
-    #[tactic(auto, using(crate::proofs::Found::some_left, crate::proofs::Found::left_within))]
+    /// or none where no range does.
+    #[tactic(auto, using(crate::proofs::Places::left_greatest, crate::proofs::Places::some_left, crate::proofs::Places::left_within))]
     pub fn find(&self, address: u64) -> Option<Place>
         ensures place { result ≡ place_of self.now.ranges address }
 
@@ -92,6 +106,34 @@ impl<A: Allocator> AddressMap<A> {
             → IfSome result (λ place. place.offset + place.left ≤ size) }
         ensures placed { All IsPlaced self.now.ranges }
     {
-        place_of(&self.ranges, address)
+        look_up(&self.ranges, self.is_sorted, address).place()
+    }
+
+    /// Finds what `find` does, and counts a step for each range that it looks at: while the ranges are
+    /// sorted as many as their number has binary digits, or one fewer; else one for each up to the
+    /// first that holds the address.
+    pub fn find_counted<G: Ledger>(&self, address: u64, steps: &mut Steps<G>) -> Option<Place>
+        ensures place { result ≡ place_of self.now.ranges address }
+        ensures steps { LooksAt self.now.ranges address steps.old steps.new }
+    {
+        search(&self.ranges, self.is_sorted, address, steps).place()
+    }
+
+    /// How many addresses from this one on no range holds, up to the last address: 0 where one holds
+    /// this address, and 2^64 for the address 0 where there are no ranges.
+    pub fn gap(&self, address: u64) -> u128
+        ensures { IsGap self.now.ranges address result }
+    {
+        look_up(&self.ranges, self.is_sorted, address).gap()
+    }
+}
+
+/// Whether a range that begins at this address may stand behind sorted ranges.
+fn begins_behind(ranges: &[Range], start: u64) -> bool
+    ensures { IsTrue result ↔ ((d : Range) → 0 < length ranges.now → range_end (slice_index_or ranges.now (length ranges.now - 1) d) ≤ start) }
+{
+    match ranges.last() {
+        None => true,
+        Some(last) => last.end() <= u128::from(start),
     }
 }

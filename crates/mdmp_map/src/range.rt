@@ -26,6 +26,7 @@ impl Range {
     pub fn holds(&self, address: u64) -> bool
         ensures { result ≡ holds address self.now }
     {
-        self.start <= address && u128::from(address) < self.end()
+        // Both tests are made, so that a search has one branch for each range, which is seldom taken.
+        (self.start <= address) & (address.wrapping_sub(self.start) < self.length)
     }
 }

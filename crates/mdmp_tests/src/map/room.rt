@@ -1,25 +1,10 @@
 //! Where addresses stand by a map, and its room.
-use super::{Row, place};
+use super::{assert_places, place, push_all, with_room};
 use linked_list_allocator::LocalHeap;
 use mdmp_map::AddressMap;
-use std::alloc::{AllocError, Allocator};
+use std::alloc::Allocator;
 use std::process::Abort;
 use std::test::Fail;
-
-/// An empty map with that room.
-fn with_room<A: Allocator>(alloc: A, room: usize) -> Result<AddressMap<A>, AllocError> {
-    AddressMap::with_room(alloc, room)
-}
-
-/// Pushes ranges, each of them given by its start, its length and its offset in the file.
-fn push_all<A: Allocator>(rt: &impl Abort, map: &mut AddressMap<A>, ranges: &[(u64, u64, u64)]) {
-    for &(start, length, offset) in ranges {
-        assert!(rt; 0 < map.free());
-        assert!(rt; 0 < length);
-        assert!(rt; length <= u64::MAX - offset);
-        map.push(start, length, offset);
-    }
-}
 
 /// Whether the heap refuses a map with that room.
 fn is_refused(heap: &LocalHeap, room: usize) -> bool {
@@ -31,13 +16,6 @@ fn assert_counts<A: Allocator>(rt: &impl Abort, map: &AddressMap<A>, len: usize,
     assert_eq!(rt; map.is_empty(), len == 0);
     assert_eq!(rt; map.len(), len);
     assert_eq!(rt; map.free(), free);
-}
-
-/// The map places each address as its row says.
-fn assert_places<A: Allocator>(rt: &impl Abort, map: &AddressMap<A>, rows: &[Row]) {
-    for (address, expected) in rows {
-        assert_eq!(rt; map.find(*address), *expected, "at {address}");
-    }
 }
 
 #[test]

@@ -9,11 +9,8 @@ use Rattle.std.proofs.lemmas.List.Elements.{All-head, All-tail}
 use Rattle.mdmp_map.specs.declared.range.Range.{Range}
 use Rattle.mdmp_map.specs.declared.place.Place.{Place}
 use Rattle.mdmp_map.specs.RangeLaws.{limit_past, limit_past-le, next_start-lt, next_start-le, holds_parts, first_range-holds, first_range-passes, first_range_holds}
+use Rattle.mdmp_map.specs.Finding.{place_in, scan_len}
 use Rattle.mdmp_map.specs.Ranges.{IsPlaced, IsLeft, address_end, range_end, holds, first_range, ranges_before, next_start, left_of, place_of}
-
--- the place in r, if limit is the lowest start behind the address among the ranges before r
-abbrev pub place_in : ℕ → ℕ → Range → Place
-place_in limit address r = record { offset = r.offset + (address - r.start); left = min (range_end r) limit - address }
 
 -- what a scan finds from some ranges on
 unfoldable pub scan : ℕ → ℕ → List Range → Option Place
@@ -26,12 +23,12 @@ scan-holds : (limit address : ℕ) (r : Range) (ranges : List Range) → holds a
 unfolding scan
 scan-holds limit address r ranges here = rw here refl
 
-scan-passes : (limit address : ℕ) (r : Range) (ranges : List Range) → holds address r ≡ false
+pub scan-passes : (limit address : ℕ) (r : Range) (ranges : List Range) → holds address r ≡ false
     → scan limit address (r ∷ ranges) ≡ scan (limit_past limit address r) address ranges
 unfolding scan
 scan-passes limit address r ranges other = rw other refl
 
-scan-nil : (limit address : ℕ) → scan limit address [] ≡ None
+pub scan-nil : (limit address : ℕ) → scan limit address [] ≡ None
 unfolding scan
 scan-nil limit address = refl
 
@@ -47,12 +44,12 @@ ranges_before-passes address r ranges other = take_while-cons (λ q. not (holds 
 
 -- ---- the lowest start
 
-next_start-passes : (limit address : ℕ) (r : Range) (ranges : List Range)
+pub next_start-passes : (limit address : ℕ) (r : Range) (ranges : List Range)
     → next_start limit address (r ∷ ranges) ≡ next_start (limit_past limit address r) address ranges
 unfolding next_start
 next_start-passes limit address r ranges = refl
 
-next_start-nil : (limit address : ℕ) → next_start limit address [] ≡ limit
+pub next_start-nil : (limit address : ℕ) → next_start limit address [] ≡ limit
 unfolding next_start
 next_start-nil limit address = refl
 
@@ -115,14 +112,11 @@ scan-place_of address ranges =
 
 -- ---- the steps of the loop
 
-pub found : (limit address i left : ℕ) (d : Range) (ranges : List Range) → i < length ranges
+pub found : (limit address i : ℕ) (d : Range) (ranges : List Range) → i < length ranges
     → scan limit address (drop i ranges) ≡ place_of ranges address → holds address (get_or ranges i d) ≡ true
-    → left ≡ min (range_end (get_or ranges i d)) limit - address
-    → Some (record { offset = (get_or ranges i d).offset + (address - (get_or ranges i d).start); left = left }) ≡ place_of ranges address
-found limit address i left d ranges lt so_far here is =
-    let r = get_or ranges i d in
-    ap (λ n. Some (record { offset = r.offset + (address - r.start); left = n })) is
-    ∙ sym (scan-holds limit address r (drop (i + 1) ranges) here)
+    → Some (place_in limit address (get_or ranges i d)) ≡ place_of ranges address
+found limit address i d ranges lt so_far here =
+    sym (scan-holds limit address (get_or ranges i d) (drop (i + 1) ranges) here)
     ∙ sym (at_drop_more (scan limit address) ranges i d lt)
     ∙ so_far
 
@@ -144,14 +138,14 @@ not_found limit address i ranges past so_far =
 
 -- ---- how many addresses are left
 
-holds_from : (address : ℕ) (r : Range) → address < address_end → r.start ≤ address → address < range_end r → holds address r ≡ true
+pub holds_from : (address : ℕ) (r : Range) → address < address_end → r.start ≤ address → address < range_end r → holds address r ≡ true
 holds_from address r in_space begun not_past =
     and_from (nat_lt address address_end && nat_le r.start address) (nat_lt address (range_end r))
     (and_from (nat_lt address address_end) (nat_le r.start address) (lt-ltb address address_end in_space) (le-leb r.start address begun))
     (lt-ltb address (range_end r) not_past)
 
 -- a range that does not hold an address holds none from there to where it begins
-holds_later : (limit address later : ℕ) (r : Range) → address < address_end → holds address r ≡ false → address ≤ later
+pub holds_later : (limit address later : ℕ) (r : Range) → address < address_end → holds address r ≡ false → address ≤ later
     → later < limit_past limit address r → holds later r ≡ false
 holds_later limit address later r in_space other from below =
     false_from_ne_true (holds later r) (λ here.
@@ -182,7 +176,7 @@ reaches limit address later r (q ∷ ranges) is from not_past in_space below = e
 ]
 
 -- an earlier range that begins at the lowest start holds it
-begins : (limit address later : ℕ) (r : Range) → IsPlaced r → limit ≤ address_end → later < limit → later ≡ limit_past limit address r
+pub begins : (limit address later : ℕ) (r : Range) → IsPlaced r → limit ≤ address_end → later < limit → later ≡ limit_past limit address r
     → holds later r ≡ true
 begins limit address later r placed space below lowest = elim (cases_lt address r.start) [
   | inl ahead ↦
@@ -246,3 +240,33 @@ place_of-IsLeft address place ranges placed found r is =
     found ∙ ap (option_map (λ q. record { offset = q.offset + (address - q.start); left = left_of ranges address q })) is in
     let same : place ≡ expected = cc in
     subst (λ (p : Place). IsLeft ranges address r p.left) (sym same) (left_of-IsLeft address r ranges placed is)
+
+-- ---- how many ranges a scan looks at
+
+before_len-holds : (address : ℕ) (r : Range) (ranges : List Range) → holds address r ≡ true → length (ranges_before (r ∷ ranges) address) ≡ 0
+before_len-holds address r ranges here = ap length (ranges_before-holds address r ranges here)
+
+before_len-passes : (address : ℕ) (r : Range) (ranges : List Range) → holds address r ≡ false
+    → length (ranges_before (r ∷ ranges) address) ≡ length (ranges_before ranges address) + 1
+before_len-passes address r ranges other = ap length (ranges_before-passes address r ranges other) ∙ omega arith
+
+-- those before this one do not hold the address
+pub counted_passed : (address i : ℕ) (d : Range) (ranges : List Range) → i < length ranges
+    → length (ranges_before ranges address) ≡ i + length (ranges_before (drop i ranges) address) → holds address (get_or ranges i d) ≡ false
+    → length (ranges_before ranges address) ≡ i + 1 + length (ranges_before (drop (i + 1) ranges) address)
+counted_passed address i d ranges lt so_far other =
+    let here = at_drop_more (λ xs. length (ranges_before xs address)) ranges i d lt in
+    let next = before_len-passes address (get_or ranges i d) (drop (i + 1) ranges) other in
+    omega (arith, so_far, here, next)
+
+pub counted_found : (address i : ℕ) (d : Range) (ranges : List Range) → i < length ranges
+    → length (ranges_before ranges address) ≡ i + length (ranges_before (drop i ranges) address) → holds address (get_or ranges i d) ≡ true
+    → scan_len ranges address ≡ i + 1
+counted_found address i d ranges lt so_far is =
+    let here = at_drop_more (λ xs. length (ranges_before xs address)) ranges i d lt in
+    let none = before_len-holds address (get_or ranges i d) (drop (i + 1) ranges) is in
+    omega (arith, so_far, here, none, lt)
+
+pub counted_all : (address i : ℕ) (ranges : List Range) → i ≡ length ranges
+    → length (ranges_before ranges address) ≡ i + length (ranges_before (drop i ranges) address) → scan_len ranges address ≡ i
+counted_all address i ranges all so_far = omega (arith, so_far, all)

@@ -3,8 +3,14 @@ use Rattle.std.proofs.Common.{◌≡◌, ◌≤◌, ◌<◌, ◌+◌, ℕ, List,
 use Rattle.std.specs.Prelude.{All, IfSome}
 use Rattle.mdmp_map.specs.declared.range.Range.{Range}
 use Rattle.mdmp_map.specs.declared.place.Place.{Place}
-use Rattle.mdmp_map.specs.Ranges.{IsWithin, place_of}
+use Rattle.mdmp_map.specs.Ranges.{IsLeft, IsPlaced, IsWithin, first_range, place_of}
 use Rattle.mdmp_map.specs.RangeLaws.{place-left, place-within}
+use Rattle.mdmp_map.proofs.Scanning.{place_of-IsLeft}
+
+pub left_greatest : (ranges : List Range) (address : ℕ) (found : Option Place) → found ≡ place_of ranges address → All IsPlaced ranges
+    → IfSome found (λ place. (r : Range) → first_range ranges address ≡ Some r → IsLeft ranges address r place.left)
+left_greatest ranges address None is placed = tt
+left_greatest ranges address (Some place) is placed = place_of-IsLeft address place ranges placed is
 
 pub some_left : (ranges : List Range) (address : ℕ) (found : Option Place) → found ≡ place_of ranges address → IfSome found (λ place. 0 < place.left)
 some_left ranges address None is = tt

@@ -1,0 +1,64 @@
+use Rattle.std.proofs.Common.{◌≡◌, ◌≤◌, ◌+◌, ◌-◌, ◌/◌, ℕ, ap, arith, slice_index_or, sym}
+use Rattle.std.proofs.lemmas.List.{get_or_default}
+use Rattle.std.proofs.lemmas.Option.{slice_get-get_or}
+use Rattle.mdmp_map.specs.declared.range.Range.{Range}
+use Rattle.mdmp_map.specs.Ranges.{range_end}
+use Rattle.mdmp_map.proofs.Halving.{one_more, halved_again, still_enough, still_few}
+use Rattle.mdmp_map.proofs.Sorted.{ends_rise}
+use Rattle.mdmp_map.proofs.halves.first_past.Goals as goal
+
+-- what is read past the end
+abbrev no_range : Range
+no_range = record { start = 0; length = 0; offset = 0 }
+
+pub loop-low-preserved-then-end-from : goal.loop-low-preserved-then-end-from
+loop-low-preserved-then-end-from g c =
+    let before = c.loop-low.invariant in
+    let middle : ℕ = c.loop-low.low + (c.loop-low.high - c.loop-low.low) / 2 in
+    let double = one_more c.args.steps.now c.loop-low.steps c.tick.new.self before.more c.tick.ensures in
+    record {
+      order = omega (arith, c.loop-low-test.true);
+      within = before.within;
+      behind = λ k d lt.
+          let rise : range_end (slice_index_or c.args.ranges.now k d) ≤ range_end (slice_index_or c.args.ranges.now middle d) =
+          ends_rise c.args.ranges.now c.requires k middle d (omega (arith, lt)) (omega (arith, before.within, c.loop-low-test.true)) in
+          let same = ap range_end (get_or_default c.args.ranges.now middle d no_range (omega (arith, before.within, c.loop-low-test.true))) in
+          omega (arith, rise, same, c.if-end-from.true, c.end.ensures, c.from.ensures);
+      past = before.past;
+      next = before.next;
+      halved = rw double (halved_again _ (c.loop-low.high - c.loop-low.low) _ _ (omega arith) before.halved);
+      few = rw double (still_few _ (c.loop-low.high - c.loop-low.low) _ (omega (arith, c.loop-low-test.true)) before.halved);
+      enough = rw double (still_enough _ (c.loop-low.high - c.loop-low.low) _ _ (omega (arith, c.loop-low-test.true)) before.enough);
+      more = omega (arith, before.more, c.tick.ensures);
+    }
+
+pub loop-low-preserved : goal.loop-low-preserved
+loop-low-preserved g c =
+    let before = c.loop-low.invariant in
+    let middle : ℕ = c.loop-low.low + (c.loop-low.high - c.loop-low.low) / 2 in
+    let double = one_more c.args.steps.now c.loop-low.steps c.tick.new.self before.more c.tick.ensures in
+    record {
+      order = omega arith;
+      within = omega (arith, before.order, before.within);
+      behind = before.behind;
+      past = λ lt d.
+          let same = ap range_end (get_or_default c.args.ranges.now middle d no_range lt) in
+          omega (arith, same, c.if-end-from.false, c.end.ensures, c.from.ensures);
+      next = sym (slice_get-get_or c.args.ranges.now middle no_range (omega (arith, c.loop-low-test.true, before.within)));
+      halved = rw double (halved_again _ (c.loop-low.high - c.loop-low.low) _ _ (omega arith) before.halved);
+      few = rw double (still_few _ (c.loop-low.high - c.loop-low.low) _ (omega (arith, c.loop-low-test.true)) before.halved);
+      enough = rw double (still_enough _ (c.loop-low.high - c.loop-low.low) _ _ (omega (arith, c.loop-low-test.true)) before.enough);
+      more = omega (arith, before.more, c.tick.ensures);
+    }
+
+pub returns-clause-first : goal.returns-clause-first
+returns-clause-first g c =
+    let met : c.loop-low.high ≡ c.loop-low.low = omega (arith, c.loop-low.invariant.order, c.loop-low-test.false) in (
+      c.loop-low.high,
+      record {
+        within = c.loop-low.invariant.within;
+        behind = λ k d lt. c.loop-low.invariant.behind k d (omega (arith, lt, met));
+        past = c.loop-low.invariant.past;
+      },
+      c.loop-low.invariant.next,
+    )

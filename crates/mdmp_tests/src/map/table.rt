@@ -1,0 +1,128 @@
+//! Small maps, sorted and not, beside a look at their ranges one after another.
+ghost use Rattle.std.specs.Prelude.{◌≡◌, ◌<◌, All};
+ghost use Rattle.mdmp_map.specs.Ranges.{IsPlaced};
+
+use super::with_room;
+use mdmp_map::{AddressMap, Place, Range, Steps, place_of};
+use std::alloc::{AllocError, Allocator, Global};
+use std::marker::Brand;
+use std::process::Abort;
+use std::sync::ledger::{Blank, Ledger};
+use std::test::Fail;
+
+/// How far a gap is counted.
+const FAR: u8 = 16;
+
+/// What is found at an address: where it stands, the same with its steps counted, and how far nothing
+/// is held.
+type Found = (Option<Place>, Option<Place>, u128);
+
+/// One of 18 ranges, of one to three bytes that begin below 6.
+fn range_of(number: u8, offset: u16) -> Range
+    ensures { IsPlaced result }
+{
+    Range {
+        start: u64::from(number / 3),
+        length: u64::from(number % 3) + 1,
+        offset: u64::from(offset),
+    }
+}
+
+/// Whether each range begins at or past the end of the one before.
+fn are_sorted(ranges: &[Range]) -> bool {
+    for i in 1..ranges.len() {
+        if u128::from(ranges[i].start) < ranges[i - 1].end() {
+            return false;
+        }
+    }
+    true
+}
+
+/// How many addresses from this one on no range holds, counted one by one.
+fn free_from(ranges: &[Range], address: u8) -> u128
+    requires { All IsPlaced ranges.now }
+{
+    for k in 0..FAR {
+        if place_of(ranges, u64::from(address) + u64::from(k)).is_some() {
+            return u128::from(k);
+        }
+    }
+    u128::from(FAR)
+}
+
+/// What is to be found.
+fn expected(ranges: &[Range], address: u8) -> Found
+    requires { All IsPlaced ranges.now }
+{
+    let place = place_of(ranges, u64::from(address));
+    (place, place, free_from(ranges, address))
+}
+
+/// Finds an address and counts the steps under a ledger that nothing reads.
+fn find_under<G: Ledger, A: Allocator>(
+    map: &AddressMap<A>,
+    address: u64,
+    blank: Blank,
+) -> Option<Place>
+    requires name { blank.name ≡ G.name }
+    requires parts { blank.parts ≡ G.parts }
+    requires some { 0 < blank.parts }
+{
+    map.find_counted(address, &mut Steps::<G>::new(blank))
+}
+
+/// What the map finds.
+fn found<A: Allocator>(map: &AddressMap<A>, address: u64) -> Found {
+    let counted = find_under::<Brand, A>(map, address, Blank::new(1));
+    let gap = map.gap(address).min(u128::from(FAR));
+    (map.find(address), counted, gap)
+}
+
+/// A map of these ranges.
+fn map_of<A: Allocator>(
+    rt: &impl Abort,
+    alloc: A,
+    ranges: &[Range],
+) -> Result<AddressMap<A>, AllocError>
+    requires { All IsPlaced ranges.now }
+{
+    let mut map = with_room(alloc, ranges.len())?;
+    for range in ranges {
+        assert!(rt; 0 < map.free());
+        map.push(range.start, range.length, range.offset);
+    }
+    Ok(map)
+}
+
+/// A map of these ranges finds the addresses up to 12 where the ranges have them.
+fn assert_agrees(rt: &impl Abort, alloc: Global, ranges: &[Range]) -> Result<(), AllocError>
+    requires { All IsPlaced ranges.now }
+{
+    let map = map_of(rt, alloc, ranges)?;
+    assert_eq!(rt; map.is_sorted(), are_sorted(ranges), "{ranges:?}");
+    for address in 0..13 {
+        assert_eq!(rt;
+            found(&map, u64::from(address)),
+            expected(ranges, address),
+            "at {address} of {ranges:?}"
+        );
+    }
+    Ok(())
+}
+
+#[test]
+fn maps_of_up_to_three_ranges_agree_with_the_scan(rt: HostRuntime) -> Result<(), Fail> {
+    assert_agrees(&rt, rt.alloc(), &[])?;
+    for first in 0..18 {
+        let first = range_of(first, 80);
+        assert_agrees(&rt, rt.alloc(), &[first])?;
+        for second in 0..18 {
+            let second = range_of(second, 100);
+            assert_agrees(&rt, rt.alloc(), &[first, second])?;
+            for third in 0..18 {
+                assert_agrees(&rt, rt.alloc(), &[first, second, range_of(third, 120)])?;
+            }
+        }
+    }
+    Ok(())
+}
