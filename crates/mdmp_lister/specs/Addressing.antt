@@ -1,6 +1,6 @@
 -- What is read of the dumped process's memory. A cell is the byte of an address, or none where no range holds the
 -- address.
-use Rattle.std.specs.Prelude.{◌≡◌, ◌+◌, ℕ, Bool, if◌then◌else◌, List, Option, Some, None, is_some, length, map, unwrap_or, Result, OnOk}
+use Rattle.std.specs.Prelude.{◌≡◌, ◌<◌, ◌+◌, ℕ, Bool, if◌then◌else◌, List, Option, Some, None, is_some, length, map, option_map, slice_index, unwrap_or, Result, OnOk}
 use Rattle.std.specs.List.{range_with_len, zip}
 use Rattle.mdmp_map.specs.declared.range.Range.{Range}
 use Rattle.mdmp_map.specs.Ranges.{byte_at, first_range}
@@ -29,6 +29,11 @@ cell byte is_known = if is_known then Some byte else None
 abbrev pub cells : List ℕ → List Bool → List (Option ℕ)
 cells bytes known = map (λ (byte, is_known). cell byte is_known) (zip bytes known)
 
+-- so many addresses from this one on, whose bytes follow each other in the file from an offset on, or which no range holds
+pub record IsStretch (ranges : List Range) (address : ℕ) (offset : Option ℕ) (count : ℕ) : Type 0 where
+  pub held : (k : ℕ) → k < count → is_held ranges (address + k) ≡ is_some offset
+  pub bytes : (F : List ℕ) (k : ℕ) → k < count → byte_at F ranges (address + k) ≡ option_map (λ at. slice_index F (at + k)) offset
+
 -- these are the bytes of the addresses from this one on, and whether each is known
 pub record ReadsCells (content : Option (List ℕ)) (ranges : List Range) (address : ℕ) (bytes : List ℕ) (known : List Bool) : Type 0 where
   -- a byte is known exactly where a range holds its address
@@ -38,7 +43,7 @@ pub record ReadsCells (content : Option (List ℕ)) (ranges : List Range) (addre
   -- one that is known is the file's, where its content is known
   pub of_file : (F : List ℕ) → content ≡ Some F → cells bytes known ≡ cells_at F ranges address (length bytes)
 
--- the memory from this address on was read with this answer, by fetches of a byte each, aside from the listing
+-- the memory from this address on was read with this answer, aside from the listing, by fetches of no more bytes
 pub record ReadsAddresses (ranges : List Range) (address : ℕ) (result : Result (Unit {0}) SourceFault) (bytes : List ℕ) (known : List Bool) (old new : MeterState) : Type 0 where
   pub cells : OnOk result (ReadsCells old.source.store.content ranges address bytes known)
   pub books : BooksAside (length bytes) old new

@@ -1,7 +1,8 @@
 //! What is read of the dumped process's memory.
-ghost use Rattle.std.specs.Prelude.{◌≡◌, length, All, IfOk, is_some};
-ghost use Rattle.mdmp_map.specs.Ranges.{IsWithin, byte_at};
-ghost use Rattle.mdmp_lister.specs.Addressing.{ReadsAddresses, is_held};
+ghost use Rattle.std.specs.Prelude.{◌≡◌, ◌≤◌, ◌<◌, ◌+◌, ℕ, None, length, replicate, All, IfOk, IfSome, is_some};
+ghost use Rattle.mdmp_source.specs.Range.{IsInside, bytes_at};
+ghost use Rattle.mdmp_map.specs.Ranges.{IsWithin};
+ghost use Rattle.mdmp_lister.specs.Addressing.{IsStretch, ReadsAddresses};
 ghost use Rattle.mdmp_lister.specs.Fetching.{Reads};
 ghost use Rattle.mdmp_lister.specs.Meter.{BooksAside};
 
@@ -10,35 +11,69 @@ use mdmp_map::AddressMap;
 use mdmp_source::{SourceFault, Store};
 use std::alloc::Allocator;
 
-/// The byte of an address of the dumped process, or none where no range of the map holds it. No range
+/// Addresses whose bytes follow each other in the file, or which no range holds.
+#[derive(Clone, Copy)]
+struct Stretch {
+    /// Where the first byte stands in the file, or none where no range holds an address of them.
+    offset: Option<u64>,
+    /// How many addresses they are.
+    count: usize,
+}
+
+/// The addresses from this one on that stand together, as far as they do, and at most so many. No range
 /// holds an address of 2^64 or more.
-#[tactic(auto, using(crate::proofs::Addresses::first_range_past))]
-fn read_byte<S: Store, A: Allocator>(
-    meter: &mut Meter<S>,
-    map: &AddressMap<A>,
-    address: u128,
-) -> Result<Option<u8>, SourceFault>
-    requires { All (IsWithin meter.old.source.size) map.now.ranges }
-    ensures held { IfOk result (λ byte. is_some byte ≡ is_held map.now.ranges address) }
-    ensures reads { Reads (BooksAside 1) (λ file byte. byte ≡ byte_at file map.now.ranges address) result meter.old meter.new }
+fn stretch_at<A: Allocator>(map: &AddressMap<A>, address: u128, most: usize) -> Stretch
+    requires { 0 < most }
+    ensures some { 0 < result.count }
+    ensures most { result.count ≤ most }
+    ensures stretch { IsStretch map.now.ranges address result.offset result.count }
+    ensures within { (size : ℕ) → All (IsWithin size) map.now.ranges → IfSome result.offset (λ at. at + result.count ≤ size) }
 {
-    let Ok(address) = u64::try_from(address) else {
-        return Ok(None);
+    let Ok(first) = u64::try_from(address) else {
+        return Stretch {
+            offset: None,
+            count: most,
+        };
     };
-    match map.find(address) {
-        None => Ok(None),
-        Some(place) => {
-            let mut byte = [0];
-            meter.fetch_aside(place.offset, &mut byte)?;
-            Ok(Some(byte[0]))
+    match map.find(first) {
+        Some(place) => Stretch {
+            offset: Some(place.offset),
+            count: place.left.min(most as u64) as usize,
+        },
+        None => Stretch {
+            offset: None,
+            count: map.gap(first).min(most as u128) as usize,
+        },
+    }
+}
+
+/// Reads the bytes that stand from an offset of the file on, by one fetch, or none.
+fn read_stretch<S: Store>(
+    meter: &mut Meter<S>,
+    offset: Option<u64>,
+    out: &mut [u8],
+    known: &mut [bool],
+) -> Result<(), SourceFault>
+    requires same { length out.old ≡ length known.old }
+    requires inside { IfSome offset (λ at. IsInside at (length out.old) meter.old.source.size) }
+    ensures known { IfOk result (λ _. known.new ≡ replicate (length out.new) (is_some offset)) }
+    ensures zeros { offset ≡ None → out.new ≡ replicate (length out.new) 0 }
+    ensures reads { Reads (BooksAside (length out.new)) (λ file _. IfSome offset (λ at. out.new ≡ bytes_at file at (length out.new))) result meter.old meter.new }
+{
+    known.fill(offset.is_some());
+    match offset {
+        None => {
+            out.fill(0);
+            Ok(())
         }
+        Some(at) => meter.fetch_aside(at, out),
     }
 }
 
 /// Reads the memory of the dumped process from an address on, as far as the ranges of the map hold it.
 /// Where one holds an address, its byte is put into `out`, and `known` is true there; else both are 0
-/// and false. After a fault they may hold anything. It fetches one byte at a time.
-#[tactic(auto, using(crate::proofs::Fetches::IsCaused_later))]
+/// and false. After a fault they may hold anything. Addresses whose bytes follow each other in the file
+/// are read by one fetch.
 pub(crate) fn read_addresses<S: Store, A: Allocator>(
     meter: &mut Meter<S>,
     map: &AddressMap<A>,
@@ -50,10 +85,17 @@ pub(crate) fn read_addresses<S: Store, A: Allocator>(
     requires inside { All (IsWithin meter.old.source.size) map.now.ranges }
     ensures { ReadsAddresses map.now.ranges address result out.new known.new meter.old meter.new }
 {
-    for index in 0..out.len() {
-        let byte = read_byte(meter, map, u128::from(address) + index as u128)?;
-        out[index] = byte.unwrap_or(0);
-        known[index] = byte.is_some();
+    let mut done = 0;
+    while done < out.len() {
+        let stretch = stretch_at(map, u128::from(address) + done as u128, out.len() - done);
+        let end = done + stretch.count;
+        read_stretch(
+            meter,
+            stretch.offset,
+            &mut out[done..end],
+            &mut known[done..end],
+        )?;
+        done = end;
     }
     Ok(())
 }

@@ -5,8 +5,8 @@ use crate::script::{
     Call, LEAST, Played, ends, gives, has_room, other_in_bytes, other_in_numbers, play, read_fails,
     reads, runs,
 };
-use mdmp_lister::Choice;
-use mdmp_source::{Extent, PatchyStore, SourceFault};
+use mdmp_lister::{Choice, Limits, Lister, StopAt};
+use mdmp_source::{Extent, MemoryStore, PatchyStore, Source, SourceFault};
 use std::test::Fail;
 
 #[test]
@@ -74,10 +74,12 @@ fn addresses_do_not_wrap(rt: HostRuntime) -> Result<(), Fail> {
     Ok(())
 }
 
-/// Plays a script over a store of these ranges whose one call fails.
+/// Plays a script over a store of these ranges whose one call fails, and whose calls 5 to 8 give one
+/// byte each.
 fn played(rt: &HostRuntime, fail_at: u64, script: &[Call]) -> Result<Played, Fail> {
     let file = file(rt, 1, &OVERLAPPING)?;
-    let store = PatchyStore::new(&file, &[4096], Some(fail_at));
+    let caps = [4096, 4096, 4096, 4096, 4096, 1, 1, 1, 1];
+    let store = PatchyStore::new(&file, &caps, Some(fail_at));
     play(rt, store, LEAST, Choice::All, script)
 }
 
@@ -98,5 +100,61 @@ fn store_fault_of_a_read_changes_no_item(rt: HostRuntime) -> Result<(), Fail> {
         let played = played(&rt, fail_at, &script)?;
         assert_eq!(rt; played.other, None);
     }
+    Ok(())
+}
+
+/// Memory that was read once all items were given, which of its bytes are known, and by how many
+/// fetches.
+type Read<const N: usize> = ([u8; N], [bool; N], u128);
+
+/// Reads memory at an address of a file.
+fn read<const N: usize>(rt: &HostRuntime, file: &[u8], address: u64) -> Result<Read<N>, Fail> {
+    let source = Source::new(MemoryStore::new(file));
+    let opened = Lister::open(rt.alloc(), source, Limits::default(), Choice::All);
+    let mut lister = opened.map_err(|_| "open")?;
+    let _ = lister.list_into(&mut StopAt::new(u64::MAX));
+    let before = lister.counts().calls;
+    let mut out = [0xee; N];
+    let mut known = [address % 2 == 0; N];
+    lister
+        .read_address(address, &mut out, &mut known)
+        .map_err(|_| "read")?;
+    let fetches = lister.into_source().calls().saturating_sub(before);
+    Ok((out, known, fetches))
+}
+
+#[test]
+fn each_run_of_bytes_is_one_fetch(rt: HostRuntime) -> Result<(), Fail> {
+    let file = file(&rt, 1, &OVERLAPPING)?;
+    let known = [false, true, true, true, true, true, true, false];
+    assert_eq!(rt; read(&rt, &file, 0xfff)?, (*b"\0ABCDyz\0", known, 2));
+    assert_eq!(rt; read(&rt, &file, 0x1002)?, (*b"CDyz", [true; 4], 2));
+    assert_eq!(rt;
+        read(&rt, &file, 0x1004)?,
+        (*b"yz\0", [true, true, false], 1)
+    );
+    Ok(())
+}
+
+#[test]
+fn what_no_range_holds_is_not_fetched(rt: HostRuntime) -> Result<(), Fail> {
+    let file = file(&rt, 1, &OVERLAPPING)?;
+    for address in [0, 0xff0, 0x1006, u64::MAX - 2, u64::MAX] {
+        let expected = ([0; 16], [false; 16], 0);
+        assert_eq!(rt; read(&rt, &file, address)?, expected, "at {address}");
+    }
+    Ok(())
+}
+
+#[test]
+fn long_range_is_one_fetch(rt: HostRuntime) -> Result<(), Fail> {
+    let mut file = file(&rt, 1, &[5, 20, 44, 1, 0x1000, 0, 4096, 64])?;
+    for _ in 0..1024 {
+        file.extend_from_slice(b"mmmm")?;
+    }
+    let (bytes, known, fetches) = read::<4096>(&rt, &file, 0x1000)?;
+    assert_eq!(rt; fetches, 1);
+    assert!(rt; known == [true; 4096]);
+    assert!(rt; bytes == [b'm'; 4096]);
     Ok(())
 }

@@ -1,21 +1,56 @@
-use Rattle.std.proofs.Common.{◌∙◌, None, arith, rules}
+use Rattle.std.proofs.Common.{◌≡◌, ◌+◌, ◌-◌, ◌∙◌, ℕ, None, arith, drop, inr, length, rules, subst, sym, take}
+use Rattle.std.specs.Prelude.{All}
+use Rattle.std.proofs.lemmas.List.{length-drop, length-take-le}
+use Rattle.std.proofs.lemmas.Option.{IfSome_then}
 use Rattle.mdmp_source.specs.SourceLaws.{fetches_then}
-use Rattle.mdmp_lister.proofs.Addresses.{ReadsCells-more}
+use Rattle.mdmp_map.specs.Ranges.{IsWithin}
+use Rattle.mdmp_lister.specs.Addressing.{IsStretch}
+use Rattle.mdmp_lister.specs.Meter.{BooksAside}
+use Rattle.mdmp_lister.proofs.Addresses.{ReadsCells_next, ReadsCells_stretch}
 use Rattle.mdmp_lister.proofs.Fetches.{IsCaused_later}
 use Rattle.mdmp_lister.proofs.addressing.read_addresses.Goals as goal
 
-pub loop-index-preserved : goal.loop-index-preserved
-loop-index-preserved g c =
-    let before = c.loop-index.invariant in
-    let i = c.loop-index.index in
-    let this = c.in_ok-byte.ensures in
+pub read_stretch-requires-clause-inside : goal.read_stretch-requires-clause-inside
+read_stretch-requires-clause-inside g c =
+    let count : ℕ = c.loop-done.done + c.stretch_at-stretch.result.count - c.loop-done.done in
+    let part = drop c.loop-done.done c.loop-done.out in
+    let shorter : length (take count part) ≡ count =
+    length-take-le count part (omega (arith, c.stretch_at-stretch.ensures.most, length-drop c.loop-done.done c.loop-done.out)) in
+    IfSome_then c.stretch_at-stretch.result.offset
+    (c.stretch_at-stretch.ensures.within c.loop-done.meter.source.size
+    (subst (λ n. All (IsWithin n) c.args.map.now.ranges) (sym c.loop-done.invariant.books.fetches.same_size) c.requires.inside))
+    (λ at inside. inr (omega (arith, inside, shorter)))
+
+pub loop-done-preserved : goal.loop-done-preserved
+loop-done-preserved g c =
+    let before = c.loop-done.invariant in
+    let done : ℕ = c.loop-done.done in
+    let end : ℕ = done + c.stretch_at-stretch.result.count in
+    let count : ℕ = end - done in
+    let part = drop done c.loop-done.out in
+    let shorter : length (take count part) ≡ count = length-take-le count part (omega (arith, c.stretch_at-stretch.ensures.most, length-drop done c.loop-done.out)) in
+    let same : length c.read_stretch.new.out ≡ c.stretch_at-stretch.result.count = omega (arith, shorter, c.read_stretch.auto.out) in
+    let other = drop done c.loop-done.known in
+    let shorter_too : length (take count other) ≡ count =
+    length-take-le count other (omega (arith, c.stretch_at-stretch.ensures.most, c.requires.same, c.loop-done.auto, length-drop done c.loop-done.known)) in
+    let also : length c.read_stretch.new.known ≡ c.stretch_at-stretch.result.count = omega (arith, shorter_too, c.read_stretch.auto.known) in
+    let stretch : IsStretch c.args.map.now.ranges (c.args.address + done) c.stretch_at-stretch.result.offset (length c.read_stretch.new.out) =
+    subst (λ n. IsStretch c.args.map.now.ranges (c.args.address + done) c.stretch_at-stretch.result.offset n) (sym same)
+    (subst (λ a. IsStretch c.args.map.now.ranges (a + done) c.stretch_at-stretch.result.offset c.stretch_at-stretch.result.count) c.from.ensures c.stretch_at-stretch.ensures.stretch) in
+    let booked : BooksAside c.stretch_at-stretch.result.count c.loop-done.meter c.read_stretch.new.meter =
+    subst (λ n. BooksAside n c.loop-done.meter c.read_stretch.new.meter) same c.in_ok-read_stretch.ensures.reads.books in
     record {
-      read = rw (c.unwrap_or.ensures, c.is_some.ensures)
-          (ReadsCells-more c.args.meter.now.source.store.content c.args.map.now.ranges c.args.address c.loop-index.out c.loop-index.known i c.in_ok-byte.byte
-          (omega arith) (omega arith) before.read (rw (← c.from.ensures) this.held) (λ F is. rw (← c.from.ensures) (this.reads.of_file F (before.books.fetches.same_content ∙ is))));
+      within = omega (arith, c.stretch_at-stretch.ensures.most, c.loop-done.auto);
+      read = ReadsCells_next c.args.meter.now.source.store.content c.args.map.now.ranges c.args.address done end c.loop-done.out c.read_stretch.new.out
+          c.loop-done.known c.read_stretch.new.known (omega arith) (omega arith) (omega (arith, same)) (omega (arith, same, also)) before.read
+          (ReadsCells_stretch c.args.meter.now.source.store.content c.args.map.now.ranges (c.args.address + done) c.stretch_at-stretch.result.offset c.read_stretch.new.out
+          c.read_stretch.new.known stretch c.in_ok-read_stretch.ensures.known c.in_ok-read_stretch.ensures.zeros
+          (λ F is. c.in_ok-read_stretch.ensures.reads.of_file F (before.books.fetches.same_content ∙ is)));
       books = record {
-        fetches = fetches_then i 1 c.args.meter.now.source c.loop-index.meter.source c.read_byte.new.meter.source before.books.fetches c.read_byte.ensures.reads.books.fetches;
+        fetches = fetches_then done c.stretch_at-stretch.result.count c.args.meter.now.source c.loop-done.meter.source c.read_stretch.new.meter.source before.books.fetches
+            booked.fetches;
         spends = search rules;
       };
-      caused = IsCaused_later None i c.args.meter.now.source c.loop-index.meter.source c.read_byte.new.meter.source before.books.fetches before.caused this.reads.caused;
+      caused = IsCaused_later None done c.args.meter.now.source c.loop-done.meter.source c.read_stretch.new.meter.source before.books.fetches before.caused
+          c.in_ok-read_stretch.ensures.reads.caused;
     }
