@@ -8,14 +8,13 @@ use Rattle.mdmp_tool.specs.Faults.{item_text, kind_words, part_words}
 use Rattle.mdmp_tool.specs.declared.pieces.Piece.{Piece}
 use Rattle.mdmp_tool.specs.ItemLines.{extent_text, name_text, information_text}
 use Rattle.mdmp_tool.specs.PdbLines.{cut_text, digits_text, guid_text}
-use Rattle.mdmp_tool.specs.declared.pieces.Piece.TheVariants.{Text, Decimal, WideDecimal, Hex2, Hex4, Hex8, Hex16, Extent, Name, Information, Item, Kind, Part, Guid, Escaped, Digits, Cut}
+use Rattle.mdmp_tool.specs.declared.pieces.Piece.TheVariants.{Text, Decimal, WideDecimal, Hex4, Hex8, Hex16, Extent, Name, Information, Item, Kind, Part, Guid, Escaped, Digits, Cut}
 
 -- the bytes of one piece
 abbrev pub piece_text : Piece → List ℕ
 piece_text (Text text) = text.now
 piece_text (Decimal number) = decimal number
 piece_text (WideDecimal number) = decimal number
-piece_text (Hex2 number) = hex 2 number
 piece_text (Hex4 number) = hex 4 number
 piece_text (Hex8 number) = hex 8 number
 piece_text (Hex16 number) = hex 16 number

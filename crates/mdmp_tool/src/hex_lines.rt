@@ -7,7 +7,8 @@ ghost use Rattle.mdmp_lister.specs.Addressing.{cell, cells};
 ghost use Rattle.mdmp_tool.specs.HexText.{cell_text, hex_line, line_text, cells_text};
 
 use crate::pieces::{Piece, put_piece, put_pieces};
-use mdmp_source::{Out, OutFailed};
+use mdmp_source::{Out, OutFailed, write_all};
+use mdmp_wire::hex_digits;
 
 /// How many bytes a line has, at most.
 const LINE: usize = 16;
@@ -87,8 +88,16 @@ fn put_cells<O: Out>(out: &mut O, bytes: &[u8], known: &[bool]) -> Result<(), Ou
 fn put_cell<O: Out>(out: &mut O, byte: u8, is_known: bool) -> Result<(), OutFailed>
     ensures { Puts result (O.state out.old) (cell_text (cell byte is_known)) (O.state out.new) }
 {
-    if !is_known {
-        return put_piece(out, Piece::Text(" ??"));
+    write_all(out, &cell_of(byte, is_known))
+}
+
+/// The text of a byte: put together, so that it is one write.
+fn cell_of(byte: u8, is_known: bool) -> [u8; 3]
+    ensures { result ≡ cell_text (cell byte is_known) }
+{
+    let mut text = *b" ??";
+    if is_known {
+        hex_digits(u64::from(byte), &mut text[1..]);
     }
-    put_pieces(out, &[Piece::Text(" "), Piece::Hex2(byte)])
+    text
 }

@@ -24,7 +24,6 @@ pub(crate) enum Piece<'a> {
     Text(&'a str),
     Decimal(u64),
     WideDecimal(u128),
-    Hex2(u8),
     Hex4(u32),
     Hex8(u32),
     Hex16(u64),
@@ -273,7 +272,6 @@ pub(crate) fn put_piece<O: Out>(out: &mut O, piece: Piece<'_>) -> Result<(), Out
         Piece::Text(text) => put_text(out, text),
         Piece::Decimal(number) => put_decimal(out, number),
         Piece::WideDecimal(number) => put_wide_decimal(out, number),
-        Piece::Hex2(number) => put_hex2(out, number),
         Piece::Hex4(number) => {
             let mut digits = [0; 4];
             hex_digits(u64::from(number), &mut digits);
