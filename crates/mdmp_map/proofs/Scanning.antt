@@ -12,6 +12,10 @@ use Rattle.mdmp_map.specs.RangeLaws.{limit_past, limit_past-le, next_start-lt, n
 use Rattle.mdmp_map.specs.Finding.{place_in, scan_len}
 use Rattle.mdmp_map.specs.Ranges.{IsPlaced, IsLeft, address_end, range_end, holds, first_range, ranges_before, next_start, left_of, place_of}
 
+-- what is read past the end of a list
+abbrev pub no_range : Range
+no_range = record { start = 0; length = 0; offset = 0 }
+
 -- what a scan finds from some ranges on
 unfoldable pub scan : ℕ → ℕ → List Range → Option Place
 scan limit address [] = None

@@ -13,11 +13,7 @@ use Rattle.mdmp_map.specs.Finding.{IsFirstPast, place_in}
 use Rattle.mdmp_map.specs.Ranges.{AreSorted, IsGap, IsPlaced, address_end, holds, next_start, place_of, range_end}
 use Rattle.mdmp_map.specs.RangeLaws.{limit_past, none_found}
 use Rattle.mdmp_map.proofs.Gaps.{gap_to_next_start}
-use Rattle.mdmp_map.proofs.Scanning.{found, holds_from, limit_past-begun, limit_past-ahead, next_start-nil, next_start-passes, scan, scan-nil, scan-passes, scan-place_of}
-
--- what is read past the end
-abbrev pub no_range : Range
-no_range = record { start = 0; length = 0; offset = 0 }
+use Rattle.mdmp_map.proofs.Scanning.{found, holds_from, limit_past-ahead, limit_past-begun, next_start-nil, next_start-passes, no_range, scan, scan-nil, scan-passes, scan-place_of}
 
 -- their ends rise, and their starts do
 pub ends_rise : (ranges : List Range) → AreSorted ranges → IsNonDecreasingBy range_end ranges
@@ -31,34 +27,33 @@ starts_rise ranges sorted = IsNonDecreasingBy-from_all_adjacent (λ (r : Range).
 ended : (address : ℕ) (r : Range) → range_end r ≤ address → holds address r ≡ false
 ended address r before = grind (arith, nat_tests)
 
--- they hold nothing from there on, and none begins behind it
-pub scan_behind : (limit address i : ℕ) (d : Range) (ranges : List Range) → i ≤ length ranges
-    → ((k : ℕ) → k < i → range_end (get_or ranges k d) ≤ address) → scan limit address (drop i ranges) ≡ scan limit address ranges
-scan_behind limit address zero d ranges within all = refl
-scan_behind limit address (suc i) d ranges within all =
-    let r = get_or ranges i d in
-    let before : range_end r ≤ address = all i (omega arith) in
+-- what a list of ranges makes that such a range in front of it does not change, it makes behind the first i of them
+behind : {Y : Type 0} (F : List Range → Y) (address i : ℕ) (d : Range) (ranges : List Range)
+    → ((r : Range) (rest : List Range) → range_end r ≤ address → F (r ∷ rest) ≡ F rest) → i ≤ length ranges
+    → ((k : ℕ) → k < i → range_end (get_or ranges k d) ≤ address) → F (drop i ranges) ≡ F ranges
+behind F address zero d ranges unchanged within all = refl
+behind F address (suc i) d ranges unchanged within all =
     let next : suc i ≡ i + 1 = omega arith in
     rw next (sym (
-    at_drop_more (scan limit address) ranges i d (omega (arith, within))
-    ∙ scan-passes limit address r (drop (i + 1) ranges) (ended address r before)
-    ∙ ap (λ n. scan n address (drop (i + 1) ranges)) (limit_past-begun limit address r (omega (arith, before)))
+    at_drop_more F ranges i d (omega (arith, within))
+    ∙ unchanged (get_or ranges i d) (drop (i + 1) ranges) (all i (omega arith))
     )
-    ∙ scan_behind limit address i d ranges (omega (arith, within)) (λ k lt. all k (omega (arith, lt))))
+    ∙ behind F address i d ranges unchanged (omega (arith, within)) (λ k lt. all k (omega (arith, lt))))
 
-pub starts_behind : (limit address i : ℕ) (d : Range) (ranges : List Range) → i ≤ length ranges
+-- they hold nothing from there on, and none begins behind it
+scan_behind : (limit address i : ℕ) (d : Range) (ranges : List Range) → i ≤ length ranges
+    → ((k : ℕ) → k < i → range_end (get_or ranges k d) ≤ address) → scan limit address (drop i ranges) ≡ scan limit address ranges
+scan_behind limit address i d ranges =
+    behind (scan limit address) address i d ranges (λ r rest before.
+    scan-passes limit address r rest (ended address r before)
+    ∙ ap (λ n. scan n address rest) (limit_past-begun limit address r (omega (arith, before))))
+
+starts_behind : (limit address i : ℕ) (d : Range) (ranges : List Range) → i ≤ length ranges
     → ((k : ℕ) → k < i → range_end (get_or ranges k d) ≤ address) → next_start limit address (drop i ranges) ≡ next_start limit address ranges
-starts_behind limit address zero d ranges within all = refl
-starts_behind limit address (suc i) d ranges within all =
-    let r = get_or ranges i d in
-    let before : range_end r ≤ address = all i (omega arith) in
-    let next : suc i ≡ i + 1 = omega arith in
-    rw next (sym (
-    at_drop_more (next_start limit address) ranges i d (omega (arith, within))
-    ∙ next_start-passes limit address r (drop (i + 1) ranges)
-    ∙ ap (λ n. next_start n address (drop (i + 1) ranges)) (limit_past-begun limit address r (omega (arith, before)))
-    )
-    ∙ starts_behind limit address i d ranges (omega (arith, within)) (λ k lt. all k (omega (arith, lt))))
+starts_behind limit address i d ranges =
+    behind (next_start limit address) address i d ranges (λ r rest before.
+    next_start-passes limit address r rest
+    ∙ ap (λ n. next_start n address rest) (limit_past-begun limit address r (omega (arith, before))))
 
 -- ---- ranges that begin behind the address
 

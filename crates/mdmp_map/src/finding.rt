@@ -1,5 +1,5 @@
 //! The place of an address.
-ghost use Rattle.std.specs.Prelude.{◌≡◌, ◌≤◌, ◌<◌, ◌+◌, ◌-◌, ◌*◌, ◌^◌, All, IfSome, IsTrue, length};
+ghost use Rattle.std.specs.Prelude.{◌≡◌, ◌<◌, ◌+◌, All, IfSome, IsTrue, length};
 ghost use Rattle.mdmp_map.specs.declared.range.Range.{Range};
 ghost use Rattle.mdmp_map.specs.Finding.{IsFound, IsHalved, scan_len};
 ghost use Rattle.mdmp_map.specs.Ranges.{AreSorted, IsLeft, IsPlaced, first_range, place_of};
@@ -27,7 +27,7 @@ pub fn place_of(ranges: &[Range], address: u64) -> Option<Place>
     look_up(ranges, false, address).place()
 }
 
-/// Finds an address among ranges, and counts nothing.
+/// Finds an address among ranges, under a ledger that nothing reads.
 pub(crate) fn look_up(ranges: &[Range], is_sorted: bool, address: u64) -> Found
     requires placed { All IsPlaced ranges.now }
     requires sorted { IsTrue is_sorted → AreSorted ranges.now }
@@ -36,7 +36,7 @@ pub(crate) fn look_up(ranges: &[Range], is_sorted: bool, address: u64) -> Found
     search_from::<Brand>(ranges, is_sorted, address, Blank::new(1))
 }
 
-/// Finds an address under a ledger that nothing reads.
+/// Finds an address under the ledger that the blank opens.
 fn search_from<G: Ledger>(ranges: &[Range], is_sorted: bool, address: u64, blank: Blank) -> Found
     requires placed { All IsPlaced ranges.now }
     requires sorted { IsTrue is_sorted → AreSorted ranges.now }

@@ -1,5 +1,5 @@
 //! An address among sorted ranges.
-ghost use Rattle.std.specs.Prelude.{◌≡◌, ◌≤◌, ◌<◌, ◌+◌, ◌-◌, ◌*◌, ◌^◌, ℕ, All, length, slice_get};
+ghost use Rattle.std.specs.Prelude.{◌≡◌, ℕ, All, length, slice_get};
 ghost use Rattle.mdmp_map.specs.Finding.{IsFirstPast, IsFound, IsHalved};
 ghost use Rattle.mdmp_map.specs.Ranges.{AreSorted, IsPlaced};
 

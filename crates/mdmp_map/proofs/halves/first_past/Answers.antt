@@ -1,21 +1,16 @@
 use Rattle.std.proofs.Common.{◌≡◌, ◌≤◌, ◌+◌, ◌-◌, ◌/◌, ℕ, ap, arith, slice_index_or, sym}
 use Rattle.std.proofs.lemmas.List.{get_or_default}
 use Rattle.std.proofs.lemmas.Option.{slice_get-get_or}
-use Rattle.mdmp_map.specs.declared.range.Range.{Range}
 use Rattle.mdmp_map.specs.Ranges.{range_end}
-use Rattle.mdmp_map.proofs.Halving.{one_more, halved_again, still_enough, still_few}
+use Rattle.mdmp_map.proofs.Halving.{all_halved, one_step}
+use Rattle.mdmp_map.proofs.Scanning.{no_range}
 use Rattle.mdmp_map.proofs.Sorted.{ends_rise}
 use Rattle.mdmp_map.proofs.halves.first_past.Goals as goal
-
--- what is read past the end
-abbrev no_range : Range
-no_range = record { start = 0; length = 0; offset = 0 }
 
 pub loop-low-preserved-then-end-from : goal.loop-low-preserved-then-end-from
 loop-low-preserved-then-end-from g c =
     let before = c.loop-low.invariant in
     let middle : ℕ = c.loop-low.low + (c.loop-low.high - c.loop-low.low) / 2 in
-    let double = one_more c.args.steps.now c.loop-low.steps c.tick.new.self before.more c.tick.ensures in
     record {
       order = omega (arith, c.loop-low-test.true);
       within = before.within;
@@ -26,17 +21,14 @@ loop-low-preserved-then-end-from g c =
           omega (arith, rise, same, c.if-end-from.true, c.end.ensures, c.from.ensures);
       past = before.past;
       next = before.next;
-      halved = rw double (halved_again _ (c.loop-low.high - c.loop-low.low) _ _ (omega arith) before.halved);
-      few = rw double (still_few _ (c.loop-low.high - c.loop-low.low) _ (omega (arith, c.loop-low-test.true)) before.halved);
-      enough = rw double (still_enough _ (c.loop-low.high - c.loop-low.low) _ _ (omega (arith, c.loop-low-test.true)) before.enough);
-      more = omega (arith, before.more, c.tick.ensures);
+      count = one_step _ (c.loop-low.high - c.loop-low.low) _ _ c.loop-low.steps _ (omega (arith, c.loop-low-test.true)) (omega arith)
+          (omega (arith, c.loop-low-test.true)) c.tick.ensures before.count;
     }
 
 pub loop-low-preserved : goal.loop-low-preserved
 loop-low-preserved g c =
     let before = c.loop-low.invariant in
     let middle : ℕ = c.loop-low.low + (c.loop-low.high - c.loop-low.low) / 2 in
-    let double = one_more c.args.steps.now c.loop-low.steps c.tick.new.self before.more c.tick.ensures in
     record {
       order = omega arith;
       within = omega (arith, before.order, before.within);
@@ -45,10 +37,8 @@ loop-low-preserved g c =
           let same = ap range_end (get_or_default c.args.ranges.now middle d no_range lt) in
           omega (arith, same, c.if-end-from.false, c.end.ensures, c.from.ensures);
       next = sym (slice_get-get_or c.args.ranges.now middle no_range (omega (arith, c.loop-low-test.true, before.within)));
-      halved = rw double (halved_again _ (c.loop-low.high - c.loop-low.low) _ _ (omega arith) before.halved);
-      few = rw double (still_few _ (c.loop-low.high - c.loop-low.low) _ (omega (arith, c.loop-low-test.true)) before.halved);
-      enough = rw double (still_enough _ (c.loop-low.high - c.loop-low.low) _ _ (omega (arith, c.loop-low-test.true)) before.enough);
-      more = omega (arith, before.more, c.tick.ensures);
+      count = one_step _ (c.loop-low.high - c.loop-low.low) _ _ c.loop-low.steps _ (omega (arith, c.loop-low-test.true)) (omega arith)
+          (omega (arith, c.loop-low-test.true)) c.tick.ensures before.count;
     }
 
 pub returns-clause-first : goal.returns-clause-first
@@ -62,3 +52,7 @@ returns-clause-first g c =
       },
       c.loop-low.invariant.next,
     )
+
+pub returns-clause-steps : goal.returns-clause-steps
+returns-clause-steps g c =
+    all_halved _ (c.loop-low.high - c.loop-low.low) _ _ (omega (arith, c.loop-low-test.false)) c.loop-low.invariant.count

@@ -2,13 +2,9 @@ use Rattle.std.proofs.Common.{◌≡◌, ◌∙◌, ℕ, ◌<◌, ◌≤◌, min
 use Rattle.mdmp_map.specs.declared.range.Range.{Range}
 use Rattle.mdmp_map.specs.RangeLaws.{limit_past, limit_past-lt, limit_past-le}
 use Rattle.mdmp_map.proofs.Gaps.{gap_at_end, starts_passed}
-use Rattle.mdmp_map.proofs.Scanning.{scan-place_of, limit_past-ahead, limit_past-begun, counted_all, counted_found, counted_passed, found, passed, not_found}
+use Rattle.mdmp_map.proofs.Scanning.{scan-place_of, limit_past-ahead, limit_past-begun, counted_all, counted_found, counted_passed, found, no_range, passed, not_found}
 use Rattle.mdmp_map.proofs.scan.scan.Goals as goal
 use Rattle.mdmp_map.proofs.scan.scan.Goals.{then-address-range, else-address-range}
-
--- what is read past the end
-abbrev no_range : Range
-no_range = record { start = 0; length = 0; offset = 0 }
 
 pub loop-range-init : goal.loop-range-init
 loop-range-init g c = record {
