@@ -43,7 +43,7 @@ pub record ReadsCells (content : Option (List ℕ)) (ranges : List Range) (addre
   -- one that is known is the file's, where its content is known
   pub of_file : (F : List ℕ) → content ≡ Some F → cells bytes known ≡ cells_at F ranges address (length bytes)
 
--- the memory from this address on was read with this answer, aside from the listing, by fetches of no more bytes
+-- the memory from this address on was read with this answer, aside from the listing, by fetches of at most so many bytes
 pub record ReadsAddresses (ranges : List Range) (address : ℕ) (result : Result (Unit {0}) SourceFault) (bytes : List ℕ) (known : List Bool) (old new : MeterState) : Type 0 where
   pub cells : OnOk result (ReadsCells old.source.store.content ranges address bytes known)
   pub books : BooksAside (length bytes) old new

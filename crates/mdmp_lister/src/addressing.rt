@@ -11,7 +11,7 @@ use mdmp_map::AddressMap;
 use mdmp_source::{SourceFault, Store};
 use std::alloc::Allocator;
 
-/// Addresses whose bytes follow each other in the file, or which no range holds.
+/// Addresses that follow each other, which one range is the first to hold, or which none holds.
 #[derive(Clone, Copy)]
 struct Stretch {
     /// Where the first byte stands in the file, or none where no range holds an address of them.
@@ -47,7 +47,8 @@ fn stretch_at<A: Allocator>(map: &AddressMap<A>, address: u128, most: usize) -> 
     }
 }
 
-/// Reads the bytes that stand from an offset of the file on, by one fetch, or none.
+/// Reads the bytes that stand from an offset of the file on, by one fetch; where there is none they are
+/// not known, and nothing is fetched.
 fn read_stretch<S: Store>(
     meter: &mut Meter<S>,
     offset: Option<u64>,
@@ -72,8 +73,8 @@ fn read_stretch<S: Store>(
 
 /// Reads the memory of the dumped process from an address on, as far as the ranges of the map hold it.
 /// Where one holds an address, its byte is put into `out`, and `known` is true there; else both are 0
-/// and false. After a fault they may hold anything. Addresses whose bytes follow each other in the file
-/// are read by one fetch.
+/// and false. After a fault they may hold anything. Each stretch of addresses is read by one fetch, or
+/// by none where no range holds it.
 pub(crate) fn read_addresses<S: Store, A: Allocator>(
     meter: &mut Meter<S>,
     map: &AddressMap<A>,

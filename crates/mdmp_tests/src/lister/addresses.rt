@@ -124,7 +124,7 @@ fn read<const N: usize>(rt: &HostRuntime, file: &[u8], address: u64) -> Result<R
 }
 
 #[test]
-fn each_run_of_bytes_is_one_fetch(rt: HostRuntime) -> Result<(), Fail> {
+fn each_stretch_of_bytes_is_one_fetch(rt: HostRuntime) -> Result<(), Fail> {
     let file = file(&rt, 1, &OVERLAPPING)?;
     let known = [false, true, true, true, true, true, true, false];
     assert_eq!(rt; read(&rt, &file, 0xfff)?, (*b"\0ABCDyz\0", known, 2));
