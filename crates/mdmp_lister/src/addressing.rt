@@ -7,7 +7,7 @@ ghost use Rattle.mdmp_lister.specs.Fetching.{Reads};
 ghost use Rattle.mdmp_lister.specs.Meter.{BooksAside};
 
 use crate::meter::Meter;
-use mdmp_map::AddressMap;
+use mdmp_map::{AddressMap, Found};
 use mdmp_source::{SourceFault, Store};
 use std::alloc::Allocator;
 
@@ -35,14 +35,14 @@ fn stretch_at<A: Allocator>(map: &AddressMap<A>, address: u128, most: usize) -> 
             count: most,
         };
     };
-    match map.find(first) {
-        Some(place) => Stretch {
+    match map.look_up(first) {
+        Found::Held(place) => Stretch {
             offset: Some(place.offset),
             count: place.left.min(most as u64) as usize,
         },
-        None => Stretch {
+        Found::Gap(count) => Stretch {
             offset: None,
-            count: map.gap(first).min(most as u128) as usize,
+            count: count.min(most as u128) as usize,
         },
     }
 }

@@ -3,6 +3,9 @@ use Rattle.std.proofs.Common.{◌≡◌, ◌≤◌, ◌<◌, ◌+◌, ℕ, List,
 use Rattle.std.specs.Prelude.{All, IfSome}
 use Rattle.mdmp_map.specs.declared.range.Range.{Range}
 use Rattle.mdmp_map.specs.declared.place.Place.{Place}
+use Rattle.mdmp_map.specs.declared.found.Found.{Found}
+use Rattle.mdmp_map.specs.declared.found.Found.TheVariants.{Held, Gap}
+use Rattle.mdmp_map.specs.Finding.{HasReach, IfHeld, IsFound}
 use Rattle.mdmp_map.specs.Ranges.{IsLeft, IsPlaced, IsWithin, first_range, place_of}
 use Rattle.mdmp_map.specs.RangeLaws.{place-left, place-within}
 use Rattle.mdmp_map.proofs.Scanning.{place_of-IsLeft}
@@ -20,3 +23,12 @@ pub left_within : (ranges : List Range) (address size : ℕ) (found : Option Pla
     → IfSome found (λ place. place.offset + place.left ≤ size)
 left_within ranges address size None is all = tt
 left_within ranges address size (Some place) is all = place-within ranges address size place all (sym is)
+
+pub held_reaches : (ranges : List Range) (address : ℕ) (found : Found) → IsFound ranges address found → All IsPlaced ranges
+    → IfHeld found (HasReach ranges address)
+held_reaches ranges address (Gap count) is placed = tt
+held_reaches ranges address (Held place) is placed = record {
+  left = place_of-IsLeft address place ranges placed is;
+  some = place-left ranges address place (sym is);
+  within = λ size all. place-within ranges address size place all (sym is);
+}

@@ -1,10 +1,10 @@
 -- What a search among ranges finds.
-use Rattle.std.specs.Prelude.{◌≡◌, ◌≤◌, ◌<◌, ◌+◌, ◌-◌, ◌*◌, ◌^◌, ℕ, min, List, Some, None, length, slice_index_or}
+use Rattle.std.specs.Prelude.{◌≡◌, ◌≤◌, ◌<◌, ◌+◌, ◌-◌, ◌*◌, ◌^◌, ℕ, min, List, Some, None, All, length, slice_index_or}
 use Rattle.mdmp_map.specs.declared.range.Range.{Range}
 use Rattle.mdmp_map.specs.declared.place.Place.{Place}
 use Rattle.mdmp_map.specs.declared.found.Found.{Found}
-use Rattle.mdmp_map.specs.declared.found.Found.TheVariants.{Held, Free}
-use Rattle.mdmp_map.specs.Ranges.{AreSorted, IsGap, place_of, range_end, ranges_before}
+use Rattle.mdmp_map.specs.declared.found.Found.TheVariants.{Held, Gap}
+use Rattle.mdmp_map.specs.Ranges.{AreSorted, IsGap, IsLeft, IsWithin, first_range, place_of, range_end, ranges_before}
 
 -- the place of an address in a range, where from limit on another comes first
 abbrev pub place_in : ℕ → ℕ → Range → Place
@@ -13,7 +13,19 @@ place_in limit address r = record { offset = r.offset + (address - r.start); lef
 -- the place of the address, or how far no range holds one
 abbrev pub IsFound : List Range → ℕ → Found → Type 0
 IsFound ranges address (Held place) = Some place ≡ place_of ranges address
-IsFound ranges address (Free count) = (None ≡ place_of ranges address) × IsGap ranges address count
+IsFound ranges address (Gap count) = (None ≡ place_of ranges address) × IsGap ranges address count
+
+-- what holds of the place, where a range holds the address
+abbrev pub IfHeld : Found → (Place → Type 0) → Type 0
+IfHeld (Held place) P = P place
+IfHeld (Gap count) P = Unit {0}
+
+-- what is left at the place of an address: the greatest count of addresses that the same range is the first to hold, and
+-- at least one; it lies in a file of that size where the bytes of each range do
+pub record HasReach (ranges : List Range) (address : ℕ) (place : Place) : Type 0 where
+  pub left : (r : Range) → first_range ranges address ≡ Some r → IsLeft ranges address r place.left
+  pub some : 0 < place.left
+  pub within : (size : ℕ) → All (IsWithin size) ranges → place.offset + place.left ≤ size
 
 -- i is the number of the first range that ends past the address, or how many there are where none does
 pub record IsFirstPast (ranges : List Range) (address i : ℕ) : Type 0 where

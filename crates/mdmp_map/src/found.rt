@@ -1,4 +1,4 @@
-//! What a search finds.
+//! What is found at an address.
 ghost use Rattle.std.specs.Prelude.{◌≡◌, ◌≤◌, ◌<◌, ◌^◌, true};
 ghost use Rattle.mdmp_map.specs.Finding.{place_in};
 ghost use Rattle.mdmp_map.specs.Ranges.{IsPlaced, holds};
@@ -10,12 +10,12 @@ use crate::range::Range;
 pub(crate) const ADDRESS_END: u128 = 1 << 64;
 
 /// What is found at an address, and how far it goes.
-#[derive(Clone, Copy)]
-pub(crate) enum Found {
+#[derive(Clone, Copy, Debug, PartialEq, Eq)]
+pub enum Found {
     /// A range holds it: where its byte stands.
     Held(Place),
-    /// No range holds it, nor any of so many addresses from it on.
-    Free(u128),
+    /// No range holds it: so many addresses from it on have none, all of them below 2^64.
+    Gap(u128),
 }
 
 impl Found {
@@ -30,7 +30,7 @@ impl Found {
     {
         match self {
             Found::Held(place) => Some(place),
-            Found::Free(_) => None,
+            Found::Gap(_) => None,
         }
     }
 
@@ -41,7 +41,7 @@ impl Found {
     {
         match self {
             Found::Held(_) => 0,
-            Found::Free(count) => count,
+            Found::Gap(count) => count,
         }
     }
 }

@@ -16,11 +16,11 @@ pub(crate) fn halve<G: Ledger>(ranges: &[Range], address: u64, steps: &mut Steps
     ensures steps { IsHalved (length ranges.now) steps.old steps.new }
 {
     match first_past(ranges, address, steps) {
-        None => Found::Free(ADDRESS_END - u128::from(address)),
+        None => Found::Gap(ADDRESS_END - u128::from(address)),
         Some(range) if range.start <= address => {
             Found::Held(place_in(&range, address, ADDRESS_END))
         }
-        Some(range) => Found::Free(u128::from(range.start - address)),
+        Some(range) => Found::Gap(u128::from(range.start - address)),
     }
 }
 

@@ -2,10 +2,11 @@
 ghost use Rattle.std.specs.Prelude.{◌≡◌, ◌≤◌, ◌<◌, ◌+◌, ◌-◌, ◌^◌, ◌++◌, ◌∷◌, ◌↔◌, [], ℕ, All, IfOk, IfSome, IsTrue, Some, length, slice_index_or, vec_capacity};
 ghost use Rattle.mdmp_map.specs.declared.range.Range.{Range};
 ghost use Rattle.mdmp_map.specs.Map.{MapState, free_of};
-ghost use Rattle.mdmp_map.specs.Finding.{LooksAt};
+ghost use Rattle.mdmp_map.specs.Finding.{HasReach, IfHeld, IsFound, LooksAt};
 ghost use Rattle.mdmp_map.specs.Ranges.{AreSorted, IsGap, IsLeft, IsPlaced, IsWithin, first_range, place_of, range_end};
 
 use crate::finding::{look_up, search};
+use crate::found::Found;
 use crate::place::Place;
 use crate::range::Range;
 use crate::steps::Steps;
@@ -106,7 +107,18 @@ impl<A: Allocator> AddressMap<A> {
             → IfSome result (λ place. place.offset + place.left ≤ size) }
         ensures placed { All IsPlaced self.now.ranges }
     {
-        look_up(&self.ranges, self.is_sorted, address).place()
+        self.look_up(address).place()
+    }
+
+    /// Looks an address up, by one search: where its byte stands, which is what `find` tells, or how far
+    /// no range holds one, which is what `gap` tells.
+    #[tactic(auto, using(crate::proofs::Places::held_reaches))]
+    pub fn look_up(&self, address: u64) -> Found
+        ensures found { IsFound self.now.ranges address result }
+        ensures reach { IfHeld result (HasReach self.now.ranges address) }
+        ensures placed { All IsPlaced self.now.ranges }
+    {
+        look_up(&self.ranges, self.is_sorted, address)
     }
 
     /// Finds what `find` does, and counts a step for each range that it looks at: while the ranges are
@@ -124,7 +136,7 @@ impl<A: Allocator> AddressMap<A> {
     pub fn gap(&self, address: u64) -> u128
         ensures { IsGap self.now.ranges address result }
     {
-        look_up(&self.ranges, self.is_sorted, address).gap()
+        self.look_up(address).gap()
     }
 }
 

@@ -26,5 +26,5 @@ pub(crate) fn scan<G: Ledger>(ranges: &[Range], address: u64, steps: &mut Steps<
             next_start = next_start.min(u128::from(range.start));
         }
     }
-    Found::Free(next_start - u128::from(address))
+    Found::Gap(next_start - u128::from(address))
 }

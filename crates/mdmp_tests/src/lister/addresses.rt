@@ -137,6 +137,34 @@ fn each_stretch_of_bytes_is_one_fetch(rt: HostRuntime) -> Result<(), Fail> {
 }
 
 #[test]
+fn touching_ranges_are_a_fetch_each_and_a_gap_is_none(rt: HostRuntime) -> Result<(), Fail> {
+    // Three sorted ranges, of which the second begins where the first one ends: ABCD, EFGH, IJ.
+    let numbers = [
+        5, 52, 44, 3, 0x1000, 0, 4, 96, 0x1004, 0, 4, 100, 0x100c, 0, 2, 104,
+        // and then their bytes
+        0x44434241, 0x48474645, 0x4a49,
+    ];
+    let file = file(&rt, 1, &numbers)?;
+    let known = [
+        false, true, true, true, true, true, true, true, true, false, false, false, false, true,
+        true, false,
+    ];
+    assert_eq!(rt;
+        read(&rt, &file, 0xfff)?,
+        (*b"\0ABCDEFGH\0\0\0\0IJ\0", known, 3)
+    );
+    assert_eq!(rt;
+        read(&rt, &file, 0x1006)?,
+        (
+            *b"GH\0\0\0\0I",
+            [true, true, false, false, false, false, true],
+            2
+        )
+    );
+    Ok(())
+}
+
+#[test]
 fn what_no_range_holds_is_not_fetched(rt: HostRuntime) -> Result<(), Fail> {
     let file = file(&rt, 1, &OVERLAPPING)?;
     for address in [0, 0xff0, 0x1006, u64::MAX - 2, u64::MAX] {

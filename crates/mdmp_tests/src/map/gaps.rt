@@ -1,6 +1,6 @@
 //! How far no range holds an address.
 use super::{assert_places, place, push_all, with_room};
-use mdmp_map::AddressMap;
+use mdmp_map::{AddressMap, Found};
 use std::alloc::Allocator;
 use std::process::Abort;
 use std::test::Fail;
@@ -8,7 +8,8 @@ use std::test::Fail;
 /// How many addresses there are.
 const ALL: u128 = 1 << 64;
 
-/// From each of these addresses on so many are free, and the map is sorted or not.
+/// From each of these addresses on so many are free, and the map is sorted or not. A look tells the
+/// place where there is one, and else the gap.
 fn assert_gaps<A: Allocator>(
     rt: &impl Abort,
     map: &AddressMap<A>,
@@ -18,6 +19,11 @@ fn assert_gaps<A: Allocator>(
     assert_eq!(rt; map.is_sorted(), is_sorted);
     for (address, expected) in rows {
         assert_eq!(rt; map.gap(*address), *expected, "at {address}");
+        let looked_up = match map.find(*address) {
+            Some(place) => Found::Held(place),
+            None => Found::Gap(*expected),
+        };
+        assert_eq!(rt; map.look_up(*address), looked_up, "at {address}");
     }
 }
 
