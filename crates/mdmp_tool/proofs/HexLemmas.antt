@@ -18,7 +18,7 @@ pub record IsItem {X : Type 0} (xs : List X) (i : ℕ) (x : X) : Type 0 where
   pub within : i < length xs
   pub is : get_or xs i x ≡ x
 
-text_more : {X : Type 0} (f : X → List ℕ) (xs : List X) (i : ℕ) (x : X) → IsItem xs i x → flat_map f (take (i + 1) xs) ≡ flat_map f (take i xs) ++ f x
+pub text_more : {X : Type 0} (f : X → List ℕ) (xs : List X) (i : ℕ) (x : X) → IsItem xs i x → flat_map f (take (i + 1) xs) ≡ flat_map f (take i xs) ++ f x
 text_more {X = X} f xs i x at =
     ap (flat_map f) (take_more xs i x at.within)
     ∙ flat_map-append f (take i xs) (get_or xs i x ∷ [])

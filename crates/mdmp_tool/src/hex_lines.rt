@@ -4,14 +4,16 @@ ghost use Rattle.std.specs.List.{flat_map};
 ghost use Rattle.mdmp_source.specs.Output.{Puts};
 ghost use Rattle.mdmp_map.specs.Ranges.{address_end};
 ghost use Rattle.mdmp_lister.specs.Addressing.{cell, cells};
-ghost use Rattle.mdmp_tool.specs.HexText.{cell_text, hex_line, line_text, cells_text};
+ghost use Rattle.mdmp_tool.specs.HexText.{address_text, cell_text, hex_line, line_text, cells_text};
 
-use crate::pieces::{Piece, put_piece, put_pieces};
 use mdmp_source::{Out, OutFailed, write_all};
 use mdmp_wire::hex_digits;
 
 /// How many bytes a line has, at most.
 const LINE: usize = 16;
+
+/// How long the text of a byte is.
+const CELL: usize = 3;
 
 /// Prints the bytes of the addresses from this one on as lines of sixteen, the first of which begins at
 /// the address. `known` says beside each byte whether it is known. No bytes print nothing.
@@ -61,38 +63,51 @@ fn put_hex_line<O: Out>(
     bytes: &[u8],
     known: &[bool],
 ) -> Result<(), OutFailed>
-    requires { length known.now ≡ length bytes.now }
+    requires same { length known.now ≡ length bytes.now }
+    requires line { length bytes.now ≤ 16 }
     ensures { Puts result (O.state out.old) (hex_line address (cells bytes.now known.now)) (O.state out.new) }
 {
-    put_pieces(
-        out,
-        &[Piece::Text("0x"), Piece::Hex16(address), Piece::Text(":")],
-    )?;
+    write_all(out, &address_of(address))?;
     put_cells(out, bytes, known)?;
-    put_piece(out, Piece::Text("\n"))
+    write_all(out, b"\n")
 }
 
-/// Prints bytes one behind the other, each behind a space.
+/// The text of an address.
+fn address_of(address: u64) -> [u8; 19]
+    ensures { result ≡ address_text address }
+{
+    let mut text = *b"0x0000000000000000:";
+    hex_digits(address, &mut text[2..18]);
+    text
+}
+
+/// Prints the bytes of a line one behind the other, each behind a space. They are put together first, so
+/// that they are one write.
 fn put_cells<O: Out>(out: &mut O, bytes: &[u8], known: &[bool]) -> Result<(), OutFailed>
-    requires { length known.now ≡ length bytes.now }
+    requires same { length known.now ≡ length bytes.now }
+    requires line { length bytes.now ≤ 16 }
     ensures { Puts result (O.state out.old) (flat_map cell_text (cells bytes.now known.now)) (O.state out.new) }
 {
-    for (index, byte) in bytes.iter().enumerate() {
-        put_cell(out, *byte, known[index])?;
-    }
-    Ok(())
+    let mut text = [0; CELL * LINE];
+    let text = &mut text[..CELL * bytes.len()];
+    write_cells(text, bytes, known);
+    write_all(out, text)
 }
 
-/// Prints a byte as two hexadecimal digits, or two question marks where it is not known, behind a
-/// space.
-fn put_cell<O: Out>(out: &mut O, byte: u8, is_known: bool) -> Result<(), OutFailed>
-    ensures { Puts result (O.state out.old) (cell_text (cell byte is_known)) (O.state out.new) }
+/// Puts the texts of bytes one behind the other.
+fn write_cells(text: &mut [u8], bytes: &[u8], known: &[bool])
+    requires same { length known.now ≡ length bytes.now }
+    requires room { length text.old ≡ 3 * length bytes.now }
+    ensures { text.new ≡ flat_map cell_text (cells bytes.now known.now) }
 {
-    write_all(out, &cell_of(byte, is_known))
+    for (index, byte) in bytes.iter().enumerate() {
+        let start = CELL * index;
+        text[start..start + CELL].copy_from_slice(&cell_of(*byte, known[index]));
+    }
 }
 
-/// The text of a byte: put together, so that it is one write.
-fn cell_of(byte: u8, is_known: bool) -> [u8; 3]
+/// The text of a byte: a space, and two hexadecimal digits, or two question marks where it is not known.
+fn cell_of(byte: u8, is_known: bool) -> [u8; CELL]
     ensures { result ≡ cell_text (cell byte is_known) }
 {
     let mut text = *b" ??";
