@@ -1,12 +1,20 @@
 -- What is fetched of the heads of streams.
-use Rattle.std.specs.Prelude.{ℕ, List, Option, Some, None, nat_lt, sum_by, if◌then◌else◌}
+use Rattle.std.specs.Prelude.{◌≡◌, ◌<◌, ℕ, List, Option, Some, None, nat_lt, sum_by, if◌then◌else◌}
 use Rattle.mdmp_source.specs.Range.{is_inside}
+use Rattle.mdmp_source.specs.declared.location.Location.{Location}
 use Rattle.mdmp_wire.specs.declared.entry.Entry.{Entry}
 use Rattle.mdmp_lister.specs.declared.choice.Choice.{Choice}
+use Rattle.mdmp_lister.specs.declared.fault.Fault.{Fault}
+use Rattle.mdmp_lister.specs.declared.fault.FaultKind.TheVariants.{ShortStream}
 use Rattle.mdmp_lister.specs.declared.kind.Kind.{Kind}
 use Rattle.mdmp_lister.specs.Format.Listing.{is_chosen}
 use Rattle.mdmp_lister.specs.Format.Kind.{form_of, kind_of, lists_ranges, record_size}
 use Rattle.mdmp_lister.specs.Format.Shape.{head_cost, head_size}
+
+-- a stream of this kind is too short for its head, or for its one record, and has this fault
+pub record IsShort (at : Location) (kind : Kind) (fault : Fault) : Type 0 where
+  pub less : at.size < head_size (form_of kind) (record_size kind)
+  pub is : fault ≡ record { kind = ShortStream; offset = at.rva; size = at.size }
 
 -- the bytes that are fetched of a head, of a stream of so many bytes: none of one that is too short
 abbrev pub head_spent : ℕ → Kind → ℕ

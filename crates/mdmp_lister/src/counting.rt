@@ -1,15 +1,15 @@
 //! How many ranges the memory lists of a file have, read through a source.
-ghost use Rattle.std.specs.Prelude.{◌≡◌, ◌≤◌, ◌<◌, ◌^◌, ℕ, List, Some, length};
+ghost use Rattle.std.specs.Prelude.{◌≡◌, ◌<◌, ◌^◌, ℕ, List, Some, length};
 ghost use Rattle.mdmp_lister.specs.Format.Numbers.{range_count, ranges_in};
 ghost use Rattle.mdmp_lister.specs.Format.Directory.{IsDirectory};
 ghost use Rattle.mdmp_lister.specs.Fetching.{Reads};
 ghost use Rattle.mdmp_lister.specs.Heading.{ahead_of, heads_ahead};
 ghost use Rattle.mdmp_lister.specs.Meter.{Books};
-ghost use Rattle.mdmp_lister.specs.Format.Kind.{greatest_record, kind_of};
+ghost use Rattle.mdmp_lister.specs.Format.Kind.{kind_of};
 
 use crate::choice::Choice;
 use crate::fault::FaultKind;
-use crate::heading::head_at;
+use crate::heading::fetch_head;
 use crate::kind::Kind;
 use crate::meter::Meter;
 use crate::shape::location_fault;
@@ -20,12 +20,7 @@ use mdmp_wire::Entry;
 /// has no fault; any other entry has none. Of a list that is long enough its head is fetched, of
 /// anything else nothing.
 #[tactic(auto, using(crate::proofs::Metering::Books_none))]
-fn ranges_of_entry<S: Store>(
-    meter: &mut Meter<S>,
-    window: &mut [u8],
-    entry: Entry,
-) -> Result<u64, SourceFault>
-    requires { greatest_record ≤ length window.old }
+fn ranges_of_entry<S: Store>(meter: &mut Meter<S>, entry: Entry) -> Result<u64, SourceFault>
     ensures { Reads (Books 1 (ahead_of meter.old.source.size entry)) (λ file count. count ≡ ranges_in file entry (kind_of entry.stream_type))
         result meter.old meter.new }
 {
@@ -35,7 +30,7 @@ fn ranges_of_entry<S: Store>(
     if !kind.lists_ranges() || location_fault(entry, meter.size()).is_some() {
         return Ok(0);
     }
-    match head_at(meter, window, entry.location, kind) {
+    match fetch_head(meter, entry.location, kind) {
         Ok(head) => Ok(head.shape.count),
         Err(fault) => match fault.kind {
             FaultKind::Source(fault) => Err(fault),
@@ -47,11 +42,9 @@ fn ranges_of_entry<S: Store>(
 /// How many ranges the chosen memory lists of a directory have together.
 pub(crate) fn count_ranges<S: Store>(
     meter: &mut Meter<S>,
-    window: &mut [u8],
     entries: &[Entry],
     choice: &Choice,
 ) -> Result<u128, SourceFault>
-    requires window { greatest_record ≤ length window.old }
     requires few { length entries.now < 2 ^ 32 }
     requires directory { (file : List ℕ) → meter.old.source.store.content ≡ Some file → IsDirectory file entries.now }
     ensures { Reads (Books (length entries.now) (heads_ahead choice.now meter.old.source.size entries.now)) (λ file count. count ≡ range_count file choice.now)
@@ -62,7 +55,7 @@ pub(crate) fn count_ranges<S: Store>(
         if !choice.has(entry.stream_type) {
             continue;
         }
-        total += u128::from(ranges_of_entry(meter, window, *entry)?);
+        total += u128::from(ranges_of_entry(meter, *entry)?);
     }
     Ok(total)
 }

@@ -1,6 +1,7 @@
 //! What is read of a file through its source, one fetch at a time.
 ghost use Rattle.std.specs.Prelude.{◌≡◌, ◌≤◌, ◌<◌, ◌+◌, ◌^◌, ℕ, List, Some, length, take, IfOk};
 ghost use Rattle.mdmp_source.specs.Range.{IsInside, bytes_at};
+ghost use Rattle.mdmp_wire.specs.Number.{u32_at};
 ghost use Rattle.mdmp_lister.specs.Fetching.{Reads, ReadsName};
 ghost use Rattle.mdmp_lister.specs.Meter.{Books};
 ghost use Rattle.mdmp_lister.specs.Format.Name.{name_at};
@@ -11,7 +12,7 @@ use crate::fault::{Fault, FaultKind, faulted};
 use crate::meter::Meter;
 use crate::name::check_units;
 use mdmp_source::{SourceFault, Store, inside};
-use mdmp_wire::Record;
+use mdmp_wire::{Record, get_at};
 
 /// The name of a record, whose units were read into the front of a buffer.
 #[derive(Clone, Copy, Debug, PartialEq, Eq)]
@@ -53,17 +54,33 @@ pub(crate) fn read<R: Record, S: Store>(
     Ok(R::read(&window[..size]))
 }
 
+/// The record that bytes of a file begin with.
+pub(crate) fn first_of<R: Record>(bytes: &[u8]) -> R
+    requires { R.SIZE ≤ length bytes.now }
+    ensures { (file : List ℕ) (at : ℕ) → bytes.now ≡ bytes_at file at (length bytes.now) → R.at file at ≡ result }
+{
+    get_at(bytes, 0)
+}
+
+/// How many bytes the units of the name at `rva` have, as it says.
+fn read_length<S: Store>(meter: &mut Meter<S>, rva: u64) -> Result<u32, SourceFault>
+    requires { rva + 4 ≤ meter.old.source.size }
+    ensures { Reads (Books 1 4) (λ file length. u32_at file rva ≡ length) result meter.old meter.new }
+{
+    let mut bytes = [0; 4];
+    meter.fetch(rva, &mut bytes)?;
+    Ok(first_of(&bytes))
+}
+
 /// The name at `rva`, its units into the front of a buffer as long as the limit, or its fault: a
 /// length outside the file, an odd one, units outside. The units of a longer name are not fetched.
 #[tactic(auto, using(crate::proofs::Fetches::IsCaused_later, crate::proofs::Costs::source_name_cost, crate::proofs::Naming::source_reached), unfolding(crate::specs::Format::Name::name_at, mdmp_wire::specs::Number::array_at))]
 pub(crate) fn read_name<S: Store>(
     meter: &mut Meter<S>,
-    window: &mut [u8],
     buffer: &mut [u8],
     rva: u64,
 ) -> Result<NameRead, Fault>
-    requires small { length buffer.old < 2 ^ 32 }
-    requires window { 4 ≤ length window.old }
+    requires { length buffer.old < 2 ^ 32 }
     ensures name { (file : List ℕ) → meter.old.source.store.content ≡ Some file
         → Answers (name_at file rva (length buffer.new)) (name_read buffer.new) result }
     ensures held { IfOk result (IsHeld (length buffer.new)) }
@@ -77,7 +94,7 @@ pub(crate) fn read_name<S: Store>(
     if !inside(rva, 4, size) {
         return faulted(FaultKind::NameLengthOutside, rva, 4);
     }
-    let length: u32 = read(meter, window, rva)?;
+    let length = read_length(meter, rva)?;
     check_units(rva, length, size)?;
     if buffer.len() < length as usize {
         return Ok(NameRead::Long(length));

@@ -1,14 +1,16 @@
 //! The head of a stream, read through a source.
-ghost use Rattle.std.specs.Prelude.{◌≡◌, ◌≤◌, ◌+◌, ℕ, List, Some, length, IfOk};
-ghost use Rattle.mdmp_source.specs.Range.{IsInside};
+ghost use Rattle.std.specs.Prelude.{◌≡◌, ◌≤◌, ◌+◌, ℕ, List, Some, length, IfErr, IfOk};
+ghost use Rattle.mdmp_source.specs.Range.{IsInside, bytes_at};
 ghost use Rattle.mdmp_wire.specs.Number.{number_at};
 ghost use Rattle.mdmp_lister.specs.Fetching.{IsHeadOf, ReadsHead};
-ghost use Rattle.mdmp_lister.specs.Format.Kind.{greatest_record};
-ghost use Rattle.mdmp_lister.specs.Format.Shape.{shape_of};
+ghost use Rattle.mdmp_lister.specs.Format.Kind.{form_of, record_size};
+ghost use Rattle.mdmp_lister.specs.Format.Numbers.{maybe_name};
+ghost use Rattle.mdmp_lister.specs.Heading.{IsShort};
+ghost use Rattle.mdmp_lister.specs.Format.Shape.{head_cost, head_size, shape_of};
 ghost use Rattle.mdmp_lister.specs.Fault.{Answers};
 
 use crate::fault::{Fault, FaultKind, faulted};
-use crate::fetching::read;
+use crate::fetching::{fetch_front, first_of};
 use crate::form::Form;
 use crate::kind::Kind;
 use crate::meter::Meter;
@@ -26,35 +28,40 @@ pub(crate) struct Head {
     pub base: u64,
 }
 
-/// Where the records of a stream stand, or its first fault: too short for its head, a bad header
-/// size, a bad entry size, a bad count.
-#[tactic(auto, using(crate::proofs::Metering::Books_none, crate::proofs::Paying::few_records, crate::proofs::Naming::source_reached), unfolding(crate::specs::Format::Shape::shape_of))]
-pub(crate) fn head_at<S: Store>(
-    meter: &mut Meter<S>,
-    window: &mut [u8],
-    at: Location,
-    kind: Kind,
-) -> Result<Head, Fault>
-    requires inside { IsInside at.rva at.size meter.old.source.size }
-    requires window { greatest_record ≤ length window.old }
-    ensures shape { (file : List ℕ) → meter.old.source.store.content ≡ Some file
+/// How many bytes of a head are fetched at most, of any form.
+const GREATEST_HEAD: usize = 16;
+
+/// A stream that is too short for its head, or for its one record, has that fault.
+fn check_head(at: Location, kind: Kind) -> Result<(), Fault>
+    ensures room { IfOk result (λ _. head_size (form_of kind) (record_size kind) ≤ at.size) }
+    ensures short { IfErr result (IsShort at kind) }
+{
+    if at.size < kind.form().head_size(kind.record_size()) {
+        let start = u64::from(at.rva);
+        return faulted(FaultKind::ShortStream, start, u64::from(at.size));
+    }
+    Ok(())
+}
+
+/// What the head of a stream says, by its bytes, or the fault that it shows: a bad header size, a bad
+/// entry size, a bad count.
+#[tactic(auto, using(crate::proofs::Paying::few_records), unfolding(crate::specs::Format::Shape::shape_of))]
+fn head_of(bytes: &[u8], at: Location, kind: Kind) -> Result<Head, Fault>
+    requires bytes { length bytes.now ≡ head_cost (form_of kind) }
+    requires room { head_size (form_of kind) (record_size kind) ≤ at.size }
+    ensures shape { (file : List ℕ) → bytes.now ≡ bytes_at file at.rva (length bytes.now)
         → Answers (shape_of file at.rva at.size kind) (λ head. head.shape) result }
-    ensures base { (file : List ℕ) → meter.old.source.store.content ≡ Some file
+    ensures base { (file : List ℕ) → bytes.now ≡ bytes_at file at.rva (length bytes.now)
         → kind ≡ Kind.Memory64 → IfOk result (λ head. head.base ≡ number_at file (at.rva + 8) 8) }
     ensures head { IfOk result (IsHeadOf at.size kind) }
-    ensures reads { ReadsHead at.size kind result meter.old meter.new }
+    // A fault is neither one of the store nor one of a name.
+    ensures fault { IfErr result (λ fault. maybe_name fault.kind ≡ 0) }
 {
     let form = kind.form();
     let size = kind.record_size();
-    let least = form.head_cost();
-    let start = u64::from(at.rva);
-    if at.size < form.head_size(size) {
-        return faulted(FaultKind::ShortStream, start, u64::from(at.size));
-    }
     match form {
         Form::Counted => {
-            let count = read(meter, window, start)?;
-            let shape = counted(at, size, count)?;
+            let shape = counted(at, size, first_of(bytes))?;
             Ok(Head { shape, base: 0 })
         }
         Form::Single => {
@@ -62,20 +69,46 @@ pub(crate) fn head_at<S: Store>(
             Ok(Head { shape, base: 0 })
         }
         Form::Ranges64 => {
-            let head: Memory64List = read(meter, window, start)?;
+            let head: Memory64List = first_of(bytes);
             let shape = ranges64(at, size, head)?;
             let base = head.base_rva;
             Ok(Head { shape, base })
         }
         Form::Sized32 => {
-            let head = widened(read(meter, window, start)?);
-            let shape = sized(at, least, size, head)?;
+            let head = widened(first_of(bytes));
+            let shape = sized(at, form.head_cost(), size, head)?;
             Ok(Head { shape, base: 0 })
         }
         Form::Sized64 => {
-            let head = read(meter, window, start)?;
-            let shape = sized(at, least, size, head)?;
+            let head = first_of(bytes);
+            let shape = sized(at, form.head_cost(), size, head)?;
             Ok(Head { shape, base: 0 })
         }
     }
+}
+
+/// What the head of a stream says, whose bytes are fetched, or the first fault of the stream: too
+/// short for its head, a bad header size, a bad entry size, a bad count.
+#[tactic(auto, using(crate::proofs::Metering::Books_none), unfolding(crate::specs::Format::Shape::shape_of))]
+pub(crate) fn fetch_head<S: Store>(
+    meter: &mut Meter<S>,
+    at: Location,
+    kind: Kind,
+) -> Result<Head, Fault>
+    requires { IsInside at.rva at.size meter.old.source.size }
+    ensures shape { (file : List ℕ) → meter.old.source.store.content ≡ Some file
+        → Answers (shape_of file at.rva at.size kind) (λ head. head.shape) result }
+    ensures base { (file : List ℕ) → meter.old.source.store.content ≡ Some file
+        → kind ≡ Kind.Memory64 → IfOk result (λ head. head.base ≡ number_at file (at.rva + 8) 8) }
+    ensures head { IfOk result (IsHeadOf at.size kind) }
+    ensures reads { ReadsHead at.size kind result meter.old meter.new }
+{
+    check_head(at, kind)?;
+    let least = kind.form().head_cost() as usize;
+    if least == 0 {
+        return head_of(&[], at, kind);
+    }
+    let mut bytes = [0; GREATEST_HEAD];
+    fetch_front(meter, u64::from(at.rva), &mut bytes, least)?;
+    head_of(&bytes[..least], at, kind)
 }

@@ -87,7 +87,7 @@ pub(crate) fn read_item<S: Store>(
             name: NameRead::None,
         }));
     };
-    match read_name(meter, window, buffer, rva) {
+    match read_name(meter, buffer, rva) {
         Ok(name) => Ok(Step::Record(RecordRead {
             entry,
             index,

@@ -11,7 +11,7 @@ use crate::choice::Choice;
 use crate::codeview::{CodeViewBytes, CodeViewRead, read_codeview};
 use crate::counting::count_ranges;
 use crate::fault::{Fault, FaultKind, ListFault, OpenFault};
-use crate::heading::head_at;
+use crate::heading::fetch_head;
 use crate::item::{Item, StreamItem};
 use crate::kind::Kind;
 use crate::limits::Limits;
@@ -98,12 +98,7 @@ impl<S: Store + Drop, A: Allocator + Copy> Walk<S, A> {
         requires { IsSound self.old }
         ensures { CountsRanges self.old result self.new }
     {
-        count_ranges(
-            &mut self.meter,
-            &mut self.window,
-            &self.entries,
-            &self.choice,
-        )
+        count_ranges(&mut self.meter, &self.entries, &self.choice)
     }
 
     /// Gives the next step, or the fault that is next. A memory list whose head counts more than
@@ -200,12 +195,7 @@ impl<S: Store + Drop, A: Allocator + Copy> Walk<S, A> {
             self.stage = Stage::Between;
             return Ok(());
         };
-        match head_at(
-            &mut self.meter,
-            &mut self.window,
-            self.current.location,
-            kind,
-        ) {
+        match fetch_head(&mut self.meter, self.current.location, kind) {
             Ok(head) => {
                 if kind.ranges_by(head.shape.count) > room as u64 {
                     let at = u64::from(self.current.location.rva);

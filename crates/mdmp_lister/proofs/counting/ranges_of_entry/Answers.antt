@@ -6,20 +6,20 @@ use Rattle.mdmp_lister.proofs.counting.ranges_of_entry.Goals as goal
 pub returns-in-Ok : goal.returns-in-Ok
 returns-in-Ok g c = record {
   of_file = search rules;
-  books = books_ahead c.args.meter.now.source.size c.args.entry c.in-Some.kind (search rules) (search rules) (search rules) c.args.meter.now c.head_at.new.meter c.head_at.ensures.reads.books;
+  books = books_ahead c.args.meter.now.source.size c.args.entry c.in-Some.kind (search rules) (search rules) (search rules) c.args.meter.now c.fetch_head.new.meter c.fetch_head.ensures.reads.books;
   caused = search rules;
 }
 
 pub returns-in-Source : goal.returns-in-Source
 returns-in-Source g c = record {
   of_file = search rules;
-  books = books_ahead c.args.meter.now.source.size c.args.entry c.in-Some.kind (search rules) (search rules) (search rules) c.args.meter.now c.head_at.new.meter c.head_at.ensures.reads.books;
+  books = books_ahead c.args.meter.now.source.size c.args.entry c.in-Some.kind (search rules) (search rules) (search rules) c.args.meter.now c.fetch_head.new.meter c.fetch_head.ensures.reads.books;
   caused = search rules;
 }
 
 pub returns-in_default-kind : goal.returns-in_default-kind
 returns-in_default-kind g c = record {
   of_file = search rules;
-  books = books_ahead c.args.meter.now.source.size c.args.entry c.in-Some.kind (search rules) (search rules) (search rules) c.args.meter.now c.head_at.new.meter c.head_at.ensures.reads.books;
-  caused = IsCaused_other c.in-Err.fault c.args.meter.now.source c.head_at.new.meter.source c.in-Err.ensures.reads.caused (search rules);
+  books = books_ahead c.args.meter.now.source.size c.args.entry c.in-Some.kind (search rules) (search rules) (search rules) c.args.meter.now c.fetch_head.new.meter c.fetch_head.ensures.reads.books;
+  caused = IsCaused_other c.in-Err.fault c.args.meter.now.source c.fetch_head.new.meter.source c.in-Err.ensures.reads.caused (search rules);
 }

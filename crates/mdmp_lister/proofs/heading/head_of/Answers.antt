@@ -1,10 +1,10 @@
 use Rattle.std.proofs.Common.{arith, rules}
 use Rattle.mdmp_lister.specs.Format.Shape.{FitsIn}
 use Rattle.mdmp_lister.proofs.Paying.{few_records}
-use Rattle.mdmp_lister.proofs.heading.head_at.Goals as goal
+use Rattle.mdmp_lister.proofs.heading.head_of.Goals as goal
 
 pub returns-in_ok-shape-in-Sized64-clause-head : goal.returns-in_ok-shape-in-Sized64-clause-head
-returns-in_ok-shape-in-Sized64-clause-head g c =
+returns-in_ok-shape-in-Sized64-clause-head c =
     let shape = c.in_ok-shape-in-Sized64.shape in
     let fits : FitsIn c.args.at.size c.args.kind shape = search rules in
     record {
