@@ -61,7 +61,7 @@ module _ {S A : Type 0} (old new : Walk S A) (kind : Kind) (at : old.stage ≡ s
         books = rw (head_of-is z e kind known inside) books;
         paid = λ allowed before paid.
             paid_headed allowed before (head_spent e.location.size kind) old new paid books same books.fetches.same_size
-            (rw (next, at, entry_cost-listed z e kind known inside) (head_paid e.location.size kind head.shape of.fits of.behind))
+            (rw (next, at, entry_cost-listed (λ d. d) z e kind known inside) (head_paid e.location.size kind head.shape of.fits of.behind))
             (rw (next, at) (omega (arith, of.few)));
       }
 
@@ -75,7 +75,7 @@ module _ {S A : Type 0} (old new : Walk S A) (kind : Kind) (at : old.stage ≡ s
       answered_fault (head_spent e.location.size kind) (head_spent e.location.size kind) old new f sound (rw at at sound.staged) (rw at refl) (rw at (omega arith)) same next met
       books.fetches (rw (at, head_of-is z e kind known inside) (omega arith))
       (Spends-booked 1 (head_spent e.location.size kind) (vec_len old.name) old.meter new.meter books)
-      (rw (at, entry_cost-listed z e kind known inside) (spent_within e.location.size kind))
+      (rw (at, entry_cost-listed (λ d. d) z e kind known inside) (spent_within e.location.size kind))
       (λ file content not. rw at (left file content not)) good
 
 -- ---- a record of the current entry

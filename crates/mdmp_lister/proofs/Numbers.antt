@@ -1,47 +1,50 @@
 -- What a lister tells of itself, and its bounds.
-use Rattle.std.proofs.Common.{◌≡◌, ◌≤◌, ◌<◌, ◌+◌, ◌*◌, ◌^◌, ◌-◌, ◌∙◌, ℕ, suc, List, [], ◌∷◌, Bool, true, false, if◌then◌else◌, arith, refl, sym, ap, length, get_or, vec_len}
-use Rattle.std.specs.Prelude.{sum}
+use Rattle.std.proofs.Common.{◌≡◌, ◌≤◌, ◌<◌, ◌+◌, ◌*◌, ◌^◌, ◌-◌, ◌∙◌, ℕ, suc, List, [], ◌∷◌, Bool, true, false, if◌then◌else◌, ◌&&◌, arith, refl, ap, length, get_or, vec_len}
+use Rattle.std.specs.Prelude.{filter, map, sum}
 use Rattle.std.proofs.Math.Nat.{mul-le-mul}
-use Rattle.std.proofs.lemmas.List.Sums.{sum_by-cons}
 use Rattle.mdmp_wire.specs.declared.entry.Entry.{Entry}
 use Rattle.mdmp_lister.specs.declared.choice.Choice.{Choice}
 use Rattle.mdmp_lister.specs.declared.walk.Walk.{Walk}
 use Rattle.mdmp_lister.specs.Format.Bounds.{fetch_bound}
-use Rattle.mdmp_lister.specs.Format.Numbers.{is_listed, listed, listed_bytes, sizes_of}
+use Rattle.mdmp_lister.specs.Format.Numbers.{is_listed, listed, listed_bytes, listed_sizes, sizes_of}
 use Rattle.mdmp_lister.specs.Format.Directory.{IsDirectory}
 use Rattle.mdmp_lister.specs.Format.Listing.{Numbered, entries_from, entry_of, is_chosen, only_chosen}
-use Rattle.mdmp_lister.specs.Walk.Paying.{IsBounded, cost_of, entry_cost}
+use Rattle.mdmp_lister.specs.Walk.Paying.{IsBounded, cost_by, cost_of, sizes_in}
 use Rattle.mdmp_lister.specs.Walk.{IsSound}
 use Rattle.mdmp_lister.proofs.Heads.{heads_few}
 use Rattle.mdmp_lister.proofs.Paying.{paid_bound}
 
--- ---- the directory costs what the file's listed streams have
-
-listed_then : (b : Bool) (x : Numbered) (xs : List Numbered) → sum (sizes_of (if b then x ∷ xs else xs)) ≡ (if b then x.entry.location.size else 0) + sum (sizes_of xs)
-listed_then true x xs = sum_by-cons (λ (n : ℕ). n) x.entry.location.size (sizes_of xs)
-listed_then false x xs = omega arith
+-- ---- the streams that are listed of the directory are those of the file
 
 module _ (F : List ℕ) (choice : Choice) (z : ℕ) where
-  chosen_then : (b : Bool) (x : Numbered) (xs : List Numbered)
-      → sum (sizes_of (listed z (if b then x ∷ xs else xs))) ≡ (if b then entry_cost z x.entry else 0) + sum (sizes_of (listed z xs))
-  unfolding entry_cost
-  chosen_then true x xs = listed_then (is_listed z x) x (listed z xs)
-  chosen_then false x xs = omega arith
+  sizes_then : (chosen is : Bool) (x : Numbered) (xs : List Numbered) (es : List Entry) → is_listed z x.entry ≡ is → map (λ e. e.location.size) es ≡ sizes_of (listed z xs)
+      → map (λ e. e.location.size) (if chosen && is then x.entry ∷ es else es) ≡ sizes_of (listed z (if chosen then x ∷ xs else xs))
+  sizes_then true true x xs es listed same = rw listed (ap (λ sizes. x.entry.location.size ∷ sizes) same)
+  sizes_then true false x xs es listed same = rw listed same
+  sizes_then false is x xs es listed same = same
 
-  costs_from : (es : List Entry) (k : ℕ) → ((i : ℕ) (d : Entry) → i < length es → get_or es i d ≡ entry_of F (k + i))
-      → cost_of choice z es ≡ sum (sizes_of (listed z (only_chosen choice (entries_from F (length es) k))))
-  unfolding cost_of entries_from only_chosen
-  costs_from [] k each = refl
-  costs_from (e ∷ es) k each =
+  sizes_from : (es : List Entry) (k : ℕ) → ((i : ℕ) (d : Entry) → i < length es → get_or es i d ≡ entry_of F (k + i))
+      → sizes_in choice z es ≡ sizes_of (listed z (only_chosen choice (entries_from F (length es) k)))
+  unfolding sizes_in entries_from only_chosen
+  sizes_from [] k each = refl
+  sizes_from (e ∷ es) k each =
       let here : k + 0 ≡ k = omega arith in
       let first : e ≡ entry_of F k = each 0 e (omega arith) ∙ ap (entry_of F) here in
-      let rest = costs_from es (k + 1) (λ i d lt. let next : k + suc i ≡ k + 1 + i = omega arith in each (suc i) d (omega (arith, lt)) ∙ ap (entry_of F) next) in
-      rw (first, rest) (sym (chosen_then (is_chosen choice (entry_of F k).stream_type) (record { number = k; entry = entry_of F k }) (only_chosen choice (entries_from F (length es) (k + 1)))))
+      let rest = sizes_from es (k + 1) (λ i d lt. let next : k + suc i ≡ k + 1 + i = omega arith in each (suc i) d (omega (arith, lt)) ∙ ap (entry_of F) next) in
+      let x : Numbered = record { number = k; entry = entry_of F k } in
+      rw first
+      (sizes_then (is_chosen choice x.entry.stream_type) (is_listed z x.entry) x (only_chosen choice (entries_from F (length es) (k + 1)))
+      (filter (λ e. is_chosen choice e.stream_type && is_listed z e) es) refl rest)
+
+-- of a file whose directory was obtained they are the file's
+pub sizes_listed : (F : List ℕ) (choice : Choice) (z : ℕ) (es : List Entry) → z ≡ length F → IsDirectory F es → sizes_in choice z es ≡ listed_sizes F choice
+sizes_listed F choice z es size dir =
+    let all : (i : ℕ) (d : Entry) → i < length es → get_or es i d ≡ entry_of F (0 + i) = λ i d lt. dir.each i d lt ∙ ap (entry_of F) (omega arith) in
+    rw (← size, ← dir.count) (sizes_from F choice z es 0 all)
 
 pub costs_listed : (F : List ℕ) (choice : Choice) (z : ℕ) (es : List Entry) → z ≡ length F → IsDirectory F es → cost_of choice z es ≡ listed_bytes F choice
-costs_listed F choice z es size dir =
-    let all : (i : ℕ) (d : Entry) → i < length es → get_or es i d ≡ entry_of F (0 + i) = λ i d lt. dir.each i d lt ∙ ap (entry_of F) (omega arith) in
-    rw (← size, ← dir.count) (costs_from F choice z es 0 all)
+unfolding cost_by
+costs_listed F choice z es size dir = ap sum (sizes_listed F choice z es size dir)
 
 -- ---- the bound
 

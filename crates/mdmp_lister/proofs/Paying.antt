@@ -1,5 +1,5 @@
 -- A walk pays for what it fetches.
-use Rattle.std.proofs.Common.{◌≡◌, ◌≤◌, ◌<◌, ◌+◌, ◌-◌, ◌*◌, ◌^◌, ◌∙◌, ℕ, zero, suc, List, Some, Result, inl, inr, arith, refl, sym, subst, true, length, drop, get_or, vec_len, add-one, drop-cons, drop_of_length-le}
+use Rattle.std.proofs.Common.{◌≡◌, ◌≤◌, ◌<◌, ◌+◌, ◌-◌, ◌*◌, ◌^◌, ◌∙◌, ℕ, zero, suc, Some, Result, inl, inr, arith, refl, sym, subst, drop, vec_len}
 use Rattle.std.proofs.lemmas.Grind.{common_steps}
 use Rattle.std.proofs.Math.Nat.{mul-le-mul_left}
 use Rattle.mdmp_source.specs.Range.{IsInside}
@@ -15,10 +15,9 @@ use Rattle.mdmp_lister.specs.declared.kind.Kind.{Kind}
 use Rattle.mdmp_lister.specs.declared.shape.Shape.{Shape}
 use Rattle.mdmp_lister.specs.declared.stage.Stage.TheVariants.{Between}
 use Rattle.mdmp_lister.specs.declared.walk.Walk.{Walk}
-use Rattle.mdmp_lister.specs.Format.Listing.{is_chosen}
 use Rattle.mdmp_lister.specs.Heading.{head_spent, heads_ahead}
 use Rattle.mdmp_lister.specs.Meter.{Books, Spends}
-use Rattle.mdmp_lister.specs.Walk.Paying.{IsBounded, IsPaid, cost_of, entry_cost, owed_of}
+use Rattle.mdmp_lister.specs.Walk.Paying.{IsBounded, IsPaid, cost_of, entry_cost_by, owed_of}
 use Rattle.mdmp_lister.specs.Format.Shape.{FitsIn, head_cost}
 use Rattle.mdmp_lister.specs.Format.Kind.{form_of, kind_of, record_size}
 use Rattle.mdmp_lister.specs.Stage.{fault_stage, stage_by}
@@ -102,24 +101,11 @@ few_records size kind shape small fits = few shape.count shape.stride fits.recor
 
 -- ---- entries
 
-pub entry_cost-listed : (size : ℕ) (e : Entry) (kind : Kind) → kind_of e.stream_type ≡ Some kind → IsInside e.location.rva e.location.size size → entry_cost size e ≡ e.location.size
-unfolding entry_cost
-entry_cost-listed size e kind known (inl none) = rw (known, none) refl
-entry_cost-listed size e kind known (inr within) = grind (arith, common_steps, known, within)
-
-module _ (choice : Choice) (size at : ℕ) (es : List Entry) (d : Entry) (h : at < length es) where
-  pub cost_of-passed : cost_of choice size (drop (at + 1) es) ≤ cost_of choice size (drop at es)
-  unfolding cost_of
-  cost_of-passed = rw (add-one at, drop-cons es at d h) (omega arith)
-
-  pub cost_of-chosen : is_chosen choice (get_or es at d).stream_type ≡ true
-      → entry_cost size (get_or es at d) + cost_of choice size (drop (at + 1) es) ≤ cost_of choice size (drop at es)
-  unfolding cost_of
-  cost_of-chosen e = rw (add-one at, drop-cons es at d h, e) (omega arith)
-
-pub cost_of-end : (choice : Choice) (size at : ℕ) (es : List Entry) → length es ≤ at → cost_of choice size (drop at es) ≡ 0
-unfolding cost_of
-cost_of-end choice size at es over = rw drop_of_length-le refl
+pub entry_cost-listed : (f : ℕ → ℕ) (size : ℕ) (e : Entry) (kind : Kind) → kind_of e.stream_type ≡ Some kind → IsInside e.location.rva e.location.size size
+    → entry_cost_by f size e ≡ f e.location.size
+unfolding entry_cost_by
+entry_cost-listed f size e kind known (inl none) = rw (known, none) refl
+entry_cost-listed f size e kind known (inr within) = grind (arith, common_steps, known, within)
 
 -- ---- the bound
 

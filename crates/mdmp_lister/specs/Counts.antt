@@ -1,13 +1,13 @@
 -- The numbers that a lister tells of itself.
-use Rattle.std.specs.Prelude.{◌≡◌, ◌≤◌, ◌<◌, ◌+◌, ◌-◌, ◌*◌, ◌^◌, ℕ, List, length}
+use Rattle.std.specs.Prelude.{◌≡◌, ◌≤◌, ◌<◌, ◌+◌, ◌-◌, ◌*◌, ◌^◌, ℕ, List, Some, length}
 use Rattle.mdmp_lister.specs.declared.choice.Choice.{Choice}
 use Rattle.mdmp_lister.specs.declared.counts.Counts.{Counts}
 use Rattle.mdmp_lister.specs.Format.Bounds.{fetch_bound, held_bound}
-use Rattle.mdmp_lister.specs.Format.Numbers.{listed_bytes, range_count}
+use Rattle.mdmp_lister.specs.Format.Numbers.{listed_bytes, listed_sizes, range_count}
 use Rattle.mdmp_lister.specs.Lister.{ListerState}
 use Rattle.mdmp_lister.specs.Format.Listing.{entry_count}
 use Rattle.mdmp_lister.specs.Meter.{IsBooked}
-use Rattle.mdmp_lister.specs.Walk.Paying.{cost_of}
+use Rattle.mdmp_lister.specs.Walk.Paying.{cost_of, sizes_in}
 
 -- those of any lister, by the directory that it obtained and the room that it took
 abbrev pub numbers_of : ListerState → Counts
@@ -41,3 +41,5 @@ pub record AreBounds (v : ListerState) (c : Counts) : Type 0 where
   pub booked : IsBooked v.source v.counts
   pub entries : length v.entries ≤ v.rooms.entries
   pub ranges : length v.ranges ≤ v.rooms.ranges
+  -- where the file is known, the streams that are listed are the file's
+  pub sizes : (file : List ℕ) → v.source.store.content ≡ Some file → sizes_in v.choice v.source.size v.entries ≡ listed_sizes file v.choice

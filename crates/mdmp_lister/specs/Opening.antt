@@ -126,4 +126,4 @@ pub record IsNextChosen (choice : Choice) (from : ℕ) (entries : List Entry) (r
   pub within : IfSome result (λ at. (from ≤ at) × (at < length entries))
   pub first : (file : List ℕ) → IsDirectory file entries → IsFirstChosen file choice from result
   -- what it and those behind it cost is no more than what the entries from there on do
-  pub costs : (size : ℕ) → CostsFrom choice size from result entries
+  pub costs : (f : ℕ → ℕ) (size : ℕ) → CostsFrom f choice size from result entries

@@ -31,7 +31,7 @@ pub struct Counts {
 }
 
 /// The bytes of an entry that are listed: all of a stream that has records and lies inside the file.
-#[tactic(auto, unfolding(crate::specs::Walk::Paying::entry_cost))]
+#[tactic(auto, unfolding(crate::specs::Walk::Paying::entry_cost_by))]
 fn listed_bytes_of(entry: Entry, size: u64) -> u32
     ensures { result ≡ entry_cost size entry }
 {

@@ -19,12 +19,12 @@ use Rattle.mdmp_lister.specs.Format.Summary.{summary_of}
 -- ---- bytes
 
 -- the entry is of a known type, and its location lies inside a file of `size` bytes
-abbrev pub is_listed : ℕ → Numbered → Bool
-is_listed size x = is_known x.entry.stream_type && is_inside x.entry.location.rva x.entry.location.size size
+abbrev pub is_listed : ℕ → Entry → Bool
+is_listed size e = is_known e.stream_type && is_inside e.location.rva e.location.size size
 
 -- those of some entries whose records are read
 abbrev pub listed : ℕ → List Numbered → List Numbered
-listed size entries = filter (is_listed size) entries
+listed size entries = filter (λ x. is_listed size x.entry) entries
 
 abbrev pub sizes_of : List Numbered → List ℕ
 sizes_of entries = map (λ x. x.entry.location.size) entries

@@ -1,6 +1,5 @@
 -- What a walk may still fetch.
-use Rattle.std.specs.Prelude.{◌≤◌, ◌<◌, ◌+◌, ◌-◌, ◌*◌, ◌^◌, ◌&&◌, ℕ, List, [], ◌∷◌, Option, Some, None, drop, get_or, vec_len, if◌then◌else◌}
-use Rattle.mdmp_source.specs.Range.{is_inside}
+use Rattle.std.specs.Prelude.{◌≤◌, ◌<◌, ◌+◌, ◌-◌, ◌*◌, ◌^◌, ◌&&◌, ℕ, List, map, filter, sum_by, Option, Some, None, drop, get_or, vec_len, if◌then◌else◌}
 use Rattle.mdmp_wire.specs.declared.entry.Entry.{Entry}
 use Rattle.mdmp_lister.specs.declared.choice.Choice.{Choice}
 use Rattle.mdmp_lister.specs.declared.stage.Stage.{Stage}
@@ -8,24 +7,36 @@ use Rattle.mdmp_lister.specs.declared.stage.Stage.TheVariants.{Head, Records}
 use Rattle.mdmp_lister.specs.declared.walk.Walk.{Walk}
 use Rattle.mdmp_lister.specs.Heading.{heads_ahead}
 use Rattle.mdmp_lister.specs.Format.Listing.{is_chosen}
-use Rattle.mdmp_lister.specs.Format.Kind.{is_known, record_size}
+use Rattle.mdmp_lister.specs.Format.Numbers.{is_listed}
+use Rattle.mdmp_lister.specs.Format.Kind.{record_size}
 use Rattle.mdmp_lister.specs.Walk.{work_of}
 
--- the bytes that the listing of an entry may fetch, those of names left out: all of a stream of a known type that lies
--- inside a file of `size` bytes, else none
-unfoldable pub entry_cost : ℕ → Entry → ℕ
-entry_cost size e = if is_known e.stream_type && is_inside e.location.rva e.location.size size then e.location.size else 0
+-- what an entry costs of which `f` tells what a stream of so many bytes does: nothing where it is not listed of a file of
+-- `size` bytes
+unfoldable pub entry_cost_by : (ℕ → ℕ) → ℕ → Entry → ℕ
+entry_cost_by f size e = if is_listed size e then f e.location.size else 0
 
--- the same of the chosen ones of some entries
-unfoldable pub cost_of : Choice → ℕ → List Entry → ℕ
-cost_of choice size [] = 0
-cost_of choice size (e ∷ es) = (if is_chosen choice e.stream_type then entry_cost size e else 0) + cost_of choice size es
+-- the sizes of the streams that are listed of such a file, of the chosen ones of some entries
+unfoldable pub sizes_in : Choice → ℕ → List Entry → List ℕ
+sizes_in choice size entries = map (λ e. e.location.size) (filter (λ e. is_chosen choice e.stream_type && is_listed size e) entries)
+
+-- what they cost together
+unfoldable pub cost_by : (ℕ → ℕ) → Choice → ℕ → List Entry → ℕ
+cost_by f choice size entries = sum_by f (sizes_in choice size entries)
 
 -- what the first chosen entry from number `from` on costs, and those behind it
-abbrev pub CostsFrom : Choice → ℕ → ℕ → Option ℕ → List Entry → Type 0
-CostsFrom choice size from None entries = Unit {0}
-CostsFrom choice size from (Some at) entries =
-    (d : Entry) → entry_cost size (get_or entries at d) + cost_of choice size (drop (at + 1) entries) ≤ cost_of choice size (drop from entries)
+abbrev pub CostsFrom : (ℕ → ℕ) → Choice → ℕ → ℕ → Option ℕ → List Entry → Type 0
+CostsFrom f choice size from None entries = Unit {0}
+CostsFrom f choice size from (Some at) entries =
+    (d : Entry) → entry_cost_by f size (get_or entries at d) + cost_by f choice size (drop (at + 1) entries) ≤ cost_by f choice size (drop from entries)
+
+-- the bytes that the listing of an entry may fetch, those of names left out: all of its stream
+abbrev pub entry_cost : ℕ → Entry → ℕ
+entry_cost size e = entry_cost_by (λ d. d) size e
+
+-- the same of the chosen ones of some entries
+abbrev pub cost_of : Choice → ℕ → List Entry → ℕ
+cost_of choice size entries = cost_by (λ d. d) choice size entries
 
 -- and what is left of the current one: all of it before its head is read, then the records
 abbrev pub owed_of : ℕ → Entry → Stage → ℕ

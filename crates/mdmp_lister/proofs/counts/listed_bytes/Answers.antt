@@ -1,8 +1,7 @@
 use Rattle.std.proofs.Common.{◌≡◌, ◌≤◌, ◌∙◌, true, false, arith, sym, get_or, length}
 use Rattle.mdmp_wire.specs.declared.entry.Entry.{Entry}
 use Rattle.mdmp_lister.specs.Format.Listing.{is_chosen}
-use Rattle.mdmp_lister.proofs.Paying.{cost_of-end}
-use Rattle.mdmp_lister.proofs.Listed.{cost_of-more, cost_of-other}
+use Rattle.mdmp_lister.proofs.Listed.{cost_by-end, cost_by-more, cost_by-other}
 use Rattle.mdmp_lister.proofs.counts.listed_bytes.Goals as goal
 
 abbrev no_entry : Entry
@@ -14,7 +13,7 @@ loop-entry-preserved-then-not-has c =
     let at = c.loop-entry.entry-index in
     let es = c.args.entries.now in
     let not : is_chosen c.args.choice.now (get_or es at no_entry).stream_type ≡ false = sym (sym c.if-not-has.true ∙ c.has.ensures) in
-    let other = cost_of-other c.args.choice.now c.args.size at es no_entry c.loop-entry-test.true not in
+    let other = cost_by-other (λ d. d) c.args.choice.now c.args.size at es no_entry c.loop-entry-test.true not in
     record { counted = omega (arith, i.counted, other); bound = omega (arith, i.bound) }
 
 pub loop-entry-preserved : goal.loop-entry-preserved
@@ -23,7 +22,7 @@ loop-entry-preserved c =
     let at = c.loop-entry.entry-index in
     let es = c.args.entries.now in
     let has : is_chosen c.args.choice.now (get_or es at no_entry).stream_type ≡ true = sym (sym c.if-not-has.false ∙ c.has.ensures) in
-    let more = cost_of-more c.args.choice.now c.args.size at es no_entry c.loop-entry-test.true has in
+    let more = cost_by-more (λ d. d) c.args.choice.now c.args.size at es no_entry c.loop-entry-test.true has in
     record {
       counted = omega (arith, i.counted, more, c.from-total.ensures, c.listed_bytes_of.ensures);
       bound = omega (arith, i.bound, c.from-total.ensures, c.listed_bytes_of.type_inv);
@@ -32,4 +31,4 @@ loop-entry-preserved c =
 pub returns-clause-value : goal.returns-clause-value
 returns-clause-value c =
     let over : length c.args.entries.now ≤ c.loop-entry.entry-index = omega (arith, c.loop-entry-test.false) in
-    omega (arith, c.loop-entry.invariant.counted, cost_of-end c.args.choice.now c.args.size c.loop-entry.entry-index c.args.entries.now over)
+    omega (arith, c.loop-entry.invariant.counted, cost_by-end (λ d. d) c.args.choice.now c.args.size c.loop-entry.entry-index c.args.entries.now over)

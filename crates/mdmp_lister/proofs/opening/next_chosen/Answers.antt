@@ -3,7 +3,7 @@ use Rattle.mdmp_wire.specs.declared.entry.Entry.{Entry}
 use Rattle.mdmp_lister.specs.Format.Listing.{entry_count, entry_of, is_chosen}
 use Rattle.mdmp_lister.proofs.Entries.{chosen_from-chosen, chosen_from-other, chosen_from-end}
 use Rattle.std.proofs.lemmas.List.{get_or_default}
-use Rattle.mdmp_lister.proofs.Paying.{cost_of-chosen, cost_of-passed}
+use Rattle.mdmp_lister.proofs.Listed.{cost_by-more, cost_by-passed}
 use Rattle.mdmp_lister.proofs.opening.next_chosen.Goals as goal
 
 abbrev no_entry : Entry
@@ -19,13 +19,13 @@ returns-then-has c = record {
       let same : e ≡ entry_of file at = dir.each at no_entry c.loop-at-test.true in
       let chosen : true ≡ is_chosen c.args.choice.now (entry_of file at).stream_type = sym c.if-has.true ∙ c.has.ensures ∙ ap (λ (x : Entry). is_chosen c.args.choice.now x.stream_type) same in
       c.loop-at.invariant.passed file dir ∙ chosen_from-chosen file c.args.choice.now at (entry_of file at) lt refl chosen;
-  costs = λ size d.
+  costs = λ f size d.
       let at = c.loop-at.at in
       let chosen : is_chosen c.args.choice.now (get_or c.args.entries.now at no_entry).stream_type ≡ true = sym (sym c.if-has.true ∙ c.has.ensures) in
       omega (
         arith,
-        c.loop-at.invariant.costs size,
-        cost_of-chosen c.args.choice.now size at c.args.entries.now d c.loop-at-test.true (rw (get_or_default c.args.entries.now at d no_entry c.loop-at-test.true) chosen),
+        c.loop-at.invariant.costs f size,
+        cost_by-more f c.args.choice.now size at c.args.entries.now d c.loop-at-test.true (rw (get_or_default c.args.entries.now at d no_entry c.loop-at-test.true) chosen),
       );
 }
 
@@ -39,7 +39,7 @@ loop-at-preserved c = record {
       let lt : at < entry_count file = omega (arith, dir.count, c.loop-at-test.true) in
       let same : e ≡ entry_of file at = dir.each at no_entry c.loop-at-test.true in
       c.loop-at.invariant.passed file dir ∙ chosen_from-other file c.args.choice.now at e lt same (sym c.if-has.false ∙ c.has.ensures);
-  costs = λ size. omega (arith, c.loop-at.invariant.costs size, cost_of-passed c.args.choice.now size c.loop-at.at c.args.entries.now no_entry c.loop-at-test.true);
+  costs = λ f size. omega (arith, c.loop-at.invariant.costs f size, cost_by-passed f c.args.choice.now size c.loop-at.at c.args.entries.now no_entry c.loop-at-test.true);
 }
 
 pub returns : goal.returns
@@ -48,5 +48,5 @@ returns c = record {
   first = λ file dir.
       let over : entry_count file ≤ c.loop-at.at = omega (arith, dir.count, c.loop-at-test.false) in
       c.loop-at.invariant.passed file dir ∙ chosen_from-end file c.args.choice.now c.loop-at.at over;
-  costs = λ size. tt;
+  costs = λ f size. tt;
 }

@@ -1,7 +1,7 @@
 use Rattle.std.proofs.Common.{◌≡◌, ◌-◌, ◌≤◌, ℕ, List, drop, length}
 use Rattle.mdmp_lister.specs.Format.Directory.{IsDirectory}
 use Rattle.mdmp_lister.specs.Format.Listing.{chosen_from}
-use Rattle.mdmp_lister.specs.Walk.Paying.{cost_of}
+use Rattle.mdmp_lister.specs.Walk.Paying.{cost_by}
 use Rattle.mdmp_lister.proofs.opening.next_chosen.Given as goal
 
 -- the entries passed are not chosen
@@ -10,7 +10,7 @@ invariant-loop-at l = record {
   risen : l.fn.from ≤ l.at;
   placed : l.at ≤ length l.entries;
   passed : (file : List ℕ) → IsDirectory file l.entries → chosen_from file l.choice l.fn.from ≡ chosen_from file l.choice l.at;
-  costs : (size : ℕ) → cost_of l.choice size (drop l.at l.entries) ≤ cost_of l.choice size (drop l.fn.from l.entries);
+  costs : (f : ℕ → ℕ) (size : ℕ) → cost_by f l.choice size (drop l.at l.entries) ≤ cost_by f l.choice size (drop l.fn.from l.entries);
 }
 
 abbrev pub decreases-loop-at : goal.decreases-loop-at

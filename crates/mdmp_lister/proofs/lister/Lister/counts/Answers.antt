@@ -1,6 +1,6 @@
 use Rattle.std.proofs.Common.{◌≡◌, ◌≤◌, ◌+◌, ◌*◌, ◌^◌, ◌∙◌, arith, length}
 use Rattle.mdmp_lister.specs.Walk.Paying.{cost_of}
-use Rattle.mdmp_lister.proofs.Numbers.{costs_listed, fetched_below, fetched_most}
+use Rattle.mdmp_lister.proofs.Numbers.{costs_listed, fetched_below, fetched_most, sizes_listed}
 use Rattle.mdmp_lister.proofs.lister.Lister.counts.Goals as goal
 
 pub returns-clause-of_file : goal.returns-clause-of_file
@@ -29,6 +29,7 @@ returns-clause-bounds g c =
     let listed : c.listed_bytes.result ≡ cost_of w.choice w.meter.source.size w.entries.items = rw (c.size.ensures.value, c.deref.ensures.value) at c.listed_bytes.ensures.value in
     let small : cost_of w.choice w.meter.source.size w.entries.items ≤ 2 ^ 32 * length w.entries.items = rw (listed, c.deref.ensures.value) at c.listed_bytes.ensures.small in
     rw (← c.self.view_is) (record {
+      sizes = λ file known. sizes_listed file w.choice w.meter.source.size w.entries.items (rw known at sound.sized) (sound.directory file known);
       held = omega (arith, entries, c.len.ensures, c.free.ensures.value, c.free.ensures.room, c.len-2.ensures, c.len-3.ensures);
       fetched = rw (c.counts-counted.ensures.value, entries, listed) (fetched_most w sound bounded);
       below = rw c.counts-counted.ensures.value (fetched_below w sound bounded small);

@@ -8,7 +8,7 @@ use Rattle.mdmp_lister.specs.Walk.{rest_of}
 use Rattle.mdmp_lister.proofs.Bodies.{listing_from-first}
 use Rattle.mdmp_lister.proofs.Entries.{chosen_from-end, listing_from-end, ranges-first}
 use Rattle.mdmp_lister.proofs.Fetches.{FetchesAtMost-none, FetchesAtMost-within}
-use Rattle.mdmp_lister.proofs.Paying.{cost_of-end}
+use Rattle.mdmp_lister.proofs.Listed.{cost_by-end}
 use Rattle.mdmp_lister.proofs.Requests.{Moves-none, through-going, through-left}
 use Rattle.mdmp_lister.proofs.walk.Walk.next_stream.Goals as goal
 
@@ -38,7 +38,7 @@ returns-in_default g c =
               counts = Moves-none 1 w.meter;
               named = omega arith;
               paid = λ allowed before paid. record {
-                bytes = rw (cost_of-end w.choice w.meter.source.size c.len-self.result w.entries.items past) (omega (arith, paid.bytes));
+                bytes = rw (cost_by-end (λ d. d) w.choice w.meter.source.size c.len-self.result w.entries.items past) (omega (arith, paid.bytes));
                 names = omega (arith, paid.names, c.len-self.ensures);
               };
               repeats = λ stop stopped. let going = through-going w.stage c.requires.through in absurd (cc);
@@ -84,7 +84,7 @@ returns g c =
               counts = Moves-none 1 w.meter;
               named = search rules;
               paid = λ allowed before paid.
-                  let costs = rw (c.deref.ensures.value, ← c.index-entry.ensures) at (c.in-Some.ensures.costs w.meter.source.size c.index-entry.result.now) in
+                  let costs = rw (c.deref.ensures.value, ← c.index-entry.ensures) at (c.in-Some.ensures.costs (λ d. d) w.meter.source.size c.index-entry.result.now) in
                   record { bytes = omega (arith, paid.bytes, costs); names = omega (arith, paid.names, c.in-Some.ensures.within) };
               repeats = λ stop stopped. let going = through-going w.stage c.requires.through in absurd (cc);
               good = λ file good. tt;
