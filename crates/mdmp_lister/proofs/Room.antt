@@ -14,14 +14,14 @@ record_room k n s r lt le =
     let more : suc k ≤ n = omega (arith, lt) in
     omega (arith, mul-le-mul_left s more, mul-suc s k, mul_comm s k, mul_comm s n, le)
 
-ends_inside : (at size z first n s k r : ℕ) → IsInside at size z → first + n * s ≤ size → k * s + r ≤ n * s → 0 < r → at + first + k * s + r ≤ z
-ends_inside at size z first n s k r (inl none) records room some = omega (arith, none, records, room, some)
-ends_inside at size z first n s k r (inr whole) records room some = omega (arith, whole, records, room)
+module _ (at size : ℕ) (kind : Kind) (shape : Shape) (k : ℕ) (fits : FitsIn size kind shape) (lt : k < shape.count) where
+  -- record k of a stream ends in it
+  pub record-within : at + shape.first + k * shape.stride + record_size kind ≤ at + size
+  record-within =
+      let wide : record_size kind ≤ shape.stride = fits.stride (omega (arith, lt)) in
+      omega (arith, fits.records, record_room k shape.count shape.stride (record_size kind) lt wide)
 
--- record k of a stream that lies inside a file of z bytes does
-pub record-inside : (z at size : ℕ) (kind : Kind) (shape : Shape) (k : ℕ) → IsInside at size z → FitsIn size kind shape → k < shape.count
-    → at + shape.first + k * shape.stride + record_size kind ≤ z
-record-inside z at size kind shape k whole fits lt =
-    let wide : record_size kind ≤ shape.stride = fits.stride (omega (arith, lt)) in
-    ends_inside at size z shape.first shape.count shape.stride k (record_size kind) whole fits.records
-    (record_room k shape.count shape.stride (record_size kind) lt wide) (least_record kind)
+  -- which has bytes then, and so all of them lie inside a file of z bytes
+  pub stream-whole : (z : ℕ) → IsInside at size z → at + size ≤ z
+  stream-whole z (inl none) = absurd (omega (arith, none, record-within, least_record kind))
+  stream-whole z (inr whole) = whole

@@ -161,6 +161,8 @@ pub(crate) fn record_at(stream: Location, kind: Kind, shape: Shape, index: u64, 
     requires left { index < shape.count }
     ensures place { result ≡ stream.rva + shape.first + index * shape.stride }
     ensures room { result + record_size kind ≤ size }
+    ensures end { result + record_size kind ≤ stream.rva + stream.size }
+    ensures whole { stream.rva + stream.size ≤ size }
 {
     u64::from(stream.rva) + shape.first + index * shape.stride
 }
