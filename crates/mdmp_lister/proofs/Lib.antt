@@ -34,6 +34,7 @@ pub mod RowWords
 pub mod Rows
 pub mod Runs
 pub mod Sizes
+pub mod Sliding
 pub mod Soundness
 pub mod Summary
 pub mod Verdicts

@@ -7,6 +7,7 @@ pub mod Fault
 pub mod Fetching
 pub mod Format
 pub mod Heading
+pub mod Holding
 pub mod Limits
 pub mod Lister
 pub mod Meter

@@ -41,6 +41,7 @@ pub record Books (calls n : ℕ) (old new : MeterState) : Type 0 where
   pub fetched : new.fetched ≤ old.fetched + n
   pub more : old.fetched ≤ new.fetched
   pub more_calls : old.calls ≤ new.calls
+  pub most_calls : new.calls ≤ old.calls + calls
   pub same_names : new.names ≡ old.names
   pub same_aside : new.aside ≡ old.aside
   pub same_start : new.start ≡ old.start

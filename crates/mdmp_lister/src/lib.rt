@@ -38,6 +38,7 @@ mod fault;
 mod fetching;
 mod form;
 mod heading;
+mod holding;
 mod item;
 mod kind;
 mod laws;

@@ -1,12 +1,16 @@
 //! A source that is read for a listing, which counts what the listing fetches.
-ghost use Rattle.std.specs.Prelude.{◌≡◌, length};
+ghost use Rattle.std.specs.Prelude.{◌≡◌, ◌≤◌, OnErr, OnOk, length, min};
 ghost use Rattle.mdmp_source.specs.Count.{raised};
 ghost use Rattle.mdmp_source.specs.Range.{IsInside, bytes_at};
+ghost use Rattle.mdmp_source.specs.Source.{fault_of};
 ghost use Rattle.mdmp_source.specs.Store.{IsSizeOf};
+ghost use Rattle.mdmp_source.specs.Window.{IsFilled, next_len_of};
+ghost use Rattle.mdmp_lister.specs.Fault.{IsCaused};
 ghost use Rattle.mdmp_lister.specs.Fetching.{Reads};
 ghost use Rattle.mdmp_lister.specs.Meter.{Books, BooksAside, IsBooked, IsSourceOf, MeterState, counts_of};
 
-use mdmp_source::{Source, SourceFault, Store};
+use mdmp_source::{Source, SourceFault, Store, Window};
+use std::alloc::Allocator;
 use std::marker::Model;
 
 /// Bytes fetched, and calls of `fetch`.
@@ -108,6 +112,20 @@ impl<S: Store> Meter<S> {
         self.fetched = self.fetched.saturating_add(out.len() as u128);
         self.calls = self.calls.saturating_add(1);
         self.source.fetch(at, out)
+    }
+
+    /// Fills a window for the listing, by one fetch, or by none where there is nothing to be fetched.
+    pub(crate) fn fill<A: Allocator>(&mut self, window: &mut Window<A>) -> Result<(), SourceFault>
+        requires { window.old.end ≤ self.old.source.size }
+        ensures filled { OnOk result (IsFilled self.old.source.store.content window.old window.new) }
+        ensures kept { OnErr result (window.new ≡ window.old) }
+        ensures books { Books (min 1 (next_len_of window.old)) (next_len_of window.old) self.old self.new }
+        ensures caused { IsCaused (fault_of result) self.old.source self.new.source }
+    {
+        let count = window.next_len() as u128;
+        self.fetched = self.fetched.saturating_add(count);
+        self.calls = self.calls.saturating_add(count.min(1));
+        window.fill(&mut self.source)
     }
 
     /// Fetches what is not of the listing.
