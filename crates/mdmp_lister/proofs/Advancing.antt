@@ -1,5 +1,5 @@
 -- What a step says of what is left.
-use Rattle.std.proofs.Common.{◌≡◌, ◌+◌, ◌*◌, arith, ℕ, List, Option, None, Some, Result, refl, sym, subst, ap, ◌∙◌, vec_capacity, vec_len}
+use Rattle.std.proofs.Common.{◌≡◌, ◌+◌, ◌*◌, arith, ℕ, List, Option, None, Some, Result, refl, sym, subst, ap, ◌∙◌, vec_capacity}
 use Rattle.std.specs.Option.{option_map}
 use Rattle.mdmp_source.specs.Source.{SourceState, FetchesAtMost}
 use Rattle.mdmp_source.specs.declared.fault.SourceFault.{SourceFault}
@@ -57,7 +57,7 @@ runs_then of new P (Some file) now same each left known =
 -- what a lister has room for stays where no list of its walk is longer or shorter
 module _ {S A : Type 0} where
   abbrev rooms_of : Walk S A → ℕ → Rooms
-  rooms_of w room = record { entries = vec_capacity w.entries; window = vec_len w.window; ranges = room }
+  rooms_of w room = record { entries = vec_capacity w.entries; window = w.window.room; ranges = room }
 
   pub same_rooms : (old new : Walk S A) (room : ℕ) → SameRoom old new → rooms_of new room ≡ rooms_of old room
   same_rooms old new room same = rw (same.entries, same.window) refl

@@ -82,7 +82,7 @@ module _ {S A : Type 0} where
 
   pub record IsSound (w : Walk S A) : Type 0 where
     pub sized : IsSizeOf w.meter.source.store.content w.meter.source.size
-    pub window : greatest_record ≤ vec_len w.window
+    pub window : greatest_record ≤ w.window.room
     pub small : vec_len w.name < 2 ^ 32
     pub few : vec_len w.entries < 2 ^ 32
     pub placed : w.next ≤ vec_len w.entries
@@ -98,7 +98,7 @@ module _ {S A : Type 0} where
     pub header_is : new.header ≡ old.header
     pub entries : new.entries ≡ old.entries
     pub choice : new.choice ≡ old.choice
-    pub window : vec_len new.window ≡ vec_len old.window
+    pub window : new.window.room ≡ old.window.room
     pub name : vec_len new.name ≡ vec_len old.name
 
   -- nor is another entry the current one
@@ -120,7 +120,7 @@ module _ {S A : Type 0} where
     pub room : vec_capacity w.entries ≡ w.header.number_of_streams
     pub inside : 12 * w.header.number_of_streams ≤ source.size
     pub choice_is : w.choice ≡ choice
-    pub window : vec_len w.window ≡ limits.window
+    pub window : w.window.room ≡ limits.window
     pub name : vec_len w.name ≡ limits.name
     pub next : w.next ≡ 0
     pub stage : w.stage ≡ Between

@@ -39,21 +39,6 @@ pub(crate) fn fetch_front<S: Store>(
     meter.fetch(at, &mut buffer[..count])
 }
 
-/// The record at `at`, whose bytes pass through the front of the window.
-pub(crate) fn read<R: Record, S: Store>(
-    meter: &mut Meter<S>,
-    window: &mut [u8],
-    at: u64,
-) -> Result<R, SourceFault>
-    requires inside { at + R.SIZE ≤ meter.old.source.size }
-    requires room { R.SIZE ≤ length window.old }
-    ensures { Reads (Books 1 R.SIZE) (λ file value. R.at file at ≡ value) result meter.old meter.new }
-{
-    let size = R::SIZE;
-    fetch_front(meter, at, window, size)?;
-    Ok(R::read(&window[..size]))
-}
-
 /// The record that bytes of a file begin with.
 pub(crate) fn first_of<R: Record>(bytes: &[u8]) -> R
     requires { R.SIZE ≤ length bytes.now }

@@ -68,7 +68,7 @@ impl<S: Store + Drop, A: Allocator + Copy> Model for Lister<S, A> {
       entries = l.walk.entries.items;
       choice = l.walk.choice;
       limit = vec_len l.walk.name;
-      rooms = record { entries = vec_capacity l.walk.entries; window = vec_len l.walk.window; ranges = l.map.room };
+      rooms = record { entries = vec_capacity l.walk.entries; window = l.walk.window.room; ranges = l.map.room };
       passed = l.walk.next;
       current = l.walk.current;
       ranges = l.map.ranges;
@@ -163,7 +163,7 @@ impl<S: Store + Drop, A: Allocator + Copy> Lister<S, A> {
             r: ranges,
             n: listed_bytes(&walk.entries, &walk.choice, walk.meter.size()),
             m: counted.names,
-            held: walk.window.len() as u128 + directory + 24 * ranges + walk.name.len() as u128,
+            held: walk.window.room() as u128 + directory + 24 * ranges + walk.name.len() as u128,
             fetched: counted.fetched,
             calls: counted.calls,
             aside: counted.aside.bytes,

@@ -1,17 +1,19 @@
 //! The header and the directory of a file, read through a source.
-ghost use Rattle.std.specs.Prelude.{◌≡◌, ◌≤◌, ◌*◌, [], length, OnOk, vec_len, vec_capacity};
+ghost use Rattle.std.specs.Prelude.{◌≡◌, ◌≤◌, ◌-◌, ◌*◌, [], length, OnOk, vec_len, vec_capacity};
 ghost use Rattle.mdmp_source.specs.Range.{IsInside};
 ghost use Rattle.mdmp_wire.specs.Header.{header_at};
 ghost use Rattle.mdmp_lister.specs.Format.Directory.{IsDirectory};
 ghost use Rattle.mdmp_lister.specs.Fetching.{Reads};
+ghost use Rattle.mdmp_lister.specs.Holding.{fills_of};
 ghost use Rattle.mdmp_lister.specs.Meter.{Books};
 ghost use Rattle.mdmp_lister.specs.Opening.{IsNextChosen, ReadsHeader};
 
 use crate::choice::Choice;
 use crate::fault::OpenFault;
-use crate::fetching::read;
+use crate::fetching::first_of;
+use crate::holding::hold;
 use crate::meter::Meter;
-use mdmp_source::{Source, SourceFault, Store, inside};
+use mdmp_source::{Source, SourceFault, Store, Window, inside};
 use mdmp_wire::{Entry, Header, HeaderFault, Record};
 use std::alloc::Allocator;
 
@@ -49,25 +51,30 @@ pub(crate) fn read_header<S: Store>(meter: &mut Meter<S>) -> Result<Header, Open
     Ok(header)
 }
 
-/// Fetches the entries of the directory, whose place lies inside the file, into a list with room for them.
+/// Reads the entries of the directory, whose place lies inside the file, through a window into a list with
+/// room for them.
 pub(crate) fn read_directory<S: Store, A: Allocator>(
     meter: &mut Meter<S>,
-    window: &mut [u8],
+    window: &mut Window<A>,
     header: Header,
     entries: &mut Vec<Entry, A>,
 ) -> Result<(), SourceFault>
     requires inside { IsInside header.stream_directory_rva (12 * header.number_of_streams) meter.old.source.size }
-    requires window { 12 ≤ length window.old }
+    requires window { 12 ≤ window.old.room }
     requires room { (entries.old.items ≡ []) × (header.number_of_streams ≤ vec_capacity entries.old) }
     ensures count { OnOk result (vec_len entries.new ≡ header.number_of_streams) }
     ensures capacity { vec_capacity entries.new ≡ vec_capacity entries.old }
-    ensures reads { Reads (Books header.number_of_streams (12 * header.number_of_streams)) (λ file _. header ≡ header_at file 0 → IsDirectory file entries.new.items)
+    ensures kept { window.new.room ≡ window.old.room }
+    ensures reads { Reads (Books (fills_of (12 * header.number_of_streams) (window.old.room - 11)) (12 * header.number_of_streams)) (λ file _. header ≡ header_at file 0 → IsDirectory file entries.new.items)
         result meter.old meter.new }
 {
     let first = u64::from(header.stream_directory_rva);
+    let size = Entry::SIZE as u64 * u64::from(header.number_of_streams);
+    window.start(first, first + size);
     for number in 0..header.number_of_streams {
         let at = first + Entry::SIZE as u64 * u64::from(number);
-        entries.push_reserved(read(meter, window, at)?);
+        hold(meter, window, at, Entry::SIZE)?;
+        entries.push_reserved(first_of(&window.bytes()[..Entry::SIZE]));
     }
     Ok(())
 }

@@ -1,5 +1,6 @@
 //! A record of any kind and its name, read through a source.
-ghost use Rattle.std.specs.Prelude.{◌≡◌, ◌≤◌, ◌<◌, ◌+◌, ◌^◌, ℕ, List, Some, length, IfOk};
+ghost use Rattle.std.specs.Prelude.{◌≡◌, ◌≤◌, ◌<◌, ◌+◌, ◌^◌, ℕ, List, Some, length, take, IfOk, OnOk};
+ghost use Rattle.mdmp_source.specs.Range.{bytes_at};
 ghost use Rattle.mdmp_lister.specs.Fetching.{Reads, ReadsRecord, TellsRecord};
 ghost use Rattle.mdmp_lister.specs.Format.Item.{item_at, kind_told, range_offset, record_at};
 ghost use Rattle.mdmp_lister.specs.Meter.{Books};
@@ -8,15 +9,17 @@ ghost use Rattle.mdmp_lister.specs.Format.Kind.{greatest_record, record_size};
 ghost use Rattle.mdmp_lister.specs.Step.{step_item};
 
 use crate::fault::Fault;
-use crate::fetching::{NameRead, fetch_front, read_name};
+use crate::fetching::{NameRead, read_name};
+use crate::holding::hold;
 use crate::kind::Kind;
 use crate::meter::Meter;
 use crate::step::{RecordRead, Step};
-use mdmp_source::{SourceFault, Store};
+use mdmp_source::{SourceFault, Store, Window};
 use mdmp_wire::{
     AnyRecord, Descriptor, Descriptor64, ExceptionRecord, MemoryInfoRecord, ModuleRecord, Record,
     SystemRecord, ThreadRecord, UnloadedRecord,
 };
+use std::alloc::Allocator;
 
 /// The record of these bytes, of a stream of this kind.
 fn record_of(kind: Kind, bytes: &[u8]) -> AnyRecord
@@ -35,29 +38,49 @@ fn record_of(kind: Kind, bytes: &[u8]) -> AnyRecord
     }
 }
 
-/// The record at `at`, of a stream of this kind, whose bytes pass through the front of the window.
-fn read_record<S: Store>(
+/// Fetches the `size` bytes at `at`, and no others, to the front of a window.
+fn read_front<S: Store, A: Allocator>(
     meter: &mut Meter<S>,
-    window: &mut [u8],
+    window: &mut Window<A>,
+    at: u64,
+    size: usize,
+) -> Result<(), SourceFault>
+    requires inside { at + size ≤ meter.old.source.size }
+    requires room { size ≤ window.old.room }
+    ensures room { window.new.room ≡ window.old.room }
+    ensures enough { OnOk result (size ≤ length window.new.held) }
+    ensures reads { Reads (Books 1 size) (λ file _. take size window.new.held ≡ bytes_at file at size) result meter.old meter.new }
+{
+    // The proof learns here that the size fits its type.
+    let _size = meter.size();
+    window.start(at, at + size as u64);
+    hold(meter, window, at, size)
+}
+
+/// The record at `at`, of a stream of this kind, whose bytes pass through the front of the window.
+fn read_record<S: Store, A: Allocator>(
+    meter: &mut Meter<S>,
+    window: &mut Window<A>,
     kind: Kind,
     at: u64,
 ) -> Result<AnyRecord, SourceFault>
     requires inside { at + record_size kind ≤ meter.old.source.size }
-    requires window { greatest_record ≤ length window.old }
+    requires window { greatest_record ≤ window.old.room }
+    ensures room { window.new.room ≡ window.old.room }
     ensures kind { IfOk result (λ value. kind_told value ≡ kind) }
     ensures reads { Reads (Books 1 (record_size kind)) (λ file value. record_at kind file at ≡ value) result meter.old meter.new }
 {
     let size = kind.record_size() as usize;
-    fetch_front(meter, at, window, size)?;
-    Ok(record_of(kind, &window[..size]))
+    read_front(meter, window, at, size)?;
+    Ok(record_of(kind, &window.bytes()[..size]))
 }
 
 /// The record at `at` and its name, or the fault of its name. The bytes of a range of a 64-bit memory
 /// list stand at `offset`.
 #[tactic(auto, using(crate::proofs::RecordItems::item_read, crate::proofs::RecordItems::name_faulted, crate::proofs::Fetches::IsCausedAt_later, crate::proofs::Naming::source_reached))]
-pub(crate) fn read_item<S: Store>(
+pub(crate) fn read_item<S: Store, A: Allocator>(
     meter: &mut Meter<S>,
-    window: &mut [u8],
+    window: &mut Window<A>,
     buffer: &mut [u8],
     kind: Kind,
     entry: u32,
@@ -66,13 +89,14 @@ pub(crate) fn read_item<S: Store>(
     offset: u128,
 ) -> Result<Step, Fault>
     requires inside { at + record_size kind ≤ meter.old.source.size }
-    requires window { greatest_record ≤ length window.old }
+    requires window { greatest_record ≤ window.old.room }
     requires small { length buffer.old < 2 ^ 32 }
     ensures item { (file : List ℕ) → meter.old.source.store.content ≡ Some file → (stream : ℕ)
         → (kind ≡ Kind.Memory64 → offset ≡ range_offset file stream index)
         → Answers (item_at file (length buffer.new) entry index stream at kind) (step_item meter.old.source.size buffer.new) result }
     ensures tells { IfOk result (TellsRecord (length buffer.new) kind) }
     ensures length { length buffer.new ≡ length buffer.old }
+    ensures room { window.new.room ≡ window.old.room }
     ensures reads { ReadsRecord (length buffer.new) kind result meter.old meter.new }
 {
     // The proof learns here that the size is that of the content.

@@ -21,7 +21,7 @@ use crate::recording::read_item;
 use crate::shape::{Shape, location_fault, record_at};
 use crate::stage::Stage;
 use crate::step::{Step, record_item};
-use mdmp_source::{Location, Source, SourceFault, Store};
+use mdmp_source::{Location, Source, SourceFault, Store, Window};
 use mdmp_wire::{AnyRecord, Entry, Header};
 use std::alloc::Allocator;
 
@@ -39,7 +39,7 @@ pub(crate) struct Walk<S: Store + Drop, A: Allocator + Copy> {
     pub(crate) entries: Vec<Entry, A>,
     pub(crate) choice: Choice,
     /// Through it records are read.
-    pub(crate) window: Vec<u8, A>,
+    pub(crate) window: Window<A>,
     /// At its front the units of the last name stand. Its length is the limit of names.
     pub(crate) name: Vec<u8, A>,
     /// The number of the first entry behind the current one.
@@ -71,7 +71,7 @@ impl<S: Store + Drop, A: Allocator + Copy> Walk<S, A> {
         let Ok(mut entries) = Vec::with_capacity(alloc, header.number_of_streams as usize) else {
             return Err(refused(OpenFault::Memory, meter));
         };
-        let Ok(mut window) = vec![in alloc; 0; limits.window as usize] else {
+        let Ok(mut window) = Window::with_room(alloc, limits.window as usize) else {
             return Err(refused(OpenFault::Memory, meter));
         };
         let Ok(name) = vec![in alloc; 0; limits.name as usize] else {

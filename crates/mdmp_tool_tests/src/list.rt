@@ -106,7 +106,7 @@ fn list_ends_at_the_first_fault(rt: HostRuntime) -> Result<(), Fail> {
 }
 
 #[test]
-fn entry_is_one_fetch(rt: HostRuntime) -> Result<(), Fail> {
+fn directory_passes_through_the_window(rt: HostRuntime) -> Result<(), Fail> {
     let mut bytes = file(rt.alloc(), &[&head(30, 32)], 32)?;
     for number in 0..30 {
         bytes.extend_from_slice(&entry(0, number, 32))?;
@@ -114,7 +114,7 @@ fn entry_is_one_fetch(rt: HostRuntime) -> Result<(), Fail> {
     let listed = list_counted(rt.alloc(), &bytes, BY_WHOLE)?;
     let line = "\nstream 29 type 0 size 29 rva 32\n";
     assert_ends(&rt, &listed.printed, None, line);
-    assert_eq!(rt; listed.calls, 31);
+    assert_eq!(rt; listed.calls, 4);
     assert_eq!(rt; listed.fetched, 392);
     Ok(())
 }

@@ -129,18 +129,17 @@ fn place_of(fault: ReadFault) -> Option<u64> {
 #[test]
 fn store_that_fails_gives_no_dump(rt: HostRuntime) -> Result<(), Fail> {
     let file = file(&rt, 2, &CRASH)?;
-    // The header, the two entries, then of each entry its record and that record's parts.
+    // The header, the directory, then of each entry its record and that record's parts.
     for (call, place) in [
         (0, Some(0)),
         (1, Some(32)),
-        (2, Some(44)),
-        (3, Some(56)),
-        (4, Some(60)),
-        (5, Some(108)),
-        (6, Some(112)),
-        (7, Some(120)),
-        (8, Some(288)),
-        (9, None),
+        (2, Some(56)),
+        (3, Some(60)),
+        (4, Some(108)),
+        (5, Some(112)),
+        (6, Some(120)),
+        (7, Some(288)),
+        (8, None),
     ] {
         let store = PatchyStore::new(&file, &[4096], Some(call));
         let read = read_dump(rt.alloc(), Source::new(store), LEAST, Choice::All, 14);
@@ -152,7 +151,7 @@ fn store_that_fails_gives_no_dump(rt: HostRuntime) -> Result<(), Fail> {
 #[test]
 fn source_of_a_file_comes_back(rt: HostRuntime) -> Result<(), Fail> {
     let file = file(&rt, 2, &CRASH)?;
-    for (call, place, calls) in [(5, Some(108), 6), (9, None, 9)] {
+    for (call, place, calls) in [(4, Some(108), 5), (8, None, 8)] {
         let source = Source::new(PatchyStore::new(&file, &[4096], Some(call)));
         let Answered { answer, source } = read_source(rt.alloc(), source, LEAST, Choice::All, 14);
         assert_eq!(rt; answer.err().and_then(place_of), place);

@@ -1,16 +1,15 @@
-use Rattle.std.proofs.Common.{◌≡◌, ◌≤◌, ◌<◌, ◌*◌, ℕ, List, None, Some, length, get_or, vec_capacity}
+use Rattle.std.proofs.Common.{◌≡◌, ◌≤◌, ◌<◌, ℕ, List, Some, length, get_or, vec_capacity}
 use Rattle.mdmp_wire.specs.declared.entry.Entry.{Entry}
 use Rattle.mdmp_wire.specs.Header.{header_at}
 use Rattle.mdmp_lister.specs.Format.Listing.{entry_of}
-use Rattle.mdmp_lister.specs.Meter.{Books}
-use Rattle.mdmp_lister.specs.Fault.{IsCaused}
+use Rattle.mdmp_lister.proofs.Directory.{Passes}
 use Rattle.mdmp_lister.proofs.opening.read_directory.Given as goal
 
--- the first entries were fetched
+-- the first entries were read
 abbrev pub invariant-loop-number : goal.invariant-loop-number
 invariant-loop-number g l = record {
-  books : Books l.number (12 * l.number) l.initial.meter l.meter;
-  caused : IsCaused None l.initial.meter.source l.meter.source;
+  passes : Passes l.first l.fn.header.number_of_streams l.number l.initial.meter l.window l.meter;
+  window : l.window.room ≡ l.initial.window.room;
   capacity : vec_capacity l.entries ≡ vec_capacity l.initial.entries;
   room : l.fn.header.number_of_streams ≤ vec_capacity l.entries;
   count : length l.entries.items ≡ l.number;

@@ -1,4 +1,5 @@
-use Rattle.std.proofs.Common.{arith, rules}
+use Rattle.std.proofs.Common.{◌≡◌, arith, rules, take}
+use Rattle.mdmp_source.specs.Range.{bytes_at}
 use Rattle.mdmp_lister.proofs.RecordItems.{kind_told-at, record-fetched}
 use Rattle.mdmp_lister.proofs.recording.read_record.Goals as goal
 
@@ -6,10 +7,13 @@ pub returns-clause-kind : goal.returns-clause-kind
 returns-clause-kind g c = rw c.record_of.ensures (kind_told-at c.args.kind _ 0)
 
 pub returns-clause-reads : goal.returns-clause-reads
-returns-clause-reads g c = record {
-  of_file = λ file known.
-      let bytes = c.in_ok-fetch_front.ensures.of_file file known in
-      record-fetched c.args.kind c.record_size-size.result c.args.at file _ c.record_of.result (omega (arith, c.record_size-size.ensures)) bytes c.record_of.ensures;
-  books = search rules;
-  caused = c.in_ok-fetch_front.ensures.caused;
-}
+returns-clause-reads g c =
+    let size = c.record_size-size.result in
+    let read = c.in_ok-read_front.ensures.reads in
+    record {
+      of_file = λ file known.
+          let bytes : take size c.bytes.result.now ≡ bytes_at file c.args.at size = rw c.bytes.ensures (read.of_file file known) in
+          record-fetched c.args.kind size c.args.at file _ c.record_of.result (omega (arith, c.record_size-size.ensures)) bytes c.record_of.ensures;
+      books = search rules;
+      caused = read.caused;
+    }

@@ -30,7 +30,7 @@ returns-clause-bounds g c =
     let small : cost_of w.choice w.meter.source.size w.entries.items ≤ 2 ^ 32 * length w.entries.items = rw (listed, c.deref.ensures.value) at c.listed_bytes.ensures.small in
     rw (← c.self.view_is) (record {
       sizes = λ file known. sizes_listed file w.choice w.meter.source.size w.entries.items (rw known at sound.sized) (sound.directory file known);
-      held = omega (arith, entries, c.len.ensures, c.free.ensures.value, c.free.ensures.room, c.len-2.ensures, c.len-3.ensures);
+      held = omega (arith, entries, c.len.ensures, c.free.ensures.value, c.free.ensures.room, c.len-2.ensures, c.room.ensures.value);
       fetched = rw (c.counts-counted.ensures.value, entries, listed) (fetched_most w sound bounded);
       below = rw c.counts-counted.ensures.value (fetched_below w sound bounded small);
       booked = rw c.counts-counted.ensures.value at c.counts-counted.ensures.booked;

@@ -1,7 +1,8 @@
 use Rattle.std.proofs.Common.{◌+◌, ◌*◌, ◌∙◌, None, arith, refl, rules, sym}
 use Rattle.mdmp_lister.specs.Meter.{Books}
 use Rattle.mdmp_lister.proofs.Fetches.{IsCaused_later}
-use Rattle.mdmp_lister.proofs.Metering.{Books-then}
+use Rattle.mdmp_lister.proofs.Directory.{directory_fills}
+use Rattle.mdmp_lister.proofs.Metering.{Books-then, Books-within}
 use Rattle.mdmp_lister.proofs.Refusals.{IsRefused-directory, IsRefused-header, IsRefused-memory, directory_room, header-long}
 use Rattle.mdmp_lister.proofs.walk.Walk.open.Goals as goal
 
@@ -15,22 +16,26 @@ returns-in_default-clause-refused g c =
     let of = c.in-Ok.ensures in
     rw c.refused-in_default.ensures (rw c.new-meter.ensures at (IsRefused-memory c.args.choice _ c.read_header.new.meter c.in-Ok.header of.fits of.finds of.books of.caused))
 
+pub returns-in_default-with_room-clause-refused : goal.returns-in_default-with_room-clause-refused
+returns-in_default-with_room-clause-refused g c =
+    let of = c.in-Ok.ensures in
+    rw c.refused-in_default-with_room.ensures (rw c.new-meter.ensures at (IsRefused-memory c.args.choice _ c.read_header.new.meter c.in-Ok.header of.fits of.finds of.books of.caused))
+
 pub returns-in_default-vec-clause-refused : goal.returns-in_default-vec-clause-refused
 returns-in_default-vec-clause-refused g c =
     let of = c.in-Ok.ensures in
     rw c.refused-in_default-vec.ensures (rw c.new-meter.ensures at (IsRefused-memory c.args.choice _ c.read_header.new.meter c.in-Ok.header of.fits of.finds of.books of.caused))
 
-pub returns-in_default-vec-2-clause-refused : goal.returns-in_default-vec-2-clause-refused
-returns-in_default-vec-2-clause-refused g c =
-    let of = c.in-Ok.ensures in
-    rw c.refused-in_default-vec-2.ensures (rw c.new-meter.ensures at (IsRefused-memory c.args.choice _ c.read_header.new.meter c.in-Ok.header of.fits of.finds of.books of.caused))
-
 pub returns-in-Err-read_directory-clause-refused : goal.returns-in-Err-read_directory-clause-refused
 returns-in-Err-read_directory-clause-refused g c =
     let of = c.in-Ok.ensures in
     let read = c.in-Err-read_directory in
+    let n = c.in-Ok.header.number_of_streams in
+    let window = c.in-Ok-with_room.window in
+    let few = directory_fills n window.room (rw c.in-Ok-with_room.ensures c.args.limits.window_least) in
+    let books = Books-within _ n (12 * n) (12 * n) c.read_header.new.meter c.read_directory.new.meter few (omega arith) read.ensures.reads.books in
     rw c.refused-in-Err-read_directory.ensures
-    (rw c.new-meter.ensures at (IsRefused-directory c.args.choice _ c.read_header.new.meter c.read_directory.new.meter c.in-Ok.header read.fault of.fits of.finds of.books of.caused read.ensures.reads.books read.ensures.reads.caused))
+    (rw c.new-meter.ensures at (IsRefused-directory c.args.choice _ c.read_header.new.meter c.read_directory.new.meter c.in-Ok.header read.fault of.fits of.finds of.books of.caused books read.ensures.reads.caused))
 
 pub returns-clause-new : goal.returns-clause-new
 returns-clause-new g c =
@@ -39,7 +44,10 @@ returns-clause-new g c =
     let n = h.number_of_streams in
     let began = c.new-meter.ensures in
     let read = c.in_default-read_directory.ensures in
-    let all : Books (1 + n) (32 + 12 * n) c.new-meter.result c.read_directory.new.meter = Books-then 1 n (1 + n) 32 (12 * n) (32 + 12 * n) c.new-meter.result c.read_header.new.meter c.read_directory.new.meter (omega arith) (omega arith) of.books read.reads.books in
+    let window = c.in-Ok-with_room.window in
+    let few = directory_fills n window.room (rw c.in-Ok-with_room.ensures c.args.limits.window_least) in
+    let all : Books (1 + n) (32 + 12 * n) c.new-meter.result c.read_directory.new.meter =
+    Books-then 1 _ (1 + n) 32 (12 * n) (32 + 12 * n) c.new-meter.result c.read_header.new.meter c.read_directory.new.meter (omega (arith, few)) (omega arith) of.books read.reads.books in
     let books = rw began at all in
     let steady = rw began at (IsCaused_later None 32 c.new-meter.result.source c.read_header.new.meter.source c.read_directory.new.meter.source of.books.fetches of.caused read.reads.caused).once in
     let finds = rw began at of.finds in

@@ -8,7 +8,7 @@ returns-in-Ok g c =
     let w = c.args.self.now in
     let a = c.args in
     let of = c.in-Ok.ensures in
-    let room : length c.read_item.new.buffer ≡ vec_len w.name = of.length ∙ c.deref_mut-2.ensures.len in (
+    let room : length c.read_item.new.buffer ≡ vec_len w.name = of.length ∙ c.deref_mut.ensures.len in (
       record {
         answered =
             answered_record w _ a.kind a.shape a.index a.offset c.record_at-at.result c.requires.stage c.requires.left c.requires.sound (search rules) c.record_at-at.ensures.place
@@ -26,7 +26,7 @@ returns-in-Err g c =
     let w = c.args.self.now in
     let a = c.args in
     let of = c.in-Err.ensures in
-    let room : length c.read_item.new.buffer ≡ vec_len w.name = of.length ∙ c.deref_mut-2.ensures.len in
+    let room : length c.read_item.new.buffer ≡ vec_len w.name = of.length ∙ c.deref_mut.ensures.len in
     rw (c.stop_at.ensures.1, c.stop_at.ensures.0) (record {
       answered =
           answered_record_fault w _ a.kind a.shape a.index a.offset c.record_at-at.result c.requires.stage c.requires.left c.requires.sound (search rules) c.record_at-at.ensures.place
