@@ -6,11 +6,11 @@ use Rattle.mdmp_source.specs.declared.location.Location.{Location}
 use Rattle.mdmp_map.specs.Map.{MapState}
 use Rattle.mdmp_lister.specs.declared.codeview.CodeViewRead.{CodeViewRead}
 use Rattle.mdmp_lister.specs.declared.walk.Walk.{Walk}
-use Rattle.mdmp_lister.specs.Costs.{head_left}
 use Rattle.mdmp_lister.specs.Format.Listing.{Run, joined, listing_from}
 use Rattle.mdmp_lister.specs.Lister.{ListerState}
 use Rattle.mdmp_lister.specs.Meter.{BooksAside}
 use Rattle.mdmp_lister.specs.Walk.Mapping.{IsMapped}
+use Rattle.mdmp_lister.specs.Walk.Paying.{owed_of, unread_of}
 use Rattle.mdmp_lister.specs.Walk.Requests.{CodeViewFetched}
 use Rattle.mdmp_lister.specs.Walk.{left_of, left_of_entry}
 
@@ -18,12 +18,12 @@ use Rattle.mdmp_lister.specs.Walk.{left_of, left_of_entry}
 abbrev pub viewed : {T : Type 0} {x y : T} → x ≡ y → T
 viewed {T} {x} {y} same = x
 
-pub state_aside : (old new : ListerState) → new ≡ record old { source = new.source; counts = new.counts; limit = new.limit; left = new.left; head = new.head } → new.limit ≡ old.limit → new.left ≡ old.left → new.head ≡ old.head
+pub state_aside : (old new : ListerState) → new ≡ record old { source = new.source; counts = new.counts; limit = new.limit; left = new.left; unread = new.unread } → new.limit ≡ old.limit → new.left ≡ old.left → new.unread ≡ old.unread
     → new ≡ record old { source = new.source; counts = new.counts }
-state_aside old new is limit left head =
-    is ∙ ap (λ n. record old { source = new.source; counts = new.counts; limit = n; left = new.left; head = new.head }) limit
-    ∙ ap (λ run. record old { source = new.source; counts = new.counts; left = run; head = new.head }) left
-    ∙ ap (λ n. record old { source = new.source; counts = new.counts; head = n }) head
+state_aside old new is limit left unread =
+    is ∙ ap (λ n. record old { source = new.source; counts = new.counts; limit = n; left = new.left; unread = new.unread }) limit
+    ∙ ap (λ run. record old { source = new.source; counts = new.counts; left = run; unread = new.unread }) left
+    ∙ ap (λ n. record old { source = new.source; counts = new.counts; unread = n }) unread
 
 module _ {S A : Type 0} where
   -- but for what was counted and the bytes of the buffer of names it stays
@@ -39,6 +39,7 @@ module _ {S A : Type 0} where
           few = old.sound.few;
           placed = old.sound.placed;
           staged = rw size old.sound.staged;
+          holding = rw content old.sound.holding;
           headed = λ file known. old.sound.headed file (sym content ∙ known);
           ended = old.sound.ended;
           directory = λ file known. old.sound.directory file (sym content ∙ known);
@@ -68,7 +69,7 @@ module _ {S A : Type 0} where
       ∙ ap (λ limit. option_map (left_by limit w) new.meter.source.store.content) fetched.room
       ∙ ap (option_map (left_of w)) fetched.read.reads.books.fetches.same_content
 
-  pub codeview_head : (at : Location) (w new : Walk S A) (result : Result CodeViewRead SourceFault) → CodeViewFetched at w result new
-      → head_left new.meter.source.size new.current new.stage ≡ head_left w.meter.source.size w.current w.stage
-  codeview_head at w new result fetched =
-      ap (λ (n : Walk S A). head_left n.meter.source.size n.current n.stage) fetched.same ∙ ap (λ size. head_left size w.current w.stage) fetched.read.reads.books.fetches.same_size
+  pub codeview_unread : (at : Location) (w new : Walk S A) (result : Result CodeViewRead SourceFault) → CodeViewFetched at w result new
+      → unread_of new ≡ unread_of w
+  codeview_unread at w new result fetched =
+      ap unread_of fetched.same ∙ ap (λ size. owed_of size w.current w.window w.stage) fetched.read.reads.books.fetches.same_size

@@ -1,5 +1,5 @@
 -- What requests leave of a walk within an entry: behind its head, behind each record, and at their faults.
-use Rattle.std.proofs.Common.{◌≡◌, ◌<◌, ◌+◌, ◌-◌, ◌*◌, ◌^◌, ◌∙◌, ℕ, List, None, Some, Ok, Err, arith, ap, refl, sym, vec_len}
+use Rattle.std.proofs.Common.{◌≡◌, ◌≤◌, ◌<◌, ◌+◌, ◌-◌, ◌*◌, ◌^◌, ◌∙◌, ℕ, List, None, Some, Ok, Err, arith, ap, refl, sym, vec_len}
 use Rattle.mdmp_source.specs.Store.{IsGood}
 use Rattle.mdmp_lister.specs.declared.fault.Fault.{Fault}
 use Rattle.mdmp_lister.specs.declared.fault.ListFault.{ListFault}
@@ -13,22 +13,23 @@ use Rattle.mdmp_lister.specs.declared.walk.Walk.{Walk}
 use Rattle.mdmp_lister.specs.Fault.{IsListFaultOf, IsOfSource, source_of}
 use Rattle.mdmp_lister.specs.Fetching.{IsHeadOf, ReadsRecord, TellsRecord}
 use Rattle.mdmp_lister.specs.Format.Item.{item_at, range_offset}
-use Rattle.mdmp_lister.specs.Format.Kind.{kind_of, record_size}
+use Rattle.mdmp_lister.specs.Format.Kind.{kind_of}
 use Rattle.mdmp_lister.specs.Format.Listing.{body_of, only_fault}
 use Rattle.mdmp_lister.specs.Format.Shape.{location_fault, shape_of}
-use Rattle.mdmp_lister.specs.Heading.{head_spent}
+use Rattle.mdmp_lister.specs.Holding.{ComesTo, started, unfetched}
 use Rattle.mdmp_lister.specs.Meter.{Books}
 use Rattle.mdmp_lister.specs.Stage.{fault_stage}
 use Rattle.mdmp_lister.specs.Step.{bytes_behind, step_item}
-use Rattle.mdmp_lister.specs.Walk.{IsReading, IsSound, SameEntry}
+use Rattle.mdmp_lister.specs.Walk.{IsHolding, IsReading, IsSound, SameEntry}
 use Rattle.mdmp_lister.specs.Walk.Checking.{RecordGiven}
+use Rattle.mdmp_lister.specs.Walk.Paying.{owed_of, unread_of}
 use Rattle.mdmp_lister.specs.Walk.Requests.{Answered, FaultMet, HeadRead}
 use Rattle.mdmp_lister.proofs.Bodies.{body-shaped, records-faulted, records-given}
-use Rattle.mdmp_lister.proofs.Costs.{fault_cost-told}
 use Rattle.mdmp_lister.proofs.Fetches.{not_of_source, told_in_caused}
-use Rattle.mdmp_lister.proofs.Heads.{head_of-is, listed-inside}
+use Rattle.mdmp_lister.proofs.Heads.{listed-inside}
+use Rattle.mdmp_lister.proofs.Metering.{Books-within}
 use Rattle.mdmp_lister.proofs.Offsets.{range-next}
-use Rattle.mdmp_lister.proofs.Paying.{entry_cost-listed, head_paid, paid_headed, record_less, spent_within}
+use Rattle.mdmp_lister.proofs.Paying.{entry_cost-listed, paid_headed}
 use Rattle.mdmp_lister.proofs.Requests.{Spends-booked, answered_fault, answered_step}
 use Rattle.mdmp_lister.proofs.Soundness.{IsSound-after}
 
@@ -36,19 +37,24 @@ use Rattle.mdmp_lister.proofs.Soundness.{IsSound-after}
 
 module _ {S A : Type 0} (old new : Walk S A) (kind : Kind) (at : old.stage ≡ stage.Head) (sound : IsSound old) (same : SameEntry old new)
     (whole : location_fault old.meter.source.size old.current ≡ None) (known : kind_of old.current.stream_type ≡ Some kind)
-    (books : Books 1 (head_spent old.current.location.size kind) old.meter new.meter) where
+    (spent : ℕ) (books : Books 1 spent old.meter new.meter) where
   pub head_read : (head : Head) (offset : ℕ) → new.stage ≡ stage.Records kind head.shape 0 offset → IsHeadOf old.current.location.size kind head → offset < 2 ^ 64
+      → ComesTo old.current.location.rva old.meter.source.store.content (started old.current.location old.window) new.window
+      → spent + unfetched new.window ≤ old.current.location.size
       → ((file : List ℕ) → old.meter.source.store.content ≡ Some file → kind ≡ Memory64 → offset ≡ range_offset file old.current.location.rva 0)
       → ((file : List ℕ) → old.meter.source.store.content ≡ Some file → shape_of file old.current.location.rva old.current.location.size kind ≡ Ok head.shape)
       → HeadRead old new
-  head_read head offset next of small base shape =
+  head_read head offset next of small comes bytes base shape =
       let z = old.meter.source.size in
       let e = old.current in
       let begun : 0 < old.next = rw at at sound.staged in
       let inside = listed-inside z e kind whole known in
+      let fits : owed_of z e new.window new.stage + spent ≤ owed_of z e old.window old.stage = rw (next, at, entry_cost-listed z e kind known inside) (omega (arith, bytes)) in
+      let less : unread_of new + spent ≤ unread_of old = rw (books.fetches.same_size, same.current) fits in
       record {
-        sound = IsSound-after (head_spent e.location.size kind) old new sound books.fetches same
+        sound = IsSound-after spent old new sound books.fetches same
             (rw next (record { begun = begun; known = known; within = omega arith; inside = inside; fits = of.fits; ranges = of.ranges; bound = omega (arith, small) }))
+            (rw next (record { held = comes.held; end = comes.end; place = omega (arith, comes.place) }))
             (λ file content. rw next (shape file content, base file content))
             (λ end. absurd (cc))
             (λ file good. rw next refl);
@@ -58,24 +64,24 @@ module _ {S A : Type 0} (old new : Walk S A) (kind : Kind) (at : old.stage ≡ s
             rw (next, at, same.room.name, same.next, same.current) (sym (body-shaped file (vec_len old.name) (old.next - 1) e kind (rw size at whole) known head.shape (shape file content)));
         stage = rw next tt;
         falls = rw (same.room.entries, same.next, next, at) (omega (arith, of.few));
-        books = rw (head_of-is z e kind known inside) books;
+        owes = omega (arith, less);
+        books = Books-within 1 1 _ _ old.meter new.meter (omega arith) (omega (arith, less)) books;
         paid = λ allowed before paid.
-            paid_headed allowed before (head_spent e.location.size kind) old new paid books same books.fetches.same_size
-            (rw (next, at, entry_cost-listed (λ d. d) z e kind known inside) (head_paid e.location.size kind head.shape of.fits of.behind))
+            paid_headed allowed before spent old new paid books same books.fetches.same_size fits
             (rw (next, at) (omega (arith, of.few)));
       }
 
-  pub answered_head : (f : ListFault) → new.stage ≡ fault_stage f → FaultMet old f new
+  pub answered_head : (f : ListFault) → new.stage ≡ fault_stage f → FaultMet old f new → spent ≤ old.current.location.size
       → ((file : List ℕ) → old.meter.source.store.content ≡ Some file → (IsOfSource f.kind → ⊥) → body_of file (vec_len old.name) (record { number = old.next - 1; entry = old.current }) ≡ only_fault f)
       → ((file : List ℕ) → IsGood old.meter.source.store file → IsOfSource f.kind → ⊥) → Answered old (Err f) new
-  answered_head f next met left good =
+  answered_head f next met bytes left good =
       let z = old.meter.source.size in
       let e = old.current in
       let inside = listed-inside z e kind whole known in
-      answered_fault (head_spent e.location.size kind) (head_spent e.location.size kind) old new f sound (rw at at sound.staged) (rw at refl) (rw at (omega arith)) same next met
-      books.fetches (rw (at, head_of-is z e kind known inside) (omega arith))
-      (Spends-booked 1 (head_spent e.location.size kind) (vec_len old.name) old.meter new.meter books)
-      (rw (at, entry_cost-listed (λ d. d) z e kind known inside) (spent_within e.location.size kind))
+      answered_fault spent spent old new f sound (rw at at sound.staged) (rw at refl) (rw at (omega arith)) same next met
+      books.fetches (omega arith)
+      (Spends-booked 1 spent (vec_len old.name) old.meter new.meter books)
+      (rw (at, entry_cost-listed z e kind known inside) bytes)
       (λ file content not. rw at (left file content not)) good
 
 -- ---- a record of the current entry
@@ -84,6 +90,9 @@ module _ {S A : Type 0} (old new : Walk S A) (kind : Kind) (shape : Shape) (k of
     (sound : IsSound old) (same : SameEntry old new) (stands : place ≡ old.current.location.rva + shape.first + k * shape.stride) where
   reading : IsReading old.meter.source.size old.next old.current kind shape k offset
   reading = rw at at sound.staged
+
+  holding : IsHolding old.meter.source.store.content old.current shape k old.window
+  holding = rw at at sound.holding
 
   -- the rest of the entry is left behind it
   pub given_record : (step : Step) (next : ℕ) → new.stage ≡ stage.Records kind shape (k + 1) next
@@ -99,17 +108,19 @@ module _ {S A : Type 0} (old new : Walk S A) (kind : Kind) (shape : Shape) (k of
         (records-given file (vec_len old.name) (old.next - 1) old.current.location.rva kind shape k left _ (rw stands at (item file known here)));
   }
 
-  pub answered_record : (step : Step) (next : ℕ) → new.stage ≡ stage.Records kind shape (k + 1) next → next ≡ offset + bytes_behind step → next < offset + 2 ^ 64
-      → ReadsRecord (vec_len old.name) kind (Ok step) old.meter new.meter → TellsRecord (vec_len old.name) kind step
+  pub answered_record : (spent : ℕ) (step : Step) (next : ℕ) → new.stage ≡ stage.Records kind shape (k + 1) next → next ≡ offset + bytes_behind step → next < offset + 2 ^ 64
+      → ReadsRecord spent (vec_len old.name) (Ok step) old.meter new.meter → TellsRecord (vec_len old.name) kind step
+      → ComesTo place old.meter.source.store.content old.window new.window → spent + unfetched new.window ≤ unfetched old.window
       → ((file : List ℕ) → old.meter.source.store.content ≡ Some file → (kind ≡ Memory64 → offset ≡ range_offset file old.current.location.rva k)
       → item_at file (vec_len old.name) (old.next - 1) k old.current.location.rva place kind ≡ Ok (step_item old.meter.source.size new.name.items step))
       → Answered old (Ok (Some step)) new
-  answered_record step next on behind bound reads tells item =
+  answered_record spent step next on behind bound reads tells comes bytes item =
       let z = old.meter.source.size in
       let e = old.current in
-      answered_step _ (record_size kind) old new step
+      answered_step _ spent old new step
       (IsSound-after _ old new sound reads.fetches same
       (rw on (record { begun = reading.begun; known = reading.known; within = omega (arith, left); inside = reading.inside; fits = reading.fits; ranges = reading.ranges; bound = omega (arith, bound, reading.bound) }))
+      (rw on (record { held = comes.held; end = comes.end ∙ holding.end; place = omega (arith, comes.place, stands) }))
       (λ file known. let headed = rw at at (sound.headed file known) in rw on (
         headed.0,
         λ list.
@@ -121,27 +132,28 @@ module _ {S A : Type 0} (old new : Walk S A) (kind : Kind) (shape : Shape) (k of
       (λ end. absurd (cc)) (λ file good. rw on refl))
       (rw at refl) (rw on refl) (rw (on, at) (omega (arith, left)))
       same (tells.passed old.next) (tells.stays e)
-      (rw (reading.known, same.room.name) tells.held) (rw on (sym (tells.begins z)))
+      (rw (reading.known, same.room.name) tells.held) tells.begins
       reads.fetches (omega arith)
-      reads.spends (rw (on, at) (record_less shape.count k (record_size kind) left))
+      reads.spends (rw (on, at) (omega (arith, bytes)))
       reads.named
       (given_record step next on item).left
 
-  pub answered_record_fault : (fault : Fault) (f : ListFault) → new.stage ≡ fault_stage f → ReadsRecord (vec_len old.name) kind (Err fault) old.meter new.meter
+  pub answered_record_fault : (spent : ℕ) (fault : Fault) (f : ListFault) → new.stage ≡ fault_stage f → ReadsRecord spent (vec_len old.name) (Err fault) old.meter new.meter
+      → spent ≤ unfetched old.window
       → IsListFaultOf (old.next - 1) (Some k) fault f
       → ((file : List ℕ) → old.meter.source.store.content ≡ Some file → (kind ≡ Memory64 → offset ≡ range_offset file old.current.location.rva k) → (IsOfSource fault.kind → ⊥)
       → item_at file (vec_len old.name) (old.next - 1) k old.current.location.rva place kind ≡ Err fault)
       → Answered old (Err f) new
-  answered_record_fault fault f next reads told item =
+  answered_record_fault spent fault f next reads bytes told item =
       let e = old.current in
-      answered_fault _ (record_size kind) old new f sound reading.begun (rw at refl) (rw at (omega (arith, left))) same next
+      answered_fault _ spent old new f sound reading.begun (rw at refl) (rw at (omega (arith, left))) same next
       (record {
         told = told_in_caused e fault f old.meter.source new.meter.source reads.caused told.kind told.place told.of_store;
         number = omega (arith, told.entry, reading.begun);
         named = rw told.kind reads.at_fault;
       })
-      reads.fetches (rw at (omega (arith, fault_cost-told (vec_len old.name) e kind _ k fault f reading.known told.kind told.of_file)))
-      reads.spends (rw at (omega (arith, record_less shape.count k (record_size kind) left)))
+      reads.fetches (rw told.kind (omega arith))
+      reads.spends (rw at bytes)
       (λ file known not.
       let here = (rw at at (sound.headed file known)).1 in
       let other : IsOfSource fault.kind → ⊥ = λ is. not (rw (sym told.kind) at is) in

@@ -8,19 +8,19 @@ use Rattle.mdmp_lister.specs.declared.item.Item.{Item}
 use Rattle.mdmp_lister.specs.declared.sink.Stopped.{Stopped}
 use Rattle.mdmp_lister.specs.Sink.{AllClassed, Taken, TakenToStop, current_behind, give_all, names_of_all, passed_behind}
 use Rattle.std.specs.Prelude.{drop, slice_get}
-use Rattle.mdmp_lister.specs.declared.fault.ListFault.{ListFault}
 use Rattle.mdmp_lister.specs.Format.Classes.{IsClassed}
-use Rattle.mdmp_lister.specs.Costs.{fault_cost, head_given, item_cost, items_cost}
+use Rattle.mdmp_lister.specs.Costs.{IsUnreadBy, item_cost, items_cost, stream_begun}
 use Rattle.mdmp_lister.specs.Format.Numbers.{names_of}
 use Rattle.mdmp_lister.specs.Format.Item.{plain}
 use Rattle.mdmp_lister.proofs.Naming.{names_of-plain}
 use Rattle.mdmp_lister.proofs.Advancing.{current_after-plain}
 use Rattle.mdmp_lister.proofs.Classes.{classed-plain}
-use Rattle.mdmp_lister.proofs.Costs.{head_given-plain, item_cost-plain}
+use Rattle.mdmp_lister.proofs.Costs.{item_cost-plain, stream_begun-plain, unread-within}
 use Rattle.mdmp_lister.proofs.Fetches.{FetchesAtMost-none, FetchesAtMost-within}
 use Rattle.mdmp_lister.specs.Lister.{IsSameLister, ListerState, current_after, passed_after, tail}
 use Rattle.mdmp_lister.specs.Format.Listing.{Run, with_item}
 use Rattle.mdmp_lister.specs.Format.Ranges.{ranges_of}
+use Rattle.mdmp_lister.specs.Format.Summary.{summary_of}
 
 pub give_all-more : (old : Run) (xs : List Item) (x : Item) (rest new : Run) → old ≡ give_all xs rest → rest ≡ with_item x new → old ≡ give_all (xs ++ x ∷ []) new
 give_all-more old xs x rest new given next = given ∙ rw (next, append_assoc) refl
@@ -77,48 +77,44 @@ names_of_all-more xs x old mid new so_far next =
 
 -- ---- what a run fetches
 
--- what was fetched for some items, where `left` bytes of a head are not fetched yet
-pub record HasCost (head : ℕ) (old : SourceState) (xs : List Item) (left : ℕ) (new : SourceState) : Type 0 where
-  pub fetches : FetchesAtMost (head + items_cost old.size xs - left) old new
-  pub within : left ≤ head + items_cost old.size xs
+-- what was fetched for some items, where `left` bytes of a stream are unread
+pub record HasCost (unread : ℕ) (old : SourceState) (xs : List Item) (left : ℕ) (new : SourceState) : Type 0 where
+  pub fetches : FetchesAtMost (unread + items_cost old.size xs - left) old new
+  pub within : left ≤ unread + items_cost old.size xs
 
-pub HasCost-none : (head : ℕ) (a : SourceState) → HasCost head a [] head a
-HasCost-none head a = record {
-  fetches = FetchesAtMost-within 0 (head + items_cost a.size [] - head) a a (omega arith) (FetchesAtMost-none a);
+pub HasCost-none : (unread : ℕ) (a : SourceState) → HasCost unread a [] unread a
+HasCost-none unread a = record {
+  fetches = FetchesAtMost-within 0 (unread + items_cost a.size [] - unread) a a (omega arith) (FetchesAtMost-none a);
   within = omega arith;
 }
 
-items_cost-more : (z : ℕ) (xs : List Item) (x : Item) → items_cost z (xs ++ plain x ∷ []) ≡ items_cost z xs + (item_cost x + head_given z x)
+items_cost-more : (z : ℕ) (xs : List Item) (x : Item) → items_cost z (xs ++ plain x ∷ []) ≡ items_cost z xs + (item_cost x + stream_begun z (summary_of x).stream)
 items_cost-more z xs x =
-    let f : Item → ℕ = λ y. item_cost y + head_given z y in
-    sum_by-append f xs (plain x ∷ []) ∙ rw (sum_by-cons f (plain x) [], item_cost-plain x, head_given-plain z x) (omega arith)
+    let f : Item → ℕ = λ y. item_cost y + stream_begun z (summary_of y).stream in
+    sum_by-append f xs (plain x ∷ []) ∙ rw (sum_by-cons f (plain x) [], item_cost-plain x, stream_begun-plain z x) (omega arith)
 
-module _ (head : ℕ) (old mid new : SourceState) (xs : List Item) (left : ℕ) (so_far : HasCost head old xs left mid) where
-  pub HasCost-more : (more : ℕ) (x : Item) → FetchesAtMost (left + item_cost x) mid new → more ≡ head_given mid.size x → HasCost head old (xs ++ plain x ∷ []) more new
-  HasCost-more more x next begins =
+module _ (unread : ℕ) (old mid new : SourceState) (xs : List Item) (left more : ℕ) (so_far : HasCost unread old xs left mid) where
+  pub HasCost-more : (x : Item) → FetchesAtMost (left + stream_begun mid.size (summary_of x).stream + item_cost x - more) mid new
+      → IsUnreadBy mid.size (summary_of x).stream left more → HasCost unread old (xs ++ plain x ∷ []) more new
+  HasCost-more x next is =
       let z = old.size in
       let all = items_cost-more z xs x in
-      let begun : more ≡ head_given z x = begins ∙ ap (λ y. head_given y x) so_far.fetches.same_size in
+      let begun : stream_begun mid.size (summary_of x).stream ≡ stream_begun z (summary_of x).stream = rw so_far.fetches.same_size refl in
+      let within = unread-within mid.size left more (summary_of x).stream is in
       record {
-        fetches = FetchesAtMost-within _ (head + items_cost z (xs ++ plain x ∷ []) - more) old new (omega (arith, all, begun, so_far.within))
-            (fetches_then (head + items_cost z xs - left) (left + item_cost x) old mid new so_far.fetches next);
-        within = omega (arith, all, begun);
+        fetches = FetchesAtMost-within _ (unread + items_cost z (xs ++ plain x ∷ []) - more) old new (omega (arith, all, begun, so_far.within, within))
+            (fetches_then (unread + items_cost z xs - left) (left + stream_begun mid.size (summary_of x).stream + item_cost x - more) old mid new so_far.fetches next);
+        within = omega (arith, all, begun, so_far.within, within);
       }
 
-  -- and for the last answer
-  pub HasCost-end : (n : ℕ) → FetchesAtMost (left + n) mid new → FetchesAtMost (head + items_cost old.size xs + n) old new
-  HasCost-end n last =
-      FetchesAtMost-within _ (head + items_cost old.size xs + n) old new (omega (arith, so_far.within))
-      (fetches_then (head + items_cost old.size xs - left) (left + n) old mid new so_far.fetches last)
+  -- and for the last answer, behind which nothing is unread
+  pub HasCost-end : (n cost : ℕ) → FetchesAtMost (left + 0 + n - more) mid new → n ≡ cost → more ≡ 0 → FetchesAtMost (unread + items_cost old.size xs + cost - more) old new
+  HasCost-end n cost last same none =
+      FetchesAtMost-within _ (unread + items_cost old.size xs + cost - more) old new (omega (arith, so_far.within, same, none))
+      (fetches_then (unread + items_cost old.size xs - left) (left + 0 + n - more) old mid new so_far.fetches last)
 
-  pub HasCost-fault : (limit was : ℕ) (e now : Entry) (f : ListFault) → was ≡ limit → now ≡ e → FetchesAtMost (left + fault_cost was now f) mid new
-      → FetchesAtMost (head + items_cost old.size xs + fault_cost limit e f) old new
-  HasCost-fault limit was e now f same entry last =
-      let cost : fault_cost was now f ≡ fault_cost limit e f = ap (λ n. fault_cost n now f) same ∙ ap (λ d. fault_cost limit d f) entry in
-      HasCost-end (fault_cost limit e f) (subst (λ n. FetchesAtMost (left + n) mid new) cost last)
-
-pub HasCost-most : (head : ℕ) (old new : SourceState) (xs : List Item) (left : ℕ) → HasCost head old xs left new → FetchesAtMost (head + items_cost old.size xs + 0) old new
-HasCost-most head old new xs left cost = FetchesAtMost-within _ _ old new (omega (arith, cost.within)) cost.fetches
+pub HasCost-most : (unread : ℕ) (old new : SourceState) (xs : List Item) (left : ℕ) → HasCost unread old xs left new → FetchesAtMost (unread + items_cost old.size xs + 0 - left) old new
+HasCost-most unread old new xs left cost = FetchesAtMost-within _ _ old new (omega (arith, cost.within)) cost.fetches
 
 -- ---- a run so far
 
@@ -132,4 +128,4 @@ pub record HasGiven {K : Type 0} (step : K → Item → Result (Unit {0}) Stoppe
   pub ranges : new.ranges ≡ old.ranges ++ ranges_of items
   pub left : (left : Run) → old.left ≡ Some left → (rest : Run) × ((new.left ≡ Some rest) × (left ≡ give_all items rest))
   pub names : new.counts.names ≡ old.counts.names + names_of_all items
-  pub cost : HasCost old.head old.source items new.head new.source
+  pub cost : HasCost old.unread old.source items new.unread new.source

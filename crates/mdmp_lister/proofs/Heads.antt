@@ -6,7 +6,7 @@ use Rattle.mdmp_source.specs.Range.{IsInside}
 use Rattle.mdmp_wire.specs.declared.entry.Entry.{Entry}
 use Rattle.mdmp_lister.specs.declared.choice.Choice.{Choice}
 use Rattle.mdmp_lister.specs.declared.kind.Kind.{Kind}
-use Rattle.mdmp_lister.specs.Heading.{ahead_by, ahead_of, chosen_ahead, head_inside, head_of, head_spent, heads_ahead}
+use Rattle.mdmp_lister.specs.Heading.{ahead_by, ahead_of, chosen_ahead, head_inside, head_spent, heads_ahead}
 use Rattle.mdmp_lister.specs.Format.Listing.{is_chosen}
 use Rattle.mdmp_lister.specs.Meter.{Books, MeterState}
 use Rattle.mdmp_lister.specs.Format.Kind.{form_of, kind_of, lists_ranges}
@@ -20,11 +20,6 @@ listed-inside z e kind none known = grind (arith, common_steps, known, none)
 head_inside-is : (z : ℕ) (e : Entry) (kind : Kind) → IsInside e.location.rva e.location.size z → head_inside z e kind ≡ head_spent e.location.size kind
 head_inside-is z e kind (inl none) = rw none refl
 head_inside-is z e kind (inr within) = grind (arith, common_steps, within)
-
-pub head_of-is : (z : ℕ) (e : Entry) (kind : Kind) → kind_of e.stream_type ≡ Some kind → IsInside e.location.rva e.location.size z
-    → head_of z e ≡ head_spent e.location.size kind
-unfolding head_of
-head_of-is z e kind known inside = rw known (head_inside-is z e kind inside)
 
 -- of a memory list it is fetched ahead
 ahead_of-is : (z : ℕ) (e : Entry) (kind : Kind) → lists_ranges kind ≡ true → kind_of e.stream_type ≡ Some kind → IsInside e.location.rva e.location.size z

@@ -6,6 +6,7 @@ use Rattle.mdmp_source.specs.Range.{IsInside}
 use Rattle.mdmp_source.specs.Source.{SourceState}
 use Rattle.mdmp_source.specs.declared.fault.SourceFault.{SourceFault}
 use Rattle.mdmp_lister.specs.declared.limits.Limits.{Limits}
+use Rattle.mdmp_source.specs.Window.{WindowState}
 use Rattle.mdmp_wire.specs.declared.entry.Entry.{Entry}
 use Rattle.mdmp_lister.specs.declared.choice.Choice.{Choice}
 use Rattle.mdmp_lister.specs.declared.fault.FaultKind.{FaultKind}
@@ -15,23 +16,23 @@ use Rattle.mdmp_lister.specs.declared.kind.Kind.{Kind}
 use Rattle.mdmp_lister.specs.declared.shape.Shape.{Shape}
 use Rattle.mdmp_lister.specs.declared.stage.Stage.TheVariants.{Between}
 use Rattle.mdmp_lister.specs.declared.walk.Walk.{Walk}
-use Rattle.mdmp_lister.specs.Heading.{head_spent, heads_ahead}
+use Rattle.mdmp_lister.specs.Heading.{heads_ahead}
 use Rattle.mdmp_lister.specs.Meter.{Books, Spends}
-use Rattle.mdmp_lister.specs.Walk.Paying.{IsBounded, IsPaid, cost_of, entry_cost_by, owed_of}
-use Rattle.mdmp_lister.specs.Format.Shape.{FitsIn, head_cost}
-use Rattle.mdmp_lister.specs.Format.Kind.{form_of, kind_of, record_size}
+use Rattle.mdmp_lister.specs.Walk.Paying.{IsBounded, IsPaid, cost_of, entry_cost, entry_cost_by, owed_of}
+use Rattle.mdmp_lister.specs.Format.Shape.{FitsIn}
+use Rattle.mdmp_lister.specs.Format.Kind.{kind_of, record_size}
 use Rattle.mdmp_lister.specs.Stage.{fault_stage, stage_by}
-use Rattle.mdmp_lister.proofs.Sizes.{least_head, least_record}
+use Rattle.mdmp_lister.proofs.Sizes.{least_record}
 use Rattle.mdmp_lister.specs.Walk.{CountsRanges, IsNewWalk, SameEntry, SameRoom, stage_work}
 
 -- ---- the stage behind a fault
 
-stage_by-owed : (size : ℕ) (e : Entry) (f : ListFault) (kind : FaultKind) → owed_of size e (stage_by kind f) ≡ 0
-stage_by-owed size e f (Source fault) = refl
-stage_by-owed size e f _ = refl
+stage_by-owed : (size : ℕ) (e : Entry) (w : WindowState) (f : ListFault) (kind : FaultKind) → owed_of size e w (stage_by kind f) ≡ 0
+stage_by-owed size e w f (Source fault) = refl
+stage_by-owed size e w f _ = refl
 
-pub fault_stage-owed : (size : ℕ) (e : Entry) (f : ListFault) → owed_of size e (fault_stage f) ≡ 0
-fault_stage-owed size e f = stage_by-owed size e f f.kind
+pub fault_stage-owed : (size : ℕ) (e : Entry) (w : WindowState) (f : ListFault) → owed_of size e w (fault_stage f) ≡ 0
+fault_stage-owed size e w f = stage_by-owed size e w f f.kind
 
 stage_by-work : (f : ListFault) (kind : FaultKind) → stage_work (stage_by kind f) ≡ 0
 stage_by-work f (Source fault) = refl
@@ -44,7 +45,7 @@ fault_stage-work f = stage_by-work f f.kind
 
 module _ {S A : Type 0} (allowed before spent : ℕ) (old new : Walk S A) where
   pub paid_named : IsPaid allowed before old → Spends spent (vec_len old.name) old.meter new.meter → SameEntry old new → new.meter.source.size ≡ old.meter.source.size
-      → owed_of old.meter.source.size old.current new.stage + spent ≤ owed_of old.meter.source.size old.current old.stage → stage_work new.stage < stage_work old.stage
+      → owed_of old.meter.source.size old.current new.window new.stage + spent ≤ owed_of old.meter.source.size old.current old.window old.stage → stage_work new.stage < stage_work old.stage
       → IsPaid allowed before new
   paid_named paid spends same size owed falls =
       let pays = spends.paid (omega (arith, paid.names, falls)) in
@@ -54,41 +55,14 @@ module _ {S A : Type 0} (allowed before spent : ℕ) (old new : Walk S A) where
       }
 
   pub paid_headed : IsPaid allowed before old → Books 1 spent old.meter new.meter → SameEntry old new → new.meter.source.size ≡ old.meter.source.size
-      → owed_of old.meter.source.size old.current new.stage + spent ≤ owed_of old.meter.source.size old.current old.stage → stage_work new.stage ≤ stage_work old.stage
+      → owed_of old.meter.source.size old.current new.window new.stage + spent ≤ owed_of old.meter.source.size old.current old.window old.stage → stage_work new.stage ≤ stage_work old.stage
       → IsPaid allowed before new
   paid_headed paid books same size owed falls = record {
     bytes = rw (same.room.choice, same.room.entries, same.room.name, same.next, same.current, size, books.same_names) (omega (arith, paid.bytes, books.fetched, owed));
     names = rw (same.room.entries, same.next, books.same_names) (omega (arith, paid.names, falls));
   }
 
--- ---- what a record and a head cost
-
--- a record less
-pub record_less : (n k r : ℕ) → k < n → (n - (k + 1)) * r + r ≤ (n - k) * r
-record_less n k r lt =
-    let one : n - k ≡ suc (n - (k + 1)) = omega (arith, lt) in
-    rw one (omega arith)
-
--- the head and the records of a stream are no more than all of it
-pub head_room : (size : ℕ) (kind : Kind) (shape : Shape) → FitsIn size kind shape → head_cost (form_of kind) ≤ shape.first → shape.count * record_size kind + head_cost (form_of kind) ≤ size
-head_room size kind shape fits first = rooms shape.count shape.stride fits.records fits.stride where
-  rooms : (count stride : ℕ) → shape.first + count * stride ≤ size → (0 < count → record_size kind ≤ stride) → count * record_size kind + head_cost (form_of kind) ≤ size
-  rooms zero stride records wide = omega (arith, records, first)
-  rooms (suc n) stride records wide = omega (arith, records, first, mul-le-mul_left (suc n) (wide (omega arith)))
-
-less_none : (n : ℕ) → n - 0 ≡ n
-less_none n = omega arith
-
-spent_most : (size : ℕ) (kind : Kind) → head_spent size kind ≤ head_cost (form_of kind)
-spent_most size kind = grind (arith, common_steps)
-
--- the same, of the head that was read and all records behind it
-pub head_paid : (size : ℕ) (kind : Kind) (shape : Shape) → FitsIn size kind shape → head_cost (form_of kind) ≤ shape.first → (shape.count - 0) * record_size kind + head_spent size kind ≤ size
-head_paid size kind shape fits first = rw (less_none shape.count) (omega (arith, head_room size kind shape fits first, spent_most size kind))
-
--- what is fetched of a head is no more than the stream
-pub spent_within : (size : ℕ) (kind : Kind) → head_spent size kind ≤ size
-spent_within size kind = grind (arith, common_steps, least_head (form_of kind) (record_size kind))
+-- ---- entries
 
 -- a stream has fewer than 2^32 records
 pub few_records : (size : ℕ) (kind : Kind) (shape : Shape) → size < 2 ^ 32 → FitsIn size kind shape → shape.count < 2 ^ 32
@@ -99,13 +73,10 @@ few_records size kind shape small fits = few shape.count shape.stride fits.recor
       let one : 1 ≤ stride = omega (arith, wide (omega arith), least_record kind) in
       omega (arith, small, records, mul-le-mul_left (suc n) one)
 
--- ---- entries
-
-pub entry_cost-listed : (f : ℕ → ℕ) (size : ℕ) (e : Entry) (kind : Kind) → kind_of e.stream_type ≡ Some kind → IsInside e.location.rva e.location.size size
-    → entry_cost_by f size e ≡ f e.location.size
+pub entry_cost-listed : (size : ℕ) (e : Entry) (kind : Kind) → kind_of e.stream_type ≡ Some kind → IsInside e.location.rva e.location.size size → entry_cost size e ≡ e.location.size
 unfolding entry_cost_by
-entry_cost-listed f size e kind known (inl none) = rw (known, none) refl
-entry_cost-listed f size e kind known (inr within) = grind (arith, common_steps, known, within)
+entry_cost-listed size e kind known (inl none) = rw (known, none) refl
+entry_cost-listed size e kind known (inr within) = grind (arith, common_steps, known, within)
 
 -- ---- the bound
 

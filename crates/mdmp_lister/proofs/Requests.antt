@@ -7,26 +7,28 @@ use Rattle.mdmp_wire.specs.declared.entry.Entry.{Entry}
 use Rattle.mdmp_lister.specs.declared.fault.FaultKind.{FaultKind}
 use Rattle.mdmp_lister.specs.declared.fault.FaultKind.TheVariants.{Source}
 use Rattle.mdmp_lister.specs.declared.fault.ListFault.{ListFault}
+use Rattle.mdmp_lister.specs.declared.item.StreamItem.{StreamItem}
 use Rattle.mdmp_lister.specs.declared.stage.Stage.{Stage}
 use Rattle.mdmp_lister.specs.declared.stage.Stage.TheVariants.{Bad, Between, Ended, Failed, Head, Records}
 use Rattle.mdmp_lister.specs.declared.step.Step.{Step}
 use Rattle.mdmp_lister.specs.declared.walk.Walk.{Walk}
-use Rattle.mdmp_lister.specs.Costs.{fault_cost, given_spent, head_left, head_told, step_cost}
+use Rattle.mdmp_lister.specs.Costs.{IsUnreadBy, bad_name_cost, begun_at, given_spent, step_cost, stream_begun}
 use Rattle.mdmp_lister.specs.Format.Listing.{Run, joined, nothing, only_fault, with_item}
 use Rattle.mdmp_lister.specs.Meter.{Books, MeterState, Moves, Spends, counts_of}
-use Rattle.mdmp_lister.specs.Walk.Paying.{owed_of}
+use Rattle.mdmp_lister.specs.Walk.Paying.{owed_of, unread_of}
 use Rattle.mdmp_lister.specs.Walk.Reaching.{Reaches, given_once, told_once}
 use Rattle.mdmp_lister.specs.Fault.{IsOfSource}
 use Rattle.mdmp_lister.specs.Walk.Requests.{Answered, FaultMet, HeadRead, StepGiven}
 use Rattle.mdmp_lister.specs.Format.Kind.{kind_of}
-use Rattle.mdmp_lister.specs.Stage.{failure_of, fault_stage, stage_by, stop_of}
-use Rattle.mdmp_lister.specs.Step.{CurrentAfter, IsStepHeld, current_by, passed_by, step_item}
+use Rattle.mdmp_lister.specs.Stage.{IsStageAfter, failure_of, fault_stage, stage_by, stop_of}
+use Rattle.mdmp_lister.specs.Step.{CurrentAfter, IsStepHeld, current_by, passed_by, step_item, stream_told}
 use Rattle.mdmp_lister.specs.Walk.{Advances, IsListing, IsSound, IsThrough, PassesTo, SameEntry, SameRoom, current_of, left_of, left_of_entry, rest_of, stage_work, work_of}
 use Rattle.mdmp_lister.proofs.Bodies.{joined-with_item}
+use Rattle.mdmp_lister.proofs.Costs.{stopped-unread, unread-within}
 use Rattle.mdmp_lister.proofs.Ending.{left_of-ended, left_of-fault}
 use Rattle.mdmp_lister.proofs.Fetches.{FetchesAtMost-none, FetchesAtMost-within, told_in_later}
 use Rattle.mdmp_lister.proofs.Paying.{fault_stage-owed, fault_stage-work, paid_named}
-use Rattle.mdmp_lister.proofs.Soundness.{IsGood-after, IsSound-after, fault_stage-going, fault_stage-headed, fault_stage-staged, fault_stage-unfailed}
+use Rattle.mdmp_lister.proofs.Soundness.{IsGood-after, IsSound-after, fault_stage-going, fault_stage-headed, fault_stage-staged, fault_stage-unfailed, fault_stage-windowed}
 
 -- ---- stages
 
@@ -54,11 +56,6 @@ pub listing-going : (stage : Stage) → IsListing stage → stop_of stage ≡ No
 listing-going Between listing = refl
 listing-going (Records kind shape index offset) listing = refl
 listing-going _ listing = absurd listing
-
-listing-headless : (z : ℕ) (e : Entry) (stage : Stage) → IsListing stage → head_left z e stage ≡ 0
-listing-headless z e Between listing = refl
-listing-headless z e (Records kind shape index offset) listing = refl
-listing-headless z e _ listing = absurd listing
 
 pub through-going : (stage : Stage) → IsThrough stage → stop_of stage ≡ None
 through-going Between through = refl
@@ -103,14 +100,17 @@ module _ {S A : Type 0} (n spent : ℕ) (old new : Walk S A) (f : ListFault) whe
   -- behind some fetches of the current entry, of which its head or a record is left
   pub answered_fault : IsSound old → 0 < old.next → stop_of old.stage ≡ None → 0 < stage_work old.stage
       → SameEntry old new → new.stage ≡ fault_stage f → FaultMet old f new
-      → FetchesAtMost n old.meter.source new.meter.source → n ≤ head_left old.meter.source.size old.current old.stage + fault_cost (vec_len old.name) old.current f
-      → Spends spent (vec_len old.name) old.meter new.meter → spent ≤ owed_of old.meter.source.size old.current old.stage
+      → FetchesAtMost n old.meter.source new.meter.source → n ≤ spent + bad_name_cost (vec_len old.name) f.kind
+      → Spends spent (vec_len old.name) old.meter new.meter → spent ≤ owed_of old.meter.source.size old.current old.window old.stage
       → ((file : List ℕ) → old.meter.source.store.content ≡ Some file → (IsOfSource f.kind → ⊥) → current_of old file ≡ only_fault f)
       → ((file : List ℕ) → IsGood old.meter.source.store file → IsOfSource f.kind → ⊥)
       → Answered old (Err f) new
-  answered_fault sound begun going some same at met fetches within spends owed left good = record {
+  answered_fault sound begun going some same at met fetches within spends owed left good =
+    let none : unread_of new ≡ 0 = rw at (fault_stage-owed new.meter.source.size new.current new.window f) in
+    record {
     sound = IsSound-after n old new sound fetches same
         (rw at (fault_stage-staged old.meter.source.size old.next old.current f begun))
+        (rw at (fault_stage-windowed old.meter.source.store.content old.current new.window f))
         (λ file known. rw at (fault_stage-headed file old.current f))
         (λ end. absurd (fault_stage-going f (sym at ∙ end)))
         (λ file well. rw at (fault_stage-unfailed f (good file well)));
@@ -122,11 +122,11 @@ module _ {S A : Type 0} (n spent : ℕ) (old new : Walk S A) (f : ListFault) whe
     passed = same.next;
     current = same.current;
     rests = rw (same.room.entries, same.next, at, fault_stage-work f) (omega arith);
-    fetches = FetchesAtMost-within n _ old.meter.source new.meter.source within fetches;
+    fetches = FetchesAtMost-within n _ old.meter.source new.meter.source (omega (arith, within, owed, none)) fetches;
     counts = Moves-spent spent (vec_len old.name) old.meter new.meter spends;
     named = tt;
     paid = λ allowed before paid. paid_named allowed before spent old new paid spends same fetches.same_size
-        (rw (at, fault_stage-owed old.meter.source.size old.current f) (omega (arith, owed)))
+        (rw (at, fault_stage-owed old.meter.source.size old.current new.window f) (omega (arith, owed)))
         (rw (at, fault_stage-work f) some);
     repeats = λ stop stopped. absurd (cc);
     good = good;
@@ -139,15 +139,17 @@ module _ {S A : Type 0} (n spent : ℕ) (old new : Walk S A) (step : Step) where
   pub answered_step : IsSound new → stop_of old.stage ≡ None → stop_of new.stage ≡ None → stage_work new.stage < stage_work old.stage
       → SameEntry old new → passed_by step old.next ≡ old.next → current_by step old.current ≡ old.current
       → IsStepHeld (vec_len new.name) (kind_of old.current.stream_type) step
-      → head_left new.meter.source.size new.current new.stage ≡ head_told old.meter.source.size step
-      → FetchesAtMost n old.meter.source new.meter.source → n ≤ head_left old.meter.source.size old.current old.stage + step_cost step
+      → stream_told step ≡ None
+      → FetchesAtMost n old.meter.source new.meter.source → n ≤ spent + step_cost step
       → Spends spent (vec_len old.name) old.meter new.meter
-      → owed_of old.meter.source.size old.current new.stage + spent ≤ owed_of old.meter.source.size old.current old.stage
+      → owed_of old.meter.source.size old.current new.window new.stage + spent ≤ owed_of old.meter.source.size old.current old.window old.stage
       → Reaches (told_once step) old.meter new.meter
       → ((file : List ℕ) → old.meter.source.store.content ≡ Some file → current_of old file ≡ with_item (step_item old.meter.source.size new.name.items step) (current_of new file))
       → Answered old (Ok (Some step)) new
   answered_step sound going on falls same passed stays held begins fetches within spends owed named left =
       let less : work_of new < work_of old = rw (same.room.entries, same.next) (omega (arith, falls)) in
+      let owes : unread_of new + spent ≤ unread_of old = rw (fetches.same_size, same.current) owed in
+      let none : stream_begun old.meter.source.size (stream_told step) ≡ 0 = rw begins refl in
       record {
         sound = sound;
         same = same.room;
@@ -156,13 +158,13 @@ module _ {S A : Type 0} (n spent : ℕ) (old new : Walk S A) (step : Step) where
             ap (λ (run : Run). joined run (rest_of old file)) (left file known)
             ∙ joined-with_item (step_item old.meter.source.size new.name.items step) (current_of new file) (rest_of old file)
             ∙ ap (λ (run : Run). with_item (step_item old.meter.source.size new.name.items step) (joined (current_of new file) run)) rest;
-        given = record { held = rw same.current held; begins = begins; falls = less };
+        given = record { held = rw same.current held; begins = rw begins (omega (arith, owes)); falls = less };
         met = λ _. tt;
         stage = on;
         passed = same.next ∙ sym passed;
         current = same.current ∙ sym stays;
         rests = omega (arith, less);
-        fetches = FetchesAtMost-within n _ old.meter.source new.meter.source within fetches;
+        fetches = FetchesAtMost-within n _ old.meter.source new.meter.source (omega (arith, within, owes, none)) fetches;
         counts = Moves-spent spent (vec_len old.name) old.meter new.meter spends;
         named = named;
         paid = λ allowed before paid. paid_named allowed before spent old new paid spends same fetches.same_size owed falls;
@@ -239,6 +241,10 @@ Moves-booked calls m n a b c first then = record {
   same_start = then.same_start ∙ first.same_start;
 }
 
+IsUnreadBy-then : (z y a b c : ℕ) (stream : Option StreamItem) → y ≡ z → b ≤ a → IsUnreadBy y stream b c → IsUnreadBy z stream a c
+IsUnreadBy-then z y a b c (Some x) size less is = rw size at is
+IsUnreadBy-then z y a b c None size less is = omega (arith, less, is)
+
 module _ {S A : Type 0} (old mid new : Walk S A) (head : HeadRead old mid) where
   same_then : SameRoom mid new → SameRoom old new
   same_then same = record {
@@ -257,7 +263,7 @@ module _ {S A : Type 0} (old mid new : Walk S A) (head : HeadRead old mid) where
   given_then : (result : Result (Option Step) ListFault) → IfOk result (λ given. IfSome given (λ step. StepGiven mid step new)) → IfOk result (λ given. IfSome given (λ step. StepGiven old step new))
   given_then (Ok (Some step)) given = record {
     held = given.held;
-    begins = rw head.books.fetches.same_size at given.begins;
+    begins = IsUnreadBy-then old.meter.source.size mid.meter.source.size (unread_of old) (unread_of mid) (unread_of new) (stream_told step) head.books.fetches.same_size head.owes given.begins;
     falls = omega (arith, given.falls, head.falls);
   }
   given_then (Ok None) given = tt
@@ -275,11 +281,19 @@ module _ {S A : Type 0} (old mid new : Walk S A) (head : HeadRead old mid) where
   named_then (Ok given) named = rw head.books.same_names at named
   named_then (Err f) named = tt
 
+  -- no more is unread behind it than behind the head, and the stream that it begins
+  unread_then : (result : Result (Option Step) ListFault) → IfOk result (λ given. IfSome given (λ step. StepGiven mid step new)) → IsStageAfter result new.stage
+      → unread_of new ≤ unread_of mid + stream_begun mid.meter.source.size (begun_at result)
+  unread_then (Ok (Some step)) given at = unread-within mid.meter.source.size (unread_of mid) (unread_of new) (stream_told step) given.begins
+  unread_then (Ok None) given at = omega (arith, stopped-unread new.meter.source.size new.current new.window new.stage None at)
+  unread_then (Err f) given at = omega (arith, stopped-unread new.meter.source.size new.current new.window new.stage (Some f) (ap stop_of at ∙ fault_stage-stop f))
+
   pub answered_then : (result : Result (Option Step) ListFault) → old.stage ≡ Head → Answered mid result new → Answered old result new
   answered_then result at then =
       let z = old.meter.source.size in
-      let none : head_left mid.meter.source.size mid.current mid.stage ≡ 0 = listing-headless mid.meter.source.size mid.current mid.stage head.stage in
-      let spent : given_spent (vec_len mid.name) mid.current result ≡ given_spent (vec_len old.name) old.current result = rw (head.same.room.name, head.same.current) refl in
+      let begun : stream_begun mid.meter.source.size (begun_at result) ≡ stream_begun z (begun_at result) = rw head.books.fetches.same_size refl in
+      let spent : given_spent (vec_len mid.name) result ≡ given_spent (vec_len old.name) result = rw head.same.room.name refl in
+      let within = unread_then result then.given then.stage in
       record {
         sound = then.sound;
         same = same_then then.same;
@@ -293,8 +307,8 @@ module _ {S A : Type 0} (old mid new : Walk S A) (head : HeadRead old mid) where
         passed = subst (λ next. PassesTo result next new.next) head.same.next then.passed;
         current = subst (λ current. CurrentAfter result current new.current) head.same.current then.current;
         rests = omega (arith, then.rests, head.falls);
-        fetches = rw at (FetchesAtMost-within _ _ old.meter.source new.meter.source (omega (arith, none, spent))
-            (fetches_then _ _ old.meter.source mid.meter.source new.meter.source head.books.fetches then.fetches));
+        fetches = FetchesAtMost-within _ _ old.meter.source new.meter.source (omega (arith, begun, spent, within, head.owes))
+            (fetches_then _ _ old.meter.source mid.meter.source new.meter.source head.books.fetches then.fetches);
         counts = Moves-booked 1 _ 1 old.meter mid.meter new.meter head.books then.counts;
         named = named_then result then.named;
         paid = λ allowed before paid. then.paid allowed before (head.paid allowed before paid);

@@ -1,5 +1,5 @@
 -- A window that is filled, and one that is moved on.
-use Rattle.std.proofs.Common.{◌≡◌, ◌≤◌, ◌<◌, ◌+◌, ◌-◌, ◌*◌, ◌/◌, ◌++◌, ◌∙◌, ◌⊎◌, true, false, ℕ, zero, suc, min, List, Option, Some, None, [], Ok, Err, take, drop, length, ap, sym, refl, arith, inl, inr, length-append}
+use Rattle.std.proofs.Common.{◌≡◌, ◌≤◌, ◌<◌, ◌+◌, ◌-◌, ◌*◌, ◌/◌, ◌++◌, ◌∙◌, ◌⊎◌, true, false, ℕ, zero, suc, min, List, Option, Some, None, [], Result, Ok, Err, take, drop, length, ap, sym, refl, arith, inl, inr, length-append}
 use Rattle.std.specs.Prelude.{nat_lt}
 use Rattle.std.proofs.Math.Seq.{take-add}
 use Rattle.std.proofs.Math.Nat.{min-le_left, min-le_right, add-mul, div-mul-le_self}
@@ -159,7 +159,7 @@ module _ {source : SourceState} {at size : ℕ} {w mid : WindowState} (ahead : I
       let falls = fills_less (unfetched mid) (mid.room + 1 - most) (next_len_of mid) (mid.room - length mid.held) (omega (arith, m.room, wide)) some refl (omega (arith, m.room, few, small, wide)) in
       omega (arith, falls, fills_moved most wide)
 
-  pub slides_held : size ≤ length mid.held → Slides at size w (Ok tt) mid
+  pub slides_held : size ≤ length mid.held → Slides {T = Unit {0}} {E = SourceFault} at size w (Ok tt) mid
   slides_held enough =
       let need = needed_held enough in
       record {
@@ -170,7 +170,7 @@ module _ {source : SourceState} {at size : ℕ} {w mid : WindowState} (ahead : I
   taken_most : next_len_of mid ≤ unfetched mid
   taken_most = min-le_right (mid.room - length mid.held) (unfetched mid)
 
-  pub slides_filled : (new : WindowState) → length mid.held < size → IsFilled source.store.content mid new → Slides at size w (Ok tt) new
+  pub slides_filled : (new : WindowState) → length mid.held < size → IsFilled source.store.content mid new → Slides {T = Unit {0}} {E = SourceFault} at size w (Ok tt) new
   slides_filled new few f =
       let n = next_len_of mid in
       let held_is : length (mid.held ++ f.more) ≡ length mid.held + n = length-append mid.held f.more ∙ ap (λ k. length mid.held + k) f.more_len in
@@ -181,10 +181,26 @@ module _ {source : SourceState} {at size : ℕ} {w mid : WindowState} (ahead : I
         calls = λ most small wide. rw (f.appended, held_is, left_is, need) (omega (arith, fills_fall few most small wide, min-le_left 1 n));
       }
 
-  pub slides_failed : (fault : SourceFault) (new : WindowState) → length mid.held < size → Slides at size w (Err fault) new
+  pub slides_failed : (fault : SourceFault) (new : WindowState) → length mid.held < size → Slides {T = Unit {0}} {E = SourceFault} at size w (Err fault) new
   slides_failed fault new few =
       let need = needed_lacking few in
       record {
         bytes = rw need (omega (arith, taken_most, bytes_moved));
         calls = λ most small wide. rw need (omega (arith, fills_fall few most small wide, min-le_left 1 (next_len_of mid)));
       }
+
+-- ---- other answers of a call
+
+-- behind an answer that tells no fault, whatever is answered then
+pub slides_then : {T E U F : Type 0} (at size : ℕ) (old new : WindowState) (x : T) (result : Result U F) → Slides {T = T} {E = E} at size old (Ok x) new
+    → Slides at size old result new
+slides_then at size old new x (Ok y) slides = record { bytes = slides.bytes; calls = slides.calls }
+slides_then at size old new x (Err fault) slides = record {
+  bytes = omega (arith, slides.bytes);
+  calls = λ most small wide. omega (arith, slides.calls most small wide);
+}
+
+-- and a fault by another name
+pub slides_fault : {T E U F : Type 0} (at size : ℕ) (old new : WindowState) (fault : E) (told : F) → Slides {T = T} {E = E} at size old (Err fault) new
+    → Slides {T = U} {E = F} at size old (Err told) new
+slides_fault at size old new fault told slides = record { bytes = slides.bytes; calls = slides.calls }

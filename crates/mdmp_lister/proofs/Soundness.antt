@@ -1,7 +1,8 @@
 -- A walk stays sound where its lists stay and its new stage is.
-use Rattle.std.proofs.Common.{◌≡◌, ◌<◌, ◌∙◌, ℕ, List, Some, None, IsTrue, sym, subst, refl, vec_len}
+use Rattle.std.proofs.Common.{◌≡◌, ◌<◌, ◌∙◌, ℕ, List, Option, Some, None, IsTrue, sym, subst, refl, vec_len}
 use Rattle.mdmp_source.specs.Source.{SourceState, FetchesAtMost}
 use Rattle.mdmp_source.specs.Store.{IsGood}
+use Rattle.mdmp_source.specs.Window.{WindowState}
 use Rattle.mdmp_wire.specs.declared.entry.Entry.{Entry}
 use Rattle.mdmp_lister.specs.declared.fault.FaultKind.{FaultKind}
 use Rattle.mdmp_lister.specs.declared.fault.FaultKind.TheVariants.{Source}
@@ -10,7 +11,7 @@ use Rattle.mdmp_lister.specs.declared.stage.Stage.TheVariants.{Ended}
 use Rattle.mdmp_lister.specs.declared.walk.Walk.{Walk}
 use Rattle.mdmp_lister.specs.Fault.{IsOfSource}
 use Rattle.mdmp_lister.specs.Stage.{failure_of, fault_stage, stage_by}
-use Rattle.mdmp_lister.specs.Walk.{IsSound, IsStaged, IsHeaded, SameEntry}
+use Rattle.mdmp_lister.specs.Walk.{IsSound, IsStaged, IsHeaded, IsWindowed, SameEntry}
 
 -- a store is good if it was before some fetches, and was if it is
 pub IsGood-before : (n : ℕ) (old new : SourceState) (file : List ℕ) → FetchesAtMost n old new → IsGood new.store file → IsGood old.store file
@@ -28,17 +29,19 @@ IsGood-after n old new file fetches good = record {
 module _ {S A : Type 0} (n : ℕ) (old new : Walk S A) where
   pub IsSound-after : IsSound old → FetchesAtMost n old.meter.source new.meter.source → SameEntry old new
       → IsStaged old.meter.source.size old.next old.current new.stage
+      → IsWindowed old.meter.source.store.content old.current new.window new.stage
       → ((file : List ℕ) → old.meter.source.store.content ≡ Some file → IsHeaded file old.current new.stage)
       → (new.stage ≡ Ended → old.next ≡ vec_len old.entries)
       → ((file : List ℕ) → IsGood old.meter.source.store file → failure_of new.stage ≡ None)
       → IsSound new
-  IsSound-after sound fetches same staged headed ended unfailed = record {
+  IsSound-after sound fetches same staged windowed headed ended unfailed = record {
     sized = rw (fetches.same_content, fetches.same_size) sound.sized;
     window = rw same.room.window sound.window;
     small = rw same.room.name sound.small;
     few = rw same.room.entries sound.few;
     placed = rw (same.room.entries, same.next) sound.placed;
     staged = rw (fetches.same_size, same.next, same.current) staged;
+    holding = rw (fetches.same_content, same.current) windowed;
     headed = λ file known. rw same.current (headed file (sym fetches.same_content ∙ known));
     ended = λ end. rw (same.room.entries, same.next) (ended end);
     directory = λ file known. rw same.room.entries (sound.directory file (sym fetches.same_content ∙ known));
@@ -54,6 +57,13 @@ stage_by-staged size next e f _ begun same = (begun, λ of. subst IsOfSource (sy
 
 pub fault_stage-staged : (size next : ℕ) (e : Entry) (f : ListFault) → 0 < next → IsStaged size next e (fault_stage f)
 fault_stage-staged size next e f begun = stage_by-staged size next e f f.kind begun refl
+
+stage_by-windowed : (content : Option (List ℕ)) (e : Entry) (w : WindowState) (f : ListFault) (kind : FaultKind) → IsWindowed content e w (stage_by kind f)
+stage_by-windowed content e w f (Source fault) = tt
+stage_by-windowed content e w f _ = tt
+
+pub fault_stage-windowed : (content : Option (List ℕ)) (e : Entry) (w : WindowState) (f : ListFault) → IsWindowed content e w (fault_stage f)
+fault_stage-windowed content e w f = stage_by-windowed content e w f f.kind
 
 stage_by-headed : (file : List ℕ) (e : Entry) (f : ListFault) (kind : FaultKind) → IsHeaded file e (stage_by kind f)
 stage_by-headed file e f (Source fault) = tt

@@ -20,7 +20,6 @@ use Rattle.mdmp_lister.specs.declared.step.Step.{Step}
 use Rattle.mdmp_lister.specs.declared.verdict.Verdict.{Verdict}
 use Rattle.mdmp_lister.specs.declared.walk.Walk.{Walk}
 use Rattle.mdmp_lister.specs.Check.{AreFirst, IsVerdict, ReadsFirst, behind_judged, items_of, left_checked, names_at, names_judged}
-use Rattle.mdmp_lister.specs.Costs.{head_left}
 use Rattle.mdmp_lister.specs.Format.Listing.{Numbered, Run, body_of, chosen, chosen_from, entries_from, entry_count, entry_listing, listing_from, nothing, only_chosen, only_fault, stream_item, verdicts}
 use Rattle.mdmp_lister.specs.Format.Numbers.{maybe_name, names_of}
 use Rattle.mdmp_lister.specs.Format.Ranges.{ranges_of}
@@ -32,8 +31,9 @@ use Rattle.mdmp_lister.specs.Walk.{IsSound, IsStaged, left_of, SameRoom, current
 use Rattle.mdmp_lister.specs.Walk.Checking.{EntriesChecked, EntryBegun, EntryJudged, FailedIn, IsStageChecked, JudgesFirst, NoneLeft, verdict_on}
 use Rattle.mdmp_lister.specs.Walk.Mapping.{IsMapped}
 use Rattle.mdmp_lister.specs.Walk.Owing.{HasRoom, count_told}
+use Rattle.mdmp_lister.specs.Walk.Paying.{owed_of}
 use Rattle.mdmp_lister.specs.Walk.Requests.{EntrySkipped, StepTaken}
-use Rattle.mdmp_lister.proofs.Costs.{head_left-stopped}
+use Rattle.mdmp_lister.proofs.Costs.{stopped-unread}
 use Rattle.mdmp_lister.proofs.Ending.{left_of-ended, left_of-fault}
 use Rattle.mdmp_lister.proofs.Fetches.{told_in_later}
 use Rattle.mdmp_lister.proofs.Judging.{fetched_none, fetched_then, moves_then, names_of_all-append, ranges_none, ranges_then, same_room_then}
@@ -383,10 +383,10 @@ module _ {S A : Type 0} (w : Walk S A) where
   stop_checked (Err run.Stopped) at = ap stop_of at
   stop_checked (Err (run.At f)) at = ap stop_of at ∙ fault_stage-stop f
 
-  pub head_checked : (z : ℕ) (result : Result (Unit {0}) RunFault) → IsStageChecked result w.stage → head_left z w.current w.stage ≡ 0
-  head_checked z (Ok done) at = ap (head_left z w.current) at
-  head_checked z (Err run.Stopped) at = ap (head_left z w.current) at
-  head_checked z (Err (run.At f)) at = head_left-stopped z w.current w.stage (Some f) (stop_checked (Err (run.At f)) at)
+  pub unread_checked : (z : ℕ) (result : Result (Unit {0}) RunFault) → IsStageChecked result w.stage → owed_of z w.current w.window w.stage ≡ 0
+  unread_checked z (Ok done) at = ap (owed_of z w.current w.window) at
+  unread_checked z (Err run.Stopped) at = ap (owed_of z w.current w.window) at
+  unread_checked z (Err (run.At f)) at = stopped-unread z w.current w.window w.stage (Some f) (stop_checked (Err (run.At f)) at)
 
   abbrev pub run_checked : Result (Unit {0}) RunFault → List ℕ → Run
   run_checked (Ok done) file = nothing

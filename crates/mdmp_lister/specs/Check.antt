@@ -105,7 +105,7 @@ pub record CheckLeaves {K : Type 0} (step : K → Verdict → Result (Unit {0}) 
   pub ranges : new.ranges ≡ old.ranges ++ ranges_of items
   pub left : new.left ≡ left_checked result new
   pub stop : new.stop ≡ stop_after_run result
-  pub head : new.head ≡ 0
+  pub unread : new.unread ≡ 0
   pub passed : PassesJudged judged result old.passed new.passed
   -- the current entry is the one that was judged last, or in which the store failed
   pub current : IfErr result (λ _. slice_get old.entries (new.passed - 1) ≡ Some new.current)

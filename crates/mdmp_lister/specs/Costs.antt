@@ -1,6 +1,5 @@
 -- What a listing fetches for what it gives.
-use Rattle.std.specs.Prelude.{◌+◌, ℕ, List, length, sum_by, Option, Some, None, Result, Ok, Err}
-use Rattle.mdmp_wire.specs.declared.entry.Entry.{Entry}
+use Rattle.std.specs.Prelude.{◌≡◌, ◌≤◌, ◌+◌, ℕ, List, length, sum_by, Option, Some, None, Result, Ok, Err}
 use Rattle.mdmp_lister.specs.declared.fault.Fault.{Fault}
 use Rattle.mdmp_lister.specs.declared.fault.FaultKind.{FaultKind}
 use Rattle.mdmp_lister.specs.declared.fault.FaultKind.TheVariants.{NameOdd, NameUnitsOutside, Source}
@@ -9,20 +8,15 @@ use Rattle.mdmp_lister.specs.declared.fetching.NameRead.{NameRead}
 use Rattle.mdmp_lister.specs.declared.fetching.NameRead.TheVariants as read
 use Rattle.mdmp_lister.specs.declared.item.Item.{Item}
 use Rattle.mdmp_lister.specs.declared.item.StreamItem.{StreamItem}
-use Rattle.mdmp_lister.specs.declared.kind.Kind.{Kind}
 use Rattle.mdmp_lister.specs.declared.name.Name.{Name}
 use Rattle.mdmp_lister.specs.declared.name.Name.TheVariants.{Units, Long}
 use Rattle.mdmp_lister.specs.declared.name.Name.TheVariants as names
 use Rattle.mdmp_lister.specs.declared.sink.RunFault.{RunFault}
 use Rattle.mdmp_lister.specs.declared.sink.RunFault.TheVariants as run
-use Rattle.mdmp_lister.specs.declared.stage.Stage.{Stage}
-use Rattle.mdmp_lister.specs.declared.stage.Stage.TheVariants.{Head}
 use Rattle.mdmp_lister.specs.declared.step.Step.{Step}
 use Rattle.mdmp_lister.specs.declared.step.Step.TheVariants as step
-use Rattle.mdmp_lister.specs.Heading.{head_of}
-use Rattle.mdmp_lister.specs.Format.Item.{kind_told}
-use Rattle.mdmp_lister.specs.Format.Kind.{kind_of, record_size}
 use Rattle.mdmp_lister.specs.Step.{stream_told}
+use Rattle.mdmp_lister.specs.Walk.Paying.{entry_cost}
 use Rattle.mdmp_lister.specs.Format.Summary.{summary_of}
 
 -- ---- names
@@ -52,84 +46,66 @@ name_spent limit (Err fault) = bad_name_cost limit fault.kind
 
 -- ---- items
 
--- the bytes of an item: its record and its name
+-- the bytes of an item beside those of its stream: its name's
 abbrev pub item_cost : Item → ℕ
-item_cost item = let x = summary_of item in x.bytes + name_cost x.name
+item_cost item = name_cost (summary_of item).name
 
 -- the same of one whose name stands in a buffer
 abbrev pub step_cost : Step → ℕ
 step_cost (step.Stream x) = 0
-step_cost (step.Record r) = record_size (kind_told r.fields) + read_cost r.name
+step_cost (step.Record r) = read_cost r.name
 
--- what was fetched of a record of this kind
-abbrev pub record_spent : ℕ → Kind → Result Step Fault → ℕ
-record_spent limit kind (Ok s) = step_cost s
-record_spent limit kind (Err fault) = record_size kind + bad_name_cost limit fault.kind
-
--- ---- faults
-
-abbrev pub size_by : Option Kind → ℕ
-size_by (Some kind) = record_size kind
-size_by None = 0
-
--- the bytes of a record of an entry, where it has records
-abbrev pub record_cost : Entry → ℕ
-record_cost e = size_by (kind_of e.stream_type)
-
--- at most the bytes of a record of this size and its name, where the store or they are at fault; the fault of a whole
--- entry costs no record
-abbrev pub fault_by : ℕ → ℕ → FaultKind → Option ℕ → ℕ
-fault_by limit size (Source fault) index = size + (4 + limit)
-fault_by limit size kind None = 0
-fault_by limit size kind (Some k) = size + bad_name_cost limit kind
-
-abbrev pub fault_cost : ℕ → Entry → ListFault → ℕ
-fault_cost limit e f = fault_by limit (record_cost e) f.kind f.index
+-- what was fetched for the name of a record
+abbrev pub step_spent : ℕ → Result Step Fault → ℕ
+step_spent limit (Ok s) = step_cost s
+step_spent limit (Err fault) = bad_name_cost limit fault.kind
 
 -- ---- answers
 
--- the bytes of an answer beside a head: that of an item, or at most that of a fault in this entry
-abbrev pub answer_cost : ℕ → Entry → Result (Option Item) ListFault → ℕ
-answer_cost limit e (Ok None) = 0
-answer_cost limit e (Ok (Some item)) = item_cost item
-answer_cost limit e (Err f) = fault_cost limit e f
+-- the bytes of an answer beside those of a stream: of the name of an item, or at most of a name with a fault
+abbrev pub answer_cost : ℕ → Result (Option Item) ListFault → ℕ
+answer_cost limit (Ok None) = 0
+answer_cost limit (Ok (Some item)) = item_cost item
+answer_cost limit (Err f) = bad_name_cost limit f.kind
 
-abbrev pub given_spent : ℕ → Entry → Result (Option Step) ListFault → ℕ
-given_spent limit e (Ok None) = 0
-given_spent limit e (Ok (Some s)) = step_cost s
-given_spent limit e (Err f) = fault_cost limit e f
+abbrev pub given_spent : ℕ → Result (Option Step) ListFault → ℕ
+given_spent limit (Ok None) = 0
+given_spent limit (Ok (Some s)) = step_cost s
+given_spent limit (Err f) = bad_name_cost limit f.kind
 
--- ---- heads that are not read yet, in a file of z bytes
+-- ---- streams that are not read yet, in a file of z bytes
 
--- that of the current entry
-abbrev pub head_left : ℕ → Entry → Stage → ℕ
-head_left z e Head = head_of z e
-head_left z e stage = 0
+-- the bytes of the stream of the entry which an item begins
+abbrev pub stream_begun : ℕ → Option StreamItem → ℕ
+stream_begun z (Some x) = entry_cost z (record { stream_type = x.stream_type; location = x.location })
+stream_begun z None = 0
 
--- that of the entry which an item begins
-abbrev pub head_begun : ℕ → Option StreamItem → ℕ
-head_begun z (Some x) = head_of z (record { stream_type = x.stream_type; location = x.location })
-head_begun z None = 0
+-- the entry that an answer begins
+abbrev pub begun_by : Result (Option Item) ListFault → Option StreamItem
+begun_by (Ok (Some item)) = (summary_of item).stream
+begun_by answer = None
 
-abbrev pub head_given : ℕ → Item → ℕ
-head_given z item = head_begun z (summary_of item).stream
+abbrev pub begun_at : Result (Option Step) ListFault → Option StreamItem
+begun_at (Ok (Some s)) = stream_told s
+begun_at answer = None
 
--- the same of a step
-abbrev pub head_told : ℕ → Step → ℕ
-head_told z s = head_begun z (stream_told s)
+-- how many bytes are unread behind an item: all those of a stream that it begins, else no more than before
+abbrev pub IsUnreadBy : ℕ → Option StreamItem → ℕ → ℕ → Type 0
+IsUnreadBy z (Some x) old new = new ≡ stream_begun z (Some x)
+IsUnreadBy z None old new = new ≤ old
 
--- behind an answer
-abbrev pub head_behind : ℕ → Result (Option Item) ListFault → ℕ
-head_behind z (Ok (Some item)) = head_given z item
-head_behind z answer = 0
+-- and behind an answer: none at the end, nor behind a fault
+abbrev pub LeavesUnread : ℕ → Result (Option Item) ListFault → ℕ → ℕ → Type 0
+LeavesUnread z (Ok (Some item)) old new = IsUnreadBy z (summary_of item).stream old new
+LeavesUnread z answer old new = new ≡ 0
 
 -- ---- runs
 
--- the bytes of some items, each with the head that it begins
+-- the bytes of some items, each with the stream that it begins
 abbrev pub items_cost : ℕ → List Item → ℕ
-items_cost z xs = sum_by (λ x. item_cost x + head_given z x) xs
+items_cost z xs = sum_by (λ x. item_cost x + stream_begun z (summary_of x).stream) xs
 
--- and of the fault that ends a run in this entry
-abbrev pub end_cost : ℕ → Entry → Result (Unit {0}) RunFault → ℕ
-end_cost limit e (Err (run.At f)) = fault_cost limit e f
-end_cost limit e result = 0
+-- and of the fault that ends a run
+abbrev pub end_cost : ℕ → Result (Unit {0}) RunFault → ℕ
+end_cost limit (Err (run.At f)) = bad_name_cost limit f.kind
+end_cost limit result = 0

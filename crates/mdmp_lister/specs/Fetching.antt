@@ -1,8 +1,10 @@
 -- What reading promises: some bytes, the head of a stream, a name, a record.
-use Rattle.std.specs.Prelude.{◌≡◌, ◌≤◌, ◌<◌, ◌+◌, ◌^◌, ℕ, List, Some, Result, IfErr, IfOk, nat_lt}
+use Rattle.std.specs.Prelude.{◌≡◌, ◌≤◌, ◌<◌, ◌+◌, ◌^◌, ℕ, List, None, Some, Result, IfErr, IfOk, nat_lt}
 use Rattle.mdmp_source.specs.Count.{raised_if}
 use Rattle.mdmp_source.specs.Source.{FetchesAtMost, fault_of}
+use Rattle.mdmp_source.specs.Window.{WindowState}
 use Rattle.mdmp_source.specs.declared.fault.SourceFault.{SourceFault}
+use Rattle.mdmp_source.specs.declared.location.Location.{Location}
 use Rattle.mdmp_wire.specs.declared.entry.Entry.{Entry}
 use Rattle.mdmp_lister.specs.declared.fault.Fault.{Fault}
 use Rattle.mdmp_lister.specs.declared.fetching.NameRead.{NameRead}
@@ -10,15 +12,16 @@ use Rattle.mdmp_lister.specs.declared.heading.Head.{Head}
 use Rattle.mdmp_lister.specs.declared.kind.Kind.{Kind}
 use Rattle.mdmp_lister.specs.declared.kind.Kind.TheVariants.{Memory64}
 use Rattle.mdmp_lister.specs.declared.step.Step.{Step}
-use Rattle.mdmp_lister.specs.Costs.{head_told, name_spent, read_cost, record_spent}
+use Rattle.mdmp_lister.specs.Costs.{name_spent, read_cost, step_spent}
 use Rattle.mdmp_lister.specs.Heading.{head_spent}
+use Rattle.mdmp_lister.specs.Holding.{ComesTo, left_behind, started, unfetched}
 use Rattle.mdmp_lister.specs.Meter.{Books, MeterState, Spends}
 use Rattle.mdmp_lister.specs.Walk.Owing.{count_told, ranges_by}
 use Rattle.mdmp_lister.specs.Walk.Reaching.{Reaches, ReachesAtFault, read_once, told_once}
 use Rattle.mdmp_lister.specs.Fault.{IsCaused, IsCausedAt}
 use Rattle.mdmp_lister.specs.Format.Shape.{FitsIn, head_cost}
 use Rattle.mdmp_lister.specs.Format.Kind.{form_of, record_size}
-use Rattle.mdmp_lister.specs.Step.{IsStepHeld, current_by, passed_by}
+use Rattle.mdmp_lister.specs.Step.{IsStepHeld, current_by, passed_by, stream_told}
 
 -- what was read with this answer: an answer of a known file is as it should be, the fetches are booked, and a fault of
 -- the store is caused by them
@@ -41,6 +44,17 @@ pub record ReadsHead (size : ℕ) (kind : Kind) (result : Result Head Fault) (ol
   pub caused : IsCausedAt result old.source new.source
   pub at_fault : IfErr result (λ fault. ReachesAtFault fault.kind old new)
 
+-- a window was started over a stream, whose head was read, or is too short, by a fetch of so many bytes
+pub record BeginsStream (at : Location) (result : Result Head Fault) (old new : MeterState) (was now : WindowState) : Type 0 where
+  pub spent : ℕ
+  pub books : Books 1 spent old new
+  -- they come off those of the stream
+  pub bytes : spent + left_behind result (unfetched now) ≤ at.size
+  pub room : now.room ≡ was.room
+  pub comes : IfOk result (λ head. ComesTo at.rva old.source.store.content (started at was) now)
+  pub caused : IsCausedAt result old.source new.source
+  pub at_fault : IfErr result (λ fault. ReachesAtFault fault.kind old new)
+
 -- the name at this RVA was read, where names have at most `limit` bytes
 pub record ReadsName (limit rva : ℕ) (result : Result NameRead Fault) (old new : MeterState) : Type 0 where
   pub fetches : FetchesAtMost (name_spent limit result) old.source new.source
@@ -52,10 +66,10 @@ pub record ReadsName (limit rva : ℕ) (result : Result NameRead Fault) (old new
   pub at_fault : IfErr result (λ fault. ReachesAtFault fault.kind old new)
   pub caused : IsCausedAt result old.source new.source
 
--- a record of this kind was read, and its name where it has one
-pub record ReadsRecord (limit : ℕ) (kind : Kind) (result : Result Step Fault) (old new : MeterState) : Type 0 where
-  pub fetches : FetchesAtMost (record_spent limit kind result) old.source new.source
-  pub spends : Spends (record_size kind) limit old new
+-- a record was read by a fetch of so many bytes, and its name where it has one
+pub record ReadsRecord (spent limit : ℕ) (result : Result Step Fault) (old new : MeterState) : Type 0 where
+  pub fetches : FetchesAtMost (spent + step_spent limit result) old.source new.source
+  pub spends : Spends spent limit old new
   pub named : IfOk result (λ step. Reaches (told_once step) old new)
   pub at_fault : IfErr result (λ fault. ReachesAtFault fault.kind old new)
   pub caused : IsCausedAt result old.source new.source
@@ -66,4 +80,4 @@ pub record TellsRecord (room : ℕ) (kind : Kind) (s : Step) : Type 0 where
   pub ranges : count_told s ≡ ranges_by kind 1
   pub passed : (next : ℕ) → passed_by s next ≡ next
   pub stays : (e : Entry) → current_by s e ≡ e
-  pub begins : (z : ℕ) → head_told z s ≡ 0
+  pub begins : stream_told s ≡ None

@@ -24,15 +24,6 @@ head_spent size kind = if nat_lt size (head_size (form_of kind) (record_size kin
 abbrev pub head_inside : ℕ → Entry → Kind → ℕ
 head_inside z e kind = if is_inside e.location.rva e.location.size z then head_spent e.location.size kind else 0
 
--- an unused entry has no head, and neither has an opaque stream
-abbrev pub head_by : ℕ → Entry → Option Kind → ℕ
-head_by z e (Some kind) = head_inside z e kind
-head_by z e None = 0
-
--- what is fetched of an entry before its first record is
-unfoldable pub head_of : ℕ → Entry → ℕ
-head_of z e = head_by z e (kind_of e.stream_type)
-
 -- ---- as a file is opened
 
 -- the heads of memory lists, and no others

@@ -1,9 +1,9 @@
 -- What a window holds of a file, and what its fills may still take.
-use Rattle.std.specs.Prelude.{◌≡◌, ◌≤◌, ◌+◌, ◌-◌, ◌/◌, ℕ, zero, suc, List, Option, Result, Ok, Err, drop, length, min, IfSome, nat_lt, if◌then◌else◌}
+use Rattle.std.specs.Prelude.{◌≡◌, ◌≤◌, ◌+◌, ◌-◌, ◌/◌, ℕ, zero, suc, List, [], Option, Result, Ok, Err, drop, length, min, IfSome, nat_lt, if◌then◌else◌}
 use Rattle.mdmp_source.specs.Range.{bytes_at}
 use Rattle.mdmp_source.specs.Source.{SourceState}
 use Rattle.mdmp_source.specs.Window.{WindowState, behind_of, next_len_of}
-use Rattle.mdmp_source.specs.declared.fault.SourceFault.{SourceFault}
+use Rattle.mdmp_source.specs.declared.location.Location.{Location}
 
 -- the bytes held are those of the file from the place on, where it is known
 abbrev pub IsHeldOf : Option (List ℕ) → WindowState → Type 0
@@ -23,6 +23,10 @@ pub record ComesTo (at : ℕ) (content : Option (List ℕ)) (old new : WindowSta
   pub end : new.end ≡ old.end
   pub room : new.room ≡ old.room
   pub held : IsHeldOf content new
+
+-- a window that was started over a stream
+abbrev pub started : Location → WindowState → WindowState
+started at w = record { place = at.rva; end = at.rva + at.size; room = w.room; held = [] }
 
 -- a window that was moved to `at`: behind the bytes held it holds nothing
 abbrev pub reached : ℕ → WindowState → WindowState
@@ -53,11 +57,11 @@ abbrev pub fills : ℕ → WindowState → ℕ
 fills most w = fills_of (unfetched w) (w.room + 1 - most)
 
 -- what is left behind an answer: behind a fault nothing
-abbrev pub left_behind : Result (Unit {0}) SourceFault → ℕ → ℕ
+abbrev pub left_behind : {T E : Type 0} → Result T E → ℕ → ℕ
 left_behind (Ok x) left = left
 left_behind (Err fault) left = 0
 
 -- what was fetched and what was jumped over, to hold `size` bytes at `at`, comes off what was left
-pub record Slides (at size : ℕ) (old : WindowState) (result : Result (Unit {0}) SourceFault) (new : WindowState) : Type 0 where
+pub record Slides {T E : Type 0} (at size : ℕ) (old : WindowState) (result : Result T E) (new : WindowState) : Type 0 where
   pub bytes : needed at size old + jumped at old + left_behind result (unfetched new) ≤ unfetched old
   pub calls : (most : ℕ) → size ≤ most → most ≤ old.room → min 1 (needed at size old) + left_behind result (fills most new) ≤ fills most old

@@ -18,7 +18,7 @@ use Rattle.mdmp_lister.specs.declared.kind.Kind.{Kind}
 use Rattle.mdmp_lister.specs.declared.limits.Limits.{Limits}
 use Rattle.mdmp_lister.specs.declared.shape.Shape.{Shape}
 use Rattle.mdmp_lister.specs.Format.Classes.{IsClassed}
-use Rattle.mdmp_lister.specs.Costs.{answer_cost, head_behind}
+use Rattle.mdmp_lister.specs.Costs.{LeavesUnread, answer_cost, begun_by, stream_begun}
 use Rattle.mdmp_lister.specs.Format.Numbers.{most_names_in, names_in, range_count}
 use Rattle.mdmp_lister.specs.Format.Directory.{IsDirectory}
 use Rattle.mdmp_lister.specs.Heading.{heads_ahead}
@@ -61,8 +61,8 @@ pub record ListerState : Type 0 where
   pub left : Option Run
   -- the end or the fault with which each request is answered from now on, where there is one
   pub stop : Option (Option ListFault)
-  -- the bytes of the current entry's head, where that is not read yet
-  pub head : ℕ
+  -- the bytes of the current entry's stream that may still be fetched
+  pub unread : ℕ
   -- how many records of the current entry are left, once the first of them was given
   pub records : ℕ
   -- a number that falls with each item
@@ -159,7 +159,7 @@ pub record IsNewLister (source : SourceState) (choice : Choice) (limits : Limits
   pub ranges : new.ranges ≡ []
   pub counts : IsBegun source new.counts
   pub left : new.left ≡ option_map (λ file. listing file choice limits.name) source.store.content
-  pub head : new.head ≡ 0
+  pub unread : new.unread ≡ 0
   pub stop : new.stop ≡ None
 
 -- what no listing changes
@@ -175,15 +175,15 @@ pub record IsSameLister (old new : ListerState) : Type 0 where
 -- what a request for the next item leaves
 pub record Leaves (old : ListerState) (result : Result (Option Item) ListFault) (new : ListerState) : Type 0 where
   pub same : IsSameLister old new
-  -- the current entry's head, where that was not read yet, and the record and name of the item
-  pub fetches : FetchesAtMost (old.head + answer_cost old.limit old.current result) old.source new.source
+  -- what came off the unread bytes of the current entry's stream, and the name of the item
+  pub fetches : FetchesAtMost (old.unread + stream_begun old.source.size (begun_by result) + answer_cost old.limit result - new.unread) old.source new.source
   -- and at most one name was reached
   pub counts : Moves 1 old.counts new.counts
   -- just those that items have, where no fault stands
   pub names : IfOk result (λ given. new.counts.names ≡ old.counts.names + names_in (Ok given))
   -- and at a fault that is first answered that of a name, or maybe one where the store failed
   pub names_at_fault : old.stop ≡ None → IfErr result (λ f. (old.counts.names + names_in (Err f) ≤ new.counts.names) × (new.counts.names ≤ old.counts.names + most_names_in (Err f)))
-  pub head : new.head ≡ head_behind old.source.size result
+  pub unread : LeavesUnread old.source.size result old.unread new.unread
   pub left : new.left ≡ option_map (left_after result) old.left
   pub stop : new.stop ≡ stop_after result
   pub passed : Passes result old.passed new.passed

@@ -1,5 +1,5 @@
 -- What a run hands to a sink.
-use Rattle.std.specs.Prelude.{◌≡◌, ◌≤◌, ◌+◌, ◌⊎◌, sum_by, ℕ, List, [], ◌∷◌, ◌++◌, None, Some, Result, Ok, Err}
+use Rattle.std.specs.Prelude.{◌≡◌, ◌≤◌, ◌+◌, ◌-◌, ◌⊎◌, sum_by, ℕ, List, [], ◌∷◌, ◌++◌, None, Some, Result, Ok, Err}
 use Rattle.mdmp_source.specs.Source.{FetchesAtMost}
 use Rattle.mdmp_wire.specs.declared.entry.Entry.{Entry}
 use Rattle.mdmp_lister.specs.declared.item.Item.{Item}
@@ -88,4 +88,6 @@ pub record RunLeaves {K : Type 0} (step : K → Item → Result (Unit {0}) Stopp
   pub left : (left : Run) → old.left ≡ Some left → (rest : Run) × ((new.left ≡ Some rest) × GivesAll left items result rest)
   pub names : NamesAll items result old.counts.names new.counts.names
   pub names_at_end : old.stop ≡ None → NamesAtEnd items result old.counts.names new.counts.names
-  pub fetches : FetchesAtMost (old.head + items_cost old.source.size items + end_cost old.limit (current_behind items old.current) result) old.source new.source
+  -- what came off the unread bytes of streams, and names
+  pub fetches : FetchesAtMost (old.unread + items_cost old.source.size items + end_cost old.limit result - new.unread) old.source new.source
+  pub unread : new.unread ≤ old.unread + items_cost old.source.size items

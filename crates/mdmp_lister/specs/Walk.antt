@@ -11,6 +11,7 @@ use Rattle.mdmp_source.specs.Range.{IsInside}
 use Rattle.mdmp_source.specs.Source.{SourceState, FetchesAtMost, fault_of}
 use Rattle.mdmp_source.specs.Store.{IsGood, IsSizeOf}
 use Rattle.mdmp_source.specs.declared.fault.SourceFault.{SourceFault}
+use Rattle.mdmp_source.specs.Window.{WindowState}
 use Rattle.mdmp_wire.specs.declared.entry.Entry.{Entry}
 use Rattle.mdmp_wire.specs.Header.{header_at}
 use Rattle.mdmp_lister.specs.declared.choice.Choice.{Choice}
@@ -26,6 +27,7 @@ use Rattle.mdmp_lister.specs.declared.walk.Walk.{Walk}
 use Rattle.mdmp_lister.specs.Format.Numbers.{range_count}
 use Rattle.mdmp_lister.specs.Format.Directory.{IsDirectory}
 use Rattle.mdmp_lister.specs.Heading.{heads_ahead}
+use Rattle.mdmp_lister.specs.Holding.{IsHeldOf}
 use Rattle.mdmp_lister.specs.Format.Item.{range_offset}
 use Rattle.mdmp_lister.specs.Format.Listing.{Run, nothing, only_fault, with_item, joined, items_from, body_of, listing_from}
 use Rattle.mdmp_lister.specs.Meter.{Books}
@@ -70,6 +72,17 @@ IsHeaded F e (Records kind shape index offset) =
     (shape_of F e.location.rva e.location.size kind ≡ Ok shape) × (kind ≡ Memory64 → offset ≡ range_offset F e.location.rva index)
 IsHeaded F e stage = Unit {0}
 
+-- a window over the stream of an entry holds bytes of the file, and has not passed the record of this number
+pub record IsHolding (content : Option (List ℕ)) (e : Entry) (shape : Shape) (index : ℕ) (w : WindowState) : Type 0 where
+  pub held : IsHeldOf content w
+  pub end : w.end ≡ e.location.rva + e.location.size
+  pub place : w.place ≤ e.location.rva + shape.first + index * shape.stride
+
+-- what the window holds counts where records are read
+abbrev pub IsWindowed : Option (List ℕ) → Entry → WindowState → Stage → Type 0
+IsWindowed content e w (Records kind shape index offset) = IsHolding content e shape index w
+IsWindowed content e w stage = Unit {0}
+
 abbrev pub stage_work : Stage → ℕ
 stage_work Head = 2 ^ 32
 stage_work (Records kind shape index offset) = shape.count - index
@@ -87,6 +100,7 @@ module _ {S A : Type 0} where
     pub few : vec_len w.entries < 2 ^ 32
     pub placed : w.next ≤ vec_len w.entries
     pub staged : IsStaged w.meter.source.size w.next w.current w.stage
+    pub holding : IsWindowed w.meter.source.store.content w.current w.window w.stage
     pub headed : (file : List ℕ) → w.meter.source.store.content ≡ Some file → IsHeaded file w.current w.stage
     pub ended : w.stage ≡ Ended → w.next ≡ vec_len w.entries
     pub directory : (file : List ℕ) → w.meter.source.store.content ≡ Some file → IsDirectory file w.entries.items

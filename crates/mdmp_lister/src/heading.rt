@@ -2,8 +2,8 @@
 ghost use Rattle.std.specs.Prelude.{◌≡◌, ◌≤◌, ◌+◌, ℕ, List, Some, length, IfErr, IfOk};
 ghost use Rattle.mdmp_source.specs.Range.{IsInside, bytes_at};
 ghost use Rattle.mdmp_wire.specs.Number.{number_at};
-ghost use Rattle.mdmp_lister.specs.Fetching.{IsHeadOf, ReadsHead};
-ghost use Rattle.mdmp_lister.specs.Format.Kind.{form_of, record_size};
+ghost use Rattle.mdmp_lister.specs.Fetching.{BeginsStream, IsHeadOf, ReadsHead};
+ghost use Rattle.mdmp_lister.specs.Format.Kind.{form_of, greatest_record, record_size};
 ghost use Rattle.mdmp_lister.specs.Format.Numbers.{maybe_name};
 ghost use Rattle.mdmp_lister.specs.Heading.{IsShort};
 ghost use Rattle.mdmp_lister.specs.Format.Shape.{head_cost, head_size, shape_of};
@@ -12,11 +12,13 @@ ghost use Rattle.mdmp_lister.specs.Fault.{Answers};
 use crate::fault::{Fault, FaultKind, faulted};
 use crate::fetching::{fetch_front, first_of};
 use crate::form::Form;
+use crate::holding::hold;
 use crate::kind::Kind;
 use crate::meter::Meter;
 use crate::shape::{Shape, counted, ranges64, single, sized, widened};
-use mdmp_source::{Location, Store};
+use mdmp_source::{Location, Store, Window};
 use mdmp_wire::Memory64List;
+use std::alloc::Allocator;
 
 /// What the head of a stream says.
 #[derive(Clone, Copy, Debug, PartialEq, Eq)]
@@ -111,4 +113,30 @@ pub(crate) fn fetch_head<S: Store>(
     let mut bytes = [0; GREATEST_HEAD];
     fetch_front(meter, u64::from(at.rva), &mut bytes, least)?;
     head_of(&bytes[..least], at, kind)
+}
+
+/// What the head of a stream says, or its first fault. A window is started over the stream, which holds
+/// what was fetched of it.
+#[tactic(auto, unfolding(crate::specs::Format::Shape::shape_of))]
+pub(crate) fn begin_stream<S: Store, A: Allocator>(
+    meter: &mut Meter<S>,
+    window: &mut Window<A>,
+    at: Location,
+    kind: Kind,
+) -> Result<Head, Fault>
+    requires inside { IsInside at.rva at.size meter.old.source.size }
+    requires room { greatest_record ≤ window.old.room }
+    ensures shape { (file : List ℕ) → meter.old.source.store.content ≡ Some file
+        → Answers (shape_of file at.rva at.size kind) (λ head. head.shape) result }
+    ensures base { (file : List ℕ) → meter.old.source.store.content ≡ Some file
+        → kind ≡ Kind.Memory64 → IfOk result (λ head. head.base ≡ number_at file (at.rva + 8) 8) }
+    ensures head { IfOk result (IsHeadOf at.size kind) }
+    ensures begins { BeginsStream at result meter.old meter.new window.old window.new }
+{
+    check_head(at, kind)?;
+    let start = u64::from(at.rva);
+    window.start(start, start + u64::from(at.size));
+    let least = kind.form().head_cost() as usize;
+    hold(meter, window, start, least)?;
+    head_of(&window.bytes()[..least], at, kind)
 }

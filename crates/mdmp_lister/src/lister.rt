@@ -52,7 +52,7 @@ const MOST_RANGES: u128 = 1 << 28;
 impl<S: Store + Drop, A: Allocator + Copy> Model for Lister<S, A> {
     ghost use Rattle.std.specs.Option.{option_map};
     ghost use Rattle.std.specs.Prelude.{vec_capacity, vec_len};
-    ghost use Rattle.mdmp_lister.specs.Costs.{head_left};
+    ghost use Rattle.mdmp_lister.specs.Walk.Paying.{unread_of};
     ghost use Rattle.mdmp_lister.specs.Lister.{ListerState};
     ghost use Rattle.mdmp_lister.specs.Meter.{counts_of};
     ghost use Rattle.mdmp_lister.specs.Stage.{records_left_in, stop_of};
@@ -74,7 +74,7 @@ impl<S: Store + Drop, A: Allocator + Copy> Model for Lister<S, A> {
       ranges = l.map.ranges;
       left = option_map (left_of l.walk) l.walk.meter.source.store.content;
       stop = stop_of l.walk.stage;
-      head = head_left l.walk.meter.source.size l.walk.current l.walk.stage;
+      unread = unread_of l.walk;
       records = records_left_in l.walk.stage;
       work = work_of l.walk;
     } };
@@ -175,8 +175,9 @@ impl<S: Store + Drop, A: Allocator + Copy> Lister<S, A> {
     /// range that lies inside the file is put into the map. A store has changed where the head of a
     /// memory list, read again, counts more ranges than the map has room left.
     ///
-    /// It fetches the record and its name, of a name over the limit its length alone, and before the
-    /// first record of an entry the head of the stream.
+    /// The records of a stream pass through the window: where the next one is not held yet, the window is
+    /// filled from there on, as far as it has room and the stream goes. The name of an item is fetched
+    /// beside it, of one over the limit its length alone.
     pub fn next(&mut self) -> Result<Option<Item<'_>>, ListFault>
         ensures gives { (left : _) → self.old.left ≡ Some left → Gives left result }
         ensures* leaves { sem 𝓛 (Rests (the_row S.row A.row S.Store A.Allocator) self.entry (Leaves self.old result)) }
@@ -220,7 +221,7 @@ impl<S: Store + Drop, A: Allocator + Copy> Lister<S, A> {
     /// the end and after a fault of the store it changes nothing.
     pub fn skip_entry(&mut self)
         ensures skips { is_for_good self.old.stop ≡ false
-            → (self.new.left ≡ listing_behind self.old self.old.passed) × (self.new.stop ≡ None) × (self.new.head ≡ 0) }
+            → (self.new.left ≡ listing_behind self.old self.old.passed) × (self.new.stop ≡ None) × (self.new.unread ≡ 0) }
         ensures stays { IsTrue (is_for_good self.old.stop) → self.new ≡ self.old }
         ensures unbegun { self.old.passed ≡ 0 → self.new ≡ self.old }
         ensures source { (self.new.source ≡ self.old.source) × (self.new.counts ≡ self.old.counts) }

@@ -68,6 +68,10 @@ pub(crate) fn read_directory<S: Store, A: Allocator>(
     ensures reads { Reads (Books (fills_of (12 * header.number_of_streams) (window.old.room - 11)) (12 * header.number_of_streams)) (λ file _. header ≡ header_at file 0 → IsDirectory file entries.new.items)
         result meter.old meter.new }
 {
+    if header.number_of_streams == 0 {
+        // Its place may be anything.
+        return Ok(());
+    }
     let first = u64::from(header.stream_directory_rva);
     let size = Entry::SIZE as u64 * u64::from(header.number_of_streams);
     window.start(first, first + size);

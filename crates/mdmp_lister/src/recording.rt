@@ -3,6 +3,7 @@ ghost use Rattle.std.specs.Prelude.{◌≡◌, ◌≤◌, ◌<◌, ◌+◌, ◌^
 ghost use Rattle.mdmp_source.specs.Range.{bytes_at};
 ghost use Rattle.mdmp_lister.specs.Fetching.{Reads, ReadsRecord, TellsRecord};
 ghost use Rattle.mdmp_lister.specs.Format.Item.{item_at, kind_told, range_offset, record_at};
+ghost use Rattle.mdmp_lister.specs.Holding.{ComesTo, IsAhead, Slides, needed};
 ghost use Rattle.mdmp_lister.specs.Meter.{Books};
 ghost use Rattle.mdmp_lister.specs.Fault.{Answers};
 ghost use Rattle.mdmp_lister.specs.Format.Kind.{greatest_record, record_size};
@@ -38,46 +39,27 @@ fn record_of(kind: Kind, bytes: &[u8]) -> AnyRecord
     }
 }
 
-/// Fetches the `size` bytes at `at`, and no others, to the front of a window.
-fn read_front<S: Store, A: Allocator>(
-    meter: &mut Meter<S>,
-    window: &mut Window<A>,
-    at: u64,
-    size: usize,
-) -> Result<(), SourceFault>
-    requires inside { at + size ≤ meter.old.source.size }
-    requires room { size ≤ window.old.room }
-    ensures room { window.new.room ≡ window.old.room }
-    ensures enough { OnOk result (size ≤ length window.new.held) }
-    ensures reads { Reads (Books 1 size) (λ file _. take size window.new.held ≡ bytes_at file at size) result meter.old meter.new }
-{
-    // The proof learns here that the size fits its type.
-    let _size = meter.size();
-    window.start(at, at + size as u64);
-    hold(meter, window, at, size)
-}
-
-/// The record at `at`, of a stream of this kind, whose bytes pass through the front of the window.
+/// The record at `at`, of a stream of this kind, over which a window slides.
 fn read_record<S: Store, A: Allocator>(
     meter: &mut Meter<S>,
     window: &mut Window<A>,
     kind: Kind,
     at: u64,
 ) -> Result<AnyRecord, SourceFault>
-    requires inside { at + record_size kind ≤ meter.old.source.size }
-    requires window { greatest_record ≤ window.old.room }
-    ensures room { window.new.room ≡ window.old.room }
+    requires { IsAhead meter.old.source at (record_size kind) window.old }
     ensures kind { IfOk result (λ value. kind_told value ≡ kind) }
-    ensures reads { Reads (Books 1 (record_size kind)) (λ file value. record_at kind file at ≡ value) result meter.old meter.new }
+    ensures reads { Reads (Books 1 (needed at (record_size kind) window.old)) (λ file value. record_at kind file at ≡ value) result meter.old meter.new }
+    ensures comes { ComesTo at meter.old.source.store.content window.old window.new }
+    ensures slides { Slides at (record_size kind) window.old result window.new }
 {
     let size = kind.record_size() as usize;
-    read_front(meter, window, at, size)?;
+    hold(meter, window, at, size)?;
     Ok(record_of(kind, &window.bytes()[..size]))
 }
 
 /// The record at `at` and its name, or the fault of its name. The bytes of a range of a 64-bit memory
 /// list stand at `offset`.
-#[tactic(auto, using(crate::proofs::RecordItems::item_read, crate::proofs::RecordItems::name_faulted, crate::proofs::Fetches::IsCausedAt_later, crate::proofs::Naming::source_reached))]
+#[tactic(auto, using(crate::proofs::RecordItems::item_read, crate::proofs::RecordItems::name_faulted, crate::proofs::Fetches::IsCausedAt_later, crate::proofs::Naming::source_reached, crate::proofs::Sliding::slides_then, crate::proofs::Sliding::slides_fault))]
 pub(crate) fn read_item<S: Store, A: Allocator>(
     meter: &mut Meter<S>,
     window: &mut Window<A>,
@@ -88,16 +70,16 @@ pub(crate) fn read_item<S: Store, A: Allocator>(
     at: u64,
     offset: u128,
 ) -> Result<Step, Fault>
-    requires inside { at + record_size kind ≤ meter.old.source.size }
-    requires window { greatest_record ≤ window.old.room }
+    requires ahead { IsAhead meter.old.source at (record_size kind) window.old }
     requires small { length buffer.old < 2 ^ 32 }
     ensures item { (file : List ℕ) → meter.old.source.store.content ≡ Some file → (stream : ℕ)
         → (kind ≡ Kind.Memory64 → offset ≡ range_offset file stream index)
         → Answers (item_at file (length buffer.new) entry index stream at kind) (step_item meter.old.source.size buffer.new) result }
     ensures tells { IfOk result (TellsRecord (length buffer.new) kind) }
     ensures length { length buffer.new ≡ length buffer.old }
-    ensures room { window.new.room ≡ window.old.room }
-    ensures reads { ReadsRecord (length buffer.new) kind result meter.old meter.new }
+    ensures comes { ComesTo at meter.old.source.store.content window.old window.new }
+    ensures slides { Slides at (record_size kind) window.old result window.new }
+    ensures reads { ReadsRecord (needed at (record_size kind) window.old) (length buffer.new) result meter.old meter.new }
 {
     // The proof learns here that the size is that of the content.
     let _size = meter.size();

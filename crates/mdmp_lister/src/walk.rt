@@ -11,7 +11,7 @@ use crate::choice::Choice;
 use crate::codeview::{CodeViewBytes, CodeViewRead, read_codeview};
 use crate::counting::count_ranges;
 use crate::fault::{Fault, FaultKind, ListFault, OpenFault};
-use crate::heading::fetch_head;
+use crate::heading::begin_stream;
 use crate::item::{Item, StreamItem};
 use crate::kind::Kind;
 use crate::limits::Limits;
@@ -195,7 +195,12 @@ impl<S: Store + Drop, A: Allocator + Copy> Walk<S, A> {
             self.stage = Stage::Between;
             return Ok(());
         };
-        match fetch_head(&mut self.meter, self.current.location, kind) {
+        match begin_stream(
+            &mut self.meter,
+            &mut self.window,
+            self.current.location,
+            kind,
+        ) {
             Ok(head) => {
                 if kind.ranges_by(head.shape.count) > room as u64 {
                     let at = u64::from(self.current.location.rva);

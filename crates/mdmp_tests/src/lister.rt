@@ -18,3 +18,4 @@ mod records;
 mod records_left;
 mod shapes;
 mod stores;
+mod windows;

@@ -1,14 +1,15 @@
 -- What a walk may still fetch.
 use Rattle.std.specs.Prelude.{◌≤◌, ◌<◌, ◌+◌, ◌-◌, ◌*◌, ◌^◌, ◌&&◌, ℕ, List, map, filter, sum_by, Option, Some, None, drop, get_or, vec_len, if◌then◌else◌}
+use Rattle.mdmp_source.specs.Window.{WindowState}
 use Rattle.mdmp_wire.specs.declared.entry.Entry.{Entry}
 use Rattle.mdmp_lister.specs.declared.choice.Choice.{Choice}
 use Rattle.mdmp_lister.specs.declared.stage.Stage.{Stage}
 use Rattle.mdmp_lister.specs.declared.stage.Stage.TheVariants.{Head, Records}
 use Rattle.mdmp_lister.specs.declared.walk.Walk.{Walk}
 use Rattle.mdmp_lister.specs.Heading.{heads_ahead}
+use Rattle.mdmp_lister.specs.Holding.{unfetched}
 use Rattle.mdmp_lister.specs.Format.Listing.{is_chosen}
 use Rattle.mdmp_lister.specs.Format.Numbers.{is_listed}
-use Rattle.mdmp_lister.specs.Format.Kind.{record_size}
 use Rattle.mdmp_lister.specs.Walk.{work_of}
 
 -- what an entry costs of which `f` tells what a stream of so many bytes does: nothing where it is not listed of a file of
@@ -38,16 +39,21 @@ entry_cost size e = entry_cost_by (λ d. d) size e
 abbrev pub cost_of : Choice → ℕ → List Entry → ℕ
 cost_of choice size entries = cost_by (λ d. d) choice size entries
 
--- and what is left of the current one: all of it before its head is read, then the records
-abbrev pub owed_of : ℕ → Entry → Stage → ℕ
-owed_of size e Head = entry_cost size e
-owed_of size e (Records kind shape index offset) = (shape.count - index) * record_size kind
-owed_of size e stage = 0
+-- and what is left of the current one: all of it before its head is read, then what its window has neither fetched nor
+-- passed over
+abbrev pub owed_of : ℕ → Entry → WindowState → Stage → ℕ
+owed_of size e w Head = entry_cost size e
+owed_of size e w (Records kind shape index offset) = unfetched w
+owed_of size e w stage = 0
+
+-- the bytes of the current entry's stream that may still be fetched
+abbrev pub unread_of : {S A : Type 0} → Walk S A → ℕ
+unread_of w = owed_of w.meter.source.size w.current w.window w.stage
 
 -- what was fetched and may still be is allowed, with a name and its length for each of the names reached behind the
 -- first `before`; and those that may still be can be counted
 pub record IsPaid {S A : Type 0} (allowed before : ℕ) (w : Walk S A) : Type 0 where
-  pub bytes : w.meter.fetched + (owed_of w.meter.source.size w.current w.stage + cost_of w.choice w.meter.source.size (drop w.next w.entries.items))
+  pub bytes : w.meter.fetched + (unread_of w + cost_of w.choice w.meter.source.size (drop w.next w.entries.items))
       + before * (vec_len w.name + 4) ≤ allowed + w.meter.names * (vec_len w.name + 4)
   pub names : w.meter.names + work_of w < 2 ^ 66
 

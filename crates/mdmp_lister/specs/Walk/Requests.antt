@@ -1,5 +1,5 @@
 -- What a request for the next item leaves of a walk.
-use Rattle.std.specs.Prelude.{◌≡◌, ◌≤◌, ◌<◌, ◌+◌, ℕ, List, Option, Some, None, Result, IfOk, IfErr, IfSome, IsTrue, false, vec_len}
+use Rattle.std.specs.Prelude.{◌≡◌, ◌≤◌, ◌<◌, ◌+◌, ◌-◌, ℕ, List, Option, Some, None, Result, IfOk, IfErr, IfSome, IsTrue, false, vec_len}
 use Rattle.mdmp_source.specs.Source.{FetchesAtMost}
 use Rattle.mdmp_source.specs.Store.{IsGood}
 use Rattle.mdmp_source.specs.declared.fault.SourceFault.{SourceFault}
@@ -9,17 +9,16 @@ use Rattle.mdmp_lister.specs.declared.fault.ListFault.{ListFault}
 use Rattle.mdmp_lister.specs.declared.step.Step.{Step}
 use Rattle.mdmp_lister.specs.declared.walk.Walk.{Walk}
 use Rattle.mdmp_lister.specs.CodeView.{ReadsCodeView}
-use Rattle.mdmp_lister.specs.Costs.{given_spent, head_left, head_told}
-use Rattle.mdmp_lister.specs.Heading.{head_of}
+use Rattle.mdmp_lister.specs.Costs.{IsUnreadBy, begun_at, given_spent, stream_begun}
 use Rattle.mdmp_lister.specs.Meter.{Books, Moves, counts_of}
-use Rattle.mdmp_lister.specs.Walk.Paying.{IsPaid}
+use Rattle.mdmp_lister.specs.Walk.Paying.{IsPaid, unread_of}
 use Rattle.mdmp_lister.specs.Walk.Reaching.{Reaches, ReachesAtFault, given_once}
 use Rattle.mdmp_lister.specs.Fault.{IsOfSource, IsToldIn}
 use Rattle.mdmp_lister.specs.Format.Kind.{kind_of}
 use Rattle.mdmp_lister.specs.Stage.{IsStageAfter, ends, stop_after, stop_of}
 use Rattle.mdmp_lister.specs.declared.stage.Stage.TheVariants.{Between}
 use Rattle.mdmp_lister.specs.Walk.Owing.{HasRoom, count_answered}
-use Rattle.mdmp_lister.specs.Step.{CurrentAfter, IsStepHeld}
+use Rattle.mdmp_lister.specs.Step.{CurrentAfter, IsStepHeld, stream_told}
 use Rattle.mdmp_lister.specs.Walk.{Advances, IsListing, IsSound, PassesTo, SameEntry, SameRoom, current_of, left_of, work_of}
 
 module _ {S A : Type 0} where
@@ -27,8 +26,8 @@ module _ {S A : Type 0} where
   pub record StepGiven (old : Walk S A) (step : Step) (new : Walk S A) : Type 0 where
     -- its name stands in the walk's buffer, and it is a record of the entry's kind
     pub held : IsStepHeld (vec_len new.name) (kind_of new.current.stream_type) step
-    -- where it begins an entry, the head of that entry is left to be read
-    pub begins : head_left new.meter.source.size new.current new.stage ≡ head_told old.meter.source.size step
+    -- where it begins an entry, the stream of that entry is left to be read
+    pub begins : IsUnreadBy old.meter.source.size (stream_told step) (unread_of old) (unread_of new)
     pub falls : work_of new < work_of old
 
   -- a fault that was met: it stands in the current entry, and one of the store was told by the last fetch
@@ -50,8 +49,8 @@ module _ {S A : Type 0} where
     pub passed : PassesTo result old.next new.next
     pub current : CurrentAfter result old.current new.current
     pub rests : work_of new ≤ work_of old
-    -- the head of the current entry was fetched, where it was not read yet, and the record and name of the step
-    pub fetches : FetchesAtMost (head_left old.meter.source.size old.current old.stage + given_spent (vec_len old.name) old.current result)
+    -- what came off the unread bytes of the current entry's stream was fetched, and the name of the step
+    pub fetches : FetchesAtMost (unread_of old + stream_begun old.meter.source.size (begun_at result) + given_spent (vec_len old.name) result - unread_of new)
         old.meter.source new.meter.source
     pub counts : Moves 1 (counts_of old.meter) (counts_of new.meter)
     pub named : IfOk result (λ given. Reaches (given_once given) old.meter new.meter)
@@ -68,7 +67,8 @@ module _ {S A : Type 0} where
     pub left : (file : List ℕ) → old.meter.source.store.content ≡ Some file → current_of new file ≡ current_of old file
     pub stage : IsListing new.stage
     pub falls : work_of new < work_of old
-    pub books : Books 1 (head_of old.meter.source.size old.current) old.meter new.meter
+    pub owes : unread_of new ≤ unread_of old
+    pub books : Books 1 (unread_of old - unread_of new) old.meter new.meter
     pub paid : (allowed before : ℕ) → IsPaid allowed before old → IsPaid allowed before new
 
   -- a request was answered so, and as much room is left as the ranges that may still be given need

@@ -48,9 +48,9 @@ fn size_tells_what_lies_inside(rt: HostRuntime) -> Result<(), Fail> {
 #[test]
 fn store_fault_of_a_part_changes_no_item(rt: HostRuntime) -> Result<(), Fail> {
     let file = file(&rt, 1, &OVERLAPPING)?;
-    // Header, entry and count are read by calls 0 to 2, the count again and a record by 3 and 4.
-    let caps = [4096, 4096, 4096, 4096, 4096, 1, 2, 4096];
-    for (fail_at, at) in [(5, 80), (6, 81), (7, 83)] {
+    // Header, entry and count are read by calls 0 to 2, and the stream by call 3.
+    let caps = [4096, 4096, 4096, 4096, 1, 2, 4096];
+    for (fail_at, at) in [(4, 80), (5, 81), (6, 83)] {
         let store = PatchyStore::new(&file, &caps, Some(fail_at));
         let script = [
             gives(stream(0, 5, 36, 44)),

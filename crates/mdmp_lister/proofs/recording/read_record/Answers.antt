@@ -1,5 +1,6 @@
 use Rattle.std.proofs.Common.{◌≡◌, arith, rules, take}
 use Rattle.mdmp_source.specs.Range.{bytes_at}
+use Rattle.mdmp_lister.proofs.Metering.{Books-within}
 use Rattle.mdmp_lister.proofs.RecordItems.{kind_told-at, record-fetched}
 use Rattle.mdmp_lister.proofs.recording.read_record.Goals as goal
 
@@ -9,11 +10,11 @@ returns-clause-kind g c = rw c.record_of.ensures (kind_told-at c.args.kind _ 0)
 pub returns-clause-reads : goal.returns-clause-reads
 returns-clause-reads g c =
     let size = c.record_size-size.result in
-    let read = c.in_ok-read_front.ensures.reads in
+    let read = c.in_ok-hold.ensures.reads in
     record {
       of_file = λ file known.
           let bytes : take size c.bytes.result.now ≡ bytes_at file c.args.at size = rw c.bytes.ensures (read.of_file file known) in
           record-fetched c.args.kind size c.args.at file _ c.record_of.result (omega (arith, c.record_size-size.ensures)) bytes c.record_of.ensures;
-      books = search rules;
+      books = Books-within _ 1 _ _ c.args.meter.now c.hold.new.meter (omega arith) (rw c.record_size-size.ensures (omega arith)) read.books;
       caused = read.caused;
     }

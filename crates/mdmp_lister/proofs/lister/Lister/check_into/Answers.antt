@@ -1,7 +1,7 @@
 use Rattle.std.proofs.Common.{◌≡◌, ap, refl, rules}
 use Rattle.mdmp_map.specs.Map.{MapState}
 use Rattle.mdmp_lister.proofs.Advancing.{same_entries, same_rooms}
-use Rattle.mdmp_lister.proofs.Verdicts.{good_checked, head_checked, items_of_file, left_told, stop_checked, verdicts_of_file}
+use Rattle.mdmp_lister.proofs.Verdicts.{good_checked, items_of_file, left_told, stop_checked, unread_checked, verdicts_of_file}
 use Rattle.mdmp_lister.proofs.lister.Lister.check_into.Goals as goal
 
 pub returns-clause-checks : goal.returns-clause-checks
@@ -24,7 +24,7 @@ returns-clause-checks g c =
       ranges = ap (λ (s : MapState). s.ranges) e.ranges;
       left = left_told n e.mapped.sound result _ e.stage refl refl refl refl;
       stop = stop_checked n result e.stage;
-      head = head_checked n n.meter.source.size result e.stage;
+      unread = unread_checked n n.meter.source.size result e.stage;
       passed = e.passed;
       current = e.current;
       same = record { aside = e.counts.same_aside; start = e.counts.same_start; header_is = e.same.header_is; choice = e.same.choice; limit = e.same.name; entries = same_entries w n e.same; rooms = rw room (same_rooms w n m.room e.same) };

@@ -1,5 +1,5 @@
 use Rattle.std.proofs.Common.{◌≡◌, ◌∙◌, Err, refl, rules}
-use Rattle.mdmp_lister.proofs.Asides.{codeview_head, codeview_left, codeview_mapped, state_aside, viewed}
+use Rattle.mdmp_lister.proofs.Asides.{codeview_unread, codeview_left, codeview_mapped, state_aside, viewed}
 use Rattle.mdmp_lister.proofs.Fetches.{good_caused}
 use Rattle.mdmp_lister.proofs.lister.Lister.codeview.Goals as goal
 
@@ -16,7 +16,7 @@ returns-in_err-read g c =
         refl,
         λ _. tt,
         record {
-          same = state_aside (viewed c.self.view_is) _ (rw e.same refl) e.room (codeview_left c.args.location w n _ e) (codeview_head c.args.location w n _ e);
+          same = state_aside (viewed c.self.view_is) _ (rw e.same refl) e.room (codeview_left c.args.location w n _ e) (codeview_unread c.args.location w n _ e);
           aside = books.spends;
           fetches = books.fetches;
           told = e.read.reads.caused.told;
@@ -41,7 +41,7 @@ returns g c =
         refl,
         λ _. tt,
         record {
-          same = state_aside (viewed c.self.view_is) _ (rw e.same refl) e.room (codeview_left c.args.location w n _ e) (codeview_head c.args.location w n _ e);
+          same = state_aside (viewed c.self.view_is) _ (rw e.same refl) e.room (codeview_left c.args.location w n _ e) (codeview_unread c.args.location w n _ e);
           aside = books.spends;
           fetches = books.fetches;
           told = tt;

@@ -1,12 +1,13 @@
 use Rattle.std.proofs.Common.{◌≡◌, ◌∷◌, [], ◌++◌, ◌∙◌, Some, None, sym, ap, arith, refl}
 use Rattle.std.proofs.lemmas.List.{append-nil}
 use Rattle.std.specs.Prelude.{slice_get}
+use Rattle.mdmp_lister.specs.Costs.{bad_name_cost}
 use Rattle.mdmp_lister.specs.Format.Item.{plain}
 use Rattle.mdmp_lister.specs.Sink.{give_all}
 use Rattle.mdmp_lister.specs.Lister.{ListerState, tail}
 use Rattle.mdmp_lister.specs.Format.Listing.{nothing, only_fault}
 use Rattle.mdmp_lister.proofs.Advancing.{current_after-plain, passed_after-plain}
-use Rattle.mdmp_lister.proofs.Handing.{AllClassed-more, HasCost-end, HasCost-fault, HasCost-more, HasCost-most, HasCost-none, current_behind-more, give_all-next, names_of_all-more, passed_behind-more, same_lister-then, Taken-more, TakenToStop-end}
+use Rattle.mdmp_lister.proofs.Handing.{AllClassed-more, HasCost-end, HasCost-more, HasCost-most, HasCost-none, current_behind-more, give_all-next, names_of_all-more, passed_behind-more, same_lister-then, Taken-more, TakenToStop-end}
 use Rattle.mdmp_lister.proofs.Mapping.{ranges_of-more}
 use Rattle.mdmp_lister.proofs.lister.Lister.list_into.Goals as goal
 
@@ -25,7 +26,7 @@ loop-item-init g c = record {
     ranges = sym (append-nil c.args.self.now.ranges);
     left = λ left known. (left, (known, refl));
     names = omega arith;
-    cost = HasCost-none c.args.self.now.head c.args.self.now.source;
+    cost = HasCost-none c.args.self.now.unread c.args.self.now.source;
   };
 }
 
@@ -44,6 +45,8 @@ returns-in-Err-take-clause-runs g c =
     let holds = c.next.follows.holds-at-none in
     let x = c.in-Ok-Some.item in
     let now = rw (c.in-Ok-Some.is, c.in-Ok-Some.field-0-is) at holds.current in
+    let cost = HasCost-more _ _ _ _ run.items _ _ run.cost x (rw (c.in-Ok-Some.is, c.in-Ok-Some.field-0-is) at holds.fetches)
+    (rw (c.in-Ok-Some.is, c.in-Ok-Some.field-0-is) at holds.unread) in
     record {
       items = run.items ++ plain x ∷ [];
       handed = TakenToStop-end g.K.Sink.step (plain x) run.items c.args.sink.now c.loop-item.sink c.take.new.self run.taken c.in-Err-take.ensures;
@@ -58,7 +61,8 @@ returns-in-Err-take-clause-runs g c =
           (tail rest.0, (rw (c.in-Ok-Some.is, c.in-Ok-Some.field-0-is, rest.1.0) at holds.left, give_all-next left run.items (plain x) rest.0 rest.1.1 first));
       names = names_of_all-more run.items x _ _ _ run.names (rw (c.in-Ok-Some.is, c.in-Ok-Some.field-0-is) at holds.names);
       names_at_end = λ _. tt;
-      fetches = HasCost-most _ _ _ _ _ (HasCost-more _ _ _ _ run.items _ run.cost _ x (rw (c.in-Ok-Some.is, c.in-Ok-Some.field-0-is) at holds.fetches) (rw (c.in-Ok-Some.is, c.in-Ok-Some.field-0-is) at holds.head));
+      fetches = HasCost-most _ _ _ _ _ cost;
+      unread = cost.within;
     }
 
 pub loop-item-preserved : goal.loop-item-preserved
@@ -89,7 +93,8 @@ loop-item-preserved g c =
             let first : slice_get rest.0.items 0 ≡ Some (plain x) = rw c.in-Ok-Some.field-0-is at (c.in-Ok-Some.ensures.gives rest.0 rest.1.0) in
             (tail rest.0, (rw (c.in-Ok-Some.is, c.in-Ok-Some.field-0-is, rest.1.0) at holds.left, give_all-next left run.items (plain x) rest.0 rest.1.1 first));
         names = names_of_all-more run.items x _ _ _ run.names (rw (c.in-Ok-Some.is, c.in-Ok-Some.field-0-is) at holds.names);
-        cost = HasCost-more _ _ _ _ run.items _ run.cost _ x (rw (c.in-Ok-Some.is, c.in-Ok-Some.field-0-is) at holds.fetches) (rw (c.in-Ok-Some.is, c.in-Ok-Some.field-0-is) at holds.head);
+        cost = HasCost-more _ _ _ _ run.items _ _ run.cost x (rw (c.in-Ok-Some.is, c.in-Ok-Some.field-0-is) at holds.fetches)
+            (rw (c.in-Ok-Some.is, c.in-Ok-Some.field-0-is) at holds.unread);
       };
     }
 
@@ -99,6 +104,7 @@ returns-in-Err-clause-runs g c =
     let run = so_far.given in
     let holds = c.next.follows.holds-at-none in
     let f = c.in-Err.fault in
+    let none = rw c.in-Err.is at holds.unread in
     record {
       items = run.items;
       handed = run.taken;
@@ -111,13 +117,15 @@ returns-in-Err-clause-runs g c =
           (only_fault f, (rw (c.in-Err.is, rest.1.0) at holds.left, ((rest.0, rest.1.1), (λ not. rest.1.1 ∙ ap (give_all run.items) (c.in-Err.ensures.gives rest.0 rest.1.0 not), refl))));
       names = (omega (arith, run.names, holds.counts.more_names), omega (arith, run.names, holds.counts.most_names));
       names_at_end = λ going. let at = rw c.in-Err.is at (holds.names_at_fault (so_far.going going)) in (omega (arith, run.names, at.0), omega (arith, run.names, at.1));
-      fetches = HasCost-fault _ _ _ _ run.items _ run.cost _ _ _ _ f so_far.same.limit run.current (rw c.in-Err.is at holds.fetches);
+      fetches = HasCost-end _ _ _ _ run.items _ _ run.cost _ _ (rw c.in-Err.is at holds.fetches) (ap (λ n. bad_name_cost n f.kind) so_far.same.limit) none;
+      unread = omega (arith, none);
     }
 
 pub returns-in-Ok-None-clause-runs : goal.returns-in-Ok-None-clause-runs
 returns-in-Ok-None-clause-runs g c =
     let run = c.loop-item.invariant.given in
     let holds = c.next.follows.holds-at-none in
+    let none = rw (c.in-Ok-None.is, c.in-Ok-None.field-0-is) at holds.unread in
     record {
       items = run.items;
       handed = run.taken;
@@ -131,5 +139,6 @@ returns-in-Ok-None-clause-runs g c =
           (rest.0, (rw (c.in-Ok-None.is, c.in-Ok-None.field-0-is, rest.1.0) at holds.left, (rest.1.1 ∙ ap (give_all run.items) none, none)));
       names = let none = rw (c.in-Ok-None.is, c.in-Ok-None.field-0-is) at holds.names in omega (arith, none, run.names);
       names_at_end = λ _. tt;
-      fetches = HasCost-end _ _ _ _ run.items _ run.cost 0 (rw (c.in-Ok-None.is, c.in-Ok-None.field-0-is) at holds.fetches);
+      fetches = HasCost-end _ _ _ _ run.items _ _ run.cost 0 0 (rw (c.in-Ok-None.is, c.in-Ok-None.field-0-is) at holds.fetches) refl none;
+      unread = omega (arith, none);
     }

@@ -9,12 +9,13 @@ use Rattle.mdmp_lister.specs.Stage.{stop_after, stop_of}
 use Rattle.mdmp_lister.specs.Walk.{left_of}
 use Rattle.mdmp_lister.proofs.Advancing.{becomes, option_map-then, of_run, passes, same_entries, same_rooms}
 use Rattle.mdmp_lister.proofs.Classes.{classed-given}
-use Rattle.mdmp_lister.proofs.Costs.{head_given-step, head_left-stopped, item_cost-step}
+use Rattle.mdmp_lister.proofs.Costs.{item_cost-step, stopped-unread}
 use Rattle.mdmp_lister.proofs.Ending.{left_of-fault}
 use Rattle.mdmp_lister.proofs.Mapping.{kept, mapped, placed-fits, ranges-given, ranges_of-within, same_file}
 use Rattle.mdmp_lister.proofs.Naming.{faulty_most, names_given}
 use Rattle.mdmp_lister.proofs.Paying.{bounded_then}
 use Rattle.mdmp_lister.proofs.Requests.{fault_stage-stop}
+use Rattle.mdmp_lister.proofs.Summary.{begins_as}
 use Rattle.mdmp_lister.proofs.lister.Lister.next.Goals as goal
 
 pub returns-in-None : goal.returns-in-None
@@ -34,7 +35,7 @@ returns-in-None g c =
           counts = e.counts;
           names_at_fault = λ _. tt;
           names = let none = rw c.in-None.is at c.in_ok-advance.ensures.answered.named in omega (arith, none);
-          head = head_left-stopped n.meter.source.size n.current n.stage None (rw c.in-None.is at c.in_ok-advance.ensures.answered.stage);
+          unread = stopped-unread n.meter.source.size n.current n.window n.stage None (rw c.in-None.is at c.in_ok-advance.ensures.answered.stage);
           left = option_map-then (left_of w) (left_of n) (λ run. run) w.meter.source.store.content (λ file known. (none file known).1 ∙ sym (none file known).0) n.meter.source.store.content e.fetches.same_content;
           stop = rw c.in-None.is at c.in_ok-advance.ensures.answered.stage;
           passed = tt;
@@ -64,6 +65,7 @@ returns-in-Some g c =
     let size = e.fetches.same_size in
     let step = rw c.in-Some.is at c.in_ok-advance.ensures.answered.given in
     let held = step.held in
+    let begins = begins_as n.meter.source.size n.name.items c.in-Some.step c.item-item.result c.item-item.ensures.item in
     let given : (file : List ℕ) → w.meter.source.store.content ≡ Some file → left_of w file ≡ with_item (plain c.item-item.result) (left_of n file) =
     λ file known. rw (c.item-item.ensures.item, size) (rw c.in-Some.is at (c.in_ok-advance.ensures.answered.listing file known)) in
     rw (← c.self.view_is) (
@@ -72,11 +74,12 @@ returns-in-Some g c =
         λ _. tt,
         record {
           same = record { aside = e.counts.same_aside; start = e.counts.same_start; header_is = e.same.header_is; choice = e.same.choice; limit = e.same.name; entries = same_entries w n e.same; rooms = rw c.push_range.ensures (same_rooms w n c.self.inside.map.room e.same) };
-          fetches = rw (item_cost-step n.meter.source.size n.name.items _ c.in-Some.step c.item-item.result (rw n.name.ok.0 at held.0) held.1 c.item-item.ensures.item) (rw c.in-Some.is at c.in_ok-advance.ensures.answered.fetches);
+          fetches = rw (item_cost-step n.meter.source.size n.name.items _ c.in-Some.step c.item-item.result (rw n.name.ok.0 at held.0) held.1 c.item-item.ensures.item, begins)
+              (rw c.in-Some.is at c.in_ok-advance.ensures.answered.fetches);
           counts = e.counts;
           names_at_fault = λ _. tt;
           names = names_given n.meter.source.size n.name.items _ c.in-Some.step c.item-item.result w.meter.names n.meter.names held.1 c.item-item.ensures.item (omega (arith, c.self.invariant.bounded.names)) (rw c.in-Some.is at c.in_ok-advance.ensures.answered.named);
-          head = step.begins ∙ sym (head_given-step w.meter.source.size n.meter.source.size n.name.items c.in-Some.step c.item-item.result c.item-item.ensures.item);
+          unread = rw begins step.begins;
           left = option_map-then (left_of w) (left_of n) tail w.meter.source.store.content (λ file known. sym (ap tail (given file known))) n.meter.source.store.content e.fetches.same_content;
           stop = rw c.in-Some.is at c.in_ok-advance.ensures.answered.stage;
           ranges = rw c.push_range.ensures refl;
@@ -116,7 +119,7 @@ returns-in_err-advance g c =
           counts = e.counts;
           names_at_fault = λ going. let met = e.met going in (omega (arith, met.named.0, c.self.invariant.bounded.names, faulty_most f.kind), met.named.1);
           names = tt;
-          head = head_left-stopped n.meter.source.size n.current n.stage (Some f) stopped;
+          unread = stopped-unread n.meter.source.size n.current n.window n.stage (Some f) stopped;
           left = option_map-then (left_of w) (left_of n) (λ _. only_fault f) w.meter.source.store.content (λ file known. left_of-fault n file f e.stage) n.meter.source.store.content e.fetches.same_content;
           stop = stopped;
           passed = e.passed;

@@ -74,6 +74,7 @@ returns-clause-new g c =
         few = search rules;
         placed = omega arith;
         staged = tt;
+        holding = tt;
         headed = λ file known. tt;
         ended = λ end. cc;
         directory = λ file known. let was = sym all.fetches.same_content ∙ known in read.reads.of_file file (sym read.reads.books.fetches.same_content ∙ known) (of.finds file was).1;

@@ -17,8 +17,8 @@ returns-else-ranges_by-room-clause-read g c =
     let w = c.args.self.now in
     let of = c.in-Ok.ensures in
     let base = c.from.ensures in
-    head_read w _ c.in-Some-of_type.kind c.requires.head c.requires.sound (search rules) (search rules) (search rules) c.fetch_head.ensures.reads.books
-    c.in-Ok.head c.from.result refl of.head (omega (arith, base, c.from.type_inv)) (λ file content memory. omega (arith, base, of.base file content memory)) of.shape
+    head_read w _ c.in-Some-of_type.kind c.requires.head c.requires.sound (search rules) (search rules) (search rules) _ of.begins.books
+    c.in-Ok.head c.from.result refl of.head (omega (arith, base, c.from.type_inv)) of.begins.comes of.begins.bytes (λ file content memory. omega (arith, base, of.base file content memory)) of.shape
 
 -- where the file is known, the list counts as many ranges as it did when the file was opened
 never : (g : given.Over) (c : goal.After-stop_at-then-ranges_by-room g) → (file : List ℕ) → c.args.self.now.meter.source.store.content ≡ Some file → ⊥
@@ -34,19 +34,21 @@ returns-then-ranges_by-room-clause-read g c =
     let f = c.of_entry-then-ranges_by-room.result in
     let told = c.of_entry-then-ranges_by-room.ensures in
     let is = rw c.from-at.ensures at c.from-changed.ensures in
-    let books = c.fetch_head.ensures.reads.books in
+    let begins = c.in-Ok.ensures.begins in
+    let books = begins.books in
     let kind = c.in-Some-of_type.kind in
     let begun : 0 < w.next = rw c.requires.head at c.requires.sound.staged in
     let known : kind_of w.current.stream_type ≡ Some kind = search rules in
     rw (c.stop_at-then-ranges_by-room.ensures.1, c.stop_at-then-ranges_by-room.ensures.0)
-    (answered_head w _ kind c.requires.head c.requires.sound (search rules) (search rules) known books f refl
+    (answered_head w _ kind c.requires.head c.requires.sound (search rules) (search rules) known _ books f refl
     (record {
-      told = told_changed w.current f w.meter.source c.fetch_head.new.meter.source (rw is at told.kind) (rw is at told.place) (told.of_store (rw is tt))
+      told = told_changed w.current f w.meter.source c.begin_stream.new.meter.source (rw is at told.kind) (rw is at told.place) (told.of_store (rw is tt))
           (unknown w.meter.source.store.content (never g c))
           (ranged _ kind c.in-Ok.head.shape.count c.args.room known (omega (arith, c.ranges_by.ensures, c.if-ranges_by-room.true)));
       number = omega (arith, told.entry, begun);
-      named = source_reached f.kind w.meter c.fetch_head.new.meter (rw (told.kind, is) tt) (rw books.same_names (omega arith)) (rw books.same_names (omega arith));
+      named = source_reached f.kind w.meter c.begin_stream.new.meter (rw (told.kind, is) tt) (rw books.same_names (omega arith)) (rw books.same_names (omega arith));
     })
+    (omega (arith, begins.bytes))
     (λ file content. absurd (never g c file content))
     (λ file good of. never g c file good.known))
 
@@ -61,13 +63,14 @@ returns-in-Err-clause-read g c =
     let known : kind_of w.current.stream_type ≡ Some kind = search rules in
     let whole : location_fault w.meter.source.size w.current ≡ None = search rules in
     rw (c.stop_at-in-Err.ensures.1, c.stop_at-in-Err.ensures.0)
-    (answered_head w _ kind c.requires.head c.requires.sound (search rules) whole known c.fetch_head.ensures.reads.books f refl
+    (answered_head w _ kind c.requires.head c.requires.sound (search rules) whole known _ of.begins.books f refl
     (record {
-      told = told_in_caused w.current c.in-Err.fault f w.meter.source c.fetch_head.new.meter.source of.reads.caused told.kind told.place told.of_store;
+      told = told_in_caused w.current c.in-Err.fault f w.meter.source c.begin_stream.new.meter.source of.begins.caused told.kind told.place told.of_store;
       number = omega (arith, told.entry, begun);
-      named = rw told.kind of.reads.at_fault;
+      named = rw told.kind of.begins.at_fault;
     })
+    (omega (arith, of.begins.bytes))
     (λ file content not.
     let other : IsOfSource c.in-Err.fault.kind → ⊥ = λ is. not (rw (sym told.kind) at is) in
     rw (told.of_file other) (body-faulted file _ _ w.current kind (rw (rw content at c.requires.sound.sized) at whole) known c.in-Err.fault (of.shape file content other)))
-    (λ file good. not_of_source f.kind (ap source_of told.kind ∙ of.reads.caused.caused.good file good)))
+    (λ file good. not_of_source f.kind (ap source_of told.kind ∙ of.begins.caused.caused.good file good)))

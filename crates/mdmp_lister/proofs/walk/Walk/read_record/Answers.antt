@@ -1,6 +1,8 @@
-use Rattle.std.proofs.Common.{◌≡◌, ◌∙◌, length, refl, rules, vec_len}
+use Rattle.std.proofs.Common.{◌≡◌, arith, ◌∙◌, length, refl, rules, vec_len}
 use Rattle.mdmp_lister.proofs.Bodies.{take-lent}
 use Rattle.mdmp_lister.proofs.EntrySteps.{answered_record, answered_record_fault, given_record}
+use Rattle.mdmp_lister.proofs.Sizes.{most_record}
+use Rattle.mdmp_lister.specs.Walk.{IsHolding}
 use Rattle.mdmp_lister.proofs.walk.Walk.read_record.Goals as goal
 
 pub returns-in-Ok : goal.returns-in-Ok
@@ -12,7 +14,8 @@ returns-in-Ok g c =
       record {
         answered =
             answered_record w _ a.kind a.shape a.index a.offset c.record_at-at.result c.requires.stage c.requires.left c.requires.sound (search rules) c.record_at-at.ensures.place
-            c.in-Ok.step c.offset_behind.result refl c.offset_behind.ensures.range c.offset_behind.ensures.bound (rw room at of.reads) (rw room at of.tells)
+            _ c.in-Ok.step c.offset_behind.result refl c.offset_behind.ensures.range c.offset_behind.ensures.bound (rw room at of.reads) (rw room at of.tells)
+            of.comes (omega (arith, of.slides.bytes))
             (λ file known here. rw (take-lent (vec_len w.name) c.read_item.new.buffer _ room) (rw room at (of.item file known w.current.location.rva here)));
         room = search rules;
       },
@@ -30,6 +33,19 @@ returns-in-Err g c =
     rw (c.stop_at.ensures.1, c.stop_at.ensures.0) (record {
       answered =
           answered_record_fault w _ a.kind a.shape a.index a.offset c.record_at-at.result c.requires.stage c.requires.left c.requires.sound (search rules) c.record_at-at.ensures.place
-          c.in-Err.fault c.of_entry.result refl (rw room at of.reads) c.of_entry.ensures (λ file known here other. rw room at (of.item file known w.current.location.rva here other));
+          _ c.in-Err.fault c.of_entry.result refl (rw room at of.reads) (omega (arith, of.slides.bytes)) c.of_entry.ensures (λ file known here other. rw room at (of.item file known w.current.location.rva here other));
       room = search rules;
     })
+
+pub read_item-requires-clause-ahead : goal.read_item-requires-clause-ahead
+read_item-requires-clause-ahead g c =
+    let at = c.record_at-at.ensures in
+    let sound = c.requires.sound in
+    let holding : IsHolding c.args.self.now.meter.source.store.content c.args.self.now.current c.args.shape c.args.index c.args.self.now.window = rw c.requires.stage at sound.holding in
+    record {
+      from = omega (arith, holding.place, at.place);
+      inside = omega (arith, holding.end, at.end);
+      end = omega (arith, holding.end, at.whole);
+      room = omega (arith, most_record c.args.kind, sound.window);
+      held = holding.held;
+    }
