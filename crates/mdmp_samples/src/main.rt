@@ -1,6 +1,6 @@
 //! Prints what the commands make of the real dumps of the folder data: their lists, whether their
-//! entries are good, the symbol files of their modules, and copies of some of their streams; and how
-//! many items each has, how its value compares with its list, and how it is written anew.
+//! entries are good, the symbol files of their modules, and copies of some of their streams; that small
+//! windows list the same; and how many items each has, how its value compares with its list, and how it is written anew.
 #![tactic(auto)]
 
 mod checks;
@@ -10,6 +10,7 @@ mod lists;
 mod status;
 mod symbols;
 mod value;
+mod windows;
 mod written;
 
 use crate::checks::tell_check;
@@ -17,6 +18,7 @@ use crate::copies::{CHOSEN, tell_copy};
 use crate::lists::{list, tell_items};
 use crate::symbols::tell_symbols;
 use crate::value::tell_totals;
+use crate::windows::tell_windows;
 use crate::written::tell_value;
 use std::process::ExitCode;
 
@@ -40,6 +42,9 @@ fn tell_all(rt: &HostRuntime) -> Result<(), u8> {
     }
     for dump in DUMPS {
         tell_symbols(rt, dump)?;
+    }
+    for dump in DUMPS {
+        tell_windows(rt, dump)?;
     }
     for dump in DUMPS {
         tell_items(rt, dump)?;

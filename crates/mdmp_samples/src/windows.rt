@@ -1,0 +1,30 @@
+//! The list of a dump, by small windows.
+
+use crate::status::{DIFFERS, UNWRITTEN};
+use mdmp_source::WriteOut;
+use mdmp_tool::run_words;
+use std::alloc::Global;
+use std::io::Write;
+
+/// Prints that `list` prints of a dump by small windows what it prints by the usual one.
+pub fn tell_windows(rt: &HostRuntime, dump: &str) -> Result<(), u8> {
+    let usual = listed(rt, &["list", dump]);
+    for window in ["168", "169", "255"] {
+        if listed(rt, &["list", dump, "--window", window])[..] != usual[..] {
+            return Err(DIFFERS);
+        }
+    }
+    writeln!(
+        rt.stdout(),
+        "{dump}: the same list by windows of 168, 169 and 255 bytes"
+    )
+    .map_err(|_| UNWRITTEN)
+}
+
+/// What a command prints, its faults among it.
+fn listed(rt: &HostRuntime, words: &[&str]) -> Vec<u8, Global> {
+    let mut out = WriteOut::new(Vec::new(rt.alloc()));
+    let mut err = WriteOut::new(rt.stderr());
+    let _ = run_words(rt, rt.alloc(), words, &mut out, &mut err);
+    out.into_inner()
+}
