@@ -50,6 +50,7 @@ module _ {S A : Type 0} where
         inside = rw size old.inside;
         bounded = record {
           bytes = rw (size, room, books.spends.same_fetched, books.spends.same_names) old.bounded.bytes;
+          calls = rw (size, books.spends.same_calls, books.spends.same_names) old.bounded.calls;
           names = rw books.spends.same_names old.bounded.names;
         };
         counted = λ file known. old.counted file (sym content ∙ known);

@@ -1,5 +1,5 @@
 -- What requests leave of a walk within an entry: behind its head, behind each record, and at their faults.
-use Rattle.std.proofs.Common.{◌≡◌, ◌≤◌, ◌<◌, ◌+◌, ◌-◌, ◌*◌, ◌^◌, ◌∙◌, ℕ, List, None, Some, Ok, Err, arith, ap, refl, sym, vec_len}
+use Rattle.std.proofs.Common.{◌≡◌, ◌≤◌, ◌<◌, ◌+◌, ◌-◌, ◌*◌, ◌/◌, ◌^◌, ◌∙◌, ℕ, List, None, Some, Ok, Err, arith, ap, min, refl, sym, vec_len}
 use Rattle.mdmp_source.specs.Store.{IsGood}
 use Rattle.mdmp_lister.specs.declared.fault.Fault.{Fault}
 use Rattle.mdmp_lister.specs.declared.fault.ListFault.{ListFault}
@@ -13,16 +13,16 @@ use Rattle.mdmp_lister.specs.declared.walk.Walk.{Walk}
 use Rattle.mdmp_lister.specs.Fault.{IsListFaultOf, IsOfSource, source_of}
 use Rattle.mdmp_lister.specs.Fetching.{IsHeadOf, ReadsRecord, TellsRecord}
 use Rattle.mdmp_lister.specs.Format.Item.{item_at, range_offset}
-use Rattle.mdmp_lister.specs.Format.Kind.{kind_of}
+use Rattle.mdmp_lister.specs.Format.Kind.{greatest_record, kind_of}
 use Rattle.mdmp_lister.specs.Format.Listing.{body_of, only_fault}
 use Rattle.mdmp_lister.specs.Format.Shape.{location_fault, shape_of}
-use Rattle.mdmp_lister.specs.Holding.{ComesTo, started, unfetched}
+use Rattle.mdmp_lister.specs.Holding.{ComesTo, fills, started, unfetched}
 use Rattle.mdmp_lister.specs.Meter.{Books}
 use Rattle.mdmp_lister.specs.Stage.{fault_stage}
 use Rattle.mdmp_lister.specs.Step.{bytes_behind, step_item}
 use Rattle.mdmp_lister.specs.Walk.{IsHolding, IsReading, IsSound, SameEntry}
 use Rattle.mdmp_lister.specs.Walk.Checking.{RecordGiven}
-use Rattle.mdmp_lister.specs.Walk.Paying.{owed_of, unread_of}
+use Rattle.mdmp_lister.specs.Walk.Paying.{calls_owed, owed_of, stream_calls, unread_of}
 use Rattle.mdmp_lister.specs.Walk.Requests.{Answered, FaultMet, HeadRead}
 use Rattle.mdmp_lister.proofs.Bodies.{body-shaped, records-faulted, records-given}
 use Rattle.mdmp_lister.proofs.Fetches.{not_of_source, told_in_caused}
@@ -41,15 +41,19 @@ module _ {S A : Type 0} (old new : Walk S A) (kind : Kind) (at : old.stage ≡ s
   pub head_read : (head : Head) (offset : ℕ) → new.stage ≡ stage.Records kind head.shape 0 offset → IsHeadOf old.current.location.size kind head → offset < 2 ^ 64
       → ComesTo old.current.location.rva old.meter.source.store.content (started old.current.location old.window) new.window
       → spent + unfetched new.window ≤ old.current.location.size
+      → fills greatest_record new.window ≤ 1 + old.current.location.size / (old.window.room - 167)
       → ((file : List ℕ) → old.meter.source.store.content ≡ Some file → kind ≡ Memory64 → offset ≡ range_offset file old.current.location.rva 0)
       → ((file : List ℕ) → old.meter.source.store.content ≡ Some file → shape_of file old.current.location.rva old.current.location.size kind ≡ Ok head.shape)
       → HeadRead old new
-  head_read head offset next of small comes bytes base shape =
+  unfolding stream_calls
+  head_read head offset next of small comes bytes fills_left base shape =
       let z = old.meter.source.size in
       let e = old.current in
       let begun : 0 < old.next = rw at at sound.staged in
       let inside = listed-inside z e kind whole known in
-      let fits : owed_of z e new.window new.stage + spent ≤ owed_of z e old.window old.stage = rw (next, at, entry_cost-listed z e kind known inside) (omega (arith, bytes)) in
+      let fits : owed_of z e new.window new.stage + spent ≤ owed_of z e old.window old.stage = rw (next, at, entry_cost-listed (λ d. d) z e kind known inside) (omega (arith, bytes)) in
+      let called : calls_owed z e new.window new.stage + 1 ≤ calls_owed z e old.window old.stage =
+      rw (next, at, entry_cost-listed (stream_calls old.window.room) z e kind known inside) (omega (arith, fills_left)) in
       let less : unread_of new + spent ≤ unread_of old = rw (books.fetches.same_size, same.current) fits in
       record {
         sound = IsSound-after spent old new sound books.fetches same
@@ -67,21 +71,23 @@ module _ {S A : Type 0} (old new : Walk S A) (kind : Kind) (at : old.stage ≡ s
         owes = omega (arith, less);
         books = Books-within 1 1 _ _ old.meter new.meter (omega arith) (omega (arith, less)) books;
         paid = λ allowed before paid.
-            paid_headed allowed before spent old new paid books same books.fetches.same_size fits
+            paid_headed allowed before 1 spent old new paid books same books.fetches.same_size fits called
             (rw (next, at) (omega (arith, of.few)));
       }
 
   pub answered_head : (f : ListFault) → new.stage ≡ fault_stage f → FaultMet old f new → spent ≤ old.current.location.size
       → ((file : List ℕ) → old.meter.source.store.content ≡ Some file → (IsOfSource f.kind → ⊥) → body_of file (vec_len old.name) (record { number = old.next - 1; entry = old.current }) ≡ only_fault f)
       → ((file : List ℕ) → IsGood old.meter.source.store file → IsOfSource f.kind → ⊥) → Answered old (Err f) new
+  unfolding stream_calls
   answered_head f next met bytes left good =
       let z = old.meter.source.size in
       let e = old.current in
       let inside = listed-inside z e kind whole known in
-      answered_fault spent spent old new f sound (rw at at sound.staged) (rw at refl) (rw at (omega arith)) same next met
+      answered_fault spent 1 spent old new f sound (rw at at sound.staged) (rw at refl) (rw at (omega arith)) same next met
       books.fetches (omega arith)
       (Spends-booked 1 spent (vec_len old.name) old.meter new.meter books)
-      (rw (at, entry_cost-listed z e kind known inside) bytes)
+      (rw (at, entry_cost-listed (λ d. d) z e kind known inside) bytes)
+      (rw (at, entry_cost-listed (stream_calls old.window.room) z e kind known inside) (omega arith))
       (λ file content not. rw at (left file content not)) good
 
 -- ---- a record of the current entry
@@ -111,13 +117,14 @@ module _ {S A : Type 0} (old new : Walk S A) (kind : Kind) (shape : Shape) (k of
   pub answered_record : (spent : ℕ) (step : Step) (next : ℕ) → new.stage ≡ stage.Records kind shape (k + 1) next → next ≡ offset + bytes_behind step → next < offset + 2 ^ 64
       → ReadsRecord spent (vec_len old.name) (Ok step) old.meter new.meter → TellsRecord (vec_len old.name) kind step
       → ComesTo place old.meter.source.store.content old.window new.window → spent + unfetched new.window ≤ unfetched old.window
+      → min 1 spent + fills greatest_record new.window ≤ fills greatest_record old.window
       → ((file : List ℕ) → old.meter.source.store.content ≡ Some file → (kind ≡ Memory64 → offset ≡ range_offset file old.current.location.rva k)
       → item_at file (vec_len old.name) (old.next - 1) k old.current.location.rva place kind ≡ Ok (step_item old.meter.source.size new.name.items step))
       → Answered old (Ok (Some step)) new
-  answered_record spent step next on behind bound reads tells comes bytes item =
+  answered_record spent step next on behind bound reads tells comes bytes called item =
       let z = old.meter.source.size in
       let e = old.current in
-      answered_step _ spent old new step
+      answered_step _ (min 1 spent) spent old new step
       (IsSound-after _ old new sound reads.fetches same
       (rw on (record { begun = reading.begun; known = reading.known; within = omega (arith, left); inside = reading.inside; fits = reading.fits; ranges = reading.ranges; bound = omega (arith, bound, reading.bound) }))
       (rw on (record { held = comes.held; end = comes.end ∙ holding.end; place = omega (arith, comes.place, stands) }))
@@ -134,26 +141,26 @@ module _ {S A : Type 0} (old new : Walk S A) (kind : Kind) (shape : Shape) (k of
       same (tells.passed old.next) (tells.stays e)
       (rw (reading.known, same.room.name) tells.held) tells.begins
       reads.fetches (omega arith)
-      reads.spends (rw (on, at) (omega (arith, bytes)))
+      reads.spends (rw (on, at) (omega (arith, bytes))) (rw (on, at) (omega (arith, called)))
       reads.named
       (given_record step next on item).left
 
   pub answered_record_fault : (spent : ℕ) (fault : Fault) (f : ListFault) → new.stage ≡ fault_stage f → ReadsRecord spent (vec_len old.name) (Err fault) old.meter new.meter
-      → spent ≤ unfetched old.window
+      → spent ≤ unfetched old.window → min 1 spent ≤ fills greatest_record old.window
       → IsListFaultOf (old.next - 1) (Some k) fault f
       → ((file : List ℕ) → old.meter.source.store.content ≡ Some file → (kind ≡ Memory64 → offset ≡ range_offset file old.current.location.rva k) → (IsOfSource fault.kind → ⊥)
       → item_at file (vec_len old.name) (old.next - 1) k old.current.location.rva place kind ≡ Err fault)
       → Answered old (Err f) new
-  answered_record_fault spent fault f next reads bytes told item =
+  answered_record_fault spent fault f next reads bytes called told item =
       let e = old.current in
-      answered_fault _ spent old new f sound reading.begun (rw at refl) (rw at (omega (arith, left))) same next
+      answered_fault _ (min 1 spent) spent old new f sound reading.begun (rw at refl) (rw at (omega (arith, left))) same next
       (record {
         told = told_in_caused e fault f old.meter.source new.meter.source reads.caused told.kind told.place told.of_store;
         number = omega (arith, told.entry, reading.begun);
         named = rw told.kind reads.at_fault;
       })
       reads.fetches (rw told.kind (omega arith))
-      reads.spends (rw at bytes)
+      reads.spends (rw at bytes) (rw at called)
       (λ file known not.
       let here = (rw at at (sound.headed file known)).1 in
       let other : IsOfSource fault.kind → ⊥ = λ is. not (rw (sym told.kind) at is) in

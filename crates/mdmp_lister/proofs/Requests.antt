@@ -15,7 +15,7 @@ use Rattle.mdmp_lister.specs.declared.walk.Walk.{Walk}
 use Rattle.mdmp_lister.specs.Costs.{IsUnreadBy, bad_name_cost, begun_at, given_spent, step_cost, stream_begun}
 use Rattle.mdmp_lister.specs.Format.Listing.{Run, joined, nothing, only_fault, with_item}
 use Rattle.mdmp_lister.specs.Meter.{Books, MeterState, Moves, Spends, counts_of}
-use Rattle.mdmp_lister.specs.Walk.Paying.{owed_of, unread_of}
+use Rattle.mdmp_lister.specs.Walk.Paying.{calls_owed, owed_of, unread_of}
 use Rattle.mdmp_lister.specs.Walk.Reaching.{Reaches, given_once, told_once}
 use Rattle.mdmp_lister.specs.Fault.{IsOfSource}
 use Rattle.mdmp_lister.specs.Walk.Requests.{Answered, FaultMet, HeadRead, StepGiven}
@@ -27,7 +27,7 @@ use Rattle.mdmp_lister.proofs.Bodies.{joined-with_item}
 use Rattle.mdmp_lister.proofs.Costs.{stopped-unread, unread-within}
 use Rattle.mdmp_lister.proofs.Ending.{left_of-ended, left_of-fault}
 use Rattle.mdmp_lister.proofs.Fetches.{FetchesAtMost-none, FetchesAtMost-within, told_in_later}
-use Rattle.mdmp_lister.proofs.Paying.{fault_stage-owed, fault_stage-work, paid_named}
+use Rattle.mdmp_lister.proofs.Paying.{fault_stage-calls, fault_stage-owed, fault_stage-work, paid_named}
 use Rattle.mdmp_lister.proofs.Soundness.{IsGood-after, IsSound-after, fault_stage-going, fault_stage-headed, fault_stage-staged, fault_stage-unfailed, fault_stage-windowed}
 
 -- ---- stages
@@ -74,8 +74,8 @@ through-left w file through = ap (λ (run : Run). joined run (rest_of w file)) (
 
 -- ---- a fault that is met
 
-Moves-spent : (n limit : ℕ) (old new : MeterState) → Spends n limit old new → Moves 1 (counts_of old) (counts_of new)
-Moves-spent n limit old new spends = record {
+Moves-spent : (calls n limit : ℕ) (old new : MeterState) → Spends calls n limit old new → Moves 1 (counts_of old) (counts_of new)
+Moves-spent calls n limit old new spends = record {
   more = spends.more;
   more_calls = spends.more_calls;
   more_names = spends.more_names;
@@ -85,9 +85,10 @@ Moves-spent n limit old new spends = record {
 }
 
 -- a head has no name
-pub Spends-booked : (calls n limit : ℕ) (old new : MeterState) → Books calls n old new → Spends n limit old new
+pub Spends-booked : (calls n limit : ℕ) (old new : MeterState) → Books calls n old new → Spends calls n limit old new
 Spends-booked calls n limit old new books = record {
   paid = λ small. rw books.same_names (omega (arith, books.fetched));
+  paid_calls = λ small. rw books.same_names (omega (arith, books.most_calls));
   more = books.more;
   more_calls = books.more_calls;
   more_names = rw books.same_names (omega arith);
@@ -96,57 +97,60 @@ Spends-booked calls n limit old new books = record {
   same_start = books.same_start;
 }
 
-module _ {S A : Type 0} (n spent : ℕ) (old new : Walk S A) (f : ListFault) where
+module _ {S A : Type 0} (n calls spent : ℕ) (old new : Walk S A) (f : ListFault) where
   -- behind some fetches of the current entry, of which its head or a record is left
   pub answered_fault : IsSound old → 0 < old.next → stop_of old.stage ≡ None → 0 < stage_work old.stage
       → SameEntry old new → new.stage ≡ fault_stage f → FaultMet old f new
       → FetchesAtMost n old.meter.source new.meter.source → n ≤ spent + bad_name_cost (vec_len old.name) f.kind
-      → Spends spent (vec_len old.name) old.meter new.meter → spent ≤ owed_of old.meter.source.size old.current old.window old.stage
+      → Spends calls spent (vec_len old.name) old.meter new.meter → spent ≤ owed_of old.meter.source.size old.current old.window old.stage
+      → calls ≤ calls_owed old.meter.source.size old.current old.window old.stage
       → ((file : List ℕ) → old.meter.source.store.content ≡ Some file → (IsOfSource f.kind → ⊥) → current_of old file ≡ only_fault f)
       → ((file : List ℕ) → IsGood old.meter.source.store file → IsOfSource f.kind → ⊥)
       → Answered old (Err f) new
-  answered_fault sound begun going some same at met fetches within spends owed left good =
-    let none : unread_of new ≡ 0 = rw at (fault_stage-owed new.meter.source.size new.current new.window f) in
-    record {
-    sound = IsSound-after n old new sound fetches same
-        (rw at (fault_stage-staged old.meter.source.size old.next old.current f begun))
-        (rw at (fault_stage-windowed old.meter.source.store.content old.current new.window f))
-        (λ file known. rw at (fault_stage-headed file old.current f))
-        (λ end. absurd (fault_stage-going f (sym at ∙ end)))
-        (λ file well. rw at (fault_stage-unfailed f (good file well)));
-    same = same.room;
-    listing = λ file known not. (ap (λ (run : Run). joined run (rest_of old file)) (left file known not), left_of-fault new file f at);
-    given = tt;
-    met = λ _. met;
-    stage = at;
-    passed = same.next;
-    current = same.current;
-    rests = rw (same.room.entries, same.next, at, fault_stage-work f) (omega arith);
-    fetches = FetchesAtMost-within n _ old.meter.source new.meter.source (omega (arith, within, owed, none)) fetches;
-    counts = Moves-spent spent (vec_len old.name) old.meter new.meter spends;
-    named = tt;
-    paid = λ allowed before paid. paid_named allowed before spent old new paid spends same fetches.same_size
-        (rw (at, fault_stage-owed old.meter.source.size old.current new.window f) (omega (arith, owed)))
-        (rw (at, fault_stage-work f) some);
-    repeats = λ stop stopped. absurd (cc);
-    good = good;
-  }
+  answered_fault sound begun going some same at met fetches within spends owed called left good =
+      let none : unread_of new ≡ 0 = rw at (fault_stage-owed new.meter.source.size new.current new.window f) in
+      record {
+        sound = IsSound-after n old new sound fetches same
+            (rw at (fault_stage-staged old.meter.source.size old.next old.current f begun))
+            (rw at (fault_stage-windowed old.meter.source.store.content old.current new.window f))
+            (λ file known. rw at (fault_stage-headed file old.current f))
+            (λ end. absurd (fault_stage-going f (sym at ∙ end)))
+            (λ file well. rw at (fault_stage-unfailed f (good file well)));
+        same = same.room;
+        listing = λ file known not. (ap (λ (run : Run). joined run (rest_of old file)) (left file known not), left_of-fault new file f at);
+        given = tt;
+        met = λ _. met;
+        stage = at;
+        passed = same.next;
+        current = same.current;
+        rests = rw (same.room.entries, same.next, at, fault_stage-work f) (omega arith);
+        fetches = FetchesAtMost-within n _ old.meter.source new.meter.source (omega (arith, within, owed, none)) fetches;
+        counts = Moves-spent calls spent (vec_len old.name) old.meter new.meter spends;
+        named = tt;
+        paid = λ allowed before paid. paid_named allowed before calls spent old new paid spends same fetches.same_size
+            (rw (at, fault_stage-owed old.meter.source.size old.current new.window f) (omega (arith, owed)))
+            (rw (at, fault_stage-calls old.meter.source.size old.current new.window f) (omega (arith, called)))
+            (rw (at, fault_stage-work f) some);
+        repeats = λ stop stopped. absurd (cc);
+        good = good;
+      }
 
 -- ---- a step that is given
 
-module _ {S A : Type 0} (n spent : ℕ) (old new : Walk S A) (step : Step) where
+module _ {S A : Type 0} (n calls spent : ℕ) (old new : Walk S A) (step : Step) where
   -- from a record of the current entry, which is left of it
   pub answered_step : IsSound new → stop_of old.stage ≡ None → stop_of new.stage ≡ None → stage_work new.stage < stage_work old.stage
       → SameEntry old new → passed_by step old.next ≡ old.next → current_by step old.current ≡ old.current
       → IsStepHeld (vec_len new.name) (kind_of old.current.stream_type) step
       → stream_told step ≡ None
       → FetchesAtMost n old.meter.source new.meter.source → n ≤ spent + step_cost step
-      → Spends spent (vec_len old.name) old.meter new.meter
+      → Spends calls spent (vec_len old.name) old.meter new.meter
       → owed_of old.meter.source.size old.current new.window new.stage + spent ≤ owed_of old.meter.source.size old.current old.window old.stage
+      → calls_owed old.meter.source.size old.current new.window new.stage + calls ≤ calls_owed old.meter.source.size old.current old.window old.stage
       → Reaches (told_once step) old.meter new.meter
       → ((file : List ℕ) → old.meter.source.store.content ≡ Some file → current_of old file ≡ with_item (step_item old.meter.source.size new.name.items step) (current_of new file))
       → Answered old (Ok (Some step)) new
-  answered_step sound going on falls same passed stays held begins fetches within spends owed named left =
+  answered_step sound going on falls same passed stays held begins fetches within spends owed called named left =
       let less : work_of new < work_of old = rw (same.room.entries, same.next) (omega (arith, falls)) in
       let owes : unread_of new + spent ≤ unread_of old = rw (fetches.same_size, same.current) owed in
       let none : stream_begun old.meter.source.size (stream_told step) ≡ 0 = rw begins refl in
@@ -165,9 +169,9 @@ module _ {S A : Type 0} (n spent : ℕ) (old new : Walk S A) (step : Step) where
         current = same.current ∙ sym stays;
         rests = omega (arith, less);
         fetches = FetchesAtMost-within n _ old.meter.source new.meter.source (omega (arith, within, owes, none)) fetches;
-        counts = Moves-spent spent (vec_len old.name) old.meter new.meter spends;
+        counts = Moves-spent calls spent (vec_len old.name) old.meter new.meter spends;
         named = named;
-        paid = λ allowed before paid. paid_named allowed before spent old new paid spends same fetches.same_size owed falls;
+        paid = λ allowed before paid. paid_named allowed before calls spent old new paid spends same fetches.same_size owed called falls;
         repeats = λ stop stopped. absurd (cc);
         good = λ file good. tt;
       }

@@ -10,7 +10,12 @@ use Rattle.mdmp_source.specs.Range.{bytes_at}
 use Rattle.mdmp_source.specs.Source.{SourceState}
 use Rattle.mdmp_source.specs.Window.{IsFilled, WindowState, next_len_of}
 use Rattle.mdmp_source.specs.declared.fault.SourceFault.{SourceFault}
-use Rattle.mdmp_lister.specs.Holding.{ComesTo, IsAhead, IsHeldOf, Slides, fills, fills_of, jumped, needed, reached, unfetched}
+use Rattle.mdmp_source.specs.declared.location.Location.{Location}
+use Rattle.mdmp_lister.specs.declared.form.Form.{Form}
+use Rattle.mdmp_lister.specs.Format.Kind.{greatest_record}
+use Rattle.mdmp_lister.specs.Format.Shape.{head_cost}
+use Rattle.mdmp_lister.specs.Holding.{ComesTo, IsAhead, IsHeldOf, Slides, fills, fills_of, jumped, left_behind, needed, reached, started, unfetched}
+use Rattle.mdmp_lister.proofs.Sizes.{most_head}
 
 -- ---- the bytes held
 
@@ -84,6 +89,11 @@ fills_mono (suc a) zero step pos h = absurd (omega (arith, h))
 fills_mono (suc a) (suc b) step pos h =
     let less = div_mono (suc a) (suc b) step pos h in
     let fact : suc a / step + 1 ≤ suc b / step + 1 = omega (arith, less) in fact
+
+pub fills_most : (bytes step : ℕ) → fills_of bytes step ≤ 1 + bytes / step
+unfolding fills_of
+fills_most zero step = let fact : 0 ≤ 1 + zero / step = omega arith in fact
+fills_most (suc n) step = let fact : suc n / step + 1 ≤ 1 + suc n / step = omega arith in fact
 
 -- a fill that isn't the last takes at least `step` off, and one that is the last leaves none
 fills_left : (r k step taken gap : ℕ) → 0 < step → r ≡ suc k - taken → taken ≡ min gap (suc k) → step ≤ gap
@@ -188,6 +198,17 @@ module _ {source : SourceState} {at size : ℕ} {w mid : WindowState} (ahead : I
         bytes = rw need (omega (arith, taken_most, bytes_moved));
         calls = λ most small wide. rw need (omega (arith, fills_fall few most small wide, min-le_left 1 (next_len_of mid)));
       }
+
+-- ---- a window that was started over a stream
+
+pub fills_begun : {U F : Type 0} (at : Location) (form : Form) (old mid new : WindowState) (result : Result U F) → mid ≡ started at old → greatest_record ≤ old.room
+    → Slides {T = Unit {0}} {E = SourceFault} at.rva (head_cost form) mid (Ok tt) new → left_behind result (fills greatest_record new) ≤ 1 + at.size / (old.room - 167)
+fills_begun at form old mid new (Ok y) is wide slides =
+    let whole : unfetched mid ≡ at.size = rw is (omega arith) in
+    let step : mid.room + 1 - greatest_record ≡ old.room - 167 = rw is (omega arith) in
+    let most : fills greatest_record mid ≡ fills_of at.size (old.room - 167) = rw (whole, step) refl in
+    omega (arith, most, slides.calls greatest_record (omega (arith, most_head form)) (rw is wide), fills_most at.size (old.room - 167))
+fills_begun at form old mid new (Err fault) is wide slides = omega arith
 
 -- ---- other answers of a call
 

@@ -1,5 +1,5 @@
 -- What reading promises: some bytes, the head of a stream, a name, a record.
-use Rattle.std.specs.Prelude.{◌≡◌, ◌≤◌, ◌<◌, ◌+◌, ◌^◌, ℕ, List, None, Some, Result, IfErr, IfOk, nat_lt}
+use Rattle.std.specs.Prelude.{◌≡◌, ◌≤◌, ◌<◌, ◌+◌, ◌-◌, ◌/◌, ◌^◌, ℕ, List, None, Some, Result, IfErr, IfOk, min, nat_lt}
 use Rattle.mdmp_source.specs.Count.{raised_if}
 use Rattle.mdmp_source.specs.Source.{FetchesAtMost, fault_of}
 use Rattle.mdmp_source.specs.Window.{WindowState}
@@ -14,13 +14,13 @@ use Rattle.mdmp_lister.specs.declared.kind.Kind.TheVariants.{Memory64}
 use Rattle.mdmp_lister.specs.declared.step.Step.{Step}
 use Rattle.mdmp_lister.specs.Costs.{name_spent, read_cost, step_spent}
 use Rattle.mdmp_lister.specs.Heading.{head_spent}
-use Rattle.mdmp_lister.specs.Holding.{ComesTo, left_behind, started, unfetched}
+use Rattle.mdmp_lister.specs.Holding.{ComesTo, fills, left_behind, started, unfetched}
 use Rattle.mdmp_lister.specs.Meter.{Books, MeterState, Spends}
 use Rattle.mdmp_lister.specs.Walk.Owing.{count_told, ranges_by}
 use Rattle.mdmp_lister.specs.Walk.Reaching.{Reaches, ReachesAtFault, read_once, told_once}
 use Rattle.mdmp_lister.specs.Fault.{IsCaused, IsCausedAt}
 use Rattle.mdmp_lister.specs.Format.Shape.{FitsIn, head_cost}
-use Rattle.mdmp_lister.specs.Format.Kind.{form_of, record_size}
+use Rattle.mdmp_lister.specs.Format.Kind.{form_of, greatest_record}
 use Rattle.mdmp_lister.specs.Step.{IsStepHeld, current_by, passed_by, stream_told}
 
 -- what was read with this answer: an answer of a known file is as it should be, the fetches are booked, and a fault of
@@ -50,6 +50,8 @@ pub record BeginsStream (at : Location) (result : Result Head Fault) (old new : 
   pub books : Books 1 spent old new
   -- they come off those of the stream
   pub bytes : spent + left_behind result (unfetched now) ≤ at.size
+  -- and at most so many fills are left behind it
+  pub fills_left : left_behind result (fills greatest_record now) ≤ 1 + at.size / (was.room - 167)
   pub room : now.room ≡ was.room
   pub comes : IfOk result (λ head. ComesTo at.rva old.source.store.content (started at was) now)
   pub caused : IsCausedAt result old.source new.source
@@ -58,7 +60,7 @@ pub record BeginsStream (at : Location) (result : Result Head Fault) (old new : 
 -- the name at this RVA was read, where names have at most `limit` bytes
 pub record ReadsName (limit rva : ℕ) (result : Result NameRead Fault) (old new : MeterState) : Type 0 where
   pub fetches : FetchesAtMost (name_spent limit result) old.source new.source
-  pub spends : Spends 0 limit old new
+  pub spends : Spends 0 0 limit old new
   pub cost : IfOk result (λ name. new.fetched ≤ old.fetched + read_cost name)
   -- one is reached, but at the RVA 0
   pub reached : new.names ≡ raised_if (nat_lt 0 rva) old.names
@@ -66,10 +68,10 @@ pub record ReadsName (limit rva : ℕ) (result : Result NameRead Fault) (old new
   pub at_fault : IfErr result (λ fault. ReachesAtFault fault.kind old new)
   pub caused : IsCausedAt result old.source new.source
 
--- a record was read by a fetch of so many bytes, and its name where it has one
+-- a record was read by a fetch of so many bytes, or by none, and its name where it has one
 pub record ReadsRecord (spent limit : ℕ) (result : Result Step Fault) (old new : MeterState) : Type 0 where
   pub fetches : FetchesAtMost (spent + step_spent limit result) old.source new.source
-  pub spends : Spends spent limit old new
+  pub spends : Spends (min 1 spent) spent limit old new
   pub named : IfOk result (λ step. Reaches (told_once step) old new)
   pub at_fault : IfErr result (λ fault. ReachesAtFault fault.kind old new)
   pub caused : IsCausedAt result old.source new.source

@@ -46,9 +46,11 @@ pub record Books (calls n : ℕ) (old new : MeterState) : Type 0 where
   pub same_aside : new.aside ≡ old.aside
   pub same_start : new.start ≡ old.start
 
--- some fetches for the listing, of at most n bytes and, where a name was reached, `limit` and 4 more
-pub record Spends (n limit : ℕ) (old new : MeterState) : Type 0 where
+-- some fetches for the listing, in at most so many calls, of at most n bytes and, where a name was reached, `limit` and 4
+-- more in 2 more calls
+pub record Spends (calls n limit : ℕ) (old new : MeterState) : Type 0 where
   pub paid : old.names + 1 < 2 ^ 128 → new.fetched + old.names * (limit + 4) ≤ old.fetched + n + new.names * (limit + 4)
+  pub paid_calls : old.names + 1 < 2 ^ 128 → new.calls + old.names * 2 ≤ old.calls + calls + new.names * 2
   pub more : old.fetched ≤ new.fetched
   pub more_calls : old.calls ≤ new.calls
   pub more_names : old.names ≤ new.names

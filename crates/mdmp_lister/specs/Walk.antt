@@ -27,7 +27,7 @@ use Rattle.mdmp_lister.specs.declared.walk.Walk.{Walk}
 use Rattle.mdmp_lister.specs.Format.Numbers.{range_count}
 use Rattle.mdmp_lister.specs.Format.Directory.{IsDirectory}
 use Rattle.mdmp_lister.specs.Heading.{heads_ahead}
-use Rattle.mdmp_lister.specs.Holding.{IsHeldOf}
+use Rattle.mdmp_lister.specs.Holding.{IsHeldOf, fills_of}
 use Rattle.mdmp_lister.specs.Format.Item.{range_offset}
 use Rattle.mdmp_lister.specs.Format.Listing.{Run, nothing, only_fault, with_item, joined, items_from, body_of, listing_from}
 use Rattle.mdmp_lister.specs.Meter.{Books}
@@ -127,6 +127,7 @@ module _ {S A : Type 0} where
     pub calls : w.meter.source.calls ≤ raised source.calls (1 + w.header.number_of_streams)
     pub steady : IsSteady source w.meter.source
     pub fetched : w.meter.fetched ≤ 32 + 12 * w.header.number_of_streams
+    pub called : w.meter.calls ≤ 1 + fills_of (12 * w.header.number_of_streams) (w.window.room - 11)
     pub names : w.meter.names ≡ 0
     pub aside : w.meter.aside ≡ record { bytes = 0; calls = 0 }
     pub start : w.meter.start ≡ record { bytes = source.fetched; calls = source.calls }

@@ -117,7 +117,7 @@ pub(crate) fn fetch_head<S: Store>(
 
 /// What the head of a stream says, or its first fault. A window is started over the stream, which holds
 /// what was fetched of it.
-#[tactic(auto, unfolding(crate::specs::Format::Shape::shape_of))]
+#[tactic(auto, using(crate::proofs::Sliding::fills_begun), unfolding(crate::specs::Format::Shape::shape_of))]
 pub(crate) fn begin_stream<S: Store, A: Allocator>(
     meter: &mut Meter<S>,
     window: &mut Window<A>,

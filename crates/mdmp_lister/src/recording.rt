@@ -1,5 +1,5 @@
 //! A record of any kind and its name, read through a source.
-ghost use Rattle.std.specs.Prelude.{◌≡◌, ◌≤◌, ◌<◌, ◌+◌, ◌^◌, ℕ, List, Some, length, take, IfOk, OnOk};
+ghost use Rattle.std.specs.Prelude.{◌≡◌, ◌≤◌, ◌<◌, ◌+◌, ◌^◌, ℕ, List, Some, length, min, take, IfOk, OnOk};
 ghost use Rattle.mdmp_source.specs.Range.{bytes_at};
 ghost use Rattle.mdmp_lister.specs.Fetching.{Reads, ReadsRecord, TellsRecord};
 ghost use Rattle.mdmp_lister.specs.Format.Item.{item_at, kind_told, range_offset, record_at};
@@ -48,7 +48,7 @@ fn read_record<S: Store, A: Allocator>(
 ) -> Result<AnyRecord, SourceFault>
     requires { IsAhead meter.old.source at (record_size kind) window.old }
     ensures kind { IfOk result (λ value. kind_told value ≡ kind) }
-    ensures reads { Reads (Books 1 (needed at (record_size kind) window.old)) (λ file value. record_at kind file at ≡ value) result meter.old meter.new }
+    ensures reads { Reads (Books (min 1 (needed at (record_size kind) window.old)) (needed at (record_size kind) window.old)) (λ file value. record_at kind file at ≡ value) result meter.old meter.new }
     ensures comes { ComesTo at meter.old.source.store.content window.old window.new }
     ensures slides { Slides at (record_size kind) window.old result window.new }
 {

@@ -6,6 +6,7 @@ use Rattle.mdmp_source.specs.declared.fault.SourceFault.{SourceFault}
 use Rattle.mdmp_source.specs.declared.location.Location.{Location}
 use Rattle.mdmp_lister.specs.declared.codeview.CodeViewRead.{CodeViewRead}
 use Rattle.mdmp_lister.specs.declared.fault.ListFault.{ListFault}
+use Rattle.mdmp_lister.specs.declared.meter.Amount.{Amount}
 use Rattle.mdmp_lister.specs.declared.step.Step.{Step}
 use Rattle.mdmp_lister.specs.declared.walk.Walk.{Walk}
 use Rattle.mdmp_lister.specs.CodeView.{ReadsCodeView}
@@ -54,7 +55,7 @@ module _ {S A : Type 0} where
         old.meter.source new.meter.source
     pub counts : Moves 1 (counts_of old.meter) (counts_of new.meter)
     pub named : IfOk result (λ given. Reaches (given_once given) old.meter new.meter)
-    pub paid : (allowed before : ℕ) → IsPaid allowed before old → IsPaid allowed before new
+    pub paid : (allowed : Amount) (before : ℕ) → IsPaid allowed before old → IsPaid allowed before new
     -- an answer that is given again changes nothing
     pub repeats : (stop : Option ListFault) → stop_of old.stage ≡ Some stop → (new ≡ old) × (stop_after result ≡ Some stop)
     -- a store that is good has no fault
@@ -69,7 +70,7 @@ module _ {S A : Type 0} where
     pub falls : work_of new < work_of old
     pub owes : unread_of new ≤ unread_of old
     pub books : Books 1 (unread_of old - unread_of new) old.meter new.meter
-    pub paid : (allowed before : ℕ) → IsPaid allowed before old → IsPaid allowed before new
+    pub paid : (allowed : Amount) (before : ℕ) → IsPaid allowed before old → IsPaid allowed before new
 
   -- a request was answered so, and as much room is left as the ranges that may still be given need
   pub record StepTaken (old : Walk S A) (result : Result (Option Step) ListFault) (new : Walk S A) : Type 0 where
@@ -82,7 +83,7 @@ module _ {S A : Type 0} where
     pub skips : ends old.stage ≡ false → new ≡ record old { stage = Between }
     pub stays : IsTrue (ends old.stage) → new ≡ old
     pub unbegun : old.next ≡ 0 → new ≡ old
-    pub paid : (allowed before : ℕ) → IsPaid allowed before old → IsPaid allowed before new
+    pub paid : (allowed : Amount) (before : ℕ) → IsPaid allowed before old → IsPaid allowed before new
     pub room : (room : ℕ) → HasRoom room 0 old → HasRoom room 0 new
     pub rests : work_of new ≤ work_of old
 

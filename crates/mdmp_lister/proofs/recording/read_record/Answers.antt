@@ -1,6 +1,5 @@
-use Rattle.std.proofs.Common.{◌≡◌, arith, rules, take}
+use Rattle.std.proofs.Common.{◌≡◌, arith, take}
 use Rattle.mdmp_source.specs.Range.{bytes_at}
-use Rattle.mdmp_lister.proofs.Metering.{Books-within}
 use Rattle.mdmp_lister.proofs.RecordItems.{kind_told-at, record-fetched}
 use Rattle.mdmp_lister.proofs.recording.read_record.Goals as goal
 
@@ -15,6 +14,6 @@ returns-clause-reads g c =
       of_file = λ file known.
           let bytes : take size c.bytes.result.now ≡ bytes_at file c.args.at size = rw c.bytes.ensures (read.of_file file known) in
           record-fetched c.args.kind size c.args.at file _ c.record_of.result (omega (arith, c.record_size-size.ensures)) bytes c.record_of.ensures;
-      books = Books-within _ 1 _ _ c.args.meter.now c.hold.new.meter (omega arith) (rw c.record_size-size.ensures (omega arith)) read.books;
+      books = rw c.record_size-size.ensures at read.books;
       caused = read.caused;
     }

@@ -5,6 +5,7 @@ use Rattle.std.proofs.lemmas.Option.{slice_get_read}
 use Rattle.std.specs.Prelude.{map}
 use Rattle.mdmp_lister.specs.Format.Listing.{all_joined, chosen_from, entry_count, entry_listing, entry_of, nothing}
 use Rattle.mdmp_lister.specs.Walk.{rest_of}
+use Rattle.mdmp_lister.specs.Walk.Paying.{stream_calls}
 use Rattle.mdmp_lister.proofs.Bodies.{listing_from-first}
 use Rattle.mdmp_lister.proofs.Entries.{chosen_from-end, listing_from-end, ranges-first}
 use Rattle.mdmp_lister.proofs.Fetches.{FetchesAtMost-none, FetchesAtMost-within}
@@ -39,6 +40,7 @@ returns-in_default g c =
               named = omega arith;
               paid = λ allowed before paid. record {
                 bytes = rw (cost_by-end (λ d. d) w.choice w.meter.source.size c.len-self.result w.entries.items past) (omega (arith, paid.bytes));
+                calls = rw (cost_by-end (stream_calls w.window.room) w.choice w.meter.source.size c.len-self.result w.entries.items past) (omega (arith, paid.calls));
                 names = omega (arith, paid.names, c.len-self.ensures);
               };
               repeats = λ stop stopped. let going = through-going w.stage c.requires.through in absurd (cc);
@@ -85,7 +87,8 @@ returns g c =
               named = search rules;
               paid = λ allowed before paid.
                   let costs = rw (c.deref.ensures.value, ← c.index-entry.ensures) at (c.in-Some.ensures.costs (λ d. d) w.meter.source.size c.index-entry.result.now) in
-                  record { bytes = omega (arith, paid.bytes, costs); names = omega (arith, paid.names, c.in-Some.ensures.within) };
+                  let calls = rw (c.deref.ensures.value, ← c.index-entry.ensures) at (c.in-Some.ensures.costs (stream_calls w.window.room) w.meter.source.size c.index-entry.result.now) in
+                  record { bytes = omega (arith, paid.bytes, costs); calls = omega (arith, paid.calls, calls); names = omega (arith, paid.names, c.in-Some.ensures.within) };
               repeats = λ stop stopped. let going = through-going w.stage c.requires.through in absurd (cc);
               good = λ file good. tt;
             };

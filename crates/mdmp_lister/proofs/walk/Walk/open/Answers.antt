@@ -1,4 +1,5 @@
-use Rattle.std.proofs.Common.{◌+◌, ◌*◌, ◌∙◌, None, arith, refl, rules, sym}
+use Rattle.std.proofs.Common.{◌+◌, ◌-◌, ◌*◌, ◌∙◌, None, arith, refl, rules, sym}
+use Rattle.mdmp_lister.specs.Holding.{fills_of}
 use Rattle.mdmp_lister.specs.Meter.{Books}
 use Rattle.mdmp_lister.proofs.Fetches.{IsCaused_later}
 use Rattle.mdmp_lister.proofs.Directory.{directory_fills}
@@ -46,16 +47,17 @@ returns-clause-new g c =
     let read = c.in_default-read_directory.ensures in
     let window = c.in-Ok-with_room.window in
     let few = directory_fills n window.room (rw c.in-Ok-with_room.ensures c.args.limits.window_least) in
-    let all : Books (1 + n) (32 + 12 * n) c.new-meter.result c.read_directory.new.meter =
-    Books-then 1 _ (1 + n) 32 (12 * n) (32 + 12 * n) c.new-meter.result c.read_header.new.meter c.read_directory.new.meter (omega (arith, few)) (omega arith) of.books read.reads.books in
+    let all : Books (1 + fills_of (12 * n) (window.room - 11)) (32 + 12 * n) c.new-meter.result c.read_directory.new.meter =
+    Books-then 1 _ _ 32 (12 * n) (32 + 12 * n) c.new-meter.result c.read_header.new.meter c.read_directory.new.meter (omega arith) (omega arith) of.books read.reads.books in
     let books = rw began at all in
     let steady = rw began at (IsCaused_later None 32 c.new-meter.result.source c.read_header.new.meter.source c.read_directory.new.meter.source of.books.fetches of.caused read.reads.caused).once in
     let finds = rw began at of.finds in
     record {
       fetches = books.fetches;
-      calls = books.source_calls;
+      calls = omega (arith, few, books.source_calls);
       steady = steady;
       fetched = omega (arith, books.fetched);
+      called = rw read.kept (omega (arith, books.most_calls));
       names = books.same_names;
       aside = books.same_aside;
       start = books.same_start;

@@ -18,7 +18,7 @@ returns-else-ranges_by-room-clause-read g c =
     let of = c.in-Ok.ensures in
     let base = c.from.ensures in
     head_read w _ c.in-Some-of_type.kind c.requires.head c.requires.sound (search rules) (search rules) (search rules) _ of.begins.books
-    c.in-Ok.head c.from.result refl of.head (omega (arith, base, c.from.type_inv)) of.begins.comes of.begins.bytes (λ file content memory. omega (arith, base, of.base file content memory)) of.shape
+    c.in-Ok.head c.from.result refl of.head (omega (arith, base, c.from.type_inv)) of.begins.comes of.begins.bytes of.begins.fills_left (λ file content memory. omega (arith, base, of.base file content memory)) of.shape
 
 -- where the file is known, the list counts as many ranges as it did when the file was opened
 never : (g : given.Over) (c : goal.After-stop_at-then-ranges_by-room g) → (file : List ℕ) → c.args.self.now.meter.source.store.content ≡ Some file → ⊥

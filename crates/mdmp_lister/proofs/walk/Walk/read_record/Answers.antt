@@ -2,6 +2,7 @@ use Rattle.std.proofs.Common.{◌≡◌, arith, ◌∙◌, length, refl, rules, 
 use Rattle.mdmp_lister.proofs.Bodies.{take-lent}
 use Rattle.mdmp_lister.proofs.EntrySteps.{answered_record, answered_record_fault, given_record}
 use Rattle.mdmp_lister.proofs.Sizes.{most_record}
+use Rattle.mdmp_lister.specs.Format.Kind.{greatest_record}
 use Rattle.mdmp_lister.specs.Walk.{IsHolding}
 use Rattle.mdmp_lister.proofs.walk.Walk.read_record.Goals as goal
 
@@ -15,7 +16,7 @@ returns-in-Ok g c =
         answered =
             answered_record w _ a.kind a.shape a.index a.offset c.record_at-at.result c.requires.stage c.requires.left c.requires.sound (search rules) c.record_at-at.ensures.place
             _ c.in-Ok.step c.offset_behind.result refl c.offset_behind.ensures.range c.offset_behind.ensures.bound (rw room at of.reads) (rw room at of.tells)
-            of.comes (omega (arith, of.slides.bytes))
+            of.comes (omega (arith, of.slides.bytes)) (of.slides.calls greatest_record (most_record a.kind) c.requires.sound.window)
             (λ file known here. rw (take-lent (vec_len w.name) c.read_item.new.buffer _ room) (rw room at (of.item file known w.current.location.rva here)));
         room = search rules;
       },
@@ -33,7 +34,7 @@ returns-in-Err g c =
     rw (c.stop_at.ensures.1, c.stop_at.ensures.0) (record {
       answered =
           answered_record_fault w _ a.kind a.shape a.index a.offset c.record_at-at.result c.requires.stage c.requires.left c.requires.sound (search rules) c.record_at-at.ensures.place
-          _ c.in-Err.fault c.of_entry.result refl (rw room at of.reads) (omega (arith, of.slides.bytes)) c.of_entry.ensures (λ file known here other. rw room at (of.item file known w.current.location.rva here other));
+          _ c.in-Err.fault c.of_entry.result refl (rw room at of.reads) (omega (arith, of.slides.bytes)) (omega (arith, of.slides.calls greatest_record (most_record a.kind) c.requires.sound.window)) c.of_entry.ensures (λ file known here other. rw room at (of.item file known w.current.location.rva here other));
       room = search rules;
     })
 
