@@ -5,14 +5,15 @@ use Rattle.std.proofs.Math.Nat.{mul-le-mul}
 use Rattle.mdmp_wire.specs.declared.entry.Entry.{Entry}
 use Rattle.mdmp_lister.specs.declared.choice.Choice.{Choice}
 use Rattle.mdmp_lister.specs.declared.walk.Walk.{Walk}
-use Rattle.mdmp_lister.specs.Format.Bounds.{fetch_bound}
+use Rattle.mdmp_lister.specs.Format.Bounds.{call_bound, fetch_bound}
 use Rattle.mdmp_lister.specs.Format.Numbers.{is_listed, listed, listed_bytes, listed_sizes, sizes_of}
 use Rattle.mdmp_lister.specs.Format.Directory.{IsDirectory}
 use Rattle.mdmp_lister.specs.Format.Listing.{Numbered, entries_from, entry_of, is_chosen, only_chosen}
-use Rattle.mdmp_lister.specs.Walk.Paying.{IsBounded, cost_by, cost_of, sizes_in}
+use Rattle.mdmp_lister.specs.Walk.Paying.{IsBounded, cost_by, cost_of, sizes_in, stream_calls}
 use Rattle.mdmp_lister.specs.Walk.{IsSound}
 use Rattle.mdmp_lister.proofs.Heads.{heads_few}
-use Rattle.mdmp_lister.proofs.Paying.{paid_bound}
+use Rattle.mdmp_lister.proofs.Paying.{called_bound, paid_bound}
+use Rattle.mdmp_lister.proofs.Sliding.{fills_most}
 
 -- ---- the streams that are listed of the directory are those of the file
 
@@ -53,6 +54,13 @@ module _ {S A : Type 0} (w : Walk S A) (sound : IsSound w) (bounded : IsBounded 
   fetched_most =
       let ok = w.entries.ok.0 in
       omega (arith, ok, paid_bound _ w bounded, heads_few w.choice w.meter.source.size w.entries.items)
+
+  pub called_most : w.meter.calls ≤ call_bound w.window.room (length w.entries.items) (sizes_in w.choice w.meter.source.size w.entries.items) w.meter.names
+  unfolding cost_by stream_calls
+  called_most =
+      let ok = w.entries.ok.0 in
+      let s : length w.entries.items ≡ vec_len w.entries = omega (arith, ok) in
+      rw s (omega (arith, called_bound _ w bounded, fills_most (12 * vec_len w.entries) (w.window.room - 11)))
 
   pub fetched_below : cost_of w.choice w.meter.source.size w.entries.items ≤ 2 ^ 32 * length w.entries.items → w.meter.fetched < 2 ^ 128 - 1
   fetched_below small =

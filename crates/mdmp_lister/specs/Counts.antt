@@ -2,7 +2,7 @@
 use Rattle.std.specs.Prelude.{◌≡◌, ◌≤◌, ◌<◌, ◌+◌, ◌-◌, ◌*◌, ◌^◌, ℕ, List, Some, length}
 use Rattle.mdmp_lister.specs.declared.choice.Choice.{Choice}
 use Rattle.mdmp_lister.specs.declared.counts.Counts.{Counts}
-use Rattle.mdmp_lister.specs.Format.Bounds.{fetch_bound, held_bound}
+use Rattle.mdmp_lister.specs.Format.Bounds.{call_bound, fetch_bound, held_bound}
 use Rattle.mdmp_lister.specs.Format.Numbers.{listed_bytes, listed_sizes, range_count}
 use Rattle.mdmp_lister.specs.Lister.{ListerState}
 use Rattle.mdmp_lister.specs.Format.Listing.{entry_count}
@@ -32,11 +32,13 @@ pub record AreOfFile (file : List ℕ) (choice : Choice) (c : Counts) : Type 0 w
 abbrev pub bytes_of : ListerState → ℕ
 bytes_of v = v.rooms.window + 12 * length v.entries + 24 * length v.ranges + v.limit
 
--- a lister's lists and fetches stay within the bounds that its numbers tell, no list has outgrown the room that it took as
--- the file was opened, and its source's own counts have risen by what was fetched or stand at their greatest
+-- a lister's lists, fetches and calls stay within the bounds that its numbers and the sizes of the listed streams tell, no
+-- list has outgrown the room that it took as the file was opened, and its source's own counts have risen by what was
+-- fetched or stand at their greatest
 pub record AreBounds (v : ListerState) (c : Counts) : Type 0 where
   pub held : bytes_of v ≤ c.held
   pub fetched : c.fetched ≤ fetch_bound v.limit c.s c.n c.m
+  pub calls : c.calls ≤ call_bound v.rooms.window c.s (sizes_in v.choice v.source.size v.entries) c.m
   pub below : c.fetched < 2 ^ 128 - 1
   pub booked : IsBooked v.source v.counts
   pub entries : length v.entries ≤ v.rooms.entries

@@ -1,6 +1,6 @@
 use Rattle.std.proofs.Common.{◌≡◌, ◌≤◌, ◌+◌, ◌*◌, ◌^◌, ◌∙◌, arith, length}
 use Rattle.mdmp_lister.specs.Walk.Paying.{cost_of}
-use Rattle.mdmp_lister.proofs.Numbers.{costs_listed, fetched_below, fetched_most, sizes_listed}
+use Rattle.mdmp_lister.proofs.Numbers.{called_most, costs_listed, fetched_below, fetched_most, sizes_listed}
 use Rattle.mdmp_lister.proofs.lister.Lister.counts.Goals as goal
 
 pub returns-clause-of_file : goal.returns-clause-of_file
@@ -32,6 +32,7 @@ returns-clause-bounds g c =
       sizes = λ file known. sizes_listed file w.choice w.meter.source.size w.entries.items (rw known at sound.sized) (sound.directory file known);
       held = omega (arith, entries, c.len.ensures, c.free.ensures.value, c.free.ensures.room, c.len-2.ensures, c.room.ensures.value);
       fetched = rw (c.counts-counted.ensures.value, entries, listed) (fetched_most w sound bounded);
+      calls = rw (c.counts-counted.ensures.value, entries) (called_most w sound bounded);
       below = rw c.counts-counted.ensures.value (fetched_below w sound bounded small);
       booked = rw c.counts-counted.ensures.value at c.counts-counted.ensures.booked;
       entries = omega (arith, entries, w.entries.ok);
