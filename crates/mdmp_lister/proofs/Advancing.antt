@@ -46,14 +46,6 @@ passed_after-plain x next = ap (λ (s : Summary). number_behind s.stream next) (
 pub current_after-plain : (x : Item) (e : Entry) → current_after (plain x) e ≡ current_after x e
 current_after-plain x e = ap (λ (s : Summary). entry_begun s.stream e) (summary_of-plain x)
 
--- what is known of each file's runs before and after a call is known of the runs
-pub runs_then : (of new : List ℕ → Run) (P : Run → Run → Type 0) (content now : Option (List ℕ)) → now ≡ content → ((file : List ℕ) → content ≡ Some file → P (of file) (new file))
-    → (left : Run) → option_map of content ≡ Some left → (rest : Run) × ((option_map new now ≡ Some rest) × P left rest)
-runs_then of new P None now same each left known = absurd (cc)
-runs_then of new P (Some file) now same each left known =
-    let k : of file ≡ left = cc in
-    (new file, (rw same refl, subst (λ (run : Run). P run (new file)) k (each file refl)))
-
 -- what a lister has room for stays where no list of its walk is longer or shorter
 module _ {S A : Type 0} where
   abbrev rooms_of : Walk S A → ℕ → Rooms

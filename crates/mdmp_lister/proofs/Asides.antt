@@ -10,7 +10,7 @@ use Rattle.mdmp_lister.specs.Format.Listing.{Run, joined, listing_from}
 use Rattle.mdmp_lister.specs.Lister.{ListerState}
 use Rattle.mdmp_lister.specs.Meter.{BooksAside}
 use Rattle.mdmp_lister.specs.Walk.Mapping.{IsMapped}
-use Rattle.mdmp_lister.specs.Walk.Paying.{owed_of, unread_of}
+use Rattle.mdmp_lister.specs.Walk.Paying.{owed_of, unread_bytes}
 use Rattle.mdmp_lister.specs.Walk.Requests.{CodeViewFetched}
 use Rattle.mdmp_lister.specs.Walk.{left_of, left_of_entry}
 
@@ -71,6 +71,6 @@ module _ {S A : Type 0} where
       ∙ ap (option_map (left_of w)) fetched.read.reads.books.fetches.same_content
 
   pub codeview_unread : (at : Location) (w new : Walk S A) (result : Result CodeViewRead SourceFault) → CodeViewFetched at w result new
-      → unread_of new ≡ unread_of w
+      → unread_bytes new ≡ unread_bytes w
   codeview_unread at w new result fetched =
-      ap unread_of fetched.same ∙ ap (λ size. owed_of size w.current w.window w.stage) fetched.read.reads.books.fetches.same_size
+      ap unread_bytes fetched.same ∙ ap (λ size. owed_of size w.current w.window w.stage) fetched.read.reads.books.fetches.same_size

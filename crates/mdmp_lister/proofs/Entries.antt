@@ -4,7 +4,7 @@ use Rattle.std.specs.Prelude.{map}
 use Rattle.std.proofs.lemmas.List.Sums.{sum_by-cons}
 use Rattle.mdmp_wire.specs.declared.entry.Entry.{Entry}
 use Rattle.mdmp_lister.specs.declared.choice.Choice.{Choice}
-use Rattle.mdmp_lister.specs.Format.Listing.{Numbered, joined, nothing, all_joined, entry_listing, listing_from, chosen_from, entries_from, only_chosen, entry_count, entry_of, is_chosen}
+use Rattle.mdmp_lister.specs.Format.Listing.{Numbered, nothing, all_joined, entry_listing, listing_from, chosen_from, entries_from, only_chosen, entry_count, entry_of, is_chosen}
 use Rattle.mdmp_lister.specs.Format.Directory.{IsFirstChosen}
 use Rattle.mdmp_lister.specs.Format.Numbers.{ranges_in, ranges_of_all}
 use Rattle.mdmp_lister.specs.Format.Kind.{kind_of}
@@ -41,16 +41,6 @@ chosen_from-end F choice i le =
     rw none refl
 
 -- ---- what they list
-
-pub listing_from-chosen : (F : List ℕ) (choice : Choice) (limit i : ℕ) (e : Entry) → i < entry_count F → e ≡ entry_of F i → true ≡ is_chosen choice e.stream_type
-    → listing_from F choice limit i ≡ joined (entry_listing F limit (record { number = i; entry = e })) (listing_from F choice limit (i + 1))
-listing_from-chosen F choice limit i e lt same chosen =
-    ap (λ (xs : List Numbered). all_joined (map (entry_listing F limit) xs)) (chosen_from-chosen F choice i e lt same chosen)
-
-pub listing_from-other : (F : List ℕ) (choice : Choice) (limit i : ℕ) (e : Entry) → i < entry_count F → e ≡ entry_of F i → false ≡ is_chosen choice e.stream_type
-    → listing_from F choice limit i ≡ listing_from F choice limit (i + 1)
-listing_from-other F choice limit i e lt same other =
-    ap (λ (xs : List Numbered). all_joined (map (entry_listing F limit) xs)) (chosen_from-other F choice i e lt same other)
 
 pub listing_from-end : (F : List ℕ) (choice : Choice) (limit i : ℕ) → entry_count F ≤ i → listing_from F choice limit i ≡ nothing
 listing_from-end F choice limit i le = ap (λ (xs : List Numbered). all_joined (map (entry_listing F limit) xs)) (chosen_from-end F choice i le)

@@ -22,7 +22,7 @@ use Rattle.mdmp_lister.specs.Stage.{fault_stage}
 use Rattle.mdmp_lister.specs.Step.{bytes_behind, step_item}
 use Rattle.mdmp_lister.specs.Walk.{IsHolding, IsReading, IsSound, SameEntry}
 use Rattle.mdmp_lister.specs.Walk.Checking.{RecordGiven}
-use Rattle.mdmp_lister.specs.Walk.Paying.{calls_owed, owed_of, stream_calls, unread_of}
+use Rattle.mdmp_lister.specs.Walk.Paying.{calls_owed, owed_of, stream_calls, unread_bytes}
 use Rattle.mdmp_lister.specs.Walk.Requests.{Answered, FaultMet, HeadRead}
 use Rattle.mdmp_lister.proofs.Bodies.{body-shaped, records-faulted, records-given}
 use Rattle.mdmp_lister.proofs.Fetches.{not_of_source, told_in_caused}
@@ -54,7 +54,7 @@ module _ {S A : Type 0} (old new : Walk S A) (kind : Kind) (at : old.stage ≡ s
       let fits : owed_of z e new.window new.stage + spent ≤ owed_of z e old.window old.stage = rw (next, at, entry_cost-listed (λ d. d) z e kind known inside) (omega (arith, bytes)) in
       let called : calls_owed z e new.window new.stage + 1 ≤ calls_owed z e old.window old.stage =
       rw (next, at, entry_cost-listed (stream_calls old.window.room) z e kind known inside) (omega (arith, fills_left)) in
-      let less : unread_of new + spent ≤ unread_of old = rw (books.fetches.same_size, same.current) fits in
+      let less : unread_bytes new + spent ≤ unread_bytes old = rw (books.fetches.same_size, same.current) fits in
       record {
         sound = IsSound-after spent old new sound books.fetches same
             (rw next (record { begun = begun; known = known; within = omega arith; inside = inside; fits = of.fits; ranges = of.ranges; bound = omega (arith, small) }))

@@ -22,8 +22,8 @@ use Rattle.mdmp_lister.specs.Meter.{Books, MeterState}
 use Rattle.mdmp_lister.specs.Fault.{IsCaused}
 use Rattle.mdmp_lister.proofs.Fetches.{FetchesAtMost-within, IsCaused_later, not_unread, unread_caused}
 use Rattle.mdmp_lister.proofs.Heads.{heads_few}
-use Rattle.mdmp_lister.specs.Opening.{Finds, IsDirectoryRefusal, IsHandedBack, IsOfHead, IsRefusalOf, IsRefused, FitsHeader, unread_of}
-use Rattle.mdmp_lister.specs.Format.Refusal.{behind_directory, directory_refusal, behind_header}
+use Rattle.mdmp_lister.specs.Opening.{Finds, IsDirectoryRefusal, IsHandedBack, IsOfHead, IsRefused, FitsHeader, unread_of}
+use Rattle.mdmp_lister.specs.Format.Refusal.{directory_refusal, behind_header}
 
 -- the fault of the directory that a header places in a file of `size` bytes, or none
 abbrev placed_fault : Header → ℕ → Option OpenFault
@@ -179,12 +179,3 @@ IsRefused-directory choice old mid new h fault reads finds header none books cau
       cause = unread_caused (Source fault) old.source new.source all;
       good = λ file good. not_unread (Source fault) (all.good file good);
     }
-
-pub IsRefusalOf-directory : (F : List ℕ) (choice : Choice) (fault : OpenFault) → IsDirectoryRefusal F fault → IsRefusalOf F choice fault
-IsRefusalOf-directory F choice (Source fault) of = tt
-IsRefusalOf-directory F choice Memory of = of
-IsRefusalOf-directory F choice (TooShort size) of = ap (behind_directory F choice) of
-IsRefusalOf-directory F choice BadSignature of = ap (behind_directory F choice) of
-IsRefusalOf-directory F choice (BadVersion low) of = ap (behind_directory F choice) of
-IsRefusalOf-directory F choice (DirectoryOutside offset size) of = ap (behind_directory F choice) of
-IsRefusalOf-directory F choice (TooManyRanges count) of = ap (behind_directory F choice) of

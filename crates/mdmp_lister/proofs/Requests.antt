@@ -15,7 +15,7 @@ use Rattle.mdmp_lister.specs.declared.walk.Walk.{Walk}
 use Rattle.mdmp_lister.specs.Costs.{IsUnreadBy, bad_name_cost, begun_at, given_spent, step_cost, stream_begun}
 use Rattle.mdmp_lister.specs.Format.Listing.{Run, joined, nothing, only_fault, with_item}
 use Rattle.mdmp_lister.specs.Meter.{Books, MeterState, Moves, Spends, counts_of}
-use Rattle.mdmp_lister.specs.Walk.Paying.{calls_owed, owed_of, unread_of}
+use Rattle.mdmp_lister.specs.Walk.Paying.{calls_owed, owed_of, unread_bytes}
 use Rattle.mdmp_lister.specs.Walk.Reaching.{Reaches, given_once, told_once}
 use Rattle.mdmp_lister.specs.Fault.{IsOfSource}
 use Rattle.mdmp_lister.specs.Walk.Requests.{Answered, FaultMet, HeadRead, StepGiven}
@@ -108,7 +108,7 @@ module _ {S A : Type 0} (n calls spent : ℕ) (old new : Walk S A) (f : ListFaul
       → ((file : List ℕ) → IsGood old.meter.source.store file → IsOfSource f.kind → ⊥)
       → Answered old (Err f) new
   answered_fault sound begun going some same at met fetches within spends owed called left good =
-      let none : unread_of new ≡ 0 = rw at (fault_stage-owed new.meter.source.size new.current new.window f) in
+      let none : unread_bytes new ≡ 0 = rw at (fault_stage-owed new.meter.source.size new.current new.window f) in
       record {
         sound = IsSound-after n old new sound fetches same
             (rw at (fault_stage-staged old.meter.source.size old.next old.current f begun))
@@ -152,7 +152,7 @@ module _ {S A : Type 0} (n calls spent : ℕ) (old new : Walk S A) (step : Step)
       → Answered old (Ok (Some step)) new
   answered_step sound going on falls same passed stays held begins fetches within spends owed called named left =
       let less : work_of new < work_of old = rw (same.room.entries, same.next) (omega (arith, falls)) in
-      let owes : unread_of new + spent ≤ unread_of old = rw (fetches.same_size, same.current) owed in
+      let owes : unread_bytes new + spent ≤ unread_bytes old = rw (fetches.same_size, same.current) owed in
       let none : stream_begun old.meter.source.size (stream_told step) ≡ 0 = rw begins refl in
       record {
         sound = sound;
@@ -267,7 +267,7 @@ module _ {S A : Type 0} (old mid new : Walk S A) (head : HeadRead old mid) where
   given_then : (result : Result (Option Step) ListFault) → IfOk result (λ given. IfSome given (λ step. StepGiven mid step new)) → IfOk result (λ given. IfSome given (λ step. StepGiven old step new))
   given_then (Ok (Some step)) given = record {
     held = given.held;
-    begins = IsUnreadBy-then old.meter.source.size mid.meter.source.size (unread_of old) (unread_of mid) (unread_of new) (stream_told step) head.books.fetches.same_size head.owes given.begins;
+    begins = IsUnreadBy-then old.meter.source.size mid.meter.source.size (unread_bytes old) (unread_bytes mid) (unread_bytes new) (stream_told step) head.books.fetches.same_size head.owes given.begins;
     falls = omega (arith, given.falls, head.falls);
   }
   given_then (Ok None) given = tt
@@ -287,8 +287,8 @@ module _ {S A : Type 0} (old mid new : Walk S A) (head : HeadRead old mid) where
 
   -- no more is unread behind it than behind the head, and the stream that it begins
   unread_then : (result : Result (Option Step) ListFault) → IfOk result (λ given. IfSome given (λ step. StepGiven mid step new)) → IsStageAfter result new.stage
-      → unread_of new ≤ unread_of mid + stream_begun mid.meter.source.size (begun_at result)
-  unread_then (Ok (Some step)) given at = unread-within mid.meter.source.size (unread_of mid) (unread_of new) (stream_told step) given.begins
+      → unread_bytes new ≤ unread_bytes mid + stream_begun mid.meter.source.size (begun_at result)
+  unread_then (Ok (Some step)) given at = unread-within mid.meter.source.size (unread_bytes mid) (unread_bytes new) (stream_told step) given.begins
   unread_then (Ok None) given at = omega (arith, stopped-unread new.meter.source.size new.current new.window new.stage None at)
   unread_then (Err f) given at = omega (arith, stopped-unread new.meter.source.size new.current new.window new.stage (Some f) (ap stop_of at ∙ fault_stage-stop f))
 

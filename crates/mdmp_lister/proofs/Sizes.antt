@@ -1,11 +1,11 @@
 -- How many bytes the records of each kind and the heads of each form have, at least and at most.
-use Rattle.std.proofs.Common.{◌≤◌, ◌<◌, ℕ, arith}
+use Rattle.std.proofs.Common.{◌≤◌, ◌<◌, arith}
 use Rattle.mdmp_lister.specs.declared.form.Form.{Form}
 use Rattle.mdmp_lister.specs.declared.form.Form.TheVariants as forms
 use Rattle.mdmp_lister.specs.declared.kind.Kind.{Kind}
 use Rattle.mdmp_lister.specs.declared.kind.Kind.TheVariants as kinds
 use Rattle.mdmp_lister.specs.Format.Kind.{greatest_record, record_size}
-use Rattle.mdmp_lister.specs.Format.Shape.{head_cost, head_size}
+use Rattle.mdmp_lister.specs.Format.Shape.{head_cost}
 
 pub least_record : (kind : Kind) → 0 < record_size kind
 least_record kinds.Threads = omega arith
@@ -14,11 +14,6 @@ least_record _ = omega arith
 pub most_record : (kind : Kind) → record_size kind ≤ greatest_record
 most_record kinds.Threads = omega arith
 most_record _ = omega arith
-
--- a head is no more than a stream has at least
-pub least_head : (form : Form) (record_size : ℕ) → head_cost form ≤ head_size form record_size
-least_head forms.Single record_size = omega arith
-least_head _ record_size = omega arith
 
 pub most_head : (form : Form) → head_cost form ≤ 16
 most_head forms.Single = omega arith

@@ -23,11 +23,6 @@ use Rattle.mdmp_lister.proofs.Sizes.{most_head}
 bytes_at-+ : (file : List ℕ) (at n k : ℕ) → bytes_at file at (n + k) ≡ bytes_at file at n ++ bytes_at file (at + n) k
 bytes_at-+ file at n k = take-add n k (drop at file) ∙ ap (λ rest. take n (drop at file) ++ take k rest) (drop-drop n at file)
 
--- a window that was started holds nothing
-pub held_none : (content : Option (List ℕ)) (at end room : ℕ) → IsHeldOf content (record { place = at; end = end; room = room; held = [] })
-held_none None at end room = tt
-held_none (Some file) at end room = refl
-
 -- what a fill leaves is of the file
 pub held_filled : (content : Option (List ℕ)) (old new : WindowState) → IsHeldOf content old → IsFilled content old new → IsHeldOf content new
 held_filled None old new h f = tt

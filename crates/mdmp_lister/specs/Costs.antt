@@ -85,6 +85,7 @@ abbrev pub begun_by : Result (Option Item) ListFault → Option StreamItem
 begun_by (Ok (Some item)) = (summary_of item).stream
 begun_by answer = None
 
+-- the same of an answer whose name stands in a buffer
 abbrev pub begun_at : Result (Option Step) ListFault → Option StreamItem
 begun_at (Ok (Some s)) = stream_told s
 begun_at answer = None

@@ -44,7 +44,8 @@ pub record ReadsHead (size : ℕ) (kind : Kind) (result : Result Head Fault) (ol
   pub caused : IsCausedAt result old.source new.source
   pub at_fault : IfErr result (λ fault. ReachesAtFault fault.kind old new)
 
--- a window was started over a stream, whose head was read, or is too short, by a fetch of so many bytes
+-- the head of a stream was read through a window that was started over it, or it has a fault: by at most one fetch, of so
+-- many bytes; of a stream that is too short nothing is started or fetched
 pub record BeginsStream (at : Location) (result : Result Head Fault) (old new : MeterState) (was now : WindowState) : Type 0 where
   pub spent : ℕ
   pub books : Books 1 spent old new

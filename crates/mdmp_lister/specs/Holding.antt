@@ -9,7 +9,8 @@ use Rattle.mdmp_source.specs.declared.location.Location.{Location}
 abbrev pub IsHeldOf : Option (List ℕ) → WindowState → Type 0
 IsHeldOf content w = IfSome content (λ file. w.held ≡ bytes_at file w.place (length w.held))
 
--- `size` bytes at `at` lie ahead in the stretch of a window over a source, and it has room for them
+-- `size` bytes at `at` lie ahead in the stretch of a window over a source, and it has room for them; the stretch lies
+-- inside the file, and what is held is of it
 pub record IsAhead (source : SourceState) (at size : ℕ) (w : WindowState) : Type 0 where
   pub from : w.place ≤ at
   pub inside : at + size ≤ w.end
@@ -46,7 +47,7 @@ jumped at w = at - behind_of w
 abbrev pub unfetched : WindowState → ℕ
 unfetched w = w.end - behind_of w
 
--- the fills that so many bytes may take, where each but the last takes at least `step` of them
+-- at most so many fills do so many bytes take, where each but the last takes at least `step` of them
 unfoldable pub fills_of : (bytes step : ℕ) → ℕ
 fills_of zero step = 0
 fills_of (suc n) step = suc n / step + 1
@@ -64,4 +65,5 @@ left_behind (Err fault) left = 0
 -- what was fetched and what was jumped over, to hold `size` bytes at `at`, comes off what was left
 pub record Slides {T E : Type 0} (at size : ℕ) (old : WindowState) (result : Result T E) (new : WindowState) : Type 0 where
   pub bytes : needed at size old + jumped at old + left_behind result (unfetched new) ≤ unfetched old
+  -- and the fill, where one was made, off those that were left, of records of at most `most` bytes
   pub calls : (most : ℕ) → size ≤ most → most ≤ old.room → min 1 (needed at size old) + left_behind result (fills most new) ≤ fills most old

@@ -7,8 +7,8 @@ use crate::kind::Kind;
 use mdmp_source::inside;
 use mdmp_wire::Entry;
 
-/// What a lister has room for, what it has fetched, and the numbers that bound both. An entry, a
-/// stream or a name that stands in a file more than once counts each time.
+/// What a lister has room for, what it has fetched and in how many calls, and the numbers that bound
+/// them. An entry, a stream or a name that stands in a file more than once counts each time.
 #[derive(Clone, Copy, Debug, PartialEq, Eq)]
 pub struct Counts {
     /// The entries of the directory.
@@ -26,7 +26,8 @@ pub struct Counts {
     pub fetched: u128,
     /// The calls of `fetch` for the listing so far.
     pub calls: u128,
-    /// The bytes fetched so far to read memory by its address.
+    /// The bytes fetched so far aside from the listing: memory by its address, parts, and CodeView
+    /// records.
     pub aside: u128,
 }
 

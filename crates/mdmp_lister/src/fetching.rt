@@ -1,4 +1,4 @@
-//! What is read of a file through its source, one fetch at a time.
+//! Bytes and names of a file, read through its source.
 ghost use Rattle.std.specs.Prelude.{◌≡◌, ◌≤◌, ◌<◌, ◌+◌, ◌^◌, ℕ, List, Some, length, take, IfOk};
 ghost use Rattle.mdmp_source.specs.Range.{IsInside, bytes_at};
 ghost use Rattle.mdmp_wire.specs.Number.{u32_at};

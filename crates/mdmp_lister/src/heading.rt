@@ -89,7 +89,7 @@ fn head_of(bytes: &[u8], at: Location, kind: Kind) -> Result<Head, Fault>
     }
 }
 
-/// What the head of a stream says, whose bytes are fetched, or the first fault of the stream: too
+/// What the head of a stream says, fetched past the window, or the first fault of the stream: too
 /// short for its head, a bad header size, a bad entry size, a bad count.
 #[tactic(auto, using(crate::proofs::Metering::Books_none), unfolding(crate::specs::Format::Shape::shape_of))]
 pub(crate) fn fetch_head<S: Store>(
@@ -115,8 +115,8 @@ pub(crate) fn fetch_head<S: Store>(
     head_of(&bytes[..least], at, kind)
 }
 
-/// What the head of a stream says, or its first fault. A window is started over the stream, which holds
-/// what was fetched of it.
+/// What the head of a stream says, or its first fault. A window is started over the stream, and then
+/// holds what was fetched of it; of a stream that is too short nothing is fetched.
 #[tactic(auto, using(crate::proofs::Sliding::fills_begun), unfolding(crate::specs::Format::Shape::shape_of))]
 pub(crate) fn begin_stream<S: Store, A: Allocator>(
     meter: &mut Meter<S>,

@@ -52,7 +52,7 @@ const MOST_RANGES: u128 = 1 << 28;
 impl<S: Store + Drop, A: Allocator + Copy> Model for Lister<S, A> {
     ghost use Rattle.std.specs.Option.{option_map};
     ghost use Rattle.std.specs.Prelude.{vec_capacity, vec_len};
-    ghost use Rattle.mdmp_lister.specs.Walk.Paying.{unread_of};
+    ghost use Rattle.mdmp_lister.specs.Walk.Paying.{unread_bytes};
     ghost use Rattle.mdmp_lister.specs.Lister.{ListerState};
     ghost use Rattle.mdmp_lister.specs.Meter.{counts_of};
     ghost use Rattle.mdmp_lister.specs.Stage.{records_left_in, stop_of};
@@ -74,7 +74,7 @@ impl<S: Store + Drop, A: Allocator + Copy> Model for Lister<S, A> {
       ranges = l.map.ranges;
       left = option_map (left_of l.walk) l.walk.meter.source.store.content;
       stop = stop_of l.walk.stage;
-      unread = unread_of l.walk;
+      unread = unread_bytes l.walk;
       records = records_left_in l.walk.stage;
       work = work_of l.walk;
     } };
@@ -146,8 +146,8 @@ impl<S: Store + Drop, A: Allocator + Copy> Lister<S, A> {
         self.walk.meter.size()
     }
 
-    /// The numbers that bound what it holds and what it has fetched. It takes nothing and changes
-    /// nothing.
+    /// The numbers that bound what it holds, what it has fetched, and in how many calls. It takes nothing
+    /// and changes nothing.
     pub fn counts(&self) -> Counts
         ensures value { result ≡ numbers_of self.now }
         ensures of_file { (file : List ℕ) → self.now.source.store.content ≡ Some file → AreOfFile file self.now.choice result }
@@ -175,9 +175,9 @@ impl<S: Store + Drop, A: Allocator + Copy> Lister<S, A> {
     /// range that lies inside the file is put into the map. A store has changed where the head of a
     /// memory list, read again, counts more ranges than the map has room left.
     ///
-    /// The records of a stream pass through the window: where the next one is not held yet, the window is
-    /// filled from there on, as far as it has room and the stream goes. The name of an item is fetched
-    /// beside it, of one over the limit its length alone.
+    /// The head and the records of a stream pass through the window: where it does not hold all of what
+    /// comes next, it is filled with the bytes behind those that it holds, as far as it has room and the
+    /// stream goes. The name of an item is fetched beside it, of one over the limit its length alone.
     pub fn next(&mut self) -> Result<Option<Item<'_>>, ListFault>
         ensures gives { (left : _) → self.old.left ≡ Some left → Gives left result }
         ensures* leaves { sem 𝓛 (Rests (the_row S.row A.row S.Store A.Allocator) self.entry (Leaves self.old result)) }

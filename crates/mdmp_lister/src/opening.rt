@@ -69,7 +69,7 @@ pub(crate) fn read_directory<S: Store, A: Allocator>(
         result meter.old meter.new }
 {
     if header.number_of_streams == 0 {
-        // Its place may be anything.
+        // An empty directory may stand anywhere.
         return Ok(());
     }
     let first = u64::from(header.stream_directory_rva);

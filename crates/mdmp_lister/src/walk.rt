@@ -38,7 +38,7 @@ pub(crate) struct Walk<S: Store + Drop, A: Allocator + Copy> {
     pub(crate) header: Header,
     pub(crate) entries: Vec<Entry, A>,
     pub(crate) choice: Choice,
-    /// Through it records are read.
+    /// Through it the directory is read, and then the head and the records of each stream.
     pub(crate) window: Window<A>,
     /// At its front the units of the last name stand. Its length is the limit of names.
     pub(crate) name: Vec<u8, A>,

@@ -21,7 +21,7 @@ IfHeld (Held place) P = P place
 IfHeld (Gap count) P = Unit {0}
 
 -- what is left at the place of an address: the greatest count of addresses that the same range is the first to hold, and
--- at least one; it lies in a file of that size where the bytes of each range do
+-- at least one; it lies in a file of any size in which the bytes of each range lie
 pub record HasReach (ranges : List Range) (address : ℕ) (place : Place) : Type 0 where
   pub left : (r : Range) → first_range ranges address ≡ Some r → IsLeft ranges address r place.left
   pub some : 0 < place.left

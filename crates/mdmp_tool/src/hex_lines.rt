@@ -72,7 +72,7 @@ fn put_hex_line<O: Out>(
     write_all(out, b"\n")
 }
 
-/// The text of an address.
+/// The text of an address, and a colon.
 fn address_of(address: u64) -> [u8; 19]
     ensures { result ≡ address_text address }
 {

@@ -14,7 +14,7 @@ use Rattle.mdmp_lister.specs.Format.Listing.{is_chosen}
 use Rattle.mdmp_lister.specs.Format.Numbers.{is_listed}
 use Rattle.mdmp_lister.specs.Walk.{work_of}
 
--- what an entry costs of which `f` tells what a stream of so many bytes does: nothing where it is not listed of a file of
+-- what an entry costs, where a stream of so many bytes costs what `f` tells: nothing where it is not listed of a file of
 -- `size` bytes
 unfoldable pub entry_cost_by : (ℕ → ℕ) → ℕ → Entry → ℕ
 entry_cost_by f size e = if is_listed size e then f e.location.size else 0
@@ -65,13 +65,13 @@ calls_owed size e w (Records kind shape index offset) = fills greatest_record w
 calls_owed size e w stage = 0
 
 -- the bytes of the current entry's stream that may still be fetched
-abbrev pub unread_of : {S A : Type 0} → Walk S A → ℕ
-unread_of w = owed_of w.meter.source.size w.current w.window w.stage
+abbrev pub unread_bytes : {S A : Type 0} → Walk S A → ℕ
+unread_bytes w = owed_of w.meter.source.size w.current w.window w.stage
 
 -- what was fetched and may still be is allowed, with a name and its length for each of the names reached behind the
 -- first `before`, and so are the calls, with 2 for each of them; and those that may still be can be counted
 pub record IsPaid {S A : Type 0} (allowed : Amount) (before : ℕ) (w : Walk S A) : Type 0 where
-  pub bytes : w.meter.fetched + (unread_of w + cost_of w.choice w.meter.source.size (drop w.next w.entries.items))
+  pub bytes : w.meter.fetched + (unread_bytes w + cost_of w.choice w.meter.source.size (drop w.next w.entries.items))
       + before * (vec_len w.name + 4) ≤ allowed.bytes + w.meter.names * (vec_len w.name + 4)
   pub calls : w.meter.calls
       + (calls_owed w.meter.source.size w.current w.window w.stage + calls_of w.window.room w.choice w.meter.source.size (drop w.next w.entries.items))

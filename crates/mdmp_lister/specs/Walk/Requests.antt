@@ -12,7 +12,7 @@ use Rattle.mdmp_lister.specs.declared.walk.Walk.{Walk}
 use Rattle.mdmp_lister.specs.CodeView.{ReadsCodeView}
 use Rattle.mdmp_lister.specs.Costs.{IsUnreadBy, begun_at, given_spent, stream_begun}
 use Rattle.mdmp_lister.specs.Meter.{Books, Moves, counts_of}
-use Rattle.mdmp_lister.specs.Walk.Paying.{IsPaid, unread_of}
+use Rattle.mdmp_lister.specs.Walk.Paying.{IsPaid, unread_bytes}
 use Rattle.mdmp_lister.specs.Walk.Reaching.{Reaches, ReachesAtFault, given_once}
 use Rattle.mdmp_lister.specs.Fault.{IsOfSource, IsToldIn}
 use Rattle.mdmp_lister.specs.Format.Kind.{kind_of}
@@ -28,7 +28,7 @@ module _ {S A : Type 0} where
     -- its name stands in the walk's buffer, and it is a record of the entry's kind
     pub held : IsStepHeld (vec_len new.name) (kind_of new.current.stream_type) step
     -- where it begins an entry, the stream of that entry is left to be read
-    pub begins : IsUnreadBy old.meter.source.size (stream_told step) (unread_of old) (unread_of new)
+    pub begins : IsUnreadBy old.meter.source.size (stream_told step) (unread_bytes old) (unread_bytes new)
     pub falls : work_of new < work_of old
 
   -- a fault that was met: it stands in the current entry, and one of the store was told by the last fetch
@@ -51,7 +51,7 @@ module _ {S A : Type 0} where
     pub current : CurrentAfter result old.current new.current
     pub rests : work_of new ≤ work_of old
     -- what came off the unread bytes of the current entry's stream was fetched, and the name of the step
-    pub fetches : FetchesAtMost (unread_of old + stream_begun old.meter.source.size (begun_at result) + given_spent (vec_len old.name) result - unread_of new)
+    pub fetches : FetchesAtMost (unread_bytes old + stream_begun old.meter.source.size (begun_at result) + given_spent (vec_len old.name) result - unread_bytes new)
         old.meter.source new.meter.source
     pub counts : Moves 1 (counts_of old.meter) (counts_of new.meter)
     pub named : IfOk result (λ given. Reaches (given_once given) old.meter new.meter)
@@ -68,8 +68,8 @@ module _ {S A : Type 0} where
     pub left : (file : List ℕ) → old.meter.source.store.content ≡ Some file → current_of new file ≡ current_of old file
     pub stage : IsListing new.stage
     pub falls : work_of new < work_of old
-    pub owes : unread_of new ≤ unread_of old
-    pub books : Books 1 (unread_of old - unread_of new) old.meter new.meter
+    pub owes : unread_bytes new ≤ unread_bytes old
+    pub books : Books 1 (unread_bytes old - unread_bytes new) old.meter new.meter
     pub paid : (allowed : Amount) (before : ℕ) → IsPaid allowed before old → IsPaid allowed before new
 
   -- a request was answered so, and as much room is left as the ranges that may still be given need
