@@ -8,9 +8,10 @@ use std::io::Write;
 
 /// Prints that `list` prints of a dump by small windows what it prints by the usual one.
 pub fn tell_windows(rt: &HostRuntime, dump: &str) -> Result<(), u8> {
-    let usual = listed(rt, &["list", dump]);
+    let (usual_status, usual) = listed(rt, &["list", dump]);
     for window in ["168", "169", "255"] {
-        if listed(rt, &["list", dump, "--window", window])[..] != usual[..] {
+        let (status, text) = listed(rt, &["list", dump, "--window", window]);
+        if status != usual_status || text[..] != usual[..] {
             return Err(DIFFERS);
         }
     }
@@ -21,10 +22,10 @@ pub fn tell_windows(rt: &HostRuntime, dump: &str) -> Result<(), u8> {
     .map_err(|_| UNWRITTEN)
 }
 
-/// What a command prints, its faults among it.
-fn listed(rt: &HostRuntime, words: &[&str]) -> Vec<u8, Global> {
+/// The exit status of a command, and what it prints.
+fn listed(rt: &HostRuntime, words: &[&str]) -> (u8, Vec<u8, Global>) {
     let mut out = WriteOut::new(Vec::new(rt.alloc()));
     let mut err = WriteOut::new(rt.stderr());
-    let _ = run_words(rt, rt.alloc(), words, &mut out, &mut err);
-    out.into_inner()
+    let status = run_words(rt, rt.alloc(), words, &mut out, &mut err);
+    (status, out.into_inner())
 }

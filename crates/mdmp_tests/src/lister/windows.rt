@@ -1,4 +1,5 @@
-//! Streams that pass through a window: how few fetches that takes.
+//! Streams that pass through a window: how few fetches that takes, what a fill that fails leaves, and
+//! the same items by any window.
 use crate::files::file;
 use crate::given::{Named, stream, unloaded};
 use crate::opening::fault;
@@ -27,10 +28,10 @@ fn counts_of<S: Store + Drop>(alloc: Global, store: S, limits: Limits) -> Result
     Ok(lister.counts())
 }
 
-/// How many calls and bytes all items take of a file with one entry.
+/// How many calls and bytes all items take of a file with one entry, with names of up to 16 bytes.
 fn spent(rt: &HostRuntime, window: u32, numbers: &[u32]) -> Result<(u128, u128), Fail> {
     let file = file(rt, 1, numbers)?;
-    let limits = Limits::new(window, 0).ok_or("limits")?;
+    let limits = Limits::new(window, 16).ok_or("limits")?;
     let counts = counts_of(rt.alloc(), MemoryStore::new(&file), limits)?;
     Ok((counts.calls, counts.fetched))
 }
@@ -47,6 +48,19 @@ fn stream_that_fits_the_window_is_one_fetch(rt: HostRuntime) -> Result<(), Fail>
     numbers[..4].copy_from_slice(&[4, 328, 44, 3]);
     assert_eq!(rt; spent(&rt, 65536, &numbers)?, (3, 44 + 328));
     assert_eq!(rt; spent(&rt, 168, &numbers)?, (5, 44 + 328));
+    Ok(())
+}
+
+#[test]
+fn names_leave_the_window_as_it_is(rt: HostRuntime) -> Result<(), Fail> {
+    // Two modules, both named ab: a name is two fetches, of its length and of its units.
+    let mut numbers = [0; 60];
+    numbers[..5].copy_from_slice(&[4, 220, 44, 2, 1]);
+    numbers[9] = 264;
+    numbers[36] = 264;
+    numbers[58..].copy_from_slice(&[4, 0x00620061]);
+    assert_eq!(rt; spent(&rt, 65536, &numbers)?, (3 + 4, 44 + 220 + 16));
+    assert_eq!(rt; spent(&rt, 168, &numbers)?, (4 + 4, 44 + 220 + 16));
     Ok(())
 }
 
