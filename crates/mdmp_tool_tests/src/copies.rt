@@ -1,4 +1,4 @@
-//! Copies, as plain values, and the files that are copied.
+//! Copies, as plain values.
 //!
 //! No function that a test calls here has a contract, so that the test knows nothing of what it did,
 //! and its own proof stays short.
@@ -11,37 +11,6 @@ use std::test::Fail;
 
 /// An output that takes each copy of these tests, by seven bytes a call.
 pub const ALL: Room = Room { all: 2000, call: 7 };
-
-/// The directory and the streams of a dump: a system with its name, a thread with its stack and its
-/// context, no modules, an exception with its context, no ranges of memory, and a stream of four bytes.
-pub const SIX: [u32; 103] = [
-    7, 56, 104, 3, 52, 196, 4, 4, 260, 6, 168, 264, 5, 4, 436, 12, 4, 440, // the directory
-    0x00060009, 0x01040003, 6, 1, 7601, 2, 160, 0x0100, 0, 0, 0, 0, 0, 0, // the system
-    28, 0x00650053, 0x00760072, 0x00630069, 0x00200065, 0x00610050, 0x006b0063, 0x00310020, 0, 1,
-    7, 0, 32, 0, 0x5000, 0, 0x7000, 0, 4, 248, 6, 252, // the thread
-    0x4b415453, 0x04030201, 0x0605, // its stack and its context
-    0, // no modules
-    7, 0, 0xc0000005, 0, 0, 0, 0x401000, 0, 2, 0, 1, 0, 16, 0, // the exception
-    0, 0, 0, 0, 0, 0, 0, 0, 0, 0, 0, 0, 0, 0, 0, 0, 0, 0, 0, 0, 0, 0, 0, 0, 0, 0, 4, 432,
-    0xddccbbaa, 0, // its context, and no ranges
-    0x04030201,
-];
-
-/// The thread and the exception of that dump, as a file of their own: the stack, which stood at 248,
-/// stands at 108.
-pub const CRASH: [u32; 65] = [
-    3, 52, 56, 6, 168, 120, // the directory
-    1, 7, 0, 32, 0, 0x5000, 0, 0x7000, 0, 4, 108, 6, 112, // the thread
-    0x4b415453, 0x04030201, 0x0605, // its stack and its context
-    7, 0, 0xc0000005, 0, 0, 0, 0x401000, 0, 2, 0, 1, 0, 16, 0, // the exception
-    0, 0, 0, 0, 0, 0, 0, 0, 0, 0, 0, 0, 0, 0, 0, 0, 0, 0, 0, 0, 0, 0, 0, 0, 0, 0, 4, 288,
-    0xddccbbaa,
-];
-
-/// A thread without its stack, and behind the list the one byte of its context, at 96.
-pub const ABSENT_STACK: [u32; 17] = [
-    3, 52, 44, 1, 7, 0, 0, 0, 0, 0, 28672, 0, 256, 0, 1, 96, 0xaa,
-];
 
 /// What a copy answered, and the bytes that it wrote.
 #[derive(Drop)]

@@ -1,9 +1,10 @@
 //! `copy` over files, stores and outputs, and with little memory.
-use crate::copies::{ABSENT_STACK, ALL, CRASH, SIX, assert_wrote, copy_calls, copy_store};
+use crate::copies::{ALL, assert_wrote, copy_calls, copy_store};
 use crate::files::{entry, file, head, numbers, system_file};
 use crate::runs::{Room, least};
 use linked_list_allocator::LocalHeap;
 use mdmp_source::{MemoryStore, PatchyStore, Source, SourceFault};
+use mdmp_test_files::{ABSENT_STACK, CRASH, SIX};
 use mdmp_tool::{Limits, PartName, ReadFault, ToolFault, copied};
 use std::test::Fail;
 

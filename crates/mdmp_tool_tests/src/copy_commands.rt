@@ -1,8 +1,8 @@
 //! Command lines of `copy`, and the files that they make.
-use crate::copies::{CRASH, SIX};
 use crate::files::{head, numbers, system_file};
 use crate::runs::{BY_WHOLE, assert_ended, run, run_with, write_file};
 use linked_list_allocator::LocalHeap;
+use mdmp_test_files::{CRASH, SIX};
 use std::alloc::{Alloc, Global};
 use std::fs;
 use std::process::Abort;

@@ -1,4 +1,5 @@
 //! The files of the tests.
+use mdmp_test_files::{CRASH, SYSTEM};
 use mdmp_tool::{FaultKind, ListFault};
 use std::alloc::{AllocError, Global};
 
@@ -43,15 +44,9 @@ fn put_number(bytes: &mut Vec<u8>, number: u32) -> Result<(), AllocError> {
     bytes.extend_from_slice(&number.to_le_bytes())
 }
 
-/// The record of a system with the service pack `Service Pack 1`, and its name behind it.
-const SYSTEM: &[u8] =
-    b"\x09\0\x06\0\x03\0\x04\x01\x06\0\0\0\x01\0\0\0\xb1\x1d\0\0\x02\0\0\0\x64\0\0\0\0\x01\0\0\
-\0\0\0\0\0\0\0\0\0\0\0\0\0\0\0\0\0\0\0\0\0\0\0\0\
-\x1c\0\0\0S\0e\0r\0v\0i\0c\0e\0 \0P\0a\0c\0k\0 \x001\0\0\0\0\0";
-
-/// A file of one entry, which names that record.
+/// A file of a system with the service pack `Service Pack 1`.
 pub fn system_file(alloc: Global) -> Result<Vec<u8>, AllocError> {
-    file(alloc, &[&head(1, 32), &entry(7, 56, 44), SYSTEM], 136)
+    SYSTEM.to_vec(alloc)
 }
 
 /// What `list` prints of it, where the name is not longer than its limit.
@@ -62,19 +57,7 @@ system architecture 9 level 6 revision 3 processors 4 product 1 version 6.1.7601
 
 /// A file of three entries: a system, a module whose name stands behind the end, and a comment that does.
 pub fn faulty_file(alloc: Global) -> Result<Vec<u8>, AllocError> {
-    let directory = [entry(7, 56, 68), entry(4, 112, 124), entry(10, 5, 236)];
-    let [first, second, third] = &directory;
-    let parts: [&[u8]; 8] = [
-        &head(3, 32),
-        first,
-        second,
-        third,
-        &[0; 56],
-        &[1, 0, 0, 0],
-        &[0; 20],
-        &[0xff; 4],
-    ];
-    file(alloc, &parts, 236)
+    numbers(alloc, 3, &mdmp_test_files::FAULTY)
 }
 
 /// What `list` prints of that file.
@@ -106,18 +89,5 @@ pub fn bad_name() -> ListFault {
 
 /// A file of a thread and an exception, each with a context, and no byte behind that of the exception.
 pub fn crash_file(alloc: Global) -> Result<Vec<u8>, AllocError> {
-    let directory = [3, 52, 56, 6, 168, 120];
-    let threads = [1, 7, 0, 32, 0, 0x5000, 0, 0x7000, 0, 4, 108, 6, 112];
-    let stack_and_context = [0x4b41_5453, 0x0403_0201, 0x0605];
-    let exception = [7, 0, 0xc000_0005, 0, 0, 0, 0x0040_1000, 0];
-    let information = [2, 0, 1, 0, 16, 0];
-    let context = [4, 288, 0xddcc_bbaa];
-    let mut words = [0; 65];
-    words[..6].copy_from_slice(&directory);
-    words[6..19].copy_from_slice(&threads);
-    words[19..22].copy_from_slice(&stack_and_context);
-    words[22..30].copy_from_slice(&exception);
-    words[30..36].copy_from_slice(&information);
-    words[62..].copy_from_slice(&context);
-    numbers(alloc, 2, &words)
+    numbers(alloc, 2, &CRASH)
 }

@@ -1,18 +1,12 @@
 //! Files that hold memory of a process.
 use crate::files::numbers;
+use mdmp_test_files::MEMORY64;
 use std::alloc::{AllocError, Global};
 
 /// A file of 98 bytes with a 64-bit list of two ranges of four bytes, at 0x1000 and at 0x2000. The
 /// bytes of the first are `ABCD`, and of the second only `EF` are left.
 pub fn wide_file(alloc: Global) -> Result<Vec<u8>, AllocError> {
-    let list = [2, 0, 92, 0, 0x1000, 0, 4, 0, 0x2000, 0, 4, 0];
-    let mut words = [0; 17];
-    words[..3].copy_from_slice(&[9, 48, 44]);
-    words[3..15].copy_from_slice(&list);
-    words[15..].copy_from_slice(&[0x4443_4241, 0x4645]);
-    let mut bytes = numbers(alloc, 1, &words)?;
-    bytes.truncate(98);
-    Ok(bytes)
+    MEMORY64.to_vec(alloc)
 }
 
 /// What `hex` prints of the four bytes at 0x1000.

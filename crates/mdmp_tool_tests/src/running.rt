@@ -1,5 +1,4 @@
 //! Commands over stores and outputs that fail: what they write, what they tell, and their status.
-use crate::copies::{CRASH, SIX};
 use crate::files::{
     FAULTY, FAULTY_TOLD, FAULTY_VERDICTS, SYSTEM_TEXT, faulty_file, numbers, system_file,
 };
@@ -7,6 +6,7 @@ use crate::pdb::{LINE, RECORD, TEXT, module_file};
 use crate::prints::{CopyEnded, Shown, copy_store_to, print_store};
 use crate::runs::{Ended, LONG, Room, assert_row_ended, start_of};
 use mdmp_source::{MemoryStore, PatchyOut, PatchyStore};
+use mdmp_test_files::{CRASH, SIX};
 use std::alloc::Global;
 use std::process::Abort;
 use std::test::Fail;

@@ -1,0 +1,10 @@
+//! Tests of `mdmp_dump` and `mdmp_writer`, by their public calls alone. Calls whose contracts are long
+//! stand in helpers without a contract, and the tests compare plain values.
+#![tactic(auto)]
+
+#[cfg(test)]
+mod dump;
+#[cfg(test)]
+mod files;
+#[cfg(test)]
+mod writer;

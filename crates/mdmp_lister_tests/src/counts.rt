@@ -1,0 +1,127 @@
+//! Which ranges of memory are counted when a file is opened.
+use crate::files::crowded;
+use crate::given::{What, nameless, range, stream};
+use crate::opening::{chosen, fault, open_and_close};
+use crate::script::{
+    LEAST, ends, fails, finds, gives, has_room, other_in_numbers, other_of_chosen, runs, skips,
+};
+use mdmp_lister::{Choice, FaultKind, OpenFault};
+use mdmp_source::{Extent, MemoryStore, Source};
+use mdmp_test_files::OVERLAPPING;
+use std::test::Fail;
+
+/// A range of four bytes inside the file.
+fn inside(start: u64, offset: u128) -> What {
+    What::Range {
+        start,
+        size: 4,
+        extent: Extent::Inside,
+        offset,
+    }
+}
+
+#[test]
+fn each_list_adds_its_ranges_and_a_repeated_one_again(rt: HostRuntime) -> Result<(), Fail> {
+    // A memory list, one of 64 bits, and the first once more; ABCD and EFGH stand behind them.
+    let numbers = [
+        5, 20, 68, 9, 32, 88, 5, 20, 68, // the directory
+        1, 0x1000, 0, 4, 120, // at 68
+        1, 0, 124, 0, 0x2000, 0, 4, 0, // at 88
+        0x44434241, 0x48474645,
+    ];
+    let script = [
+        has_room(0, 3),
+        gives(stream(0, 5, 20, 68)),
+        gives(range(0, 0x1000, 4, Extent::Inside, 120)),
+        has_room(1, 2),
+        gives(stream(1, 9, 32, 88)),
+        gives(nameless(1, 0, inside(0x2000, 124))),
+        has_room(2, 1),
+        gives(stream(2, 5, 20, 68)),
+        gives(nameless(2, 0, inside(0x1000, 120))),
+        has_room(3, 0),
+        ends(),
+        finds(0x1003, 123, 1),
+        finds(0x2000, 124, 4),
+    ];
+    let other = other_in_numbers(&rt, LEAST, 3, &numbers, &script)?;
+    assert_eq!(rt; other, None);
+    Ok(())
+}
+
+#[test]
+fn list_that_is_not_chosen_is_not_mapped(rt: HostRuntime) -> Result<(), Fail> {
+    for (stream_type, items, ranges) in [(3, 0, 0), (9, 0, 0), (5, 3, 2)] {
+        let script = [
+            has_room(0, ranges),
+            runs(u64::MAX, None, items),
+            has_room(ranges, 0),
+        ];
+        let types = [stream_type];
+        let other = other_of_chosen(&rt, LEAST, 1, &OVERLAPPING, &types, &script)?;
+        assert_eq!(rt; other, None);
+    }
+    Ok(())
+}
+
+#[test]
+fn list_with_a_bad_count_is_opened_and_told_later(rt: HostRuntime) -> Result<(), Fail> {
+    // A memory list of 20 bytes that counts two ranges, and one that counts one.
+    let numbers = [
+        5, 20, 56, 5, 20, 76, 2, 0x1000, 0, 4, 32, 1, 0x2000, 0, 4, 36,
+    ];
+    let script = [
+        has_room(0, 1),
+        gives(stream(0, 5, 20, 56)),
+        fails(fault(None, FaultKind::BadCount, 56, 2)),
+        has_room(0, 1),
+        skips(),
+        gives(stream(1, 5, 20, 76)),
+        gives(nameless(1, 0, inside(0x2000, 36))),
+        ends(),
+        has_room(1, 0),
+        finds(0x2000, 36, 4),
+    ];
+    let other = other_in_numbers(&rt, LEAST, 2, &numbers, &script)?;
+    assert_eq!(rt; other, None);
+    Ok(())
+}
+
+/// What comes of a file of so many ranges that 16,384 entries name.
+#[derive(Clone, Copy, Debug, PartialEq, Eq)]
+struct Refusal {
+    fault: Option<OpenFault>,
+    size: u64,
+    /// Whether the header, the directory and the counts were fetched, and no more.
+    is_fetched: bool,
+    /// The fault where they are not chosen, over the same source.
+    without: Option<OpenFault>,
+}
+
+fn open_crowded(rt: &HostRuntime, ranges: u16) -> Result<Refusal, Fail> {
+    let crowded = crowded(rt, ranges)?;
+    let threads = chosen(&[3])?;
+    let source = Source::new(MemoryStore::new(&crowded));
+    let (fault, source) = open_and_close(rt.alloc(), source, LEAST, Choice::All);
+    let size = source.size();
+    let is_fetched = source.fetched() <= 32 + 28 * 16384;
+    let (without, _) = open_and_close(rt.alloc(), source, LEAST, threads);
+    Ok(Refusal {
+        fault,
+        size,
+        is_fetched,
+        without,
+    })
+}
+
+#[test]
+fn too_many_ranges_are_refused(rt: HostRuntime) -> Result<(), Fail> {
+    let expected = Refusal {
+        fault: Some(OpenFault::TooManyRanges { count: 268451840 }),
+        size: 458804,
+        is_fetched: true,
+        without: None,
+    };
+    assert_eq!(rt; open_crowded(&rt, 16385)?, expected);
+    Ok(())
+}

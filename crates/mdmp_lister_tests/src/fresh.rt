@@ -1,0 +1,29 @@
+//! Whether a lister has given anything yet.
+use crate::files::file;
+use crate::script::LEAST;
+use mdmp_lister::{Choice, Lister};
+use mdmp_source::{MemoryStore, Source, Store};
+use mdmp_test_files::OVERLAPPING;
+use std::alloc::Allocator;
+use std::test::Fail;
+
+/// Whether a lister is fresh before its first answer, and whether behind it.
+fn fresh_around_next<S: Store + Drop, A: Allocator + Copy>(
+    lister: &mut Lister<S, A>,
+) -> (bool, bool) {
+    let before = lister.is_fresh();
+    let _ = lister.next().is_ok();
+    (before, lister.is_fresh())
+}
+
+#[test]
+fn lister_is_fresh_up_to_its_first_answer(rt: HostRuntime) -> Result<(), Fail> {
+    let file = file(&rt, 1, &OVERLAPPING)?;
+    let source = Source::new(MemoryStore::new(&file));
+    let Ok(mut lister) = Lister::open(rt.alloc(), source, LEAST, Choice::All) else {
+        return Err(Fail::from("open"));
+    };
+    let fresh = fresh_around_next(&mut lister);
+    assert_eq!(rt; fresh, (true, false));
+    Ok(())
+}

@@ -1,0 +1,54 @@
+//! Tests of `mdmp_lister`, by its public calls alone.
+//!
+//! `given`, `opening` and `script` make the calls whose contracts are long, in helpers without a
+//! contract; the tests compare what they give, which is plain values.
+#![tactic(auto)]
+
+#[cfg(test)]
+mod addresses;
+#[cfg(test)]
+mod bounds;
+#[cfg(test)]
+mod calls;
+#[cfg(test)]
+mod changes;
+#[cfg(test)]
+mod checks;
+#[cfg(test)]
+mod choices;
+#[cfg(test)]
+mod codeview;
+#[cfg(test)]
+mod counts;
+#[cfg(test)]
+mod faults;
+#[cfg(test)]
+mod files;
+#[cfg(test)]
+mod fresh;
+#[cfg(test)]
+mod given;
+#[cfg(test)]
+mod listings;
+#[cfg(test)]
+mod memory;
+#[cfg(test)]
+mod names;
+#[cfg(test)]
+mod opening;
+#[cfg(test)]
+mod parts;
+#[cfg(test)]
+mod ranges;
+#[cfg(test)]
+mod records;
+#[cfg(test)]
+mod records_left;
+#[cfg(test)]
+mod script;
+#[cfg(test)]
+mod shapes;
+#[cfg(test)]
+mod stores;
+#[cfg(test)]
+mod windows;
