@@ -1,3 +1,4 @@
 pub mod DigitsLemmas
+pub mod EscapeLemmas
 pub mod Rows
 pub mod Utf16

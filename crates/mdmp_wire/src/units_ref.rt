@@ -1,9 +1,10 @@
 //! Units of UTF-16 that are lent.
-ghost use Rattle.std.specs.Prelude.{◌≡◌, ◌==◌, ◌<◌, ◌%◌, length, slice_index, IfOk, IsTrue, ◌↔◌, string_bytes};
+ghost use Rattle.std.specs.Prelude.{◌≡◌, ◌==◌, ◌<◌, ◌≤◌, ◌+◌, ◌-◌, ◌*◌, ◌%◌, ◌++◌, length, slice_index, take, drop, codes, IfOk, IsTrue, ◌↔◌, string_bytes};
 ghost use Rattle.std.proofs.Common.{rules};
 ghost use Rattle.std.specs.Cmp.Lexicographic.{pointwise};
 ghost use Rattle.std.specs.Cmp.Rules.{comparing};
 ghost use Rattle.mdmp_source.specs.Output.{Puts};
+ghost use Rattle.mdmp_wire.specs.Digits.{hex};
 ghost use Rattle.mdmp_wire.specs.Escape.{escaped, escaped_unit, is_plain};
 ghost use Rattle.mdmp_wire.specs.Number.{les};
 ghost use Rattle.mdmp_wire.specs.Units.{units_of, units_in, units_over, plain_units, utf8_of};
@@ -14,6 +15,12 @@ use crate::units::Units;
 use mdmp_source::{Out, OutFailed, write_all};
 use std::alloc::{AllocError, Allocator};
 use std::fmt::{self, Debug};
+
+/// How many units are one write, at most.
+const CHUNK: usize = 64;
+
+/// How long the text of a unit is, at most.
+const ESCAPE: usize = 6;
 
 /// Units of UTF-16, as the `Buffer` of a `MINIDUMP_STRING`, over the bytes that they stand in.
 ///
@@ -89,8 +96,8 @@ impl<'a> UnitsRef<'a> {
     pub fn escape_into<O: Out>(&self, out: &mut O) -> Result<(), OutFailed>
         ensures { Puts result (O.state out.old) (escaped (units_in self.now)) (O.state out.new) }
     {
-        for index in 0..self.len() {
-            put_unit(out, self.get(index))?;
+        for chunk in 0..self.len().div_ceil(CHUNK) {
+            put_chunk(out, *self, CHUNK * chunk)?;
         }
         Ok(())
     }
@@ -153,15 +160,54 @@ fn is_plain(unit: u16) -> bool
     0x20 <= unit && unit <= 0x7e && unit != 0x5c
 }
 
-/// Writes a unit as it is printed.
-fn put_unit<O: Out>(out: &mut O, unit: u16) -> Result<(), OutFailed>
-    ensures { Puts result (O.state out.old) (escaped_unit unit) (O.state out.new) }
+/// Writes the units from an index on, [`CHUNK`] of them at most, as they are printed. They are put
+/// together first, so that they are one write.
+fn put_chunk<O: Out>(out: &mut O, units: UnitsRef<'_>, start: usize) -> Result<(), OutFailed>
+    requires { start < length (units_in units) }
+    ensures { Puts result (O.state out.old) (escaped (take 64 (drop start (units_in units.entry)))) (O.state out.new) }
+{
+    let end = start + (units.len() - start).min(CHUNK);
+    let mut text = [0; ESCAPE * CHUNK];
+    let len = escape_units(&mut text, units, start, end);
+    write_all(out, &text[..len])
+}
+
+/// Puts the texts of the units from one index up to another one behind the other, and answers how
+/// long they are.
+fn escape_units(text: &mut [u8], units: UnitsRef<'_>, start: usize, end: usize) -> usize
+    requires within { start ≤ end × end ≤ length (units_in units) }
+    requires room { 6 * (end - start) ≤ length text.old }
+    ensures text { take result text.new ≡ escaped (take (end - start) (drop start (units_in units.entry))) }
+    ensures within { result ≤ length text.new }
+{
+    let mut len = 0;
+    for index in start..end {
+        len = escape_unit(text, len, units.get(index));
+    }
+    len
+}
+
+/// Puts a unit as it is printed behind the text of this length, and answers how long both are.
+fn escape_unit(text: &mut [u8], len: usize, unit: u16) -> usize
+    requires { len + 6 ≤ length text.old }
+    ensures text { take result text.new ≡ take len text.old ++ escaped_unit unit }
+    ensures within { result ≤ len + 6 }
+    ensures same { length text.new ≡ length text.old }
 {
     if is_plain(unit) {
-        write_all(out, &[unit as u8])
+        text[len] = unit as u8;
+        len + 1
     } else {
-        let mut escape = *b"\\u0000";
-        hex_digits(u64::from(unit), &mut escape[2..]);
-        write_all(out, &escape)
+        text[len..len + ESCAPE].copy_from_slice(&escape_of(unit));
+        len + ESCAPE
     }
+}
+
+/// The text of a unit that is not printed as it is.
+fn escape_of(unit: u16) -> [u8; ESCAPE]
+    ensures { result ≡ codes "\\u" ++ hex 4 unit }
+{
+    let mut text = *b"\\u0000";
+    hex_digits(u64::from(unit), &mut text[2..]);
+    text
 }
