@@ -74,7 +74,7 @@ fn read_next<S: Store + Drop, A: Allocator + Copy>(
 {
     match walk.next_record() {
         Ok(Some(step)) => {
-            push_range(map, &walk.item(step));
+            push_range(map, &walk.item(&step));
             Ok(true)
         }
         Ok(None) => Ok(false),

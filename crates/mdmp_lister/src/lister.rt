@@ -184,13 +184,14 @@ impl<S: Store + Drop, A: Allocator + Copy> Lister<S, A> {
         ensures repeats { (stop : _) → self.old.stop ≡ Some stop → stop_after result ≡ Some stop }
         ensures good { (file : List ℕ) → IsGood self.old.source.store file → IfErr result (λ fault. IsOfSource fault.kind → ⊥) }
     {
-        match self.walk.advance(self.map.free())? {
-            None => Ok(None),
-            Some(step) => {
-                let item = self.walk.item(step);
+        match self.walk.advance(self.map.free()) {
+            Ok(None) => Ok(None),
+            Ok(Some(step)) => {
+                let item = self.walk.item(&step);
                 push_range(&mut self.map, &item);
                 Ok(Some(item))
             }
+            Err(fault) => Err(fault),
         }
     }
 

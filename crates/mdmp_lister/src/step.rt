@@ -46,9 +46,9 @@ fn lent_name(buffer: &[u8], name: NameRead) -> Name<'_>
 }
 
 /// The item of a record, its name lent from the buffer, in a file of `size` bytes.
-pub(crate) fn record_item(read: RecordRead, buffer: &[u8], size: u64) -> Item<'_>
-    requires { IsHeld (length buffer.now) read.name }
-    ensures { IsItemOf size buffer.now (Step.Record read) result }
+pub(crate) fn record_item<'a>(read: &RecordRead, buffer: &'a [u8], size: u64) -> Item<'a>
+    requires { IsHeld (length buffer.now) read.now.name }
+    ensures { IsItemOf size buffer.now (Step.Record read.now) result }
 {
     let (entry, index) = (read.entry, read.index);
     match read.fields {

@@ -121,12 +121,12 @@ impl<S: Store + Drop, A: Allocator + Copy> Walk<S, A> {
     }
 
     /// The item that a step tells, its name lent.
-    pub(crate) fn item(&self, step: Step) -> Item<'_>
-        requires { IsNameHeld (vec_len self.now.name) step }
-        ensures { IsItemOf self.now.meter.source.size self.now.name.items step result }
+    pub(crate) fn item(&self, step: &Step) -> Item<'_>
+        requires { IsNameHeld (vec_len self.now.name) step.now }
+        ensures { IsItemOf self.now.meter.source.size self.now.name.items step.now result }
     {
         match step {
-            Step::Stream(stream) => Item::Stream(stream),
+            Step::Stream(stream) => Item::Stream(*stream),
             Step::Record(read) => record_item(read, &self.name, self.meter.size()),
         }
     }
@@ -171,11 +171,11 @@ impl<S: Store + Drop, A: Allocator + Copy> Walk<S, A> {
         requires stage { IsListing self.old.stage }
         ensures { StepTaken self.old result self.new }
     {
-        match self.next_record() {
-            Ok(Some(step)) => Ok(Some(step)),
-            Ok(None) => Ok(self.next_stream()),
-            Err(fault) => Err(fault),
+        let taken = self.next_record();
+        if let Ok(None) = taken {
+            return Ok(self.next_stream());
         }
+        taken
     }
 
     /// Reads where the records of the current entry stand. A memory list that counts more than `room`
