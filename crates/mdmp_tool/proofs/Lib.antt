@@ -7,6 +7,7 @@ pub mod HexLemmas
 pub mod HexRows
 pub mod Hexing
 pub mod ItemRows
+pub mod LineLemmas
 pub mod Listings
 pub mod PdbRows
 pub mod PlainLines

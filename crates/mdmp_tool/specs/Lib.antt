@@ -9,6 +9,7 @@ pub mod HexRuns
 pub mod HexText
 pub mod HexWords
 pub mod ItemLines
+pub mod Line
 pub mod Lines
 pub mod OptionWords
 pub mod PdbLines

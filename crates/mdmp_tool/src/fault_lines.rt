@@ -6,7 +6,8 @@ ghost use Rattle.mdmp_tool.specs.Pieces.{text_of};
 ghost use Rattle.mdmp_tool.specs.Faults.{source_text, output_text, memory_text, version_text, ranges_text, opening_text, list_fault_text, layout_text, part_text, long_name_text, reading_text, not_copied_text, fault_text};
 
 use crate::fault::{ToolFault, told};
-use crate::pieces::{Piece, put_error_line};
+use crate::line::put_error_line;
+use crate::pieces::Piece;
 use mdmp_dump::{PartName, ReadFault};
 use mdmp_lister::{ListFault, OpenFault};
 use mdmp_source::{Out, OutFailed, SourceFault};

@@ -6,6 +6,8 @@ ghost use Rattle.mdmp_map.specs.Ranges.{address_end};
 ghost use Rattle.mdmp_lister.specs.Addressing.{cell, cells};
 ghost use Rattle.mdmp_tool.specs.HexText.{address_text, cell_text, hex_line, line_text, cells_text};
 
+use crate::line::put_pieces;
+use crate::pieces::Piece;
 use mdmp_source::{Out, OutFailed, write_all};
 use mdmp_wire::hex_digits;
 
@@ -67,18 +69,19 @@ fn put_hex_line<O: Out>(
     requires line { length bytes.now ≤ 16 }
     ensures { Puts result (O.state out.old) (hex_line address (cells bytes.now known.now)) (O.state out.new) }
 {
-    write_all(out, &address_of(address))?;
+    put_address(out, address)?;
     put_cells(out, bytes, known)?;
     write_all(out, b"\n")
 }
 
-/// The text of an address, and a colon.
-fn address_of(address: u64) -> [u8; 19]
-    ensures { result ≡ address_text address }
+/// Prints an address, and a colon.
+fn put_address<O: Out>(out: &mut O, address: u64) -> Result<(), OutFailed>
+    ensures { Puts result (O.state out.old) (address_text address) (O.state out.new) }
 {
-    let mut text = *b"0x0000000000000000:";
-    hex_digits(address, &mut text[2..18]);
-    text
+    put_pieces(
+        out,
+        &[Piece::Text("0x"), Piece::Hex16(address), Piece::Text(":")],
+    )
 }
 
 /// Prints the bytes of a line one behind the other, each behind a space. They are put together first, so

@@ -2,7 +2,8 @@
 ghost use Rattle.mdmp_source.specs.Output.{Puts};
 ghost use Rattle.mdmp_tool.specs.ItemLines.{entry_line, thread_line, module_line, unloaded_line, exception_line, system_line, region_line, range_line, item_line};
 
-use crate::pieces::{Piece, put_pieces};
+use crate::line::put_pieces;
+use crate::pieces::Piece;
 use mdmp_lister::{
     ExceptionItem, Item, MemoryInfoItem, ModuleItem, RangeItem, StreamItem, SystemItem, ThreadItem,
     UnloadedItem,

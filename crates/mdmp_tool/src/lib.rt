@@ -26,6 +26,7 @@ mod hex;
 mod hex_lines;
 mod hex_words;
 mod item_lines;
+mod line;
 mod lines;
 mod list;
 mod option_words;

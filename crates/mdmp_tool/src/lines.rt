@@ -2,7 +2,8 @@
 ghost use Rattle.mdmp_source.specs.Output.{Puts};
 ghost use Rattle.mdmp_tool.specs.Lines.{dump_line};
 
-use crate::pieces::{Piece, put_pieces};
+use crate::line::put_pieces;
+use crate::pieces::Piece;
 use mdmp_source::{Out, OutFailed};
 use mdmp_wire::Header;
 

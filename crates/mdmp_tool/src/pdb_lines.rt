@@ -3,7 +3,8 @@ ghost use Rattle.mdmp_source.specs.Output.{Puts};
 ghost use Rattle.mdmp_wire.specs.CodeView.{codeview_value};
 ghost use Rattle.mdmp_tool.specs.PdbLines.{pdb_line};
 
-use crate::pieces::{Piece, put_pieces};
+use crate::line::put_pieces;
+use crate::pieces::Piece;
 use mdmp_source::{Out, OutFailed};
 use mdmp_wire::CodeView;
 

@@ -1,4 +1,4 @@
-//! A line as its pieces.
+//! The pieces of a line.
 ghost use Rattle.std.specs.Prelude.{◌≡◌, Some};
 ghost use Rattle.std.specs.Fmt.{decimal};
 ghost use Rattle.mdmp_source.specs.Output.{Puts};
@@ -7,8 +7,7 @@ ghost use Rattle.mdmp_wire.specs.Escape.{escaped_byte, escaped_bytes, is_plain};
 ghost use Rattle.mdmp_tool.specs.Faults.{item_text, kind_words, part_words};
 ghost use Rattle.mdmp_tool.specs.ItemLines.{extent_text, name_text, units_text, value_text, values_text, information_text, place_text, size_text, offset_text};
 ghost use Rattle.mdmp_tool.specs.PdbLines.{digits_text, guid_text};
-ghost use Rattle.mdmp_tool.specs.Pieces.{piece_text, text_of};
-ghost use Rattle.mdmp_tool.specs.Lines.{error_line};
+ghost use Rattle.mdmp_tool.specs.Pieces.{piece_text};
 
 use itoa::Buffer;
 use mdmp_dump::PartName;
@@ -300,23 +299,4 @@ pub(crate) fn put_piece<O: Out>(out: &mut O, piece: Piece<'_>) -> Result<(), Out
         Piece::Cut { ended: true } => Ok(()),
         Piece::Cut { ended: false } => write_all(out, b" cut"),
     }
-}
-
-/// Writes the pieces one behind the other.
-pub(crate) fn put_pieces<O: Out>(out: &mut O, pieces: &[Piece<'_>]) -> Result<(), OutFailed>
-    ensures { Puts result (O.state out.old) (text_of pieces.now) (O.state out.new) }
-{
-    for piece in pieces {
-        put_piece(out, *piece)?;
-    }
-    Ok(())
-}
-
-/// Writes the line of a fault: the program's name, and what the pieces say.
-pub(crate) fn put_error_line<O: Out>(out: &mut O, pieces: &[Piece<'_>]) -> Result<(), OutFailed>
-    ensures { Puts result (O.state out.old) (error_line (text_of pieces.now)) (O.state out.new) }
-{
-    put_piece(out, Piece::Text("mdmp: "))?;
-    put_pieces(out, pieces)?;
-    put_piece(out, Piece::Text("\n"))
 }

@@ -4,7 +4,8 @@ ghost use Rattle.mdmp_tool.specs.CheckText.{bad_text, verdict_line};
 ghost use Rattle.mdmp_tool.specs.Lines.{error_line};
 
 use crate::fault_lines::fault_pieces;
-use crate::pieces::{Piece, put_error_line, put_piece, put_pieces};
+use crate::line::{put_error_line, put_pieces};
+use crate::pieces::{Piece, put_piece};
 use mdmp_lister::Verdict;
 use mdmp_source::{Out, OutFailed};
 

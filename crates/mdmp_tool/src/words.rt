@@ -9,7 +9,8 @@ ghost use Rattle.mdmp_tool.specs.Words.{EndsAsked, EndsCommand, EndsCopy, EndsPr
 use crate::asking::request_of;
 use crate::copy::first_not_copied;
 use crate::fault::ToolFault;
-use crate::pieces::{Piece, put_error_line};
+use crate::line::put_error_line;
+use crate::pieces::Piece;
 use crate::request::{Asked, Command, Print, Request};
 use crate::running::{copy_told, print_told, tell};
 use mdmp_lister::{Limits, TypeSet};

@@ -2,14 +2,14 @@ use Rattle.std.proofs.lemmas.Result.{MatchResult-from_err}
 use Rattle.mdmp_source.specs.OutputLaws.{PutsPrefix-behind, PutsPrefix-front, Puts-behind}
 use Rattle.mdmp_tool.proofs.hex_lines.put_hex_line.Goals as goal
 
-pub returns-in_err-write_all : goal.returns-in_err-write_all
-returns-in_err-write_all g c =
-    MatchResult-from_err _ _ _ c.from_residual.ensures.0 (λ _. PutsPrefix-front _ _ _ _ (rw c.address_of.ensures at c.in_err-write_all.ensures))
+pub returns-in_err-put_address : goal.returns-in_err-put_address
+returns-in_err-put_address g c =
+    MatchResult-from_err _ _ _ c.from_residual.ensures.0 (λ _. PutsPrefix-front _ _ _ _ c.in_err-put_address.ensures)
 
 pub returns-in_err-put_cells : goal.returns-in_err-put_cells
 returns-in_err-put_cells g c =
-    MatchResult-from_err _ _ _ c.from_residual-in_err-put_cells.ensures.0 (λ _. PutsPrefix-behind _ _ _ _ _ _ (rw c.address_of.ensures at c.in_ok-write_all.ensures) c.in_err-put_cells.ensures)
+    MatchResult-from_err _ _ _ c.from_residual-in_err-put_cells.ensures.0 (λ _. PutsPrefix-behind _ _ _ _ _ _ c.in_ok-put_address.ensures c.in_err-put_cells.ensures)
 
 pub returns : goal.returns
 returns g c =
-    Puts-behind _ _ _ _ _ _ (rw c.address_of.ensures at c.in_ok-write_all.ensures) (Puts-behind _ _ _ _ _ _ c.in_ok-put_cells.ensures c.write_all-2.ensures)
+    Puts-behind _ _ _ _ _ _ c.in_ok-put_address.ensures (Puts-behind _ _ _ _ _ _ c.in_ok-put_cells.ensures c.write_all.ensures)

@@ -1,6 +1,6 @@
 use Rattle.std.proofs.lemmas.Result.{MatchResult-from_err}
 use Rattle.mdmp_source.specs.OutputLaws.{PutsAll-nothing, PutsPrefix-behind, Puts-behind}
-use Rattle.mdmp_tool.proofs.pieces.put_error_line.Goals as goal
+use Rattle.mdmp_tool.proofs.line.put_error_line.Goals as goal
 
 pub returns-in_err-put_piece : goal.returns-in_err-put_piece
 returns-in_err-put_piece g c =
