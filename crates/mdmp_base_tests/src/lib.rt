@@ -9,6 +9,8 @@
 #[cfg(test)]
 mod map;
 #[cfg(test)]
+mod same;
+#[cfg(test)]
 mod source;
 #[cfg(test)]
 mod wire;

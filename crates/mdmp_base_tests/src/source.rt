@@ -6,6 +6,7 @@ mod stores;
 mod test_stores;
 mod windows;
 
+use crate::same::assert_same;
 use mdmp_source::{Out, OutFailed, PatchyOut, write_all};
 use std::alloc::{AllocError, Global};
 use std::process::Abort;
@@ -27,7 +28,7 @@ fn write_whole<O: Out>(out: &mut O, bytes: &[u8]) -> Result<(), OutFailed> {
 
 /// The output took these bytes.
 fn assert_taken(rt: &impl Abort, out: &PatchyOut<Global>, expected: &[u8]) {
-    assert_eq!(rt; out.bytes(), expected);
+    assert_same(rt, out.bytes(), expected);
 }
 
 /// The output answers each write of these bytes as its row says.

@@ -7,4 +7,6 @@ mod dump;
 #[cfg(test)]
 mod files;
 #[cfg(test)]
+mod same;
+#[cfg(test)]
 mod writer;

@@ -6,6 +6,7 @@ mod round_trip;
 mod vectors;
 mod views;
 
+use crate::same::assert_same;
 use mdmp_dump::{Dump, DumpView};
 use mdmp_source::PatchyOut;
 use mdmp_writer::{LayoutFault, WriteFault, write_dump, written_size};
@@ -51,8 +52,8 @@ fn assert_written(
 ) -> Result<(), Fail> {
     let size = file.len() as u64;
     let mut out = open_out(alloc)?;
-    assert_eq!(rt; size_of(dump), Ok(size));
-    assert_eq!(rt; write_value(dump, &mut out, 64), Ok(size));
-    assert_eq!(rt; out.bytes(), file);
+    assert_same(rt, size_of(dump), Ok(size));
+    assert_same(rt, write_value(dump, &mut out, 64), Ok(size));
+    assert_same(rt, out.bytes(), file);
     Ok(())
 }

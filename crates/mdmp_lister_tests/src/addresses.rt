@@ -1,6 +1,7 @@
 //! What is read of the dumped process's memory.
 use crate::files::file;
 use crate::given::{range, stream};
+use crate::same::assert_same;
 use crate::script::{
     Call, LEAST, Played, ends, gives, has_room, other_in_bytes, other_in_numbers, play, read_fails,
     reads, runs,
@@ -23,7 +24,7 @@ fn nothing_is_known_before_a_range_is_given(rt: HostRuntime) -> Result<(), Fail>
         reads(0x1003, [], []),
     ];
     let other = other_in_numbers(&rt, LEAST, 1, &OVERLAPPING, &script)?;
-    assert_eq!(rt; other, None);
+    assert_same(&rt, other, None);
     Ok(())
 }
 
@@ -36,7 +37,7 @@ fn range_that_was_given_first_decides(rt: HostRuntime) -> Result<(), Fail> {
     for (numbers, bytes) in [(OVERLAPPING, *b"\0ABCDyz\0"), (exchanged, *b"\0ABwxyz\0")] {
         let script = [runs(u64::MAX, None, 3), reads(0xfff, bytes, known)];
         let other = other_in_numbers(&rt, LEAST, 1, &numbers, &script)?;
-        assert_eq!(rt; other, None);
+        assert_same(&rt, other, None);
     }
     Ok(())
 }
@@ -50,7 +51,7 @@ fn range_outside_the_file_is_not_known(rt: HostRuntime) -> Result<(), Fail> {
         reads(0x2000, [0; 2], [false; 2]),
     ];
     let other = other_in_bytes(&rt, LEAST, &MEMORY64, &script)?;
-    assert_eq!(rt; other, None);
+    assert_same(&rt, other, None);
     Ok(())
 }
 
@@ -71,7 +72,7 @@ fn addresses_do_not_wrap(rt: HostRuntime) -> Result<(), Fail> {
         reads(0, [0; 8], [false; 8]),
     ];
     let other = other_in_numbers(&rt, LEAST, 1, &numbers, &script)?;
-    assert_eq!(rt; other, None);
+    assert_same(&rt, other, None);
     Ok(())
 }
 
@@ -99,7 +100,7 @@ fn store_fault_of_a_read_changes_no_item(rt: HostRuntime) -> Result<(), Fail> {
             has_room(2, 0),
         ];
         let played = played(&rt, fail_at, &script)?;
-        assert_eq!(rt; played.other, None);
+        assert_same(&rt, played.other, None);
     }
     Ok(())
 }
@@ -128,11 +129,12 @@ fn read<const N: usize>(rt: &HostRuntime, file: &[u8], address: u64) -> Result<R
 fn each_stretch_of_bytes_is_one_fetch(rt: HostRuntime) -> Result<(), Fail> {
     let file = file(&rt, 1, &OVERLAPPING)?;
     let known = [false, true, true, true, true, true, true, false];
-    assert_eq!(rt; read(&rt, &file, 0xfff)?, (*b"\0ABCDyz\0", known, 2));
-    assert_eq!(rt; read(&rt, &file, 0x1002)?, (*b"CDyz", [true; 4], 2));
-    assert_eq!(rt;
+    assert_same(&rt, read(&rt, &file, 0xfff)?, (*b"\0ABCDyz\0", known, 2));
+    assert_same(&rt, read(&rt, &file, 0x1002)?, (*b"CDyz", [true; 4], 2));
+    assert_same(
+        &rt,
         read(&rt, &file, 0x1004)?,
-        (*b"yz\0", [true, true, false], 1)
+        (*b"yz\0", [true, true, false], 1),
     );
     Ok(())
 }
@@ -150,17 +152,19 @@ fn touching_ranges_are_a_fetch_each_and_a_gap_is_none(rt: HostRuntime) -> Result
         false, true, true, true, true, true, true, true, true, false, false, false, false, true,
         true, false,
     ];
-    assert_eq!(rt;
+    assert_same(
+        &rt,
         read(&rt, &file, 0xfff)?,
-        (*b"\0ABCDEFGH\0\0\0\0IJ\0", known, 3)
+        (*b"\0ABCDEFGH\0\0\0\0IJ\0", known, 3),
     );
-    assert_eq!(rt;
+    assert_same(
+        &rt,
         read(&rt, &file, 0x1006)?,
         (
             *b"GH\0\0\0\0I",
             [true, true, false, false, false, false, true],
-            2
-        )
+            2,
+        ),
     );
     Ok(())
 }
@@ -182,7 +186,7 @@ fn long_range_is_one_fetch(rt: HostRuntime) -> Result<(), Fail> {
         file.extend_from_slice(b"mmmm")?;
     }
     let (bytes, known, fetches) = read::<4096>(&rt, &file, 0x1000)?;
-    assert_eq!(rt; fetches, 1);
+    assert_same(&rt, fetches, 1);
     assert!(rt; known == [true; 4096]);
     assert!(rt; bytes == [b'm'; 4096]);
     Ok(())

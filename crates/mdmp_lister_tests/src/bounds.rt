@@ -1,5 +1,6 @@
 //! What a lister holds and fetches, beside its bounds.
 use crate::files::file;
+use crate::same::assert_same;
 use crate::script::{LEAST, NAMED};
 use linked_list_allocator::LocalHeap;
 use mdmp_lister::{Choice, Counts, Limits, Lister, StopAt};
@@ -56,7 +57,7 @@ fn repeated(rt: &HostRuntime) -> Result<Vec<u8, Global>, Fail> {
 fn list_that_a_thousand_entries_name_counts_a_thousand_times(rt: HostRuntime) -> Result<(), Fail> {
     let repeated = repeated(&rt)?;
     let bound = bound_of(rt.alloc(), &repeated, LEAST);
-    assert_eq!(rt; bound, Some([1000, 0, 4804000, 0, 12168, 4832032]));
+    assert_same(&rt, bound, Some([1000, 0, 4804000, 0, 12168, 4832032]));
     Ok(())
 }
 
@@ -69,12 +70,13 @@ fn long_name_costs_its_length(rt: HostRuntime) -> Result<(), Fail> {
     let named = file(&rt, 1, &numbers)?;
     let limits = Limits::new(168, 8).ok_or("limits")?;
     let (counts, _) = counted(rt.alloc(), MemoryStore::new(&named), limits).ok_or("open")?;
-    assert_eq!(rt; (counts.m, counts.held), (1, 188));
+    assert_same(&rt, (counts.m, counts.held), (1, 188));
     // Header, entry, head, record and the length of the name.
-    assert_eq!(rt; counts.fetched, 32 + 12 + 12 + 24 + 4);
-    assert_eq!(rt;
+    assert_same(&rt, counts.fetched, 32 + 12 + 12 + 24 + 4);
+    assert_same(
+        &rt,
         bound_of(rt.alloc(), &named, limits),
-        Some([1, 0, 36, 1, 188, 108])
+        Some([1, 0, 36, 1, 188, 108]),
     );
     Ok(())
 }
@@ -82,34 +84,35 @@ fn long_name_costs_its_length(rt: HostRuntime) -> Result<(), Fail> {
 #[test]
 fn counts_succeed_and_bound_small_files(rt: HostRuntime) -> Result<(), Fail> {
     let bound = bound_of(rt.alloc(), &EMPTY, LEAST);
-    assert_eq!(rt; bound, Some([0, 0, 0, 0, 168, 32]));
+    assert_same(&rt, bound, Some([0, 0, 0, 0, 168, 32]));
 
     // Three modules behind eight bytes.
     let mut numbers = [0; 85];
     numbers[..4].copy_from_slice(&[4, 328, 44, 3]);
     let padded = file(&rt, 1, &numbers)?;
     let bound = bound_of(rt.alloc(), &padded, LEAST);
-    assert_eq!(rt; bound, Some([1, 0, 328, 0, 180, 388]));
+    assert_same(&rt, bound, Some([1, 0, 328, 0, 180, 388]));
 
     // Two unloaded modules, 1000 bytes apart.
     let mut numbers = [0; 506];
     numbers[..7].copy_from_slice(&[14, 2012, 44, 12, 1000, 2, 1]);
     let spread = file(&rt, 1, &numbers)?;
     let bound = bound_of(rt.alloc(), &spread, LEAST);
-    assert_eq!(rt; bound, Some([1, 0, 2012, 0, 180, 2072]));
+    assert_same(&rt, bound, Some([1, 0, 2012, 0, 180, 2072]));
 
     let thrice = file(&rt, 3, &THRICE)?;
     let bound = bound_of(rt.alloc(), &thrice, LEAST);
-    assert_eq!(rt; bound, Some([3, 0, 156, 0, 204, 272]));
+    assert_same(&rt, bound, Some([3, 0, 156, 0, 204, 272]));
 
     let bound = bound_of(rt.alloc(), &SYSTEM, Limits::default());
-    assert_eq!(rt; bound, Some([1, 0, 56, 1, 69644, 4216]));
+    assert_same(&rt, bound, Some([1, 0, 56, 1, 69644, 4216]));
 
     // Two ranges of 64-bit memory, of which one is read aside.
     let bound = bound_of(rt.alloc(), &MEMORY64, NAMED);
-    assert_eq!(rt;
+    assert_same(
+        &rt,
         bound.map(|[s, r, n, m, ..]| [s, r, n, m]),
-        Some([1, 2, 48, 0])
+        Some([1, 2, 48, 0]),
     );
     Ok(())
 }
@@ -153,7 +156,7 @@ fn calls_for_the_listing_are_counted(rt: HostRuntime) -> Result<(), Fail> {
     let _ = lister.list_into(&mut StopAt::new(u64::MAX));
     let counts = lister.counts();
     // The header and the entry; then the record, the length of its name and its units.
-    assert_eq!(rt; (opened, counts.calls), (2, 5));
-    assert_eq!(rt; lister.into_source().calls(), 5);
+    assert_same(&rt, (opened, counts.calls), (2, 5));
+    assert_same(&rt, lister.into_source().calls(), 5);
     Ok(())
 }

@@ -1,6 +1,7 @@
 //! The lister's calls, one by one.
 use crate::given::{spelled, stream, system, thread};
 use crate::opening::fault;
+use crate::same::assert_same;
 use crate::script::{
     ends, entries, fails, gives, other_in_numbers, other_of_chosen, play, runs, runs_on, skips,
 };
@@ -20,8 +21,8 @@ fn open_succeeds_and_lists(rt: HostRuntime) -> Result<(), Fail> {
     ];
     let store = MemoryStore::new(&SYSTEM);
     let played = play(&rt, store, Limits::default(), Choice::All, &script)?;
-    assert_eq!(rt; played.other, None);
-    assert_eq!(rt; played.size, 136);
+    assert_same(&rt, played.other, None);
+    assert_same(&rt, played.size, 136);
     Ok(())
 }
 
@@ -29,7 +30,7 @@ fn open_succeeds_and_lists(rt: HostRuntime) -> Result<(), Fail> {
 fn types_that_are_not_chosen_are_not_handed_over(rt: HostRuntime) -> Result<(), Fail> {
     let script = [runs(u64::MAX, None, 2)];
     let other = other_of_chosen(&rt, Limits::default(), 3, &FAULTY, &[7], &script)?;
-    assert_eq!(rt; other, None);
+    assert_same(&rt, other, None);
     Ok(())
 }
 
@@ -50,7 +51,7 @@ fn fault_is_answered_until_the_entry_is_skipped(rt: HostRuntime) -> Result<(), F
         &[14, 36, 44, 12, 23, 1, 0, 0, 0, 0, 0, 0],
         &script,
     )?;
-    assert_eq!(rt; other, None);
+    assert_same(&rt, other, None);
     Ok(())
 }
 
@@ -70,7 +71,7 @@ fn skip_entry_leaves_the_next_entry(rt: HostRuntime) -> Result<(), Fail> {
         ends(),
     ];
     let other = other_in_numbers(&rt, Limits::default(), 3, &THRICE, &script)?;
-    assert_eq!(rt; other, None);
+    assert_same(&rt, other, None);
     Ok(())
 }
 
@@ -78,7 +79,7 @@ fn skip_entry_leaves_the_next_entry(rt: HostRuntime) -> Result<(), Fail> {
 fn skip_entry_changes_nothing_before_the_first_item(rt: HostRuntime) -> Result<(), Fail> {
     let script = [skips(), gives(stream(0, 3, 52, 68)), gives(thread(0, 7))];
     let other = other_in_numbers(&rt, Limits::default(), 3, &THRICE, &script)?;
-    assert_eq!(rt; other, None);
+    assert_same(&rt, other, None);
     Ok(())
 }
 
@@ -92,7 +93,7 @@ fn stopped_sink_has_the_item(rt: HostRuntime) -> Result<(), Fail> {
         ends(),
     ];
     let other = other_in_numbers(&rt, Limits::default(), 3, &THRICE, &script)?;
-    assert_eq!(rt; other, None);
+    assert_same(&rt, other, None);
     Ok(())
 }
 
@@ -121,6 +122,6 @@ fn sink_has_the_items_before_a_fault(rt: HostRuntime) -> Result<(), Fail> {
         fails(outside),
     ];
     let other = other_in_numbers(&rt, Limits::default(), 3, &FAULTY, &script)?;
-    assert_eq!(rt; other, None);
+    assert_same(&rt, other, None);
     Ok(())
 }

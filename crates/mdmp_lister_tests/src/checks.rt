@@ -2,6 +2,7 @@
 use crate::files::file;
 use crate::given::stream;
 use crate::opening::chosen;
+use crate::same::assert_same;
 use crate::script::{
     LEAST, checks, ends, fails, finds, gives, has_begun, has_room, other_in_numbers, play, skips,
 };
@@ -97,7 +98,7 @@ fn faulty() -> [Option<Verdict>; 3] {
 fn check_goes_on_behind_a_bad_entry(rt: HostRuntime) -> Result<(), Fail> {
     let [good, name, outside] = faulty();
     let verdicts = [good, name, outside, None];
-    assert_eq!(rt; checked_of(&rt, &FAULTY, &[])?, (None, verdicts));
+    assert_same(&rt, checked_of(&rt, &FAULTY, &[])?, (None, verdicts));
     Ok(())
 }
 
@@ -105,7 +106,7 @@ fn check_goes_on_behind_a_bad_entry(rt: HostRuntime) -> Result<(), Fail> {
 fn entries_that_are_not_chosen_have_no_verdict(rt: HostRuntime) -> Result<(), Fail> {
     let [good, _, outside] = faulty();
     let verdicts = [good, outside, None, None];
-    assert_eq!(rt; checked_of(&rt, &FAULTY, &[10, 7])?, (None, verdicts));
+    assert_same(&rt, checked_of(&rt, &FAULTY, &[10, 7])?, (None, verdicts));
     Ok(())
 }
 
@@ -117,11 +118,11 @@ fn stopped_check_leaves_the_entries_behind_it(rt: HostRuntime) -> Result<(), Fai
         gives(stream(2, 10, 5, 236)),
     ];
     let other = other_in_numbers(&rt, Limits::default(), 3, &FAULTY, &script)?;
-    assert_eq!(rt; other, None);
+    assert_same(&rt, other, None);
 
     let script = [checks(2, Some(RunFault::Stopped), 3), ends()];
     let other = other_in_numbers(&rt, Limits::default(), 3, &THRICE, &script)?;
-    assert_eq!(rt; other, None);
+    assert_same(&rt, other, None);
     Ok(())
 }
 
@@ -129,7 +130,7 @@ fn stopped_check_leaves_the_entries_behind_it(rt: HostRuntime) -> Result<(), Fai
 fn empty_directory_has_no_verdicts(rt: HostRuntime) -> Result<(), Fail> {
     let script = [checks(0, None, 0), ends(), has_begun()];
     let other = other_in_numbers(&rt, LEAST, 0, &[], &script)?;
-    assert_eq!(rt; other, None);
+    assert_same(&rt, other, None);
     Ok(())
 }
 
@@ -170,6 +171,6 @@ fn ranges_of_a_checked_file_are_mapped(rt: HostRuntime) -> Result<(), Fail> {
         ends(),
     ];
     let other = other_in_numbers(&rt, LEAST, 1, &OVERLAPPING, &script)?;
-    assert_eq!(rt; other, None);
+    assert_same(&rt, other, None);
     Ok(())
 }

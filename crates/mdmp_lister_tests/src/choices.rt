@@ -1,4 +1,5 @@
 //! Limits, and which entries are listed.
+use crate::same::assert_same;
 use mdmp_lister::{Choice, Kind, Limits, TypeSet};
 use std::test::Fail;
 
@@ -10,7 +11,7 @@ fn limits_have_bounds(rt: HostRuntime) {
     assert!(rt; Limits::new(168, 0).is_some());
     assert!(rt; Limits::new(1 << 30, 1 << 30).is_some());
     let standard = Limits::default();
-    assert_eq!(rt; (standard.window, standard.name), (65536, 4096));
+    assert_same(&rt, (standard.window, standard.name), (65536, 4096));
 }
 
 /// Whether these types are a set, which has them in order.
@@ -54,7 +55,7 @@ fn eight_stream_types_have_a_kind(rt: HostRuntime) {
         (16, Kind::MemoryInfo),
     ];
     for (stream_type, kind) in known {
-        assert_eq!(rt; Kind::of_type(stream_type), Some(kind));
+        assert_same(&rt, Kind::of_type(stream_type), Some(kind));
     }
     for stream_type in [0, 1, 8, 10, 15, 24, 0x10000, u32::MAX] {
         assert!(rt; Kind::of_type(stream_type).is_none());

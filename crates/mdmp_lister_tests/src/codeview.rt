@@ -10,7 +10,8 @@ use std::alloc::Allocator;
 use std::test::Fail;
 use uuid::Uuid;
 
-/// What a record tells, to be compared.
+/// What a record tells, to be compared: by the macro, since the prover cannot hand on a `Uuid` to a
+/// call in a test that does not name it.
 #[derive(Clone, Copy, Debug, PartialEq)]
 enum Told {
     Rsds {

@@ -2,6 +2,7 @@
 use crate::files::crowded;
 use crate::given::{What, nameless, range, stream};
 use crate::opening::{chosen, fault, open_and_close};
+use crate::same::assert_same;
 use crate::script::{
     LEAST, ends, fails, finds, gives, has_room, other_in_numbers, other_of_chosen, runs, skips,
 };
@@ -45,7 +46,7 @@ fn each_list_adds_its_ranges_and_a_repeated_one_again(rt: HostRuntime) -> Result
         finds(0x2000, 124, 4),
     ];
     let other = other_in_numbers(&rt, LEAST, 3, &numbers, &script)?;
-    assert_eq!(rt; other, None);
+    assert_same(&rt, other, None);
     Ok(())
 }
 
@@ -59,7 +60,7 @@ fn list_that_is_not_chosen_is_not_mapped(rt: HostRuntime) -> Result<(), Fail> {
         ];
         let types = [stream_type];
         let other = other_of_chosen(&rt, LEAST, 1, &OVERLAPPING, &types, &script)?;
-        assert_eq!(rt; other, None);
+        assert_same(&rt, other, None);
     }
     Ok(())
 }
@@ -83,7 +84,7 @@ fn list_with_a_bad_count_is_opened_and_told_later(rt: HostRuntime) -> Result<(),
         finds(0x2000, 36, 4),
     ];
     let other = other_in_numbers(&rt, LEAST, 2, &numbers, &script)?;
-    assert_eq!(rt; other, None);
+    assert_same(&rt, other, None);
     Ok(())
 }
 
@@ -122,6 +123,6 @@ fn too_many_ranges_are_refused(rt: HostRuntime) -> Result<(), Fail> {
         is_fetched: true,
         without: None,
     };
-    assert_eq!(rt; open_crowded(&rt, 16385)?, expected);
+    assert_same(&rt, open_crowded(&rt, 16385)?, expected);
     Ok(())
 }

@@ -1,6 +1,7 @@
 //! Bad files: where a listing ends, and files that are not opened.
 use crate::given::{Named, stream, system};
 use crate::opening::{fault, open_and_close};
+use crate::same::assert_same;
 use crate::script::{LEAST, ends, fails, gives, other_in_numbers};
 use mdmp_lister::{Choice, Fault, FaultKind, Limits, ListFault, OpenFault};
 use mdmp_source::{MemoryStore, Source, SourceFault};
@@ -23,7 +24,7 @@ fn nothing_is_listed_behind_the_first_fault(rt: HostRuntime) -> Result<(), Fail>
         fails(fault),
     ];
     let other = other_in_numbers(&rt, LEAST, 3, &FAULTY, &script)?;
-    assert_eq!(rt; other, None);
+    assert_same(&rt, other, None);
     Ok(())
 }
 
@@ -37,7 +38,7 @@ fn list_that_is_too_short_is_told_behind_its_entry(rt: HostRuntime) -> Result<()
         numbers[..5].copy_from_slice(&[3, size, 44, 1, 7]);
         let script = [gives(stream(0, 3, size, 44)), fails(fault)];
         let other = other_in_numbers(&rt, LEAST, 1, &numbers, &script)?;
-        assert_eq!(rt; other, None);
+        assert_same(&rt, other, None);
     }
     Ok(())
 }
@@ -61,7 +62,7 @@ fn bad_heads_are_told_behind_their_entry(rt: HostRuntime) -> Result<(), Fail> {
         let numbers = [14, 36, 44, first, stride, count, 0, 0, 0, 0, 0, 0];
         let script = [gives(stream(0, 14, 36, 44)), end];
         let other = other_in_numbers(&rt, LEAST, 1, &numbers, &script)?;
-        assert_eq!(rt; other, None);
+        assert_same(&rt, other, None);
     }
     Ok(())
 }
@@ -73,7 +74,7 @@ fn count_of_a_region_list_may_be_any_number(rt: HostRuntime) -> Result<(), Fail>
     let fault = fault(None, FaultKind::BadCount, 52, u64::MAX);
     let script = [gives(stream(0, 16, 16, 44)), fails(fault)];
     let other = other_in_numbers(&rt, LEAST, 1, &numbers, &script)?;
-    assert_eq!(rt; other, None);
+    assert_same(&rt, other, None);
     Ok(())
 }
 
@@ -116,9 +117,9 @@ fn file_that_cannot_be_listed_is_refused(rt: HostRuntime) {
             },
         ),
     ] {
-        assert_eq!(rt; refusal(&rt, file), (Some(expected), true));
+        assert_same(&rt, refusal(&rt, file), (Some(expected), true));
     }
-    assert_eq!(rt; refusal(&rt, &SYSTEM).0, None);
+    assert_same(&rt, refusal(&rt, &SYSTEM).0, None);
 }
 
 #[test]
@@ -129,5 +130,5 @@ fn fault_of_the_store_names_its_place(rt: HostRuntime) {
         offset: 7,
         size: 0,
     };
-    assert_eq!(rt; Fault::from(short), told);
+    assert_same(&rt, Fault::from(short), told);
 }

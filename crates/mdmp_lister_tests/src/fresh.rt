@@ -1,5 +1,6 @@
 //! Whether a lister has given anything yet.
 use crate::files::file;
+use crate::same::assert_same;
 use crate::script::LEAST;
 use mdmp_lister::{Choice, Lister};
 use mdmp_source::{MemoryStore, Source, Store};
@@ -24,6 +25,6 @@ fn lister_is_fresh_up_to_its_first_answer(rt: HostRuntime) -> Result<(), Fail> {
         return Err(Fail::from("open"));
     };
     let fresh = fresh_around_next(&mut lister);
-    assert_eq!(rt; fresh, (true, false));
+    assert_same(&rt, fresh, (true, false));
     Ok(())
 }

@@ -45,6 +45,8 @@ mod records;
 #[cfg(test)]
 mod records_left;
 #[cfg(test)]
+mod same;
+#[cfg(test)]
 mod script;
 #[cfg(test)]
 mod shapes;

@@ -2,6 +2,7 @@
 use crate::files::named;
 use crate::given::{Named, What, nameless, spelled, stream, system, thread, unloaded};
 use crate::opening::{chosen, fault};
+use crate::same::assert_same;
 use crate::script::{
     Answer, Call, LEAST, NAMED, ends, fails, gives, other_in_bytes, other_in_numbers,
     other_of_chosen, play,
@@ -31,7 +32,7 @@ fn other_of_named(
 fn types_that_are_not_chosen_are_not_listed(rt: HostRuntime) -> Result<(), Fail> {
     let store = MemoryStore::new(&SYSTEM);
     let played = play(&rt, store, NAMED, chosen(&[3])?, &[ends()])?;
-    assert_eq!(rt; played.other, None);
+    assert_same(&rt, played.other, None);
     Ok(())
 }
 
@@ -43,7 +44,7 @@ fn what_is_not_chosen_is_not_looked_at(rt: HostRuntime) -> Result<(), Fail> {
         ends(),
     ];
     let other = other_of_chosen(&rt, LEAST, 3, &FAULTY, &[7], &script)?;
-    assert_eq!(rt; other, None);
+    assert_same(&rt, other, None);
     Ok(())
 }
 
@@ -89,7 +90,7 @@ fn name_is_none_or_lent_or_long(rt: HostRuntime) -> Result<(), Fail> {
             ends(),
         ];
         let other = other_of_named(&rt, rva, bytes, &script)?;
-        assert_eq!(rt; other, None);
+        assert_same(&rt, other, None);
     }
     Ok(())
 }
@@ -116,7 +117,7 @@ fn bad_name_ends_the_listing(rt: HostRuntime) -> Result<(), Fail> {
             fails(fault(Some(0), kind, offset, size)),
         ];
         let other = other_of_named(&rt, 80, bytes, &script)?;
-        assert_eq!(rt; other, None);
+        assert_same(&rt, other, None);
     }
     Ok(())
 }
@@ -139,7 +140,7 @@ fn parts_of_a_thread_are_classified(rt: HostRuntime) -> Result<(), Fail> {
             ends(),
         ];
         let other = other_in_numbers(&rt, LEAST, 1, &numbers[..count], &script)?;
-        assert_eq!(rt; other, None);
+        assert_same(&rt, other, None);
     }
     Ok(())
 }
@@ -153,7 +154,7 @@ fn padded_list_is_listed(rt: HostRuntime) -> Result<(), Fail> {
         numbers[place] = 7;
         let script = [gives(stream(0, 3, size, 44)), gives(thread(0, id)), ends()];
         let other = other_in_numbers(&rt, LEAST, 1, &numbers, &script)?;
-        assert_eq!(rt; other, None);
+        assert_same(&rt, other, None);
     }
     Ok(())
 }

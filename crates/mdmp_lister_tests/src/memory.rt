@@ -1,6 +1,7 @@
 //! The memory that a lister takes.
 use crate::files::{crowded, file};
 use crate::opening::{Outcome, all, chosen, open_and_close, run_over};
+use crate::same::assert_same;
 use crate::script::LEAST;
 use linked_list_allocator::LocalHeap;
 use mdmp_lister::{Choice, Limits, Lister, OpenFault, StopAt};
@@ -90,10 +91,10 @@ fn fault_of_threads(
 fn open_succeeds_with_ample_memory(rt: HostRuntime) -> Result<(), Fail> {
     let file = file(&rt, 1, &OVERLAPPING)?;
     let report = report_of(&rt, 1 << 20, Limits::default(), &file)?;
-    assert_eq!(rt; report.outcome, all(3, 2));
+    assert_same(&rt, report.outcome, all(3, 2));
     // What is listed takes no more.
     let (opened, listed) = used_in(&rt, 1 << 20, Limits::default(), &file)?;
-    assert_eq!(rt; opened, listed);
+    assert_same(&rt, opened, listed);
     Ok(())
 }
 
@@ -135,8 +136,8 @@ fn want_of_memory_hands_the_source_back(rt: HostRuntime) -> Result<(), Fail> {
         assert_eq!(rt; report_of(&rt, size, LIMITS, &file)?, expected, "at {size}");
     }
     let report = report_of(&rt, 240, LIMITS, &file)?;
-    assert_eq!(rt; report.outcome, all(4, 0));
-    assert_eq!(rt; used_in(&rt, 240, LIMITS, &file)?, (240, 240));
+    assert_same(&rt, report.outcome, all(4, 0));
+    assert_same(&rt, used_in(&rt, 240, LIMITS, &file)?, (240, 240));
     Ok(())
 }
 
@@ -145,13 +146,13 @@ fn memory_is_that_of_four_lists(rt: HostRuntime) -> Result<(), Fail> {
     // A directory of 48 bytes, and a map of two ranges of 24.
     let file = file(&rt, 4, &FOUR)?;
     let report = report_of(&rt, 272, LIMITS, &file)?;
-    assert_eq!(rt; report.outcome, Outcome::Refused(OpenFault::Memory));
-    assert_eq!(rt; (report.size, report.ample), (116, None));
+    assert_same(&rt, report.outcome, Outcome::Refused(OpenFault::Memory));
+    assert_same(&rt, (report.size, report.ample), (116, None));
     let report = report_of(&rt, 288, LIMITS, &file)?;
-    assert_eq!(rt; report.outcome, all(6, 0));
-    assert_eq!(rt; used_in(&rt, 288, LIMITS, &file)?, (288, 288));
+    assert_same(&rt, report.outcome, all(6, 0));
+    assert_same(&rt, used_in(&rt, 288, LIMITS, &file)?, (288, 288));
     // A list that is not chosen takes none.
-    assert_eq!(rt; fault_of_threads(&rt, 240, &file)?, None);
+    assert_same(&rt, fault_of_threads(&rt, 240, &file)?, None);
     Ok(())
 }
 
@@ -162,8 +163,8 @@ fn most_ranges_are_not_too_many(rt: HostRuntime) -> Result<(), Fail> {
     let heap = LocalHeap::new(rt.alloc(), 12 * 16384 + 192)?;
     let source = Source::new(MemoryStore::new(&crowded));
     let (fault, source) = open_and_close(&heap, source, LIMITS, Choice::All);
-    assert_eq!(rt; fault, Some(OpenFault::Memory));
-    assert_eq!(rt; source.fetched(), 32 + 16 * 16384);
+    assert_same(&rt, fault, Some(OpenFault::Memory));
+    assert_same(&rt, source.fetched(), 32 + 16 * 16384);
     Ok(())
 }
 
@@ -174,6 +175,6 @@ fn directory_of_many_entries_is_opened(rt: HostRuntime) -> Result<(), Fail> {
     let unused = file(&rt, 100_000, &numbers)?;
     let source = Source::new(MemoryStore::new(&unused));
     let (outcome, _) = run_over(rt.alloc(), source, LEAST, Choice::All);
-    assert_eq!(rt; outcome, all(100_000, 0));
+    assert_same(&rt, outcome, all(100_000, 0));
     Ok(())
 }

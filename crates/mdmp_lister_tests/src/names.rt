@@ -1,5 +1,6 @@
 //! The name at an address of a file.
 use crate::given::{Named, plain_name, spelled};
+use crate::same::assert_same;
 use mdmp_lister::{Fault, FaultKind, name_at};
 use std::test::Fail;
 
@@ -29,23 +30,23 @@ fn bad(kind: FaultKind, offset: u64, size: u64) -> Result<Named, Fault> {
 #[test]
 fn name_of_the_limit_is_lent(rt: HostRuntime) -> Result<(), Fail> {
     let file = bytes_of(*b"\x08\0\0\0a\0b\0c\0d\0");
-    assert_eq!(rt; name(&rt, &file[..16], 4, 8)?, Ok(spelled("abcd")));
+    assert_same(&rt, name(&rt, &file[..16], 4, 8)?, Ok(spelled("abcd")));
     Ok(())
 }
 
 #[test]
 fn name_of_no_units_is_a_name(rt: HostRuntime) -> Result<(), Fail> {
     let file = bytes_of([0; 4]);
-    assert_eq!(rt; name(&rt, &file[..8], 4, 8)?, Ok(spelled("")));
-    assert_eq!(rt; name(&rt, &file[..8], 0, 8)?, Ok(Named::None));
+    assert_same(&rt, name(&rt, &file[..8], 4, 8)?, Ok(spelled("")));
+    assert_same(&rt, name(&rt, &file[..8], 0, 8)?, Ok(Named::None));
     Ok(())
 }
 
 #[test]
 fn name_over_the_limit_is_long(rt: HostRuntime) -> Result<(), Fail> {
     let file = bytes_of(*b"\x0a\0\0\0a\0b\0c\0d\0e\0");
-    assert_eq!(rt; name(&rt, &file[..18], 4, 8)?, Ok(Named::Long(10)));
-    assert_eq!(rt; name(&rt, &file[..18], 4, 10)?, Ok(spelled("abcde")));
+    assert_same(&rt, name(&rt, &file[..18], 4, 8)?, Ok(Named::Long(10)));
+    assert_same(&rt, name(&rt, &file[..18], 4, 10)?, Ok(spelled("abcde")));
     Ok(())
 }
 
@@ -66,7 +67,7 @@ fn bad_names_are_told_in_order(rt: HostRuntime) -> Result<(), Fail> {
             bad(FaultKind::NameLengthOutside, 4294967295, 4),
         ),
     ] {
-        assert_eq!(rt; name(&rt, file, at, 8)?, expected);
+        assert_same(&rt, name(&rt, file, at, 8)?, expected);
     }
     Ok(())
 }

@@ -1,6 +1,7 @@
 //! Bytes of the file that are read beside the listing.
 use crate::files::file;
 use crate::given::{range, stream};
+use crate::same::assert_same;
 use crate::script::{
     LEAST, ends, gives, has_numbers, has_part, has_room, other_in_bytes, part_fails, part_outside,
     play,
@@ -28,7 +29,7 @@ fn part_is_read_between_items_and_counted_aside(rt: HostRuntime) -> Result<(), F
         has_numbers(98, 27),
     ];
     let other = other_in_bytes(&rt, LEAST, &MEMORY64, &script)?;
-    assert_eq!(rt; other, None);
+    assert_same(&rt, other, None);
     Ok(())
 }
 
@@ -42,7 +43,7 @@ fn size_tells_what_lies_inside(rt: HostRuntime) -> Result<(), Fail> {
         has_numbers(98, 0),
     ];
     let other = other_in_bytes(&rt, LEAST, &MEMORY64, &script)?;
-    assert_eq!(rt; other, None);
+    assert_same(&rt, other, None);
     Ok(())
 }
 
@@ -66,7 +67,7 @@ fn store_fault_of_a_part_changes_no_item(rt: HostRuntime) -> Result<(), Fail> {
             has_numbers(88, 12),
         ];
         let played = play(&rt, store, LEAST, Choice::All, &script)?;
-        assert_eq!(rt; played.other, None);
+        assert_same(&rt, played.other, None);
     }
     Ok(())
 }

@@ -1,5 +1,6 @@
 //! Which ranges of memory are mapped as they are given.
 use crate::given::{Given, range, stream};
+use crate::same::assert_same;
 use crate::script::{
     LEAST, ends, finds, finds_nothing, gives, has_room, other_in_bytes, other_in_numbers, runs,
     runs_on, skips,
@@ -34,7 +35,7 @@ fn ranges_are_mapped_as_they_are_given(rt: HostRuntime) -> Result<(), Fail> {
         finds(0x1004, 86, 2),
     ];
     let other = other_in_numbers(&rt, LEAST, 1, &OVERLAPPING, &script)?;
-    assert_eq!(rt; other, None);
+    assert_same(&rt, other, None);
     Ok(())
 }
 
@@ -56,7 +57,7 @@ fn ranges_without_bytes_in_the_file_are_not_mapped(rt: HostRuntime) -> Result<()
         finds_nothing(0x5000),
     ];
     let other = other_in_numbers(&rt, LEAST, 1, &numbers, &script)?;
-    assert_eq!(rt; other, None);
+    assert_same(&rt, other, None);
 
     let script = [
         runs(u64::MAX, None, 3),
@@ -65,7 +66,7 @@ fn ranges_without_bytes_in_the_file_are_not_mapped(rt: HostRuntime) -> Result<()
         finds_nothing(0x2000),
     ];
     let other = other_in_bytes(&rt, LEAST, &MEMORY64, &script)?;
-    assert_eq!(rt; other, None);
+    assert_same(&rt, other, None);
     Ok(())
 }
 
@@ -79,7 +80,7 @@ fn list_into_maps_what_it_hands_over(rt: HostRuntime) -> Result<(), Fail> {
         has_room(2, 0),
     ];
     let other = other_in_numbers(&rt, LEAST, 1, &OVERLAPPING, &script)?;
-    assert_eq!(rt; other, None);
+    assert_same(&rt, other, None);
     Ok(())
 }
 
@@ -100,7 +101,7 @@ fn ranges_that_were_skipped_are_not_mapped(rt: HostRuntime) -> Result<(), Fail> 
     ];
     for script in [none.as_slice(), one.as_slice(), both.as_slice()] {
         let other = other_in_numbers(&rt, LEAST, 1, &OVERLAPPING, script)?;
-        assert_eq!(rt; other, None);
+        assert_same(&rt, other, None);
     }
     Ok(())
 }

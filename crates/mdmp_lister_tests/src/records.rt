@@ -1,5 +1,6 @@
 //! The items of whole files, of each kind of record.
 use crate::given::{Given, Named, What, nameless, range, stream, thread, unloaded};
+use crate::same::assert_same;
 use crate::script::{LEAST, ends, gives, other_in_bytes, other_in_numbers};
 use mdmp_source::Extent;
 use mdmp_test_files::{MEMORY64, THRICE};
@@ -28,7 +29,7 @@ fn list_that_three_entries_name_is_listed_thrice(rt: HostRuntime) -> Result<(), 
         ends(),
     ];
     let other = other_in_numbers(&rt, LEAST, 3, &THRICE, &script)?;
-    assert_eq!(rt; other, None);
+    assert_same(&rt, other, None);
     Ok(())
 }
 
@@ -48,7 +49,7 @@ fn modules_stand_one_behind_the_other(rt: HostRuntime) -> Result<(), Fail> {
         ends(),
     ];
     let other = other_in_numbers(&rt, LEAST, 1, &numbers, &script)?;
-    assert_eq!(rt; other, None);
+    assert_same(&rt, other, None);
     Ok(())
 }
 
@@ -65,7 +66,7 @@ fn records_stand_as_far_apart_as_their_list_says(rt: HostRuntime) -> Result<(), 
         ends(),
     ];
     let other = other_in_numbers(&rt, LEAST, 1, &numbers, &script)?;
-    assert_eq!(rt; other, None);
+    assert_same(&rt, other, None);
     Ok(())
 }
 
@@ -78,7 +79,7 @@ fn ranges_of_a_list_stand_one_behind_the_other(rt: HostRuntime) -> Result<(), Fa
         ends(),
     ];
     let other = other_in_bytes(&rt, LEAST, &MEMORY64, &script)?;
-    assert_eq!(rt; other, None);
+    assert_same(&rt, other, None);
     Ok(())
 }
 
@@ -97,7 +98,7 @@ fn offsets_of_ranges_may_pass_any_file(rt: HostRuntime) -> Result<(), Fail> {
         ends(),
     ];
     let other = other_in_numbers(&rt, LEAST, 1, &numbers, &script)?;
-    assert_eq!(rt; other, None);
+    assert_same(&rt, other, None);
     Ok(())
 }
 
@@ -112,7 +113,7 @@ fn range_of_a_memory_list_is_inside_or_outside(rt: HostRuntime) -> Result<(), Fa
         ends(),
     ];
     let other = other_in_numbers(&rt, LEAST, 1, &numbers, &script)?;
-    assert_eq!(rt; other, None);
+    assert_same(&rt, other, None);
     Ok(())
 }
 
@@ -137,7 +138,7 @@ fn region_is_listed_with_its_numbers(rt: HostRuntime) -> Result<(), Fail> {
         ends(),
     ];
     let other = other_in_numbers(&rt, LEAST, 1, &numbers, &script)?;
-    assert_eq!(rt; other, None);
+    assert_same(&rt, other, None);
     Ok(())
 }
 
@@ -160,7 +161,7 @@ fn exception_is_listed_and_a_thread_behind_it(rt: HostRuntime) -> Result<(), Fai
         ends(),
     ];
     let other = other_in_numbers(&rt, LEAST, 2, &numbers, &script)?;
-    assert_eq!(rt; other, None);
+    assert_same(&rt, other, None);
     Ok(())
 }
 
@@ -168,7 +169,7 @@ fn exception_is_listed_and_a_thread_behind_it(rt: HostRuntime) -> Result<(), Fai
 fn unused_entry_is_listed_as_it_stands(rt: HostRuntime) -> Result<(), Fail> {
     let script = [gives(stream(0, 0, 7, 4294967295)), ends()];
     let other = other_in_numbers(&rt, LEAST, 1, &[0, 7, 4294967295], &script)?;
-    assert_eq!(rt; other, None);
+    assert_same(&rt, other, None);
 
     // And one of a type that has no records, behind it.
     let script = [
@@ -177,6 +178,6 @@ fn unused_entry_is_listed_as_it_stands(rt: HostRuntime) -> Result<(), Fail> {
         ends(),
     ];
     let other = other_in_numbers(&rt, LEAST, 2, &[0, 7, 4294967295, 10, 4, 32], &script)?;
-    assert_eq!(rt; other, None);
+    assert_same(&rt, other, None);
     Ok(())
 }

@@ -1,5 +1,6 @@
 //! How many records of the current entry are still to come.
 use crate::given::{Given, What, nameless, stream};
+use crate::same::assert_same;
 use crate::script::{LEAST, ends, gives, has_records_left, other_in_numbers, skips};
 use mdmp_source::Extent;
 use std::test::Fail;
@@ -38,7 +39,7 @@ fn records_left_are_told_once_the_first_was_given(rt: HostRuntime) -> Result<(),
         has_records_left(0),
     ];
     let other = other_in_numbers(&rt, LEAST, 2, &THREE, &script)?;
-    assert_eq!(rt; other, None);
+    assert_same(&rt, other, None);
     Ok(())
 }
 
@@ -54,6 +55,6 @@ fn no_record_is_left_of_an_entry_that_is_skipped(rt: HostRuntime) -> Result<(), 
         ends(),
     ];
     let other = other_in_numbers(&rt, LEAST, 2, &THREE, &script)?;
-    assert_eq!(rt; other, None);
+    assert_same(&rt, other, None);
     Ok(())
 }

@@ -1,4 +1,5 @@
 //! Where the records of a stream stand.
+use crate::same::assert_same;
 use mdmp_lister::{Fault, FaultKind, Kind, Shape, shape_of};
 use mdmp_source::Location;
 
@@ -53,7 +54,7 @@ fn list_is_padded_where_four_bytes_are_left(rt: HostRuntime) {
         (Kind::Memory, 24, one, stands(8, 16, 1)),
         (Kind::Memory, 8, head(0, 0, 0), stands(8, 16, 0)),
     ] {
-        assert_eq!(rt; shape(kind, size, head), expected);
+        assert_same(&rt, shape(kind, size, head), expected);
     }
 }
 
@@ -71,7 +72,7 @@ fn single_records_have_no_count(rt: HostRuntime) {
         (Kind::System, 56, any, stands(0, 56, 1)),
         (Kind::System, 55, any, bad(FaultKind::ShortStream, 4, 55)),
     ] {
-        assert_eq!(rt; shape(kind, size, head), expected);
+        assert_same(&rt, shape(kind, size, head), expected);
     }
 }
 
@@ -119,7 +120,7 @@ fn sized_lists_say_where_their_records_stand(rt: HostRuntime) {
             bad(FaultKind::BadEntrySize, 8, 47),
         ),
     ] {
-        assert_eq!(rt; shape(kind, size, head), expected);
+        assert_same(&rt, shape(kind, size, head), expected);
     }
 }
 
@@ -130,7 +131,7 @@ fn stream_of_no_bytes_is_too_short_wherever_it_is(rt: HostRuntime) {
         rva: u32::MAX,
     };
     let shape = shape_of(b"", nowhere, Kind::Threads);
-    assert_eq!(rt; shape, bad(FaultKind::ShortStream, 4294967295, 0));
+    assert_same(&rt, shape, bad(FaultKind::ShortStream, 4294967295, 0));
 }
 
 #[test]
@@ -152,6 +153,6 @@ fn counts_are_compared_without_wrapping(rt: HostRuntime) {
             bad(FaultKind::ShortStream, 4, 15),
         ),
     ] {
-        assert_eq!(rt; shape(kind, size, head), expected);
+        assert_same(&rt, shape(kind, size, head), expected);
     }
 }

@@ -1,6 +1,7 @@
 //! A lister over stores that give few bytes a call, or fail.
 use crate::given::{range, spelled, stream, system};
 use crate::opening::{fault, open_and_close};
+use crate::same::assert_same;
 use crate::script::{Call, LEAST, NAMED, Played, ends, fails, gives, play, runs, skips};
 use mdmp_lister::{Choice, FaultKind, Limits, OpenFault, RunFault};
 use mdmp_source::{Extent, PatchyStore, Source, SourceFault};
@@ -27,7 +28,7 @@ fn one_byte_a_call_gives_the_same_items(rt: HostRuntime) -> Result<(), Fail> {
         ends(),
     ];
     let played = play(&rt, store, NAMED, Choice::All, &script)?;
-    assert_eq!(rt; played.other, None);
+    assert_same(&rt, played.other, None);
 
     let store = PatchyStore::new(&MEMORY64, &[1, 3], None);
     let script = [
@@ -37,7 +38,7 @@ fn one_byte_a_call_gives_the_same_items(rt: HostRuntime) -> Result<(), Fail> {
         ends(),
     ];
     let played = play(&rt, store, LEAST, Choice::All, &script)?;
-    assert_eq!(rt; played.other, None);
+    assert_same(&rt, played.other, None);
     Ok(())
 }
 
@@ -57,7 +58,7 @@ fn store_that_fails_at_once_is_handed_back(rt: HostRuntime) {
         (0, None, SourceFault::ShortRead { at: 0 }),
     ] {
         let expected = (Some(OpenFault::Source(fault)), 136);
-        assert_eq!(rt; refusal(&rt, cap, fail_at), expected);
+        assert_same(&rt, refusal(&rt, cap, fail_at), expected);
     }
 }
 
@@ -86,7 +87,7 @@ fn store_fault_stands_for_good(rt: HostRuntime) -> Result<(), Fail> {
             other: None,
             size: 136,
         };
-        assert_eq!(rt; played(&rt, &caps, fail_at, &script)?, expected);
+        assert_same(&rt, played(&rt, &caps, fail_at, &script)?, expected);
     }
     Ok(())
 }

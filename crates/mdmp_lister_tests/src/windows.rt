@@ -3,6 +3,7 @@
 use crate::files::file;
 use crate::given::{Named, stream, unloaded};
 use crate::opening::fault;
+use crate::same::assert_same;
 use crate::script::{LEAST, ends, gives, other_in_numbers, play};
 use mdmp_lister::{Choice, Counts, FaultKind, Limits, Lister, RunFault, StopAt};
 use mdmp_source::{MemoryStore, PatchyStore, Source, SourceFault, Store};
@@ -41,13 +42,13 @@ fn stream_that_fits_the_window_is_one_fetch(rt: HostRuntime) -> Result<(), Fail>
     // 100 modules.
     let mut numbers = [0; 2704];
     numbers[..4].copy_from_slice(&[4, 10804, 44, 100]);
-    assert_eq!(rt; spent(&rt, 65536, &numbers)?, (3, 44 + 10804));
+    assert_same(&rt, spent(&rt, 65536, &numbers)?, (3, 44 + 10804));
 
     // Three of them, two of which have no room in the least window.
     let mut numbers = [0; 85];
     numbers[..4].copy_from_slice(&[4, 328, 44, 3]);
-    assert_eq!(rt; spent(&rt, 65536, &numbers)?, (3, 44 + 328));
-    assert_eq!(rt; spent(&rt, 168, &numbers)?, (5, 44 + 328));
+    assert_same(&rt, spent(&rt, 65536, &numbers)?, (3, 44 + 328));
+    assert_same(&rt, spent(&rt, 168, &numbers)?, (5, 44 + 328));
     Ok(())
 }
 
@@ -59,16 +60,16 @@ fn names_leave_the_window_as_it_is(rt: HostRuntime) -> Result<(), Fail> {
     numbers[9] = 264;
     numbers[36] = 264;
     numbers[58..].copy_from_slice(&[4, 0x00620061]);
-    assert_eq!(rt; spent(&rt, 65536, &numbers)?, (3 + 4, 44 + 220 + 16));
-    assert_eq!(rt; spent(&rt, 168, &numbers)?, (4 + 4, 44 + 220 + 16));
+    assert_same(&rt, spent(&rt, 65536, &numbers)?, (3 + 4, 44 + 220 + 16));
+    assert_same(&rt, spent(&rt, 168, &numbers)?, (4 + 4, 44 + 220 + 16));
     Ok(())
 }
 
 #[test]
 fn long_stride_is_jumped_over(rt: HostRuntime) -> Result<(), Fail> {
-    assert_eq!(rt; spent(&rt, 168, &APART_24)?, (3, 44 + 60));
+    assert_same(&rt, spent(&rt, 168, &APART_24)?, (3, 44 + 60));
     // The head and what the window holds behind it, and the second record alone.
-    assert_eq!(rt; spent(&rt, 168, &apart_1000())?, (4, 44 + 168 + 168));
+    assert_same(&rt, spent(&rt, 168, &apart_1000())?, (4, 44 + 168 + 168));
     for (numbers, second) in [(&APART_24[..], 60), (&apart_1000(), 2012)] {
         let script = [
             gives(stream(0, 14, second, 44)),
@@ -77,7 +78,7 @@ fn long_stride_is_jumped_over(rt: HostRuntime) -> Result<(), Fail> {
             ends(),
         ];
         let other = other_in_numbers(&rt, LEAST, 1, numbers, &script)?;
-        assert_eq!(rt; other, None);
+        assert_same(&rt, other, None);
     }
     Ok(())
 }
@@ -96,7 +97,7 @@ fn fill_that_fails_leaves_the_records_that_are_held(rt: HostRuntime) -> Result<(
         let mut sink = StopAt::new(u64::MAX);
         let ended = lister.list_into(&mut sink).err();
         let failed = FaultKind::Source(SourceFault::Failed { at });
-        assert_eq!(rt; ended, Some(RunFault::At(fault(None, failed, at, 0))));
+        assert_same(&rt, ended, Some(RunFault::At(fault(None, failed, at, 0))));
         assert_eq!(rt; sink.calls(), items, "at {fail_at}");
     }
     Ok(())

@@ -2,6 +2,7 @@
 use crate::files::{FAULTY, bad_name, faulty_file};
 use crate::memory_files::{WIDE_TEXT, wide_file};
 use crate::runs::{FOUR, Room, assert_printed, hex_blocks, list_blocks, start_of};
+use crate::same::assert_same;
 use mdmp_tool::ToolFault;
 use std::test::Fail;
 
@@ -34,7 +35,7 @@ fn refused_last_block_is_told_in_place_of_the_fault(rt: HostRuntime) -> Result<(
     let start = start_of(FAULTY, 100)?;
     assert_printed(&rt, &listed.printed, Some(ToolFault::Out), start);
     // The header, three entries, the system, the count of the modules and the first one.
-    assert_eq!(rt; listed.fetched, 236);
+    assert_same(&rt, listed.fetched, 236);
     Ok(())
 }
 
@@ -45,7 +46,7 @@ fn blocks_bring_the_same_bytes(rt: HostRuntime) -> Result<(), Fail> {
         let counted = hex_blocks(rt.alloc(), &bytes, FOUR, block, BY_NINE)?;
         assert_printed(&rt, &counted.printed, None, WIDE_TEXT);
         // The header, an entry, the head of the list, the list, and four bytes.
-        assert_eq!(rt; counted.fetched, 112);
+        assert_same(&rt, counted.fetched, 112);
     }
     Ok(())
 }

@@ -2,6 +2,7 @@
 use crate::checks::{assert_checked, check_blocks, check_counted, check_store};
 use crate::files::{FAULTY_VERDICTS, faulty_file, head, system_file};
 use crate::runs::{BY_SEVEN, BY_WHOLE, Room, least, start_of};
+use crate::same::assert_same;
 use linked_list_allocator::LocalHeap;
 use mdmp_source::{MemoryStore, PatchyStore, SourceFault};
 use mdmp_tool::{OpenFault, ToolFault};
@@ -31,7 +32,7 @@ fn check_source_succeeds(rt: HostRuntime) -> Result<(), Fail> {
     let (checked, fetched) = check_counted(rt.alloc(), &bytes, BY_SEVEN)?;
     assert_checked(&rt, 0, &checked, Ok(2), FAULTY_VERDICTS);
     // The header, three entries, the system, the count of the modules and the first one.
-    assert_eq!(rt; fetched, 236);
+    assert_same(&rt, fetched, 236);
     Ok(())
 }
 

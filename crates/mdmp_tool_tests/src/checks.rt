@@ -3,6 +3,7 @@
 //! No function that a test calls here has a contract, so that the test knows nothing of what it did,
 //! and its own proof stays short.
 use crate::runs::{Room, empty_out, text_in};
+use crate::same::assert_same_at;
 use mdmp_source::{BlockOut, MemoryStore, Source, Store};
 use mdmp_tool::{Answered, Limits, ToolFault, check_in_blocks, check_source, run_check};
 use std::alloc::{Allocator, Global};
@@ -24,8 +25,8 @@ pub fn assert_checked(
     answer: Result<u64, ToolFault>,
     text: &str,
 ) {
-    assert_eq!(rt; checked.answer, answer, "at {row}");
-    assert_eq!(rt; checked.text.as_str(), text, "at {row}");
+    assert_same_at(rt, &row, checked.answer, answer);
+    assert_same_at(rt, &row, checked.text.as_str(), text);
 }
 
 /// Checks a store with memory of this heap.

@@ -3,6 +3,7 @@
 //! No function that a test calls here has a contract, so that the test knows nothing of what it did,
 //! and its own proof stays short.
 use crate::runs::{Room, empty_out};
+use crate::same::assert_same_at;
 use mdmp_source::{Source, Store};
 use mdmp_tool::{Answered, Limits, ToolFault, TypeSet, copy_source, run_copy};
 use std::alloc::{Allocator, Global};
@@ -27,8 +28,8 @@ pub fn assert_wrote(
     answer: Result<u64, ToolFault>,
     bytes: &[u8],
 ) {
-    assert_eq!(rt; wrote.answer, answer, "at {row}");
-    assert_eq!(rt; wrote.bytes.as_slice(), bytes, "at {row}");
+    assert_same_at(rt, &row, wrote.answer, answer);
+    assert_same_at(rt, &row, wrote.bytes.as_slice(), bytes);
 }
 
 fn chosen(types: &[u32]) -> Result<TypeSet, Fail> {

@@ -2,6 +2,7 @@
 use crate::copies::{ALL, assert_wrote, copy_calls, copy_store};
 use crate::files::{entry, file, head, numbers, system_file};
 use crate::runs::{Room, least};
+use crate::same::{assert_same, assert_same_at};
 use linked_list_allocator::LocalHeap;
 use mdmp_source::{MemoryStore, PatchyStore, Source, SourceFault};
 use mdmp_test_files::{ABSENT_STACK, CRASH, SIX};
@@ -82,7 +83,7 @@ fn type_that_is_not_copied_is_refused_before_the_store_is_read(
         let source = Source::new(PatchyStore::new(b"MDMP", &[1], Some(0)));
         let (wrote, calls) = copy_calls(rt.alloc(), source, types)?;
         assert_wrote(&rt, 0, &wrote, Err(ToolFault::NotCopied(first)), b"");
-        assert_eq!(rt; calls, 0);
+        assert_same(&rt, calls, 0);
     }
     Ok(())
 }
@@ -111,9 +112,9 @@ fn part_outside_is_not_copied(rt: HostRuntime) -> Result<(), Fail> {
     for (size, answer) in [(96, Err(ToolFault::Reading(outside))), (97, Ok(100))] {
         let store = MemoryStore::new(bytes.get(..size).ok_or("a first part")?);
         let wrote = copy_store(rt.alloc(), rt.alloc(), store, least(0)?, &[3], ALL)?;
-        assert_eq!(rt; wrote.answer, answer, "of {size}");
+        assert_same_at(&rt, &size, wrote.answer, answer);
         let written = if answer.is_ok() { 100 } else { 0 };
-        assert_eq!(rt; wrote.bytes.len(), written, "of {size}");
+        assert_same_at(&rt, &size, wrote.bytes.len(), written);
     }
     Ok(())
 }
@@ -146,6 +147,7 @@ fn store_that_fails_leaves_nothing_copied(rt: HostRuntime) -> Result<(), Fail> {
         let wrote = copy_store(rt.alloc(), rt.alloc(), store, limits, &[3, 6], ALL)?;
         match wrote.answer {
             Err(ToolFault::Source(SourceFault::Failed { .. })) => {
+                // The macro, as the sum below needs what it tells.
                 assert_eq!(rt; failures, fail_at);
                 assert!(rt; wrote.bytes.is_empty(), "at {fail_at}");
                 failures += 1;

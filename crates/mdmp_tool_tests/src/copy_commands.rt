@@ -1,6 +1,7 @@
 //! Command lines of `copy`, and the files that they make.
 use crate::files::{head, numbers, system_file};
 use crate::runs::{BY_WHOLE, assert_ended, run, run_with, write_file};
+use crate::same::{assert_same, assert_same_at};
 use linked_list_allocator::LocalHeap;
 use mdmp_test_files::{CRASH, SIX};
 use std::alloc::{Alloc, Global};
@@ -20,7 +21,7 @@ fn write_files(rt: &impl Files, alloc: Global, copy: &str) -> Result<(), Fail> {
 /// Asserts that the file of this name has these bytes.
 fn assert_file<R: Files + Alloc + Abort>(rt: &R, name: &str, bytes: &[u8]) -> Result<(), Fail> {
     let there = fs::read(rt, name)?;
-    assert_eq!(rt; there.as_slice(), bytes, "in {name}");
+    assert_same_at(rt, &name, there.as_slice(), bytes);
     Ok(())
 }
 
@@ -41,7 +42,7 @@ fn copy_of_two_types_has_their_streams(rt: HostRuntime) -> Result<(), Fail> {
     let ended = run(&rt, rt.alloc(), &words)?;
     assert_ended(&rt, &words, &ended, 0, "", "");
     let crash = numbers(rt.alloc(), 2, &CRASH)?;
-    assert_eq!(rt; crash.len(), 292);
+    assert_same(&rt, crash.len(), 292);
     assert_file(&rt, "crash.dmp", crash.as_slice())
 }
 

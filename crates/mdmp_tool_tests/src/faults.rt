@@ -1,6 +1,7 @@
 //! What is said of faults.
 use crate::files::bad_name;
 use crate::runs::{BY_WHOLE, Room, told};
+use crate::same::assert_same;
 use mdmp_source::SourceFault;
 use mdmp_tool::{
     FaultKind, LayoutFault, ListFault, OpenFault, PartName, ReadFault, ToolFault, status,
@@ -14,10 +15,10 @@ fn assert_told(rt: &impl Abort, alloc: Global, fault: &ToolFault, text: &str) ->
     let line = format!(in alloc; "mdmp: {text}\n")?;
     let (whole, is_whole) = told(alloc, fault, Room { all: 1000, call: 1 })?;
     assert!(rt; is_whole);
-    assert_eq!(rt; whole.as_str(), line.as_str());
+    assert_same(rt, whole.as_str(), line.as_str());
     let (start, is_whole) = told(alloc, fault, Room { all: 9, call: 1000 })?;
     assert!(rt; !is_whole);
-    assert_eq!(rt; start.len(), 9);
+    assert_same(rt, start.len(), 9);
     assert!(rt; line.as_str().starts_with(start.as_str()));
     Ok(())
 }
@@ -115,7 +116,7 @@ fn faults_have_a_status_and_a_line(rt: HostRuntime) -> Result<(), Fail> {
         ),
     ];
     for (fault, code, text) in rows {
-        assert_eq!(rt; status(&fault), code);
+        assert_same(&rt, status(&fault), code);
         assert_told(&rt, rt.alloc(), &fault, text)?;
     }
     Ok(())
@@ -141,13 +142,13 @@ fn each_kind_of_fault_has_its_words(rt: HostRuntime) -> Result<(), Fail> {
             offset: 52,
             size: 18446744073709551615,
         };
-        assert_eq!(rt; status(&ToolFault::List(fault)), 1);
+        assert_same(&rt, status(&ToolFault::List(fault)), 1);
         let (told_line, is_told) = told(rt.alloc(), &ToolFault::List(fault), BY_WHOLE)?;
         assert!(rt; is_told);
         let line = format!(in rt.alloc();
             "mdmp: entry 3: {words}: offset 52 size 18446744073709551615\n"
         )?;
-        assert_eq!(rt; told_line.as_str(), line.as_str());
+        assert_same(&rt, told_line.as_str(), line.as_str());
     }
     Ok(())
 }
@@ -196,7 +197,7 @@ fn faults_of_a_copy_have_a_status_and_a_line(rt: HostRuntime) -> Result<(), Fail
         (ToolFault::NotCopied(12), 2, "type 12 is not copied"),
     ];
     for (fault, code, text) in rows {
-        assert_eq!(rt; status(&fault), code);
+        assert_same(&rt, status(&fault), code);
         assert_told(&rt, rt.alloc(), &fault, text)?;
     }
     Ok(())
@@ -219,7 +220,7 @@ fn each_part_has_its_word(rt: HostRuntime) -> Result<(), Fail> {
             offset: 1 << 92,
             size: 18446744073709551615,
         });
-        assert_eq!(rt; status(&fault), 1);
+        assert_same(&rt, status(&fault), 1);
         let text = format!(in rt.alloc();
             "entry 4294967295 item 18446744073709551615: {word} outside the file: offset 4951760157141521099596496896 size 18446744073709551615"
         )?;
@@ -258,7 +259,7 @@ fn fault_inside_a_reading_is_told_as_what_it_is(rt: HostRuntime) -> Result<(), F
     ];
     for (fault, code, text) in rows {
         let fault = ToolFault::Reading(fault);
-        assert_eq!(rt; status(&fault), code);
+        assert_same(&rt, status(&fault), code);
         assert_told(&rt, rt.alloc(), &fault, text)?;
     }
     Ok(())

@@ -1,5 +1,6 @@
 //! Command lines that ask for help or the version.
 use crate::runs::{BY_WHOLE, LONG, Room, assert_ended, run_with, start_of};
+use crate::same::assert_same_at;
 use std::test::Fail;
 
 /// The command lines that ask for help or the version.
@@ -23,8 +24,8 @@ const ASKING: [&[&str]; 13] = [
 fn what_is_asked_for_is_printed(rt: HostRuntime) -> Result<(), Fail> {
     for words in ASKING {
         let ended = run_with(&rt, rt.alloc(), rt.alloc(), words, LONG, BY_WHOLE)?;
-        assert_eq!(rt; ended.status, 0, "at {words:?}");
-        assert_eq!(rt; ended.told.as_str(), "", "at {words:?}");
+        assert_same_at(&rt, &words, ended.status, 0);
+        assert_same_at(&rt, &words, ended.told.as_str(), "");
         assert!(rt; ended.text.as_str().contains("mdmp"), "at {words:?}");
     }
     Ok(())

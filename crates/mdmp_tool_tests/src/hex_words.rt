@@ -1,6 +1,7 @@
 //! The words of `hex` that say which bytes it prints, by what it prints of a file without memory.
 use crate::files::head;
 use crate::runs::{BY_WHOLE, Room, run_with, write_file};
+use crate::same::{assert_same, assert_same_at};
 use std::alloc::{AllocGlobal, Global};
 use std::rt::Files;
 use std::test::Fail;
@@ -104,10 +105,10 @@ fn decimal_numbers_are_digits_alone(rt: HostRuntime) -> Result<(), Fail> {
         ("١", None),
     ];
     for (word, number) in rows {
-        assert_eq!(rt; address_of(&rt, rt.alloc(), word)?, number, "at {word:?}");
+        assert_same_at(&rt, &word, address_of(&rt, rt.alloc(), word)?, number);
     }
     // Of an address this is the hexadecimal form.
-    assert_eq!(rt; length_of(&rt, rt.alloc(), "0x10")?, None);
+    assert_same(&rt, length_of(&rt, rt.alloc(), "0x10")?, None);
     Ok(())
 }
 
@@ -142,7 +143,7 @@ fn addresses_are_hexadecimal_behind_a_small_x_or_decimal(rt: HostRuntime) -> Res
         (" 1", None),
     ];
     for (word, address) in rows {
-        assert_eq!(rt; address_of(&rt, rt.alloc(), word)?, address, "at {word:?}");
+        assert_same_at(&rt, &word, address_of(&rt, rt.alloc(), word)?, address);
     }
     Ok(())
 }
@@ -164,7 +165,7 @@ fn lengths_have_a_limit(rt: HostRuntime) -> Result<(), Fail> {
         ("", None),
     ];
     for (word, length) in rows {
-        assert_eq!(rt; length_of(&rt, rt.alloc(), word)?, length, "at {word:?}");
+        assert_same_at(&rt, &word, length_of(&rt, rt.alloc(), word)?, length);
     }
     Ok(())
 }
@@ -201,10 +202,11 @@ fn spans_do_not_wrap(rt: HostRuntime) -> Result<(), Fail> {
         ("0x1000", "0x20", None),
     ];
     for (address, length, wanted) in rows {
-        assert_eq!(rt;
+        assert_same_at(
+            &rt,
+            &(address, length),
             asked_by(&rt, rt.alloc(), address, length)?,
             wanted,
-            "at {address:?} {length:?}"
         );
     }
     Ok(())

@@ -63,6 +63,8 @@ mod running;
 #[cfg(test)]
 mod runs;
 #[cfg(test)]
+mod same;
+#[cfg(test)]
 mod stores;
 #[cfg(test)]
 mod words;

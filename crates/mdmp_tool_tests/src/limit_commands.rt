@@ -2,6 +2,7 @@
 use crate::files::{SYSTEM_TEXT, system_file};
 use crate::memory_files::{WIDE_TEXT, wide_file};
 use crate::runs::{BY_SEVEN, assert_ended, run, run_with, write_file};
+use crate::same::assert_same_at;
 use linked_list_allocator::LocalHeap;
 use std::alloc::Global;
 use std::fs;
@@ -110,8 +111,8 @@ fn limits_are_those_of_the_words(rt: HostRuntime) -> Result<(), Fail> {
         } else {
             "mdmp: out of memory\n"
         };
-        assert_eq!(rt; ended.status, code, "at {words:?}");
-        assert_eq!(rt; ended.told.as_str(), told, "at {words:?}");
+        assert_same_at(&rt, &words, ended.status, code);
+        assert_same_at(&rt, &words, ended.told.as_str(), told);
         assert!(rt; code == 0 || ended.text.is_empty(), "at {words:?}");
     }
     Ok(())

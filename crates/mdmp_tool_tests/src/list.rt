@@ -3,6 +3,7 @@ use crate::files::{FAULTY, SYSTEM_TEXT, bad_name, entry, faulty_file, file, head
 use crate::runs::{
     BY_WHOLE, Room, assert_ends, assert_printed, least, list, list_counted, list_store, start_of,
 };
+use crate::same::assert_same;
 use linked_list_allocator::LocalHeap;
 use mdmp_source::MemoryStore;
 use mdmp_tool::{OpenFault, ToolFault};
@@ -114,8 +115,8 @@ fn directory_passes_through_the_window(rt: HostRuntime) -> Result<(), Fail> {
     let listed = list_counted(rt.alloc(), &bytes, BY_WHOLE)?;
     let line = "\nstream 29 type 0 size 29 rva 32\n";
     assert_ends(&rt, &listed.printed, None, line);
-    assert_eq!(rt; listed.calls, 4);
-    assert_eq!(rt; listed.fetched, 392);
+    assert_same(&rt, listed.calls, 4);
+    assert_same(&rt, listed.fetched, 392);
     Ok(())
 }
 

@@ -1,6 +1,7 @@
 //! Names, and the lines of their faults.
 use crate::files::{SYSTEM_TEXT, numbers, system_file};
 use crate::runs::{BY_SEVEN, Printed, assert_ends, assert_printed, list, start_of, told};
+use crate::same::{assert_same, assert_same_at};
 use std::alloc::Global;
 use std::test::Fail;
 
@@ -61,8 +62,8 @@ fn bad_name_is_told_behind_its_entry(rt: HostRuntime) -> Result<(), Fail> {
         let mut bytes = numbers(rt.alloc(), 1, &words)?;
         bytes.extend_from_slice(name)?;
         let listed = list(rt.alloc(), &bytes, 8)?;
-        assert_eq!(rt; told_of(rt.alloc(), &listed)?.as_str(), wanted);
-        assert_eq!(rt; listed.text.as_str(), BEFORE);
+        assert_same(&rt, told_of(rt.alloc(), &listed)?.as_str(), wanted);
+        assert_same(&rt, listed.text.as_str(), BEFORE);
     }
     Ok(())
 }
@@ -113,9 +114,9 @@ fn cut_file_is_told_where_it_is_cut(rt: HostRuntime) -> Result<(), Fail> {
     for (size, written, wanted) in rows {
         bytes.truncate(size);
         let listed = list(rt.alloc(), &bytes, 4096)?;
-        assert_eq!(rt; told_of(rt.alloc(), &listed)?.as_str(), wanted);
+        assert_same(&rt, told_of(rt.alloc(), &listed)?.as_str(), wanted);
         let start = start_of(SYSTEM_TEXT, written)?;
-        assert_eq!(rt; listed.text.as_str(), start, "at {size}");
+        assert_same_at(&rt, &size, listed.text.as_str(), start);
     }
     Ok(())
 }

@@ -3,6 +3,7 @@ use crate::files::numbers;
 use crate::runs::{
     BY_SEVEN, Room, assert_ends, assert_printed, assert_row, least, list, list_pdb, start_of,
 };
+use crate::same::assert_same;
 use mdmp_source::{MemoryStore, PatchyStore, SourceFault};
 use mdmp_tool::{Limits, ToolFault};
 use std::alloc::{AllocError, Global};
@@ -35,7 +36,7 @@ pub fn module_file(alloc: Global, size: u32, record: &[u8]) -> Result<Vec<u8>, A
 fn module_has_a_line_for_its_codeview_record(rt: HostRuntime) -> Result<(), Fail> {
     let alloc = rt.alloc();
     let bytes = module_file(alloc, 30, RECORD)?;
-    assert_eq!(rt; bytes.len(), 186);
+    assert_same(&rt, bytes.len(), 186);
     let text = format!(in alloc; "{TEXT}{LINE}")?;
     let listed = list_pdb(alloc, MemoryStore::new(&bytes), least(4096)?, BY_SEVEN)?;
     assert_printed(&rt, &listed, None, text.as_str());

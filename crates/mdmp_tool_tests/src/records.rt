@@ -1,6 +1,7 @@
 //! The lines of threads, modules, the exception and regions, from their bytes.
 use crate::files::{crash_file, numbers};
 use crate::runs::{assert_ends, assert_printed, list};
+use crate::same::assert_same;
 use std::test::Fail;
 
 #[test]
@@ -73,7 +74,7 @@ fn version_of_a_module_is_the_files(rt: HostRuntime) -> Result<(), Fail> {
 #[test]
 fn crash_has_a_thread_and_an_exception(rt: HostRuntime) -> Result<(), Fail> {
     let bytes = crash_file(rt.alloc())?;
-    assert_eq!(rt; bytes.len(), 292);
+    assert_same(&rt, bytes.len(), 292);
     let listed = list(rt.alloc(), &bytes, 0)?;
     let text =
         "dump version 0x0000 streams 2 directory 32 checksum 0 time 0 flags 0x0000000000000000

@@ -1,4 +1,5 @@
 //! What the words of a command line ask for.
+use crate::same::{assert_same, assert_same_at};
 use mdmp_tool::{Asked, Command, Limits, Print, Request, request_of};
 use std::alloc::{AllocError, Global};
 use std::test::Fail;
@@ -69,10 +70,11 @@ fn request_of_succeeds(rt: HostRuntime) -> Result<(), Fail> {
     ];
     for (words, wanted) in rows {
         let wanted = format!(in rt.alloc(); "{wanted} {usual}")?;
-        assert_eq!(rt;
+        assert_same_at(
+            &rt,
+            &words,
             asked_by(rt.alloc(), words)?.as_str(),
             wanted.as_str(),
-            "at {words:?}"
         );
     }
     Ok(())
@@ -116,11 +118,7 @@ fn each_command_has_its_own_limits(rt: HostRuntime) -> Result<(), Fail> {
         (&["--window", "300", "list", "a"], "refused"),
     ];
     for (words, wanted) in rows {
-        assert_eq!(rt;
-            asked_by(rt.alloc(), words)?.as_str(),
-            wanted,
-            "at {words:?}"
-        );
+        assert_same_at(&rt, &words, asked_by(rt.alloc(), words)?.as_str(), wanted);
     }
     Ok(())
 }
@@ -143,7 +141,7 @@ fn limits_at_their_ends_are_taken_by_each_command(rt: HostRuntime) -> Result<(),
             let [_, window, _, name] = options;
             let wanted = format!(in rt.alloc(); "{asked} window {window} name {name}")?;
             let told = asked_by(rt.alloc(), words.as_slice())?;
-            assert_eq!(rt; told.as_str(), wanted.as_str(), "at {words:?}");
+            assert_same_at(&rt, &words, told.as_str(), wanted.as_str());
         }
     }
     Ok(())
@@ -183,7 +181,7 @@ fn limits_are_judged_at_their_ends(rt: HostRuntime) -> Result<(), Fail> {
     for (option, number, wanted) in rows {
         let words = ["list", "a", option, number];
         let told = asked_by(rt.alloc(), &words)?;
-        assert_eq!(rt; told.as_str(), wanted, "at {option:?} {number:?}");
+        assert_same_at(&rt, &(option, number), told.as_str(), wanted);
     }
     Ok(())
 }
@@ -228,7 +226,7 @@ fn spans_are_judged_at_their_ends(rt: HostRuntime) -> Result<(), Fail> {
             .as_str()
             .strip_suffix(" window 65536 name 4096")
             .unwrap_or(told.as_str());
-        assert_eq!(rt; told, wanted, "at {address:?} {length:?}");
+        assert_same_at(&rt, &(address, length), told, wanted);
     }
     Ok(())
 }
@@ -267,7 +265,7 @@ fn one_to_sixteen_types_are_named(rt: HostRuntime) -> Result<(), Fail> {
             .strip_suffix(usual)
             .unwrap_or(told.as_str())
             .trim_end();
-        assert_eq!(rt; told, wanted, "at {words:?}");
+        assert_same_at(&rt, &words, told, wanted);
     }
     Ok(())
 }
@@ -296,10 +294,11 @@ fn other_words_are_refused(rt: HostRuntime) -> Result<(), Fail> {
         &["--", "list", "a"],
     ];
     for words in rows {
-        assert_eq!(rt;
+        assert_same_at(
+            &rt,
+            &words,
             asked_by(rt.alloc(), words)?.as_str(),
             "refused",
-            "at {words:?}"
         );
     }
     Ok(())
@@ -326,18 +325,14 @@ fn help_and_the_version_are_told(rt: HostRuntime) -> Result<(), Fail> {
         (&["-V"], "mdmp 0.1.0\n"),
     ];
     for (words, line) in rows {
-        assert_eq!(rt;
-            asked_by(rt.alloc(), words)?.as_str(),
-            "help",
-            "at {words:?}"
-        );
+        assert_same_at(&rt, &words, asked_by(rt.alloc(), words)?.as_str(), "help");
         let text = told_by(rt.alloc(), words)?;
         assert!(rt; text.as_str().contains(line), "at {words:?}: {text}");
     }
     // What is said where there are no words is the help of the program too.
     let all = told_by(rt.alloc(), &["--help"])?;
     let none = told_by(rt.alloc(), &[])?;
-    assert_eq!(rt; none.as_str(), all.as_str());
+    assert_same(&rt, none.as_str(), all.as_str());
     Ok(())
 }
 

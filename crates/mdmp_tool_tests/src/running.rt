@@ -5,6 +5,7 @@ use crate::files::{
 use crate::pdb::{LINE, RECORD, TEXT, module_file};
 use crate::prints::{CopyEnded, Shown, copy_store_to, print_store};
 use crate::runs::{Ended, LONG, Room, assert_row_ended, start_of};
+use crate::same::{assert_same, assert_same_at};
 use mdmp_source::{MemoryStore, PatchyOut, PatchyStore};
 use mdmp_test_files::{CRASH, SIX};
 use std::alloc::Global;
@@ -30,12 +31,12 @@ fn assert_fails_in_turn(
     for fail_at in 0..calls {
         let ended = print_patchy(alloc, shown, bytes, fail_at)?;
         let told = format!(in alloc; "mdmp: store failed at {fail_at}\n")?;
-        assert_eq!(rt; ended.status, 3, "at {fail_at}");
-        assert_eq!(rt; ended.told.as_str(), told.as_str(), "at {fail_at}");
+        assert_same_at(rt, &fail_at, ended.status, 3);
+        assert_same_at(rt, &fail_at, ended.told.as_str(), told.as_str());
         assert!(rt; text.starts_with(ended.text.as_str()), "at {fail_at}");
     }
     let whole = print_patchy(alloc, shown, bytes, calls)?;
-    assert_eq!(rt; whole.text.as_str(), text);
+    assert_same(rt, whole.text.as_str(), text);
     Ok(())
 }
 
@@ -104,9 +105,9 @@ fn output_that_is_full_has_the_first_bytes(rt: HostRuntime) -> Result<(), Fail> 
 
 /// Asserts how a copy ended.
 fn assert_copy(rt: &impl Abort, ended: &CopyEnded, status: u8, bytes: &[u8], told: &str) {
-    assert_eq!(rt; ended.status, status);
-    assert_eq!(rt; ended.bytes.as_slice(), bytes);
-    assert_eq!(rt; ended.told.as_str(), told);
+    assert_same(rt, ended.status, status);
+    assert_same(rt, ended.bytes.as_slice(), bytes);
+    assert_same(rt, ended.told.as_str(), told);
 }
 
 #[test]

@@ -4,6 +4,7 @@
 //! and its own proof stays short.
 ghost use Rattle.std.specs.Prelude.{◌+◌, ◌^◌, ◌≤◌, IfOk};
 
+use crate::same::{assert_same, assert_same_at};
 use mdmp_source::{BlockOut, MemoryStore, PatchyOut, Source, Store};
 use mdmp_tool::{
     Answered, Limits, ToolFault, fault_line, hex_in_blocks, list_in_blocks, list_source, run_hex,
@@ -75,8 +76,8 @@ pub const FOUR: Span = Span {
 
 /// Asserts how a run ended, and what it printed.
 pub fn assert_printed(rt: &impl Abort, printed: &Printed, fault: Option<ToolFault>, text: &str) {
-    assert_eq!(rt; printed.fault, fault);
-    assert_eq!(rt; printed.text.as_str(), text);
+    assert_same(rt, printed.fault, fault);
+    assert_same(rt, printed.text.as_str(), text);
 }
 
 /// Asserts how the run of this row ended, and what it printed.
@@ -87,8 +88,8 @@ pub fn assert_row(
     fault: Option<ToolFault>,
     text: &str,
 ) {
-    assert_eq!(rt; printed.fault, fault, "at {row}");
-    assert_eq!(rt; printed.text.as_str(), text, "at {row}");
+    assert_same_at(rt, &row, printed.fault, fault);
+    assert_same_at(rt, &row, printed.text.as_str(), text);
 }
 
 /// Asserts how a run ended, and with what its text ended.
@@ -110,9 +111,9 @@ pub fn assert_ended(
     text: &str,
     told: &str,
 ) {
-    assert_eq!(rt; ended.status, status, "at {words:?}");
-    assert_eq!(rt; ended.text.as_str(), text, "at {words:?}");
-    assert_eq!(rt; ended.told.as_str(), told, "at {words:?}");
+    assert_same_at(rt, &words, ended.status, status);
+    assert_same_at(rt, &words, ended.text.as_str(), text);
+    assert_same_at(rt, &words, ended.told.as_str(), told);
 }
 
 /// Asserts the exit status of this row, what it printed, and what it told.
@@ -124,15 +125,15 @@ pub fn assert_row_ended(
     text: &str,
     told: &str,
 ) {
-    assert_eq!(rt; ended.status, status, "at {row}");
-    assert_eq!(rt; ended.text.as_str(), text, "at {row}");
-    assert_eq!(rt; ended.told.as_str(), told, "at {row}");
+    assert_same_at(rt, &row, ended.status, status);
+    assert_same_at(rt, &row, ended.text.as_str(), text);
+    assert_same_at(rt, &row, ended.told.as_str(), told);
 }
 
 /// Asserts that the words of a command line were refused, whoever judged them.
 pub fn assert_refused(rt: &impl Abort, words: &[&str], ended: &Ended) {
-    assert_eq!(rt; ended.status, 2, "at {words:?}");
-    assert_eq!(rt; ended.text.as_str(), "", "at {words:?}");
+    assert_same_at(rt, &words, ended.status, 2);
+    assert_same_at(rt, &words, ended.text.as_str(), "");
     assert!(rt; !ended.told.is_empty(), "at {words:?}");
 }
 

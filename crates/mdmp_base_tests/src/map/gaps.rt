@@ -1,5 +1,6 @@
 //! How far no range holds an address.
 use super::{assert_places, place, push_all, with_room};
+use crate::same::assert_same;
 use mdmp_map::{AddressMap, Found};
 use std::alloc::Allocator;
 use std::process::Abort;
@@ -16,7 +17,7 @@ fn assert_gaps<A: Allocator>(
     is_sorted: bool,
     rows: &[(u64, u128)],
 ) {
-    assert_eq!(rt; map.is_sorted(), is_sorted);
+    assert_same(rt, map.is_sorted(), is_sorted);
     for (address, expected) in rows {
         assert_eq!(rt; map.gap(*address), *expected, "at {address}");
         let looked_up = match map.find(*address) {

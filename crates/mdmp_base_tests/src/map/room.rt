@@ -1,5 +1,6 @@
 //! Where addresses stand by a map, and its room.
 use super::{assert_places, place, push_all, with_room};
+use crate::same::assert_same;
 use linked_list_allocator::LocalHeap;
 use mdmp_map::AddressMap;
 use std::alloc::Allocator;
@@ -13,9 +14,9 @@ fn is_refused(heap: &LocalHeap, room: usize) -> bool {
 
 /// The map holds so many ranges, and has room for so many more.
 fn assert_counts<A: Allocator>(rt: &impl Abort, map: &AddressMap<A>, len: usize, free: usize) {
-    assert_eq!(rt; map.is_empty(), len == 0);
-    assert_eq!(rt; map.len(), len);
-    assert_eq!(rt; map.free(), free);
+    assert_same(rt, map.is_empty(), len == 0);
+    assert_same(rt, map.len(), len);
+    assert_same(rt, map.free(), free);
 }
 
 #[test]
@@ -87,6 +88,6 @@ fn want_of_memory_is_told(rt: HostRuntime) -> Result<(), Fail> {
     let mut map = with_room(&heap, 2)?;
     push_all(&rt, &mut map, &[(0x1000, 4, 80), (0x1002, 4, 84)]);
     assert_places(&rt, &map, &[(0x1004, place(86, 2))]);
-    assert_eq!(rt; heap.used(), 48);
+    assert_same(&rt, heap.used(), 48);
     Ok(())
 }

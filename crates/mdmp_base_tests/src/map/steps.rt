@@ -3,6 +3,7 @@ ghost use Rattle.std.specs.Prelude.{◌≡◌, ◌≤◌, ◌<◌, ◌+◌, leng
 ghost use Rattle.mdmp_map.specs.Ranges.{AreSorted};
 
 use super::{assert_places, place, push_all, with_room};
+use crate::same::assert_same;
 use mdmp_map::{AddressMap, Place, Steps};
 use std::alloc::Allocator;
 use std::marker::Brand;
@@ -61,8 +62,8 @@ fn range_that_begins_before_the_last_one_ends_the_order(rt: HostRuntime) -> Resu
         (0x4000, 1, 121),
     ];
     push_all(&rt, &mut map, &ranges);
-    assert_eq!(rt; find_in_four_steps(&rt, &map, 0x1006), place(86, 2));
-    assert_eq!(rt; find_in_four_steps(&rt, &map, 0x1fff), None);
+    assert_same(&rt, find_in_four_steps(&rt, &map, 0x1006), place(86, 2));
+    assert_same(&rt, find_in_four_steps(&rt, &map, 0x1fff), None);
     assert_places(&rt, &map, &[(0x1fff, None)]);
 
     push_all(&rt, &mut map, &[(0x1002, 4, 200)]);

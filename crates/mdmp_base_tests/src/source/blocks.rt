@@ -2,6 +2,7 @@
 ghost use Rattle.std.specs.Prelude.{◌<◌};
 
 use super::{assert_taken, assert_writes, patchy_out, write_whole};
+use crate::same::assert_same;
 use mdmp_source::{BlockOut, Out, OutFailed, PatchyOut};
 use std::alloc::Global;
 use std::process::Abort;
@@ -26,12 +27,12 @@ fn write_pieces<O: Out>(rt: &impl Abort, blocks: &mut BlockOut<O, Global>, piece
 
 /// These bytes are pending.
 fn assert_pending<O: Out>(rt: &impl Abort, blocks: &BlockOut<O, Global>, expected: &[u8]) {
-    assert_eq!(rt; blocks.pending(), expected);
+    assert_same(rt, blocks.pending(), expected);
 }
 
 /// Writes what is pending.
 fn flush_all<O: Out>(rt: &impl Abort, blocks: &mut BlockOut<O, Global>) {
-    assert_eq!(rt; blocks.flush(), Ok(()));
+    assert_same(rt, blocks.flush(), Ok(()));
 }
 
 #[test]

@@ -1,5 +1,6 @@
 //! Outputs that take what they are given, and such as refuse.
 use super::{assert_taken, assert_writes, patchy_out, write_whole};
+use crate::same::assert_same;
 use mdmp_source::{Out, OutFailed, WriteOut, send};
 use std::test::Fail;
 
@@ -26,17 +27,17 @@ fn patchy_out_takes_few_bytes_and_fails_once(rt: HostRuntime) -> Result<(), Fail
 fn write_out_writes_to_its_writer(rt: HostRuntime) -> Result<(), Fail> {
     let mut out = WriteOut::new(Vec::new(rt.alloc()));
     assert_writes(&rt, &mut out, &[(b"xy".as_slice(), Ok(2))]);
-    assert_eq!(rt; write_whole(&mut out, b"z"), Ok(()));
-    assert_eq!(rt; out.into_inner().as_slice(), b"xyz".as_slice());
+    assert_same(&rt, write_whole(&mut out, b"z"), Ok(()));
+    assert_same(&rt, out.into_inner().as_slice(), b"xyz".as_slice());
     Ok(())
 }
 
 #[test]
 fn write_all_stops_at_a_refusal(rt: HostRuntime) -> Result<(), Fail> {
     let mut out = patchy_out(rt.alloc(), 10, 2, Some(2))?;
-    assert_eq!(rt; write_whole(&mut out, b"abcdef"), Err(OutFailed));
+    assert_same(&rt, write_whole(&mut out, b"abcdef"), Err(OutFailed));
     assert_taken(&rt, &out, b"abcd");
-    assert_eq!(rt; sent(&mut out, b"efghijkl"), 6);
+    assert_same(&rt, sent(&mut out, b"efghijkl"), 6);
     assert_taken(&rt, &out, b"abcdefghij");
     Ok(())
 }

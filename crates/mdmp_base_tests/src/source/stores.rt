@@ -1,4 +1,5 @@
 //! Stores, and fetches from them.
+use crate::same::assert_same;
 use mdmp_source::{
     FileStore, MemoryStore, PatchyStore, Source, SourceFault, Store, StoreFailed, Tally,
 };
@@ -26,8 +27,8 @@ fn memory(bytes: &[u8]) -> MemoryStore<'_> {
 
 /// The source was fetched from so often, and was asked for so many bytes.
 fn assert_counts<S: Store>(rt: &impl Abort, source: &Source<S>, calls: u128, fetched: u128) {
-    assert_eq!(rt; source.calls(), calls);
-    assert_eq!(rt; source.fetched(), fetched);
+    assert_same(rt, source.calls(), calls);
+    assert_same(rt, source.fetched(), fetched);
 }
 
 /// A source of these bytes, as a patchy store gives them.
@@ -44,30 +45,32 @@ fn patchy<'a>(
 #[test]
 fn memory_store_gives_its_bytes(rt: HostRuntime) -> Result<(), Fail> {
     let mut source = source_of(memory(b"abcdef"));
-    assert_eq!(rt; source.size(), 6);
-    assert_eq!(rt; four_at_one(&rt, &mut source)?, *b"bcde");
+    assert_same(&rt, source.size(), 6);
+    assert_same(&rt, four_at_one(&rt, &mut source)?, *b"bcde");
     assert_counts(&rt, &source, 1, 4);
-    assert_eq!(rt; source.into_store().size(), 6);
+    assert_same(&rt, source.into_store().size(), 6);
     Ok(())
 }
 
 #[test]
 fn patchy_store_fails_once(rt: HostRuntime) {
     let mut source = patchy(&rt, b"abcdef", &[1], Some(2));
-    assert_eq!(rt;
+    assert_same(
+        &rt,
         four_at_one(&rt, &mut source),
-        Err(SourceFault::Failed { at: 3 })
+        Err(SourceFault::Failed { at: 3 }),
     );
-    assert_eq!(rt; four_at_one(&rt, &mut source), Ok(*b"bcde"));
+    assert_same(&rt, four_at_one(&rt, &mut source), Ok(*b"bcde"));
     assert_counts(&rt, &source, 2, 8);
 }
 
 #[test]
 fn patchy_store_answers_nothing(rt: HostRuntime) {
     let mut source = patchy(&rt, b"abcdef", &[3, 0], None);
-    assert_eq!(rt;
+    assert_same(
+        &rt,
         four_at_one(&rt, &mut source),
-        Err(SourceFault::ShortRead { at: 4 })
+        Err(SourceFault::ShortRead { at: 4 }),
     );
 }
 
@@ -91,7 +94,7 @@ fn tally_counts_answers(rt: HostRuntime) {
         empties: 1,
         place: 7,
     };
-    assert_eq!(rt; tally, counted);
+    assert_same(&rt, tally, counted);
 }
 
 #[test]
@@ -99,11 +102,11 @@ fn lent_store_is_had_back(rt: HostRuntime) -> Result<(), Fail> {
     let mut store = memory(b"abcdef");
     {
         let mut source = source_of(&mut store);
-        assert_eq!(rt; four_at_one(&rt, &mut source)?, *b"bcde");
+        assert_same(&rt, four_at_one(&rt, &mut source)?, *b"bcde");
     }
     let mut byte = [0];
-    assert_eq!(rt; store.read_at(5, &mut byte), Ok(1));
-    assert_eq!(rt; byte, *b"f");
+    assert_same(&rt, store.read_at(5, &mut byte), Ok(1));
+    assert_same(&rt, byte, *b"f");
     Ok(())
 }
 
@@ -112,8 +115,8 @@ fn file_store_open_succeeds(rt: HostRuntime) -> Result<(), Fail> {
     fs::write(&rt, "six", "abcdef")?;
     let store = FileStore::open(&rt, "six").ok().ok_or("open")?;
     let mut source = source_of(store);
-    assert_eq!(rt; source.size(), 6);
-    assert_eq!(rt; four_at_one(&rt, &mut source)?, *b"bcde");
+    assert_same(&rt, source.size(), 6);
+    assert_same(&rt, four_at_one(&rt, &mut source)?, *b"bcde");
     fs::remove_file(&rt, "six")?;
     assert!(rt; FileStore::open(&rt, "six").is_err());
     Ok(())

@@ -1,5 +1,6 @@
 //! Stores over files of the system, of which no contract knows size or bytes, and the store that
 //! changes while it is read.
+use crate::same::assert_same;
 use mdmp_source::{FileStore, Store, StoreFailed, TwoFaces};
 use std::fs::File;
 use std::io::{Seek, SeekFrom, Write};
@@ -28,7 +29,7 @@ fn write_at(rt: &HostRuntime, path: &str, at: u64, text: &[u8]) -> io::Result<()
 fn file_store_reads_a_file(rt: HostRuntime) -> Result<(), Fail> {
     write_at(&rt, "six_bytes", 0, b"abcdef")?;
     let mut store = FileStore::open(&rt, "six_bytes").ok().ok_or("open")?;
-    assert_eq!(rt; store.size(), 6);
+    assert_same(&rt, store.size(), 6);
     // Some begin where the one before it ended.
     let rows = [
         (4, 2, *b"ef\0\0"),
@@ -52,7 +53,7 @@ fn file_store_reads_a_file(rt: HostRuntime) -> Result<(), Fail> {
 fn file_store_reads_past_4_gib(rt: HostRuntime) -> Result<(), Fail> {
     write_at(&rt, "past_4_gib", FOUR_GIB, b"abcdef")?;
     let mut store = FileStore::open(&rt, "past_4_gib").ok().ok_or("open")?;
-    assert_eq!(rt; store.size(), FOUR_GIB + 6);
+    assert_same(&rt, store.size(), FOUR_GIB + 6);
     let rows = [
         (FOUR_GIB, 4, *b"abcd"),
         (0, 4, [0; 4]),
@@ -72,7 +73,7 @@ fn file_store_reads_past_4_gib(rt: HostRuntime) -> Result<(), Fail> {
 fn file_store_tells_that_a_read_failed(rt: HostRuntime) -> Result<(), Fail> {
     let mut store = FileStore::open(&rt, ".").ok().ok_or("open")?;
     for at in [0, 0, 4] {
-        assert_eq!(rt; four_at(&mut store, at), Err(StoreFailed));
+        assert_same(&rt, four_at(&mut store, at), Err(StoreFailed));
     }
     Ok(())
 }
@@ -80,8 +81,8 @@ fn file_store_tells_that_a_read_failed(rt: HostRuntime) -> Result<(), Fail> {
 #[test]
 fn two_faces_turns_at_its_read(rt: HostRuntime) {
     let mut store = TwoFaces::new(b"abcdef", b"uvwxyz", 2);
-    assert_eq!(rt; store.size(), 6);
-    assert_eq!(rt; store.reads(), 0);
+    assert_same(&rt, store.size(), 6);
+    assert_same(&rt, store.reads(), 0);
     let rows = [
         (0, 4, *b"abcd"),
         (4, 2, *b"ef\0\0"),
@@ -91,5 +92,5 @@ fn two_faces_turns_at_its_read(rt: HostRuntime) {
     for (at, count, bytes) in rows {
         assert_eq!(rt; four_at(&mut store, at), Ok((count, bytes)), "at {at}");
     }
-    assert_eq!(rt; store.reads(), 4);
+    assert_same(&rt, store.reads(), 4);
 }

@@ -1,4 +1,5 @@
 //! Windows that slide over a stretch of a file.
+use crate::same::assert_same;
 use linked_list_allocator::LocalHeap;
 use mdmp_source::{MemoryStore, PatchyStore, Source, SourceFault, Store, Window};
 use std::alloc::Allocator;
@@ -42,13 +43,13 @@ fn consume<A: Allocator>(rt: &impl Abort, window: &mut Window<A>, count: usize) 
 
 /// The window holds these bytes, from this place on.
 fn assert_holds<A: Allocator>(rt: &impl Abort, window: &Window<A>, place: u64, bytes: &[u8]) {
-    assert_eq!(rt; window.bytes(), bytes);
-    assert_eq!(rt; window.place(), place);
+    assert_same(rt, window.bytes(), bytes);
+    assert_same(rt, window.place(), place);
 }
 
 /// So often was fetched from the source, and so many bytes.
 fn assert_fetched<S: Store>(rt: &impl Abort, source: &Source<S>, calls: u128, fetched: u128) {
-    assert_eq!(rt; (source.calls(), source.fetched()), (calls, fetched));
+    assert_same(rt, (source.calls(), source.fetched()), (calls, fetched));
 }
 
 #[test]
@@ -56,12 +57,12 @@ fn window_slides_over_a_file(rt: HostRuntime) -> Result<(), Fail> {
     let mut source = memory();
     let mut window = Window::with_room(rt.alloc(), 4)?;
     start(&rt, &mut window, 0, 6);
-    assert_eq!(rt; window.next_len(), 4);
+    assert_same(&rt, window.next_len(), 4);
     fill(&rt, &mut window, &mut source)?;
     assert_holds(&rt, &window, 0, b"abcd");
     consume(&rt, &mut window, 3);
     assert_holds(&rt, &window, 3, b"d");
-    assert_eq!(rt; window.next_len(), 2);
+    assert_same(&rt, window.next_len(), 2);
     fill(&rt, &mut window, &mut source)?;
     assert_holds(&rt, &window, 3, b"def");
     assert_fetched(&rt, &source, 2, 6);
@@ -83,7 +84,7 @@ fn window_begins_anew(rt: HostRuntime) -> Result<(), Fail> {
         assert_holds(&rt, &window, at, b"");
         fill(&rt, &mut window, &mut source)?;
         assert_holds(&rt, &window, at, bytes);
-        assert_eq!(rt; (window.end(), window.room()), (end, 4));
+        assert_same(&rt, (window.end(), window.room()), (end, 4));
     }
     assert_fetched(&rt, &source, 4, 10);
     Ok(())
@@ -97,7 +98,7 @@ fn window_without_room_or_rest_fetches_nothing(rt: HostRuntime) -> Result<(), Fa
         let mut window = Window::with_room(rt.alloc(), room)?;
         start(&rt, &mut window, at, end);
         fill(&rt, &mut window, &mut source)?;
-        assert_eq!(rt; window.next_len(), 0);
+        assert_same(&rt, window.next_len(), 0);
         fill(&rt, &mut window, &mut source)?;
     }
     assert_fetched(&rt, &source, 1, 6);
@@ -112,13 +113,13 @@ fn window_is_as_it_was_behind_a_fault(rt: HostRuntime) -> Result<(), Fail> {
         let failed = Err(SourceFault::Failed { at: fail_at });
         start(&rt, &mut window, 0, 6);
         if fail_at < 4 {
-            assert_eq!(rt; fill(&rt, &mut window, &mut source), failed);
+            assert_same(&rt, fill(&rt, &mut window, &mut source), failed);
             assert_holds(&rt, &window, 0, b"");
         }
         fill(&rt, &mut window, &mut source)?;
         consume(&rt, &mut window, 3);
         if fail_at == 4 || fail_at == 5 {
-            assert_eq!(rt; fill(&rt, &mut window, &mut source), failed);
+            assert_same(&rt, fill(&rt, &mut window, &mut source), failed);
             assert_holds(&rt, &window, 3, b"d");
         }
         fill(&rt, &mut window, &mut source)?;

@@ -1,4 +1,5 @@
 //! The name and the parts of a record of any kind.
+use crate::same::assert_same;
 use mdmp_source::Location;
 use mdmp_wire::{AnyRecord, Descriptor, ModuleRecord, Record, SystemRecord, ThreadRecord};
 
@@ -14,7 +15,7 @@ fn record_of_a_kind_with_names_tells_where_its_name_stands(rt: HostRuntime) {
         (AnyRecord::System(system), Some(8)),
         (AnyRecord::Memory(range), None),
     ] {
-        assert_eq!(rt; record.name_rva(), expected);
+        assert_same(&rt, record.name_rva(), expected);
     }
 }
 
@@ -26,7 +27,7 @@ fn parts_of_a_thread_are_its_stack_and_its_registers(rt: HostRuntime) {
     thread.stack.memory = stack;
     thread.thread_context = registers;
     let record = AnyRecord::Thread(thread);
-    assert_eq!(rt; record.part(0), Some(stack));
-    assert_eq!(rt; record.part(1), Some(registers));
-    assert_eq!(rt; record.part(2), None);
+    assert_same(&rt, record.part(0), Some(stack));
+    assert_same(&rt, record.part(1), Some(registers));
+    assert_same(&rt, record.part(2), None);
 }

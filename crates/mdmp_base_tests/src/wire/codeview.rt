@@ -7,7 +7,8 @@ use uuid::Uuid;
 const SYMBOL_FILE: [u8; 30] =
     *b"RSDS\x33\x22\x11\x00\x55\x44\x77\x66\x88\x99\xaa\xbb\xcc\xdd\xee\xff\x01\0\0\0a.pdb\0";
 
-/// What a record tells, to be compared.
+/// What a record tells, to be compared: by the macro, since the prover cannot hand on a `Uuid` to a
+/// call in a test that does not name it.
 #[derive(Clone, Copy, Debug, PartialEq)]
 enum Told<'a> {
     Rsds {
@@ -27,6 +28,7 @@ enum Told<'a> {
 
 /// What a record of `size` bytes tells, of which these are the first 24 and some of the rest.
 fn read<'a>(rt: &impl Abort, head: &[u8], rest: &'a [u8], size: u32) -> Told<'a> {
+    // The macro, as a call without a contract would not tell the call below of it.
     assert_eq!(rt; head.len(), (size as usize).min(24));
     match CodeView::read(head, rest, size) {
         CodeView::Rsds {

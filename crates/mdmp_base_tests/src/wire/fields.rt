@@ -1,4 +1,5 @@
 //! Records of known bytes, read and written.
+use crate::same::assert_same;
 use mdmp_wire::{ExceptionRecord, Record, get_at, put_at};
 use std::fmt::Debug;
 use std::process::Abort;
@@ -14,6 +15,7 @@ fn counted() -> [u8; 168] {
 
 /// The record of these bytes, if they are as many as it has, and what it writes over `out`.
 fn read_and_write<R: Record>(rt: &impl Abort, bytes: &[u8], out: &mut [u8]) -> R {
+    // The macro, as a call without a contract would not tell the calls below of it.
     assert_eq!(rt; bytes.len(), R::SIZE);
     assert_eq!(rt; out.len(), R::SIZE);
     let record = R::read(bytes);
@@ -33,12 +35,12 @@ pub fn assert_fields<R: Record + PartialEq + Debug>(
     let mut bytes = counted();
     let mut out = [0x55; 168];
     let read: R = read_and_write(rt, &bytes[..size], &mut out[..size]);
-    assert_eq!(rt; read, expected);
+    assert_same(rt, read, expected);
     for &at in alignment {
         assert!(rt; at <= 164);
         bytes[at..at + 4].fill(0);
     }
-    assert_eq!(rt; &out[..size], &bytes[..size]);
+    assert_same(rt, &out[..size], &bytes[..size]);
 }
 
 #[test]
@@ -56,7 +58,7 @@ fn alignment_is_ignored_and_written_as_zero(rt: HostRuntime) {
 fn record_at_an_offset_leaves_what_is_beside_it(rt: HostRuntime) {
     let mut out = [0x55; 8];
     put_at(&mut out, 2, &0x1234u16);
-    assert_eq!(rt; out, [0x55, 0x55, 0x34, 0x12, 0x55, 0x55, 0x55, 0x55]);
+    assert_same(&rt, out, [0x55, 0x55, 0x34, 0x12, 0x55, 0x55, 0x55, 0x55]);
     let number: u32 = get_at(&out, 1);
-    assert_eq!(rt; number, 0x5512_3455);
+    assert_same(&rt, number, 0x5512_3455);
 }

@@ -1,4 +1,5 @@
 //! The test of a file's first bytes.
+use crate::same::assert_same;
 use mdmp_wire::{Header, HeaderFault, Record};
 
 /// The head of a file with this signature and version, and zeros behind them.
@@ -16,18 +17,20 @@ fn check(bytes: [u8; 32]) -> Result<Header, HeaderFault> {
 
 #[test]
 fn signature_is_tested_before_the_version(rt: HostRuntime) {
-    assert_eq!(rt;
+    assert_same(
+        &rt,
         check(head(b"PMDM", 0xa794)),
-        Err(HeaderFault::BadSignature)
+        Err(HeaderFault::BadSignature),
     );
-    assert_eq!(rt;
+    assert_same(
+        &rt,
         check(head(b"MDMP", 0xa794)),
-        Err(HeaderFault::BadVersion { low: 0xa794 })
+        Err(HeaderFault::BadVersion { low: 0xa794 }),
     );
 }
 
 #[test]
 fn high_half_of_the_version_is_the_producers(rt: HostRuntime) {
     let bytes = head(b"MDMP", 0x12aa_a793);
-    assert_eq!(rt; check(bytes), Ok(Header::read(&bytes)));
+    assert_same(&rt, check(bytes), Ok(Header::read(&bytes)));
 }

@@ -1,4 +1,5 @@
 //! Names, and the digits of printed numbers.
+use crate::same::assert_same;
 use linked_list_allocator::LocalHeap;
 use mdmp_source::{OutFailed, PatchyOut};
 use mdmp_wire::{Units, UnitsRef, hex_digits, text_survives_utf16};
@@ -40,8 +41,8 @@ fn text_of<A: Allocator + Copy>(alloc: A, units: &UnitsRef<'_>) -> Result<String
 
 /// The units are these, one by one.
 fn assert_units(rt: &impl Abort, units: &UnitsRef<'_>, expected: &[u16]) {
-    assert_eq!(rt; units.is_empty(), expected.is_empty());
-    assert_eq!(rt; units.len(), expected.len());
+    assert_same(rt, units.is_empty(), expected.is_empty());
+    assert_same(rt, units.len(), expected.len());
     for (index, unit) in expected.iter().enumerate() {
         assert!(rt; index < units.len());
         assert_eq!(rt; units.get(index), *unit, "at {index}");
@@ -56,15 +57,15 @@ fn assert_escaped(
     answer: Result<(), OutFailed>,
     text: &[u8],
 ) {
-    assert_eq!(rt; over(rt, bytes).escape_into(&mut out), answer);
-    assert_eq!(rt; out.bytes(), text);
+    assert_same(rt, over(rt, bytes).escape_into(&mut out), answer);
+    assert_same(rt, out.bytes(), text);
 }
 
 #[test]
 fn hexadecimal_digits_are_the_last_ones(rt: HostRuntime) {
     let mut digits = [0; 4];
     hex_digits(0x1_fa09, &mut digits);
-    assert_eq!(rt; digits, *b"fa09");
+    assert_same(&rt, digits, *b"fa09");
 }
 
 #[test]
@@ -103,7 +104,7 @@ fn units_of_a_text_succeed(rt: HostRuntime) -> Result<(), Fail> {
     let units = from_text(rt.alloc(), "a\u{1F600}")?;
     assert_units(&rt, &units.view(), &[0x0061, 0xd83d, 0xde00]);
     let text = text_of(rt.alloc(), &units.view())?;
-    assert_eq!(rt; text.as_str(), "a\u{1F600}");
+    assert_same(&rt, text.as_str(), "a\u{1F600}");
     Ok(())
 }
 
@@ -119,20 +120,24 @@ fn units_of_bytes_succeed(rt: HostRuntime) -> Result<(), Fail> {
 #[test]
 fn units_are_compared_and_printed(rt: HostRuntime) -> Result<(), Fail> {
     let units = over(&rt, b"a\0\x5c\0");
-    assert_eq!(rt; units, over(&rt, b"a\0\x5c\0"));
+    assert_same(&rt, units, over(&rt, b"a\0\x5c\0"));
     assert_ne!(rt; units, over(&rt, b"a\0\x5c\x01"));
     assert_ne!(rt; units, over(&rt, b"a\0"));
-    assert_eq!(rt; owned(rt.alloc(), &units)?, from_text(rt.alloc(), "a\\")?);
+    assert_same(
+        &rt,
+        owned(rt.alloc(), &units)?,
+        from_text(rt.alloc(), "a\\")?,
+    );
     assert_ne!(rt; owned(rt.alloc(), &units)?, from_text(rt.alloc(), "b\\")?);
     let text = format!(in rt.alloc(); "{units:?}")?;
-    assert_eq!(rt; text.as_str(), "\"a\\u005c\"");
+    assert_same(&rt, text.as_str(), "\"a\\u005c\"");
     Ok(())
 }
 
 #[test]
 fn lone_surrogate_becomes_the_replacement_character(rt: HostRuntime) -> Result<(), Fail> {
     let text = text_of(rt.alloc(), &over(&rt, &[0x3d, 0xd8]))?;
-    assert_eq!(rt; text.as_bytes(), [0xef, 0xbf, 0xbd].as_slice());
+    assert_same(&rt, text.as_bytes(), [0xef, 0xbf, 0xbd].as_slice());
     Ok(())
 }
 

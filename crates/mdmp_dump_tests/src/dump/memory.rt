@@ -1,6 +1,7 @@
 //! The memory that a dump takes.
 use super::built::read;
 use crate::files::file;
+use crate::same::assert_same;
 use linked_list_allocator::LocalHeap;
 use mdmp_dump::{MemoryRange, ReadFault, Stream, Thread};
 use mdmp_lister::Limits;
@@ -39,12 +40,20 @@ fn first_other(rt: &HostRuntime, file: &[u8]) -> Result<(Option<ReadFault>, usiz
 
 #[test]
 fn want_of_memory_is_told_at_each_growth(rt: HostRuntime) -> Result<(), Fail> {
-    assert_eq!(rt; first_other(&rt, &SYSTEM)?, (None, 0));
-    assert_eq!(rt; first_other(&rt, &file(&rt, 2, &CRASH)?)?, (None, 0));
-    assert_eq!(rt; first_other(&rt, &file(&rt, 1, &MODULE)?)?, (None, 0));
-    assert_eq!(rt; first_other(&rt, &file(&rt, 1, &OVERLAPPING)?)?, (None, 0));
+    assert_same(&rt, first_other(&rt, &SYSTEM)?, (None, 0));
+    assert_same(&rt, first_other(&rt, &file(&rt, 2, &CRASH)?)?, (None, 0));
+    assert_same(&rt, first_other(&rt, &file(&rt, 1, &MODULE)?)?, (None, 0));
+    assert_same(
+        &rt,
+        first_other(&rt, &file(&rt, 1, &OVERLAPPING)?)?,
+        (None, 0),
+    );
     // The window, the directory and the name alone take 224 bytes.
-    assert_eq!(rt; fault_in(&rt, 224, &SYSTEM)?, (Some(ReadFault::Memory), 0));
+    assert_same(
+        &rt,
+        fault_in(&rt, 224, &SYSTEM)?,
+        (Some(ReadFault::Memory), 0),
+    );
     Ok(())
 }
 
@@ -70,13 +79,18 @@ fn memory_is_that_of_the_lists_which_take_their_room_once(rt: HostRuntime) -> Re
     let threads = block(size_of::<Thread<&LocalHeap>>());
     // And three parts of one block each.
     let value = streams.saturating_add(threads).saturating_add(48);
-    assert_eq!(rt; used_by(&rt, &file)?, value);
+    assert_same(&rt, used_by(&rt, &file)?, value);
     // Beside it stand a directory of 32 bytes, a window of 176 and a name of 32.
-    assert_eq!(rt;
+    assert_same(
+        &rt,
         fault_in(&rt, value.saturating_add(224), &file)?,
-        (Some(ReadFault::Memory), 0)
+        (Some(ReadFault::Memory), 0),
     );
-    assert_eq!(rt; fault_in(&rt, value.saturating_add(240), &file)?, (None, 0));
+    assert_same(
+        &rt,
+        fault_in(&rt, value.saturating_add(240), &file)?,
+        (None, 0),
+    );
     Ok(())
 }
 
@@ -87,6 +101,6 @@ fn list_of_records_takes_no_more_room_than_its_records(rt: HostRuntime) -> Resul
     let ranges = block(2 * size_of::<MemoryRange<&LocalHeap>>());
     // And the bytes of each range, a block each.
     let value = streams.saturating_add(ranges).saturating_add(32);
-    assert_eq!(rt; used_by(&rt, &file)?, value);
+    assert_same(&rt, used_by(&rt, &file)?, value);
     Ok(())
 }

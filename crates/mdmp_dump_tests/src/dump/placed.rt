@@ -1,4 +1,5 @@
 //! A record with the places of its name and parts.
+use crate::same::assert_same;
 use mdmp_dump::{Fields, PartSize};
 use mdmp_source::Location;
 use mdmp_wire::{AnyRecord, Descriptor, ThreadRecord};
@@ -35,12 +36,12 @@ fn parts_are_placed_one_behind_the_other(rt: HostRuntime) -> Result<(), Fail> {
         wire: thread(nowhere, nowhere),
         parts: [PartSize::Size(6), PartSize::Size(4), PartSize::NoPart],
     };
-    assert_eq!(rt; fields.room(), 12);
+    assert_same(&rt, fields.room(), 12);
     let expected = thread(
         Location { size: 6, rva: 100 },
         Location { size: 4, rva: 108 },
     );
-    assert_eq!(rt; placed(&fields, 100), Some(expected));
+    assert_same(&rt, placed(&fields, 100), Some(expected));
     Ok(())
 }
 
@@ -51,17 +52,18 @@ fn absent_and_empty_parts_take_no_room(rt: HostRuntime) -> Result<(), Fail> {
         wire: thread(nowhere, nowhere),
         parts: [PartSize::Absent(256), PartSize::Size(0), PartSize::NoPart],
     };
-    assert_eq!(rt; fields.room(), 0);
-    assert_eq!(rt;
+    assert_same(&rt, fields.room(), 0);
+    assert_same(
+        &rt,
         placed(&fields, 100),
-        Some(thread(Location { size: 256, rva: 0 }, nowhere))
+        Some(thread(Location { size: 256, rva: 0 }, nowhere)),
     );
     Ok(())
 }
 
 #[test]
 fn size_of_a_part_is_that_of_its_bytes(rt: HostRuntime) {
-    assert_eq!(rt; PartSize::Size(5).size(), 5);
-    assert_eq!(rt; PartSize::Absent(5).size(), 0);
-    assert_eq!(rt; PartSize::NoPart.size(), 0);
+    assert_same(&rt, PartSize::Size(5).size(), 5);
+    assert_same(&rt, PartSize::Absent(5).size(), 0);
+    assert_same(&rt, PartSize::NoPart.size(), 0);
 }

@@ -1,6 +1,7 @@
 //! Files that are read into values: one of each kind of stream.
 use super::built::{absent, bytes, dump_of, of_one, one, part, read, read_chosen, two, zeros};
 use crate::files::{LEAST, NAMED, chosen, file, named};
+use crate::same::assert_same;
 use mdmp_dump::{
     Dump, Exception, Memory64Range, MemoryRange, Module, Records, Stream, Thread, Unloaded,
 };
@@ -21,7 +22,7 @@ fn numbers_of_the_header_are_read(rt: HostRuntime) -> Result<(), Fail> {
         flags: 0x0400000000000003,
         streams: Records::new(Vec::new(rt.alloc())),
     };
-    assert_eq!(rt; read(rt.alloc(), &file, LEAST, 0), Ok(dump));
+    assert_same(&rt, read(rt.alloc(), &file, LEAST, 0), Ok(dump));
     Ok(())
 }
 
@@ -30,7 +31,7 @@ fn unused_entry_and_a_stream_without_bytes_are_read(rt: HostRuntime) -> Result<(
     let file = file(&rt, 2, &[0, 7, 4294967295, 10, 0, 0])?;
     let raw = Stream::Raw(10, bytes(rt.alloc(), &[])?);
     let dump = dump_of(two(rt.alloc(), Stream::Unused, raw)?);
-    assert_eq!(rt; read(rt.alloc(), &file, LEAST, 0), Ok(dump));
+    assert_same(&rt, read(rt.alloc(), &file, LEAST, 0), Ok(dump));
     Ok(())
 }
 
@@ -40,7 +41,7 @@ fn stream_of_another_type_is_its_bytes(rt: HostRuntime) -> Result<(), Fail> {
     file.truncate(49);
     let raw = Stream::Raw(10, bytes(rt.alloc(), &[1, 2, 3, 4, 5])?);
     let dump = of_one(rt.alloc(), raw)?;
-    assert_eq!(rt; read(rt.alloc(), &file, LEAST, 5), Ok(dump));
+    assert_same(&rt, read(rt.alloc(), &file, LEAST, 5), Ok(dump));
     Ok(())
 }
 
@@ -59,7 +60,7 @@ fn thread_without_its_stack_is_read(rt: HostRuntime) -> Result<(), Fail> {
         context: part(rt.alloc(), &[0xaa])?,
     };
     let dump = of_one(rt.alloc(), Stream::Threads(one(rt.alloc(), thread)?))?;
-    assert_eq!(rt; read(rt.alloc(), &file, LEAST, 1), Ok(dump));
+    assert_same(&rt, read(rt.alloc(), &file, LEAST, 1), Ok(dump));
     Ok(())
 }
 
@@ -88,7 +89,7 @@ fn thread_and_exception_are_read(rt: HostRuntime) -> Result<(), Fail> {
     };
     let threads = Stream::Threads(one(rt.alloc(), thread)?);
     let dump = dump_of(two(rt.alloc(), threads, Stream::Exception(exception))?);
-    assert_eq!(rt; read(rt.alloc(), &file, LEAST, 14), Ok(dump));
+    assert_same(&rt, read(rt.alloc(), &file, LEAST, 14), Ok(dump));
     Ok(())
 }
 
@@ -122,7 +123,7 @@ fn module_is_read_with_its_name_and_parts(rt: HostRuntime) -> Result<(), Fail> {
         reserved1: 0x0000001400000000,
     };
     let dump = of_one(rt.alloc(), Stream::Modules(one(rt.alloc(), module)?))?;
-    assert_eq!(rt; read(rt.alloc(), &file, NAMED, 6), Ok(dump));
+    assert_same(&rt, read(rt.alloc(), &file, NAMED, 6), Ok(dump));
     Ok(())
 }
 
@@ -138,9 +139,10 @@ fn ranges_of_memory_are_read(rt: HostRuntime) -> Result<(), Fail> {
         bytes: part(rt.alloc(), b"wxyz")?,
     };
     let stream = Stream::Memory(two(rt.alloc(), first, second)?);
-    assert_eq!(rt;
+    assert_same(
+        &rt,
         read(rt.alloc(), &file, LEAST, 8),
-        Ok(of_one(rt.alloc(), stream)?)
+        Ok(of_one(rt.alloc(), stream)?),
     );
     Ok(())
 }
@@ -157,9 +159,10 @@ fn ranges_without_bytes_are_absent_or_empty(rt: HostRuntime) -> Result<(), Fail>
         bytes: part(rt.alloc(), &[])?,
     };
     let stream = Stream::Memory(two(rt.alloc(), first, second)?);
-    assert_eq!(rt;
+    assert_same(
+        &rt,
         read(rt.alloc(), &file, LEAST, 0),
-        Ok(of_one(rt.alloc(), stream)?)
+        Ok(of_one(rt.alloc(), stream)?),
     );
     Ok(())
 }
@@ -177,9 +180,10 @@ fn ranges_of_a_64_bit_list_are_read(rt: HostRuntime) -> Result<(), Fail> {
         bytes: bytes(rt.alloc(), b"EFGH")?,
     };
     let stream = Stream::Memory64(two(rt.alloc(), first, second)?);
-    assert_eq!(rt;
+    assert_same(
+        &rt,
         read(rt.alloc(), &file, LEAST, 8),
-        Ok(of_one(rt.alloc(), stream)?)
+        Ok(of_one(rt.alloc(), stream)?),
     );
     Ok(())
 }
@@ -199,7 +203,7 @@ fn system_is_read_with_its_name(rt: HostRuntime) -> Result<(), Fail> {
     system.name = Some(Units::from_str(rt.alloc(), "Service Pack 1")?);
     system.suite_mask = 256;
     let dump = of_one(rt.alloc(), Stream::System(system))?;
-    assert_eq!(rt; read(rt.alloc(), &SYSTEM, NAMED, 0), Ok(dump));
+    assert_same(&rt, read(rt.alloc(), &SYSTEM, NAMED, 0), Ok(dump));
     Ok(())
 }
 
@@ -214,7 +218,7 @@ fn unloaded_module_is_read_with_its_name(rt: HostRuntime) -> Result<(), Fail> {
         name: Some(Units::from_str(rt.alloc(), "ab")?),
     };
     let dump = of_one(rt.alloc(), Stream::Unloaded(one(rt.alloc(), module)?))?;
-    assert_eq!(rt; read(rt.alloc(), &file, NAMED, 0), Ok(dump));
+    assert_same(&rt, read(rt.alloc(), &file, NAMED, 0), Ok(dump));
     Ok(())
 }
 
@@ -235,7 +239,7 @@ fn region_of_memory_is_read(rt: HostRuntime) -> Result<(), Fail> {
     };
     let file = file(&rt, 1, &numbers)?;
     let dump = of_one(rt.alloc(), Stream::MemoryInfo(one(rt.alloc(), region)?))?;
-    assert_eq!(rt; read(rt.alloc(), &file, LEAST, 0), Ok(dump));
+    assert_same(&rt, read(rt.alloc(), &file, LEAST, 0), Ok(dump));
     Ok(())
 }
 
@@ -244,9 +248,10 @@ fn chosen_entries_alone_are_read(rt: HostRuntime) -> Result<(), Fail> {
     // What is not chosen has faults.
     let file = file(&rt, 3, &FAULTY)?;
     let dump = of_one(rt.alloc(), Stream::System(zeros()))?;
-    assert_eq!(rt;
+    assert_same(
+        &rt,
         read_chosen(rt.alloc(), &file, LEAST, chosen(&[7])?, 0),
-        Ok(dump)
+        Ok(dump),
     );
     Ok(())
 }

@@ -1,6 +1,7 @@
 //! Files that give no dump.
 use super::built::read;
 use crate::files::{LEAST, file, named};
+use crate::same::assert_same;
 use mdmp_dump::{Answered, PartName, ReadFault, read_dump, read_source};
 use mdmp_lister::{Choice, FaultKind, Limits, ListFault, OpenFault};
 use mdmp_source::{PatchyStore, Source, SourceFault};
@@ -31,9 +32,10 @@ fn too_large(entry: u32) -> Option<ReadFault> {
 #[test]
 fn file_that_is_not_listed_gives_no_dump(rt: HostRuntime) {
     let short = OpenFault::TooShort { size: 31 };
-    assert_eq!(rt;
+    assert_same(
+        &rt,
         fault_of(&rt, &[0; 31], LEAST, 0),
-        Some(ReadFault::Opening(short))
+        Some(ReadFault::Opening(short)),
     );
 }
 
@@ -41,12 +43,12 @@ fn file_that_is_not_listed_gives_no_dump(rt: HostRuntime) {
 fn parts_over_their_limit_give_no_dump(rt: HostRuntime) -> Result<(), Fail> {
     let mut absent_stack = file(&rt, 1, &ABSENT_STACK)?;
     absent_stack.truncate(97);
-    assert_eq!(rt; fault_of(&rt, &absent_stack, LEAST, 0), too_large(0));
+    assert_same(&rt, fault_of(&rt, &absent_stack, LEAST, 0), too_large(0));
     let crash = file(&rt, 2, &CRASH)?;
-    assert_eq!(rt; fault_of(&rt, &crash, LEAST, 13), too_large(1));
+    assert_same(&rt, fault_of(&rt, &crash, LEAST, 13), too_large(1));
     let mut comment = file(&rt, 1, &COMMENT)?;
     comment.truncate(49);
-    assert_eq!(rt; fault_of(&rt, &comment, LEAST, 4), too_large(0));
+    assert_same(&rt, fault_of(&rt, &comment, LEAST, 4), too_large(0));
     Ok(())
 }
 
@@ -55,15 +57,15 @@ fn part_outside_the_file_gives_no_dump(rt: HostRuntime) -> Result<(), Fail> {
     let mut file = file(&rt, 1, &ABSENT_STACK)?;
     file.truncate(96);
     let context = outside(0, PartName::Context, 96, 1);
-    assert_eq!(rt; fault_of(&rt, &file, LEAST, 1), context);
+    assert_same(&rt, fault_of(&rt, &file, LEAST, 1), context);
     Ok(())
 }
 
 #[test]
 fn first_of_two_reasons_is_told(rt: HostRuntime) {
     let memory = outside(1, PartName::Memory, 96, 4);
-    assert_eq!(rt; fault_of(&rt, &MEMORY64, LEAST, 4), memory);
-    assert_eq!(rt; fault_of(&rt, &MEMORY64, LEAST, 3), too_large(0));
+    assert_same(&rt, fault_of(&rt, &MEMORY64, LEAST, 4), memory);
+    assert_same(&rt, fault_of(&rt, &MEMORY64, LEAST, 3), too_large(0));
 }
 
 #[test]
@@ -78,7 +80,7 @@ fn long_name_gives_no_dump(rt: HostRuntime) -> Result<(), Fail> {
         index: 0,
         length: 10,
     };
-    assert_eq!(rt; fault_of(&rt, &file, limits, 0), Some(long));
+    assert_same(&rt, fault_of(&rt, &file, limits, 0), Some(long));
     Ok(())
 }
 
@@ -92,9 +94,10 @@ fn fault_of_the_listing_gives_no_dump(rt: HostRuntime) -> Result<(), Fail> {
         offset: 4294967295,
         size: 4,
     };
-    assert_eq!(rt;
+    assert_same(
+        &rt,
         fault_of(&rt, &faulty, LEAST, 0),
-        Some(ReadFault::List(name))
+        Some(ReadFault::List(name)),
     );
     let mut comment = file(&rt, 1, &COMMENT)?;
     comment.truncate(48);
@@ -105,9 +108,10 @@ fn fault_of_the_listing_gives_no_dump(rt: HostRuntime) -> Result<(), Fail> {
         offset: 44,
         size: 5,
     };
-    assert_eq!(rt;
+    assert_same(
+        &rt,
         fault_of(&rt, &comment, LEAST, 4),
-        Some(ReadFault::List(stream))
+        Some(ReadFault::List(stream)),
     );
     Ok(())
 }
@@ -158,8 +162,8 @@ fn source_of_a_file_comes_back(rt: HostRuntime) -> Result<(), Fail> {
     for (call, place, calls) in [(3, Some(108), 4), (7, None, 7)] {
         let source = Source::new(PatchyStore::new(&file, &[4096], Some(call)));
         let Answered { answer, source } = read_source(rt.alloc(), source, LEAST, Choice::All, 14);
-        assert_eq!(rt; answer.err().and_then(place_of), place);
-        assert_eq!(rt; source.calls(), calls);
+        assert_same(&rt, answer.err().and_then(place_of), place);
+        assert_same(&rt, source.calls(), calls);
     }
     Ok(())
 }

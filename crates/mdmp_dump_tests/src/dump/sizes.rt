@@ -1,4 +1,5 @@
 //! Sizes over 0.
+use crate::same::assert_same;
 use mdmp_dump::PositiveSize;
 use std::test::Fail;
 
@@ -9,20 +10,20 @@ fn told(size: u32) -> Option<u32> {
 
 #[test]
 fn sizes_over_zero_are_told(rt: HostRuntime) {
-    assert_eq!(rt; told(1), Some(1));
-    assert_eq!(rt; told(u32::MAX), Some(u32::MAX));
+    assert_same(&rt, told(1), Some(1));
+    assert_same(&rt, told(u32::MAX), Some(u32::MAX));
 }
 
 #[test]
 fn size_of_zero_is_none(rt: HostRuntime) {
-    assert_eq!(rt; told(0), None);
+    assert_same(&rt, told(0), None);
 }
 
 #[test]
 fn sizes_are_compared_and_printed(rt: HostRuntime) -> Result<(), Fail> {
-    assert_eq!(rt; PositiveSize::new(7), PositiveSize::new(7));
+    assert_same(&rt, PositiveSize::new(7), PositiveSize::new(7));
     assert_ne!(rt; PositiveSize::new(7), PositiveSize::new(8));
     let text = format!(in rt.alloc(); "{:?}", PositiveSize::new(7))?;
-    assert_eq!(rt; text.as_str(), "Some(PositiveSize { size: 7 })");
+    assert_same(&rt, text.as_str(), "Some(PositiveSize { size: 7 })");
     Ok(())
 }

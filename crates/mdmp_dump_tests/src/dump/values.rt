@@ -1,5 +1,6 @@
 //! Dumps as values: built, looked at, compared and printed.
 use super::built::{bytes, one};
+use crate::same::assert_same;
 use mdmp_dump::{Dump, Memory64Range, MemoryRange, Part, PositiveSize, Stream, Unloaded};
 use mdmp_wire::Units;
 use std::alloc::{AllocError, Allocator};
@@ -72,7 +73,7 @@ fn dump_is_built_and_looked_at(rt: HostRuntime) -> Result<(), Fail> {
 #[test]
 fn names_are_compared(rt: HostRuntime) -> Result<(), Fail> {
     let dump = named(rt.alloc(), "a.dll")?;
-    assert_eq!(rt; dump, named(rt.alloc(), "a.dll")?);
+    assert_same(&rt, &dump, &named(rt.alloc(), "a.dll")?);
     assert_ne!(rt; dump, named(rt.alloc(), "b.dll")?);
     Ok(())
 }
@@ -84,7 +85,7 @@ fn parts_are_compared(rt: HostRuntime) -> Result<(), Fail> {
     let other = ranged(rt.alloc(), Part::Bytes(bytes(rt.alloc(), b"AC")?))?;
     let size = PositiveSize::new(2).ok_or("a size over 0")?;
     let absent = ranged(rt.alloc(), Part::Absent(size))?;
-    assert_eq!(rt; dump, same);
+    assert_same(&rt, &dump, &same);
     assert_ne!(rt; dump, other);
     assert_ne!(rt; dump, absent);
     Ok(())
@@ -95,15 +96,17 @@ fn dump_is_printed_as_any_value(rt: HostRuntime) -> Result<(), Fail> {
     let raw = Stream::Raw(10, bytes(rt.alloc(), &[1, 2])?);
     let dump = dump_of(rt.alloc(), raw)?;
     let text = format!(in rt.alloc(); "{dump:?}")?;
-    assert_eq!(rt;
+    assert_same(
+        &rt,
         text.as_str(),
-        "Dump { version_high: 1, checksum: 2, time: 3, flags: 4, streams: [Raw(10, [1, 2])] }"
+        "Dump { version_high: 1, checksum: 2, time: 3, flags: 4, streams: [Raw(10, [1, 2])] }",
     );
 
     let text = format!(in rt.alloc(); "{:?}", unloaded(rt.alloc(), "a\\")?)?;
-    assert_eq!(rt;
+    assert_same(
+        &rt,
         text.as_str(),
-        "Unloaded { base_of_image: 4096, size_of_image: 512, checksum: 1, time_date_stamp: 2, name: Some(\"a\\u005c\") }"
+        "Unloaded { base_of_image: 4096, size_of_image: 512, checksum: 1, time_date_stamp: 2, name: Some(\"a\\u005c\") }",
     );
     Ok(())
 }
@@ -115,10 +118,10 @@ fn lists_are_given_back(rt: HostRuntime) -> Result<(), Fail> {
         bytes: bytes(rt.alloc(), b"ABCD")?,
     };
     let list = one(rt.alloc(), range)?.into_vec();
-    assert_eq!(rt; list.len(), 1);
+    assert_same(&rt, list.len(), 1);
     for range in list {
         let bytes = range.bytes.into_vec();
-        assert_eq!(rt; bytes.as_slice(), b"ABCD".as_slice());
+        assert_same(&rt, bytes.as_slice(), b"ABCD".as_slice());
     }
     Ok(())
 }

@@ -4,6 +4,7 @@ ghost use Rattle.mdmp_dump.specs.Shape.{head_of, stream_at};
 
 use super::built::read;
 use crate::files::{LEAST, NAMED, file};
+use crate::same::assert_same;
 use mdmp_dump::{DumpView, Fields, HeaderFields, Kind, PartSize};
 use mdmp_source::Location;
 use mdmp_test_files::{ABSENT_STACK, MEMORY64, SIX};
@@ -116,7 +117,7 @@ fn streams_are_told_by_their_kinds_and_sizes(rt: HostRuntime) -> Result<(), Fail
         let told = Told { kind, body, parts };
         assert_eq!(rt; told_of(&mut view, stream), Some(told), "{stream}");
     }
-    assert_eq!(rt; told_of(&mut view, 6), None);
+    assert_same(&rt, told_of(&mut view, 6), None);
     Ok(())
 }
 
@@ -130,7 +131,7 @@ fn memory_of_64_bits_is_told_by_its_bytes(rt: HostRuntime) -> Result<(), Fail> {
         body: 48,
         parts: 8,
     };
-    assert_eq!(rt; told_of(&mut dump.view(), 0), Some(told));
+    assert_same(&rt, told_of(&mut dump.view(), 0), Some(told));
     let mut out = [0; 3];
     let fields = Fields {
         wire: AnyRecord::Memory64(Descriptor64 {
@@ -139,11 +140,12 @@ fn memory_of_64_bits_is_told_by_its_bytes(rt: HostRuntime) -> Result<(), Fail> {
         }),
         parts: [PartSize::Size(4), PartSize::NoPart, PartSize::NoPart],
     };
-    assert_eq!(rt;
+    assert_same(
+        &rt,
         first_record(&mut dump.view(), 0, 0, 1, &mut out),
-        Some(fields)
+        Some(fields),
     );
-    assert_eq!(rt; out, *b"BCD");
+    assert_same(&rt, out, *b"BCD");
     Ok(())
 }
 
@@ -160,7 +162,7 @@ fn numbers_of_the_header_are_given(rt: HostRuntime) -> Result<(), Fail> {
         time: 3,
         flags: 4,
     };
-    assert_eq!(rt; header_of(&mut dump.view()), header);
+    assert_same(&rt, header_of(&mut dump.view()), header);
     Ok(())
 }
 
@@ -184,8 +186,8 @@ fn record_is_given_without_its_locations(rt: HostRuntime) -> Result<(), Fail> {
         parts: [PartSize::Size(4), PartSize::Size(6), PartSize::NoPart],
     };
     let mut view = six.view();
-    assert_eq!(rt; first_record(&mut view, 1, 0, 0, &mut []), Some(fields));
-    assert_eq!(rt; first_record(&mut view, 2, 0, 0, &mut []), None);
+    assert_same(&rt, first_record(&mut view, 1, 0, 0, &mut []), Some(fields));
+    assert_same(&rt, first_record(&mut view, 2, 0, 0, &mut []), None);
     Ok(())
 }
 
@@ -196,7 +198,7 @@ fn absent_part_is_given_as_its_size(rt: HostRuntime) -> Result<(), Fail> {
     let dump = read(rt.alloc(), &file, LEAST, 1)?;
     let parts = first_record(&mut dump.view(), 0, 0, 0, &mut []).map(|fields| fields.parts);
     let expected = [PartSize::Absent(256), PartSize::Size(1), PartSize::NoPart];
-    assert_eq!(rt; parts, Some(expected));
+    assert_same(&rt, parts, Some(expected));
     Ok(())
 }
 
@@ -230,8 +232,8 @@ fn parts_are_given_by_pieces(rt: HostRuntime) -> Result<(), Fail> {
 fn raw_bytes_are_given_by_pieces(rt: HostRuntime) -> Result<(), Fail> {
     let six = read(rt.alloc(), &file(&rt, 6, &SIX)?, NAMED, 18)?;
     let mut out = [0; 2];
-    assert_eq!(rt; raw_bytes(&mut six.view(), 5, 1, &mut out), Some(()));
-    assert_eq!(rt; out, [2, 3]);
-    assert_eq!(rt; raw_bytes(&mut six.view(), 4, 0, &mut out), None);
+    assert_same(&rt, raw_bytes(&mut six.view(), 5, 1, &mut out), Some(()));
+    assert_same(&rt, out, [2, 3]);
+    assert_same(&rt, raw_bytes(&mut six.view(), 4, 0, &mut out), None);
     Ok(())
 }

@@ -2,6 +2,7 @@
 use super::assert_written;
 use crate::dump::built::{absent, bytes, dump_of, of_one, one, part, read, two};
 use crate::files::{LEAST, NAMED, file};
+use crate::same::assert_same;
 use mdmp_dump::{Memory64Range, MemoryRange, Records, Stream, Thread, Unloaded};
 use mdmp_test_files::{ABSENT_STACK, MODULE, THRICE};
 use mdmp_wire::Units;
@@ -60,7 +61,7 @@ fn absent_part_is_written_as_its_size(rt: HostRuntime) -> Result<(), Fail> {
     };
     let dump = of_one(rt.alloc(), Stream::Threads(one(rt.alloc(), thread)?))?;
     let file = file(&rt, 1, &ABSENT_STACK)?;
-    assert_eq!(rt; file.len(), 100);
+    assert_same(&rt, file.len(), 100);
     assert_written(&rt, rt.alloc(), &dump, &file)
 }
 

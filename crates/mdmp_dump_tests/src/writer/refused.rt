@@ -5,6 +5,7 @@ ghost use Rattle.std.proofs.lemmas.Option.{none-some};
 
 use super::{open_out, size_of, write_value, write_view};
 use crate::dump::built::{bytes, dump_of, of_one, two};
+use crate::same::assert_same;
 use mdmp_dump::{DumpView, Fields, HeaderFields, Kind, Stream, ViewFault};
 use mdmp_source::SourceFault;
 use mdmp_writer::{LayoutFault, WriteFault, written_size};
@@ -112,7 +113,7 @@ fn first_such_stream_is_told(rt: HostRuntime) -> Result<(), Fail> {
     let raw = Stream::Raw(3, bytes(rt.alloc(), &[])?);
     let dump = dump_of(two(rt.alloc(), Stream::Unused, raw)?);
     let fault = LayoutFault::RawKnownType { stream: 1 };
-    assert_eq!(rt; size_of(&dump), Err(fault));
+    assert_same(&rt, size_of(&dump), Err(fault));
     Ok(())
 }
 
@@ -125,7 +126,7 @@ fn streams_end_below_2_to_the_32(rt: HostRuntime) {
     for raw in [end - 76, end - 79] {
         assert_eq!(rt; size_by(10, raw, 0), Ok(end - 4), "{raw}");
     }
-    assert_eq!(rt; size_by(10, end - 76, end), Ok(2 * end - 4));
+    assert_same(&rt, size_by(10, end - 76, end), Ok(2 * end - 4));
 }
 
 #[test]
@@ -147,13 +148,13 @@ fn dump_that_is_too_large_is_not_begun(rt: HostRuntime) -> Result<(), Fail> {
     };
     let mut out = open_out(rt.alloc())?;
     let fault = WriteFault::Layout(LayoutFault::TooLarge);
-    assert_eq!(rt; write_view(&mut view, &mut out, 1), Err(fault));
-    assert_eq!(rt; out.bytes(), b"".as_slice());
+    assert_same(&rt, write_view(&mut view, &mut out, 1), Err(fault));
+    assert_same(&rt, out.bytes(), b"".as_slice());
     Ok(())
 }
 
 #[test]
 fn type_is_told_before_the_size(rt: HostRuntime) {
     let fault = LayoutFault::RawKnownType { stream: 0 };
-    assert_eq!(rt; size_by(3, u64::MAX, u64::MAX), Err(fault));
+    assert_same(&rt, size_by(3, u64::MAX, u64::MAX), Err(fault));
 }

@@ -1,6 +1,7 @@
 //! Dumps that are written into memory and read back.
 use crate::dump::built::{bytes, of_one, read};
 use crate::files::{LEAST, NAMED, file};
+use crate::same::assert_same;
 use linked_list_allocator::LocalHeap;
 use mdmp_dump::{Dump, ReadFault, Stream};
 use mdmp_lister::Limits;
@@ -41,15 +42,15 @@ fn dump_is_read_back(rt: HostRuntime) -> Result<(), Fail> {
     let file = file(&rt, 6, &SIX)?;
     let six = read(rt.alloc(), &file, NAMED, 18)?;
     let stored = stored(rt.alloc(), &six)?;
-    assert_eq!(rt; stored.as_slice(), file.as_slice());
-    assert_eq!(rt; read_back(rt.alloc(), &six, NAMED, 18), Ok(six));
+    assert_same(&rt, stored.as_slice(), file.as_slice());
+    assert_same(&rt, read_back(rt.alloc(), &six, NAMED, 18), Ok(six));
     Ok(())
 }
 
 #[test]
 fn name_of_the_limit_is_read_back(rt: HostRuntime) -> Result<(), Fail> {
     let system = read(rt.alloc(), &SYSTEM, NAMED, 0)?;
-    assert_eq!(rt; read_back(rt.alloc(), &system, EXACT, 0), Ok(system));
+    assert_same(&rt, read_back(rt.alloc(), &system, EXACT, 0), Ok(system));
     Ok(())
 }
 
@@ -61,9 +62,10 @@ fn name_past_the_limit_is_not_read_back(rt: HostRuntime) -> Result<(), Fail> {
         index: 0,
         length: 28,
     };
-    assert_eq!(rt;
+    assert_same(
+        &rt,
         read_back(rt.alloc(), &system, SHORT, 0),
-        Err(RoundTripFault::Read(long))
+        Err(RoundTripFault::Read(long)),
     );
     Ok(())
 }
@@ -72,9 +74,10 @@ fn name_past_the_limit_is_not_read_back(rt: HostRuntime) -> Result<(), Fail> {
 fn parts_past_their_limit_are_not_read_back(rt: HostRuntime) -> Result<(), Fail> {
     let crash = read(rt.alloc(), &file(&rt, 2, &CRASH)?, LEAST, 14)?;
     let large = ReadFault::PartsTooLarge { entry: 1, index: 0 };
-    assert_eq!(rt;
+    assert_same(
+        &rt,
         read_back(rt.alloc(), &crash, LEAST, 13),
-        Err(RoundTripFault::Read(large))
+        Err(RoundTripFault::Read(large)),
     );
     Ok(())
 }
@@ -84,12 +87,13 @@ fn dump_that_is_not_written_is_not_read_back(rt: HostRuntime) -> Result<(), Fail
     let raw = Stream::Raw(3, bytes(rt.alloc(), &[1])?);
     let dump = of_one(rt.alloc(), raw)?;
     let fault = LayoutFault::RawKnownType { stream: 0 };
-    assert_eq!(rt;
+    assert_same(
+        &rt,
         stored(rt.alloc(), &dump),
-        Err(ToMemoryFault::Layout(fault))
+        Err(ToMemoryFault::Layout(fault)),
     );
     let answer = read_back(rt.alloc(), &dump, LEAST, 1);
-    assert_eq!(rt; answer, Err(RoundTripFault::Layout(fault)));
+    assert_same(&rt, answer, Err(RoundTripFault::Layout(fault)));
     Ok(())
 }
 
@@ -122,11 +126,11 @@ fn want_of_memory_for_the_bytes_is_told(rt: HostRuntime) -> Result<(), Fail> {
         stored: Ok(292),
         fault: None,
     };
-    assert_eq!(rt; outcome_in(&rt, 4096, &file)?, Some(enough));
+    assert_same(&rt, outcome_in(&rt, 4096, &file)?, Some(enough));
     // What is read takes less beside the dump than its bytes do.
     for step in 0..256 {
         if let Some(outcome) = outcome_in(&rt, 16 * step, &file)? {
-            assert_eq!(rt; outcome, wanting);
+            assert_same(&rt, outcome, wanting);
             return Ok(());
         }
     }

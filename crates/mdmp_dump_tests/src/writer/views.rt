@@ -5,6 +5,7 @@ ghost use Rattle.std.proofs.lemmas.Option.{none-some};
 use super::{open_out, write_view};
 use crate::dump::built::read;
 use crate::files::{LEAST, NAMED, file};
+use crate::same::assert_same;
 use mdmp_dump::{Dump, DumpView, Fields, HeaderFields, Kind, ViewFault};
 use mdmp_source::SourceFault;
 use mdmp_test_files::{MEMORY64, SIX};
@@ -106,8 +107,8 @@ fn assert_first_parts(
         let mut out = open_out(alloc)?;
         let answer = write_view(&mut view, &mut out, room);
         if answer.is_ok() {
-            assert_eq!(rt; answer, Ok(file.len() as u64));
-            assert_eq!(rt; out.bytes(), file);
+            assert_same(rt, answer, Ok(file.len() as u64));
+            assert_same(rt, out.bytes(), file);
             return Ok(());
         }
         assert_eq!(rt; answer, Err(WriteFault::View(FAULT)), "at {fail_at}");
