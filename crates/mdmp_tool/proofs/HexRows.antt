@@ -1,15 +1,11 @@
--- What `hex` prints of some addresses, and what its words name, computed by the definitions.
-use Rattle.std.proofs.Common.{◌≡◌, ℕ, List, [], ◌∷◌, ◌++◌, true, false, Option, Some, None, refl}
+-- What `hex` prints of some addresses, computed by the definitions.
+use Rattle.std.proofs.Common.{◌≡◌, ℕ, List, [], ◌∷◌, ◌++◌, true, false, refl}
 use Rattle.std.specs.Prelude.{codes, replicate}
 use Rattle.std.specs.List.{concat}
 use Rattle.mdmp_wire.specs.Digits.{hex}
 use Rattle.mdmp_map.specs.declared.range.Range.{Range}
-use Rattle.mdmp_tool.specs.declared.hex_words.Span.{Span}
 use Rattle.mdmp_lister.specs.Addressing.{cells}
 use Rattle.mdmp_tool.specs.HexText.{cells_text, hex_text}
-use Rattle.mdmp_tool.specs.HexWords.{address_named, length_named, span_named}
-
--- ---- the text
 
 abbrev range_of : ℕ → ℕ → ℕ → Range
 range_of start length offset = record { start = start; length = length; offset = offset }
@@ -54,65 +50,3 @@ last_address-text = refl
 known-text : cells_text 0xa (cells (0 ∷ 255 ∷ 16 ∷ []) (true ∷ false ∷ true ∷ [])) ≡ codes "0x000000000000000a: 00 ?? 10\n"
 unfolding hex
 known-text = refl
-
--- ---- words
-
-abbrev span : ℕ → ℕ → Option Span
-span address length = Some (record { address = address; length = length })
-
-hexadecimal-address : address_named (codes "0x0123456789aBcDeF") ≡ Some 0x0123456789abcdef
-hexadecimal-address = refl
-
-decimal-address : address_named (codes "0018446744073709551615") ≡ Some 18446744073709551615
-decimal-address = refl
-
-no_digits-address : address_named (codes "0x") ≡ None
-no_digits-address = refl
-
-long-address : address_named (codes "0x00000000000000001") ≡ None
-long-address = refl
-
-upper_case_x-address : address_named (codes "0X10") ≡ None
-upper_case_x-address = refl
-
-signed-address : address_named (codes "0x+1") ≡ None
-signed-address = refl
-
-too_high-address : address_named (codes "18446744073709551616") ≡ None
-too_high-address = refl
-
-limit-length : length_named (codes "1048576") ≡ Some 1048576
-limit-length = refl
-
-past_limit-length : length_named (codes "1048577") ≡ None
-past_limit-length = refl
-
-padded-length : length_named (codes "000000000000000000000000000001") ≡ Some 1
-padded-length = refl
-
-empty-length : length_named [] ≡ None
-empty-length = refl
-
-signed-length : length_named (codes "+5") ≡ None
-signed-length = refl
-
-hexadecimal-length : length_named (codes "0x10") ≡ None
-hexadecimal-length = refl
-
-grouped-length : length_named (codes "1_0") ≡ None
-grouped-length = refl
-
-blank-length : length_named (codes " 1") ≡ None
-blank-length = refl
-
--- a span may have no addresses
-no_bytes-span : span_named (codes "4096") (codes "0") ≡ span 4096 0
-no_bytes-span = refl
-
--- a span may end at the last address
-last-span : span_named (codes "0xFFFFFFFFFFFFFFF8") (codes "8") ≡ span 0xfffffffffffffff8 8
-last-span = refl
-
--- and does not wrap
-past_last-span : span_named (codes "0xFFFFFFFFFFFFFFF8") (codes "9") ≡ None
-past_last-span = refl

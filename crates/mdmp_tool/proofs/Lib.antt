@@ -15,5 +15,3 @@ pub mod Printing
 pub mod Rows
 pub mod Symbols
 pub mod Telling
-pub mod TypeLemmas
-pub mod WordLemmas

@@ -4,8 +4,8 @@ use Rattle.mdmp_source.specs.Output.{OutState, PutsAll, PutsPrefix}
 use Rattle.mdmp_source.specs.Source.{SourceState}
 use Rattle.mdmp_source.specs.Store.{IsGood}
 use Rattle.mdmp_tool.specs.declared.fault.ToolFault.{ToolFault}
-use Rattle.mdmp_tool.specs.declared.request.Print.{Print}
-use Rattle.mdmp_tool.specs.declared.request.Print.TheVariants.{Check, List as Listing, Hex}
+use Rattle.mdmp_words.specs.declared.request.Print.{Print}
+use Rattle.mdmp_words.specs.declared.request.Print.TheVariants.{Check, List as Listing, Hex}
 use Rattle.mdmp_tool.specs.Causes.{IsNoSourceFault}
 use Rattle.mdmp_tool.specs.CheckRuns.{ChecksThrough}
 use Rattle.mdmp_tool.specs.CheckText.{bad_text}

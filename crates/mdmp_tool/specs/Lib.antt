@@ -7,14 +7,11 @@ pub mod Engines
 pub mod Faults
 pub mod HexRuns
 pub mod HexText
-pub mod HexWords
 pub mod ItemLines
 pub mod Line
 pub mod Lines
-pub mod OptionWords
 pub mod PdbLines
 pub mod Pieces
-pub mod Requests
 pub mod Runs
 pub mod Telling
 pub mod Text

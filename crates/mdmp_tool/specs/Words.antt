@@ -8,14 +8,14 @@ use Rattle.mdmp_source.specs.Store.{IsNew}
 use Rattle.mdmp_tool.specs.Commands.{HasCopied, HasPrinted, IsTold}
 use Rattle.mdmp_tool.specs.Copying.{first_not_copied}
 use Rattle.mdmp_tool.specs.Faults.{fault_text, status_of}
-use Rattle.mdmp_tool.specs.Requests.{AsksNothing, IsValid}
+use Rattle.mdmp_words.specs.Requests.{AsksNothing, IsValid}
 use Rattle.mdmp_tool.specs.declared.fault.ToolFault.{ToolFault}
 use Rattle.mdmp_tool.specs.declared.fault.ToolFault.TheVariants.{Memory, NotCopied, Out}
-use Rattle.mdmp_tool.specs.declared.request.Asked.{Asked}
-use Rattle.mdmp_tool.specs.declared.request.Asked.TheVariants as asks
-use Rattle.mdmp_tool.specs.declared.request.Command.{Command}
-use Rattle.mdmp_tool.specs.declared.request.Command.TheVariants as commands
-use Rattle.mdmp_tool.specs.declared.request.Print.{Print}
+use Rattle.mdmp_words.specs.declared.request.Asked.{Asked}
+use Rattle.mdmp_words.specs.declared.request.Asked.TheVariants as asks
+use Rattle.mdmp_words.specs.declared.request.Command.{Command}
+use Rattle.mdmp_words.specs.declared.request.Command.TheVariants as commands
+use Rattle.mdmp_words.specs.declared.request.Print.{Print}
 
 -- both outputs, before and after
 pub record Outputs : Type 0 where

@@ -4,7 +4,7 @@ ghost use Rattle.mdmp_map.specs.Ranges.{address_end};
 ghost use Rattle.mdmp_tool.specs.CheckRuns.{ChecksThrough};
 ghost use Rattle.mdmp_tool.specs.Engines.{IsFlushed, Reads, Tells, in_blocks};
 ghost use Rattle.mdmp_tool.specs.HexRuns.{HexesThrough};
-ghost use Rattle.mdmp_tool.specs.HexWords.{length_limit};
+ghost use Rattle.mdmp_words.specs.HexWords.{length_limit};
 ghost use Rattle.mdmp_tool.specs.Runs.{ListsThrough};
 
 use crate::check::CheckEngine;

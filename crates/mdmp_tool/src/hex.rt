@@ -8,7 +8,7 @@ ghost use Rattle.mdmp_lister.specs.Format.Ranges.{ranges_of};
 ghost use Rattle.mdmp_lister.specs.Fault.{IsOfSource, IsToldIn};
 ghost use Rattle.mdmp_tool.specs.Engines.{Leaves, Reads, Tells, directly};
 ghost use Rattle.mdmp_tool.specs.HexRuns.{Hexes, HexesMemory, HexesRun};
-ghost use Rattle.mdmp_tool.specs.HexWords.{length_limit};
+ghost use Rattle.mdmp_words.specs.HexWords.{length_limit};
 
 use crate::engine::{Answered, Engine, run, run_source};
 use crate::fault::{ToolFault, told_list};

@@ -1,7 +1,7 @@
 //! The commands of `mdmp`: what they print, and the faults that end them.
 //!
-//! [`run_words`] reads the words behind the program's name and runs a command; [`request_of`] says
-//! what words ask for, by the crate `clap`. Under it stands a core over a source and two outputs,
+//! [`run_words`] reads the words behind the program's name, by [`request_of`] of `mdmp_words`, and runs
+//! the command that they ask for. Under it stands a core over a source and two outputs,
 //! [`print_told`] and [`copy_told`], whose contract says what is written and told, and the exit
 //! status; and under that one engine for each command. [`run_list`] writes of a good store the text
 //! of `specs/Text.antt`, whole or up to the first bad location, and of one that fails the first part
@@ -13,31 +13,24 @@
 //! A [`ToolFault`] has the exit status of [`status`] and the line of [`fault_line`].
 #![tactic(auto)]
 
-mod asking;
 mod blocks;
 mod check;
-mod command_line;
 mod copy;
 mod engine;
 mod fault;
 mod fault_lines;
-mod help;
 mod hex;
 mod hex_lines;
-mod hex_words;
 mod item_lines;
 mod line;
 mod lines;
 mod list;
-mod option_words;
 mod pdb_lines;
 mod pieces;
-mod request;
 mod running;
 mod verdict_lines;
 mod words;
 
-pub use crate::asking::request_of;
 pub use crate::blocks::{check_in_blocks, hex_in_blocks, list_in_blocks};
 pub use crate::check::{check_source, run_check};
 pub use crate::copy::{copied, copy_source, run_copy};
@@ -45,11 +38,10 @@ pub use crate::engine::Answered;
 pub use crate::fault::{ToolFault, status};
 pub use crate::fault_lines::fault_line;
 pub use crate::hex::{hex_source, run_hex};
-pub use crate::hex_words::Span;
 pub use crate::list::{list_source, run_list};
-pub use crate::request::{Asked, Command, Print, Request};
 pub use crate::running::{Ended, copy_told, print_told};
 pub use crate::words::run_words;
 pub use mdmp_dump::{PartName, ReadFault};
 pub use mdmp_lister::{FaultKind, Limits, ListFault, OpenFault, TypeSet};
+pub use mdmp_words::{Asked, Command, Print, Request, Span, request_of};
 pub use mdmp_writer::LayoutFault;

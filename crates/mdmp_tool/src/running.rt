@@ -1,18 +1,17 @@
 //! Commands over a source: what they print or copy, what they tell, and their exit status.
 ghost use Rattle.std.specs.Prelude.{◌≡◌, []};
 ghost use Rattle.mdmp_tool.specs.Commands.{HasCopied, HasPrinted, IsCheckEnd, IsEnd};
-ghost use Rattle.mdmp_tool.specs.Requests.{IsPrintable};
+ghost use Rattle.mdmp_words.specs.Requests.{IsPrintable};
 
 use crate::blocks::{check_in_blocks, hex_in_blocks, list_in_blocks};
 use crate::copy::copy_source;
 use crate::engine::Answered;
 use crate::fault::{ToolFault, status};
 use crate::fault_lines::fault_line;
-use crate::hex_words::Span;
-use crate::request::Print;
 use crate::verdict_lines::put_bad_entries;
 use mdmp_lister::{Limits, TypeSet};
 use mdmp_source::{BlockOut, Out, Source, Store};
+use mdmp_words::{Print, Span};
 use std::alloc::Allocator;
 
 /// What a command came to, and the source that it read.

@@ -57,8 +57,6 @@ mod records;
 #[cfg(test)]
 mod refusals;
 #[cfg(test)]
-mod requests;
-#[cfg(test)]
 mod running;
 #[cfg(test)]
 mod runs;

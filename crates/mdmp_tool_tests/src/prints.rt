@@ -2,7 +2,7 @@
 //!
 //! No function that a test calls here has a contract, so that the test knows nothing of what it did,
 //! and its own proof stays short.
-ghost use Rattle.mdmp_tool.specs.Requests.{IsPrintable};
+ghost use Rattle.mdmp_words.specs.Requests.{IsPrintable};
 
 use crate::runs::{Ended, LONG, Room, empty_out, text_in};
 use mdmp_source::{BlockOut, PatchyOut, Source, Store};

@@ -2,7 +2,7 @@
 ghost use Rattle.std.specs.Prelude.{◌≡◌, [], IfSome, option_map, codes};
 ghost use Rattle.clap.specs.Matches.{found_of, has_subcommand};
 ghost use Rattle.clap.specs.Values.{kind_of};
-ghost use Rattle.mdmp_tool.specs.Requests.{AsksNothing, IsTextOf, IsValid, IsWithin, NamesBy, check_named, copy_named, hex_named, list_named, named_over, plain, plain_command};
+ghost use Rattle.mdmp_words.specs.Requests.{AsksNothing, IsTextOf, IsValid, IsWithin, NamesBy, check_named, copy_named, hex_named, list_named, named_over, plain, plain_command};
 
 use crate::command_line::command_line;
 use crate::hex_words::span_of;

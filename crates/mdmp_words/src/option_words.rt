@@ -1,6 +1,6 @@
 //! The words that say how a file is read, and which streams are copied.
 ghost use Rattle.std.specs.Prelude.{◌≡◌, option_map, map};
-ghost use Rattle.mdmp_tool.specs.OptionWords.{decimal32_number, limits_named, number_or, sizes_of, types_named};
+ghost use Rattle.mdmp_words.specs.OptionWords.{decimal32_number, limits_named, number_or, sizes_of, types_named};
 
 use crate::hex_words::decimal_of;
 use mdmp_lister::{Limits, TypeSet};

@@ -1,6 +1,7 @@
 //! What the words of a command line ask for.
 use crate::same::{assert_same, assert_same_at};
-use mdmp_tool::{Asked, Command, Limits, Print, Request, request_of};
+use mdmp_lister::Limits;
+use mdmp_words::{Asked, Command, Print, Request, request_of};
 use std::alloc::{AllocError, Global};
 use std::test::Fail;
 

@@ -7,16 +7,16 @@ use Rattle.clap.specs.declared.error.kind.ErrorKind.{ErrorKind}
 use Rattle.clap.specs.declared.error.kind.ErrorKind.TheVariants.{DisplayHelp, DisplayVersion}
 use Rattle.clap.specs.declared.parser.matches.Found.{Found}
 use Rattle.mdmp_map.specs.Ranges.{address_end}
-use Rattle.mdmp_tool.specs.HexWords.{length_limit, span_named}
-use Rattle.mdmp_tool.specs.OptionWords.{Sizes, limits_named, sizes_of, types_named}
-use Rattle.mdmp_tool.specs.declared.hex_words.Span.{Span}
-use Rattle.mdmp_tool.specs.declared.request.Asked.{Asked}
-use Rattle.mdmp_tool.specs.declared.request.Asked.TheVariants.{Run, Help, Refused, Bad, Memory}
-use Rattle.mdmp_tool.specs.declared.request.Command.{Command}
-use Rattle.mdmp_tool.specs.declared.request.Command.TheVariants.{Print as Printing, Copy}
-use Rattle.mdmp_tool.specs.declared.request.Print.{Print}
-use Rattle.mdmp_tool.specs.declared.request.Print.TheVariants.{Check, List as Listing, Hex}
-use Rattle.mdmp_tool.specs.declared.request.Request.{Request}
+use Rattle.mdmp_words.specs.HexWords.{length_limit, span_named}
+use Rattle.mdmp_words.specs.OptionWords.{Sizes, limits_named, sizes_of, types_named}
+use Rattle.mdmp_words.specs.declared.hex_words.Span.{Span}
+use Rattle.mdmp_words.specs.declared.request.Asked.{Asked}
+use Rattle.mdmp_words.specs.declared.request.Asked.TheVariants.{Run, Help, Refused, Bad, Memory}
+use Rattle.mdmp_words.specs.declared.request.Command.{Command}
+use Rattle.mdmp_words.specs.declared.request.Command.TheVariants.{Print as Printing, Copy}
+use Rattle.mdmp_words.specs.declared.request.Print.{Print}
+use Rattle.mdmp_words.specs.declared.request.Print.TheVariants.{Check, List as Listing, Hex}
+use Rattle.mdmp_words.specs.declared.request.Request.{Request}
 
 -- ---- requests as plain values
 

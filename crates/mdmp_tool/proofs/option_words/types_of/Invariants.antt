@@ -1,5 +1,0 @@
-use Rattle.mdmp_tool.proofs.TypeLemmas.{TypesRead}
-use Rattle.mdmp_tool.proofs.option_words.types_of.Given as goal
-
-abbrev pub invariant-loop-i : goal.invariant-loop-i
-invariant-loop-i l = TypesRead l.words l.types l.i

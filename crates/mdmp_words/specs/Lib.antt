@@ -1,0 +1,3 @@
+pub mod HexWords
+pub mod OptionWords
+pub mod Requests

@@ -1,0 +1,18 @@
+//! The words of the command line of `mdmp`, and what they ask for.
+//!
+//! [`request_of`] reads the words behind the program's name, by the crate `clap`: it gives a
+//! [`Request`], whose numbers and types are read by the definitions of `specs/HexWords.antt` and
+//! `specs/OptionWords.antt`, or the help that is asked for, or why the words ask for nothing. It
+//! opens no file and prints nothing.
+#![tactic(auto)]
+
+mod asking;
+mod command_line;
+mod help;
+mod hex_words;
+mod option_words;
+mod request;
+
+pub use crate::asking::request_of;
+pub use crate::hex_words::Span;
+pub use crate::request::{Asked, Command, Print, Request};
