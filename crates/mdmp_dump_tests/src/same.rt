@@ -1,9 +1,9 @@
-//! The comparison that the tests of this crate share.
+//! The comparisons of the tests. The text of `assert_eq!` is long for the prover in each function that has
+//! it, and a call is short; so it stands here, in functions without a contract.
 use std::fmt::Debug;
 use std::process::Abort;
 
-/// What was found is what was expected. A call of this costs the prover less than the text of
-/// `assert_eq!` in each test.
-pub(crate) fn assert_same<T: PartialEq + Debug + Drop>(rt: &impl Abort, found: T, expected: T) {
-    assert_eq!(rt; found, expected);
+/// Asserts that what was found is what was expected.
+pub fn assert_same<T: PartialEq + Debug + Drop>(rt: &impl Abort, found: T, expected: T) {
+    assert_eq!(rt; found, expected)
 }

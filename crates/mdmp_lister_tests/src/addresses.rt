@@ -1,5 +1,4 @@
 //! What is read of the dumped process's memory.
-use crate::files::file;
 use crate::given::{range, stream};
 use crate::same::assert_same;
 use crate::script::{
@@ -8,7 +7,7 @@ use crate::script::{
 };
 use mdmp_lister::{Choice, Limits, Lister, StopAt};
 use mdmp_source::{Extent, MemoryStore, PatchyStore, Source, SourceFault};
-use mdmp_test_files::{MEMORY64, OVERLAPPING};
+use mdmp_test_support::{MEMORY64, OVERLAPPING, file_of_numbers};
 use std::test::Fail;
 
 #[test]
@@ -79,7 +78,7 @@ fn addresses_do_not_wrap(rt: HostRuntime) -> Result<(), Fail> {
 /// Plays a script over a store of these ranges whose one call fails, and whose calls 4 to 7 give one
 /// byte each.
 fn played(rt: &HostRuntime, fail_at: u64, script: &[Call]) -> Result<Played, Fail> {
-    let file = file(rt, 1, &OVERLAPPING)?;
+    let file = file_of_numbers(rt.alloc(), 1, &OVERLAPPING)?;
     let caps = [4096, 4096, 4096, 4096, 1, 1, 1, 1];
     let store = PatchyStore::new(&file, &caps, Some(fail_at));
     play(rt, store, LEAST, Choice::All, script)
@@ -127,7 +126,7 @@ fn read<const N: usize>(rt: &HostRuntime, file: &[u8], address: u64) -> Result<R
 
 #[test]
 fn each_stretch_of_bytes_is_one_fetch(rt: HostRuntime) -> Result<(), Fail> {
-    let file = file(&rt, 1, &OVERLAPPING)?;
+    let file = file_of_numbers(rt.alloc(), 1, &OVERLAPPING)?;
     let known = [false, true, true, true, true, true, true, false];
     assert_same(&rt, read(&rt, &file, 0xfff)?, (*b"\0ABCDyz\0", known, 2));
     assert_same(&rt, read(&rt, &file, 0x1002)?, (*b"CDyz", [true; 4], 2));
@@ -147,7 +146,7 @@ fn touching_ranges_are_a_fetch_each_and_a_gap_is_none(rt: HostRuntime) -> Result
         // and then their bytes
         0x44434241, 0x48474645, 0x4a49,
     ];
-    let file = file(&rt, 1, &numbers)?;
+    let file = file_of_numbers(rt.alloc(), 1, &numbers)?;
     let known = [
         false, true, true, true, true, true, true, true, true, false, false, false, false, true,
         true, false,
@@ -171,7 +170,7 @@ fn touching_ranges_are_a_fetch_each_and_a_gap_is_none(rt: HostRuntime) -> Result
 
 #[test]
 fn what_no_range_holds_is_not_fetched(rt: HostRuntime) -> Result<(), Fail> {
-    let file = file(&rt, 1, &OVERLAPPING)?;
+    let file = file_of_numbers(rt.alloc(), 1, &OVERLAPPING)?;
     for address in [0, 0xff0, 0x1006, u64::MAX - 2, u64::MAX] {
         let expected = ([0; 16], [false; 16], 0);
         assert_eq!(rt; read(&rt, &file, address)?, expected, "at {address}");
@@ -181,7 +180,7 @@ fn what_no_range_holds_is_not_fetched(rt: HostRuntime) -> Result<(), Fail> {
 
 #[test]
 fn long_range_is_one_fetch(rt: HostRuntime) -> Result<(), Fail> {
-    let mut file = file(&rt, 1, &[5, 20, 44, 1, 0x1000, 0, 4096, 64])?;
+    let mut file = file_of_numbers(rt.alloc(), 1, &[5, 20, 44, 1, 0x1000, 0, 4096, 64])?;
     for _ in 0..1024 {
         file.extend_from_slice(b"mmmm")?;
     }

@@ -1,11 +1,10 @@
 //! What a lister holds and fetches, beside its bounds.
-use crate::files::file;
 use crate::same::assert_same;
 use crate::script::{LEAST, NAMED};
 use linked_list_allocator::LocalHeap;
 use mdmp_lister::{Choice, Counts, Limits, Lister, StopAt};
 use mdmp_source::{MemoryStore, PatchyStore, Source, Store};
-use mdmp_test_files::{MEMORY64, SYSTEM, THRICE};
+use mdmp_test_support::{MEMORY64, SYSTEM, THRICE, file_of_numbers};
 use std::alloc::{Allocator, Global};
 use std::test::Fail;
 
@@ -13,17 +12,29 @@ use std::test::Fail;
 const EMPTY: [u8; 32] =
     *b"MDMP\x93\xa7\0\0\0\0\0\0\xff\xff\xff\xff\0\0\0\0\0\0\0\0\0\0\0\0\0\0\0\0";
 
+/// How many bytes and calls a source counts.
+#[derive(Clone, Copy, Debug, PartialEq, Eq)]
+struct Fetched {
+    bytes: u128,
+    calls: u128,
+}
+
 /// What a lister counts behind all its items and four bytes of memory, and what its source does.
 fn counted<S: Store + Drop, A: Allocator + Copy>(
     alloc: A,
     store: S,
     limits: Limits,
-) -> Option<(Counts, u128)> {
+) -> Option<(Counts, Fetched)> {
     let mut lister = Lister::open(alloc, Source::new(store), limits, Choice::All).ok()?;
     let _ = lister.list_into(&mut StopAt::new(u64::MAX));
     let _ = lister.read_address(0x1000, &mut [0; 4], &mut [false; 4]);
     let counts = lister.counts();
-    Some((counts, lister.into_source().fetched()))
+    let source = lister.into_source();
+    let fetched = Fetched {
+        bytes: source.fetched(),
+        calls: source.calls(),
+    };
+    Some((counts, fetched))
 }
 
 /// The numbers of a file's bound: entries, ranges, listed bytes and names, what it holds, and the
@@ -36,7 +47,7 @@ fn bound_of(alloc: Global, file: &[u8], limits: Limits) -> Option<Bound> {
     let names = counts.m.saturating_mul(u128::from(limits.name) + 4);
     let directory = counts.s.saturating_mul(28).saturating_add(32);
     let most = directory.saturating_add(counts.n).saturating_add(names);
-    if counts.fetched > most || fetched != counts.fetched.saturating_add(counts.aside) {
+    if counts.fetched > most || fetched.bytes != counts.fetched.saturating_add(counts.aside) {
         return None;
     }
     Some([counts.s, counts.r, counts.n, counts.m, counts.held, most])
@@ -50,7 +61,7 @@ fn repeated(rt: &HostRuntime) -> Result<Vec<u8, Global>, Fail> {
     }
     numbers.push(100)?;
     numbers.resize(4201, 0)?;
-    file(rt, 1000, &numbers)
+    Ok(file_of_numbers(rt.alloc(), 1000, &numbers)?)
 }
 
 #[test]
@@ -67,7 +78,7 @@ fn long_name_costs_its_length(rt: HostRuntime) -> Result<(), Fail> {
     let numbers = [
         14, 36, 44, 12, 24, 1, 0, 0, 0, 0, 0, 80, 10, 0x00620061, 0x00640063, 0x65,
     ];
-    let named = file(&rt, 1, &numbers)?;
+    let named = file_of_numbers(rt.alloc(), 1, &numbers)?;
     let limits = Limits::new(168, 8).ok_or("limits")?;
     let (counts, _) = counted(rt.alloc(), MemoryStore::new(&named), limits).ok_or("open")?;
     assert_same(&rt, (counts.m, counts.held), (1, 188));
@@ -86,21 +97,23 @@ fn counts_succeed_and_bound_small_files(rt: HostRuntime) -> Result<(), Fail> {
     let bound = bound_of(rt.alloc(), &EMPTY, LEAST);
     assert_same(&rt, bound, Some([0, 0, 0, 0, 168, 32]));
 
-    // Three modules behind eight bytes.
-    let mut numbers = [0; 85];
-    numbers[..4].copy_from_slice(&[4, 328, 44, 3]);
-    let padded = file(&rt, 1, &numbers)?;
-    let bound = bound_of(rt.alloc(), &padded, LEAST);
-    assert_same(&rt, bound, Some([1, 0, 328, 0, 180, 388]));
+    // Three modules behind their count, and behind it and four bytes more.
+    let mut numbers = [0; 86];
+    for (size, len, most) in [(328, 85, 388), (332, 86, 392)] {
+        numbers[..4].copy_from_slice(&[4, size, 44, 3]);
+        let modules = file_of_numbers(rt.alloc(), 1, &numbers[..len])?;
+        let bound = bound_of(rt.alloc(), &modules, LEAST);
+        assert_same(&rt, bound, Some([1, 0, u128::from(size), 0, 180, most]));
+    }
 
     // Two unloaded modules, 1000 bytes apart.
     let mut numbers = [0; 506];
     numbers[..7].copy_from_slice(&[14, 2012, 44, 12, 1000, 2, 1]);
-    let spread = file(&rt, 1, &numbers)?;
+    let spread = file_of_numbers(rt.alloc(), 1, &numbers)?;
     let bound = bound_of(rt.alloc(), &spread, LEAST);
     assert_same(&rt, bound, Some([1, 0, 2012, 0, 180, 2072]));
 
-    let thrice = file(&rt, 3, &THRICE)?;
+    let thrice = file_of_numbers(rt.alloc(), 3, &THRICE)?;
     let bound = bound_of(rt.alloc(), &thrice, LEAST);
     assert_same(&rt, bound, Some([3, 0, 156, 0, 204, 272]));
 
@@ -123,7 +136,7 @@ fn heap_of_what_is_held_is_enough(rt: HostRuntime) -> Result<(), Fail> {
     let numbers = [
         0, 0, 0, 0, 0, 0, 0, 0, 0, 5, 36, 80, 2, 0x1000, 0, 0, 116, 0x2000, 0, 0, 116,
     ];
-    let file = file(&rt, 4, &numbers)?;
+    let file = file_of_numbers(rt.alloc(), 4, &numbers)?;
     let limits = Limits::new(176, 16).ok_or("limits")?;
     for (size, held) in [(272, None), (288, Some(288))] {
         let heap = LocalHeap::new(rt.alloc(), size)?;
@@ -141,7 +154,12 @@ fn store_that_fails_keeps_the_equation_of_the_counts(rt: HostRuntime) -> Result<
         // The header, the entry and the head that is read ahead are read as the file is opened.
         assert_eq!(rt; counted.is_some(), fail_at > 2, "at {fail_at}");
         if let Some((counts, fetched)) = counted {
-            let booked = counts.fetched.saturating_add(counts.aside);
+            // Once the ranges are listed, memory is read aside, by one call.
+            let aside = u128::from(fail_at > 3);
+            let booked = Fetched {
+                bytes: counts.fetched.saturating_add(counts.aside),
+                calls: counts.calls.saturating_add(aside),
+            };
             assert_eq!(rt; fetched, booked, "at {fail_at}");
         }
     }

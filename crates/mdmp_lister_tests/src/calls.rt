@@ -7,7 +7,7 @@ use crate::script::{
 };
 use mdmp_lister::{Choice, FaultKind, Limits, ListFault, RunFault};
 use mdmp_source::MemoryStore;
-use mdmp_test_files::{FAULTY, SYSTEM, THRICE};
+use mdmp_test_support::{FAULTY, SYSTEM, THRICE};
 use std::test::Fail;
 
 #[test]

@@ -1,20 +1,17 @@
 //! A lister over a store that changes while it is read.
-use crate::files::file;
 use crate::given::{range, stream};
 use crate::opening::{fault, open_and_close};
 use crate::script::{Call, LEAST, ends, fails, gives, has_room, play};
 use mdmp_lister::{Choice, FaultKind};
 use mdmp_source::{Extent, Source, SourceFault, TwoFaces};
+use mdmp_test_support::file_of_numbers;
 use std::alloc::Global;
 use std::test::Fail;
 
 /// A memory list of 36 bytes that counts so many ranges, and eight bytes of memory.
 fn counting(rt: &HostRuntime, ranges: u32) -> Result<Vec<u8, Global>, Fail> {
-    file(
-        rt,
-        1,
-        &[5, 36, 44, ranges, 0x1000, 0, 4, 80, 0x2000, 0, 4, 84, 0, 0],
-    )
+    let numbers = [5, 36, 44, ranges, 0x1000, 0, 4, 80, 0x2000, 0, 4, 84, 0, 0];
+    Ok(file_of_numbers(rt.alloc(), 1, &numbers)?)
 }
 
 /// How many calls of its store opening this file takes.

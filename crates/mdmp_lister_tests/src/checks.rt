@@ -1,5 +1,4 @@
 //! The verdicts on the entries of a file.
-use crate::files::file;
 use crate::given::stream;
 use crate::opening::chosen;
 use crate::same::assert_same;
@@ -10,7 +9,7 @@ use mdmp_lister::{
     Choice, FaultKind, Limits, ListFault, Lister, RunFault, Stopped, Verdict, VerdictSink,
 };
 use mdmp_source::{MemoryStore, PatchyStore, Source, SourceFault, Store};
-use mdmp_test_files::{FAULTY, OVERLAPPING, THRICE};
+use mdmp_test_support::{FAULTY, OVERLAPPING, THRICE, file_of_numbers};
 use std::alloc::Global;
 use std::test::Fail;
 
@@ -54,7 +53,7 @@ fn checked_of(
     numbers: &[u32],
     types: &[u32],
 ) -> Result<(Option<RunFault>, [Option<Verdict>; 4]), Fail> {
-    let file = file(rt, 3, numbers)?;
+    let file = file_of_numbers(rt.alloc(), 3, numbers)?;
     let source = Source::new(MemoryStore::new(&file));
     let Ok(mut lister) = Lister::open(rt.alloc(), source, LEAST, chosen(types)?) else {
         return Err(Fail::from("open"));
@@ -136,7 +135,7 @@ fn empty_directory_has_no_verdicts(rt: HostRuntime) -> Result<(), Fail> {
 
 #[test]
 fn check_ends_where_the_store_fails(rt: HostRuntime) -> Result<(), Fail> {
-    let file = file(&rt, 3, &THRICE)?;
+    let file = file_of_numbers(rt.alloc(), 3, &THRICE)?;
     // One byte a call: 68 calls are of the header and the directory, 52 of each list. The head of
     // the second is read by call 120, the last byte of its thread by call 171.
     for (fail_at, offset) in [(120, 68), (171, 119)] {

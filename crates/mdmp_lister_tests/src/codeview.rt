@@ -1,10 +1,10 @@
 //! The CodeView record of a module, read beside the listing.
 ghost use Rattle.mdmp_source.specs.Range.{IsInside};
 
-use crate::files::file;
 use crate::given::{Text, short_text};
 use mdmp_lister::{Choice, Limits, Lister};
 use mdmp_source::{Location, MemoryStore, Source, Store, inside};
+use mdmp_test_support::file_of_numbers;
 use mdmp_wire::CodeView;
 use std::alloc::Allocator;
 use std::test::Fail;
@@ -75,7 +75,7 @@ fn read(rt: &HostRuntime, signature: u32, size: u32, limit: u32) -> Result<(Told
     let numbers = [
         signature, 0x00112233, 0x66774455, 0xbbaa9988, 0xffeeddcc, 1, 0x64702e61, 0x00000062,
     ];
-    let file = file(rt, 0, &numbers)?;
+    let file = file_of_numbers(rt.alloc(), 0, &numbers)?;
     let source = Source::new(MemoryStore::new(&file));
     let limits = Limits::new(168, limit).ok_or("limits")?;
     let Ok(mut lister) = Lister::open(rt.alloc(), source, limits, Choice::All) else {

@@ -8,7 +8,7 @@ use crate::script::{
 };
 use mdmp_lister::{Choice, FaultKind, OpenFault};
 use mdmp_source::{Extent, MemoryStore, Source};
-use mdmp_test_files::OVERLAPPING;
+use mdmp_test_support::OVERLAPPING;
 use std::test::Fail;
 
 /// A range of four bytes inside the file.

@@ -5,7 +5,7 @@ use crate::same::assert_same;
 use crate::script::{LEAST, ends, fails, gives, other_in_numbers};
 use mdmp_lister::{Choice, Fault, FaultKind, Limits, ListFault, OpenFault};
 use mdmp_source::{MemoryStore, Source, SourceFault};
-use mdmp_test_files::{FAULTY, SYSTEM};
+use mdmp_test_support::{FAULTY, SYSTEM};
 use std::test::Fail;
 
 #[test]
@@ -38,6 +38,18 @@ fn list_that_is_too_short_is_told_behind_its_entry(rt: HostRuntime) -> Result<()
         numbers[..5].copy_from_slice(&[3, size, 44, 1, 7]);
         let script = [gives(stream(0, 3, size, 44)), fails(fault)];
         let other = other_in_numbers(&rt, LEAST, 1, &numbers, &script)?;
+        assert_same(&rt, other, None);
+    }
+    Ok(())
+}
+
+#[test]
+fn list_of_no_bytes_is_too_short_wherever_it_stands(rt: HostRuntime) -> Result<(), Fail> {
+    let far = u32::MAX;
+    for rva in [0, 44, far] {
+        let short = fault(None, FaultKind::ShortStream, u64::from(rva), 0);
+        let script = [gives(stream(0, 3, 0, rva)), fails(short)];
+        let other = other_in_numbers(&rt, LEAST, 1, &[3, 0, rva], &script)?;
         assert_same(&rt, other, None);
     }
     Ok(())

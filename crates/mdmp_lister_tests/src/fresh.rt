@@ -1,10 +1,9 @@
 //! Whether a lister has given anything yet.
-use crate::files::file;
 use crate::same::assert_same;
 use crate::script::LEAST;
 use mdmp_lister::{Choice, Lister};
 use mdmp_source::{MemoryStore, Source, Store};
-use mdmp_test_files::OVERLAPPING;
+use mdmp_test_support::{OVERLAPPING, file_of_numbers};
 use std::alloc::Allocator;
 use std::test::Fail;
 
@@ -19,7 +18,7 @@ fn fresh_around_next<S: Store + Drop, A: Allocator + Copy>(
 
 #[test]
 fn lister_is_fresh_up_to_its_first_answer(rt: HostRuntime) -> Result<(), Fail> {
-    let file = file(&rt, 1, &OVERLAPPING)?;
+    let file = file_of_numbers(rt.alloc(), 1, &OVERLAPPING)?;
     let source = Source::new(MemoryStore::new(&file));
     let Ok(mut lister) = Lister::open(rt.alloc(), source, LEAST, Choice::All) else {
         return Err(Fail::from("open"));

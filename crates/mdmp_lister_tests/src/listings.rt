@@ -9,7 +9,7 @@ use crate::script::{
 };
 use mdmp_lister::{FaultKind, Limits};
 use mdmp_source::{Extent, MemoryStore};
-use mdmp_test_files::{FAULTY, SYSTEM};
+use mdmp_test_support::{FAULTY, SYSTEM};
 use std::test::Fail;
 
 /// Plays a script over a file with an unloaded module whose name is said to stand at `rva`, and does

@@ -1,12 +1,12 @@
 //! The memory that a lister takes.
-use crate::files::{crowded, file};
+use crate::files::crowded;
 use crate::opening::{Outcome, all, chosen, open_and_close, run_over};
 use crate::same::assert_same;
 use crate::script::LEAST;
 use linked_list_allocator::LocalHeap;
 use mdmp_lister::{Choice, Limits, Lister, OpenFault, StopAt};
 use mdmp_source::{MemoryStore, Source};
-use mdmp_test_files::OVERLAPPING;
+use mdmp_test_support::{OVERLAPPING, file_of_numbers};
 use std::test::Fail;
 
 /// Three unused entries, and a memory list of two ranges without bytes.
@@ -89,7 +89,7 @@ fn fault_of_threads(
 
 #[test]
 fn open_succeeds_with_ample_memory(rt: HostRuntime) -> Result<(), Fail> {
-    let file = file(&rt, 1, &OVERLAPPING)?;
+    let file = file_of_numbers(rt.alloc(), 1, &OVERLAPPING)?;
     let report = report_of(&rt, 1 << 20, Limits::default(), &file)?;
     assert_same(&rt, report.outcome, all(3, 2));
     // What is listed takes no more.
@@ -101,7 +101,7 @@ fn open_succeeds_with_ample_memory(rt: HostRuntime) -> Result<(), Fail> {
 #[test]
 fn want_of_memory_hands_the_source_back_until_there_is_enough(rt: HostRuntime) -> Result<(), Fail> {
     // Blocks are multiples of 16: a directory of 16 bytes, a window of 176, and a map of 48.
-    let file = file(&rt, 1, &OVERLAPPING)?;
+    let file = file_of_numbers(rt.alloc(), 1, &OVERLAPPING)?;
     for step in 0..20 {
         let size = 16 * step;
         let report = report_of(&rt, size, LEAST, &file)?;
@@ -124,7 +124,7 @@ fn want_of_memory_hands_the_source_back_until_there_is_enough(rt: HostRuntime) -
 #[test]
 fn want_of_memory_hands_the_source_back(rt: HostRuntime) -> Result<(), Fail> {
     // A directory of 48 bytes.
-    let file = file(&rt, 4, &[0; 12])?;
+    let file = file_of_numbers(rt.alloc(), 4, &[0; 12])?;
     let expected = Report {
         outcome: Outcome::Refused(OpenFault::Memory),
         size: 80,
@@ -144,7 +144,7 @@ fn want_of_memory_hands_the_source_back(rt: HostRuntime) -> Result<(), Fail> {
 #[test]
 fn memory_is_that_of_four_lists(rt: HostRuntime) -> Result<(), Fail> {
     // A directory of 48 bytes, and a map of two ranges of 24.
-    let file = file(&rt, 4, &FOUR)?;
+    let file = file_of_numbers(rt.alloc(), 4, &FOUR)?;
     let report = report_of(&rt, 272, LIMITS, &file)?;
     assert_same(&rt, report.outcome, Outcome::Refused(OpenFault::Memory));
     assert_same(&rt, (report.size, report.ample), (116, None));
@@ -172,7 +172,7 @@ fn most_ranges_are_not_too_many(rt: HostRuntime) -> Result<(), Fail> {
 fn directory_of_many_entries_is_opened(rt: HostRuntime) -> Result<(), Fail> {
     let mut numbers = Vec::new(rt.alloc());
     numbers.resize(300_000, 0)?;
-    let unused = file(&rt, 100_000, &numbers)?;
+    let unused = file_of_numbers(rt.alloc(), 100_000, &numbers)?;
     let source = Source::new(MemoryStore::new(&unused));
     let (outcome, _) = run_over(rt.alloc(), source, LEAST, Choice::All);
     assert_same(&rt, outcome, all(100_000, 0));

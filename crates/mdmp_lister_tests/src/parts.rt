@@ -1,5 +1,4 @@
 //! Bytes of the file that are read beside the listing.
-use crate::files::file;
 use crate::given::{range, stream};
 use crate::same::assert_same;
 use crate::script::{
@@ -8,7 +7,7 @@ use crate::script::{
 };
 use mdmp_lister::Choice;
 use mdmp_source::{Extent, PatchyStore, SourceFault};
-use mdmp_test_files::{MEMORY64, OVERLAPPING};
+use mdmp_test_support::{MEMORY64, OVERLAPPING, file_of_numbers};
 use std::test::Fail;
 
 #[test]
@@ -49,7 +48,7 @@ fn size_tells_what_lies_inside(rt: HostRuntime) -> Result<(), Fail> {
 
 #[test]
 fn store_fault_of_a_part_changes_no_item(rt: HostRuntime) -> Result<(), Fail> {
-    let file = file(&rt, 1, &OVERLAPPING)?;
+    let file = file_of_numbers(rt.alloc(), 1, &OVERLAPPING)?;
     // Header, entry and count are read by calls 0 to 2, and the stream by call 3.
     let caps = [4096, 4096, 4096, 4096, 1, 2, 4096];
     for (fail_at, at) in [(4, 80), (5, 81), (6, 83)] {

@@ -7,7 +7,7 @@ use crate::script::{
 };
 use mdmp_lister::RunFault;
 use mdmp_source::Extent;
-use mdmp_test_files::{MEMORY64, OVERLAPPING};
+use mdmp_test_support::{MEMORY64, OVERLAPPING};
 use std::test::Fail;
 
 /// The two ranges of `OVERLAPPING`.

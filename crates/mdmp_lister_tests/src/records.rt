@@ -3,7 +3,7 @@ use crate::given::{Given, Named, What, nameless, range, stream, thread, unloaded
 use crate::same::assert_same;
 use crate::script::{LEAST, ends, gives, other_in_bytes, other_in_numbers};
 use mdmp_source::Extent;
-use mdmp_test_files::{MEMORY64, THRICE};
+use mdmp_test_support::{MEMORY64, THRICE};
 use mdmp_wire::MemoryInfoRecord;
 use std::test::Fail;
 

@@ -1,10 +1,10 @@
 //! The calls of one lister in a row, and what each is to answer.
-use crate::files::file;
 use crate::given::{Given, next_of};
 use crate::opening::chosen;
 use mdmp_lister::{Choice, Limits, ListFault, Lister, RunFault, StopAt};
 use mdmp_map::Place;
 use mdmp_source::{MemoryStore, Source, SourceFault, Store, inside};
+use mdmp_test_support::file_of_numbers;
 use std::alloc::{AllocError, Global};
 use std::test::Fail;
 
@@ -328,7 +328,7 @@ pub fn other_in_numbers(
     numbers: &[u32],
     script: &[Call],
 ) -> Result<Option<(usize, Answer)>, Fail> {
-    let file = file(rt, entries, numbers)?;
+    let file = file_of_numbers(rt.alloc(), entries, numbers)?;
     other_in_bytes(rt, limits, &file, script)
 }
 
@@ -341,7 +341,7 @@ pub fn other_of_chosen(
     types: &[u32],
     script: &[Call],
 ) -> Result<Option<(usize, Answer)>, Fail> {
-    let file = file(rt, entries, numbers)?;
+    let file = file_of_numbers(rt.alloc(), entries, numbers)?;
     let played = play(rt, MemoryStore::new(&file), limits, chosen(types)?, script)?;
     Ok(played.other)
 }

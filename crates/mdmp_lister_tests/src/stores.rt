@@ -5,7 +5,7 @@ use crate::same::assert_same;
 use crate::script::{Call, LEAST, NAMED, Played, ends, fails, gives, play, runs, skips};
 use mdmp_lister::{Choice, FaultKind, Limits, OpenFault, RunFault};
 use mdmp_source::{Extent, PatchyStore, Source, SourceFault};
-use mdmp_test_files::{MEMORY64, SYSTEM};
+use mdmp_test_support::{MEMORY64, SYSTEM};
 use std::test::Fail;
 
 /// Plays a script over a store of one system, whose calls give so many bytes and may fail.

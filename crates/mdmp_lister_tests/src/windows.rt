@@ -1,12 +1,12 @@
 //! Streams that pass through a window: how few fetches that takes, what a fill that fails leaves, and
 //! the same items by any window.
-use crate::files::file;
 use crate::given::{Named, stream, unloaded};
 use crate::opening::fault;
 use crate::same::assert_same;
 use crate::script::{LEAST, ends, gives, other_in_numbers, play};
 use mdmp_lister::{Choice, Counts, FaultKind, Limits, Lister, RunFault, StopAt};
 use mdmp_source::{MemoryStore, PatchyStore, Source, SourceFault, Store};
+use mdmp_test_support::file_of_numbers;
 use std::alloc::Global;
 use std::test::Fail;
 
@@ -31,7 +31,7 @@ fn counts_of<S: Store + Drop>(alloc: Global, store: S, limits: Limits) -> Result
 
 /// How many calls and bytes all items take of a file with one entry, with names of up to 16 bytes.
 fn spent(rt: &HostRuntime, window: u32, numbers: &[u32]) -> Result<(u128, u128), Fail> {
-    let file = file(rt, 1, numbers)?;
+    let file = file_of_numbers(rt.alloc(), 1, numbers)?;
     let limits = Limits::new(window, 16).ok_or("limits")?;
     let counts = counts_of(rt.alloc(), MemoryStore::new(&file), limits)?;
     Ok((counts.calls, counts.fetched))
@@ -49,6 +49,12 @@ fn stream_that_fits_the_window_is_one_fetch(rt: HostRuntime) -> Result<(), Fail>
     numbers[..4].copy_from_slice(&[4, 328, 44, 3]);
     assert_same(&rt, spent(&rt, 65536, &numbers)?, (3, 44 + 328));
     assert_same(&rt, spent(&rt, 168, &numbers)?, (5, 44 + 328));
+
+    // The same behind a count and four bytes more.
+    let mut numbers = [0; 86];
+    numbers[..4].copy_from_slice(&[4, 332, 44, 3]);
+    assert_same(&rt, spent(&rt, 65536, &numbers)?, (3, 44 + 332));
+    assert_same(&rt, spent(&rt, 168, &numbers)?, (5, 44 + 332));
     Ok(())
 }
 
@@ -89,7 +95,7 @@ fn fill_that_fails_leaves_the_records_that_are_held(rt: HostRuntime) -> Result<(
     // the second, and one for the third.
     let mut numbers = [0; 85];
     numbers[..4].copy_from_slice(&[4, 328, 44, 3]);
-    let file = file(&rt, 1, &numbers)?;
+    let file = file_of_numbers(rt.alloc(), 1, &numbers)?;
     for (fail_at, at, items) in [(2, 44, 1), (3, 212, 2), (4, 324, 3)] {
         let store = PatchyStore::new(&file, &[4096], Some(fail_at));
         let opened = Lister::open(rt.alloc(), Source::new(store), LEAST, Choice::All);
@@ -105,7 +111,7 @@ fn fill_that_fails_leaves_the_records_that_are_held(rt: HostRuntime) -> Result<(
 
 #[test]
 fn any_window_and_any_store_give_the_same_items(rt: HostRuntime) -> Result<(), Fail> {
-    let file = file(&rt, 1, &apart_1000())?;
+    let file = file_of_numbers(rt.alloc(), 1, &apart_1000())?;
     for window in [168, 169, 255, 1012, 65536] {
         let limits = Limits::new(window, 0).ok_or("limits")?;
         for caps in [[4096, 4096], [1, 1], [1, 3]] {

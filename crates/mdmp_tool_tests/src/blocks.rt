@@ -1,8 +1,9 @@
 //! `list` and `hex` to an output that gathers blocks.
-use crate::files::{FAULTY, bad_name, faulty_file};
-use crate::memory_files::{WIDE_TEXT, wide_file};
-use crate::runs::{FOUR, Room, assert_printed, hex_blocks, list_blocks, start_of};
+use crate::runs::{FOUR, assert_printed, bad_name, hex_blocks, list_blocks};
 use crate::same::assert_same;
+use mdmp_test_support::{
+    FAULTY_TEXT, Room, SYSTEM_TEXT, WIDE_TEXT, faulty_file, start_of, system_file, wide_file,
+};
 use mdmp_tool::ToolFault;
 use std::test::Fail;
 
@@ -12,13 +13,16 @@ const BY_NINE: Room = Room { all: 1000, call: 9 };
 #[test]
 fn blocks_bring_the_same_text(rt: HostRuntime) -> Result<(), Fail> {
     let bytes = faulty_file(rt.alloc())?;
+    let good = system_file(rt.alloc())?;
     for block in [1, 7, 100, 1000] {
+        let listed = list_blocks(rt.alloc(), &good, block, BY_NINE)?;
+        assert_printed(&rt, &listed.printed, None, SYSTEM_TEXT);
         let listed = list_blocks(rt.alloc(), &bytes, block, BY_NINE)?;
         assert_printed(
             &rt,
             &listed.printed,
             Some(ToolFault::List(bad_name())),
-            FAULTY,
+            FAULTY_TEXT,
         );
     }
     Ok(())
@@ -32,7 +36,7 @@ fn refused_last_block_is_told_in_place_of_the_fault(rt: HostRuntime) -> Result<(
         call: 100,
     };
     let listed = list_blocks(rt.alloc(), &bytes, 1000, room)?;
-    let start = start_of(FAULTY, 100)?;
+    let start = start_of(FAULTY_TEXT, 100)?;
     assert_printed(&rt, &listed.printed, Some(ToolFault::Out), start);
     // The header, three entries, the system, the count of the modules and the first one.
     assert_same(&rt, listed.fetched, 236);

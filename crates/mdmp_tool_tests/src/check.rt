@@ -1,10 +1,12 @@
 //! `check` over files, stores and outputs, and with little memory.
 use crate::checks::{assert_checked, check_blocks, check_counted, check_store};
-use crate::files::{FAULTY_VERDICTS, faulty_file, head, system_file};
-use crate::runs::{BY_SEVEN, BY_WHOLE, Room, least, start_of};
+use crate::runs::least;
 use crate::same::assert_same;
 use linked_list_allocator::LocalHeap;
 use mdmp_source::{MemoryStore, PatchyStore, SourceFault};
+use mdmp_test_support::{
+    BY_SEVEN, BY_WHOLE, FAULTY_VERDICTS, Room, faulty_file, header_of, start_of, system_file,
+};
 use mdmp_tool::{OpenFault, ToolFault};
 use std::test::Fail;
 
@@ -12,7 +14,7 @@ use std::test::Fail;
 fn run_check_succeeds(rt: HostRuntime) -> Result<(), Fail> {
     let system = system_file(rt.alloc())?;
     let faulty = faulty_file(rt.alloc())?;
-    let empty = head(0, 0xffff_ffff);
+    let empty = header_of(0, 0xffff_ffff);
     let rows: [(&[u8], u64, &str); 3] = [
         (&system, 0, "entry 0: ok\n"),
         (&faulty, 2, FAULTY_VERDICTS),

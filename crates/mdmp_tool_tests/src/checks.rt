@@ -2,9 +2,9 @@
 //!
 //! No function that a test calls here has a contract, so that the test knows nothing of what it did,
 //! and its own proof stays short.
-use crate::runs::{Room, empty_out, text_in};
 use crate::same::assert_same_at;
 use mdmp_source::{BlockOut, MemoryStore, Source, Store};
+use mdmp_test_support::{Room, empty_out, text_in};
 use mdmp_tool::{Answered, Limits, ToolFault, check_in_blocks, check_source, run_check};
 use std::alloc::{Allocator, Global};
 use std::process::Abort;

@@ -2,9 +2,9 @@
 //!
 //! No function that a test calls here has a contract, so that the test knows nothing of what it did,
 //! and its own proof stays short.
-use crate::runs::{Room, empty_out};
 use crate::same::assert_same_at;
 use mdmp_source::{Source, Store};
+use mdmp_test_support::{Room, empty_out};
 use mdmp_tool::{Answered, Limits, ToolFault, TypeSet, copy_source, run_copy};
 use std::alloc::{Allocator, Global};
 use std::process::Abort;

@@ -1,11 +1,12 @@
 //! `copy` over files, stores and outputs, and with little memory.
 use crate::copies::{ALL, assert_wrote, copy_calls, copy_store};
-use crate::files::{entry, file, head, numbers, system_file};
-use crate::runs::{Room, least};
+use crate::runs::least;
 use crate::same::{assert_same, assert_same_at};
 use linked_list_allocator::LocalHeap;
 use mdmp_source::{MemoryStore, PatchyStore, Source, SourceFault};
-use mdmp_test_files::{ABSENT_STACK, CRASH, SIX};
+use mdmp_test_support::{
+    ABSENT_STACK, CRASH, Room, SIX, entry, file_of_numbers, file_of_parts, header_of, system_file,
+};
 use mdmp_tool::{Limits, PartName, ReadFault, ToolFault, copied};
 use std::test::Fail;
 
@@ -21,8 +22,8 @@ fn types_are_copied_or_not(rt: HostRuntime) {
 
 #[test]
 fn run_copy_succeeds(rt: HostRuntime) -> Result<(), Fail> {
-    let six = numbers(rt.alloc(), 6, &SIX)?;
-    let crash = numbers(rt.alloc(), 2, &CRASH)?;
+    let six = file_of_numbers(rt.alloc(), 6, &SIX)?;
+    let crash = file_of_numbers(rt.alloc(), 2, &CRASH)?;
     for types in [&[3u32, 6] as &[u32], &[6, 200000, 3, 3]] {
         let store = MemoryStore::new(&six);
         let wrote = copy_store(rt.alloc(), rt.alloc(), store, least(0)?, types, ALL)?;
@@ -33,10 +34,10 @@ fn run_copy_succeeds(rt: HostRuntime) -> Result<(), Fail> {
 
 #[test]
 fn copy_of_no_stream_is_an_empty_dump(rt: HostRuntime) -> Result<(), Fail> {
-    let six = numbers(rt.alloc(), 6, &SIX)?;
+    let six = file_of_numbers(rt.alloc(), 6, &SIX)?;
     let store = MemoryStore::new(&six);
     let wrote = copy_store(rt.alloc(), rt.alloc(), store, least(0)?, &[200000], ALL)?;
-    assert_wrote(&rt, 0, &wrote, Ok(32), &head(0, 32));
+    assert_wrote(&rt, 0, &wrote, Ok(32), &header_of(0, 32));
     Ok(())
 }
 
@@ -44,14 +45,19 @@ fn copy_of_no_stream_is_an_empty_dump(rt: HostRuntime) -> Result<(), Fail> {
 fn stream_of_a_user_is_copied_as_its_bytes(rt: HostRuntime) -> Result<(), Fail> {
     // Behind an unused entry, whose location is not looked at.
     let unused = entry(0, 7, 0xffff_ffff);
-    let bytes = file(
+    let bytes = file_of_parts(
         rt.alloc(),
-        &[&head(2, 32), &unused, &entry(65536, 3, 60), b"gap!abc"],
+        &[&header_of(2, 32), &unused, &entry(65536, 3, 60), b"gap!abc"],
         63,
     )?;
-    let copy = file(
+    let copy = file_of_parts(
         rt.alloc(),
-        &[&head(2, 32), &entry(0, 0, 0), &entry(65536, 3, 56), b"abc"],
+        &[
+            &header_of(2, 32),
+            &entry(0, 0, 0),
+            &entry(65536, 3, 56),
+            b"abc",
+        ],
         60,
     )?;
     let store = MemoryStore::new(&bytes);
@@ -62,8 +68,8 @@ fn stream_of_a_user_is_copied_as_its_bytes(rt: HostRuntime) -> Result<(), Fail> 
 
 #[test]
 fn output_that_is_full_has_the_first_bytes_of_the_copy(rt: HostRuntime) -> Result<(), Fail> {
-    let six = numbers(rt.alloc(), 6, &SIX)?;
-    let crash = numbers(rt.alloc(), 2, &CRASH)?;
+    let six = file_of_numbers(rt.alloc(), 6, &SIX)?;
+    let crash = file_of_numbers(rt.alloc(), 2, &CRASH)?;
     for all in [0, 40, 291] {
         let store = MemoryStore::new(&six);
         let room = Room { all, call: 4096 };
@@ -90,10 +96,10 @@ fn type_that_is_not_copied_is_refused_before_the_store_is_read(
 
 #[test]
 fn copy_source_succeeds(rt: HostRuntime) -> Result<(), Fail> {
-    let six = numbers(rt.alloc(), 6, &SIX)?;
+    let six = file_of_numbers(rt.alloc(), 6, &SIX)?;
     let source = Source::new(MemoryStore::new(&six));
     let (wrote, calls) = copy_calls(rt.alloc(), source, &[3, 6])?;
-    let crash = numbers(rt.alloc(), 2, &CRASH)?;
+    let crash = file_of_numbers(rt.alloc(), 2, &CRASH)?;
     assert_wrote(&rt, 0, &wrote, Ok(292), &crash);
     assert!(rt; calls > 0);
     Ok(())
@@ -101,7 +107,7 @@ fn copy_source_succeeds(rt: HostRuntime) -> Result<(), Fail> {
 
 #[test]
 fn part_outside_is_not_copied(rt: HostRuntime) -> Result<(), Fail> {
-    let bytes = numbers(rt.alloc(), 1, &ABSENT_STACK)?;
+    let bytes = file_of_numbers(rt.alloc(), 1, &ABSENT_STACK)?;
     let outside = ReadFault::PartOutside {
         entry: 0,
         index: 0,
@@ -138,8 +144,8 @@ fn name_that_is_too_long_is_not_copied(rt: HostRuntime) -> Result<(), Fail> {
 
 #[test]
 fn store_that_fails_leaves_nothing_copied(rt: HostRuntime) -> Result<(), Fail> {
-    let six = numbers(rt.alloc(), 6, &SIX)?;
-    let crash = numbers(rt.alloc(), 2, &CRASH)?;
+    let six = file_of_numbers(rt.alloc(), 6, &SIX)?;
+    let crash = file_of_numbers(rt.alloc(), 2, &CRASH)?;
     let mut failures = 0;
     for fail_at in 0..1000 {
         let store = PatchyStore::new(&six, &[1], Some(fail_at));
@@ -163,8 +169,8 @@ fn store_that_fails_leaves_nothing_copied(rt: HostRuntime) -> Result<(), Fail> {
 
 #[test]
 fn want_of_memory_is_told_before_anything_is_copied(rt: HostRuntime) -> Result<(), Fail> {
-    let six = numbers(rt.alloc(), 6, &SIX)?;
-    let crash = numbers(rt.alloc(), 2, &CRASH)?;
+    let six = file_of_numbers(rt.alloc(), 6, &SIX)?;
+    let crash = file_of_numbers(rt.alloc(), 2, &CRASH)?;
     let mut enough = false;
     for blocks in 0..1000 {
         let heap = LocalHeap::new(rt.alloc(), 16 * blocks)?;

@@ -1,8 +1,8 @@
 //! What is said of faults.
-use crate::files::bad_name;
-use crate::runs::{BY_WHOLE, Room, told};
+use crate::runs::{bad_name, told};
 use crate::same::assert_same;
 use mdmp_source::SourceFault;
+use mdmp_test_support::{BY_WHOLE, Room};
 use mdmp_tool::{
     FaultKind, LayoutFault, ListFault, OpenFault, PartName, ReadFault, ToolFault, status,
 };

@@ -1,14 +1,17 @@
 //! `hex` over the memory lists of files.
-use crate::memory_files::{HIGH, LOW, last_file, memory_file, short_threads_file, wide_file};
-use crate::runs::{Span, assert_row, hex};
+use crate::runs::{FOUR, Span, assert_printed, assert_row, hex, hex_counted};
+use crate::same::assert_same;
+use mdmp_test_support::{
+    ABCD_RANGE, WIDE_TEXT, WXYZ_RANGE, last_file, memory_file, short_threads_file, wide_file,
+};
 use mdmp_tool::{FaultKind, ListFault, OpenFault, ToolFault};
 use std::test::Fail;
 
 #[test]
 fn run_hex_succeeds(rt: HostRuntime) -> Result<(), Fail> {
     let wide = wide_file(rt.alloc())?;
-    let low_first = memory_file(rt.alloc(), 2, LOW, HIGH)?;
-    let high_first = memory_file(rt.alloc(), 2, HIGH, LOW)?;
+    let low_first = memory_file(rt.alloc(), 2, ABCD_RANGE, WXYZ_RANGE)?;
+    let high_first = memory_file(rt.alloc(), 2, WXYZ_RANGE, ABCD_RANGE)?;
     let last = last_file(rt.alloc())?;
     let threads = short_threads_file(rt.alloc())?;
     let unknown =
@@ -45,8 +48,18 @@ fn run_hex_succeeds(rt: HostRuntime) -> Result<(), Fail> {
 }
 
 #[test]
+fn hex_source_succeeds(rt: HostRuntime) -> Result<(), Fail> {
+    let wide = wide_file(rt.alloc())?;
+    let counted = hex_counted(rt.alloc(), &wide, FOUR)?;
+    assert_printed(&rt, &counted.printed, None, WIDE_TEXT);
+    // The header, an entry, the head of the list, the list, and four bytes.
+    assert_same(&rt, (counted.calls, counted.fetched), (5, 112));
+    Ok(())
+}
+
+#[test]
 fn faulty_file_prints_nothing(rt: HostRuntime) -> Result<(), Fail> {
-    let bytes = memory_file(rt.alloc(), 3, LOW, HIGH)?;
+    let bytes = memory_file(rt.alloc(), 3, ABCD_RANGE, WXYZ_RANGE)?;
     let count = ListFault {
         entry: 0,
         index: None,

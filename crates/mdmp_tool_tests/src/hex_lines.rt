@@ -1,7 +1,7 @@
 //! The lines of `hex`.
-use crate::memory_files::{NO_RANGE, Range, two_ranges_file};
-use crate::runs::{Room, Span, assert_printed, assert_row, hex, hex_store, start_of};
+use crate::runs::{Span, assert_printed, assert_row, hex, hex_store};
 use mdmp_source::MemoryStore;
+use mdmp_test_support::{NO_RANGE, Range, Room, start_of, two_ranges_file};
 use mdmp_tool::{Limits, ToolFault};
 use std::test::Fail;
 

@@ -1,10 +1,8 @@
 //! `hex` over stores and outputs that fail, and with little memory.
-use crate::memory_files::{WIDE_TEXT, wide_file};
-use crate::runs::{
-    BY_SEVEN, BY_WHOLE, FOUR, Room, assert_printed, assert_row, hex_store, least, start_of,
-};
+use crate::runs::{FOUR, assert_printed, assert_row, hex_store, least};
 use linked_list_allocator::LocalHeap;
 use mdmp_source::{MemoryStore, PatchyStore, SourceFault};
+use mdmp_test_support::{BY_SEVEN, BY_WHOLE, Room, WIDE_TEXT, start_of, wide_file};
 use mdmp_tool::{Limits, ToolFault};
 use std::test::Fail;
 

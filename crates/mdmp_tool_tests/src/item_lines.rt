@@ -1,8 +1,7 @@
 //! The lines of items, each the last one of a file.
-use crate::files::{crash_file, numbers};
-use crate::memory_files::endless_ranges_file;
-use crate::runs::{Printed, Room, assert_ends, assert_printed, least, list, list_store, start_of};
+use crate::runs::{Printed, assert_ends, assert_printed, least, list, list_store};
 use mdmp_source::MemoryStore;
+use mdmp_test_support::{Room, crash_file, endless_ranges_file, file_of_numbers, start_of};
 use mdmp_tool::ToolFault;
 use std::alloc::{AllocError, Global};
 use std::process::Abort;
@@ -14,7 +13,7 @@ fn unloaded_file(alloc: Global, rva: u32, name: &[u8]) -> Result<Vec<u8>, AllocE
     let mut words = [0; 18];
     words[..6].copy_from_slice(&[14, 60, 44, 12, 24, 2]);
     words[12..].copy_from_slice(&[0x10000, 0, 4096, 5, 6, rva]);
-    let mut bytes = numbers(alloc, 1, &words)?;
+    let mut bytes = file_of_numbers(alloc, 1, &words)?;
     bytes.extend_from_slice(name)?;
     Ok(bytes)
 }
@@ -69,9 +68,38 @@ fn items_have_a_line(rt: HostRuntime) -> Result<(), Fail> {
     Ok(())
 }
 
+#[test]
+fn long_line_is_cut_where_the_output_is_full(rt: HostRuntime) -> Result<(), Fail> {
+    let alloc = rt.alloc();
+    // A name of 300 units.
+    let mut name = Vec::new(alloc);
+    name.extend_from_slice(&[0x58, 2, 0, 0])?;
+    let words = "unloaded 1 base 0x0000000000010000 size 4096 checksum 5 time 6 name \"";
+    let mut line = String::from_str(alloc, words)?;
+    for _ in 0..12 {
+        for letter in b"abcdefghijklmnopqrstuvwxy" {
+            name.extend_from_slice(&[*letter, 0])?;
+            line.push(char::from(*letter))?;
+        }
+    }
+    line.push_str("\"\n")?;
+    let bytes = unloaded_file(alloc, 104, &name)?;
+    let listed = list(alloc, &bytes, 600)?;
+    let before = before_last(&rt, &listed, line.as_str())?;
+    // In the words before the name, in its units, and before the end of the line.
+    for taken in [0, 60, 75, 256, 257, 330, 370] {
+        let all = before.saturating_add(taken);
+        let full = Room { all, call: 1000 };
+        let cut = list_store(alloc, alloc, MemoryStore::new(&bytes), least(600)?, full)?;
+        let start = start_of(listed.text.as_str(), all)?;
+        assert_printed(&rt, &cut, Some(ToolFault::Out), start);
+    }
+    Ok(())
+}
+
 /// Files whose last item has another number in each field, and its line.
 fn rows(alloc: Global) -> Result<[(Vec<u8>, &'static str); 4], AllocError> {
-    let stream = numbers(alloc, 2, &[0, 0, 0, 2, 3, 4])?;
+    let stream = file_of_numbers(alloc, 2, &[0, 0, 0, 2, 3, 4])?;
     let mut threads = [0; 28];
     threads[..4].copy_from_slice(&[3, 100, 44, 2]);
     // The second thread, whose context is cut by the end of the file.
@@ -88,15 +116,15 @@ fn rows(alloc: Global) -> Result<[(Vec<u8>, &'static str); 4], AllocError> {
     Ok([
         (stream, "stream 1 type 2 size 3 rva 4\n"),
         (
-            numbers(alloc, 1, &threads)?,
+            file_of_numbers(alloc, 1, &threads)?,
             "thread 1 id 2 suspend 3 class 4 priority 5 teb 0x0000000000000006 stack 0x0000000000000007 inside 8@9 context outside 10@140\n",
         ),
         (
-            numbers(alloc, 1, &system)?,
+            file_of_numbers(alloc, 1, &system)?,
             "system architecture 1 level 2 revision 3 processors 4 product 5 version 6.7.8 platform 9 suite 10 csd long 14\n",
         ),
         (
-            numbers(alloc, 1, &regions)?,
+            file_of_numbers(alloc, 1, &regions)?,
             "region 1 base 0x0000000000000002 allocation 0x0000000000000003 initial 4 size 5 state 6 protect 7 type 8\n",
         ),
     ])
@@ -122,7 +150,7 @@ fn exception_has_at_most_fifteen_values(rt: HostRuntime) -> Result<(), Fail> {
     }
     // The context has no bytes, and stands at 6.
     words[44] = 6;
-    let bytes = numbers(rt.alloc(), 1, &words)?;
+    let bytes = file_of_numbers(rt.alloc(), 1, &words)?;
     let mut line = String::from_str(
         rt.alloc(),
         "\nexception thread 1 code 0x00000002 flags 3 record 0x0000000000000004 address 0x0000000000000005 parameters 4294967295",

@@ -1,17 +1,18 @@
 //! `list` over headers, directories and outputs.
-use crate::files::{FAULTY, SYSTEM_TEXT, bad_name, entry, faulty_file, file, head, system_file};
-use crate::runs::{
-    BY_WHOLE, Room, assert_ends, assert_printed, least, list, list_counted, list_store, start_of,
-};
+use crate::runs::{assert_ends, assert_printed, bad_name, least, list, list_counted, list_store};
 use crate::same::assert_same;
 use linked_list_allocator::LocalHeap;
 use mdmp_source::MemoryStore;
+use mdmp_test_support::{
+    BY_WHOLE, FAULTY_TEXT, Room, SYSTEM_TEXT, entry, faulty_file, file_of_parts, header_of,
+    start_of, system_file,
+};
 use mdmp_tool::{OpenFault, ToolFault};
 use std::test::Fail;
 
 #[test]
 fn empty_dump_prints_one_line(rt: HostRuntime) -> Result<(), Fail> {
-    let listed = list(rt.alloc(), &head(0, 0xffff_ffff), 0)?;
+    let listed = list(rt.alloc(), &header_of(0, 0xffff_ffff), 0)?;
     let line =
         "dump version 0x0000 streams 0 directory 4294967295 checksum 0 time 0 flags 0x0000000000000000\n";
     assert_printed(&rt, &listed, None, line);
@@ -20,16 +21,16 @@ fn empty_dump_prints_one_line(rt: HostRuntime) -> Result<(), Fail> {
 
 #[test]
 fn refused_file_prints_nothing(rt: HostRuntime) -> Result<(), Fail> {
-    let whole = head(0, 0xffff_ffff);
+    let whole = header_of(0, 0xffff_ffff);
     let mut bad_signature = whole;
     bad_signature[..4].copy_from_slice(b"PMDM");
     let mut bad_version = whole;
     bad_version[4] = 0x94;
     let mut both = bad_version;
     both[..4].copy_from_slice(b"PMDM");
-    let short = file(rt.alloc(), &[], 31)?;
-    let unused = file(rt.alloc(), &[&head(1, 32)], 43)?;
-    let endless = file(rt.alloc(), &[&head(0xffff_ffff, 32)], 44)?;
+    let short = file_of_parts(rt.alloc(), &[], 31)?;
+    let unused = file_of_parts(rt.alloc(), &[&header_of(1, 32)], 43)?;
+    let endless = file_of_parts(rt.alloc(), &[&header_of(0xffff_ffff, 32)], 44)?;
     let rows: [(&[u8], OpenFault); 6] = [
         (&short, OpenFault::TooShort { size: 31 }),
         (&bad_signature, OpenFault::BadSignature),
@@ -62,7 +63,7 @@ fn refused_file_prints_nothing(rt: HostRuntime) -> Result<(), Fail> {
 
 #[test]
 fn high_half_of_the_version_is_the_producers(rt: HostRuntime) -> Result<(), Fail> {
-    let mut bytes = head(0, 0);
+    let mut bytes = header_of(0, 0);
     bytes[6..8].copy_from_slice(b"\xaa\x12");
     let listed = list(rt.alloc(), &bytes, 0)?;
     let line =
@@ -81,7 +82,7 @@ fn unused_entry_is_listed_unseen(rt: HostRuntime) -> Result<(), Fail> {
         ),
     ];
     for (unused, line) in rows {
-        let bytes = file(rt.alloc(), &[&head(1, 32), &unused], 44)?;
+        let bytes = file_of_parts(rt.alloc(), &[&header_of(1, 32), &unused], 44)?;
         let listed = list(rt.alloc(), &bytes, 0)?;
         let start = "dump version 0x0000 streams 1 directory 32 ";
         assert!(rt; listed.text.as_str().starts_with(start));
@@ -102,13 +103,13 @@ fn run_list_succeeds(rt: HostRuntime) -> Result<(), Fail> {
 fn list_ends_at_the_first_fault(rt: HostRuntime) -> Result<(), Fail> {
     let bytes = faulty_file(rt.alloc())?;
     let listed = list(rt.alloc(), &bytes, 0)?;
-    assert_printed(&rt, &listed, Some(ToolFault::List(bad_name())), FAULTY);
+    assert_printed(&rt, &listed, Some(ToolFault::List(bad_name())), FAULTY_TEXT);
     Ok(())
 }
 
 #[test]
 fn directory_passes_through_the_window(rt: HostRuntime) -> Result<(), Fail> {
-    let mut bytes = file(rt.alloc(), &[&head(30, 32)], 32)?;
+    let mut bytes = file_of_parts(rt.alloc(), &[&header_of(30, 32)], 32)?;
     for number in 0..30 {
         bytes.extend_from_slice(&entry(0, number, 32))?;
     }
@@ -123,11 +124,16 @@ fn directory_passes_through_the_window(rt: HostRuntime) -> Result<(), Fail> {
 #[test]
 fn failing_output_has_a_prefix(rt: HostRuntime) -> Result<(), Fail> {
     let bytes = faulty_file(rt.alloc())?;
-    for all in 0..FAULTY.len() {
+    for all in 0..FAULTY_TEXT.len() {
         let room = Room { all, call: 1000 };
         let store = MemoryStore::new(&bytes);
         let listed = list_store(rt.alloc(), rt.alloc(), store, least(0)?, room)?;
-        assert_printed(&rt, &listed, Some(ToolFault::Out), start_of(FAULTY, all)?);
+        assert_printed(
+            &rt,
+            &listed,
+            Some(ToolFault::Out),
+            start_of(FAULTY_TEXT, all)?,
+        );
     }
     Ok(())
 }

@@ -1,7 +1,7 @@
 //! Names, and the lines of their faults.
-use crate::files::{SYSTEM_TEXT, numbers, system_file};
-use crate::runs::{BY_SEVEN, Printed, assert_ends, assert_printed, list, start_of, told};
+use crate::runs::{Printed, assert_ends, assert_printed, list, told};
 use crate::same::{assert_same, assert_same_at};
+use mdmp_test_support::{BY_SEVEN, SYSTEM_TEXT, file_of_numbers, start_of, system_file};
 use std::alloc::Global;
 use std::test::Fail;
 
@@ -30,7 +30,7 @@ fn name_is_its_units_or_its_length(rt: HostRuntime) -> Result<(), Fail> {
     ];
     for (rva, name, printed_name) in rows {
         let words = [14, 36, 44, 12, 24, 1, 0, 0, 0, 0, 0, rva];
-        let mut bytes = numbers(rt.alloc(), 1, &words)?;
+        let mut bytes = file_of_numbers(rt.alloc(), 1, &words)?;
         bytes.extend_from_slice(name)?;
         let listed = list(rt.alloc(), &bytes, 8)?;
         let text = format!(in rt.alloc();
@@ -59,7 +59,7 @@ fn bad_name_is_told_behind_its_entry(rt: HostRuntime) -> Result<(), Fail> {
     ];
     for (name, wanted) in rows {
         let words = [14, 36, 44, 12, 24, 1, 0, 0, 0, 0, 0, 80];
-        let mut bytes = numbers(rt.alloc(), 1, &words)?;
+        let mut bytes = file_of_numbers(rt.alloc(), 1, &words)?;
         bytes.extend_from_slice(name)?;
         let listed = list(rt.alloc(), &bytes, 8)?;
         assert_same(&rt, told_of(rt.alloc(), &listed)?.as_str(), wanted);

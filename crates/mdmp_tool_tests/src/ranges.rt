@@ -1,11 +1,11 @@
 //! The lines of ranges of memory.
-use crate::memory_files::{HIGH, LOW, endless_ranges_file, memory_file, wide_file};
 use crate::runs::{assert_printed, list};
+use mdmp_test_support::{ABCD_RANGE, WXYZ_RANGE, endless_ranges_file, memory_file, wide_file};
 use std::test::Fail;
 
 #[test]
 fn ranges_of_a_memory_list_say_where_they_stand(rt: HostRuntime) -> Result<(), Fail> {
-    let bytes = memory_file(rt.alloc(), 2, LOW, HIGH)?;
+    let bytes = memory_file(rt.alloc(), 2, ABCD_RANGE, WXYZ_RANGE)?;
     let listed = list(rt.alloc(), &bytes, 0)?;
     let text =
         "dump version 0x0000 streams 1 directory 32 checksum 0 time 0 flags 0x0000000000000000

@@ -1,14 +1,14 @@
 //! The lines of threads, modules, the exception and regions, from their bytes.
-use crate::files::{crash_file, numbers};
 use crate::runs::{assert_ends, assert_printed, list};
 use crate::same::assert_same;
+use mdmp_test_support::{crash_file, file_of_numbers};
 use std::test::Fail;
 
 #[test]
 fn list_that_three_entries_name_is_printed_thrice(rt: HostRuntime) -> Result<(), Fail> {
     let mut words = [0; 22];
     words[..11].copy_from_slice(&[3, 52, 68, 3, 52, 68, 3, 52, 68, 1, 7]);
-    let bytes = numbers(rt.alloc(), 3, &words)?;
+    let bytes = file_of_numbers(rt.alloc(), 3, &words)?;
     let listed = list(rt.alloc(), &bytes, 0)?;
     let text =
         "dump version 0x0000 streams 3 directory 32 checksum 0 time 0 flags 0x0000000000000000
@@ -28,7 +28,7 @@ fn parts_of_a_thread_are_absent_inside_or_outside(rt: HostRuntime) -> Result<(),
     let words = [
         3, 52, 44, 1, 7, 0, 0, 0, 0, 0, 28672, 0, 256, 0, 1, 96, 0xaa,
     ];
-    let mut bytes = numbers(rt.alloc(), 1, &words)?;
+    let mut bytes = file_of_numbers(rt.alloc(), 1, &words)?;
     for (size, context) in [(97, "inside"), (96, "outside")] {
         bytes.truncate(size);
         let listed = list(rt.alloc(), &bytes, 0)?;
@@ -44,7 +44,7 @@ fn parts_of_a_thread_are_absent_inside_or_outside(rt: HostRuntime) -> Result<(),
 fn three_modules_have_three_lines(rt: HostRuntime) -> Result<(), Fail> {
     let mut words = [0; 85];
     words[..4].copy_from_slice(&[4, 328, 44, 3]);
-    let bytes = numbers(rt.alloc(), 1, &words)?;
+    let bytes = file_of_numbers(rt.alloc(), 1, &words)?;
     let listed = list(rt.alloc(), &bytes, 0)?;
     let text =
         "dump version 0x0000 streams 1 directory 32 checksum 0 time 0 flags 0x0000000000000000
@@ -63,7 +63,7 @@ fn version_of_a_module_is_the_files(rt: HostRuntime) -> Result<(), Fail> {
     words[4..7].copy_from_slice(&[0x4000_0000, 1, 4096]);
     // The file's version, and the product's behind it.
     words[12..16].copy_from_slice(&[0x000a_0000, 0x4a61_0001, 0x0006_0001, 0x0007_0002]);
-    let bytes = numbers(rt.alloc(), 1, &words)?;
+    let bytes = file_of_numbers(rt.alloc(), 1, &words)?;
     let listed = list(rt.alloc(), &bytes, 0)?;
     let line =
         "\nmodule 0 base 0x0000000140000000 size 4096 checksum 0 time 0 version 10.0.19041.1 cv empty misc empty name none\n";
@@ -92,7 +92,7 @@ fn region_has_a_line(rt: HostRuntime) -> Result<(), Fail> {
         16, 64, 44, 16, 48, 1, 0, // one region
         0x10000, 0, 0x8000, 0, 4, 0, 4096, 0, 8192, 2, 131072, 0,
     ];
-    let bytes = numbers(rt.alloc(), 1, &words)?;
+    let bytes = file_of_numbers(rt.alloc(), 1, &words)?;
     let listed = list(rt.alloc(), &bytes, 0)?;
     let text =
         "dump version 0x0000 streams 1 directory 32 checksum 0 time 0 flags 0x0000000000000000

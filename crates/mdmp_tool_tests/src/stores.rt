@@ -1,10 +1,10 @@
 //! `list` over stores that give few bytes or fail, and with little memory.
-use crate::files::{FAULTY, SYSTEM_TEXT, bad_name, faulty_file, system_file};
-use crate::runs::{
-    BY_WHOLE, Printed, Room, assert_printed, assert_row, least, list_store, start_of,
-};
+use crate::runs::{Printed, assert_printed, assert_row, bad_name, least, list_store};
 use linked_list_allocator::LocalHeap;
 use mdmp_source::{MemoryStore, PatchyStore, SourceFault};
+use mdmp_test_support::{
+    BY_WHOLE, FAULTY_TEXT, Room, SYSTEM_TEXT, faulty_file, start_of, system_file,
+};
 use mdmp_tool::{Limits, ToolFault};
 use std::alloc::Global;
 use std::test::Fail;
@@ -39,7 +39,7 @@ fn store_of_one_byte_a_call_gives_the_whole_text(rt: HostRuntime) -> Result<(), 
 fn fault_of_the_file_is_told_over_a_slow_store(rt: HostRuntime) -> Result<(), Fail> {
     let bytes = faulty_file(rt.alloc())?;
     let listed = list_patchy(rt.alloc(), &bytes, &[1], None)?;
-    assert_printed(&rt, &listed, Some(ToolFault::List(bad_name())), FAULTY);
+    assert_printed(&rt, &listed, Some(ToolFault::List(bad_name())), FAULTY_TEXT);
     Ok(())
 }
 
@@ -86,7 +86,7 @@ fn memory_is_the_directory_the_window_and_the_name(rt: HostRuntime) -> Result<()
         (208, no_memory, ""),
         (224, no_memory, ""),
         (256, no_memory, ""),
-        (272, fault, FAULTY),
+        (272, fault, FAULTY_TEXT),
     ] {
         let heap = LocalHeap::new(rt.alloc(), size)?;
         let store = MemoryStore::new(&bytes);

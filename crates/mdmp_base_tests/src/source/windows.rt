@@ -53,7 +53,7 @@ fn assert_fetched<S: Store>(rt: &impl Abort, source: &Source<S>, calls: u128, fe
 }
 
 #[test]
-fn window_slides_over_a_file(rt: HostRuntime) -> Result<(), Fail> {
+fn with_room_succeeds_and_the_window_slides(rt: HostRuntime) -> Result<(), Fail> {
     let mut source = memory();
     let mut window = Window::with_room(rt.alloc(), 4)?;
     start(&rt, &mut window, 0, 6);

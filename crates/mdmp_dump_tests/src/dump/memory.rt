@@ -1,11 +1,10 @@
 //! The memory that a dump takes.
 use super::built::read;
-use crate::files::file;
 use crate::same::assert_same;
 use linked_list_allocator::LocalHeap;
 use mdmp_dump::{MemoryRange, ReadFault, Stream, Thread};
 use mdmp_lister::Limits;
-use mdmp_test_files::{CRASH, MODULE, OVERLAPPING, SYSTEM};
+use mdmp_test_support::{CRASH, MODULE, OVERLAPPING, SYSTEM, file_of_numbers};
 use std::mem::size_of;
 use std::test::Fail;
 
@@ -41,11 +40,19 @@ fn first_other(rt: &HostRuntime, file: &[u8]) -> Result<(Option<ReadFault>, usiz
 #[test]
 fn want_of_memory_is_told_at_each_growth(rt: HostRuntime) -> Result<(), Fail> {
     assert_same(&rt, first_other(&rt, &SYSTEM)?, (None, 0));
-    assert_same(&rt, first_other(&rt, &file(&rt, 2, &CRASH)?)?, (None, 0));
-    assert_same(&rt, first_other(&rt, &file(&rt, 1, &MODULE)?)?, (None, 0));
     assert_same(
         &rt,
-        first_other(&rt, &file(&rt, 1, &OVERLAPPING)?)?,
+        first_other(&rt, &file_of_numbers(rt.alloc(), 2, &CRASH)?)?,
+        (None, 0),
+    );
+    assert_same(
+        &rt,
+        first_other(&rt, &file_of_numbers(rt.alloc(), 1, &MODULE)?)?,
+        (None, 0),
+    );
+    assert_same(
+        &rt,
+        first_other(&rt, &file_of_numbers(rt.alloc(), 1, &OVERLAPPING)?)?,
         (None, 0),
     );
     // The window, the directory and the name alone take 224 bytes.
@@ -74,7 +81,7 @@ fn block(bytes: usize) -> usize {
 
 #[test]
 fn memory_is_that_of_the_lists_which_take_their_room_once(rt: HostRuntime) -> Result<(), Fail> {
-    let file = file(&rt, 2, &CRASH)?;
+    let file = file_of_numbers(rt.alloc(), 2, &CRASH)?;
     let streams = block(2 * size_of::<Stream<&LocalHeap>>());
     let threads = block(size_of::<Thread<&LocalHeap>>());
     // And three parts of one block each.
@@ -96,7 +103,7 @@ fn memory_is_that_of_the_lists_which_take_their_room_once(rt: HostRuntime) -> Re
 
 #[test]
 fn list_of_records_takes_no_more_room_than_its_records(rt: HostRuntime) -> Result<(), Fail> {
-    let file = file(&rt, 1, &OVERLAPPING)?;
+    let file = file_of_numbers(rt.alloc(), 1, &OVERLAPPING)?;
     let streams = block(size_of::<Stream<&LocalHeap>>());
     let ranges = block(2 * size_of::<MemoryRange<&LocalHeap>>());
     // And the bytes of each range, a block each.

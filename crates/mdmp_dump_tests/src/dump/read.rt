@@ -1,12 +1,12 @@
 //! Files that are read into values: one of each kind of stream.
 use super::built::{absent, bytes, dump_of, of_one, one, part, read, read_chosen, two, zeros};
-use crate::files::{LEAST, NAMED, chosen, file, named};
+use crate::files::{LEAST, NAMED, chosen, named};
 use crate::same::assert_same;
 use mdmp_dump::{
     Dump, Exception, Memory64Range, MemoryRange, Module, Records, Stream, Thread, Unloaded,
 };
-use mdmp_test_files::{
-    ABSENT_STACK, COMMENT, CRASH, FAULTY, MEMORY64, MODULE, OVERLAPPING, SYSTEM,
+use mdmp_test_support::{
+    ABSENT_STACK, COMMENT, CRASH, FAULTY, MEMORY64, MODULE, OVERLAPPING, SYSTEM, file_of_numbers,
 };
 use mdmp_wire::{MemoryInfoRecord, Units, VersionInfo};
 use std::test::Fail;
@@ -28,7 +28,7 @@ fn numbers_of_the_header_are_read(rt: HostRuntime) -> Result<(), Fail> {
 
 #[test]
 fn unused_entry_and_a_stream_without_bytes_are_read(rt: HostRuntime) -> Result<(), Fail> {
-    let file = file(&rt, 2, &[0, 7, 4294967295, 10, 0, 0])?;
+    let file = file_of_numbers(rt.alloc(), 2, &[0, 7, 4294967295, 10, 0, 0])?;
     let raw = Stream::Raw(10, bytes(rt.alloc(), &[])?);
     let dump = dump_of(two(rt.alloc(), Stream::Unused, raw)?);
     assert_same(&rt, read(rt.alloc(), &file, LEAST, 0), Ok(dump));
@@ -37,7 +37,7 @@ fn unused_entry_and_a_stream_without_bytes_are_read(rt: HostRuntime) -> Result<(
 
 #[test]
 fn stream_of_another_type_is_its_bytes(rt: HostRuntime) -> Result<(), Fail> {
-    let mut file = file(&rt, 1, &COMMENT)?;
+    let mut file = file_of_numbers(rt.alloc(), 1, &COMMENT)?;
     file.truncate(49);
     let raw = Stream::Raw(10, bytes(rt.alloc(), &[1, 2, 3, 4, 5])?);
     let dump = of_one(rt.alloc(), raw)?;
@@ -47,7 +47,7 @@ fn stream_of_another_type_is_its_bytes(rt: HostRuntime) -> Result<(), Fail> {
 
 #[test]
 fn thread_without_its_stack_is_read(rt: HostRuntime) -> Result<(), Fail> {
-    let mut file = file(&rt, 1, &ABSENT_STACK)?;
+    let mut file = file_of_numbers(rt.alloc(), 1, &ABSENT_STACK)?;
     file.truncate(97);
     let thread = Thread {
         thread_id: 7,
@@ -66,7 +66,7 @@ fn thread_without_its_stack_is_read(rt: HostRuntime) -> Result<(), Fail> {
 
 #[test]
 fn thread_and_exception_are_read(rt: HostRuntime) -> Result<(), Fail> {
-    let file = file(&rt, 2, &CRASH)?;
+    let file = file_of_numbers(rt.alloc(), 2, &CRASH)?;
     let thread = Thread {
         thread_id: 7,
         suspend_count: 0,
@@ -95,7 +95,7 @@ fn thread_and_exception_are_read(rt: HostRuntime) -> Result<(), Fail> {
 
 #[test]
 fn module_is_read_with_its_name_and_parts(rt: HostRuntime) -> Result<(), Fail> {
-    let file = file(&rt, 1, &MODULE)?;
+    let file = file_of_numbers(rt.alloc(), 1, &MODULE)?;
     let module = Module {
         base_of_image: 0x0000000200000001,
         size_of_image: 3,
@@ -129,7 +129,7 @@ fn module_is_read_with_its_name_and_parts(rt: HostRuntime) -> Result<(), Fail> {
 
 #[test]
 fn ranges_of_memory_are_read(rt: HostRuntime) -> Result<(), Fail> {
-    let file = file(&rt, 1, &OVERLAPPING)?;
+    let file = file_of_numbers(rt.alloc(), 1, &OVERLAPPING)?;
     let first = MemoryRange {
         start: 0x1000,
         bytes: part(rt.alloc(), b"ABCD")?,
@@ -149,7 +149,11 @@ fn ranges_of_memory_are_read(rt: HostRuntime) -> Result<(), Fail> {
 
 #[test]
 fn ranges_without_bytes_are_absent_or_empty(rt: HostRuntime) -> Result<(), Fail> {
-    let file = file(&rt, 1, &[5, 36, 44, 2, 0x1000, 0, 4, 0, 0x2000, 0, 0, 80])?;
+    let file = file_of_numbers(
+        rt.alloc(),
+        1,
+        &[5, 36, 44, 2, 0x1000, 0, 4, 0, 0x2000, 0, 0, 80],
+    )?;
     let first = MemoryRange {
         start: 0x1000,
         bytes: absent(4)?,
@@ -237,7 +241,7 @@ fn region_of_memory_is_read(rt: HostRuntime) -> Result<(), Fail> {
         protect: 4,
         memory_type: 131072,
     };
-    let file = file(&rt, 1, &numbers)?;
+    let file = file_of_numbers(rt.alloc(), 1, &numbers)?;
     let dump = of_one(rt.alloc(), Stream::MemoryInfo(one(rt.alloc(), region)?))?;
     assert_same(&rt, read(rt.alloc(), &file, LEAST, 0), Ok(dump));
     Ok(())
@@ -246,7 +250,7 @@ fn region_of_memory_is_read(rt: HostRuntime) -> Result<(), Fail> {
 #[test]
 fn chosen_entries_alone_are_read(rt: HostRuntime) -> Result<(), Fail> {
     // What is not chosen has faults.
-    let file = file(&rt, 3, &FAULTY)?;
+    let file = file_of_numbers(rt.alloc(), 3, &FAULTY)?;
     let dump = of_one(rt.alloc(), Stream::System(zeros()))?;
     assert_same(
         &rt,

@@ -1,11 +1,11 @@
 //! Files that give no dump.
 use super::built::read;
-use crate::files::{LEAST, file, named};
+use crate::files::{LEAST, named};
 use crate::same::assert_same;
 use mdmp_dump::{Answered, PartName, ReadFault, read_dump, read_source};
 use mdmp_lister::{Choice, FaultKind, Limits, ListFault, OpenFault};
 use mdmp_source::{PatchyStore, Source, SourceFault};
-use mdmp_test_files::{ABSENT_STACK, COMMENT, CRASH, FAULTY, MEMORY64};
+use mdmp_test_support::{ABSENT_STACK, COMMENT, CRASH, FAULTY, MEMORY64, file_of_numbers};
 use std::test::Fail;
 
 /// Why a file gives no dump whose parts have at most so many bytes.
@@ -41,12 +41,12 @@ fn file_that_is_not_listed_gives_no_dump(rt: HostRuntime) {
 
 #[test]
 fn parts_over_their_limit_give_no_dump(rt: HostRuntime) -> Result<(), Fail> {
-    let mut absent_stack = file(&rt, 1, &ABSENT_STACK)?;
+    let mut absent_stack = file_of_numbers(rt.alloc(), 1, &ABSENT_STACK)?;
     absent_stack.truncate(97);
     assert_same(&rt, fault_of(&rt, &absent_stack, LEAST, 0), too_large(0));
-    let crash = file(&rt, 2, &CRASH)?;
+    let crash = file_of_numbers(rt.alloc(), 2, &CRASH)?;
     assert_same(&rt, fault_of(&rt, &crash, LEAST, 13), too_large(1));
-    let mut comment = file(&rt, 1, &COMMENT)?;
+    let mut comment = file_of_numbers(rt.alloc(), 1, &COMMENT)?;
     comment.truncate(49);
     assert_same(&rt, fault_of(&rt, &comment, LEAST, 4), too_large(0));
     Ok(())
@@ -54,7 +54,7 @@ fn parts_over_their_limit_give_no_dump(rt: HostRuntime) -> Result<(), Fail> {
 
 #[test]
 fn part_outside_the_file_gives_no_dump(rt: HostRuntime) -> Result<(), Fail> {
-    let mut file = file(&rt, 1, &ABSENT_STACK)?;
+    let mut file = file_of_numbers(rt.alloc(), 1, &ABSENT_STACK)?;
     file.truncate(96);
     let context = outside(0, PartName::Context, 96, 1);
     assert_same(&rt, fault_of(&rt, &file, LEAST, 1), context);
@@ -86,7 +86,7 @@ fn long_name_gives_no_dump(rt: HostRuntime) -> Result<(), Fail> {
 
 #[test]
 fn fault_of_the_listing_gives_no_dump(rt: HostRuntime) -> Result<(), Fail> {
-    let faulty = file(&rt, 3, &FAULTY)?;
+    let faulty = file_of_numbers(rt.alloc(), 3, &FAULTY)?;
     let name = ListFault {
         entry: 1,
         index: Some(0),
@@ -99,7 +99,7 @@ fn fault_of_the_listing_gives_no_dump(rt: HostRuntime) -> Result<(), Fail> {
         fault_of(&rt, &faulty, LEAST, 0),
         Some(ReadFault::List(name)),
     );
-    let mut comment = file(&rt, 1, &COMMENT)?;
+    let mut comment = file_of_numbers(rt.alloc(), 1, &COMMENT)?;
     comment.truncate(48);
     let stream = ListFault {
         entry: 0,
@@ -137,7 +137,7 @@ fn place_of(fault: ReadFault) -> Option<u64> {
 
 #[test]
 fn store_that_fails_gives_no_dump(rt: HostRuntime) -> Result<(), Fail> {
-    let file = file(&rt, 2, &CRASH)?;
+    let file = file_of_numbers(rt.alloc(), 2, &CRASH)?;
     // The header, the directory, then of each entry its stream, by one fetch, and the parts of its record.
     for (call, place) in [
         (0, Some(0)),
@@ -158,7 +158,7 @@ fn store_that_fails_gives_no_dump(rt: HostRuntime) -> Result<(), Fail> {
 
 #[test]
 fn source_of_a_file_comes_back(rt: HostRuntime) -> Result<(), Fail> {
-    let file = file(&rt, 2, &CRASH)?;
+    let file = file_of_numbers(rt.alloc(), 2, &CRASH)?;
     for (call, place, calls) in [(3, Some(108), 4), (7, None, 7)] {
         let source = Source::new(PatchyStore::new(&file, &[4096], Some(call)));
         let Answered { answer, source } = read_source(rt.alloc(), source, LEAST, Choice::All, 14);

@@ -3,11 +3,11 @@ ghost use Rattle.std.specs.Prelude.{◌≡◌, ◌<◌, length, IsTrue};
 ghost use Rattle.mdmp_dump.specs.Shape.{head_of, stream_at};
 
 use super::built::read;
-use crate::files::{LEAST, NAMED, file};
+use crate::files::{LEAST, NAMED};
 use crate::same::assert_same;
 use mdmp_dump::{DumpView, Fields, HeaderFields, Kind, PartSize};
 use mdmp_source::Location;
-use mdmp_test_files::{ABSENT_STACK, MEMORY64, SIX};
+use mdmp_test_support::{ABSENT_STACK, MEMORY64, SIX, file_of_numbers};
 use mdmp_wire::{AnyRecord, Descriptor, Descriptor64, ThreadRecord};
 use std::test::Fail;
 
@@ -104,7 +104,12 @@ fn raw_bytes<V: DumpView>(view: &mut V, stream: u64, at: u64, out: &mut [u8]) ->
 
 #[test]
 fn streams_are_told_by_their_kinds_and_sizes(rt: HostRuntime) -> Result<(), Fail> {
-    let six = read(rt.alloc(), &file(&rt, 6, &SIX)?, NAMED, 18)?;
+    let six = read(
+        rt.alloc(),
+        &file_of_numbers(rt.alloc(), 6, &SIX)?,
+        NAMED,
+        18,
+    )?;
     let mut view = six.view();
     for (stream, kind, body, parts) in [
         (0, Kind::Known(7), 56, 36),
@@ -151,7 +156,7 @@ fn memory_of_64_bits_is_told_by_its_bytes(rt: HostRuntime) -> Result<(), Fail> {
 
 #[test]
 fn numbers_of_the_header_are_given(rt: HostRuntime) -> Result<(), Fail> {
-    let mut dump = read(rt.alloc(), &file(&rt, 0, &[])?, LEAST, 0)?;
+    let mut dump = read(rt.alloc(), &file_of_numbers(rt.alloc(), 0, &[])?, LEAST, 0)?;
     dump.version_high = 1;
     dump.checksum = 2;
     dump.time = 3;
@@ -168,7 +173,12 @@ fn numbers_of_the_header_are_given(rt: HostRuntime) -> Result<(), Fail> {
 
 #[test]
 fn record_is_given_without_its_locations(rt: HostRuntime) -> Result<(), Fail> {
-    let six = read(rt.alloc(), &file(&rt, 6, &SIX)?, NAMED, 18)?;
+    let six = read(
+        rt.alloc(),
+        &file_of_numbers(rt.alloc(), 6, &SIX)?,
+        NAMED,
+        18,
+    )?;
     let nowhere = Location { size: 0, rva: 0 };
     let fields = Fields {
         wire: AnyRecord::Thread(ThreadRecord {
@@ -193,7 +203,7 @@ fn record_is_given_without_its_locations(rt: HostRuntime) -> Result<(), Fail> {
 
 #[test]
 fn absent_part_is_given_as_its_size(rt: HostRuntime) -> Result<(), Fail> {
-    let mut file = file(&rt, 1, &ABSENT_STACK)?;
+    let mut file = file_of_numbers(rt.alloc(), 1, &ABSENT_STACK)?;
     file.truncate(97);
     let dump = read(rt.alloc(), &file, LEAST, 1)?;
     let parts = first_record(&mut dump.view(), 0, 0, 0, &mut []).map(|fields| fields.parts);
@@ -204,7 +214,12 @@ fn absent_part_is_given_as_its_size(rt: HostRuntime) -> Result<(), Fail> {
 
 #[test]
 fn parts_are_given_by_pieces(rt: HostRuntime) -> Result<(), Fail> {
-    let six = read(rt.alloc(), &file(&rt, 6, &SIX)?, NAMED, 18)?;
+    let six = read(
+        rt.alloc(),
+        &file_of_numbers(rt.alloc(), 6, &SIX)?,
+        NAMED,
+        18,
+    )?;
     let mut view = six.view();
     let rows: [(u64, usize, u64, &[u8]); 9] = [
         (0, 0, 0, b"S\0e"),
@@ -230,7 +245,12 @@ fn parts_are_given_by_pieces(rt: HostRuntime) -> Result<(), Fail> {
 
 #[test]
 fn raw_bytes_are_given_by_pieces(rt: HostRuntime) -> Result<(), Fail> {
-    let six = read(rt.alloc(), &file(&rt, 6, &SIX)?, NAMED, 18)?;
+    let six = read(
+        rt.alloc(),
+        &file_of_numbers(rt.alloc(), 6, &SIX)?,
+        NAMED,
+        18,
+    )?;
     let mut out = [0; 2];
     assert_same(&rt, raw_bytes(&mut six.view(), 5, 1, &mut out), Some(()));
     assert_same(&rt, out, [2, 3]);

@@ -1,10 +1,10 @@
 //! Where names, parts and 64-bit memory stand as they are written.
 use super::assert_written;
 use crate::dump::built::{absent, bytes, dump_of, of_one, one, part, read, two};
-use crate::files::{LEAST, NAMED, file};
+use crate::files::{LEAST, NAMED};
 use crate::same::assert_same;
 use mdmp_dump::{Memory64Range, MemoryRange, Records, Stream, Thread, Unloaded};
-use mdmp_test_files::{ABSENT_STACK, MODULE, THRICE};
+use mdmp_test_support::{ABSENT_STACK, MODULE, THRICE, file_of_numbers};
 use mdmp_wire::Units;
 use std::alloc::{AllocError, Global};
 use std::test::Fail;
@@ -60,7 +60,7 @@ fn absent_part_is_written_as_its_size(rt: HostRuntime) -> Result<(), Fail> {
         context: part(rt.alloc(), &[0xaa])?,
     };
     let dump = of_one(rt.alloc(), Stream::Threads(one(rt.alloc(), thread)?))?;
-    let file = file(&rt, 1, &ABSENT_STACK)?;
+    let file = file_of_numbers(rt.alloc(), 1, &ABSENT_STACK)?;
     assert_same(&rt, file.len(), 100);
     assert_written(&rt, rt.alloc(), &dump, &file)
 }
@@ -77,7 +77,11 @@ fn empty_part_is_written_as_zeros(rt: HostRuntime) -> Result<(), Fail> {
     };
     let ranges = two(rt.alloc(), first, second)?;
     let dump = of_one(rt.alloc(), Stream::Memory(ranges))?;
-    let file = file(&rt, 1, &[5, 36, 44, 2, 0x1000, 0, 4, 0, 0x2000, 0, 0, 0])?;
+    let file = file_of_numbers(
+        rt.alloc(),
+        1,
+        &[5, 36, 44, 2, 0x1000, 0, 4, 0, 0x2000, 0, 0, 0],
+    )?;
     assert_written(&rt, rt.alloc(), &dump, &file)
 }
 
@@ -94,30 +98,55 @@ fn unused_stream_and_one_without_bytes_stand_nowhere(rt: HostRuntime) -> Result<
         10, 5, 80, 0, 0, 0, 11, 0, 0, 12, 1, 88, // the directory
         0x04030201, 5, 6,
     ];
-    assert_written(&rt, rt.alloc(), &dump, &file(&rt, 4, &numbers)?)
+    assert_written(
+        &rt,
+        rt.alloc(),
+        &dump,
+        &file_of_numbers(rt.alloc(), 4, &numbers)?,
+    )
 }
 
 #[test]
 fn stream_that_is_named_thrice_is_written_thrice(rt: HostRuntime) -> Result<(), Fail> {
-    let dump = read(rt.alloc(), &file(&rt, 3, &THRICE)?, LEAST, 0)?;
+    let dump = read(
+        rt.alloc(),
+        &file_of_numbers(rt.alloc(), 3, &THRICE)?,
+        LEAST,
+        0,
+    )?;
     let mut numbers = Vec::new(rt.alloc());
     numbers.extend_from_slice(&[3, 52, 68, 3, 52, 120, 3, 52, 172])?;
     for _ in 0..3 {
         numbers.extend_from_slice(&[1, 7, 0, 0, 0, 0, 0, 0, 0, 0, 0, 0, 0])?;
     }
-    assert_written(&rt, rt.alloc(), &dump, &file(&rt, 3, &numbers)?)
+    assert_written(
+        &rt,
+        rt.alloc(),
+        &dump,
+        &file_of_numbers(rt.alloc(), 3, &numbers)?,
+    )
 }
 
 #[test]
 fn name_is_written_with_two_zeros_behind_it(rt: HostRuntime) -> Result<(), Fail> {
-    let dump = read(rt.alloc(), &file(&rt, 1, &MODULE)?, NAMED, 6)?;
+    let dump = read(
+        rt.alloc(),
+        &file_of_numbers(rt.alloc(), 1, &MODULE)?,
+        NAMED,
+        6,
+    )?;
     let numbers = [
         4, 112, 44, 1, // the directory, and the count
         1, 2, 3, 4, 5, 156, 6, 7, 8, 9, 10, 11, 12, 13, 14, 15, 16, 17, 18, // up to the version
         4, 168, 2, 172, 19, 0, 0, 20, // the module's parts
         4, 0x00620061, 0, 0x53445352, 0x5344, // its name, and its parts' bytes
     ];
-    assert_written(&rt, rt.alloc(), &dump, &file(&rt, 1, &numbers)?)
+    assert_written(
+        &rt,
+        rt.alloc(),
+        &dump,
+        &file_of_numbers(rt.alloc(), 1, &numbers)?,
+    )
 }
 
 #[test]
@@ -133,7 +162,12 @@ fn name_of_no_units_is_still_a_name(rt: HostRuntime) -> Result<(), Fail> {
         0, 0, 0, 0, 0, 0, 0, 0, 0, 0, 0, 128, 0, 0, 0, 0, 0, 136, // the modules
         0, 0, 4, 0x00620061, 0, // their names
     ];
-    assert_written(&rt, rt.alloc(), &dump, &file(&rt, 1, &numbers)?)
+    assert_written(
+        &rt,
+        rt.alloc(),
+        &dump,
+        &file_of_numbers(rt.alloc(), 1, &numbers)?,
+    )
 }
 
 #[test]
@@ -142,7 +176,7 @@ fn region_of_memory_is_written_behind_its_head(rt: HostRuntime) -> Result<(), Fa
         16, 64, 44, 16, 48, 1, 0, // the directory, and the head
         4096, 0, 4096, 0, 4, 0, 8192, 0, 4096, 4, 131072, 0,
     ];
-    let file = file(&rt, 1, &numbers)?;
+    let file = file_of_numbers(rt.alloc(), 1, &numbers)?;
     assert_written(&rt, rt.alloc(), &read(rt.alloc(), &file, LEAST, 0)?, &file)
 }
 
@@ -168,5 +202,10 @@ fn bytes_of_64_bit_ranges_stand_behind_all_streams(rt: HostRuntime) -> Result<()
         0, 0, 192, 0, // none, behind the bytes of the others
         0x44434241, 0x4645, 0x4847,
     ];
-    assert_written(&rt, rt.alloc(), &dump, &file(&rt, 4, &numbers)?)
+    assert_written(
+        &rt,
+        rt.alloc(),
+        &dump,
+        &file_of_numbers(rt.alloc(), 4, &numbers)?,
+    )
 }

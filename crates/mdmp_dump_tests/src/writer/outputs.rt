@@ -1,10 +1,10 @@
 //! Outputs that refuse, and what they have then.
 use super::write_value;
 use crate::dump::built::read;
-use crate::files::{LEAST, file};
+use crate::files::LEAST;
 use mdmp_dump::Dump;
 use mdmp_source::PatchyOut;
-use mdmp_test_files::CRASH;
+use mdmp_test_support::{CRASH, file_of_numbers};
 use mdmp_writer::WriteFault;
 use std::alloc::Global;
 use std::process::Abort;
@@ -47,7 +47,7 @@ fn assert_refused(
 
 #[test]
 fn output_that_is_full_has_the_first_bytes(rt: HostRuntime) -> Result<(), Fail> {
-    let file = file(&rt, 2, &CRASH)?;
+    let file = file_of_numbers(rt.alloc(), 2, &CRASH)?;
     let crash = read(rt.alloc(), &file, LEAST, 14)?;
     for room in [0, 40, 291] {
         let full = Taking {
@@ -62,7 +62,7 @@ fn output_that_is_full_has_the_first_bytes(rt: HostRuntime) -> Result<(), Fail> 
 
 #[test]
 fn output_that_fails_at_once_has_nothing(rt: HostRuntime) -> Result<(), Fail> {
-    let file = file(&rt, 2, &CRASH)?;
+    let file = file_of_numbers(rt.alloc(), 2, &CRASH)?;
     let crash = read(rt.alloc(), &file, LEAST, 14)?;
     let failing = Taking {
         room: 4096,
@@ -74,7 +74,7 @@ fn output_that_fails_at_once_has_nothing(rt: HostRuntime) -> Result<(), Fail> {
 
 #[test]
 fn output_that_fails_later_has_what_it_took(rt: HostRuntime) -> Result<(), Fail> {
-    let file = file(&rt, 2, &CRASH)?;
+    let file = file_of_numbers(rt.alloc(), 2, &CRASH)?;
     let crash = read(rt.alloc(), &file, LEAST, 14)?;
     for call in 0..292 {
         let slow = Taking {

@@ -1,11 +1,11 @@
 //! Dumps that are written into memory and read back.
 use crate::dump::built::{bytes, of_one, read};
-use crate::files::{LEAST, NAMED, file};
+use crate::files::{LEAST, NAMED};
 use crate::same::assert_same;
 use linked_list_allocator::LocalHeap;
 use mdmp_dump::{Dump, ReadFault, Stream};
 use mdmp_lister::Limits;
-use mdmp_test_files::{CRASH, SIX, SYSTEM};
+use mdmp_test_support::{CRASH, SIX, SYSTEM, file_of_numbers};
 use mdmp_writer::{LayoutFault, RoundTripFault, ToMemoryFault, to_memory, write_and_read};
 use std::alloc::Allocator;
 use std::test::Fail;
@@ -39,7 +39,7 @@ fn read_back<A: Allocator + Copy>(
 
 #[test]
 fn dump_is_read_back(rt: HostRuntime) -> Result<(), Fail> {
-    let file = file(&rt, 6, &SIX)?;
+    let file = file_of_numbers(rt.alloc(), 6, &SIX)?;
     let six = read(rt.alloc(), &file, NAMED, 18)?;
     let stored = stored(rt.alloc(), &six)?;
     assert_same(&rt, stored.as_slice(), file.as_slice());
@@ -72,7 +72,12 @@ fn name_past_the_limit_is_not_read_back(rt: HostRuntime) -> Result<(), Fail> {
 
 #[test]
 fn parts_past_their_limit_are_not_read_back(rt: HostRuntime) -> Result<(), Fail> {
-    let crash = read(rt.alloc(), &file(&rt, 2, &CRASH)?, LEAST, 14)?;
+    let crash = read(
+        rt.alloc(),
+        &file_of_numbers(rt.alloc(), 2, &CRASH)?,
+        LEAST,
+        14,
+    )?;
     let large = ReadFault::PartsTooLarge { entry: 1, index: 0 };
     assert_same(
         &rt,
@@ -117,7 +122,7 @@ fn outcome_in(rt: &HostRuntime, size: usize, file: &[u8]) -> Result<Option<Outco
 
 #[test]
 fn want_of_memory_for_the_bytes_is_told(rt: HostRuntime) -> Result<(), Fail> {
-    let file = file(&rt, 2, &CRASH)?;
+    let file = file_of_numbers(rt.alloc(), 2, &CRASH)?;
     let wanting = Outcome {
         stored: Err(ToMemoryFault::Memory),
         fault: Some(RoundTripFault::Memory),

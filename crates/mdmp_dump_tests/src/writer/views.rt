@@ -4,11 +4,11 @@ ghost use Rattle.std.proofs.lemmas.Option.{none-some};
 
 use super::{open_out, write_view};
 use crate::dump::built::read;
-use crate::files::{LEAST, NAMED, file};
+use crate::files::{LEAST, NAMED};
 use crate::same::assert_same;
 use mdmp_dump::{Dump, DumpView, Fields, HeaderFields, Kind, ViewFault};
 use mdmp_source::SourceFault;
-use mdmp_test_files::{MEMORY64, SIX};
+use mdmp_test_support::{MEMORY64, SIX, file_of_numbers};
 use mdmp_writer::WriteFault;
 use std::alloc::Global;
 use std::process::Abort;
@@ -120,7 +120,7 @@ fn assert_first_parts(
 
 #[test]
 fn fault_of_a_view_leaves_a_first_part(rt: HostRuntime) -> Result<(), Fail> {
-    let file = file(&rt, 6, &SIX)?;
+    let file = file_of_numbers(rt.alloc(), 6, &SIX)?;
     let six = read(rt.alloc(), &file, NAMED, 18)?;
     for room in [1, 64] {
         assert_first_parts(&rt, rt.alloc(), &six, &file, room)?;

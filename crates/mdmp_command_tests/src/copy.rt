@@ -1,9 +1,8 @@
 //! Command lines of `copy`, and the files that they make.
-use crate::files::{head, numbers, system_file};
-use crate::runs::{BY_WHOLE, assert_ended, run, run_with, write_file};
+use crate::runs::{assert_ended, run, run_with, write_file};
 use crate::same::{assert_same, assert_same_at};
 use linked_list_allocator::LocalHeap;
-use mdmp_test_files::{CRASH, SIX};
+use mdmp_test_support::{BY_WHOLE, CRASH, SIX, file_of_numbers, header_of, system_file};
 use std::alloc::{Alloc, Global};
 use std::fs;
 use std::process::Abort;
@@ -13,7 +12,7 @@ use std::test::Fail;
 /// Writes the files that are copied, and takes away the copy of this name.
 fn write_files(rt: &impl Files, alloc: Global, copy: &str) -> Result<(), Fail> {
     write_file(rt, "system.dmp", system_file(alloc)?.as_slice())?;
-    write_file(rt, "six.dmp", numbers(alloc, 6, &SIX)?.as_slice())?;
+    write_file(rt, "six.dmp", file_of_numbers(alloc, 6, &SIX)?.as_slice())?;
     let _ = fs::remove_file(rt, copy);
     Ok(())
 }
@@ -41,7 +40,7 @@ fn copy_of_two_types_has_their_streams(rt: HostRuntime) -> Result<(), Fail> {
     let words = ["copy", "six.dmp", "crash.dmp", "3", "6"];
     let ended = run(&rt, rt.alloc(), &words)?;
     assert_ended(&rt, &words, &ended, 0, "", "");
-    let crash = numbers(rt.alloc(), 2, &CRASH)?;
+    let crash = file_of_numbers(rt.alloc(), 2, &CRASH)?;
     assert_same(&rt, crash.len(), 292);
     assert_file(&rt, "crash.dmp", crash.as_slice())
 }
@@ -52,7 +51,7 @@ fn copy_of_a_type_that_is_not_there_is_an_empty_dump(rt: HostRuntime) -> Result<
     let words = ["copy", "six.dmp", "nothing.dmp", "200000"];
     let ended = run(&rt, rt.alloc(), &words)?;
     assert_ended(&rt, &words, &ended, 0, "", "");
-    assert_file(&rt, "nothing.dmp", head(0, 32).as_slice())
+    assert_file(&rt, "nothing.dmp", header_of(0, 32).as_slice())
 }
 
 #[test]

@@ -1,6 +1,6 @@
 //! Files that hold memory of a process.
-use crate::files::numbers;
-use mdmp_test_files::MEMORY64;
+use crate::files::file_of_numbers;
+use crate::small_files::MEMORY64;
 use std::alloc::{AllocError, Global};
 
 /// A file of 98 bytes with a 64-bit list of two ranges of four bytes, at 0x1000 and at 0x2000. The
@@ -9,24 +9,21 @@ pub fn wide_file(alloc: Global) -> Result<Vec<u8>, AllocError> {
     MEMORY64.to_vec(alloc)
 }
 
-/// What `hex` prints of the four bytes at 0x1000.
-pub const WIDE_TEXT: &str = "0x0000000000001000: 41 42 43 44\n";
-
-/// A range of a memory list: where it begins, and where its four bytes stand.
+/// A range of four bytes in a memory list: where it begins, and where they stand.
 #[derive(Clone, Copy)]
-pub struct Piece {
+pub struct FourByteRange {
     pub start: u32,
     pub rva: u32,
 }
 
 /// `ABCD`, at 0x1000.
-pub const LOW: Piece = Piece {
+pub const ABCD_RANGE: FourByteRange = FourByteRange {
     start: 0x1000,
     rva: 80,
 };
 
 /// `wxyz`, at 0x1002.
-pub const HIGH: Piece = Piece {
+pub const WXYZ_RANGE: FourByteRange = FourByteRange {
     start: 0x1002,
     rva: 84,
 };
@@ -35,8 +32,8 @@ pub const HIGH: Piece = Piece {
 pub fn memory_file(
     alloc: Global,
     count: u32,
-    first: Piece,
-    second: Piece,
+    first: FourByteRange,
+    second: FourByteRange,
 ) -> Result<Vec<u8>, AllocError> {
     let words = [
         5,
@@ -54,7 +51,7 @@ pub fn memory_file(
         0x4443_4241,
         0x7a79_7877,
     ];
-    numbers(alloc, 1, &words)
+    file_of_numbers(alloc, 1, &words)
 }
 
 /// A file with a 64-bit list of one range, of sixteen bytes at 0xfffffffffffffff8.
@@ -76,14 +73,14 @@ pub fn last_file(alloc: Global) -> Result<Vec<u8>, AllocError> {
         0x0b0a_0908,
         0x0f0e_0d0c,
     ];
-    numbers(alloc, 1, &words)
+    file_of_numbers(alloc, 1, &words)
 }
 
 /// A file with a list of one thread that is a byte too short for it.
 pub fn short_threads_file(alloc: Global) -> Result<Vec<u8>, AllocError> {
     let mut words = [0; 16];
     words[..4].copy_from_slice(&[3, 51, 44, 1]);
-    numbers(alloc, 1, &words)
+    file_of_numbers(alloc, 1, &words)
 }
 
 /// A file with a 64-bit list of three ranges, of which two have the greatest size.
@@ -93,7 +90,7 @@ pub fn endless_ranges_file(alloc: Global) -> Result<Vec<u8>, AllocError> {
         9, 64, 44, 3, 0, 108, 0, // three ranges, whose bytes begin at 108
         0x1000, 0, most, most, 0x2000, 0, most, most, 0x3000, 0, 1, 0,
     ];
-    numbers(alloc, 1, &words)
+    file_of_numbers(alloc, 1, &words)
 }
 
 /// A range of a memory list: where it begins, how many bytes it has, and where they stand.
@@ -117,7 +114,7 @@ pub fn two_ranges_file(
     ranges: &[Range; 2],
     bytes: &[u8],
 ) -> Result<Vec<u8>, AllocError> {
-    let mut file = numbers(alloc, 1, &[5, 36, 44, 2])?;
+    let mut file = file_of_numbers(alloc, 1, &[5, 36, 44, 2])?;
     for range in ranges {
         file.extend_from_slice(&range.start.to_le_bytes())?;
         file.extend_from_slice(&range.size.to_le_bytes())?;

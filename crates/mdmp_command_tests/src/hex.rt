@@ -1,6 +1,8 @@
 //! Command lines of `hex`, over files that the tests write.
-use crate::memory_files::{HIGH, LOW, last_file, memory_file, short_threads_file, wide_file};
-use crate::runs::{BY_WHOLE, Room, assert_ended, run, run_with, write_file};
+use crate::runs::{assert_ended, run, run_with, write_file};
+use mdmp_test_support::{
+    ABCD_RANGE, BY_WHOLE, Room, WXYZ_RANGE, last_file, memory_file, short_threads_file, wide_file,
+};
 use std::alloc::Global;
 use std::rt::Files;
 use std::test::Fail;
@@ -11,7 +13,7 @@ const BAD_LINE: &str = "mdmp: bad command line\n";
 fn write_files(rt: &impl Files, alloc: Global) -> Result<(), Fail> {
     write_file(rt, "wide.dmp", wide_file(alloc)?.as_slice())?;
     write_file(rt, "last.dmp", last_file(alloc)?.as_slice())?;
-    let count = memory_file(alloc, 3, LOW, HIGH)?;
+    let count = memory_file(alloc, 3, ABCD_RANGE, WXYZ_RANGE)?;
     write_file(rt, "count.dmp", count.as_slice())?;
     write_file(rt, "threads.dmp", short_threads_file(alloc)?.as_slice())?;
     write_file(rt, "short.dmp", [0u8; 31].as_slice())?;

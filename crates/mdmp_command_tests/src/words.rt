@@ -1,16 +1,17 @@
 //! Command lines, over files that the tests write.
-use crate::files::{FAULTY, FAULTY_TOLD, SYSTEM_TEXT, faulty_file, head, system_file};
-use crate::runs::{
-    BY_SEVEN, BY_WHOLE, Room, assert_ended, assert_row_ended, run, run_with, start_of, write_file,
-};
+use crate::runs::{assert_ended, assert_row_ended, run, run_with, write_file};
 use linked_list_allocator::LocalHeap;
+use mdmp_test_support::{
+    BY_SEVEN, BY_WHOLE, FAULTY_TEXT, FAULTY_TOLD, Room, SYSTEM_TEXT, faulty_file, header_of,
+    start_of, system_file,
+};
 use std::alloc::Global;
 use std::rt::Files;
 use std::test::Fail;
 
 /// Writes the files of these command lines.
 fn write_files(rt: &impl Files, alloc: Global) -> Result<(), Fail> {
-    write_file(rt, "empty.dmp", head(0, 0xffff_ffff).as_slice())?;
+    write_file(rt, "empty.dmp", header_of(0, 0xffff_ffff).as_slice())?;
     write_file(rt, "short.dmp", [0u8; 31].as_slice())?;
     write_file(rt, "system.dmp", system_file(alloc)?.as_slice())?;
     write_file(rt, "faulty.dmp", faulty_file(alloc)?.as_slice())?;
@@ -37,7 +38,7 @@ fn run_words_succeeds(rt: HostRuntime) -> Result<(), Fail> {
             "",
             "mdmp: file of 0 bytes is too short\n",
         ),
-        (&["list", "faulty.dmp"], 1, FAULTY, FAULTY_TOLD),
+        (&["list", "faulty.dmp"], 1, FAULTY_TEXT, FAULTY_TOLD),
         (&["list", "none.dmp"], 3, "", "mdmp: cannot open none.dmp\n"),
         // A directory is opened, and gives no bytes.
         (&["list", "."], 3, "", "mdmp: store failed at 0\n"),
@@ -62,7 +63,7 @@ fn words_tell_a_failing_output(rt: HostRuntime) -> Result<(), Fail> {
         call: 100,
     };
     let ended = run_with(&rt, rt.alloc(), rt.alloc(), &words, full, BY_WHOLE)?;
-    let start = start_of(FAULTY, 100)?;
+    let start = start_of(FAULTY_TEXT, 100)?;
     assert_ended(&rt, &words, &ended, 3, start, "mdmp: output failed\n");
     Ok(())
 }
@@ -78,7 +79,7 @@ fn words_tell_want_of_memory_and_print_nothing(rt: HostRuntime) -> Result<(), Fa
         (65535, 3, "", memory),
         (65536, 3, "", memory),
         (131120, 3, "", memory),
-        (135216, 1, FAULTY, FAULTY_TOLD),
+        (135216, 1, FAULTY_TEXT, FAULTY_TOLD),
     ] {
         let words = ["list", "faulty.dmp"];
         let heap = LocalHeap::new(rt.alloc(), size)?;

@@ -4,8 +4,9 @@
 //! and its own proof stays short.
 ghost use Rattle.mdmp_words.specs.Requests.{IsPrintable};
 
-use crate::runs::{Ended, LONG, Room, empty_out, text_in};
+use crate::runs::Ended;
 use mdmp_source::{BlockOut, PatchyOut, Source, Store};
+use mdmp_test_support::{FOR_LONG_TEXT, Room, empty_out, text_in};
 use mdmp_tool::{Limits, Print, Span, TypeSet, copy_told, print_told};
 use std::alloc::Global;
 use std::test::Fail;
@@ -81,7 +82,7 @@ pub fn copy_store_to<S: Store + Drop>(
     types: &[u32],
     out: &mut PatchyOut<Global>,
 ) -> Result<CopyEnded, Fail> {
-    let mut err = empty_out(alloc, LONG)?;
+    let mut err = empty_out(alloc, FOR_LONG_TEXT)?;
     let types = TypeSet::new(types).ok_or("types")?;
     let source = Source::new(store);
     let status = copy_told(alloc, types, source, Limits::default(), out, &mut err).status;

@@ -1,6 +1,5 @@
-//! Small files, which the tests of several crates share. Those of 32-bit numbers stand behind a header
-//! that names a directory at 32, from there on.
-#![tactic(auto)]
+//! Small files. Those of 32-bit numbers stand behind a header that names a directory at 32, from there
+//! on.
 
 /// A system, whose name is that of its service pack.
 pub const SYSTEM: [u8; 136] =

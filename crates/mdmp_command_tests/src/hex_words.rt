@@ -1,7 +1,7 @@
 //! The words of `hex` that say which bytes it prints, by what it prints of a file without memory.
-use crate::files::head;
-use crate::runs::{BY_WHOLE, Room, run_with, write_file};
+use crate::runs::{run_with, write_file};
 use crate::same::{assert_same, assert_same_at};
+use mdmp_test_support::{BY_WHOLE, Room, header_of};
 use std::alloc::{AllocGlobal, Global};
 use std::rt::Files;
 use std::test::Fail;
@@ -86,7 +86,7 @@ fn length_of(
 
 #[test]
 fn decimal_numbers_are_digits_alone(rt: HostRuntime) -> Result<(), Fail> {
-    write_file(&rt, "unknown.dmp", head(0, 0).as_slice())?;
+    write_file(&rt, "unknown.dmp", header_of(0, 0).as_slice())?;
     let rows = [
         ("0", Some(0)),
         ("5", Some(5)),
@@ -114,7 +114,7 @@ fn decimal_numbers_are_digits_alone(rt: HostRuntime) -> Result<(), Fail> {
 
 #[test]
 fn addresses_are_hexadecimal_behind_a_small_x_or_decimal(rt: HostRuntime) -> Result<(), Fail> {
-    write_file(&rt, "unknown.dmp", head(0, 0).as_slice())?;
+    write_file(&rt, "unknown.dmp", header_of(0, 0).as_slice())?;
     let rows = [
         ("0x0", Some(0)),
         ("0x10", Some(16)),
@@ -150,7 +150,7 @@ fn addresses_are_hexadecimal_behind_a_small_x_or_decimal(rt: HostRuntime) -> Res
 
 #[test]
 fn lengths_have_a_limit(rt: HostRuntime) -> Result<(), Fail> {
-    write_file(&rt, "unknown.dmp", head(0, 0).as_slice())?;
+    write_file(&rt, "unknown.dmp", header_of(0, 0).as_slice())?;
     let rows = [
         ("0", Some(0)),
         ("16", Some(16)),
@@ -172,7 +172,7 @@ fn lengths_have_a_limit(rt: HostRuntime) -> Result<(), Fail> {
 
 #[test]
 fn spans_do_not_wrap(rt: HostRuntime) -> Result<(), Fail> {
-    write_file(&rt, "unknown.dmp", head(0, 0).as_slice())?;
+    write_file(&rt, "unknown.dmp", header_of(0, 0).as_slice())?;
     let span = |address: u64, length: u64| {
         Some(Asked {
             address: Some(address),

@@ -1,9 +1,8 @@
 //! Command lines with options at their limits.
-use crate::files::{SYSTEM_TEXT, system_file};
-use crate::memory_files::{WIDE_TEXT, wide_file};
-use crate::runs::{BY_SEVEN, assert_ended, run, run_with, write_file};
+use crate::runs::{assert_ended, run, run_with, write_file};
 use crate::same::assert_same_at;
 use linked_list_allocator::LocalHeap;
+use mdmp_test_support::{BY_SEVEN, SYSTEM_TEXT, WIDE_TEXT, system_file, wide_file};
 use std::alloc::Global;
 use std::fs;
 use std::rt::Files;

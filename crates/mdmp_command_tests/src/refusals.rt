@@ -1,6 +1,6 @@
 //! Command lines that are refused: nothing is printed, and no file is opened or made.
-use crate::files::system_file;
 use crate::runs::{assert_ended, assert_refused, run, write_file};
+use mdmp_test_support::system_file;
 use std::fs;
 use std::test::Fail;
 
@@ -12,8 +12,9 @@ const SEVENTEEN_TYPES: [&str; 20] = [
 
 #[test]
 fn words_of_no_command_are_refused(rt: HostRuntime) -> Result<(), Fail> {
-    let rows: [&[&str]; 20] = [
+    let rows: [&[&str]; 21] = [
         &[],
+        &["help", "none"],
         &[""],
         &["print", "none.dmp"],
         &["LIST", "none.dmp"],

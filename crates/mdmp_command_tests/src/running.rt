@@ -1,13 +1,13 @@
 //! Commands over stores and outputs that fail: what they write, what they tell, and their status.
-use crate::files::{
-    FAULTY, FAULTY_TOLD, FAULTY_VERDICTS, SYSTEM_TEXT, faulty_file, numbers, system_file,
-};
-use crate::pdb::{LINE, RECORD, TEXT, module_file};
 use crate::prints::{CopyEnded, Shown, copy_store_to, print_store};
-use crate::runs::{Ended, LONG, Room, assert_row_ended, start_of};
+use crate::runs::{Ended, assert_row_ended};
 use crate::same::{assert_same, assert_same_at};
 use mdmp_source::{MemoryStore, PatchyOut, PatchyStore};
-use mdmp_test_files::{CRASH, SIX};
+use mdmp_test_support::{
+    CODEVIEW_LINE, CODEVIEW_RECORD, CRASH, FAULTY_TEXT, FAULTY_TOLD, FAULTY_VERDICTS,
+    FOR_LONG_TEXT, MODULE_FILE_TEXT, Room, SIX, SYSTEM_TEXT, faulty_file, file_of_numbers,
+    module_file, start_of, system_file,
+};
 use std::alloc::Global;
 use std::process::Abort;
 use std::test::Fail;
@@ -15,7 +15,7 @@ use std::test::Fail;
 /// Prints what is asked for of a store that gives one byte a call, whose call `fail_at` fails.
 fn print_patchy(alloc: Global, shown: Shown, bytes: &[u8], fail_at: u64) -> Result<Ended, Fail> {
     let store = PatchyStore::new(bytes, &[1], Some(fail_at));
-    print_store(alloc, shown, store, LONG, LONG)
+    print_store(alloc, shown, store, FOR_LONG_TEXT, FOR_LONG_TEXT)
 }
 
 /// Asserts that each call of a store that gives one byte a call, and fails there, leaves a first part
@@ -49,16 +49,28 @@ fn print_told_succeeds(rt: HostRuntime) -> Result<(), Fail> {
         (Shown::Verdicts, &system, 0, "entry 0: ok\n", ""),
         (Shown::Items, &system, 0, SYSTEM_TEXT, ""),
         (Shown::Verdicts, &faulty, 1, FAULTY_VERDICTS, bad),
-        (Shown::ItemsAndSymbols, &faulty, 1, FAULTY, FAULTY_TOLD),
+        (Shown::ItemsAndSymbols, &faulty, 1, FAULTY_TEXT, FAULTY_TOLD),
         // Its memory lists, of which it has none, are good.
         (Shown::Memory, &faulty, 0, "0x0000000000000010: ?? ??\n", ""),
     ];
     for (shown, bytes, code, text, told) in rows {
-        let ended = print_store(rt.alloc(), shown, MemoryStore::new(bytes), LONG, LONG)?;
+        let ended = print_store(
+            rt.alloc(),
+            shown,
+            MemoryStore::new(bytes),
+            FOR_LONG_TEXT,
+            FOR_LONG_TEXT,
+        )?;
         assert_row_ended(&rt, 0, &ended, code, text, told);
         // An output that takes nothing of what is told changes nothing.
         let none = Room { all: 0, call: 7 };
-        let ended = print_store(rt.alloc(), shown, MemoryStore::new(bytes), LONG, none)?;
+        let ended = print_store(
+            rt.alloc(),
+            shown,
+            MemoryStore::new(bytes),
+            FOR_LONG_TEXT,
+            none,
+        )?;
         assert_row_ended(&rt, 1, &ended, code, text, "");
     }
     Ok(())
@@ -80,8 +92,8 @@ fn list_tells_each_call_of_the_store_that_fails(rt: HostRuntime) -> Result<(), F
 
 #[test]
 fn list_of_symbols_tells_each_call_of_the_store_that_fails(rt: HostRuntime) -> Result<(), Fail> {
-    let bytes = module_file(rt.alloc(), 30, RECORD)?;
-    let text = format!(in rt.alloc(); "{TEXT}{LINE}")?;
+    let bytes = module_file(rt.alloc(), 30, CODEVIEW_RECORD)?;
+    let text = format!(in rt.alloc(); "{MODULE_FILE_TEXT}{CODEVIEW_LINE}")?;
     let shown = Shown::ItemsAndSymbols;
     assert_fails_in_turn(&rt, rt.alloc(), shown, &bytes, 186, text.as_str())
 }
@@ -91,12 +103,18 @@ fn output_that_is_full_has_the_first_bytes(rt: HostRuntime) -> Result<(), Fail> 
     let bytes = faulty_file(rt.alloc())?;
     let rows = [
         (Shown::Verdicts, FAULTY_VERDICTS),
-        (Shown::Items, FAULTY),
-        (Shown::ItemsAndSymbols, FAULTY),
+        (Shown::Items, FAULTY_TEXT),
+        (Shown::ItemsAndSymbols, FAULTY_TEXT),
     ];
     for (shown, text) in rows {
         let room = Room { all: 40, call: 7 };
-        let ended = print_store(rt.alloc(), shown, MemoryStore::new(&bytes), room, LONG)?;
+        let ended = print_store(
+            rt.alloc(),
+            shown,
+            MemoryStore::new(&bytes),
+            room,
+            FOR_LONG_TEXT,
+        )?;
         let start = start_of(text, 40)?;
         assert_row_ended(&rt, 40, &ended, 3, start, "mdmp: output failed\n");
     }
@@ -112,8 +130,8 @@ fn assert_copy(rt: &impl Abort, ended: &CopyEnded, status: u8, bytes: &[u8], tol
 
 #[test]
 fn copy_told_succeeds(rt: HostRuntime) -> Result<(), Fail> {
-    let six = numbers(rt.alloc(), 6, &SIX)?;
-    let crash = numbers(rt.alloc(), 2, &CRASH)?;
+    let six = file_of_numbers(rt.alloc(), 6, &SIX)?;
+    let crash = file_of_numbers(rt.alloc(), 2, &CRASH)?;
     let mut out = PatchyOut::with_room(rt.alloc(), 1000, 7, None)?;
     let ended = copy_store_to(rt.alloc(), MemoryStore::new(&six), &[3, 6], &mut out)?;
     assert_copy(&rt, &ended, 0, &crash, "");
@@ -122,8 +140,8 @@ fn copy_told_succeeds(rt: HostRuntime) -> Result<(), Fail> {
 
 #[test]
 fn copy_to_an_output_that_fails_has_the_first_bytes(rt: HostRuntime) -> Result<(), Fail> {
-    let six = numbers(rt.alloc(), 6, &SIX)?;
-    let crash = numbers(rt.alloc(), 2, &CRASH)?;
+    let six = file_of_numbers(rt.alloc(), 6, &SIX)?;
+    let crash = file_of_numbers(rt.alloc(), 2, &CRASH)?;
     let first = crash.get(..40).ok_or("a first part")?;
     // One that is full, and one whose second call fails.
     for (all, fail_at) in [(40, None), (1000, Some(1))] {
@@ -136,7 +154,7 @@ fn copy_to_an_output_that_fails_has_the_first_bytes(rt: HostRuntime) -> Result<(
 
 #[test]
 fn copy_of_a_store_that_fails_writes_nothing(rt: HostRuntime) -> Result<(), Fail> {
-    let six = numbers(rt.alloc(), 6, &SIX)?;
+    let six = file_of_numbers(rt.alloc(), 6, &SIX)?;
     for (fail_at, told) in [
         (0, "mdmp: store failed at 0\n"),
         (103, "mdmp: store failed at 103\n"),
@@ -151,7 +169,7 @@ fn copy_of_a_store_that_fails_writes_nothing(rt: HostRuntime) -> Result<(), Fail
 
 #[test]
 fn type_that_is_not_copied_is_told(rt: HostRuntime) -> Result<(), Fail> {
-    let six = numbers(rt.alloc(), 6, &SIX)?;
+    let six = file_of_numbers(rt.alloc(), 6, &SIX)?;
     let mut out = PatchyOut::with_room(rt.alloc(), 1000, 1000, None)?;
     let ended = copy_store_to(rt.alloc(), MemoryStore::new(&six), &[3, 12], &mut out)?;
     assert_copy(&rt, &ended, 2, &[], "mdmp: type 12 is not copied\n");

@@ -1,0 +1,33 @@
+//! Tests of the command lines, and of the commands over a source and two outputs, by the public calls of
+//! `mdmp_tool` alone.
+//!
+//! `runs` and `prints` make the calls whose contracts are long, in helpers without a contract; the tests
+//! compare what they give, which is plain values.
+#![tactic(auto)]
+
+#[cfg(test)]
+mod check;
+#[cfg(test)]
+mod copy;
+#[cfg(test)]
+mod help;
+#[cfg(test)]
+mod hex;
+#[cfg(test)]
+mod hex_words;
+#[cfg(test)]
+mod limits;
+#[cfg(test)]
+mod pdb;
+#[cfg(test)]
+mod prints;
+#[cfg(test)]
+mod refusals;
+#[cfg(test)]
+mod running;
+#[cfg(test)]
+mod runs;
+#[cfg(test)]
+mod same;
+#[cfg(test)]
+mod words;

@@ -1,0 +1,95 @@
+//! Command lines, as plain values.
+//!
+//! No function that a test calls here has a contract, so that the test knows nothing of what it did,
+//! and its own proof stays short.
+use crate::same::assert_same_at;
+use mdmp_source::PatchyOut;
+use mdmp_test_support::{BY_SEVEN, Room, empty_out, text_in};
+use mdmp_tool::run_words;
+use std::alloc::{AllocGlobal, Allocator, Global};
+use std::fs;
+use std::process::Abort;
+use std::rt::Files;
+use std::test::Fail;
+
+/// The exit status of a command line, what it printed, and what it told of a fault.
+#[derive(Drop)]
+pub struct Ended {
+    pub status: u8,
+    pub text: String,
+    pub told: String,
+}
+
+/// Asserts the exit status of a command line, what it printed, and what it told.
+pub fn assert_ended(
+    rt: &impl Abort,
+    words: &[&str],
+    ended: &Ended,
+    status: u8,
+    text: &str,
+    told: &str,
+) {
+    assert_same_at(rt, &words, ended.status, status);
+    assert_same_at(rt, &words, ended.text.as_str(), text);
+    assert_same_at(rt, &words, ended.told.as_str(), told);
+}
+
+/// Asserts the exit status of this row, what it printed, and what it told.
+pub fn assert_row_ended(
+    rt: &impl Abort,
+    row: u64,
+    ended: &Ended,
+    status: u8,
+    text: &str,
+    told: &str,
+) {
+    assert_same_at(rt, &row, ended.status, status);
+    assert_same_at(rt, &row, ended.text.as_str(), text);
+    assert_same_at(rt, &row, ended.told.as_str(), told);
+}
+
+/// Asserts that the words of a command line were refused, whoever judged them.
+pub fn assert_refused(rt: &impl Abort, words: &[&str], ended: &Ended) {
+    assert_same_at(rt, &words, ended.status, 2);
+    assert_same_at(rt, &words, ended.text.as_str(), "");
+    assert!(rt; !ended.told.is_empty(), "at {words:?}");
+}
+
+/// Writes a file.
+pub fn write_file(rt: &impl Files, name: &str, bytes: &[u8]) -> Result<(), Fail> {
+    Ok(fs::write(rt, name, bytes)?)
+}
+
+/// Runs a command line with memory of this heap, to two outputs.
+pub fn run_with<R: Files + AllocGlobal, A: Allocator + Copy>(
+    rt: &R,
+    alloc: Global,
+    heap: A,
+    words: &[&str],
+    out: Room,
+    err: Room,
+) -> Result<Ended, Fail> {
+    let mut out = empty_out(alloc, out)?;
+    let mut err = empty_out(alloc, err)?;
+    let status = status_of(rt, heap, words, &mut out, &mut err);
+    Ok(Ended {
+        status,
+        text: text_in(alloc, &out)?,
+        told: text_in(alloc, &err)?,
+    })
+}
+
+fn status_of<R: Files + AllocGlobal, A: Allocator + Copy>(
+    rt: &R,
+    heap: A,
+    words: &[&str],
+    out: &mut PatchyOut<Global>,
+    err: &mut PatchyOut<Global>,
+) -> u8 {
+    run_words(rt, heap, words, out, err)
+}
+
+/// Runs a command line, to outputs that take all.
+pub fn run(rt: &(impl Files + AllocGlobal), alloc: Global, words: &[&str]) -> Result<Ended, Fail> {
+    run_with(rt, alloc, alloc, words, BY_SEVEN, BY_SEVEN)
+}

@@ -1,0 +1,30 @@
+//! Small files, what is printed of them, and outputs of a set room, for the tests of the other crates.
+//!
+//! No function here has a contract, so that a test knows nothing of what it called, but compares what it
+//! was given, and its own proof stays short.
+#![tactic(auto)]
+
+mod files;
+mod memory_files;
+mod module_files;
+mod outputs;
+mod small_files;
+mod texts;
+
+pub use crate::files::{
+    crash_file, entry, faulty_file, file_of_numbers, file_of_parts, header_of, system_file,
+};
+pub use crate::memory_files::{
+    ABCD_RANGE, FourByteRange, NO_RANGE, Range, WXYZ_RANGE, endless_ranges_file, last_file,
+    memory_file, short_threads_file, two_ranges_file, wide_file,
+};
+pub use crate::module_files::{CODEVIEW_RECORD, module_file};
+pub use crate::outputs::{BY_SEVEN, BY_WHOLE, FOR_LONG_TEXT, Room, empty_out, start_of, text_in};
+pub use crate::small_files::{
+    ABSENT_STACK, COMMENT, CRASH, FAULTY, MEMORY64, MODULE, OVERLAPPING, SIX, SYSTEM, THRICE,
+    UNLOADED,
+};
+pub use crate::texts::{
+    CODEVIEW_LINE, FAULTY_TEXT, FAULTY_TOLD, FAULTY_VERDICTS, MODULE_FILE_TEXT, SYSTEM_TEXT,
+    WIDE_TEXT,
+};
