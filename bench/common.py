@@ -7,7 +7,7 @@ import sys
 import time
 
 ROOT = os.path.dirname(os.path.dirname(os.path.abspath(__file__)))
-RUNS = 5
+RUNS = 9
 
 
 def program():
@@ -23,11 +23,18 @@ def header(stream_type, size):
     return struct.pack("<4sIIIIIQ", b"MDMP", 0xA793, 1, 32, 0, 0, 0) + struct.pack("<III", stream_type, size, 44)
 
 
+def best_times(commands):
+    """The least time, in seconds, of each of these processes as a whole, with its output dropped. They run in turn, so
+    that what else the machine does meets all of them."""
+    best = [float("inf")] * len(commands)
+    for _ in range(RUNS):
+        for k, words in enumerate(commands):
+            start = time.perf_counter()
+            subprocess.run(words, stdout=subprocess.DEVNULL, check=True)
+            best[k] = min(best[k], time.perf_counter() - start)
+    return best
+
+
 def best_time(words):
     """The least time, in seconds, of a whole process whose output is dropped."""
-    times = []
-    for _ in range(RUNS):
-        start = time.perf_counter()
-        subprocess.run(words, stdout=subprocess.DEVNULL, check=True)
-        times.append(time.perf_counter() - start)
-    return min(times)
+    return best_times([words])[0]
