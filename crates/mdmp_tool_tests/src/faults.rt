@@ -1,10 +1,11 @@
 //! What is said of faults.
 use crate::runs::{bad_name, told};
 use crate::same::assert_same;
-use mdmp_source::SourceFault;
-use mdmp_test_support::{BY_WHOLE, Room};
+use mdmp_source::{PatchyOut, SourceFault};
+use mdmp_test_support::{BY_WHOLE, FAULTY_TOLD, Room, text_in};
 use mdmp_tool::{
-    FaultKind, LayoutFault, ListFault, OpenFault, PartName, ReadFault, ToolFault, status,
+    FaultKind, LayoutFault, ListFault, OpenFault, PartName, ReadFault, ToolFault, fault_line,
+    status,
 };
 use std::alloc::Global;
 use std::process::Abort;
@@ -20,6 +21,15 @@ fn assert_told(rt: &impl Abort, alloc: Global, fault: &ToolFault, text: &str) ->
     assert!(rt; !is_whole);
     assert_same(rt, start.len(), 9);
     assert!(rt; line.as_str().starts_with(start.as_str()));
+    Ok(())
+}
+
+#[test]
+fn line_of_a_fault_is_one_write(rt: HostRuntime) -> Result<(), Fail> {
+    // An output whose second write fails.
+    let mut out = PatchyOut::with_room(rt.alloc(), 1000, 1000, Some(1))?;
+    assert!(rt; fault_line(&ToolFault::List(bad_name()), &mut out).is_ok());
+    assert_same(&rt, text_in(rt.alloc(), &out)?.as_str(), FAULTY_TOLD);
     Ok(())
 }
 
