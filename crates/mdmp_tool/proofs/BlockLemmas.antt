@@ -1,5 +1,5 @@
 -- A run whose output is gathered into blocks, and the flush behind it.
-use Rattle.std.proofs.Common.{◌≡◌, ◌≤◌, ◌∙◌, ◌++◌, ℕ, Bool, true, false, List, [], ◌∷◌, Option, Some, None, ap, sym, refl, append_assoc, append-nil, subst, arith, inl, inr}
+use Rattle.std.proofs.Common.{◌≡◌, ◌≤◌, ◌∙◌, ◌++◌, ℕ, List, [], ◌∷◌, Option, Some, None, ap, sym, refl, append_assoc, append-nil, subst, arith, inl, inr}
 use Rattle.std.specs.Prelude.{Result, Ok, Err}
 use Rattle.std.specs.Io.KnownBytes.{append_known}
 use Rattle.mdmp_source.specs.Count.{HasRisen}
@@ -13,7 +13,7 @@ use Rattle.mdmp_source.specs.Store.{StoreState}
 use Rattle.mdmp_lister.specs.declared.choice.Choice.{Choice}
 use Rattle.mdmp_tool.proofs.Engining.{cause_from}
 use Rattle.mdmp_tool.specs.Causes.{HasOutCause}
-use Rattle.mdmp_tool.specs.Engines.{EndsFlushed, IsFirstPart, IsFlushed, IsQuiet, RefusesWithin, Runs, RunsThrough, StopsShort, Tells, UnlessEarly, Writes, directly, early_text, in_blocks, refused, stands}
+use Rattle.mdmp_tool.specs.Engines.{EndsAtFault, EndsFlushed, IsFirstPart, IsFlushed, IsQuiet, Pace, RefusesWithin, Runs, RunsThrough, StopsShort, Tells, UnlessEarly, Writes, at_the_end, directly, early_text, in_blocks, past_faults, refused, stands, up_to_a_fault}
 
 -- ---- what has been taken, with nothing pending
 
@@ -119,16 +119,28 @@ part_out a b c old pending left text f risen cut = record {
 
 -- ---- what a run says of its output
 
+-- what a fault of the listing leaves, where it ends the command
+ended : (pace : Pace) (P : Type 0) → EndsAtFault pace P → P
+ended up_to_a_fault P ends = ends
+ended past_faults P ends = absurd ends
+ended at_the_end P ends = ends
+
+at_fault : (pace : Pace) (P Q : Type 0) → (P → Q) → EndsAtFault pace P → EndsAtFault pace Q
+at_fault up_to_a_fault P Q from ends = from ends
+at_fault past_faults P Q from ends = ends
+at_fault at_the_end P Q from ends = from ends
+
 -- whatever the answer, what was written is a prefix of the text
-Writes-prefix : {T : Type 0} (is_early : Bool) (text : List ℕ) (a b : OutState) (r : Result T ToolFault) → Writes is_early text a r b → TakesPrefix a.taken text b.taken
-Writes-prefix is_early text a b (Ok x) put = all a.taken b.taken text put.took
-Writes-prefix is_early text a b (Err (BadList f)) put = all a.taken b.taken text put.took
-Writes-prefix is_early text a b (Err (Opening f)) put = nothing a.taken b.taken text put.took
-Writes-prefix is_early text a b (Err Memory) put = nothing a.taken b.taken text put.took
-Writes-prefix true text a b (Err (Source f)) short = short.took
-Writes-prefix false text a b (Err (Source f)) short = none_of a.taken b.taken text short.took
-Writes-prefix is_early text a b (Err Out) cut = cut.took
-Writes-prefix is_early text a b (Err fault) never = absurd never
+Writes-prefix : {T : Type 0} (pace : Pace) (text : List ℕ) (a b : OutState) (r : Result T ToolFault) → Writes pace text a r b → TakesPrefix a.taken text b.taken
+Writes-prefix pace text a b (Ok x) put = all a.taken b.taken text put.took
+Writes-prefix pace text a b (Err (BadList f)) ends = let put = ended pace (PutsAll a text b) ends in all a.taken b.taken text put.took
+Writes-prefix pace text a b (Err (Opening f)) put = nothing a.taken b.taken text put.took
+Writes-prefix pace text a b (Err Memory) put = nothing a.taken b.taken text put.took
+Writes-prefix up_to_a_fault text a b (Err (Source f)) short = short.took
+Writes-prefix past_faults text a b (Err (Source f)) short = short.took
+Writes-prefix at_the_end text a b (Err (Source f)) short = none_of a.taken b.taken text short.took
+Writes-prefix pace text a b (Err Out) cut = cut.took
+Writes-prefix pace text a b (Err fault) never = absurd never
 
 -- the output's count of refusals does not fall
 no_fewer : {T : Type 0} (a b : OutState) (r : Result T ToolFault) → HasOutCause a r b → a.failures ≤ b.failures
@@ -137,42 +149,42 @@ no_fewer a b r cause = omega (arith, cause)
 
 -- ---- a run that is flushed
 
-pub Runs-flushed : {T : Type 0} (F : List ℕ) (choice : Choice) (Ends : Result T ToolFault → Type 0) (is_early : Bool) (text : List ℕ) (a b c : OutState) (old pending left : List ℕ)
+pub Runs-flushed : {T : Type 0} (F : List ℕ) (choice : Choice) (Ends : Result T ToolFault → Type 0) (pace : Pace) (text : List ℕ) (a b c : OutState) (old pending left : List ℕ)
     (r s : Result T ToolFault) → old ≡ [] → MovesFront b pending c left → IsFlushed s left → EndsFlushed r s b c → HasOutCause (with_pending a old) r (with_pending b pending)
-    → Runs F choice Ends is_early text (with_pending a old) r (with_pending b pending) → RunsThrough F choice Ends is_early text a s c
-Runs-flushed {T = T} F choice Ends is_early text a b c old pending left r s none moved flushed ends cause run = by ends where
+    → Runs F choice Ends pace text (with_pending a old) r (with_pending b pending) → RunsThrough F choice Ends pace text a s c
+Runs-flushed {T = T} F choice Ends pace text a b c old pending left r s none moved flushed ends cause run = by ends where
   flush : Flush a b c old pending left
   flush = record { none = none; moved = moved }
 
   cut : HasRisen a.failures c.failures → RefusesWithin a text c
-  cut risen = part_out a b c old pending left text flush risen (Writes-prefix is_early text (with_pending a old) (with_pending b pending) r run.writes)
+  cut risen = part_out a b c old pending left text flush risen (Writes-prefix pace text (with_pending a old) (with_pending b pending) r run.writes)
 
   put : (whole : List ℕ) → left ≡ [] → c.failures ≡ b.failures → PutsAll (with_pending a old) whole (with_pending b pending) → PutsAll a whole c
   put whole = all_out a b c old pending left whole flush
 
   through : (r : Result T ToolFault) → IsFlushed r left → c.failures ≡ b.failures
-      → Runs F choice Ends is_early text (with_pending a old) r (with_pending b pending)
-      → (HasRisen a.failures c.failures → RefusesWithin a text c) → RunsThrough F choice Ends is_early text a r c
+      → Runs F choice Ends pace text (with_pending a old) r (with_pending b pending)
+      → (HasRisen a.failures c.failures → RefusesWithin a text c) → RunsThrough F choice Ends pace text a r c
   through (Ok x) done same run cut = record { says = run.says; writes = put text done same run.writes }
-  through (Err (BadList f)) done same run cut = record { says = run.says; writes = put text done same run.writes }
+  through (Err (BadList f)) done same run cut = record { says = run.says; writes = at_fault pace _ _ (put text done same) run.writes }
   through (Err (Opening f)) done same run cut = record { says = run.says; writes = put [] done same run.writes }
   through (Err Memory) done same run cut = record { says = run.says; writes = put [] done same run.writes }
   through (Err (Source f)) done same run cut = record {
     says = run.says;
-    writes = first_out a b c old pending left (early_text is_early text) flush done same run.writes;
+    writes = first_out a b c old pending left (early_text pace text) flush done same run.writes;
   }
   through (Err Out) done same run cut =
       let writes = run.writes in
       cut (subst (λ (n : ℕ). HasRisen a.failures n) (sym same) writes.refused)
   through (Err fault) done same run cut = absurd run.writes
 
-  by : EndsFlushed r s b c → RunsThrough F choice Ends is_early text a s c
+  by : EndsFlushed r s b c → RunsThrough F choice Ends pace text a s c
   by (stands same steady) =
       let done : IsFlushed r left = subst (λ (x : Result T ToolFault). IsFlushed x left) same flushed in
-      subst (λ (x : Result T ToolFault). RunsThrough F choice Ends is_early text a x c) (sym same) (through r done steady run cut)
+      subst (λ (x : Result T ToolFault). RunsThrough F choice Ends pace text a x c) (sym same) (through r done steady run cut)
   by (refused out more) =
       let fewer : a.failures ≤ b.failures = no_fewer (with_pending a old) (with_pending b pending) r cause in
-      subst (λ (x : Result T ToolFault). RunsThrough F choice Ends is_early text a x c) (sym out) (cut (omega (arith, more, fewer)))
+      subst (λ (x : Result T ToolFault). RunsThrough F choice Ends pace text a x c) (sym out) (cut (omega (arith, more, fewer)))
 
 -- ---- what is said of whatever file
 
@@ -180,41 +192,42 @@ Runs-flushed {T = T} F choice Ends is_early text a b c old pending left r s none
 put_none : (a b : OutState) → b ≡ a → PutsAll a [] b
 put_none a b same = subst (λ (x : OutState). PutsAll a [] x) (sym same) (PutsAll-nothing a)
 
-unless_early : (is_early : Bool) (P Q : Type 0) → (P → Q) → UnlessEarly is_early P → UnlessEarly is_early Q
-unless_early true P Q from quiet = tt
-unless_early false P Q from quiet = from quiet
+unless_early : (pace : Pace) (P Q : Type 0) → (P → Q) → UnlessEarly pace P → UnlessEarly pace Q
+unless_early up_to_a_fault P Q from quiet = tt
+unless_early past_faults P Q from quiet = tt
+unless_early at_the_end P Q from quiet = from quiet
 
-quiet_from : {T : Type 0} (is_early : Bool) (r : Result T ToolFault) (left : List ℕ) (P Q : Type 0) → IsFlushed r left → (left ≡ [] → P → Q) → IsQuiet is_early r P → IsQuiet is_early r Q
-quiet_from is_early (Ok x) left P Q done from quiet = tt
-quiet_from is_early (Err Out) left P Q done from quiet = tt
-quiet_from is_early (Err (Opening f)) left P Q done from quiet = from done quiet
-quiet_from is_early (Err Memory) left P Q done from quiet = from done quiet
-quiet_from is_early (Err (BadList f)) left P Q done from quiet = unless_early is_early P Q (from done) quiet
-quiet_from is_early (Err (Source f)) left P Q done from quiet = unless_early is_early P Q (from done) quiet
-quiet_from is_early (Err fault) left P Q done from never = absurd never
+quiet_from : {T : Type 0} (pace : Pace) (r : Result T ToolFault) (left : List ℕ) (P Q : Type 0) → IsFlushed r left → (left ≡ [] → P → Q) → IsQuiet pace r P → IsQuiet pace r Q
+quiet_from pace (Ok x) left P Q done from quiet = tt
+quiet_from pace (Err Out) left P Q done from quiet = tt
+quiet_from pace (Err (Opening f)) left P Q done from quiet = from done quiet
+quiet_from pace (Err Memory) left P Q done from quiet = from done quiet
+quiet_from pace (Err (BadList f)) left P Q done from quiet = at_fault pace _ _ (unless_early pace P Q (from done)) quiet
+quiet_from pace (Err (Source f)) left P Q done from quiet = unless_early pace P Q (from done) quiet
+quiet_from pace (Err fault) left P Q done from never = absurd never
 
-pub Tells-flushed : {T : Type 0} (is_early : Bool) (store : StoreState) (size : ℕ) (a b c : OutState) (old pending left : List ℕ) (r s : Result T ToolFault) → old ≡ []
+pub Tells-flushed : {T : Type 0} (pace : Pace) (store : StoreState) (size : ℕ) (a b c : OutState) (old pending left : List ℕ) (r s : Result T ToolFault) → old ≡ []
     → MovesFront b pending c left → IsFlushed s left → EndsFlushed r s b c
-    → Tells directly is_early store size (with_pending a old) r (with_pending b pending) → Tells in_blocks is_early store size a s c
-Tells-flushed {T = T} is_early store size a b c old pending left r s none moved flushed ends tells = by ends where
+    → Tells directly pace store size (with_pending a old) r (with_pending b pending) → Tells in_blocks pace store size a s c
+Tells-flushed {T = T} pace store size a b c old pending left r s none moved flushed ends tells = by ends where
   flush : Flush a b c old pending left
   flush = record { none = none; moved = moved }
 
   fewer : a.failures ≤ b.failures
   fewer = no_fewer (with_pending a old) (with_pending b pending) r tells.out_cause
 
-  by : EndsFlushed r s b c → Tells in_blocks is_early store size a s c
+  by : EndsFlushed r s b c → Tells in_blocks pace store size a s c
   by (stands same steady) =
       let done : IsFlushed r left = subst (λ (x : Result T ToolFault). IsFlushed x left) same flushed in
-      subst (λ (x : Result T ToolFault). Tells in_blocks is_early store size a x c) (sym same) (record {
+      subst (λ (x : Result T ToolFault). Tells in_blocks pace store size a x c) (sym same) (record {
         good = tells.good;
         refusal = tells.refusal;
         short = λ few. inl (tells.short few);
-        quiet = quiet_from is_early r left _ _ done (λ empty is. all_out a b c old pending left [] flush empty steady (put_none _ _ is)) tells.quiet;
+        quiet = quiet_from pace r left _ _ done (λ empty is. all_out a b c old pending left [] flush empty steady (put_none _ _ is)) tells.quiet;
         out_cause = cause_from (with_pending a old) (with_pending b pending) a c r refl steady tells.out_cause;
       })
   by (refused out more) =
-      subst (λ (x : Result T ToolFault). Tells in_blocks is_early store size a x c) (sym out) (record {
+      subst (λ (x : Result T ToolFault). Tells in_blocks pace store size a x c) (sym out) (record {
         good = λ file good. tt;
         refusal = tt;
         short = λ few. inr refl;

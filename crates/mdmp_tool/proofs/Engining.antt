@@ -1,5 +1,5 @@
 -- A run of a command over the listing of a file, from its parts.
-use Rattle.std.proofs.Common.{◌≡◌, ◌∙◌, ℕ, Bool, List, [], Some, ap, refl, sym, arith}
+use Rattle.std.proofs.Common.{◌≡◌, ◌∙◌, ℕ, List, [], Some, ap, refl, sym, arith}
 use Rattle.std.specs.Prelude.{Result, Ok, Err}
 use Rattle.mdmp_source.specs.Output.{OutState, PutsAll}
 use Rattle.mdmp_source.specs.OutputLaws.{PutsAll-nothing, Takes-nothing}
@@ -15,7 +15,7 @@ use Rattle.mdmp_lister.specs.Opening.{IsRefusalOf}
 use Rattle.mdmp_tool.specs.declared.fault.ToolFault.{ToolFault}
 use Rattle.mdmp_tool.specs.declared.fault.ToolFault.TheVariants.{List as BadList, Source, Out, Memory}
 use Rattle.mdmp_tool.specs.Causes.{HasOutCause, IsRefusal}
-use Rattle.mdmp_tool.specs.Engines.{IsBehind, IsOpened, IsQuiet, Runs, StopsShort}
+use Rattle.mdmp_tool.specs.Engines.{IsBehind, IsOpened, IsQuiet, Pace, Runs, StopsShort}
 use Rattle.mdmp_tool.specs.Telling.{opening_told}
 
 pub StopsShort-nothing : (before : OutState) (text : List ℕ) → StopsShort before text before
@@ -32,32 +32,32 @@ StopsShort-none before after none = record {
 }
 
 -- a file that was not opened: nothing is written
-pub Runs-unopened : {T : Type 0} (F : List ℕ) (choice : Choice) (Ends : Result T ToolFault → Type 0) (is_early : Bool) (text : List ℕ) (before : OutState) (fault : OpenFault)
-    → IsRefusalOf F choice fault → Runs F choice Ends is_early text before (Err (opening_told fault)) before
-Runs-unopened F choice Ends is_early text before (opening.Source f) refused = record { says = tt; writes = StopsShort-nothing before _ }
-Runs-unopened F choice Ends is_early text before (opening.Memory) refused = record { says = refused; writes = PutsAll-nothing before }
-Runs-unopened F choice Ends is_early text before (opening.TooShort size) refused = record { says = refused; writes = PutsAll-nothing before }
-Runs-unopened F choice Ends is_early text before (opening.BadSignature) refused = record { says = refused; writes = PutsAll-nothing before }
-Runs-unopened F choice Ends is_early text before (opening.BadVersion low) refused = record { says = refused; writes = PutsAll-nothing before }
-Runs-unopened F choice Ends is_early text before (opening.DirectoryOutside offset size) refused = record { says = refused; writes = PutsAll-nothing before }
-Runs-unopened F choice Ends is_early text before (opening.TooManyRanges count) refused = record { says = refused; writes = PutsAll-nothing before }
+pub Runs-unopened : {T : Type 0} (F : List ℕ) (choice : Choice) (Ends : Result T ToolFault → Type 0) (pace : Pace) (text : List ℕ) (before : OutState) (fault : OpenFault)
+    → IsRefusalOf F choice fault → Runs F choice Ends pace text before (Err (opening_told fault)) before
+Runs-unopened F choice Ends pace text before (opening.Source f) refused = record { says = tt; writes = StopsShort-nothing before _ }
+Runs-unopened F choice Ends pace text before (opening.Memory) refused = record { says = refused; writes = PutsAll-nothing before }
+Runs-unopened F choice Ends pace text before (opening.TooShort size) refused = record { says = refused; writes = PutsAll-nothing before }
+Runs-unopened F choice Ends pace text before (opening.BadSignature) refused = record { says = refused; writes = PutsAll-nothing before }
+Runs-unopened F choice Ends pace text before (opening.BadVersion low) refused = record { says = refused; writes = PutsAll-nothing before }
+Runs-unopened F choice Ends pace text before (opening.DirectoryOutside offset size) refused = record { says = refused; writes = PutsAll-nothing before }
+Runs-unopened F choice Ends pace text before (opening.TooManyRanges count) refused = record { says = refused; writes = PutsAll-nothing before }
 
 -- what ends a command behind the opening
-pub IsRefusal-behind : {T : Type 0} (is_early : Bool) (untouched : Type 0) (size : ℕ) (r : Result T ToolFault) → IsBehind is_early r untouched → IsRefusal size r
-IsRefusal-behind is_early untouched size (Ok x) behind = tt
-IsRefusal-behind is_early untouched size (Err (BadList fault)) behind = behind.0
-IsRefusal-behind is_early untouched size (Err Memory) behind = tt
-IsRefusal-behind is_early untouched size (Err (Source fault)) behind = tt
-IsRefusal-behind is_early untouched size (Err Out) behind = tt
-IsRefusal-behind is_early untouched size (Err fault) behind = absurd behind
+pub IsRefusal-behind : {T : Type 0} (pace : Pace) (untouched : Type 0) (size : ℕ) (r : Result T ToolFault) → IsBehind pace r untouched → IsRefusal size r
+IsRefusal-behind pace untouched size (Ok x) behind = tt
+IsRefusal-behind pace untouched size (Err (BadList fault)) behind = behind.0
+IsRefusal-behind pace untouched size (Err Memory) behind = tt
+IsRefusal-behind pace untouched size (Err (Source fault)) behind = tt
+IsRefusal-behind pace untouched size (Err Out) behind = tt
+IsRefusal-behind pace untouched size (Err fault) behind = absurd behind
 
-pub IsQuiet-behind : {T : Type 0} (is_early : Bool) (untouched : Type 0) (r : Result T ToolFault) → IsBehind is_early r untouched → IsQuiet is_early r untouched
-IsQuiet-behind is_early untouched (Ok x) behind = tt
-IsQuiet-behind is_early untouched (Err (BadList fault)) behind = behind.1
-IsQuiet-behind is_early untouched (Err Memory) behind = behind
-IsQuiet-behind is_early untouched (Err (Source fault)) behind = behind
-IsQuiet-behind is_early untouched (Err Out) behind = tt
-IsQuiet-behind is_early untouched (Err fault) behind = absurd behind
+pub IsQuiet-behind : {T : Type 0} (pace : Pace) (untouched : Type 0) (r : Result T ToolFault) → IsBehind pace r untouched → IsQuiet pace r untouched
+IsQuiet-behind pace untouched (Ok x) behind = tt
+IsQuiet-behind pace untouched (Err (BadList fault)) behind = behind.1
+IsQuiet-behind pace untouched (Err Memory) behind = behind
+IsQuiet-behind pace untouched (Err (Source fault)) behind = behind
+IsQuiet-behind pace untouched (Err Out) behind = tt
+IsQuiet-behind pace untouched (Err fault) behind = absurd behind
 
 -- the counts of refusals are the same elsewhere
 pub cause_from : {T : Type 0} (a b start c : OutState) (r : Result T ToolFault) → start.failures ≡ a.failures → c.failures ≡ b.failures → HasOutCause a r b → HasOutCause start r c

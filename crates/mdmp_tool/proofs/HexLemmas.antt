@@ -3,11 +3,11 @@ use Rattle.std.proofs.Common.{◌≡◌, ◌∙◌, ℕ, ◌+◌, ◌-◌, ◌<�
 use Rattle.std.specs.List.{flat_map}
 use Rattle.std.specs.Int.{div_ceil}
 use Rattle.std.proofs.lemmas.Grind.{common_steps}
-use Rattle.std.proofs.lemmas.List.{take_more, take_all, take-append-drop, length-drop}
+use Rattle.std.proofs.lemmas.List.{take_more, take_all, length-drop}
 use Rattle.std.proofs.lemmas.List.Concat.{flat_map-append}
 use Rattle.std.proofs.lemmas.List.FromFn.{length-range_with_len, get_or-range_with_len}
 use Rattle.mdmp_source.specs.Output.{OutState, PutsAll, PutsPrefix}
-use Rattle.mdmp_source.specs.OutputLaws.{PutsAll-PutsAll, PutsPrefix-flat_map, PutsPrefix-front}
+use Rattle.mdmp_source.specs.OutputLaws.{PutsAll-PutsAll, PutsPrefix-flat_map}
 use Rattle.mdmp_lister.specs.Addressing.{cell, cells}
 use Rattle.mdmp_tool.specs.HexText.{line_numbers}
 
@@ -28,15 +28,6 @@ texts_with f xs i d lt =
 pub text_more : {X : Type 0} (f : X → List ℕ) (xs : List X) (i : ℕ) (x : X) → IsItem xs i x → flat_map f (take (i + 1) xs) ≡ flat_map f (take i xs) ++ f x
 text_more {X = X} f xs i x at =
     texts_with f xs i x at.within ∙ ap (λ (y : X). flat_map f (take i xs) ++ f y) at.is
-
--- a first part of the texts up to that of one is a first part of all
-pub PutsPrefix-texts : {X : Type 0} (f : X → List ℕ) (xs : List X) (i : ℕ) (d : X) (a b : OutState) → i < length xs
-    → PutsPrefix a (flat_map f (take i xs) ++ f (get_or xs i d)) b → PutsPrefix a (flat_map f xs) b
-PutsPrefix-texts f xs i d a b lt cut =
-    let front = flat_map f (take (i + 1) xs) in
-    let rest = flat_map f (drop (i + 1) xs) in
-    subst (λ (x : List ℕ). PutsPrefix a x b) (sym (flat_map-append f (take (i + 1) xs) (drop (i + 1) xs)) ∙ ap (flat_map f) (take-append-drop (i + 1) xs))
-    (PutsPrefix-front a b front rest (subst (λ (x : List ℕ). PutsPrefix a x b) (sym (texts_with f xs i d lt)) cut))
 
 -- the text of one, behind those before it
 pub PutsAll-item : {X : Type 0} (f : X → List ℕ) (xs : List X) (i : ℕ) (x : X) (a b c : OutState) → IsItem xs i x

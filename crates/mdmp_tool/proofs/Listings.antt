@@ -1,5 +1,5 @@
 -- A run of `list`, from its parts.
-use Rattle.std.proofs.Common.{◌≡◌, ◌∙◌, ◌++◌, ℕ, Bool, true, List, refl, sym}
+use Rattle.std.proofs.Common.{◌≡◌, ◌∙◌, ◌++◌, ℕ, Bool, List, refl, sym}
 use Rattle.std.specs.Prelude.{Result, Ok, Err}
 use Rattle.mdmp_source.specs.Output.{OutState, PutsAll}
 use Rattle.mdmp_source.specs.Source.{SourceState}
@@ -9,13 +9,13 @@ use Rattle.mdmp_lister.specs.Format.Listing.{Run}
 use Rattle.mdmp_tool.specs.declared.fault.ToolFault.{ToolFault}
 use Rattle.mdmp_tool.specs.declared.fault.ToolFault.TheVariants.{List as BadList, Source, Out}
 use Rattle.mdmp_tool.proofs.Engining.{cause_from}
-use Rattle.mdmp_tool.specs.Engines.{IsBehind, Leaves, Writes}
+use Rattle.mdmp_tool.specs.Engines.{IsBehind, Leaves, Writes, up_to_a_fault}
 use Rattle.mdmp_tool.specs.Lines.{dump_line}
 use Rattle.mdmp_tool.specs.Text.{run_text}
 use Rattle.mdmp_tool.specs.Runs.{ListEnds, ListsRun, ListsFile}
 
 Writes-behind : (run : Run) (head text : List ℕ) (before now after : OutState) (r : Result (Unit {0}) ToolFault) → ListEnds run r
-    → PutsAll before head now → Writes true text now r after → Writes true (head ++ text) before r after
+    → PutsAll before head now → Writes up_to_a_fault text now r after → Writes up_to_a_fault (head ++ text) before r after
 Writes-behind run head text before now after (Ok x) ends first put = PutsAll-PutsAll before now after head text first put
 Writes-behind run head text before now after (Err (BadList f)) ends first put = PutsAll-PutsAll before now after head text first put
 Writes-behind run head text before now after (Err (Source f)) ends first short = record {
@@ -34,7 +34,7 @@ ListsFile-behind pdb F limit h run before now after r head listed = record {
 }
 
 -- the end of the items is that of all that is printed
-IsBehind-touched : (r : Result (Unit {0}) ToolFault) (untouched : Type 0) → IsBehind true r ⊥ → IsBehind true r untouched
+IsBehind-touched : (r : Result (Unit {0}) ToolFault) (untouched : Type 0) → IsBehind up_to_a_fault r ⊥ → IsBehind up_to_a_fault r untouched
 IsBehind-touched (Ok x) untouched behind = tt
 IsBehind-touched (Err (BadList f)) untouched behind = behind
 IsBehind-touched (Err (Source f)) untouched behind = tt
@@ -42,7 +42,7 @@ IsBehind-touched (Err Out) untouched behind = tt
 IsBehind-touched (Err f) untouched behind = absurd behind
 
 pub Leaves-behind : (old new : SourceState) (before now after : OutState) (r : Result (Unit {0}) ToolFault) (untouched : Type 0) → now.failures ≡ before.failures
-    → Leaves true ⊥ old now r new after → Leaves true untouched old before r new after
+    → Leaves up_to_a_fault ⊥ old now r new after → Leaves up_to_a_fault untouched old before r new after
 Leaves-behind old new before now after r untouched same left = record {
   good = left.good;
   behind = IsBehind-touched r untouched left.behind;

@@ -24,7 +24,7 @@ use Rattle.mdmp_lister.specs.Lister.{tail}
 use Rattle.mdmp_tool.specs.declared.fault.ToolFault.{ToolFault}
 use Rattle.mdmp_tool.specs.declared.fault.ToolFault.TheVariants.{Source, Out}
 use Rattle.mdmp_tool.specs.Causes.{HasSourceCause}
-use Rattle.mdmp_tool.specs.Engines.{Leaves, StopsShort}
+use Rattle.mdmp_tool.specs.Engines.{Leaves, StopsShort, up_to_a_fault}
 use Rattle.mdmp_tool.specs.ItemLines.{item_line}
 use Rattle.mdmp_tool.specs.Runs.{ListsRun, PutsSymbols}
 use Rattle.mdmp_tool.specs.Text.{inside_only, item_lines, symbols_of, symbols_text}
@@ -105,7 +105,7 @@ cause_then n a b c (Err (Source (ShortRead at))) fetches cause = told_later (Sho
 cause_then n a b c (Err _) fetches cause = tt
 
 pub Leaves-later : (n : ℕ) (a b c : SourceState) (before now after : OutState) (r : Result (Unit {0}) ToolFault) → FetchesAtMost n a b
-    → now.failures ≡ before.failures → Leaves true ⊥ b now r c after → Leaves true ⊥ a before r c after
+    → now.failures ≡ before.failures → Leaves up_to_a_fault ⊥ b now r c after → Leaves up_to_a_fault ⊥ a before r c after
 Leaves-later n a b c before now after r fetches same left = record {
   good = λ file good. left.good file (record { known = fetches.same_content ∙ good.known; reliable = rw fetches.same_reliable good.reliable });
   behind = left.behind;

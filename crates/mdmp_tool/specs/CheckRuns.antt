@@ -1,5 +1,5 @@
 -- What a run of `check` answers, and what it leaves written.
-use Rattle.std.specs.Prelude.{◌≡◌, ◌+◌, ◌<◌, ◌^◌, ℕ, true, List, Result, Ok, Err}
+use Rattle.std.specs.Prelude.{◌≡◌, ◌+◌, ◌<◌, ◌^◌, ℕ, List, Result, Ok, Err}
 use Rattle.mdmp_source.specs.Output.{OutState, PutsAll, PutsPrefix}
 use Rattle.mdmp_lister.specs.declared.choice.Choice.TheVariants.{All}
 use Rattle.mdmp_lister.specs.declared.sink.Stopped.{Stopped}
@@ -8,7 +8,7 @@ use Rattle.mdmp_lister.specs.Format.Listing.{verdicts}
 use Rattle.mdmp_tool.specs.declared.fault.ToolFault.{ToolFault}
 use Rattle.mdmp_tool.specs.declared.fault.ToolFault.TheVariants.{Source, Out}
 use Rattle.mdmp_tool.specs.CheckText.{bad_count, check_text, fault_count, verdict_line}
-use Rattle.mdmp_tool.specs.Engines.{Runs, RunsThrough}
+use Rattle.mdmp_tool.specs.Engines.{Runs, RunsThrough, past_faults}
 
 -- the line of a verdict was put, and a bad entry counted; or the output refused
 pub record PutsVerdict (before : OutState) (bad_before : ℕ) (v : Verdict) (after : OutState) (bad_after : ℕ) : Type 0 where
@@ -28,8 +28,8 @@ CheckEnds F limit (Err fault) = ⊥
 
 -- a run of `check` over F, of which the text is printed while it is read
 abbrev pub Checks : List ℕ → ℕ → OutState → Result ℕ ToolFault → OutState → Type 0
-Checks F limit = Runs F All (CheckEnds F limit) true (check_text F limit)
+Checks F limit = Runs F All (CheckEnds F limit) past_faults (check_text F limit)
 
 -- the same through blocks
 abbrev pub ChecksThrough : List ℕ → ℕ → OutState → Result ℕ ToolFault → OutState → Type 0
-ChecksThrough F limit = RunsThrough F All (CheckEnds F limit) true (check_text F limit)
+ChecksThrough F limit = RunsThrough F All (CheckEnds F limit) past_faults (check_text F limit)

@@ -1,5 +1,5 @@
 -- What a command over a source prints and tells, and its exit status.
-use Rattle.std.specs.Prelude.{◌≡◌, ◌⊎◌, ℕ, zero, suc, Bool, true, false, List, Some, Result, Ok, Err}
+use Rattle.std.specs.Prelude.{◌≡◌, ◌⊎◌, ℕ, zero, suc, List, Some, Result, Ok, Err}
 use Rattle.mdmp_source.specs.Output.{OutState, PutsAll, PutsPrefix}
 use Rattle.mdmp_source.specs.Source.{SourceState}
 use Rattle.mdmp_source.specs.Store.{IsGood}
@@ -10,7 +10,7 @@ use Rattle.mdmp_tool.specs.Causes.{IsNoSourceFault}
 use Rattle.mdmp_tool.specs.CheckRuns.{ChecksThrough}
 use Rattle.mdmp_tool.specs.CheckText.{bad_text}
 use Rattle.mdmp_tool.specs.Copying.{Copies, first_not_copied}
-use Rattle.mdmp_tool.specs.Engines.{Reads, Tells, in_blocks}
+use Rattle.mdmp_tool.specs.Engines.{Pace, Reads, Tells, at_the_end, in_blocks, past_faults, up_to_a_fault}
 use Rattle.mdmp_tool.specs.Faults.{fault_text, status_of}
 use Rattle.mdmp_tool.specs.HexRuns.{HexesThrough}
 use Rattle.mdmp_tool.specs.Lines.{error_line}
@@ -37,18 +37,18 @@ IsCheckEnd (Err fault) status before after = IsEnd {T = ℕ} (Err fault) status 
 
 -- a command has run, of which this is the engine and this is told of its answer
 pub record HasRun {T : Type 0} (End : Result T ToolFault → ℕ → OutState → OutState → Type 0) (Through : List ℕ → OutState → Result T ToolFault → OutState → Type 0)
-    (is_early : Bool) (old : SourceState) (before err_before : OutState) (status : ℕ) (new : SourceState) (after err_after : OutState) : Type 0 where
+    (pace : Pace) (old : SourceState) (before err_before : OutState) (status : ℕ) (new : SourceState) (after err_after : OutState) : Type 0 where
   pub answer : Result T ToolFault
   pub ends : End answer status err_before err_after
   pub writes : (file : List ℕ) → old.store.content ≡ Some file → Through file before answer after
-  pub tells : Tells in_blocks is_early old.store old.size before answer after
+  pub tells : Tells in_blocks pace old.store old.size before answer after
   pub reads : Reads old answer new
 
 -- a command that prints, over a source and through blocks, with names up to a limit
 abbrev pub HasPrinted : Print → ℕ → SourceState → OutState → OutState → ℕ → SourceState → OutState → OutState → Type 0
-HasPrinted Check limit = HasRun IsCheckEnd (λ file. ChecksThrough file limit) true
-HasPrinted (Listing pdb) limit = HasRun IsEnd (λ file. ListsThrough pdb file limit) true
-HasPrinted (Hex span) limit = HasRun IsEnd (λ file. HexesThrough file limit span.address span.length) false
+HasPrinted Check limit = HasRun IsCheckEnd (λ file. ChecksThrough file limit) past_faults
+HasPrinted (Listing pdb) limit = HasRun IsEnd (λ file. ListsThrough pdb file limit) up_to_a_fault
+HasPrinted (Hex span) limit = HasRun IsEnd (λ file. HexesThrough file limit span.address span.length) at_the_end
 
 -- the streams of these types were copied
 pub record HasCopied (Z : Type 0) (types : List ℕ) (limit : ℕ) (old : SourceState) (before err_before : OutState) (status : ℕ) (new : SourceState) (after err_after : OutState) : Type 0 where

@@ -1,5 +1,5 @@
 -- What every command over a listing promises, whatever it prints.
-use Rattle.std.specs.Prelude.{◌≡◌, ◌<◌, ◌⊎◌, ◌++◌, ℕ, Bool, true, false, List, [], Option, Some, None, Result, Ok, Err}
+use Rattle.std.specs.Prelude.{◌≡◌, ◌<◌, ◌⊎◌, ◌++◌, ℕ, List, [], Option, Some, None, Result, Ok, Err}
 use Rattle.mdmp_source.specs.Count.{HasRisen, raised}
 use Rattle.mdmp_source.specs.Output.{OutState, PutsAll, PutsPrefix, TakesPrefix}
 use Rattle.mdmp_source.specs.Source.{SourceState, FetchesSome}
@@ -18,26 +18,42 @@ use Rattle.mdmp_tool.specs.Causes.{HasOutCause, HasSourceCause, IsNoSourceFault,
 
 -- ---- what is written, by the class of the answer
 
+-- when a command prints
+pub data Pace : Type 0 where
+  -- while it reads, up to the first fault of the listing
+  up_to_a_fault : Pace
+  -- while it reads, also behind such a fault, of which its text tells
+  past_faults : Pace
+  -- once all is read
+  at_the_end : Pace
+
 -- the first part of a text was written, without a refusal
 pub record StopsShort (before : OutState) (text : List ℕ) (after : OutState) : Type 0 where
   pub took : TakesPrefix before.taken text after.taken
   pub steady : after.failures ≡ before.failures
 
 -- what may be out of a text where its reading ended early: of one that is printed while it is read the first part
-abbrev pub early_text : Bool → List ℕ → List ℕ
-early_text true text = text
-early_text false text = []
+abbrev pub early_text : Pace → List ℕ → List ℕ
+early_text up_to_a_fault text = text
+early_text past_faults text = text
+early_text at_the_end text = []
 
--- the text was written, up to the first fault of the listing or whole; nothing where the file is refused or memory is
+-- a fault of the listing ends a command so, but never one that goes on behind it
+abbrev pub EndsAtFault : Pace → Type 0 → Type 0
+EndsAtFault up_to_a_fault ends = ends
+EndsAtFault past_faults ends = ⊥
+EndsAtFault at_the_end ends = ends
+
+-- the text was written, up to the fault of the listing that ends it or whole; nothing where the file is refused or memory is
 -- wanting; the first part of it behind a fault of the store, if it is printed early; else the first part up to a refusal
-abbrev pub Writes : {T : Type 0} → Bool → List ℕ → OutState → Result T ToolFault → OutState → Type 0
-Writes is_early text before (Ok x) after = PutsAll before text after
-Writes is_early text before (Err (BadList fault)) after = PutsAll before text after
-Writes is_early text before (Err (Opening fault)) after = PutsAll before [] after
-Writes is_early text before (Err Memory) after = PutsAll before [] after
-Writes is_early text before (Err (Source fault)) after = StopsShort before (early_text is_early text) after
-Writes is_early text before (Err Out) after = PutsPrefix before text after
-Writes is_early text before (Err fault) after = ⊥
+abbrev pub Writes : {T : Type 0} → Pace → List ℕ → OutState → Result T ToolFault → OutState → Type 0
+Writes pace text before (Ok x) after = PutsAll before text after
+Writes pace text before (Err (BadList fault)) after = EndsAtFault pace (PutsAll before text after)
+Writes pace text before (Err (Opening fault)) after = PutsAll before [] after
+Writes pace text before (Err Memory) after = PutsAll before [] after
+Writes pace text before (Err (Source fault)) after = StopsShort before (early_text pace text) after
+Writes pace text before (Err Out) after = PutsPrefix before text after
+Writes pace text before (Err fault) after = ⊥
 
 -- ---- what a command is given
 
@@ -66,10 +82,10 @@ unless_refused None text = text
 unless_refused (Some fault) text = []
 
 -- a run over F: what its answer says of F, and that the text was written as far as that answer tells
-pub record Runs {T : Type 0} (F : List ℕ) (choice : Choice) (Ends : Result T ToolFault → Type 0) (is_early : Bool) (text : List ℕ) (before : OutState)
+pub record Runs {T : Type 0} (F : List ℕ) (choice : Choice) (Ends : Result T ToolFault → Type 0) (pace : Pace) (text : List ℕ) (before : OutState)
     (answer : Result T ToolFault) (after : OutState) : Type 0 where
   pub says : Says F choice Ends answer
-  pub writes : Writes is_early text before answer after
+  pub writes : Writes pace text before answer after
 
 -- ---- the same through blocks
 
@@ -86,9 +102,9 @@ pub record RefusesWithin (before : OutState) (text : List ℕ) (after : OutState
   pub refused : HasRisen before.failures after.failures
 
 -- a run through blocks, of which the last is flushed, and may be refused behind any answer of the run
-abbrev pub RunsThrough : {T : Type 0} → List ℕ → Choice → (Result T ToolFault → Type 0) → Bool → List ℕ → OutState → Result T ToolFault → OutState → Type 0
-RunsThrough F choice Ends is_early text before (Err Out) after = RefusesWithin before text after
-RunsThrough F choice Ends is_early text before answer after = Runs F choice Ends is_early text before answer after
+abbrev pub RunsThrough : {T : Type 0} → List ℕ → Choice → (Result T ToolFault → Type 0) → Pace → List ℕ → OutState → Result T ToolFault → OutState → Type 0
+RunsThrough F choice Ends pace text before (Err Out) after = RefusesWithin before text after
+RunsThrough F choice Ends pace text before answer after = Runs F choice Ends pace text before answer after
 
 -- nothing is pending, but where the output refused
 abbrev pub IsFlushed : {T : Type 0} → Result T ToolFault → List ℕ → Type 0
@@ -118,29 +134,30 @@ IsUntouched directly before after = after ≡ before
 IsUntouched in_blocks before after = PutsAll before [] after
 
 -- so it is, if nothing is printed early
-abbrev pub UnlessEarly : Bool → Type 0 → Type 0
-UnlessEarly true untouched = Unit {0}
-UnlessEarly false untouched = untouched
+abbrev pub UnlessEarly : Pace → Type 0 → Type 0
+UnlessEarly up_to_a_fault untouched = Unit {0}
+UnlessEarly past_faults untouched = Unit {0}
+UnlessEarly at_the_end untouched = untouched
 
 -- nothing was written where the file is refused or memory is wanting; nor, where all is read before the first byte is
--- printed, behind a fault of the listing or of the store
-abbrev pub IsQuiet : {T : Type 0} → Bool → Result T ToolFault → Type 0 → Type 0
-IsQuiet is_early (Ok x) untouched = Unit {0}
-IsQuiet is_early (Err Out) untouched = Unit {0}
-IsQuiet is_early (Err (Opening fault)) untouched = untouched
-IsQuiet is_early (Err Memory) untouched = untouched
-IsQuiet is_early (Err (BadList fault)) untouched = UnlessEarly is_early untouched
-IsQuiet is_early (Err (Source fault)) untouched = UnlessEarly is_early untouched
-IsQuiet is_early (Err fault) untouched = ⊥
+-- printed, behind a fault of the listing or of the store. No fault of the listing ends a command that goes on behind it.
+abbrev pub IsQuiet : {T : Type 0} → Pace → Result T ToolFault → Type 0 → Type 0
+IsQuiet pace (Ok x) untouched = Unit {0}
+IsQuiet pace (Err Out) untouched = Unit {0}
+IsQuiet pace (Err (Opening fault)) untouched = untouched
+IsQuiet pace (Err Memory) untouched = untouched
+IsQuiet pace (Err (BadList fault)) untouched = EndsAtFault pace (UnlessEarly pace untouched)
+IsQuiet pace (Err (Source fault)) untouched = UnlessEarly pace untouched
+IsQuiet pace (Err fault) untouched = ⊥
 
 -- what every command answers over a store of this size, and how it leaves its output
-pub record Tells {T : Type 0} (way : Way) (is_early : Bool) (store : StoreState) (size : ℕ) (before : OutState) (answer : Result T ToolFault)
+pub record Tells {T : Type 0} (way : Way) (pace : Pace) (store : StoreState) (size : ℕ) (before : OutState) (answer : Result T ToolFault)
     (after : OutState) : Type 0 where
   -- over a good store all bytes are obtained
   pub good : (file : List ℕ) → IsGood store file → IsNoSourceFault answer
   pub refusal : IsRefusal size answer
   pub short : size < 32 → IsShort way size answer
-  pub quiet : IsQuiet is_early answer (IsUntouched way before after)
+  pub quiet : IsQuiet pace answer (IsUntouched way before after)
   pub out_cause : HasOutCause before answer after
 
 -- and how it leaves its source
@@ -148,20 +165,20 @@ pub record Reads {T : Type 0} (old : SourceState) (answer : Result T ToolFault) 
   pub cause : HasSourceCause old answer new
   pub fetches : FetchesSome old new
 
--- what ends the part of a command behind the opening: no fault of the opening, and of the listing only the file's own;
--- where nothing was written the output is untouched, which is ⊥ where some text is out already
-abbrev pub IsBehind : {T : Type 0} → Bool → Result T ToolFault → Type 0 → Type 0
-IsBehind is_early (Ok x) untouched = Unit {0}
-IsBehind is_early (Err Out) untouched = Unit {0}
-IsBehind is_early (Err Memory) untouched = untouched
-IsBehind is_early (Err (BadList fault)) untouched = (IsOfSource fault.kind → ⊥) × UnlessEarly is_early untouched
-IsBehind is_early (Err (Source fault)) untouched = UnlessEarly is_early untouched
-IsBehind is_early (Err fault) untouched = ⊥
+-- what ends the part of a command behind the opening: no fault of the opening, and of the listing only the file's own, if its
+-- pace lets one end it; where nothing was written the output is untouched, which is ⊥ where some text is out already
+abbrev pub IsBehind : {T : Type 0} → Pace → Result T ToolFault → Type 0 → Type 0
+IsBehind pace (Ok x) untouched = Unit {0}
+IsBehind pace (Err Out) untouched = Unit {0}
+IsBehind pace (Err Memory) untouched = untouched
+IsBehind pace (Err (BadList fault)) untouched = (IsOfSource fault.kind → ⊥) × EndsAtFault pace (UnlessEarly pace untouched)
+IsBehind pace (Err (Source fault)) untouched = UnlessEarly pace untouched
+IsBehind pace (Err fault) untouched = ⊥
 
 -- and how that part leaves its source and its output
-pub record Leaves {T : Type 0} (is_early : Bool) (untouched : Type 0) (old : SourceState) (before : OutState) (answer : Result T ToolFault) (new : SourceState)
+pub record Leaves {T : Type 0} (pace : Pace) (untouched : Type 0) (old : SourceState) (before : OutState) (answer : Result T ToolFault) (new : SourceState)
     (after : OutState) : Type 0 where
   pub good : (file : List ℕ) → IsGood old.store file → IsNoSourceFault answer
-  pub behind : IsBehind is_early answer untouched
+  pub behind : IsBehind pace answer untouched
   pub reads : Reads old answer new
   pub out_cause : HasOutCause before answer after

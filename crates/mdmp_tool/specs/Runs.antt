@@ -1,12 +1,12 @@
 -- What a run of `list` answers, and what it leaves written.
-use Rattle.std.specs.Prelude.{◌≡◌, ◌++◌, ℕ, Bool, true, List, None, Some, Result, Ok, Err}
+use Rattle.std.specs.Prelude.{◌≡◌, ◌++◌, ℕ, Bool, List, None, Some, Result, Ok, Err}
 use Rattle.mdmp_source.specs.Output.{OutState, PutsAll, PutsPrefix}
 use Rattle.mdmp_lister.specs.declared.choice.Choice.TheVariants.{All}
 use Rattle.mdmp_lister.specs.Format.Listing.{Run, listing}
 use Rattle.mdmp_tool.specs.declared.fault.ToolFault.{ToolFault}
 use Rattle.mdmp_tool.specs.declared.fault.ToolFault.TheVariants.{List as BadList, Source, Out}
 use Rattle.mdmp_wire.specs.declared.header.Header.{Header}
-use Rattle.mdmp_tool.specs.Engines.{Runs, RunsThrough, Writes}
+use Rattle.mdmp_tool.specs.Engines.{Runs, RunsThrough, Writes, up_to_a_fault}
 use Rattle.mdmp_tool.specs.Lines.{dump_line}
 use Rattle.mdmp_tool.specs.Text.{run_text, list_text}
 
@@ -21,13 +21,13 @@ ListEnds run (Err fault) = ⊥
 -- the items of a run over F were printed, all of them up to its fault or none
 pub record ListsRun (pdb : Bool) (F : List ℕ) (limit : ℕ) (run : Run) (before : OutState) (answer : Result (Unit {0}) ToolFault) (after : OutState) : Type 0 where
   pub ends : ListEnds run answer
-  pub writes : Writes true (run_text pdb F limit run) before answer after
+  pub writes : Writes up_to_a_fault (run_text pdb F limit run) before answer after
 
 -- the same behind the line of a header
 pub record ListsFile (pdb : Bool) (F : List ℕ) (limit : ℕ) (h : Header) (run : Run) (before : OutState) (answer : Result (Unit {0}) ToolFault)
     (after : OutState) : Type 0 where
   pub ends : ListEnds run answer
-  pub writes : Writes true (dump_line h ++ run_text pdb F limit run) before answer after
+  pub writes : Writes up_to_a_fault (dump_line h ++ run_text pdb F limit run) before answer after
 
 -- the line of a CodeView record was printed; or its bytes were not obtained, and nothing was; or the output refused in it
 abbrev pub PutsSymbols : List ℕ → OutState → Result (Unit {0}) ToolFault → OutState → Type 0
@@ -38,8 +38,8 @@ PutsSymbols text before (Err fault) after = ⊥
 
 -- a run of `list` over F, of which the text is printed while it is read: with `pdb` the CodeView records of modules are told
 abbrev pub Lists : Bool → List ℕ → ℕ → OutState → Result (Unit {0}) ToolFault → OutState → Type 0
-Lists pdb F limit = Runs F All (ListEnds (listing F All limit)) true (list_text pdb F limit)
+Lists pdb F limit = Runs F All (ListEnds (listing F All limit)) up_to_a_fault (list_text pdb F limit)
 
 -- the same through blocks
 abbrev pub ListsThrough : Bool → List ℕ → ℕ → OutState → Result (Unit {0}) ToolFault → OutState → Type 0
-ListsThrough pdb F limit = RunsThrough F All (ListEnds (listing F All limit)) true (list_text pdb F limit)
+ListsThrough pdb F limit = RunsThrough F All (ListEnds (listing F All limit)) up_to_a_fault (list_text pdb F limit)

@@ -1,8 +1,8 @@
 //! `check`, `list` and `hex` to an output that gathers blocks.
-ghost use Rattle.std.specs.Prelude.{◌≡◌, ◌≤◌, ◌<◌, ◌+◌, ℕ, List, Some, [], false, true};
+ghost use Rattle.std.specs.Prelude.{◌≡◌, ◌≤◌, ◌<◌, ◌+◌, ℕ, List, Some, []};
 ghost use Rattle.mdmp_map.specs.Ranges.{address_end};
 ghost use Rattle.mdmp_tool.specs.CheckRuns.{ChecksThrough};
-ghost use Rattle.mdmp_tool.specs.Engines.{IsFlushed, Reads, Tells, in_blocks};
+ghost use Rattle.mdmp_tool.specs.Engines.{IsFlushed, Reads, Tells, at_the_end, in_blocks, past_faults, up_to_a_fault};
 ghost use Rattle.mdmp_tool.specs.HexRuns.{HexesThrough};
 ghost use Rattle.mdmp_words.specs.HexWords.{length_limit};
 ghost use Rattle.mdmp_tool.specs.Runs.{ListsThrough};
@@ -27,7 +27,7 @@ pub fn check_in_blocks<S: Store + Drop, A: Allocator + Copy, O: Out, B: Allocato
     requires { blocks.old.pending ≡ [] }
     ensures checks { (file : List ℕ) → source.store.content ≡ Some file → ChecksThrough file limits.name blocks.old.inner result.answer blocks.new.inner }
     ensures flushed { IsFlushed result.answer blocks.new.pending }
-    ensures tells { Tells in_blocks true source.store source.size blocks.old.inner result.answer blocks.new.inner }
+    ensures tells { Tells in_blocks past_faults source.store source.size blocks.old.inner result.answer blocks.new.inner }
     ensures reads { Reads source result.answer result.source }
 {
     run_in_blocks(CheckEngine, alloc, source, limits, blocks)
@@ -46,7 +46,7 @@ pub fn list_in_blocks<S: Store + Drop, A: Allocator + Copy, O: Out, B: Allocator
     requires { blocks.old.pending ≡ [] }
     ensures lists { (file : List ℕ) → source.store.content ≡ Some file → ListsThrough pdb file limits.name blocks.old.inner result.answer blocks.new.inner }
     ensures flushed { IsFlushed result.answer blocks.new.pending }
-    ensures tells { Tells in_blocks true source.store source.size blocks.old.inner result.answer blocks.new.inner }
+    ensures tells { Tells in_blocks up_to_a_fault source.store source.size blocks.old.inner result.answer blocks.new.inner }
     ensures reads { Reads source result.answer result.source }
 {
     run_in_blocks(ListEngine { pdb }, alloc, source, limits, blocks)
@@ -69,7 +69,7 @@ pub fn hex_in_blocks<S: Store + Drop, A: Allocator + Copy, O: Out, B: Allocator>
     ensures hexes { (file : List ℕ) → source.store.content ≡ Some file
         → HexesThrough file limits.name address length blocks.old.inner result.answer blocks.new.inner }
     ensures flushed { IsFlushed result.answer blocks.new.pending }
-    ensures tells { Tells in_blocks false source.store source.size blocks.old.inner result.answer blocks.new.inner }
+    ensures tells { Tells in_blocks at_the_end source.store source.size blocks.old.inner result.answer blocks.new.inner }
     ensures reads { Reads source result.answer result.source }
 {
     run_in_blocks(HexEngine { address, length }, alloc, source, limits, blocks)

@@ -1,10 +1,10 @@
 //! The command `check`.
-ghost use Rattle.std.specs.Prelude.{◌≡◌, ℕ, List, Some, true};
+ghost use Rattle.std.specs.Prelude.{◌≡◌, ℕ, List, Some};
 ghost use Rattle.mdmp_lister.specs.declared.choice.Choice.TheVariants.{All};
 ghost use Rattle.mdmp_lister.specs.Format.Listing.{verdicts};
 ghost use Rattle.mdmp_tool.specs.CheckRuns.{CheckEnds, Checks};
 ghost use Rattle.mdmp_tool.specs.CheckText.{verdict_lines};
-ghost use Rattle.mdmp_tool.specs.Engines.{IsOpened, Leaves, Reads, Tells, Writes, directly};
+ghost use Rattle.mdmp_tool.specs.Engines.{IsOpened, Leaves, Reads, Tells, Writes, directly, past_faults};
 
 use crate::engine::{Answered, Engine, run, run_source};
 use crate::fault::{ToolFault, told_list};
@@ -25,7 +25,7 @@ pub fn run_check<S: Store + Drop, A: Allocator + Copy, O: Out>(
     out: &mut O,
 ) -> Result<u64, ToolFault>
     ensures checks { (file : List ℕ) → (S.state store).content ≡ Some file → Checks file limits.name (O.state out.old) result (O.state out.new) }
-    ensures tells { Tells directly true (S.state store) (S.state store).size (O.state out.old) result (O.state out.new) }
+    ensures tells { Tells directly past_faults (S.state store) (S.state store).size (O.state out.old) result (O.state out.new) }
 {
     run(CheckEngine, alloc, store, limits, out)
 }
@@ -38,7 +38,7 @@ pub fn check_source<S: Store + Drop, A: Allocator + Copy, O: Out>(
     out: &mut O,
 ) -> Answered<u64, S>
     ensures checks { (file : List ℕ) → source.store.content ≡ Some file → Checks file limits.name (O.state out.old) result.answer (O.state out.new) }
-    ensures tells { Tells directly true source.store source.size (O.state out.old) result.answer (O.state out.new) }
+    ensures tells { Tells directly past_faults source.store source.size (O.state out.old) result.answer (O.state out.new) }
     ensures reads { Reads source result.answer result.source }
 {
     run_source(CheckEngine, alloc, source, limits, out)
@@ -49,17 +49,17 @@ pub fn check_source<S: Store + Drop, A: Allocator + Copy, O: Out>(
 pub(crate) struct CheckEngine;
 
 impl Engine for CheckEngine {
-    ghost use Rattle.std.specs.Prelude.{true};
     ghost use Rattle.mdmp_lister.specs.declared.choice.Choice.TheVariants.{All};
     ghost use Rattle.mdmp_lister.specs.Format.Listing.{verdicts};
     ghost use Rattle.mdmp_tool.specs.CheckRuns.{CheckEnds};
     ghost use Rattle.mdmp_tool.specs.CheckText.{verdict_lines};
+    ghost use Rattle.mdmp_tool.specs.Engines.{past_faults};
 
     type Answer = u64;
 
     ghost choice = { All };
 
-    ghost is_early = { true };
+    ghost pace = { past_faults };
 
     ghost can_put = { λ _. Unit {0} };
 
@@ -93,8 +93,8 @@ fn check_listed<S: Store + Drop, A: Allocator + Copy, O: Out>(
     ensures same_output { lines.new.out.ghost_name ≡ lines.old.out.ghost_name }
     ensures ends { (file : List ℕ) → lister.old.source.store.content ≡ Some file → CheckEnds file lister.old.limit result }
     ensures writes { (file : List ℕ) → lister.old.source.store.content ≡ Some file
-        → Writes true (verdict_lines (verdicts file All lister.old.limit)) (O.state lines.old.out.now) result (O.state lines.new.out.now) }
-    ensures leaves { Leaves true (O.state lines.new.out.now ≡ O.state lines.old.out.now) lister.old.source (O.state lines.old.out.now) result lister.new.source (O.state lines.new.out.now) }
+        → Writes past_faults (verdict_lines (verdicts file All lister.old.limit)) (O.state lines.old.out.now) result (O.state lines.new.out.now) }
+    ensures leaves { Leaves past_faults (O.state lines.new.out.now ≡ O.state lines.old.out.now) lister.old.source (O.state lines.old.out.now) result lister.new.source (O.state lines.new.out.now) }
 {
     // The prover needs that a directory has fewer than 2^32 entries: so the count is never at its greatest.
     let _entries = lister.header().number_of_streams;

@@ -20,10 +20,10 @@ pub struct Answered<T: Copy, S: Store + Drop> {
 
 /// A command over the listing of a file.
 pub(crate) trait Engine: Copy {
-    ghost use Rattle.std.specs.Prelude.{◌≡◌, ℕ, Bool, List, Some, Result};
+    ghost use Rattle.std.specs.Prelude.{◌≡◌, ℕ, List, Some, Result};
     ghost use Rattle.mdmp_lister.specs.declared.choice.Choice.{Choice};
     ghost use Rattle.mdmp_tool.specs.declared.fault.ToolFault.{ToolFault};
-    ghost use Rattle.mdmp_tool.specs.Engines.{IsOpened, Leaves, Writes};
+    ghost use Rattle.mdmp_tool.specs.Engines.{IsOpened, Leaves, Pace, Writes};
 
     /// What it answers where all was printed.
     type Answer: Copy;
@@ -31,8 +31,8 @@ pub(crate) trait Engine: Copy {
     // The streams that are listed.
     ghost choice: { Choice };
 
-    // Whether it prints while it reads; if not, it reads all before.
-    ghost is_early: { Bool };
+    // When it prints: while it reads, or once all is read; and whether a fault of the listing ends it.
+    ghost pace: { Pace };
 
     // What may be asked.
     ghost can_put: { Self → Type 0 };
@@ -58,8 +58,8 @@ pub(crate) trait Engine: Copy {
         requires opened { IsOpened choice lister.old }
         ensures ends { (file : List ℕ) → lister.old.source.store.content ≡ Some file → Ends self.now file lister.old.limit result }
         ensures writes { (file : List ℕ) → lister.old.source.store.content ≡ Some file
-            → Writes is_early (text self.now file lister.old.limit) (O.state out.old) result (O.state out.new) }
-        ensures leaves { Leaves is_early (O.state out.new ≡ O.state out.old) lister.old.source (O.state out.old) result lister.new.source (O.state out.new) };
+            → Writes pace (text self.now file lister.old.limit) (O.state out.old) result (O.state out.new) }
+        ensures leaves { Leaves pace (O.state out.new ≡ O.state out.old) lister.old.source (O.state out.old) result lister.new.source (O.state out.new) };
 }
 
 /// Runs a command over a store.
@@ -72,9 +72,9 @@ pub(crate) fn run<E: Engine, S: Store + Drop, A: Allocator + Copy, O: Out>(
 ) -> Result<E::Answer, ToolFault>
     requires { E.can_put engine }
     ensures runs { (file : List ℕ) → (S.state store).content ≡ Some file
-        → Runs file E.choice (E.Ends engine file limits.name) E.is_early (unless_refused (opening_fault file E.choice) (E.text engine file limits.name))
+        → Runs file E.choice (E.Ends engine file limits.name) E.pace (unless_refused (opening_fault file E.choice) (E.text engine file limits.name))
         (O.state out.old) result (O.state out.new) }
-    ensures tells { Tells directly E.is_early (S.state store) (S.state store).size (O.state out.old) result (O.state out.new) }
+    ensures tells { Tells directly E.pace (S.state store) (S.state store).size (O.state out.old) result (O.state out.new) }
 {
     let Answered { answer, source: _ } = run_source(engine, alloc, Source::new(store), limits, out);
     answer
@@ -92,9 +92,9 @@ pub(crate) fn run_source<E: Engine, S: Store + Drop, A: Allocator + Copy, O: Out
 ) -> Answered<E::Answer, S>
     requires { E.can_put engine }
     ensures runs { (file : List ℕ) → source.store.content ≡ Some file
-        → Runs file E.choice (E.Ends engine file limits.name) E.is_early (unless_refused (opening_fault file E.choice) (E.text engine file limits.name))
+        → Runs file E.choice (E.Ends engine file limits.name) E.pace (unless_refused (opening_fault file E.choice) (E.text engine file limits.name))
         (O.state out.old) result.answer (O.state out.new) }
-    ensures tells { Tells directly E.is_early source.store source.size (O.state out.old) result.answer (O.state out.new) }
+    ensures tells { Tells directly E.pace source.store source.size (O.state out.old) result.answer (O.state out.new) }
     ensures reads { Reads source result.answer result.source }
 {
     let mut lister = match Lister::open(alloc, source, limits, engine.chosen()) {
@@ -124,10 +124,10 @@ pub(crate) fn run_in_blocks<E: Engine, S: Store + Drop, A: Allocator + Copy, O: 
     requires can { E.can_put engine }
     requires none { blocks.old.pending ≡ [] }
     ensures runs { (file : List ℕ) → source.store.content ≡ Some file
-        → RunsThrough file E.choice (E.Ends engine file limits.name) E.is_early (unless_refused (opening_fault file E.choice) (E.text engine file limits.name))
+        → RunsThrough file E.choice (E.Ends engine file limits.name) E.pace (unless_refused (opening_fault file E.choice) (E.text engine file limits.name))
         blocks.old.inner result.answer blocks.new.inner }
     ensures flushed { IsFlushed result.answer blocks.new.pending }
-    ensures tells { Tells in_blocks E.is_early source.store source.size blocks.old.inner result.answer blocks.new.inner }
+    ensures tells { Tells in_blocks E.pace source.store source.size blocks.old.inner result.answer blocks.new.inner }
     ensures reads { Reads source result.answer result.source }
 {
     let answered = run_source(engine, alloc, source, limits, blocks);

@@ -1,12 +1,12 @@
 //! The command `hex`.
-ghost use Rattle.std.specs.Prelude.{◌≡◌, ◌≤◌, ◌<◌, ◌+◌, ℕ, List, [], Some, None, Err, IfErr, MatchResult, length, false};
+ghost use Rattle.std.specs.Prelude.{◌≡◌, ◌≤◌, ◌<◌, ◌+◌, ℕ, List, [], Some, None, Err, IfErr, MatchResult, length};
 ghost use Rattle.mdmp_map.specs.Ranges.{address_end};
 ghost use Rattle.mdmp_source.specs.Store.{IsGood};
 ghost use Rattle.mdmp_source.specs.Source.{FetchesSome};
 ghost use Rattle.mdmp_lister.specs.Format.Listing.{Run};
 ghost use Rattle.mdmp_lister.specs.Format.Ranges.{ranges_of};
 ghost use Rattle.mdmp_lister.specs.Fault.{IsOfSource, IsToldIn};
-ghost use Rattle.mdmp_tool.specs.Engines.{Leaves, Reads, Tells, directly};
+ghost use Rattle.mdmp_tool.specs.Engines.{Leaves, Reads, Tells, at_the_end, directly};
 ghost use Rattle.mdmp_tool.specs.HexRuns.{Hexes, HexesMemory, HexesRun};
 ghost use Rattle.mdmp_words.specs.HexWords.{length_limit};
 
@@ -34,7 +34,7 @@ pub fn run_hex<S: Store + Drop, A: Allocator + Copy, O: Out>(
     requires within { address + length ≤ address_end }
     requires limited { length ≤ length_limit }
     ensures hexes { (file : List ℕ) → (S.state store).content ≡ Some file → Hexes file limits.name address length (O.state out.old) result (O.state out.new) }
-    ensures tells { Tells directly false (S.state store) (S.state store).size (O.state out.old) result (O.state out.new) }
+    ensures tells { Tells directly at_the_end (S.state store) (S.state store).size (O.state out.old) result (O.state out.new) }
 {
     run(HexEngine { address, length }, alloc, store, limits, out)
 }
@@ -51,7 +51,7 @@ pub fn hex_source<S: Store + Drop, A: Allocator + Copy, O: Out>(
     requires within { address + length ≤ address_end }
     requires limited { length ≤ length_limit }
     ensures hexes { (file : List ℕ) → source.store.content ≡ Some file → Hexes file limits.name address length (O.state out.old) result.answer (O.state out.new) }
-    ensures tells { Tells directly false source.store source.size (O.state out.old) result.answer (O.state out.new) }
+    ensures tells { Tells directly at_the_end source.store source.size (O.state out.old) result.answer (O.state out.new) }
     ensures reads { Reads source result.answer result.source }
 {
     run_source(HexEngine { address, length }, alloc, source, limits, out)
@@ -65,16 +65,17 @@ pub(crate) struct HexEngine {
 }
 
 impl Engine for HexEngine {
-    ghost use Rattle.std.specs.Prelude.{◌≤◌, ◌+◌, false};
+    ghost use Rattle.std.specs.Prelude.{◌≤◌, ◌+◌};
     ghost use Rattle.mdmp_map.specs.Ranges.{address_end};
     ghost use Rattle.mdmp_lister.specs.Format.Listing.{listing, memory_lists};
+    ghost use Rattle.mdmp_tool.specs.Engines.{at_the_end};
     ghost use Rattle.mdmp_tool.specs.HexRuns.{HexEnds, run_hex_text};
 
     type Answer = ();
 
     ghost choice = { memory_lists };
 
-    ghost is_early = { false };
+    ghost pace = { at_the_end };
 
     ghost can_put = { λ hex. hex.address + hex.length ≤ address_end };
 
@@ -109,7 +110,7 @@ fn hex_listed<S: Store + Drop, A: Allocator + Copy, O: Out>(
     requires within { address + length ≤ address_end }
     ensures hexes { (file : List ℕ) → lister.old.source.store.content ≡ Some file → (left : Run) → lister.old.left ≡ Some left
         → HexesRun file left address length (O.state out.old) result (O.state out.new) }
-    ensures leaves { Leaves false (O.state out.new ≡ O.state out.old) lister.old.source (O.state out.old) result lister.new.source (O.state out.new) }
+    ensures leaves { Leaves at_the_end (O.state out.new ≡ O.state out.old) lister.old.source (O.state out.old) result lister.new.source (O.state out.new) }
 {
     match list_ranges(lister) {
         Ok(()) => {}
@@ -136,7 +137,7 @@ fn put_memory<S: Store + Drop, A: Allocator + Copy, O: Out>(
     requires within { address + length bytes.old ≤ address_end }
     ensures hexes { (file : List ℕ) → lister.old.source.store.content ≡ Some file
         → HexesMemory file lister.old.ranges address (length bytes.new) (O.state out.old) result (O.state out.new) }
-    ensures leaves { Leaves false (O.state out.new ≡ O.state out.old) lister.old.source (O.state out.old) result lister.new.source (O.state out.new) }
+    ensures leaves { Leaves at_the_end (O.state out.new ≡ O.state out.old) lister.old.source (O.state out.old) result lister.new.source (O.state out.new) }
 {
     match lister.read_address(address, bytes, known) {
         Ok(()) => {}

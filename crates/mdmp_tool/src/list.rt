@@ -1,8 +1,8 @@
 //! The command `list`.
-ghost use Rattle.std.specs.Prelude.{◌≡◌, ◌≤◌, ◌<◌, ℕ, List, None, Some, IfSome, false, true};
+ghost use Rattle.std.specs.Prelude.{◌≡◌, ◌≤◌, ◌<◌, ℕ, List, None, Some, IfSome, false};
 ghost use Rattle.mdmp_source.specs.Range.{IsInside};
 ghost use Rattle.mdmp_lister.specs.Format.Listing.{Run};
-ghost use Rattle.mdmp_tool.specs.Engines.{Leaves, Reads, Tells, directly};
+ghost use Rattle.mdmp_tool.specs.Engines.{Leaves, Reads, Tells, directly, up_to_a_fault};
 ghost use Rattle.mdmp_tool.specs.Runs.{Lists, ListsFile, ListsRun, PutsSymbols};
 ghost use Rattle.mdmp_tool.specs.Text.{symbols_of, symbols_text};
 
@@ -30,7 +30,7 @@ pub fn run_list<S: Store + Drop, A: Allocator + Copy, O: Out>(
     out: &mut O,
 ) -> Result<(), ToolFault>
     ensures lists { (file : List ℕ) → (S.state store).content ≡ Some file → Lists pdb file limits.name (O.state out.old) result (O.state out.new) }
-    ensures tells { Tells directly true (S.state store) (S.state store).size (O.state out.old) result (O.state out.new) }
+    ensures tells { Tells directly up_to_a_fault (S.state store) (S.state store).size (O.state out.old) result (O.state out.new) }
 {
     run(ListEngine { pdb }, alloc, store, limits, out)
 }
@@ -44,7 +44,7 @@ pub fn list_source<S: Store + Drop, A: Allocator + Copy, O: Out>(
     out: &mut O,
 ) -> Answered<(), S>
     ensures lists { (file : List ℕ) → source.store.content ≡ Some file → Lists pdb file limits.name (O.state out.old) result.answer (O.state out.new) }
-    ensures tells { Tells directly true source.store source.size (O.state out.old) result.answer (O.state out.new) }
+    ensures tells { Tells directly up_to_a_fault source.store source.size (O.state out.old) result.answer (O.state out.new) }
     ensures reads { Reads source result.answer result.source }
 {
     run_source(ListEngine { pdb }, alloc, source, limits, out)
@@ -58,10 +58,11 @@ pub(crate) struct ListEngine {
 }
 
 impl Engine for ListEngine {
-    ghost use Rattle.std.specs.Prelude.{◌++◌, true};
+    ghost use Rattle.std.specs.Prelude.{◌++◌};
     ghost use Rattle.mdmp_wire.specs.Header.{header_at};
     ghost use Rattle.mdmp_lister.specs.declared.choice.Choice.TheVariants.{All};
     ghost use Rattle.mdmp_lister.specs.Format.Listing.{listing};
+    ghost use Rattle.mdmp_tool.specs.Engines.{up_to_a_fault};
     ghost use Rattle.mdmp_tool.specs.Lines.{dump_line};
     ghost use Rattle.mdmp_tool.specs.Runs.{ListEnds};
     ghost use Rattle.mdmp_tool.specs.Text.{run_text};
@@ -70,7 +71,7 @@ impl Engine for ListEngine {
 
     ghost choice = { All };
 
-    ghost is_early = { true };
+    ghost pace = { up_to_a_fault };
 
     ghost can_put = { λ _. Unit {0} };
 
@@ -102,7 +103,7 @@ fn put_listing<S: Store + Drop, A: Allocator + Copy, O: Out>(
     requires { lister.old.stop ≡ None }
     ensures lists { (file : List ℕ) → lister.old.source.store.content ≡ Some file → (left : Run) → lister.old.left ≡ Some left
         → ListsFile pdb file lister.old.limit lister.old.header left (O.state out.old) result (O.state out.new) }
-    ensures leaves { Leaves true (O.state out.new ≡ O.state out.old) lister.old.source (O.state out.old) result lister.new.source (O.state out.new) }
+    ensures leaves { Leaves up_to_a_fault (O.state out.new ≡ O.state out.old) lister.old.source (O.state out.old) result lister.new.source (O.state out.new) }
 {
     if let Err(OutFailed) = put_dump_line(&lister.header(), out) {
         return Err(ToolFault::Out);
@@ -119,7 +120,7 @@ fn list_items<S: Store + Drop, A: Allocator + Copy, O: Out>(
     requires { lister.old.stop ≡ None }
     ensures lists { (file : List ℕ) → lister.old.source.store.content ≡ Some file → (left : Run) → lister.old.left ≡ Some left
         → ListsRun pdb file lister.old.limit left (O.state out.old) result (O.state out.new) }
-    ensures leaves { Leaves true ⊥ lister.old.source (O.state out.old) result lister.new.source (O.state out.new) }
+    ensures leaves { Leaves up_to_a_fault ⊥ lister.old.source (O.state out.old) result lister.new.source (O.state out.new) }
 {
     loop {
         let symbols = match lister.next() {
@@ -158,7 +159,7 @@ fn put_symbols<S: Store + Drop, A: Allocator + Copy, O: Out>(
     ensures puts { (file : List ℕ) → lister.old.source.store.content ≡ Some file
         → PutsSymbols (symbols_text file lister.old.limit symbols) (O.state out.old) result (O.state out.new) }
     ensures stays { lister.new ≡ record lister.old { source = lister.new.source; counts = lister.new.counts } }
-    ensures leaves { Leaves true ⊥ lister.old.source (O.state out.old) result lister.new.source (O.state out.new) }
+    ensures leaves { Leaves up_to_a_fault ⊥ lister.old.source (O.state out.old) result lister.new.source (O.state out.new) }
 {
     let Some(location) = symbols else {
         return Ok(());

@@ -1,4 +1,4 @@
-use Rattle.std.proofs.Common.{◌≡◌, ◌∙◌, ◌+◌, ℕ, List, ap, sym, subst, arith, true}
+use Rattle.std.proofs.Common.{◌≡◌, ◌∙◌, ◌+◌, ℕ, List, ap, sym, subst, arith}
 use Rattle.std.specs.Prelude.{Result}
 use Rattle.mdmp_wire.specs.declared.header.Header.{Header}
 use Rattle.mdmp_lister.specs.declared.choice.Choice.TheVariants.{All}
@@ -9,7 +9,7 @@ use Rattle.mdmp_source.specs.Output.{PutsAll}
 use Rattle.mdmp_tool.specs.declared.fault.ToolFault.{ToolFault}
 use Rattle.mdmp_tool.specs.CheckText.{bad_count, verdict_lines}
 use Rattle.mdmp_tool.specs.CheckRuns.{CheckEnds}
-use Rattle.mdmp_tool.specs.Engines.{Leaves, Writes}
+use Rattle.mdmp_tool.specs.Engines.{Leaves, Writes, past_faults}
 use Rattle.mdmp_tool.proofs.Checking.{PutsPrefix-first, StopsShort-first, bad-taken, bad_entries, lines-stopped, lines-taken, name-stopped, name-taken, told-cause, told-source}
 use Rattle.mdmp_tool.proofs.check.check_listed.Goals as goal
 
@@ -65,7 +65,7 @@ returns-in-Err-At-clause-writes g c = λ file known.
     let first = rw c.requires.opened.choice_is at (checks.of_file file known) in
     let put = lines-taken (λ lines. g.O.Out.state lines.out.now) (λ lines. lines.bad) (λ lines. lines.out.ghost_name) checks.judged _ _ (rw c.in-Err-At.field-0-is at checks.handed) in
     let told = (c.in-Err-At.ensures.told c.in-Err-At.fault c.in-Err-At.field-0-is).0 in
-    rw c.told_list.ensures (told-source (λ (r : Result ℕ ToolFault). Writes true (verdict_lines (verdicts file All limit)) before r after) c.in-Err-At.fault c.in-Err-At.fault.kind told
+    rw c.told_list.ensures (told-source (λ (r : Result ℕ ToolFault). Writes past_faults (verdict_lines (verdicts file All limit)) before r after) c.in-Err-At.fault c.in-Err-At.fault.kind told
     (λ s is. StopsShort-first (verdicts file All limit) checks.judged first.0 before after first.1 put))
 
 pub returns-in-Err-At-clause-leaves : goal.returns-in-Err-At-clause-leaves
@@ -78,7 +78,7 @@ returns-in-Err-At-clause-leaves g c =
     let new = c.check_into.new.self.source in
     let before = g.O.Out.state c.args.lines.now.out.now in
     let after = g.O.Out.state c.check_into.new.sink.out.now in
-    rw c.told_list.ensures (told-source (λ (r : Result ℕ ToolFault). Leaves true (after ≡ before) old before r new after) fault fault.kind told.0 (λ s is. record {
+    rw c.told_list.ensures (told-source (λ (r : Result ℕ ToolFault). Leaves past_faults (after ≡ before) old before r new after) fault fault.kind told.0 (λ s is. record {
       good = λ file good. absurd (c.in-Err-At.ensures.good file good fault c.in-Err-At.field-0-is);
       behind = tt;
       reads = record { cause = told-cause c.check_into.new.self.current fault s old new is told.1; fetches = checks.fetches };

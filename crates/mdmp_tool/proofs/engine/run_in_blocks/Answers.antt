@@ -7,7 +7,7 @@ pub returns-clause-runs : goal.returns-clause-runs
 returns-clause-runs g c = λ file known.
     let run = c.run_source-answered in
     let flush = c.flushed.ensures in
-    Runs-flushed file g.E.Engine.choice (g.E.Engine.Ends c.args.engine file c.args.limits.name) g.E.Engine.is_early (unless_refused (opening_fault file g.E.Engine.choice) (g.E.Engine.text c.args.engine file c.args.limits.name))
+    Runs-flushed file g.E.Engine.choice (g.E.Engine.Ends c.args.engine file c.args.limits.name) g.E.Engine.pace (unless_refused (opening_fault file g.E.Engine.choice) (g.E.Engine.text c.args.engine file c.args.limits.name))
     c.args.blocks.now.inner run.new.out.inner c.flushed.new.blocks.inner c.args.blocks.now.pending run.new.out.pending c.flushed.new.blocks.pending run.result.answer c.flushed.result.answer c.requires.none
     flush.moved flush.flushed flush.ends run.ensures.tells.out_cause (run.ensures.runs file known)
 
@@ -15,5 +15,5 @@ pub returns-clause-tells : goal.returns-clause-tells
 returns-clause-tells g c =
     let run = c.run_source-answered in
     let flush = c.flushed.ensures in
-    Tells-flushed g.E.Engine.is_early c.args.source.store c.args.source.size c.args.blocks.now.inner run.new.out.inner c.flushed.new.blocks.inner c.args.blocks.now.pending run.new.out.pending c.flushed.new.blocks.pending run.result.answer c.flushed.result.answer c.requires.none
+    Tells-flushed g.E.Engine.pace c.args.source.store c.args.source.size c.args.blocks.now.inner run.new.out.inner c.flushed.new.blocks.inner c.args.blocks.now.pending run.new.out.pending c.flushed.new.blocks.pending run.result.answer c.flushed.result.answer c.requires.none
     flush.moved flush.flushed flush.ends run.ensures.tells

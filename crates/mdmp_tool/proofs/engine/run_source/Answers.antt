@@ -14,9 +14,9 @@ returns-clause-tells g c =
     let untouched : Type 0 = g.O.Out.state c.put-answer.new.out ≡ g.O.Out.state c.args.out.now in
     record {
       good = λ file good. put.good file (record { known = new.fetches.same_content ∙ good.known; reliable = rw new.fetches.same_reliable good.reliable });
-      refusal = IsRefusal-behind g.E.Engine.is_early untouched c.args.source.size c.put-answer.result put.behind;
+      refusal = IsRefusal-behind g.E.Engine.pace untouched c.args.source.size c.put-answer.result put.behind;
       short = λ few. absurd (c.in-Ok.ensures.short few);
-      quiet = IsQuiet-behind g.E.Engine.is_early untouched c.put-answer.result put.behind;
+      quiet = IsQuiet-behind g.E.Engine.pace untouched c.put-answer.result put.behind;
       out_cause = put.out_cause;
     }
 
