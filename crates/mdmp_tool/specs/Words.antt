@@ -1,5 +1,5 @@
 -- How the words of a command line end.
-use Rattle.std.specs.Prelude.{◌≡◌, ◌⊎◌, ◌∷◌, ℕ, false, List, [], Some, None, codes}
+use Rattle.std.specs.Prelude.{◌≡◌, ◌⊎◌, ◌∷◌, ℕ, false, List, [], Some, None, codes, map}
 use Rattle.std.specs.List.{concat}
 use denote.Ref.{Bor}
 use Rattle.mdmp_source.specs.Output.{OutState, PutsAll, PutsPrefix}
@@ -8,7 +8,7 @@ use Rattle.mdmp_source.specs.Store.{IsNew}
 use Rattle.mdmp_tool.specs.Commands.{HasCopied, HasPrinted, IsTold}
 use Rattle.mdmp_tool.specs.Copying.{first_not_copied}
 use Rattle.mdmp_tool.specs.Faults.{fault_text, status_of}
-use Rattle.mdmp_words.specs.Requests.{AsksNothing, IsValid}
+use Rattle.mdmp_words.specs.Requests.{AsksFor, AsksNothing, IsValid}
 use Rattle.mdmp_tool.specs.declared.fault.ToolFault.{ToolFault}
 use Rattle.mdmp_tool.specs.declared.fault.ToolFault.TheVariants.{Memory, NotCopied, Out}
 use Rattle.mdmp_words.specs.declared.request.Asked.{Asked}
@@ -115,9 +115,10 @@ EndsAsked Z (asks.Refused text) before status after = Explains text.bytes.items 
 EndsAsked Z asks.Bad before status after = Refuses 2 (codes "bad command line") before status after
 EndsAsked Z asks.Memory before status after = RefusesFault Memory before status after
 
--- the words ask for something, no words for nothing that is run or helped, and it ends so
+-- what the words ask for, by how clap parts them, and that it ends so; no words ask for nothing that is run or helped
 pub record EndsWords (Z : Type 0) (words : List (Bor (List ℕ))) (before : Outputs) (status : ℕ) (after : Outputs) : Type 0 where
   pub asked : Asked
   pub valid : IsValid asked
+  pub asks : AsksFor (map (λ word. word.now) words) asked
   pub empty : words ≡ [] → AsksNothing asked
   pub ends : EndsAsked Z asked before status after

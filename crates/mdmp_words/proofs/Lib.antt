@@ -1,3 +1,6 @@
+pub mod AskingLemmas
+pub mod CommandLemmas
+pub mod RequestRows
 pub mod TypeLemmas
 pub mod WordLemmas
 pub mod WordRows

@@ -1,5 +1,5 @@
 -- What the words of `hex` name, computed by the definitions.
-use Rattle.std.proofs.Common.{◌≡◌, ℕ, List, [], Option, Some, None, refl}
+use Rattle.std.proofs.Common.{◌≡◌, ℕ, [], Option, Some, None, refl}
 use Rattle.std.specs.Prelude.{codes}
 use Rattle.mdmp_words.specs.declared.hex_words.Span.{Span}
 use Rattle.mdmp_words.specs.HexWords.{address_named, length_named, span_named}

@@ -1,12 +1,13 @@
--- What the words that `clap` parted ask for. `Found` has the words of a command under their ids.
-use Rattle.std.specs.Prelude.{◌≡◌, ◌≢◌, ◌≤◌, ◌+◌, ◌⊎◌, ℕ, Bool, false, List, Option, None, option_map, option_and_then, codes}
+-- What the words of a command line ask for. `clap` parts them by `commands`: it gives the name of a command, and rows that
+-- have the words of that command under their ids.
+use Rattle.std.specs.Prelude.{◌≡◌, ◌≢◌, ◌≤◌, ◌+◌, ◌⊎◌, ℕ, Bool, false, if◌then◌else◌, List, [], Option, Some, None, option_map, option_and_then, codes}
 use Rattle.std.specs.Option.{option_map_or}
 use Rattle.std.specs.Str.{bytes_eq}
-use Rattle.clap.specs.Matches.{first_value, matched_of, raw_values}
+use Rattle.clap.specs.Words.{IsAmong, Kinds, Row, Text, all_of, fault_of, first_of, subcommand_of}
 use Rattle.clap.specs.declared.error.kind.ErrorKind.{ErrorKind}
-use Rattle.clap.specs.declared.error.kind.ErrorKind.TheVariants.{DisplayHelp, DisplayVersion}
-use Rattle.clap.specs.declared.parser.matches.Found.{Found}
+use Rattle.clap.specs.declared.error.kind.ErrorKind.TheVariants.{DisplayHelp, DisplayVersion, OutOfMemory}
 use Rattle.mdmp_map.specs.Ranges.{address_end}
+use Rattle.mdmp_words.specs.CommandLine.{commands}
 use Rattle.mdmp_words.specs.HexWords.{length_limit, span_named}
 use Rattle.mdmp_words.specs.OptionWords.{Sizes, limits_named, sizes_of, types_named}
 use Rattle.mdmp_words.specs.declared.hex_words.Span.{Span}
@@ -49,47 +50,93 @@ plain request = record {
   command = plain_command request.command;
 }
 
--- ---- what the parted words ask for
+-- ---- what the words of a command ask for
 
 -- a command over the file whose name stands under this id
-abbrev pub named_over : Found → List ℕ → PlainCommand → Option Plain
-named_over words id command =
+abbrev pub named_over : List Row → Text → PlainCommand → Option Plain
+named_over rows id command =
     option_and_then
-    (λ sizes. option_map (λ file. record { file = file; sizes = sizes; command = command }) (first_value words id))
-    (limits_named (first_value words (codes "window")) (first_value words (codes "name")))
+    (λ sizes. option_map (λ file. record { file = file; sizes = sizes; command = command }) (first_of id rows))
+    (limits_named (first_of (codes "window") rows) (first_of (codes "name") rows))
 
-abbrev pub check_named : Found → Option Plain
-check_named words = named_over words (codes "FILE") check
+abbrev pub check_named : List Row → Option Plain
+check_named rows = named_over rows (codes "FILE") check
+
+-- the flag under this id is set
+abbrev pub is_set : List Row → Text → Bool
+is_set rows id = option_map_or (λ flag. bytes_eq flag (codes "true")) (first_of id rows) false
 
 -- the symbol files are told where the flag is set
-abbrev pub list_named : Found → Option Plain
-list_named words =
-    let pdb = option_map_or (λ flag. bytes_eq flag (codes "true")) (first_value words (codes "pdb")) false in
-    named_over words (codes "FILE") (list pdb)
+abbrev pub list_named : List Row → Option Plain
+list_named rows = named_over rows (codes "FILE") (list (is_set rows (codes "pdb")))
 
-abbrev pub hex_named : Found → Option Plain
-hex_named words =
+abbrev pub hex_named : List Row → Option Plain
+hex_named rows =
     option_and_then
     (λ address. option_and_then
-    (λ length. option_and_then (λ span. named_over words (codes "FILE") (hex span)) (span_named address length))
-    (first_value words (codes "LENGTH")))
-    (first_value words (codes "ADDRESS"))
+    (λ length. option_and_then (λ span. named_over rows (codes "FILE") (hex span)) (span_named address length))
+    (first_of (codes "LENGTH") rows))
+    (first_of (codes "ADDRESS") rows)
 
-abbrev pub copy_named : Found → Option Plain
-copy_named words =
+abbrev pub copy_named : List Row → Option Plain
+copy_named rows =
     option_and_then
     (λ target. option_and_then
-    (λ types. option_and_then (λ set. named_over words (codes "IN") (copy target set)) (types_named types))
-    (option_map raw_values (matched_of words (codes "TYPE"))))
-    (first_value words (codes "OUT"))
+    (λ types. option_and_then (λ set. named_over rows (codes "IN") (copy target set)) (types_named types))
+    (all_of (codes "TYPE") rows))
+    (first_of (codes "OUT") rows)
 
 -- the command of this name gives the request that its words ask for
-pub record NamesBy (name : List ℕ) (words : Found) (result : Option Request) : Type 0 where
-  pub checks : name ≡ codes "check" → option_map plain result ≡ check_named words
-  pub lists : name ≡ codes "list" → option_map plain result ≡ list_named words
-  pub prints : name ≡ codes "hex" → option_map plain result ≡ hex_named words
-  pub copies : name ≡ codes "copy" → option_map plain result ≡ copy_named words
+pub record NamesBy (name : Text) (rows : List Row) (result : Option Request) : Type 0 where
+  pub checks : name ≡ codes "check" → option_map plain result ≡ check_named rows
+  pub lists : name ≡ codes "list" → option_map plain result ≡ list_named rows
+  pub prints : name ≡ codes "hex" → option_map plain result ≡ hex_named rows
+  pub copies : name ≡ codes "copy" → option_map plain result ≡ copy_named rows
   pub others : name ≢ codes "check" → name ≢ codes "list" → name ≢ codes "hex" → name ≢ codes "copy" → result ≡ None
+
+-- ---- what the words of a command line ask for
+
+-- the request of the command of this name
+abbrev pub request_by : Text → List Row → Option Plain
+request_by name rows =
+    if bytes_eq name (codes "check") then check_named rows
+    else if bytes_eq name (codes "list") then list_named rows
+    else if bytes_eq name (codes "hex") then hex_named rows
+    else if bytes_eq name (codes "copy") then copy_named rows
+    else None
+
+-- the request of a command and its words, where there is a command
+abbrev pub request_in : Option (Text × List Row) → Option Plain
+request_in used = option_and_then (λ command. request_by command.0 command.1) used
+
+-- the request that words ask for
+unfoldable pub request_named : List Text → Option Plain
+request_named words = request_in (subcommand_of commands words)
+
+-- what words may be refused for, or ask for in the place of a command
+unfoldable pub faults : List Text → Kinds
+faults words = fault_of commands words
+
+-- the answer to a command and its words: a request where they ask for one
+abbrev pub AsksIn : Option (Text × List Row) → Asked → Type 0
+AsksIn used (Run request) = request_in used ≡ Some (plain request)
+AsksIn used (Help text) = ⊥
+AsksIn used (Refused text) = ⊥
+AsksIn used Bad = request_in used ≡ None
+AsksIn used Memory = ⊥
+
+-- the words have a fault that is not the wish for help or the version
+abbrev pub AreRefused : List Text → Type 0
+AreRefused words = (kind : ErrorKind) × IsAmong kind (faults words) × (kind ≢ DisplayHelp) × (kind ≢ DisplayVersion)
+
+-- the answer to words: the request that they ask for, or that they ask for none, where they have no fault; help or the version
+-- where they wish for one; a text that refuses them where they have another fault; want of memory at any time
+abbrev pub AsksFor : List Text → Asked → Type 0
+AsksFor words (Run request) = (faults words ≡ []) × (request_named words ≡ Some (plain request))
+AsksFor words (Help text) = IsAmong DisplayHelp (faults words) ⊎ IsAmong DisplayVersion (faults words)
+AsksFor words (Refused text) = AreRefused words
+AsksFor words Bad = (faults words ≡ []) × (request_named words ≡ None)
+AsksFor words Memory = Unit {0}
 
 -- ---- what is true of each answer
 
@@ -123,6 +170,6 @@ AsksNothing Memory = Unit {0}
 abbrev pub IsTextOf : ErrorKind → Asked → Type 0
 IsTextOf kind (Run request) = ⊥
 IsTextOf kind (Help text) = (kind ≡ DisplayHelp) ⊎ (kind ≡ DisplayVersion)
-IsTextOf kind (Refused text) = (kind ≢ DisplayHelp) × (kind ≢ DisplayVersion)
+IsTextOf kind (Refused text) = (kind ≢ DisplayHelp) × (kind ≢ DisplayVersion) × (kind ≢ OutOfMemory)
 IsTextOf kind Bad = ⊥
 IsTextOf kind Memory = Unit {0}

@@ -1,8 +1,8 @@
 //! What the words of a command line ask for.
-ghost use Rattle.std.specs.Prelude.{◌≡◌, [], IfSome, option_map, codes};
-ghost use Rattle.clap.specs.Matches.{found_of, has_subcommand};
+ghost use Rattle.std.specs.Prelude.{◌≡◌, [], IfSome, map, option_map};
+ghost use Rattle.clap.specs.Words.{all_of, first_of, found_of, rows_of, subcommand_rows_of};
 ghost use Rattle.clap.specs.Values.{kind_of};
-ghost use Rattle.mdmp_words.specs.Requests.{AsksNothing, IsTextOf, IsValid, IsWithin, NamesBy, check_named, copy_named, hex_named, list_named, named_over, plain, plain_command};
+ghost use Rattle.mdmp_words.specs.Requests.{AsksFor, AsksIn, AsksNothing, IsTextOf, IsValid, IsWithin, NamesBy, check_named, copy_named, hex_named, is_set, list_named, named_over, plain, plain_command};
 
 use crate::command_line::command_line;
 use crate::hex_words::span_of;
@@ -17,6 +17,7 @@ use std::alloc::Global;
 pub fn request_of<'a>(alloc: Global, words: &'a [&'a str]) -> Asked<'a>
     ensures valid { IsValid result }
     ensures empty { words.entry.now ≡ [] → AsksNothing result }
+    ensures asks { AsksFor (map (λ word. word.now) words.entry.now) result }
 {
     let Ok(mut commands) = command_line(alloc) else {
         return Asked::Memory;
@@ -52,7 +53,8 @@ fn told_of<'a>(alloc: Global, error: &Error) -> Asked<'a>
 
 /// What is asked for by the command that was used.
 fn asked_by<'a>(matches: &ArgMatches<'a>) -> Asked<'a>
-    ensures { IsValid result }
+    ensures valid { IsValid result }
+    ensures asks { AsksIn (subcommand_rows_of matches.now) result }
 {
     let Some((name, own)) = matches.subcommand() else {
         return Asked::Bad;
@@ -65,7 +67,7 @@ fn asked_by<'a>(matches: &ArgMatches<'a>) -> Asked<'a>
 
 /// The request of the command of this name.
 fn named_request<'a>(name: &str, matches: &ArgMatches<'a>) -> Option<Request<'a>>
-    ensures named { NamesBy name.now (found_of matches.now) result }
+    ensures named { NamesBy name.now (rows_of (found_of matches.now)) result }
     ensures within { IfSome result (λ request. IsWithin request.command) }
 {
     match name {
@@ -78,48 +80,69 @@ fn named_request<'a>(name: &str, matches: &ArgMatches<'a>) -> Option<Request<'a>
 }
 
 fn check_request<'a>(matches: &ArgMatches<'a>) -> Option<Request<'a>>
-    ensures named { option_map plain result ≡ check_named (found_of matches.now) }
+    ensures named { option_map plain result ≡ check_named (rows_of (found_of matches.now)) }
     ensures within { IfSome result (λ request. IsWithin request.command) }
 {
     request_over(matches, "FILE", Command::Print(Print::Check))
 }
 
 fn list_request<'a>(matches: &ArgMatches<'a>) -> Option<Request<'a>>
-    ensures named { option_map plain result ≡ list_named (found_of matches.now) }
+    ensures named { option_map plain result ≡ list_named (rows_of (found_of matches.now)) }
     ensures within { IfSome result (λ request. IsWithin request.command) }
 {
-    let pdb = matches.get_str("pdb").is_some_and(|flag| flag == "true");
+    let pdb = is_set(matches, "pdb");
     request_over(matches, "FILE", Command::Print(Print::List { pdb }))
 }
 
 fn hex_request<'a>(matches: &ArgMatches<'a>) -> Option<Request<'a>>
-    ensures named { option_map plain result ≡ hex_named (found_of matches.now) }
+    ensures named { option_map plain result ≡ hex_named (rows_of (found_of matches.now)) }
     ensures within { IfSome result (λ request. IsWithin request.command) }
 {
-    let span = span_of(matches.get_str("ADDRESS")?, matches.get_str("LENGTH")?)?;
+    let span = span_of(word_of(matches, "ADDRESS")?, word_of(matches, "LENGTH")?)?;
     request_over(matches, "FILE", Command::Print(Print::Hex(span)))
 }
 
 fn copy_request<'a>(matches: &ArgMatches<'a>) -> Option<Request<'a>>
-    ensures named { option_map plain result ≡ copy_named (found_of matches.now) }
+    ensures named { option_map plain result ≡ copy_named (rows_of (found_of matches.now)) }
     ensures within { IfSome result (λ request. IsWithin request.command) }
 {
-    let target = matches.get_str("OUT")?;
-    let types = types_of(matches.get_strs("TYPE")?)?;
+    let target = word_of(matches, "OUT")?;
+    let types = types_of(words_of(matches, "TYPE")?)?;
     request_over(matches, "IN", Command::Copy { target, types })
 }
 
 /// A command over the file whose name stands under this id, within the limits that were given.
 fn request_over<'a>(matches: &ArgMatches<'a>, id: &str, command: Command<'a>) -> Option<Request<'a>>
     ensures named { option_map plain result
-        ≡ named_over (found_of matches.now) id.now (plain_command command.entry) }
+        ≡ named_over (rows_of (found_of matches.now)) id.now (plain_command command.entry) }
     ensures same { IfSome result (λ request. request.command ≡ command.entry) }
 {
-    let limits = limits_of(matches.get_str("window"), matches.get_str("name"))?;
-    let file = matches.get_str(id)?;
+    let limits = limits_of(word_of(matches, "window"), word_of(matches, "name"))?;
+    let file = word_of(matches, id)?;
     Some(Request {
         file,
         limits,
         command,
     })
+}
+
+/// Whether the flag under this id is set.
+fn is_set(matches: &ArgMatches<'_>, id: &str) -> bool
+    ensures { result ≡ is_set (rows_of (found_of matches.now)) id.now }
+{
+    word_of(matches, id).is_some_and(|flag| flag == "true")
+}
+
+/// The word under this id.
+fn word_of<'a>(matches: &ArgMatches<'a>, id: &str) -> Option<&'a str>
+    ensures { option_map (λ word. word.now) result ≡ first_of id.now (rows_of (found_of matches.now)) }
+{
+    matches.get_str(id)
+}
+
+/// The words under this id.
+fn words_of<'m, 'a>(matches: &'m ArgMatches<'a>, id: &str) -> Option<&'m [&'a str]>
+    ensures { option_map (λ words. map (λ word. word.now) words.now) result ≡ all_of id.now (rows_of (found_of matches.now)) }
+{
+    matches.get_strs(id)
 }

@@ -1,84 +1,130 @@
 //! The commands and their words, as `clap` reads them. It takes its memory from `Global` alone.
+ghost use Rattle.std.specs.Prelude.{◌≡◌, IfOk, false};
+ghost use Rattle.clap.specs.Words.{app_of, new_app, rule_of, shape_of};
+ghost use Rattle.mdmp_words.specs.CommandLine.{check_command, commands, copy_command, flag, has_globals, hex_command, limited, list_command, number_option, program, word, words};
+
 use crate::help;
 use clap::{Arg, ArgAction, Command};
 use std::alloc::{AllocError, Global};
 
 /// The commands of the program.
-pub(crate) fn command_line<'a>(alloc: Global) -> Result<Command<'a>, AllocError> {
-    Command::new(alloc, "mdmp")
-        .bin_name("mdmp")?
-        .version(help::VERSION)
-        .about(help::ABOUT)
-        .after_help(help::AFTER)
-        .no_binary_name(true)
-        .subcommand_required(true)
+pub(crate) fn command_line<'a>(alloc: Global) -> Result<Command<'a>, AllocError>
+    ensures { IfOk result (λ made. app_of made ≡ commands) }
+{
+    program(alloc)?
         .subcommand(check_command(alloc)?)?
         .subcommand(list_command(alloc)?)?
         .subcommand(hex_command(alloc)?)?
         .subcommand(copy_command(alloc)?)
 }
 
-fn check_command<'a>(alloc: Global) -> Result<Command<'a>, AllocError> {
-    let command = Command::new(alloc, "check")
-        .about(help::CHECK_ABOUT)
-        .after_help(help::CHECK_AFTER)
-        .arg(word(alloc, "FILE", help::FILE))?;
+/// The program, with no command yet.
+fn program<'a>(alloc: Global) -> Result<Command<'a>, AllocError>
+    ensures { IfOk result (λ made. app_of made ≡ program) }
+{
+    let made = described(alloc, "mdmp", help::ABOUT, help::AFTER)
+        .version(help::VERSION)
+        .no_binary_name(true)
+        .subcommand_required(true);
+    made.bin_name("mdmp")
+}
+
+/// A command of this name, with what help says of it above its words and under them.
+fn described<'a>(alloc: Global, name: &'a str, above: &'a str, under: &'a str) -> Command<'a>
+    ensures app { app_of result ≡ new_app name.entry.now }
+    ensures local { has_globals result ≡ false }
+{
+    Command::new(alloc, name).about(above).after_help(under)
+}
+
+fn check_command<'a>(alloc: Global) -> Result<Command<'a>, AllocError>
+    ensures shape { IfOk result (λ made. shape_of made ≡ check_command) }
+    ensures local { IfOk result (λ made. has_globals made ≡ false) }
+{
+    let file = word(alloc, "FILE", help::FILE);
+    let command = described(alloc, "check", help::CHECK_ABOUT, help::CHECK_AFTER).arg(file)?;
     with_limits(alloc, command)
 }
 
-fn list_command<'a>(alloc: Global) -> Result<Command<'a>, AllocError> {
-    let pdb = Arg::new(alloc, "pdb")
-        .long("pdb")
-        .action(ArgAction::SetTrue)
-        .help(help::PDB);
-    let command = Command::new(alloc, "list")
-        .about(help::LIST_ABOUT)
-        .after_help(help::LIST_AFTER)
+fn list_command<'a>(alloc: Global) -> Result<Command<'a>, AllocError>
+    ensures shape { IfOk result (λ made. shape_of made ≡ list_command) }
+    ensures local { IfOk result (λ made. has_globals made ≡ false) }
+{
+    let command = described(alloc, "list", help::LIST_ABOUT, help::LIST_AFTER)
         .arg(word(alloc, "FILE", help::FILE))?
-        .arg(pdb)?;
+        .arg(flag(alloc, "pdb", help::PDB))?;
     with_limits(alloc, command)
 }
 
-fn hex_command<'a>(alloc: Global) -> Result<Command<'a>, AllocError> {
-    let command = Command::new(alloc, "hex")
-        .about(help::HEX_ABOUT)
-        .after_help(help::HEX_AFTER)
+fn hex_command<'a>(alloc: Global) -> Result<Command<'a>, AllocError>
+    ensures shape { IfOk result (λ made. shape_of made ≡ hex_command) }
+    ensures local { IfOk result (λ made. has_globals made ≡ false) }
+{
+    let command = described(alloc, "hex", help::HEX_ABOUT, help::HEX_AFTER)
         .arg(word(alloc, "FILE", help::FILE))?
         .arg(word(alloc, "ADDRESS", help::ADDRESS))?
         .arg(word(alloc, "LENGTH", help::LENGTH))?;
     with_limits(alloc, command)
 }
 
-fn copy_command<'a>(alloc: Global) -> Result<Command<'a>, AllocError> {
-    let types = word(alloc, "TYPE", help::TYPE)
-        .action(ArgAction::Append)
-        .num_args(1..);
-    let command = Command::new(alloc, "copy")
-        .about(help::COPY_ABOUT)
-        .after_help(help::COPY_AFTER)
+fn copy_command<'a>(alloc: Global) -> Result<Command<'a>, AllocError>
+    ensures shape { IfOk result (λ made. shape_of made ≡ copy_command) }
+    ensures local { IfOk result (λ made. has_globals made ≡ false) }
+{
+    let command = described(alloc, "copy", help::COPY_ABOUT, help::COPY_AFTER)
         .arg(word(alloc, "IN", help::IN))?
         .arg(word(alloc, "OUT", help::OUT))?
-        .arg(types)?;
+        .arg(words(alloc, "TYPE", help::TYPE))?;
     with_limits(alloc, command)
 }
 
 /// A word that has to be there, at its place.
-fn word<'a>(alloc: Global, name: &'a str, help: &'a str) -> Arg<'a> {
+fn word<'a>(alloc: Global, name: &'a str, help: &'a str) -> Arg<'a>
+    ensures rule { rule_of result ≡ word name.entry.now }
+    ensures local { result.global ≡ false }
+{
     Arg::new(alloc, name)
         .required(true)
         .action(ArgAction::Set)
         .help(help)
 }
 
+/// One word or more, behind the others.
+fn words<'a>(alloc: Global, name: &'a str, help: &'a str) -> Arg<'a>
+    ensures rule { rule_of result ≡ words name.entry.now }
+    ensures local { result.global ≡ false }
+{
+    word(alloc, name, help)
+        .action(ArgAction::Append)
+        .num_args(1..)
+}
+
+/// An option that is there or not.
+fn flag<'a>(alloc: Global, name: &'a str, help: &'a str) -> Arg<'a>
+    ensures rule { rule_of result ≡ flag name.entry.now }
+    ensures local { result.global ≡ false }
+{
+    Arg::new(alloc, name)
+        .long(name)
+        .action(ArgAction::SetTrue)
+        .help(help)
+}
+
 /// A command with the options that limit how a file is read.
-fn with_limits<'a>(alloc: Global, command: Command<'a>) -> Result<Command<'a>, AllocError> {
+fn with_limits<'a>(alloc: Global, command: Command<'a>) -> Result<Command<'a>, AllocError>
+    ensures app { IfOk result (λ made. app_of made ≡ limited (app_of command.entry)) }
+    ensures local { IfOk result (λ made. has_globals made ≡ has_globals command.entry) }
+{
     command
         .arg(number_option(alloc, "window", help::WINDOW))?
         .arg(number_option(alloc, "name", help::NAME))
 }
 
 /// An option that takes a number.
-fn number_option<'a>(alloc: Global, name: &'a str, help: &'a str) -> Arg<'a> {
+fn number_option<'a>(alloc: Global, name: &'a str, help: &'a str) -> Arg<'a>
+    ensures rule { rule_of result ≡ number_option name.entry.now }
+    ensures local { result.global ≡ false }
+{
     Arg::new(alloc, name)
         .long(name)
         .value_name("N")

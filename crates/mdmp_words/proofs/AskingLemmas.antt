@@ -1,0 +1,100 @@
+-- From what a parse gives to what the words ask for.
+use Rattle.std.proofs.Common.{◌≡◌, ◌≢◌, ◌∙◌, sym, ap, subst, inl, inr, refl, Bool, true, false, cond, List, [], ◌∷◌, Option, Some, None, option_map, Bor, map, length, codes}
+use Rattle.std.specs.Bool.{Decides}
+use Rattle.std.specs.Str.{bytes_eq}
+use Rattle.std.proofs.lemmas.Slice.Eq.{bytes_eq-Decides}
+use Rattle.clap.specs.Faults.{fault_of, is_simple_and_free}
+use Rattle.clap.specs.Words.{App, HasKind, HasMatchesOf, IsAmong, Row, Text, is_simple, kind_of, subcommand_name_of, subcommand_of, subcommand_rows_of}
+use Rattle.clap.specs.declared.error.Error.{Error}
+use Rattle.clap.specs.declared.error.kind.ErrorKind.TheVariants.{MissingSubcommand}
+use Rattle.clap.specs.declared.parser.matches.ArgMatches.{ArgMatches}
+use Rattle.clap.specs.declared.parser.matches.ArgMatches.TheViews.{out-ArgMatches}
+use Rattle.clap.proofs.OnLiterals.{clap_on_literals}
+use Rattle.mdmp_words.specs.CommandLine.{commands}
+use Rattle.mdmp_words.specs.Requests.{AreRefused, AsksFor, AsksIn, IsTextOf, NamesBy, faults, plain, request_by, request_in, request_named}
+use Rattle.mdmp_words.specs.declared.request.Asked.{Asked}
+use Rattle.mdmp_words.specs.declared.request.Asked.TheVariants.{Run, Help, Refused, Bad, Memory}
+use Rattle.mdmp_words.specs.declared.request.Request.{Request}
+
+-- two parts of what may be there
+both : {X A B : Type 0} (f : X → A) (g : X → B) (x : Option X) (a : A) (b : B) → Some a ≡ option_map f x →
+    Some b ≡ option_map (λ (p : A × B). p.1) (option_map {U = A × B} (λ x. (f x, g x)) x) → option_map {U = A × B} (λ x. (f x, g x)) x ≡ Some (a, b)
+both f g None a b first second = cc
+both f g (Some x) a b first second = cc
+
+-- the command that was used, and its words
+pub used : (matches : ArgMatches) (name : Text) (rows : List Row) → Some name ≡ subcommand_name_of matches →
+    Some rows ≡ option_map (λ p. p.1) (subcommand_rows_of matches) → subcommand_rows_of matches ≡ Some (name, rows)
+used matches name rows named parted = both _ _ (out-ArgMatches matches).subcommand name rows named parted
+
+-- a value that is one where two words are equal, and another where they are not
+tested : {X : Type 0} (word other : Text) (value same unlike : X) → (word ≡ other → value ≡ same) → (word ≢ other → value ≡ unlike) →
+    value ≡ cond (bytes_eq word other) same unlike
+tested word other value same unlike where_same where_unlike = go (bytes_eq word other) (bytes_eq-Decides word other)
+  where
+    go : (test : Bool) → Decides test (word ≡ other) → value ≡ cond test same unlike
+    go true decides = where_same (decides.0 refl)
+    go false decides = where_unlike (λ e. let h : false ≡ true = decides.1 e in cc)
+
+-- the request of a command, by its name
+pub named_by : (name : Text) (rows : List Row) (result : Option Request) → NamesBy name rows result → option_map plain result ≡ request_by name rows
+named_by name rows result names =
+    tested name (codes "check") _ _ _ names.checks
+    (λ no_check. tested name (codes "list") _ _ _ names.lists
+    (λ no_list. tested name (codes "hex") _ _ _ names.prints
+    (λ no_hex. tested name (codes "copy") _ _ _ names.copies
+    (λ no_copy. ap (option_map plain) (names.others no_check no_list no_hex no_copy)))))
+
+-- `clap` says of these commands which words it takes, and how it parts them
+are_free : is_simple_and_free commands ≡ true
+unfolding clap_on_literals
+are_free = refl
+
+are_simple : is_simple commands ≡ true
+unfolding clap_on_literals
+are_simple = refl
+
+asks_named : (words : List Text) (used : Option (Text × List Row)) (asked : Asked) → fault_of commands words ≡ [] → used ≡ subcommand_of commands words →
+    AsksIn used asked → AsksFor words asked
+unfolding faults request_named
+asks_named words used (Run request) none is asks = (none, ap request_in (sym is) ∙ asks)
+asks_named words used (Help text) none is asks = absurd asks
+asks_named words used (Refused text) none is asks = absurd asks
+asks_named words used Bad none is asks = (none, ap request_in (sym is) ∙ asks)
+asks_named words used Memory none is asks = tt
+
+-- a parse that succeeds
+pub parsed : (line : App) (words : List Text) (matches : ArgMatches) (asked : Asked) → line ≡ commands → (is_simple_and_free line ≡ true → fault_of line words ≡ []) →
+    HasMatchesOf line words matches → AsksIn (subcommand_rows_of matches) asked → AsksFor words asked
+parsed line words matches asked is none has asks =
+    asks_named words (subcommand_rows_of matches) asked (ap (λ (a : App). fault_of a words) (sym is) ∙ none (ap is_simple_and_free is ∙ are_free))
+    ((has (ap is_simple is ∙ are_simple)).1 ∙ ap (λ (a : App). subcommand_of a words) is) asks
+
+asks_text : (words : List Text) (error : Error) (asked : Asked) → HasKind (faults words) error → IsTextOf (kind_of error) asked → AsksFor words asked
+asks_text words error (Run request) has told = absurd told
+asks_text words error (Help text) (inl memory) (inl help) = absurd cc
+asks_text words error (Help text) (inl memory) (inr version) = absurd cc
+asks_text words error (Help text) (inr among) (inl help) = inl (subst (λ kind. IsAmong kind (faults words)) help among)
+asks_text words error (Help text) (inr among) (inr version) = inr (subst (λ kind. IsAmong kind (faults words)) version among)
+asks_text words error (Refused text) (inl memory) told = absurd (told.2 memory)
+asks_text words error (Refused text) (inr among) told = (kind_of error, among, told.0, told.1)
+asks_text words error Bad has told = absurd told
+asks_text words error Memory has told = tt
+
+-- a parse that fails
+pub failed : (line : App) (words : List Text) (error : Error) (asked : Asked) → line ≡ commands → (is_simple_and_free line ≡ true → HasKind (fault_of line words) error) →
+    IsTextOf (kind_of error) asked → AsksFor words asked
+unfolding faults
+failed line words error asked is has told =
+    asks_text words error asked (subst (λ (a : App). HasKind (fault_of a words) error) is (has (ap is_simple_and_free is ∙ are_free))) told
+
+-- no words name no command
+no_command : IsAmong MissingSubcommand (fault_of commands [])
+unfolding clap_on_literals
+no_command = inl refl
+
+-- and are refused
+pub none_refused : (words : List (Bor Text)) → length words ≡ 0 → AreRefused (map (λ word. word.now) words)
+unfolding faults
+none_refused [] none = (MissingSubcommand, no_command, (λ h. cc), (λ h. cc))
+none_refused (word ∷ words) none = cc

@@ -1,0 +1,80 @@
+-- What some words ask for, computed by the definitions.
+use Rattle.std.proofs.Common.{◌≡◌, ℕ, List, [], ◌∷◌, Option, Some, None, true, false, codes, refl}
+use Rattle.clap.specs.Words.{Text}
+use Rattle.clap.specs.declared.error.kind.ErrorKind.TheVariants.{DisplayHelp, DisplayVersion, InvalidSubcommand, MissingRequiredArgument, MissingSubcommand, UnknownArgument}
+use Rattle.clap.proofs.OnLiterals.{clap_on_literals}
+use Rattle.mdmp_words.specs.Requests.{Plain, PlainCommand, check, copy, faults, hex, list, request_named}
+
+-- a command over the file of this name, with these limits
+abbrev over : Text → ℕ → ℕ → PlainCommand → Option Plain
+over file window name command = Some (record { file = file; sizes = record { window = window; name = name }; command = command })
+
+-- ---- requests
+
+abbrev check_words : List Text
+check_words = codes "check" ∷ codes "a.dmp" ∷ []
+
+check-request : request_named check_words ≡ over (codes "a.dmp") 65536 4096 check
+unfolding clap_on_literals request_named
+check-request = refl
+
+check-faults : faults check_words ≡ []
+unfolding clap_on_literals faults
+check-faults = refl
+
+list-request : request_named (codes "list" ∷ codes "a.dmp" ∷ []) ≡ over (codes "a.dmp") 65536 4096 (list false)
+unfolding clap_on_literals request_named
+list-request = refl
+
+list_pdb-request : request_named (codes "list" ∷ codes "a.dmp" ∷ codes "--pdb" ∷ []) ≡ over (codes "a.dmp") 65536 4096 (list true)
+unfolding clap_on_literals request_named
+list_pdb-request = refl
+
+hex-request : request_named (codes "hex" ∷ codes "f" ∷ codes "0x10" ∷ codes "17" ∷ codes "--window" ∷ codes "168" ∷ [])
+    ≡ over (codes "f") 168 4096 (hex (record { address = 16; length = 17 }))
+unfolding clap_on_literals request_named
+hex-request = refl
+
+copy-request : request_named (codes "copy" ∷ codes "--name=8" ∷ codes "a" ∷ codes "b" ∷ codes "3" ∷ codes "4" ∷ [])
+    ≡ over (codes "a") 65536 8 (copy (codes "b") (3 ∷ 4 ∷ []))
+unfolding clap_on_literals request_named
+copy-request = refl
+
+-- ---- words that are parted, and ask for no request
+
+abbrev no_address-words : List Text
+no_address-words = codes "hex" ∷ codes "f" ∷ codes "0x" ∷ codes "1" ∷ []
+
+no_address-request : request_named no_address-words ≡ None
+unfolding clap_on_literals request_named
+no_address-request = refl
+
+no_address-faults : faults no_address-words ≡ []
+unfolding clap_on_literals faults
+no_address-faults = refl
+
+-- ---- words that ask for a text, or are refused
+
+help-faults : faults (codes "--help" ∷ []) ≡ DisplayHelp ∷ []
+unfolding clap_on_literals faults
+help-faults = refl
+
+hex_help-faults : faults (codes "hex" ∷ codes "-h" ∷ []) ≡ DisplayHelp ∷ []
+unfolding clap_on_literals faults
+hex_help-faults = refl
+
+version-faults : faults (codes "--version" ∷ []) ≡ DisplayVersion ∷ []
+unfolding clap_on_literals faults
+version-faults = refl
+
+other_command-faults : faults (codes "move" ∷ codes "a" ∷ []) ≡ UnknownArgument ∷ InvalidSubcommand ∷ []
+unfolding clap_on_literals faults
+other_command-faults = refl
+
+no_file-faults : faults (codes "check" ∷ []) ≡ MissingRequiredArgument ∷ []
+unfolding clap_on_literals faults
+no_file-faults = refl
+
+no_words-faults : faults [] ≡ MissingSubcommand ∷ []
+unfolding clap_on_literals faults
+no_words-faults = refl
