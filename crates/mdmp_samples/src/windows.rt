@@ -1,4 +1,4 @@
-//! The list of a dump, by small windows.
+//! The list of a dump, by small windows and by the greatest.
 
 use crate::status::{DIFFERS, UNWRITTEN};
 use mdmp_source::WriteOut;
@@ -6,10 +6,10 @@ use mdmp_tool::run_words;
 use std::alloc::Global;
 use std::io::Write;
 
-/// Prints that `list` prints of a dump by small windows what it prints by the usual one.
+/// Prints that `list` prints of a dump by small windows, and by the greatest, what it prints by the usual one.
 pub fn tell_windows(rt: &HostRuntime, dump: &str) -> Result<(), u8> {
     let (usual_status, usual) = listed(rt, &["list", dump]);
-    for window in ["168", "169", "255"] {
+    for window in ["168", "169", "255", "1073741824"] {
         let (status, text) = listed(rt, &["list", dump, "--window", window]);
         if status != usual_status || text[..] != usual[..] {
             return Err(DIFFERS);
@@ -17,7 +17,7 @@ pub fn tell_windows(rt: &HostRuntime, dump: &str) -> Result<(), u8> {
     }
     writeln!(
         rt.stdout(),
-        "{dump}: the same list by windows of 168, 169 and 255 bytes"
+        "{dump}: the same list by windows of 168, 169, 255 and 1073741824 bytes"
     )
     .map_err(|_| UNWRITTEN)
 }

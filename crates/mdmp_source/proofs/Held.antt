@@ -56,19 +56,18 @@ written_behind v items bytes held len count n same count_is bytes_len held_is ro
     }
 
 -- a window whose fill failed is as it was
-pub is_kept : (place end room room' len count : ℕ) (held bytes items : List ℕ) → room' ≡ room → WrittenBehind held bytes len count items
-    → window_of place end room' (take len items) ≡ window_of place end room held
-is_kept place end room room' len count held bytes items same written =
-    ap (λ r. window_of place end r (take len items)) same ∙ ap (window_of place end room) written.kept
+pub is_kept : (place end room len count : ℕ) (held bytes items : List ℕ) → WrittenBehind held bytes len count items
+    → window_of place end room (take len items) ≡ window_of place end room held
+is_kept place end room len count held bytes items written = ap (window_of place end room) written.kept
 
 -- and one whose fill succeeded has more
-pub is_filled : (content : Option (List ℕ)) (place end room room' len count : ℕ) (held bytes items : List ℕ) → room' ≡ room → WrittenBehind held bytes len count items
+pub is_filled : (content : Option (List ℕ)) (place end room len count : ℕ) (held bytes items : List ℕ) → WrittenBehind held bytes len count items
     → length held ≡ len → count ≡ next_len_of (window_of place end room held)
     → IfSome content (λ file. bytes ≡ bytes_at file (place + len) (length bytes))
-    → IsFilled content (window_of place end room held) (window_of place end room' (take (len + count) items))
-is_filled content place end room room' len count held bytes items same written held_len next known = record {
+    → IsFilled content (window_of place end room held) (window_of place end room (take (len + count) items))
+is_filled content place end room len count held bytes items written held_len next known = record {
   more = bytes;
   more_len = written.all ∙ next;
-  appended = ap (λ r. window_of place end r (take (len + count) items)) same ∙ ap (window_of place end room) written.more;
+  appended = ap (window_of place end room) written.more;
   known = subst (λ k. IfSome content (λ file. bytes ≡ bytes_at file (place + k) (length bytes))) (sym held_len) known;
 }

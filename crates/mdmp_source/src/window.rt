@@ -1,5 +1,5 @@
 //! A window that slides over a stretch of a file.
-ghost use Rattle.std.specs.Prelude.{◌≡◌, ◌≤◌, ◌<◌, ◌+◌, [], ℕ, List, IfErr, IfOk, IsOk, OnErr, OnOk, drop, length, nat_lt, take, vec_len};
+ghost use Rattle.std.specs.Prelude.{◌≡◌, ◌≤◌, ◌<◌, ◌+◌, [], ℕ, List, IfErr, IfOk, IsOk, OnErr, OnOk, drop, length, max, nat_lt, take, vec_capacity, vec_len};
 ghost use Rattle.mdmp_source.specs.Count.{raised, raised_if};
 ghost use Rattle.mdmp_source.specs.Fault.{fault_at};
 ghost use Rattle.mdmp_source.specs.Source.{FailsOnce, FetchesAtMost, IsTold};
@@ -23,7 +23,9 @@ use std::marker::Model;
 // read in place.
 #[derive(Drop)]
 pub struct Window<A: Allocator> {
+    /// As many bytes as were ever wanted at once: a short file touches little of a great window.
     buffer: Vec<u8, A>,
+    room: usize,
     /// Where in the buffer the bytes held begin.
     first: usize,
     /// How many bytes are held.
@@ -38,11 +40,12 @@ impl<A: Allocator> Model for Window<A> {
     ghost view = { λ w. record {
       place = w.place;
       end = w.end;
-      room = vec_len w.buffer;
+      room = w.room;
       held = take w.len (drop w.first w.buffer.items);
     } };
 
-    ghost invariant = { λ w. (w.first + w.len ≤ vec_len w.buffer) × (w.place + w.len ≤ w.end) };
+    ghost invariant = { λ w. (w.first + w.len ≤ vec_len w.buffer) × (w.place + w.len ≤ w.end)
+        × (vec_len w.buffer ≤ w.room) × (w.room ≤ vec_capacity w.buffer) };
 }
 
 impl<A: Allocator> Window<A> {
@@ -52,7 +55,8 @@ impl<A: Allocator> Window<A> {
         ensures { IfOk result (λ w. w ≡ record { place = 0; end = 0; room = room; held = [] }) }
     {
         Ok(Window {
-            buffer: vec![in alloc; 0; room]?,
+            buffer: Vec::with_capacity(alloc, room)?,
+            room,
             first: 0,
             len: 0,
             place: 0,
@@ -92,7 +96,7 @@ impl<A: Allocator> Window<A> {
         ensures value { result ≡ self.now.room }
         ensures fits { length self.now.held ≤ result }
     {
-        self.buffer.len()
+        self.room
     }
 
     /// The bytes held, which are those of the file from the place on.
@@ -108,7 +112,7 @@ impl<A: Allocator> Window<A> {
         ensures { result ≡ next_len_of self.now }
     {
         let left = self.end - self.place - self.len as u64;
-        (self.buffer.len() - self.len).min(left as usize)
+        (self.room - self.len).min(left as usize)
     }
 
     /// Drops the first `count` bytes that are held, and moves the place behind them.
@@ -150,6 +154,7 @@ impl<A: Allocator> Window<A> {
         let at = self.place + self.len as u64;
         move_to_front(&mut self.buffer, self.first, self.len);
         self.first = 0;
+        lengthen(&mut self.buffer, self.len + count);
         source.fetch(at, &mut self.buffer[self.len..self.len + count])?;
         self.len += count;
         Ok(())
@@ -161,6 +166,19 @@ fn move_to_front<A: Allocator>(buffer: &mut Vec<u8, A>, first: usize, len: usize
     requires { first + len ≤ vec_len buffer.old }
     ensures held { take len buffer.new.items ≡ take len (drop first buffer.old.items) }
     ensures len { vec_len buffer.new ≡ vec_len buffer.old }
+    ensures capacity { vec_capacity buffer.new ≡ vec_capacity buffer.old }
 {
     buffer.copy_within(first..first + len, 0);
+}
+
+/// Has the buffer hold at least that many bytes, for which it has memory.
+fn lengthen<A: Allocator>(buffer: &mut Vec<u8, A>, len: usize)
+    requires { len ≤ vec_capacity buffer.old }
+    ensures kept { (n : ℕ) → n ≤ vec_len buffer.old → take n buffer.new.items ≡ take n buffer.old.items }
+    ensures len { vec_len buffer.new ≡ max (vec_len buffer.old) len }
+    ensures capacity { vec_capacity buffer.old ≤ vec_capacity buffer.new }
+{
+    if buffer.len() < len {
+        buffer.resize(len, 0).unwrap();
+    }
 }

@@ -19,11 +19,13 @@ returns-in_err-fetch-clause-err g c =
     let held = take w.len (drop w.first w.buffer.items) in
     let held_len = length-held w.buffer.items w.first w.len (omega (arith, w.buffer.ok.0, c.self.invariant.0)) in
     let next = c.next_len-count.ensures ∙ ap next_len_of (sym c.self.view_is) in
-    let fits : w.len + count ≤ vec_len moved.new.buffer = rw moved.ensures.len (next_fits w.place w.end (vec_len w.buffer) w.len count held held_len (omega (arith, c.self.invariant.0)) next) in
-    let written = written_behind moved.new.buffer c.deref_mut.result.now c.fetch.new.out held w.len count n
-    c.deref_mut.ensures.value (omega arith) c.fetch.auto.out moved.ensures.held fits in
+    let long = c.lengthen in
+    let kept = long.ensures.kept w.len (omega (arith, moved.ensures.len, c.self.invariant.0)) ∙ moved.ensures.held in
+    let fits : w.len + count ≤ vec_len long.new.buffer = omega (arith, long.ensures.len) in
+    let written = written_behind long.new.buffer c.deref_mut.result.now c.fetch.new.out held w.len count n
+    c.deref_mut.ensures.value (omega arith) c.fetch.auto.out kept fits in
     on_err c.from_residual.result
-    (is_kept w.place w.end (vec_len w.buffer) (vec_len moved.new.buffer) w.len count held c.fetch.new.out _ moved.ensures.len written ∙ c.self.view_is)
+    (is_kept w.place w.end w.room w.len count held c.fetch.new.out _ written ∙ c.self.view_is)
 
 pub returns-clause-filled : goal.returns-clause-filled
 returns-clause-filled g c =
@@ -35,10 +37,11 @@ returns-clause-filled g c =
     let held = take w.len (drop w.first w.buffer.items) in
     let held_len = length-held w.buffer.items w.first w.len (omega (arith, w.buffer.ok.0, c.self.invariant.0)) in
     let next = c.next_len-count.ensures ∙ ap next_len_of (sym c.self.view_is) in
-    let fits : w.len + count ≤ vec_len moved.new.buffer = rw moved.ensures.len (next_fits w.place w.end (vec_len w.buffer) w.len count held held_len (omega (arith, c.self.invariant.0)) next) in
-    let written = written_behind moved.new.buffer c.deref_mut.result.now c.fetch.new.out held w.len count n
-    c.deref_mut.ensures.value (omega arith) c.fetch.auto.out moved.ensures.held fits in
-    let filled = is_filled content w.place w.end (vec_len w.buffer) (vec_len moved.new.buffer) w.len count held c.fetch.new.out _ moved.ensures.len written
-    held_len next c.in_ok-fetch.ensures.bytes in
-    let items = (with_items moved.new.buffer (put_mid w.len n c.deref_mut.result.now c.fetch.new.out)).items in
-    subst (λ (old : WindowState). IsFilled content old (window_of w.place w.end (vec_len moved.new.buffer) (take (w.len + count) items))) c.self.view_is filled
+    let long = c.lengthen in
+    let kept = long.ensures.kept w.len (omega (arith, moved.ensures.len, c.self.invariant.0)) ∙ moved.ensures.held in
+    let fits : w.len + count ≤ vec_len long.new.buffer = omega (arith, long.ensures.len) in
+    let written = written_behind long.new.buffer c.deref_mut.result.now c.fetch.new.out held w.len count n
+    c.deref_mut.ensures.value (omega arith) c.fetch.auto.out kept fits in
+    let filled = is_filled content w.place w.end w.room w.len count held c.fetch.new.out _ written held_len next c.in_ok-fetch.ensures.bytes in
+    let items = (with_items long.new.buffer (put_mid w.len n c.deref_mut.result.now c.fetch.new.out)).items in
+    subst (λ (old : WindowState). IsFilled content old (window_of w.place w.end w.room (take (w.len + count) items))) c.self.view_is filled
