@@ -39,14 +39,24 @@ impl<O: Out, A: Allocator> BlockOut<O, A> {
             (λ b. b ≡ record { inner = O.state inner; pending = []; room = room })
             (λ e. e.value ≡ inner) }
     {
-        let Ok(pending) = Vec::with_capacity(alloc, room) else {
+        let Ok(buffer) = Vec::with_capacity(alloc, room) else {
             return Err(AllocFailed { value: inner });
         };
-        Ok(BlockOut {
+        Ok(BlockOut::over(buffer, inner))
+    }
+
+    /// An output with nothing pending, whose block is the room of this buffer. No call takes memory.
+    pub fn over(buffer: Vec<u8, A>, inner: O) -> Self
+        requires none { buffer.items ≡ [] }
+        requires room { 0 < vec_capacity buffer }
+        ensures { result ≡ record { inner = O.state inner; pending = []; room = vec_capacity buffer } }
+    {
+        let room = buffer.capacity();
+        BlockOut {
             inner,
-            pending,
+            pending: buffer,
             room,
-        })
+        }
     }
 
     /// The inner output.

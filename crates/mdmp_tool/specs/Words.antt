@@ -65,11 +65,6 @@ pub record IsOfSystem (source : SourceState) : Type 0 where
   pub store : IsNew source.store None false
   pub fetched : source.fetched ≡ 0
 
--- there was no memory for the blocks, and that was told
-pub record IsWanting (before : Outputs) (status : ℕ) (after : Outputs) : Type 0 where
-  pub own : status ≡ status_of Memory
-  pub told : IsTold before.err (fault_text Memory) after.err
-
 -- this was printed of a file, through blocks: `behind` is what the output behind them came to
 pub record Prints (print : Print) (limit : ℕ) (before : Outputs) (status : ℕ) (after : Outputs) : Type 0 where
   pub old : SourceState
@@ -81,7 +76,7 @@ pub record Prints (print : Print) (limit : ℕ) (before : Outputs) (status : ℕ
 -- how a command ends that prints this of the file of this name, with names up to a limit
 pub data EndsPrint (print : Print) (limit : ℕ) (file : List ℕ) (before : Outputs) (status : ℕ) (after : Outputs) : Type 0 where
   unopened : Refuses 3 (unopened_text file) before status after → EndsPrint print limit file before status after
-  wanting : IsWanting before status after → EndsPrint print limit file before status after
+  wanting : RefusesFault Memory before status after → EndsPrint print limit file before status after
   printed : Prints print limit before status after → EndsPrint print limit file before status after
 
 -- the streams of these types were copied to a file that was made

@@ -117,9 +117,10 @@ fn print_file<R: Files, A: Allocator + Copy, O: Out, E: Out>(
     let Ok(store) = FileStore::open(rt, file) else {
         return refuse_name("cannot open ", file, err);
     };
-    let Ok(mut blocks) = BlockOut::with_room(alloc, BLOCK, out) else {
+    let Ok(buffer) = Vec::with_capacity(alloc, BLOCK) else {
         return tell::<(), E>(Err(ToolFault::Memory), err);
     };
+    let mut blocks = BlockOut::over(buffer, out);
     print_told(alloc, print, Source::new(store), limits, &mut blocks, err).status
 }
 

@@ -65,6 +65,16 @@ fn block_out_keeps_what_was_refused(rt: HostRuntime) -> Result<(), Fail> {
 }
 
 #[test]
+fn block_of_a_buffer_is_its_room(rt: HostRuntime) -> Result<(), Fail> {
+    let inner = patchy_out(rt.alloc(), 100, 100, None)?;
+    let mut blocks = BlockOut::over(Vec::with_capacity(rt.alloc(), 2)?, inner);
+    write_pieces(&rt, &mut blocks, &[b"abc".as_slice()]);
+    assert_taken(&rt, blocks.inner(), b"ab");
+    assert_pending(&rt, &blocks, b"c");
+    Ok(())
+}
+
+#[test]
 fn with_room_succeeds(rt: HostRuntime) -> Result<(), Fail> {
     let inner = patchy_out(rt.alloc(), 5, 5, None)?;
     assert_taken(&rt, &inner, b"");
