@@ -1,9 +1,9 @@
-//! Command lines, over files that the tests write.
+//! Command lines of `check` and `list`, over files that the tests write.
 use crate::runs::{assert_ended, assert_row_ended, run, run_with, write_file};
 use linked_list_allocator::LocalHeap;
 use mdmp_test_support::{
-    BY_SEVEN, BY_WHOLE, FAULTY_TEXT, FAULTY_TOLD, Room, SYSTEM_TEXT, faulty_file, header_of,
-    start_of, system_file,
+    BY_SEVEN, BY_WHOLE, FAULTY_TEXT, FAULTY_TOLD, FAULTY_VERDICTS, Room, SYSTEM_TEXT, faulty_file,
+    header_of, start_of, system_file,
 };
 use std::alloc::Global;
 use std::rt::Files;
@@ -23,33 +23,33 @@ fn run_words_succeeds(rt: HostRuntime) -> Result<(), Fail> {
     write_files(&rt, rt.alloc())?;
     let empty =
         "dump version 0x0000 streams 0 directory 4294967295 checksum 0 time 0 flags 0x0000000000000000\n";
-    let rows: [(&[&str], u8, &str, &str); 7] = [
-        (&["list", "empty.dmp"], 0, empty, ""),
-        (&["list", "system.dmp"], 0, SYSTEM_TEXT, ""),
-        (
-            &["list", "short.dmp"],
-            1,
-            "",
-            "mdmp: file of 31 bytes is too short\n",
-        ),
-        (
-            &["list", "/dev/null"],
-            1,
-            "",
-            "mdmp: file of 0 bytes is too short\n",
-        ),
-        (&["list", "faulty.dmp"], 1, FAULTY_TEXT, FAULTY_TOLD),
-        (&["list", "none.dmp"], 3, "", "mdmp: cannot open none.dmp\n"),
+    let bad = "mdmp: 2 bad entries\n";
+    let short = "mdmp: file of 31 bytes is too short\n";
+    let none = "mdmp: file of 0 bytes is too short\n";
+    let missing = "mdmp: cannot open none.dmp\n";
+    let rows = [
+        ("list", "empty.dmp", 0, empty, ""),
+        ("list", "system.dmp", 0, SYSTEM_TEXT, ""),
+        ("list", "short.dmp", 1, "", short),
+        ("list", "/dev/null", 1, "", none),
+        ("list", "faulty.dmp", 1, FAULTY_TEXT, FAULTY_TOLD),
+        ("list", "none.dmp", 3, "", missing),
         // A directory is opened, and gives no bytes.
-        (&["list", "."], 3, "", "mdmp: store failed at 0\n"),
+        ("list", ".", 3, "", "mdmp: store failed at 0\n"),
+        ("check", "empty.dmp", 0, "", ""),
+        ("check", "system.dmp", 0, "entry 0: ok\n", ""),
+        ("check", "short.dmp", 1, "", short),
+        ("check", "faulty.dmp", 1, FAULTY_VERDICTS, bad),
+        ("check", "none.dmp", 3, "", missing),
     ];
-    for (words, code, printed, told) in rows {
-        let told_all = run(&rt, rt.alloc(), words)?;
-        assert_ended(&rt, words, &told_all, code, printed, told);
+    for (command, file, code, printed, told) in rows {
+        let words = [command, file];
+        let told_all = run(&rt, rt.alloc(), &words)?;
+        assert_ended(&rt, &words, &told_all, code, printed, told);
         // An output that takes nothing of the fault's line changes nothing.
         let none = Room { all: 0, call: 7 };
-        let told_none = run_with(&rt, rt.alloc(), rt.alloc(), words, BY_SEVEN, none)?;
-        assert_ended(&rt, words, &told_none, code, printed, "");
+        let told_none = run_with(&rt, rt.alloc(), rt.alloc(), &words, BY_SEVEN, none)?;
+        assert_ended(&rt, &words, &told_none, code, printed, "");
     }
     Ok(())
 }
@@ -57,14 +57,13 @@ fn run_words_succeeds(rt: HostRuntime) -> Result<(), Fail> {
 #[test]
 fn words_tell_a_failing_output(rt: HostRuntime) -> Result<(), Fail> {
     write_file(&rt, "faulty.dmp", faulty_file(rt.alloc())?.as_slice())?;
-    let words = ["list", "faulty.dmp"];
-    let full = Room {
-        all: 100,
-        call: 100,
-    };
-    let ended = run_with(&rt, rt.alloc(), rt.alloc(), &words, full, BY_WHOLE)?;
-    let start = start_of(FAULTY_TEXT, 100)?;
-    assert_ended(&rt, &words, &ended, 3, start, "mdmp: output failed\n");
+    for (command, text, all) in [("list", FAULTY_TEXT, 100), ("check", FAULTY_VERDICTS, 40)] {
+        let words = [command, "faulty.dmp"];
+        let full = Room { all, call: 100 };
+        let ended = run_with(&rt, rt.alloc(), rt.alloc(), &words, full, BY_WHOLE)?;
+        let start = start_of(text, all)?;
+        assert_ended(&rt, &words, &ended, 3, start, "mdmp: output failed\n");
+    }
     Ok(())
 }
 
