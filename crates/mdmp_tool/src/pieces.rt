@@ -1,4 +1,7 @@
 //! The pieces of a line.
+//!
+//! Most pieces of most lines are texts and numbers: what writes another kind is not inlined where a piece
+//! is written, since its code would slow down all of them.
 ghost use Rattle.std.specs.Prelude.{◌≡◌, Some};
 ghost use Rattle.std.specs.Fmt.{decimal};
 ghost use Rattle.mdmp_source.specs.Output.{Puts};
@@ -70,6 +73,7 @@ fn put_decimal<O: Out>(out: &mut O, number: u64) -> Result<(), OutFailed>
 }
 
 /// Writes a wide number in decimal digits.
+#[inline(never)]
 fn put_wide_decimal<O: Out>(out: &mut O, number: u128) -> Result<(), OutFailed>
     ensures { Puts result (O.state out.old) (decimal number) (O.state out.new) }
 {
@@ -96,6 +100,7 @@ fn put_hex16<O: Out>(out: &mut O, number: u64) -> Result<(), OutFailed>
 }
 
 /// Writes the number of a record in its stream.
+#[inline(never)]
 fn put_item<O: Out>(out: &mut O, index: u64) -> Result<(), OutFailed>
     ensures { Puts result (O.state out.old) (item_text (Some index)) (O.state out.new) }
 {
@@ -158,6 +163,7 @@ fn put_place<O: Out>(out: &mut O, word: &str, size: u64, offset: u128) -> Result
 }
 
 /// Writes what bytes are in their file.
+#[inline(never)]
 fn put_extent<O: Out>(out: &mut O, extent: Extent, size: u64, offset: u128) -> Result<(), OutFailed>
     ensures { Puts result (O.state out.old) (extent_text extent size offset) (O.state out.new) }
 {
@@ -179,6 +185,7 @@ fn put_units<O: Out>(out: &mut O, units: &UnitsRef<'_>) -> Result<(), OutFailed>
 }
 
 /// Writes a name.
+#[inline(never)]
 fn put_name<O: Out>(out: &mut O, name: &Name<'_>) -> Result<(), OutFailed>
     ensures { Puts result (O.state out.old) (name_text name.now) (O.state out.new) }
 {
@@ -208,6 +215,7 @@ fn put_values<O: Out>(out: &mut O, values: &[u64]) -> Result<(), OutFailed>
 }
 
 /// Writes as many of the values of an exception as it is said to have, at most all of them.
+#[inline(never)]
 fn put_information<O: Out>(out: &mut O, count: u32, values: &[u64; 15]) -> Result<(), OutFailed>
     ensures { Puts result (O.state out.old) (information_text count values.now) (O.state out.new) }
 {
@@ -216,6 +224,7 @@ fn put_information<O: Out>(out: &mut O, count: u32, values: &[u64; 15]) -> Resul
 }
 
 /// Writes the identity of a symbol file.
+#[inline(never)]
 fn put_guid<O: Out>(out: &mut O, guid: &[u8; 16]) -> Result<(), OutFailed>
     ensures { Puts result (O.state out.old) (guid_text guid.now) (O.state out.new) }
 {
@@ -225,6 +234,7 @@ fn put_guid<O: Out>(out: &mut O, guid: &[u8; 16]) -> Result<(), OutFailed>
 }
 
 /// Writes bytes one behind the other, each as two hexadecimal digits.
+#[inline(never)]
 fn put_digits<O: Out>(out: &mut O, bytes: &[u8]) -> Result<(), OutFailed>
     ensures { Puts result (O.state out.old) (digits_text bytes.now) (O.state out.new) }
 {
@@ -254,6 +264,7 @@ fn put_escaped_byte<O: Out>(out: &mut O, byte: u8) -> Result<(), OutFailed>
 }
 
 /// Writes bytes of a file name one behind the other, as they are printed.
+#[inline(never)]
 fn put_escaped<O: Out>(out: &mut O, bytes: &[u8]) -> Result<(), OutFailed>
     ensures { Puts result (O.state out.old) (escaped_bytes bytes.now) (O.state out.new) }
 {
