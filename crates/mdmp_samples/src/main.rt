@@ -1,7 +1,7 @@
 //! Prints what the commands make of the real dumps of the folder data: their lists, whether their
 //! entries are good, the symbol files of their modules, and copies of some of their streams; that small
-//! windows list the same; and how many items each has, how its value compares with its list, and how it
-//! is written anew.
+//! windows and the greatest list the same; and how many items each has, how its value compares with its
+//! list, and how it is written anew.
 #![tactic(auto)]
 
 mod checks;
