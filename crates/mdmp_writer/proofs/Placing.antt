@@ -140,14 +140,14 @@ pub record IsForm {X : Type 0} (size : ℕ) (see : X → Seen) (Fits : X → Typ
       → Stands F o (seen_row (see x) at) → Stands F at (all_padded (seen_parts (see x))) → IsAt F o x
 
 -- rows of one size
-pub length-rows : {X : Type 0} (size : ℕ) (see : X → Seen) (Fits : X → Type 0) → ((x : X) (at : ℕ) → Fits x → length (seen_row (see x) at) ≡ size)
+pub rows-length : {X : Type 0} (size : ℕ) (see : X → Seen) (Fits : X → Type 0) → ((x : X) (at : ℕ) → Fits x → length (seen_row (see x) at) ≡ size)
     → (at : ℕ) (xs : List X) → Each Fits xs → length (rows at (map see xs)) ≡ length xs * size
 unfolding rows
-length-rows size see Fits length_is at [] fits = omega arith
-length-rows size see Fits length_is at (x ∷ xs) fits =
+rows-length size see Fits length_is at [] fits = omega arith
+rows-length size see Fits length_is at (x ∷ xs) fits =
     let next = at + fields_room (see x).fields in
     let more : suc (length xs) * size ≡ length xs * size + size = grind arith in
-    omega (arith, length-append (seen_row (see x) at) (rows next (map see xs)), length_is x at fits.0, length-rows size see Fits length_is next xs fits.1, more)
+    omega (arith, length-append (seen_row (see x) at) (rows next (map see xs)), length_is x at fits.0, rows-length size see Fits length_is next xs fits.1, more)
 
 module _ {X : Type 0} {size : ℕ} {see : X → Seen} {Fits : X → Type 0} {IsAt : List ℕ → ℕ → X → Type 0} (form : IsForm size see Fits IsAt) where
   pub length-parts : (xs : List X) → length (all_padded (parts_of (map see xs))) ≡ rooms (map see xs)

@@ -20,7 +20,7 @@ use Rattle.mdmp_writer.specs.Written.{all_padded, body_text, parts_of, ranges_te
 use Rattle.mdmp_writer.proofs.Standing.{Stands, stands_inside, stands_second}
 use Rattle.mdmp_writer.proofs.Back.{LocationFits}
 use Rattle.mdmp_writer.proofs.Heads.{shape_from}
-use Rattle.mdmp_writer.proofs.Placing.{IsForm, length-rows, rows_read}
+use Rattle.mdmp_writer.proofs.Placing.{IsForm, rows-length, rows_read}
 
 -- the bytes of a stream's 64-bit memory, if it is of that
 abbrev pub memory_text : StreamSeen → List ℕ
@@ -59,7 +59,7 @@ module _ {X : Type 0} {size : ℕ} {see : X → Seen} {Fits : X → Type 0} {IsA
   length-listed at first head xs len fits =
       let body = rows at (map see xs) in
       let count = ap (λ (n : ℕ). n * size) (length-map xs see) in
-      omega (arith, length-append head body, len, length-rows size see Fits form.length_is at xs (recursion_from_All Fits xs fits), count)
+      omega (arith, length-append head body, len, rows-length size see Fits form.length_is at xs (recursion_from_All Fits xs fits), count)
 
   -- they are read again, where their parts stand at a place
   unfoldable pub records_read : (F : List ℕ) (kind : Kind) (at first n place : ℕ) (head : List ℕ) (xs : List X) → length head ≡ first → n ≡ first + length (map see xs) * size

@@ -19,7 +19,7 @@ use Rattle.mdmp_dump.specs.declared.dump.Stream.TheVariants as streams
 use Rattle.mdmp_dump.specs.LaysOut.{EachFrom, HasRecords}
 use Rattle.mdmp_dump.specs.Shape.{fars, rooms}
 use Rattle.mdmp_writer.proofs.Standing.{stands_record, Stands, stands_bytes, stands_first, stands_inside, stands_second}
-use Rattle.mdmp_writer.proofs.Placing.{IsForm, length-nothing, length-parts, length-rows}
+use Rattle.mdmp_writer.proofs.Placing.{IsForm, length-nothing, length-parts, rows-length}
 use Rattle.mdmp_writer.specs.Written.{all_padded, parts_of, ranges_text, rows}
 use Rattle.mdmp_writer.proofs.ReadBack.{IsReadBack, located, records_read}
 use Rattle.mdmp_writer.proofs.Heads.{shape_from}
@@ -146,7 +146,7 @@ module _ {Z : Type 0} where
         body = λ at far.
             let text = memory64_list_bytes (head c far) in
             let body = rows at (map memory64_seen xs) in
-            let len = length-rows 16 memory64_seen Memory64Fits (λ x at f. length-memory64 x) at xs (recursion_from_All Memory64Fits xs fits) in
+            let len = rows-length 16 memory64_seen Memory64Fits (λ x at f. length-memory64 x) at xs (recursion_from_All Memory64Fits xs fits) in
             omega (arith, length-append text body, length-head c far, len, length-map xs (memory64_seen {Z = Z}));
         behind = length-parts memory64_form xs ∙ no_room xs;
         memory = length-ranges xs;

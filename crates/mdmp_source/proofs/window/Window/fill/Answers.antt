@@ -2,7 +2,7 @@ use Rattle.std.proofs.Common.{◌+◌, ◌-◌, ◌≤◌, ◌∙◌, ap, sym, s
 use Rattle.std.specs.Prelude.{OnErr, Result, Ok, Err}
 use Rattle.std.specs.Vec.{with_items}
 use Rattle.mdmp_source.specs.Window.{IsFilled, WindowState, next_len_of}
-use Rattle.mdmp_source.proofs.Held.{is_filled, is_kept, length-held, next_fits, window_of, written_behind}
+use Rattle.mdmp_source.proofs.Held.{is_filled, is_kept, length-held, window_of, written_behind}
 use borrow.Rule.Slice.PartMut.{put_mid}
 use Rattle.mdmp_source.proofs.window.Window.fill.Goals as goal
 
