@@ -23,14 +23,15 @@ use Rattle.mdmp_dump.specs.declared.fault.PartName.{PartName}
 use Rattle.mdmp_dump.specs.declared.part.Part.TheVariants as parts
 use Rattle.mdmp_dump.specs.declared.reader.Reader.{Reader}
 use Rattle.mdmp_dump.specs.Part.{IsPart, part_in}
-use Rattle.mdmp_dump.specs.Reading.{Fetches, HasBytesAt, Takes, store_fault}
+use Rattle.mdmp_dump.specs.Reading.{Fetches, HasBytesAt, IsReadRefusal, Takes, store_fault}
 use Rattle.mdmp_dump.specs.Refusal.{Refuse, Step, Take, first_refusal, location_steps, part_steps}
 use Rattle.mdmp_dump.proofs.Refusal.{refusal_moved}
 
 -- nothing was fetched, and no fault of the store is told
-pub Fetches-none : {T : Type 0} (result : Result T ReadFault) (s : SourceState) → IfErr result (λ fault. store_fault fault ≡ None) → Fetches result s s
-Fetches-none (Ok x) s none = record { fetches = record { count = 0; fetches = FetchesAtMost-none s }; told = tt; good = λ file good. tt }
-Fetches-none (Err fault) s none = record { fetches = record { count = 0; fetches = FetchesAtMost-none s }; told = rw none tt; good = λ file good. none }
+pub Fetches-none : {T : Type 0} (result : Result T ReadFault) (s : SourceState) → IfErr result (λ fault. store_fault fault ≡ None)
+    → IfErr result (IsReadRefusal s.size) → Fetches result s s
+Fetches-none (Ok x) s none refusal = record { fetches = record { count = 0; fetches = FetchesAtMost-none s }; told = tt; good = λ file good. tt; refusal = tt }
+Fetches-none (Err fault) s none refusal = record { fetches = record { count = 0; fetches = FetchesAtMost-none s }; told = rw none tt; good = λ file good. none; refusal = refusal }
 
 -- a part is taken by how its bytes compare with those that are left
 take-by : (left e k size : ℕ) (rest : List Step) (last : Option ReadFault) (more : Bool) → nat_lt left size ≡ more
@@ -61,9 +62,9 @@ take-taken left e k size rest last most =
 -- a fault of the store is told, and none of a good one
 pub Fetches-read : {T : Type 0} (n : ℕ) (fault : SourceFault) (old new : SourceState) → FetchesAtMost n old new → IsTold fault old new
     → ((file : List ℕ) → IsGood old.store file → ⊥) → Fetches {T = T} (Err (faults.Source fault)) old new
-Fetches-read n (Failed at) old new fetches told good = record { fetches = record { count = n; fetches = fetches }; told = told; good = λ file is. absurd (good file is) }
-Fetches-read n (ShortRead at) old new fetches told good = record { fetches = record { count = n; fetches = fetches }; told = told; good = λ file is. absurd (good file is) }
-Fetches-read n (Changed at) old new fetches told good = record { fetches = record { count = n; fetches = fetches }; told = absurd told.cause; good = λ file is. absurd (good file is) }
+Fetches-read n (Failed at) old new fetches told good = record { fetches = record { count = n; fetches = fetches }; told = told; good = λ file is. absurd (good file is); refusal = tt }
+Fetches-read n (ShortRead at) old new fetches told good = record { fetches = record { count = n; fetches = fetches }; told = told; good = λ file is. absurd (good file is); refusal = tt }
+Fetches-read n (Changed at) old new fetches told good = record { fetches = record { count = n; fetches = fetches }; told = absurd told.cause; good = λ file is. absurd (good file is); refusal = tt }
 
 -- bytes inside a file of this size
 pub inside_is : (file : List ℕ) (at size : ℕ) (z : ℕ) → IsInside at size z → z ≡ length file → IsTrue (is_inside at size (length file))
@@ -104,7 +105,7 @@ pub outside-refused : {S A T : Type 0} (old : Reader S A) (e k : ℕ) (part : Pa
 outside-refused {T = T} old e k part at size z some out =
     subst (λ (x : Extent). Takes {T = T} (part_steps e k part at size x) old (Err (faults.PartOutside e k part at size)) old) (sym (outside-is at size z some out)) (record {
       same = refl;
-      fetches = Fetches-none _ old.lister.source refl;
+      fetches = Fetches-none _ old.lister.source refl tt;
       settles = λ rest last own. refused-first (faults.PartOutside e k part at size) old.left rest last;
     })
 

@@ -14,7 +14,7 @@ use Rattle.mdmp_lister.specs.declared.fault.OpenFault.{OpenFault}
 use Rattle.mdmp_lister.specs.declared.fault.OpenFault.TheVariants as opening
 use Rattle.mdmp_lister.specs.Format.Listing.{entry_count}
 use Rattle.mdmp_lister.specs.Format.Refusal.{behind_directory, behind_header, directory_fault, directory_refusal, opening_fault}
-use Rattle.mdmp_lister.specs.Opening.{IsRefusalOf, IsUnread, IsUnreadFor}
+use Rattle.mdmp_lister.specs.Opening.{IsOpenRefusal, IsRefusalOf, IsUnread, IsUnreadFor}
 use Rattle.mdmp_dump.specs.Reading.{Fetches, IsOwn, refusal_of}
 use Rattle.mdmp_dump.specs.Refusal.{read_refusal}
 use Rattle.mdmp_dump.proofs.Budget.{Fetches-read}
@@ -61,8 +61,9 @@ opening-settles F choice limit parts fault is own = rw is refl
 
 -- of which a fault of the store is told as such
 pub opening-fetches : {T : Type 0} (n : ℕ) (fault : OpenFault) (old new : SourceState) → FetchesAtMost n old new → IsUnreadFor fault old new
-    → ((file : List ℕ) → IsGood old.store file → IsUnread fault → ⊥) → Fetches {T = T} (Err (refusal_of fault)) old new
-opening-fetches {T = T} n (opening.Source fault) old new fetches cause good =
+    → ((file : List ℕ) → IsGood old.store file → IsUnread fault → ⊥) → IsOpenRefusal old.size fault → Fetches {T = T} (Err (refusal_of fault)) old new
+opening-fetches {T = T} n (opening.Source fault) old new fetches cause good refusal =
     let read = Fetches-read {T = T} n fault old new fetches cause.0 (λ file is. good file is tt) in
-    record { fetches = read.fetches; told = read.told; good = read.good }
-opening-fetches n fault old new fetches cause good = record { fetches = record { count = n; fetches = fetches }; told = tt; good = λ file is. refl }
+    record { fetches = read.fetches; told = read.told; good = read.good; refusal = refusal }
+opening-fetches n opening.Memory old new fetches cause good refusal = record { fetches = record { count = n; fetches = fetches }; told = tt; good = λ file is. refl; refusal = tt }
+opening-fetches n fault old new fetches cause good refusal = record { fetches = record { count = n; fetches = fetches }; told = tt; good = λ file is. refl; refusal = refusal }

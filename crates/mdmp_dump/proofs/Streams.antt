@@ -33,12 +33,12 @@ use Rattle.mdmp_dump.proofs.Left.{all_given, no_row_first, stream_given}
 -- an answer behind some fetches
 module _ {T : Type 0} (a b c : SourceState) (first : FetchesSome a b) where
   pub fetches_ok : (x : T) → FetchesSome b c → Fetches (Ok x) a c
-  fetches_ok x more = record { fetches = FetchesSome_then a b c first more; told = tt; good = λ file good. tt }
+  fetches_ok x more = record { fetches = FetchesSome_then a b c first more; told = tt; good = λ file good. tt; refusal = tt }
 
   pub fetches_err : {U : Type 0} (fault : ReadFault) → Fetches {T = U} (Err fault) b c → Fetches {T = T} (Err fault) a c
   fetches_err fault more =
       let all = Fetches_later (Err fault) a b c first more in
-      record { fetches = all.fetches; told = all.told; good = all.good }
+      record { fetches = all.fetches; told = all.told; good = all.good; refusal = all.refusal }
 
 -- ---- behind an entry
 

@@ -11,7 +11,7 @@ use Rattle.mdmp_lister.specs.declared.item.Item.{Item}
 use Rattle.mdmp_lister.specs.declared.kind.Kind.{Kind}
 use Rattle.mdmp_dump.specs.declared.reader.Reader.{Reader}
 use Rattle.mdmp_dump.specs.declared.row.Found.{Found}
-use Rattle.mdmp_dump.specs.Reading.{Fetches, IsLastTold, IsRowRead, Settles, Takes, store_fault}
+use Rattle.mdmp_dump.specs.Reading.{Fetches, IsLastTold, IsReadRefusal, IsRowRead, Settles, Takes, store_fault}
 use Rattle.mdmp_dump.specs.Refusal.{Step, first_refusal}
 
 -- ---- fetches
@@ -34,11 +34,12 @@ last_told_later None a b c first told = tt
 
 -- fetches without a fault, and then more
 pub Fetches_later : {T : Type 0} (result : Result T ReadFault) (a b c : SourceState) → FetchesSome a b → Fetches result b c → Fetches result a c
-Fetches_later (Ok x) a b c first then = record { fetches = FetchesSome_then a b c first then.fetches; told = tt; good = λ file good. tt }
+Fetches_later (Ok x) a b c first then = record { fetches = FetchesSome_then a b c first then.fetches; told = tt; good = λ file good. tt; refusal = tt }
 Fetches_later (Err fault) a b c first then = record {
   fetches = FetchesSome_then a b c first then.fetches;
   told = last_told_later (store_fault fault) a b c first then.told;
   good = λ file good. then.good file (IsGood-later file first.count a b first.fetches good);
+  refusal = subst (λ (size : ℕ). IsReadRefusal size fault) first.fetches.same_size then.refusal;
 }
 
 -- ---- steps
@@ -48,7 +49,7 @@ module _ {S A : Type 0} where
   pub Takes_none : {T : Type 0} (old : Reader S A) (x : T) → Takes [] old (Ok x) old
   Takes_none old x = record {
     same = refl;
-    fetches = record { fetches = FetchesSome_none old.lister.source; told = tt; good = λ file good. tt };
+    fetches = record { fetches = FetchesSome_none old.lister.source; told = tt; good = λ file good. tt; refusal = tt };
     settles = λ rest last. refl;
   }
 
@@ -56,7 +57,7 @@ module _ {S A : Type 0} where
   pub Takes_memory : {T : Type 0} (steps : List Step) (old : Reader S A) → Takes {T = T} steps old (Err faults.Memory) old
   Takes_memory steps old = record {
     same = refl;
-    fetches = record { fetches = FetchesSome_none old.lister.source; told = tt; good = λ file good. refl };
+    fetches = record { fetches = FetchesSome_none old.lister.source; told = tt; good = λ file good. refl; refusal = tt };
     settles = λ rest last other. absurd (other tt);
   }
 
@@ -73,7 +74,7 @@ module _ {S A : Type 0} where
     pub Takes_as : (x : T) (y : U) (new : Reader S A) → Takes steps old (Ok x) new → Takes steps old (Ok y) new
     Takes_as x y new takes = record {
       same = takes.same;
-      fetches = record { fetches = takes.fetches.fetches; told = tt; good = λ file good. tt };
+      fetches = record { fetches = takes.fetches.fetches; told = tt; good = λ file good. tt; refusal = tt };
       settles = λ rest last. takes.settles rest last;
     }
 
@@ -94,7 +95,7 @@ module _ {S A : Type 0} where
         → Takes {T = T} steps old (Err fault) new → Takes {T = U} (steps ++ more) old (Err fault) new
     Takes_fault more fault new takes = record {
       same = takes.same;
-      fetches = record { fetches = takes.fetches.fetches; told = takes.fetches.told; good = takes.fetches.good };
+      fetches = record { fetches = takes.fetches.fetches; told = takes.fetches.told; good = takes.fetches.good; refusal = takes.fetches.refusal };
       settles = λ rest last other.
           ap (λ (all : List Step). first_refusal old.left 0 all last) (append_assoc steps more rest) ∙ takes.settles (more ++ rest) last other;
     }
@@ -103,7 +104,7 @@ module _ {S A : Type 0} where
     pub Takes_fault_as : (fault : ReadFault) (new : Reader S A) → Takes {T = T} steps old (Err fault) new → Takes {T = U} steps old (Err fault) new
     Takes_fault_as fault new takes = record {
       same = takes.same;
-      fetches = record { fetches = takes.fetches.fetches; told = takes.fetches.told; good = takes.fetches.good };
+      fetches = record { fetches = takes.fetches.fetches; told = takes.fetches.told; good = takes.fetches.good; refusal = takes.fetches.refusal };
       settles = λ rest last other. takes.settles rest last other;
     }
 

@@ -15,6 +15,7 @@ use Rattle.mdmp_lister.specs.Format.Classes.{IsStream as IsStreamItem}
 use Rattle.mdmp_lister.specs.Format.Item.{item_at}
 use Rattle.mdmp_lister.specs.Format.Listing.{Numbered, Run, nothing}
 use Rattle.mdmp_lister.specs.Format.Summary.{summary_of}
+use Rattle.mdmp_lister.specs.Opening.{IsOpenRefusal}
 use Rattle.mdmp_lister.specs.Lister.{ListerState, tail}
 use Rattle.mdmp_lister.specs.declared.name.Name.{Name}
 use Rattle.mdmp_lister.specs.declared.kind.Kind.{Kind}
@@ -56,6 +57,11 @@ abbrev pub refusal_of : OpenFault → ReadFault
 refusal_of opening.Memory = faults.Memory
 refusal_of fault = faults.Opening fault
 
+-- a refusal of the opening is one of a file of `size` bytes, whatever they are; of another fault nothing is said
+abbrev pub IsReadRefusal : ℕ → ReadFault → Type 0
+IsReadRefusal size (faults.Opening fault) = IsOpenRefusal size fault
+IsReadRefusal size fault = Unit {0}
+
 -- want of memory, or a fault of the store: none of the file
 abbrev pub IsOwn : ReadFault → Type 0
 IsOwn faults.Memory = Unit {0}
@@ -73,11 +79,12 @@ abbrev pub Settles : {T : Type 0} → Option ReadFault → Result T ReadFault �
 Settles old (Ok x) new = old ≡ new x
 Settles old (Err fault) new = (IsOwn fault → ⊥) → old ≡ Some fault
 
--- some fetches, of which a fault of the store is told as such
+-- some fetches, of which a fault of the store is told as such, and one of the opening is that of a file of this size
 pub record Fetches {T : Type 0} (result : Result T ReadFault) (old new : SourceState) : Type 0 where
   pub fetches : FetchesSome old new
   pub told : IfErr result (λ fault. IsLastTold (store_fault fault) old new)
   pub good : (file : List ℕ) → IsGood old.store file → IfErr result (λ fault. store_fault fault ≡ None)
+  pub refusal : IfErr result (IsReadRefusal old.size)
 
 -- what some steps ask was done, or the first of them that can't be is told
 pub record Takes {S A T : Type 0} (steps : List Step) (old : Reader S A) (result : Result T ReadFault) (new : Reader S A) : Type 0 where

@@ -1,10 +1,10 @@
 //! Reading a file into a value.
-ghost use Rattle.std.specs.Prelude.{◌≡◌, ℕ, List, None, Some, IfErr, IfOk};
+ghost use Rattle.std.specs.Prelude.{◌≡◌, ◌<◌, ℕ, List, None, Some, Err, IfErr, IfOk};
 ghost use Rattle.mdmp_source.specs.Store.{IsGood};
 ghost use Rattle.mdmp_lister.specs.Format.Listing.{Numbered};
 ghost use Rattle.mdmp_dump.specs.LaysOut.{AreStreams, LaysOut};
 ghost use Rattle.mdmp_dump.specs.Left.{is_item_of, left_from, run_of};
-ghost use Rattle.mdmp_dump.specs.Reading.{Fetches, IsEntryRead, IsGoing, IsOneStream, IsRaw, Settles, owed, refusal_of, store_fault};
+ghost use Rattle.mdmp_dump.specs.Reading.{Fetches, IsEntryRead, IsGoing, IsOneStream, IsRaw, IsReadRefusal, Settles, owed, refusal_of, store_fault};
 ghost use Rattle.mdmp_dump.specs.Refusal.{read_refusal};
 
 use crate::dump::{Dump, Stream};
@@ -49,6 +49,8 @@ pub fn read_dump<S: Store + Drop, A: Allocator + Copy>(
     ensures lays_out { (file : List ℕ) → source.store.content ≡ Some file → IfOk result (LaysOut file choice) }
     ensures refuses { (file : List ℕ) → source.store.content ≡ Some file → Settles (read_refusal file choice limits.name parts) result (λ _. None) }
     ensures good { (file : List ℕ) → IsGood source.store file → IfErr result (λ fault. store_fault fault ≡ None) }
+    ensures refusal { IfErr result (IsReadRefusal source.size) }
+    ensures short { source.size < 32 → result ≡ Err (ReadFault.Opening (OpenFault.TooShort source.size)) }
 {
     read_source(alloc, source, limits, choice, parts).answer
 }
@@ -64,6 +66,7 @@ pub fn read_source<S: Store + Drop, A: Allocator + Copy>(
     ensures lays_out { (file : List ℕ) → source.store.content ≡ Some file → IfOk result.answer (LaysOut file choice) }
     ensures refuses { (file : List ℕ) → source.store.content ≡ Some file → Settles (read_refusal file choice limits.name parts) result.answer (λ _. None) }
     ensures cause { Fetches result.answer source result.source }
+    ensures short { source.size < 32 → result.answer ≡ Err (ReadFault.Opening (OpenFault.TooShort source.size)) }
 {
     let all = matches!(&choice, Choice::All);
     let lister = match Lister::open(alloc, source, limits, choice) {

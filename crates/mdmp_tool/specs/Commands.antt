@@ -54,7 +54,7 @@ HasPrinted (Hex span) limit = HasRun IsEnd (λ file. HexesThrough file limit spa
 pub record HasCopied (Z : Type 0) (types : List ℕ) (limit : ℕ) (old : SourceState) (before err_before : OutState) (status : ℕ) (new : SourceState) (after err_after : OutState) : Type 0 where
   pub answer : Result ℕ ToolFault
   pub ends : IsEnd answer status err_before err_after
-  pub copies : Copies Z old.store.content types limit before answer after
+  pub copies : Copies Z old.store.content old.size types limit before answer after
   pub good : (file : List ℕ) → IsGood old.store file → IsNoSourceFault answer
   pub reads : Reads old answer new
   pub unread : (t : ℕ) → first_not_copied types ≡ Some t → new ≡ old

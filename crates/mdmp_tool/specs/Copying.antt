@@ -1,9 +1,11 @@
 -- What a copy answers, and what it leaves written.
-use Rattle.std.specs.Prelude.{◌≡◌, ◌^◌, ◌-◌, ◌==◌, ◌||◌, ℕ, Bool, List, [], ◌∷◌, Option, Some, None, Result, Ok, Err, nat_lt, if◌then◌else◌}
+use Rattle.std.specs.Prelude.{◌≡◌, ◌^◌, ◌-◌, ◌<◌, ◌==◌, ◌||◌, ℕ, Bool, List, [], ◌∷◌, Option, Some, None, Result, Ok, Err, nat_lt, if◌then◌else◌}
 use Rattle.mdmp_source.specs.Output.{OutState, PutsAll, PutsPrefix}
 use Rattle.mdmp_lister.specs.declared.choice.Choice.TheVariants.{Types}
+use Rattle.mdmp_lister.specs.declared.fault.OpenFault.TheVariants.{TooShort}
 use Rattle.mdmp_lister.specs.Fault.{IsOfSource}
 use Rattle.mdmp_lister.specs.Format.Kind.{is_known}
+use Rattle.mdmp_lister.specs.Opening.{IsOpenRefusal}
 use Rattle.mdmp_dump.specs.declared.dump.Dump.{Dump}
 use Rattle.mdmp_dump.specs.declared.fault.ReadFault.{ReadFault}
 use Rattle.mdmp_dump.specs.declared.fault.ReadFault.TheVariants as reads
@@ -87,25 +89,28 @@ module _ (Z : Type 0) where
     of_parts : (e k : ℕ) → fault ≡ TooLarge → IsRefused content types limit (reads.PartsTooLarge e k) → after ≡ before
         → HasLayoutFault content types limit before fault after
 
-  -- what a copy answers: all of it went out, or a first part of it up to a refusal of the output. Nothing went out behind a
-  -- reason why the file gives no dump, which is told of the file only where it is the file's, nor where the dump can't be
-  -- written, behind a fault of the store, without memory and where a type is not copied.
-  abbrev pub Ends : Option (List ℕ) → List ℕ → ℕ → OutState → Result ℕ ToolFault → OutState → Type 0
-  Ends content types limit before (Ok size) after = IsCopy content types limit before (Ok size) after
-  Ends content types limit before (Err tool.Out) after = IsCopy content types limit before (Err tool.Out) after
-  Ends content types limit before (Err (tool.Layout fault)) after = HasLayoutFault content types limit before fault after
-  Ends content types limit before (Err (tool.Opening fault)) after =
-      IsOfFile fault × (IsRefused content types limit (reads.Opening fault) × (after ≡ before))
-  Ends content types limit before (Err (tool.List fault)) after =
+  -- what a copy of a file of `file_size` bytes answers: all of it went out, or a first part of it up to a refusal of the output.
+  -- Nothing went out behind a reason why the file gives no dump, which is told of the file only where it is the file's, and of
+  -- its opening only where it fits the size; nor where the dump can't be written, behind a fault of the store, without memory
+  -- and where a type is not copied.
+  abbrev pub Ends : Option (List ℕ) → ℕ → List ℕ → ℕ → OutState → Result ℕ ToolFault → OutState → Type 0
+  Ends content file_size types limit before (Ok size) after = IsCopy content types limit before (Ok size) after
+  Ends content file_size types limit before (Err tool.Out) after = IsCopy content types limit before (Err tool.Out) after
+  Ends content file_size types limit before (Err (tool.Layout fault)) after = HasLayoutFault content types limit before fault after
+  Ends content file_size types limit before (Err (tool.Opening fault)) after =
+      IsOfFile fault × (IsOpenRefusal file_size fault × (IsRefused content types limit (reads.Opening fault) × (after ≡ before)))
+  Ends content file_size types limit before (Err (tool.List fault)) after =
       (IsOfSource fault.kind → ⊥) × (IsRefused content types limit (reads.List fault) × (after ≡ before))
-  Ends content types limit before (Err (tool.Reading fault)) after =
+  Ends content file_size types limit before (Err (tool.Reading fault)) after =
       IsOfRecord fault × (IsRefused content types limit fault × (after ≡ before))
-  Ends content types limit before (Err (tool.Source fault)) after = after ≡ before
-  Ends content types limit before (Err tool.Memory) after = after ≡ before
-  Ends content types limit before (Err (tool.NotCopied t)) after = after ≡ before
+  Ends content file_size types limit before (Err (tool.Source fault)) after = after ≡ before
+  Ends content file_size types limit before (Err tool.Memory) after = after ≡ before
+  Ends content file_size types limit before (Err (tool.NotCopied t)) after = after ≡ before
 
-  -- a copy of the streams of these types out of a store, whose content may be known: a type is refused exactly where one of
-  -- them is not copied, and then the first of those
-  pub record Copies (content : Option (List ℕ)) (types : List ℕ) (limit : ℕ) (before : OutState) (answer : Result ℕ ToolFault) (after : OutState) : Type 0 where
+  -- a copy of the streams of these types out of a store of `file_size` bytes, whose content may be known: a type is refused
+  -- exactly where one of them is not copied, and then the first of those; else a file that is too short is told as that
+  pub record Copies (content : Option (List ℕ)) (file_size : ℕ) (types : List ℕ) (limit : ℕ) (before : OutState) (answer : Result ℕ ToolFault)
+      (after : OutState) : Type 0 where
     pub refuses : first_not_copied types ≡ refused_type answer
-    pub ends : Ends content types limit before answer after
+    pub short : file_size < 32 → first_not_copied types ≡ None → answer ≡ Err (tool.Opening (TooShort file_size))
+    pub ends : Ends content file_size types limit before answer after

@@ -52,7 +52,7 @@ pub fn run_copy<S: Store + Drop, A: Allocator + Copy, O: Out>(
     types: TypeSet,
     out: &mut O,
 ) -> Result<u64, ToolFault>
-    ensures copies { Copies A (S.state store).content types limits.name (O.state out.old) result (O.state out.new) }
+    ensures copies { Copies A (S.state store).content (S.state store).size types limits.name (O.state out.old) result (O.state out.new) }
     ensures good { (file : List ℕ) → IsGood (S.state store) file → IsNoSourceFault result }
 {
     copy_source(alloc, Source::new(store), limits, types, out).answer
@@ -67,7 +67,7 @@ pub fn copy_source<S: Store + Drop, A: Allocator + Copy, O: Out>(
     types: TypeSet,
     out: &mut O,
 ) -> Answered<u64, S>
-    ensures copies { Copies A source.store.content types limits.name (O.state out.old) result.answer (O.state out.new) }
+    ensures copies { Copies A source.store.content source.size types limits.name (O.state out.old) result.answer (O.state out.new) }
     ensures good { (file : List ℕ) → IsGood source.store file → IsNoSourceFault result.answer }
     ensures reads { Reads source result.answer result.source }
     ensures unread { (t : ℕ) → first_not_copied types ≡ Some t → result.source ≡ source }

@@ -1,8 +1,9 @@
-use Rattle.std.proofs.Common.{◌≡◌, ◌∙◌, refl, sym, Some, None, Err}
+use Rattle.std.proofs.Common.{◌≡◌, ◌∙◌, ap, refl, sym, Some, None, Err}
+use Rattle.mdmp_lister.specs.declared.fault.OpenFault.{OpenFault}
 use Rattle.mdmp_lister.specs.Format.Listing.{chosen}
 use Rattle.mdmp_lister.specs.Format.Refusal.{opening_fault}
 use Rattle.mdmp_dump.specs.Left.{run_of}
-use Rattle.mdmp_dump.specs.Reading.{owed}
+use Rattle.mdmp_dump.specs.Reading.{owed, refusal_of}
 use Rattle.mdmp_dump.specs.Refusal.{read_refusal}
 use Rattle.mdmp_dump.proofs.Opened.{opened-head, opening-fetches, opening-settles}
 use Rattle.mdmp_dump.proofs.Taking.{FetchesSome_then, Fetches_later}
@@ -14,7 +15,10 @@ returns-in-Err-clause-refuses g c = λ file known.
 
 pub returns-in-Err-clause-cause : goal.returns-in-Err-clause-cause
 returns-in-Err-clause-cause g c =
-    rw c.refusal.ensures (opening-fetches _ c.in-Err.refused.fault c.args.source c.in-Err.refused.source c.in-Err.ensures.handed_back.fetches c.in-Err.ensures.cause c.in-Err.ensures.good)
+    rw c.refusal.ensures (opening-fetches _ c.in-Err.refused.fault c.args.source c.in-Err.refused.source c.in-Err.ensures.handed_back.fetches c.in-Err.ensures.cause c.in-Err.ensures.good c.in-Err.ensures.refusal)
+
+pub returns-in-Err-clause-short : goal.returns-in-Err-clause-short
+returns-in-Err-clause-short g c = λ few. rw c.refusal.ensures (ap (λ (fault : OpenFault). Err (refusal_of fault)) (c.in-Err.ensures.short few))
 
 pub returns-in-Err-read_streams-clause-refuses : goal.returns-in-Err-read_streams-clause-refuses
 returns-in-Err-read_streams-clause-refuses g c = λ file known own.
@@ -29,7 +33,7 @@ pub returns-in-Err-read_streams-clause-cause : goal.returns-in-Err-read_streams-
 returns-in-Err-read_streams-clause-cause g c =
     let told = c.in-Err-read_streams.ensures.fetches in
     rw c.into_source-in-Err-read_streams.ensures.value (Fetches_later (Err c.in-Err-read_streams.fault) c.args.source c.in-Ok.lister.source c.read_streams.new.reader.lister.source
-    (record { count = _; fetches = c.in-Ok.ensures.new.fetches }) (record { fetches = told.fetches; told = told.told; good = told.good }))
+    (record { count = _; fetches = c.in-Ok.ensures.new.fetches }) (record { fetches = told.fetches; told = told.told; good = told.good; refusal = told.refusal }))
 
 pub returns-in-Ok-read_streams-clause-lays_out : goal.returns-in-Ok-read_streams-clause-lays_out
 returns-in-Ok-read_streams-clause-lays_out g c = λ file known.
@@ -54,4 +58,11 @@ returns-in-Ok-read_streams-clause-cause g c = rw c.into_source.ensures.value (re
   fetches = FetchesSome_then c.args.source c.in-Ok.lister.source c.read_streams.new.reader.lister.source (record { count = _; fetches = c.in-Ok.ensures.new.fetches }) c.in-Ok-read_streams.ensures.fetches.fetches;
   told = tt;
   good = λ file good. tt;
+  refusal = tt;
 })
+
+pub returns-in-Err-read_streams-clause-short : goal.returns-in-Err-read_streams-clause-short
+returns-in-Err-read_streams-clause-short g c = λ few. absurd (c.in-Ok.ensures.short few)
+
+pub returns-in-Ok-read_streams-clause-short : goal.returns-in-Ok-read_streams-clause-short
+returns-in-Ok-read_streams-clause-short g c = λ few. absurd (c.in-Ok.ensures.short few)

@@ -45,6 +45,7 @@ returns-in-Err-clause-fetches g c = record {
   fetches = FetchesSome_then c.args.reader.now.lister.source c.loop-next.reader.lister.source c.read_stream.new.reader.lister.source c.loop-next.invariant.fetches c.in_ok-stream.ensures.fetches.fetches;
   told = tt;
   good = λ file good. refl;
+  refusal = tt;
 }
 
 pub loop-next-smaller-in-Ok-push : goal.loop-next-smaller-in-Ok-push

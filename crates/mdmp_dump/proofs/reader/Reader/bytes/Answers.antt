@@ -5,14 +5,14 @@ use Rattle.mdmp_dump.proofs.reader.Reader.bytes.Goals as goal
 pub returns-then-size-self-clause-takes : goal.returns-then-size-self-clause-takes
 returns-then-size-self-clause-takes g c = record {
   same = refl;
-  fetches = Fetches-none _ c.args.self.now.lister.source refl;
+  fetches = Fetches-none _ c.args.self.now.lister.source refl tt;
   settles = λ rest last own. take-refused c.args.self.now.left c.args.place.entry c.args.place.index c.args.size rest last c.if-size-self.true;
 }
 
 pub returns-clause-takes : goal.returns-clause-takes
 returns-clause-takes g c = record {
   same = c.in-Ok-read_part.ensures.reads.same;
-  fetches = record { fetches = record { count = _; fetches = c.in-Ok-read_part.ensures.reads.fetches }; told = tt; good = λ file good. tt };
+  fetches = record { fetches = record { count = _; fetches = c.in-Ok-read_part.ensures.reads.fetches }; told = tt; good = λ file good. tt; refusal = tt };
   settles = λ rest last. take-taken c.args.self.now.left c.args.place.entry c.args.place.index c.args.size rest last (omega (arith, c.if-size-self.false));
 }
 

@@ -8,7 +8,7 @@ returns-in_err-read-in-Record-clause-fetches g c =
     let fault = c.in_err-read-in-Record.field-0.0 in
     let is : c.from_residual-in_err-read-in-Record.result ≡ Err fault = search rules in
     let takes = c.in_err-read-in-Record.ensures.takes.fetches in
-    rw is (Fetches_later (Err fault) c.args.self.now.lister.source c.find.new.self.lister.source c.read.new.reader.lister.source c.in_ok-found.ensures.fetches.fetches (record { fetches = takes.fetches; told = takes.told; good = takes.good }))
+    rw is (Fetches_later (Err fault) c.args.self.now.lister.source c.find.new.self.lister.source c.read.new.reader.lister.source c.in_ok-found.ensures.fetches.fetches (record { fetches = takes.fetches; told = takes.told; good = takes.good; refusal = takes.refusal }))
 
 pub returns-in_err-read-in-Record-clause-of_file : goal.returns-in_err-read-in-Record-clause-of_file
 returns-in_err-read-in-Record-clause-of_file g c = λ file limit x k xs known left kind.
@@ -24,6 +24,7 @@ returns-in_ok-read-in-Record-clause-fetches g c = record {
   fetches = FetchesSome_then c.args.self.now.lister.source c.find.new.self.lister.source c.read.new.reader.lister.source c.in_ok-found.ensures.fetches.fetches c.in_ok-read-in-Record.ensures.takes.fetches.fetches;
   told = tt;
   good = λ file good. tt;
+  refusal = tt;
 }
 
 pub returns-in_ok-read-in-Record-clause-of_file : goal.returns-in_ok-read-in-Record-clause-of_file

@@ -9,7 +9,7 @@ returns-in_err-row-clause-fetches g c =
     let fault = c.in_err-row.field-0.0 in
     let is : c.from_residual.result ≡ Err fault = search rules in
     let told = c.in_err-row.ensures.fetches in
-    rw is (Fetches_later (Err fault) c.args.self.now.lister.source c.loop-rows.self.lister.source c.next.new.self.lister.source c.loop-rows.invariant.fetches (record { fetches = told.fetches; told = told.told; good = told.good }))
+    rw is (Fetches_later (Err fault) c.args.self.now.lister.source c.loop-rows.self.lister.source c.next.new.self.lister.source c.loop-rows.invariant.fetches (record { fetches = told.fetches; told = told.told; good = told.good; refusal = told.refusal }))
 
 pub loop-rows-preserved : goal.loop-rows-preserved
 loop-rows-preserved g c =
@@ -36,6 +36,7 @@ returns-in-Err-clause-fetches g c = record {
   fetches = FetchesSome_then c.args.self.now.lister.source c.loop-rows.self.lister.source c.next.new.self.lister.source c.loop-rows.invariant.fetches c.in_ok-row.ensures.fetches.fetches;
   told = tt;
   good = λ file good. refl;
+  refusal = tt;
 }
 
 pub returns-in-Behind-clause-fetches : goal.returns-in-Behind-clause-fetches
@@ -43,6 +44,7 @@ returns-in-Behind-clause-fetches g c = record {
   fetches = FetchesSome_then c.args.self.now.lister.source c.loop-rows.self.lister.source c.next.new.self.lister.source c.loop-rows.invariant.fetches c.in_ok-row.ensures.fetches.fetches;
   told = tt;
   good = λ file good. tt;
+  refusal = tt;
 }
 
 pub returns-in-Behind-clause-of_file : goal.returns-in-Behind-clause-of_file

@@ -8,7 +8,7 @@ returns-in_err-behind-in-Row-clause-fetches g c =
     let fault = c.in_err-behind-in-Row.field-0.0 in
     let is : c.from_residual-in_err-behind-in-Row.result ≡ Err fault = search rules in
     let told = c.in_err-behind-in-Row.ensures.fetches in
-    rw is (Fetches_later (Err fault) c.args.self.now.lister.source c.next.new.self.lister.source c.behind.new.self.lister.source c.in_ok-row.ensures.fetches.fetches (record { fetches = told.fetches; told = told.told; good = told.good }))
+    rw is (Fetches_later (Err fault) c.args.self.now.lister.source c.next.new.self.lister.source c.behind.new.self.lister.source c.in_ok-row.ensures.fetches.fetches (record { fetches = told.fetches; told = told.told; good = told.good; refusal = told.refusal }))
 
 pub returns-in_err-behind-in-Row-clause-of_file : goal.returns-in_err-behind-in-Row-clause-of_file
 returns-in_err-behind-in-Row-clause-of_file g c = λ file limit x xs known left kind one.
@@ -24,6 +24,7 @@ returns-in_ok-behind-in-Row-clause-fetches g c = record {
   fetches = FetchesSome_then c.args.self.now.lister.source c.next.new.self.lister.source c.behind.new.self.lister.source c.in_ok-row.ensures.fetches.fetches c.in_ok-behind-in-Row.ensures.fetches.fetches;
   told = tt;
   good = λ file good. tt;
+  refusal = tt;
 }
 
 pub returns-in_ok-behind-in-Row-clause-of_file : goal.returns-in_ok-behind-in-Row-clause-of_file
