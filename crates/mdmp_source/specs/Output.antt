@@ -1,13 +1,41 @@
 -- What an output has taken, and what a call that writes a text leaves.
-use Rattle.std.specs.Prelude.{◌≡◌, ℕ, List, ◌++◌, Option, Some, Result, MatchResult}
-use Rattle.mdmp_source.specs.Count.{HasRisen}
+use Rattle.std.specs.Prelude.{◌≡◌, ℕ, Bool, if◌then◌else◌, List, [], ◌∷◌, ◌++◌, Option, Some, Result, MatchResult}
+use Rattle.mdmp_source.specs.Count.{HasRisen, raised}
+
+-- how often an output refused, and by which loans it is reached
+pub record Refusals : Type 0 where
+  -- how often it answered an error, or took none of some bytes; the count stops at the greatest u128
+  pub count : ℕ
+  -- the names of the loans by which it is reached, the last one first; none where nothing on the way is lent
+  pub loans : List ℕ
+
+-- of an output that is reached by no loan
+abbrev pub unlent : ℕ → Refusals
+unlent count = record { count = count; loans = [] }
+
+-- one refusal more
+abbrev pub refused_once : Refusals → Refusals
+refused_once r = record { count = raised r.count 1; loans = r.loans }
+
+-- one refusal more, where the output refused
+abbrev pub refused_if : Bool → Refusals → Refusals
+refused_if more r = if more then refused_once r else r
+
+-- there are more since, or as many as can be counted, and the loans are the same
+pub record HasRefused (before after : Refusals) : Type 0 where
+  pub more : HasRisen before.count after.count
+  pub loans : after.loans ≡ before.loans
 
 -- an output as its callers see it
 pub record OutState : Type 0 where
   -- the bytes that it took, where they are known
   pub taken : Option (List ℕ)
-  -- how often it answered an error, or took none of some bytes; the count stops at the greatest u128
-  pub failures : ℕ
+  -- how often it refused, and its loans
+  pub failures : Refusals
+
+-- an output that is lent under this name
+abbrev pub lent : ℕ → OutState → OutState
+lent name out = record { taken = out.taken; failures = record { count = out.failures.count; loans = name ∷ out.failures.loans } }
 
 -- an output that had taken known bytes has taken no others
 abbrev pub Keeps : Option (List ℕ) → Option (List ℕ) → Type 0
@@ -32,7 +60,7 @@ pub record PutsAll (before : OutState) (text : List ℕ) (after : OutState) : Ty
 -- the output refused, and the first part of the text had gone out
 pub record PutsPrefix (before : OutState) (text : List ℕ) (after : OutState) : Type 0 where
   pub took : TakesPrefix before.taken text after.taken
-  pub refused : HasRisen before.failures after.failures
+  pub refused : HasRefused before.failures after.failures
 
 -- a call that writes a text: all of it, or an error because the output refused
 abbrev pub Puts : {T E : Type 0} → Result T E → OutState → List ℕ → OutState → Type 0

@@ -1,12 +1,17 @@
 -- Texts that go to an output one behind the other.
 use Rattle.std.specs.Prelude.{◌≡◌, ◌<◌, ◌++◌, ℕ, List, [], Option, Some, Result, Ok, Err, take, drop, length, slice_index_or}
 use Rattle.std.specs.List.{flat_map}
-use Rattle.std.proofs.Common.{ap, sym, subst, ◌∙◌, refl, suc, append_assoc, append-nil, drop-cons}
+use Rattle.std.proofs.Common.{arith, ap, sym, subst, ◌∙◌, refl, suc, append_assoc, append-nil, drop-cons}
 use Rattle.std.proofs.lemmas.List.{take-append-drop}
 use Rattle.std.proofs.lemmas.Grind.{flat_map-append}
 use Rattle.std.proofs.lemmas.List.Concat.{flat_map-cons}
-use Rattle.mdmp_source.specs.Count.{HasRisen}
-use Rattle.mdmp_source.specs.Output.{OutState, Takes, TakesPrefix, PutsAll, PutsPrefix, Puts}
+use Rattle.mdmp_source.specs.Output.{HasRefused, OutState, Refusals, refused_once, Takes, TakesPrefix, PutsAll, PutsPrefix, Puts}
+
+-- ---- refusals
+
+-- one refusal more
+pub HasRefused-once : (r : Refusals) → HasRefused r (refused_once r)
+HasRefused-once r = record { more = omega (arith); loans = refl }
 
 -- ---- all of a text
 
@@ -51,7 +56,7 @@ TakesPrefix-front a b first more took = record { sent = first; rest = more; whol
 pub PutsPrefix-behind : (a b c : OutState) (first next more : List ℕ) → PutsAll a first b → PutsPrefix b next c → PutsPrefix a (first ++ (next ++ more)) c
 PutsPrefix-behind a b c first next more put cut = record {
   took = TakesPrefix-behind a.taken b.taken c.taken first next more put.took cut.took;
-  refused = subst (λ (n : ℕ). HasRisen n c.failures) put.steady cut.refused;
+  refused = subst (λ (r : Refusals). HasRefused r c.failures) put.steady cut.refused;
 }
 
 pub PutsPrefix-last : (a b c : OutState) (first next : List ℕ) → PutsAll a first b → PutsPrefix b next c → PutsPrefix a (first ++ next) c

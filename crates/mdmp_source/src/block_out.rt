@@ -1,7 +1,7 @@
 //! An output that gathers small writes into blocks.
 ghost use Rattle.std.specs.Prelude.{◌≡◌, ◌≤◌, ◌<◌, ◌+◌, [], ◌↔◌, drop, IsOk, is_err, vec_len, vec_capacity};
-ghost use Rattle.mdmp_source.specs.Count.{raised_if};
 ghost use Rattle.mdmp_source.specs.Blocks.{BlockState, state_of, MovesFront};
+ghost use Rattle.mdmp_source.specs.Output.{refused_if};
 
 use crate::output::{Out, OutFailed, send};
 use std::alloc::{AllocFailed, Allocator};
@@ -66,6 +66,13 @@ impl<O: Out, A: Allocator> BlockOut<O, A> {
         &self.inner
     }
 
+    /// The inner output, given back. What is pending goes nowhere: `flush` before.
+    pub fn into_inner(self) -> O
+        ensures { O.state result ≡ self.inner }
+    {
+        self.inner
+    }
+
     /// The bytes that the inner output has yet to take.
     pub fn pending(&self) -> &[u8]
         ensures { result.now ≡ self.now.pending }
@@ -78,7 +85,7 @@ impl<O: Out, A: Allocator> BlockOut<O, A> {
     pub fn flush(&mut self) -> Result<(), OutFailed>
         ensures moved { MovesFront self.old.inner self.old.pending self.new.inner self.new.pending }
         ensures ok { IsOk result ↔ (self.new.pending ≡ []) }
-        ensures failures { self.new.inner.failures ≡ raised_if (is_err result) self.old.inner.failures }
+        ensures failures { self.new.inner.failures ≡ refused_if (is_err result) self.old.inner.failures }
         ensures room { self.new.room ≡ self.old.room }
     {
         send_front(&mut self.inner, &mut self.pending)
@@ -102,7 +109,7 @@ impl<O: Out, A: Allocator> Out for BlockOut<O, A> {
 fn send_front<O: Out, A: Allocator>(out: &mut O, pending: &mut Vec<u8, A>) -> Result<(), OutFailed>
     ensures moved { MovesFront (O.state out.old) pending.old.items (O.state out.new) pending.new.items }
     ensures ok { IsOk result ↔ (pending.new.items ≡ []) }
-    ensures failures { (O.state out.new).failures ≡ raised_if (is_err result) (O.state out.old).failures }
+    ensures failures { (O.state out.new).failures ≡ refused_if (is_err result) (O.state out.old).failures }
     ensures len { vec_len pending.new ≤ vec_len pending.old }
     ensures capacity { vec_capacity pending.new ≡ vec_capacity pending.old }
 {

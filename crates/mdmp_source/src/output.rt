@@ -2,7 +2,7 @@
 ghost use Rattle.std.specs.Prelude.{◌≡◌, ◌≤◌, ◌||◌, length, take, nat_lt, IfOk, OnErr, is_err};
 ghost use Rattle.mdmp_source.specs.Count.{raised_if};
 ghost use Rattle.mdmp_source.specs.Store.{is_empty_answer};
-ghost use Rattle.mdmp_source.specs.Output.{OutState, Keeps, Takes, Puts};
+ghost use Rattle.mdmp_source.specs.Output.{OutState, Keeps, Takes, Puts, refused_if};
 
 /// An output refused a call.
 #[derive(Clone, Copy, Debug, PartialEq, Eq)]
@@ -14,10 +14,10 @@ pub struct OutFailed;
 /// those that went to a terminal are not.
 // std's `Write` has no count of its failures, so no clause over it could say why a text was cut.
 pub trait Out {
-    ghost use Rattle.mdmp_source.specs.Output.{OutState, Keeps, Takes};
+    ghost use Rattle.mdmp_source.specs.Output.{OutState, Keeps, Takes, refused_if};
 
-    /// The bytes that it took so far, where they are known, and how often it refused: answered an
-    /// error, or took none of some bytes.
+    /// The bytes that it took so far, where they are known; how often it refused: answered an error, or
+    /// took none of some bytes; and the loans by which it is reached.
     ghost state: { Self → OutState };
 
     /// Takes the first bytes of `bytes`, and answers how many.
@@ -26,12 +26,14 @@ pub trait Out {
         ensures took { IfOk result (λ k. Takes (state self.old).taken (take k bytes.now) (state self.new).taken) }
         ensures none { OnErr result (Keeps (state self.old).taken (state self.new).taken) }
         ensures failures { (state self.new).failures
-            ≡ raised_if (is_err result || is_empty_answer result (length bytes.now)) (state self.old).failures };
+            ≡ refused_if (is_err result || is_empty_answer result (length bytes.now)) (state self.old).failures };
 }
 
-/// An output that is lent is one too.
+/// An output that is lent is one too, and tells its loan.
 impl<O: Out> Out for &mut O {
-    ghost state = { λ o. O.state o.now };
+    ghost use Rattle.mdmp_source.specs.Output.{lent};
+
+    ghost state = { λ o. lent o.ghost_name (O.state o.now) };
 
     fn write(&mut self, bytes: &[u8]) -> Result<usize, OutFailed> {
         O::write(*self, bytes)
@@ -58,7 +60,7 @@ pub fn send<O: Out>(out: &mut O, bytes: &[u8]) -> usize
     ensures bound { result ≤ length bytes.now }
     ensures took { Takes (O.state out.old).taken (take result bytes.now) (O.state out.new).taken }
     ensures failures { (O.state out.new).failures
-        ≡ raised_if (nat_lt result (length bytes.now)) (O.state out.old).failures }
+        ≡ refused_if (nat_lt result (length bytes.now)) (O.state out.old).failures }
 {
     let mut sent = 0;
     while sent < bytes.len() {

@@ -64,11 +64,11 @@ impl<A: Allocator> PatchyOut<A> {
 impl<A: Allocator> Out for PatchyOut<A> {
     ghost use Rattle.std.specs.Prelude.{◌≡◌, ◌++◌, ◌||◌, Some, IfOk, MatchResult, is_err, length, take};
     ghost use Rattle.mdmp_source.specs.Count.{raised, raised_if};
-    ghost use Rattle.mdmp_source.specs.Output.{OutState};
+    ghost use Rattle.mdmp_source.specs.Output.{OutState, unlent};
     ghost use Rattle.mdmp_source.specs.Patchy.{is_failing_call, taken_count};
     ghost use Rattle.mdmp_source.specs.Store.{is_empty_answer};
 
-    ghost state = { λ o. record { taken = Some o.taken; failures = o.failures } };
+    ghost state = { λ o. record { taken = Some o.taken; failures = unlent o.failures } };
 
     fn write(&mut self, bytes: &[u8]) -> Result<usize, OutFailed>
         ensures fails { is_err result ≡ is_failing_call self.old.fail_at self.old.calls }

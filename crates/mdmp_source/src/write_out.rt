@@ -12,11 +12,11 @@ pub struct WriteOut<W> {
 }
 
 impl<W: Write> WriteOut<W> {
-    ghost use Rattle.mdmp_source.specs.Output.{OutState};
+    ghost use Rattle.mdmp_source.specs.Output.{OutState, unlent};
 
     /// An output over this writer, which has not refused yet.
     pub fn new(writer: W) -> Self
-        ensures { ⟦<WriteOut<W> as Out>⟧.state result ≡ record { taken = W.contents writer; failures = 0 } }
+        ensures { ⟦<WriteOut<W> as Out>⟧.state result ≡ record { taken = W.contents writer; failures = unlent 0 } }
     {
         WriteOut {
             writer,
@@ -37,9 +37,9 @@ impl<W: Write> WriteOut<W> {
 }
 
 impl<W: Write> Out for WriteOut<W> {
-    ghost use Rattle.mdmp_source.specs.Output.{OutState};
+    ghost use Rattle.mdmp_source.specs.Output.{OutState, unlent};
 
-    ghost state = { λ o. record { taken = W.contents o.writer; failures = o.failures } };
+    ghost state = { λ o. record { taken = W.contents o.writer; failures = unlent o.failures } };
 
     fn write(&mut self, bytes: &[u8]) -> Result<usize, OutFailed> {
         let answer = self.writer.write(bytes).map_err(|_| OutFailed);

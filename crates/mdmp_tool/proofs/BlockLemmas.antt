@@ -2,8 +2,7 @@
 use Rattle.std.proofs.Common.{◌≡◌, ◌≤◌, ◌∙◌, ◌++◌, ℕ, List, [], ◌∷◌, Option, Some, None, ap, sym, refl, append_assoc, append-nil, subst, arith, inl, inr}
 use Rattle.std.specs.Prelude.{Result, Ok, Err}
 use Rattle.std.specs.Io.KnownBytes.{append_known}
-use Rattle.mdmp_source.specs.Count.{HasRisen}
-use Rattle.mdmp_source.specs.Output.{OutState, Keeps, Takes, TakesPrefix, PutsAll}
+use Rattle.mdmp_source.specs.Output.{HasRefused, OutState, Refusals, refused_once, Keeps, Takes, TakesPrefix, PutsAll}
 use Rattle.mdmp_source.specs.Blocks.{MovesFront}
 use Rattle.mdmp_source.specs.BlockLaws.{Keeps-moved}
 use Rattle.mdmp_source.specs.OutputLaws.{PutsAll-nothing}
@@ -110,7 +109,7 @@ first_out a b c old pending left text f done same short = record {
 }
 
 -- where the output refused, a first part of the text is out
-part_out : (a b c : OutState) (old pending left text : List ℕ) → Flush a b c old pending left → HasRisen a.failures c.failures
+part_out : (a b c : OutState) (old pending left text : List ℕ) → Flush a b c old pending left → HasRefused a.failures c.failures
     → TakesPrefix (with_pending a old).taken text (with_pending b pending).taken → RefusesWithin a text c
 part_out a b c old pending left text f risen cut = record {
   within = first_part-taken a.taken c.taken old left text f.none (TakesPrefix-Keeps _ _ _ text cut (Keeps-moved b pending c left f.moved));
@@ -125,7 +124,7 @@ ended up_to_a_fault P ends = ends
 ended past_faults P ends = absurd ends
 ended at_the_end P ends = ends
 
-at_fault : (pace : Pace) (P Q : Type 0) → (P → Q) → EndsAtFault pace P → EndsAtFault pace Q
+pub at_fault : (pace : Pace) (P Q : Type 0) → (P → Q) → EndsAtFault pace P → EndsAtFault pace Q
 at_fault up_to_a_fault P Q from ends = from ends
 at_fault past_faults P Q from ends = ends
 at_fault at_the_end P Q from ends = from ends
@@ -142,10 +141,21 @@ Writes-prefix at_the_end text a b (Err (Source f)) short = none_of a.taken b.tak
 Writes-prefix pace text a b (Err Out) cut = cut.took
 Writes-prefix pace text a b (Err fault) never = absurd never
 
--- the output's count of refusals does not fall
-no_fewer : {T : Type 0} (a b : OutState) (r : Result T ToolFault) → HasOutCause a r b → a.failures ≤ b.failures
-no_fewer a b (Err Out) cause = omega (arith, cause)
-no_fewer a b r cause = omega (arith, cause)
+-- the count of refusals does not fall, and the loans stay
+record IsSince (before after : Refusals) : Type 0 where
+  pub count : before.count ≤ after.count
+  pub loans : after.loans ≡ before.loans
+
+no_fewer : {T : Type 0} (a b : OutState) (r : Result T ToolFault) → HasOutCause a r b → IsSince a.failures b.failures
+no_fewer a b (Err Out) cause = record { count = omega (arith, cause.more); loans = cause.loans }
+no_fewer a b r cause = let count : b.failures.count ≡ a.failures.count = ap (λ (r : Refusals). r.count) cause in record {
+  count = omega (arith, count);
+  loans = ap (λ (r : Refusals). r.loans) cause;
+}
+
+-- so behind one refusal more there are more
+more_refused : (before now after : Refusals) → IsSince before now → after ≡ refused_once now → HasRefused before after
+more_refused before now after since once = subst (HasRefused before) (sym once) (record { more = omega (arith, since.count); loans = since.loans })
 
 -- ---- a run that is flushed
 
@@ -156,7 +166,7 @@ Runs-flushed {T = T} F choice Ends pace text a b c old pending left r s none mov
   flush : Flush a b c old pending left
   flush = record { none = none; moved = moved }
 
-  cut : HasRisen a.failures c.failures → RefusesWithin a text c
+  cut : HasRefused a.failures c.failures → RefusesWithin a text c
   cut risen = part_out a b c old pending left text flush risen (Writes-prefix pace text (with_pending a old) (with_pending b pending) r run.writes)
 
   put : (whole : List ℕ) → left ≡ [] → c.failures ≡ b.failures → PutsAll (with_pending a old) whole (with_pending b pending) → PutsAll a whole c
@@ -164,7 +174,7 @@ Runs-flushed {T = T} F choice Ends pace text a b c old pending left r s none mov
 
   through : (r : Result T ToolFault) → IsFlushed r left → c.failures ≡ b.failures
       → Runs F choice Ends pace text (with_pending a old) r (with_pending b pending)
-      → (HasRisen a.failures c.failures → RefusesWithin a text c) → RunsThrough F choice Ends pace text a r c
+      → (HasRefused a.failures c.failures → RefusesWithin a text c) → RunsThrough F choice Ends pace text a r c
   through (Ok x) done same run cut = record { says = run.says; writes = put text done same run.writes }
   through (Err (BadList f)) done same run cut = record { says = run.says; writes = at_fault pace _ _ (put text done same) run.writes }
   through (Err (Opening f)) done same run cut = record { says = run.says; writes = put [] done same run.writes }
@@ -175,7 +185,7 @@ Runs-flushed {T = T} F choice Ends pace text a b c old pending left r s none mov
   }
   through (Err Out) done same run cut =
       let writes = run.writes in
-      cut (subst (λ (n : ℕ). HasRisen a.failures n) (sym same) writes.refused)
+      cut (subst (HasRefused a.failures) (sym same) writes.refused)
   through (Err fault) done same run cut = absurd run.writes
 
   by : EndsFlushed r s b c → RunsThrough F choice Ends pace text a s c
@@ -183,8 +193,8 @@ Runs-flushed {T = T} F choice Ends pace text a b c old pending left r s none mov
       let done : IsFlushed r left = subst (λ (x : Result T ToolFault). IsFlushed x left) same flushed in
       subst (λ (x : Result T ToolFault). RunsThrough F choice Ends pace text a x c) (sym same) (through r done steady run cut)
   by (refused out more) =
-      let fewer : a.failures ≤ b.failures = no_fewer (with_pending a old) (with_pending b pending) r cause in
-      subst (λ (x : Result T ToolFault). RunsThrough F choice Ends pace text a x c) (sym out) (cut (omega (arith, more, fewer)))
+      let since : IsSince a.failures b.failures = no_fewer (with_pending a old) (with_pending b pending) r cause in
+      subst (λ (x : Result T ToolFault). RunsThrough F choice Ends pace text a x c) (sym out) (cut (more_refused a.failures b.failures c.failures since more))
 
 -- ---- what is said of whatever file
 
@@ -197,7 +207,7 @@ unless_early up_to_a_fault P Q from quiet = tt
 unless_early past_faults P Q from quiet = tt
 unless_early at_the_end P Q from quiet = from quiet
 
-quiet_from : {T : Type 0} (pace : Pace) (r : Result T ToolFault) (left : List ℕ) (P Q : Type 0) → IsFlushed r left → (left ≡ [] → P → Q) → IsQuiet pace r P → IsQuiet pace r Q
+pub quiet_from : {T : Type 0} (pace : Pace) (r : Result T ToolFault) (left : List ℕ) (P Q : Type 0) → IsFlushed r left → (left ≡ [] → P → Q) → IsQuiet pace r P → IsQuiet pace r Q
 quiet_from pace (Ok x) left P Q done from quiet = tt
 quiet_from pace (Err Out) left P Q done from quiet = tt
 quiet_from pace (Err (Opening f)) left P Q done from quiet = from done quiet
@@ -213,8 +223,8 @@ Tells-flushed {T = T} pace store size a b c old pending left r s none moved flus
   flush : Flush a b c old pending left
   flush = record { none = none; moved = moved }
 
-  fewer : a.failures ≤ b.failures
-  fewer = no_fewer (with_pending a old) (with_pending b pending) r tells.out_cause
+  since : IsSince a.failures b.failures
+  since = no_fewer (with_pending a old) (with_pending b pending) r tells.out_cause
 
   by : EndsFlushed r s b c → Tells in_blocks pace store size a s c
   by (stands same steady) =
@@ -232,5 +242,5 @@ Tells-flushed {T = T} pace store size a b c old pending left r s none moved flus
         refusal = tt;
         short = λ few. inr refl;
         quiet = tt;
-        out_cause = omega (arith, more, fewer);
+        out_cause = more_refused a.failures b.failures c.failures since more;
       })

@@ -1,7 +1,7 @@
 -- A run of a command over the listing of a file, from its parts.
-use Rattle.std.proofs.Common.{◌≡◌, ◌∙◌, ℕ, List, [], Some, ap, refl, sym, arith}
+use Rattle.std.proofs.Common.{◌≡◌, ◌∙◌, ℕ, List, [], Some, ap, refl, sym, subst}
 use Rattle.std.specs.Prelude.{Result, Ok, Err}
-use Rattle.mdmp_source.specs.Output.{OutState, PutsAll}
+use Rattle.mdmp_source.specs.Output.{HasRefused, Refusals, OutState, PutsAll}
 use Rattle.mdmp_source.specs.OutputLaws.{PutsAll-nothing, Takes-nothing}
 use Rattle.mdmp_lister.specs.declared.choice.Choice.{Choice}
 use Rattle.mdmp_lister.specs.declared.fault.OpenFault.{OpenFault}
@@ -59,9 +59,10 @@ IsQuiet-behind pace untouched (Err (Source fault)) behind = behind
 IsQuiet-behind pace untouched (Err Out) behind = tt
 IsQuiet-behind pace untouched (Err fault) behind = absurd behind
 
--- the counts of refusals are the same elsewhere
+-- the refusals are the same elsewhere
 pub cause_from : {T : Type 0} (a b start c : OutState) (r : Result T ToolFault) → start.failures ≡ a.failures → c.failures ≡ b.failures → HasOutCause a r b → HasOutCause start r c
-cause_from a b start c (Err Out) before same cause = omega (arith, before, same, cause)
+cause_from a b start c (Err Out) before same cause =
+    subst (λ (r : Refusals). HasRefused r c.failures) (sym before) (subst (HasRefused a.failures) (sym same) cause)
 cause_from a b start c r before same cause = same ∙ cause ∙ sym before
 
 -- a lister that was opened has given nothing

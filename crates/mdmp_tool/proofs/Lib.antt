@@ -9,6 +9,7 @@ pub mod Hexing
 pub mod ItemRows
 pub mod LineLemmas
 pub mod Listings
+pub mod Loans
 pub mod PdbRows
 pub mod PlainLines
 pub mod Printing

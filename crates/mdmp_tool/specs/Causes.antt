@@ -1,7 +1,6 @@
 -- Why a call ended with a fault, of whatever file.
 use Rattle.std.specs.Prelude.{◌≡◌, ℕ, None, Result, Err}
-use Rattle.mdmp_source.specs.Count.{HasRisen}
-use Rattle.mdmp_source.specs.Output.{OutState}
+use Rattle.mdmp_source.specs.Output.{HasRefused, OutState}
 use Rattle.mdmp_source.specs.Source.{SourceState, IsTold}
 use Rattle.mdmp_source.specs.declared.fault.SourceFault.{SourceFault}
 use Rattle.mdmp_source.specs.declared.fault.SourceFault.TheVariants.{Changed}
@@ -30,7 +29,7 @@ HasSourceCause old _ new = Unit {0}
 
 -- the output is at fault only where it refused
 abbrev pub HasOutCause : {T : Type 0} → OutState → Result T ToolFault → OutState → Type 0
-HasOutCause before (Err Out) after = HasRisen before.failures after.failures
+HasOutCause before (Err Out) after = HasRefused before.failures after.failures
 HasOutCause before _ after = after.failures ≡ before.failures
 
 -- a fault of the store and want of memory are told as such

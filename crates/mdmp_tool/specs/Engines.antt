@@ -1,7 +1,6 @@
 -- What every command over a listing promises, whatever it prints.
 use Rattle.std.specs.Prelude.{◌≡◌, ◌<◌, ◌⊎◌, ◌++◌, ℕ, List, [], Option, Some, None, Result, Ok, Err}
-use Rattle.mdmp_source.specs.Count.{HasRisen, raised}
-use Rattle.mdmp_source.specs.Output.{OutState, PutsAll, PutsPrefix, TakesPrefix}
+use Rattle.mdmp_source.specs.Output.{HasRefused, OutState, PutsAll, PutsPrefix, TakesPrefix, refused_once}
 use Rattle.mdmp_source.specs.Source.{SourceState, FetchesSome}
 use Rattle.mdmp_source.specs.Store.{StoreState, IsGood}
 use Rattle.mdmp_lister.specs.declared.choice.Choice.{Choice}
@@ -99,7 +98,7 @@ pub record IsFirstPart (taken : Option (List ℕ)) (whole : List ℕ) : Type 0 w
 -- the output refused, and what it has taken is a first part of what it had taken before and the text
 pub record RefusesWithin (before : OutState) (text : List ℕ) (after : OutState) : Type 0 where
   pub within : (start : List ℕ) → before.taken ≡ Some start → IsFirstPart after.taken (start ++ text)
-  pub refused : HasRisen before.failures after.failures
+  pub refused : HasRefused before.failures after.failures
 
 -- a run through blocks, of which the last is flushed, and may be refused behind any answer of the run
 abbrev pub RunsThrough : {T : Type 0} → List ℕ → Choice → (Result T ToolFault → Type 0) → Pace → List ℕ → OutState → Result T ToolFault → OutState → Type 0
@@ -114,7 +113,7 @@ IsFlushed answer pending = pending ≡ []
 -- what a run answers after the flush: the same, or the output's fault where the flush was refused
 pub data EndsFlushed {T : Type 0} (answer flushed : Result T ToolFault) (before after : OutState) : Type 0 where
   stands : flushed ≡ answer → after.failures ≡ before.failures → EndsFlushed answer flushed before after
-  refused : flushed ≡ Err Out → after.failures ≡ raised before.failures 1 → EndsFlushed answer flushed before after
+  refused : flushed ≡ Err Out → after.failures ≡ refused_once before.failures → EndsFlushed answer flushed before after
 
 -- ---- of whatever file
 

@@ -65,13 +65,12 @@ pub record IsOfSystem (source : SourceState) : Type 0 where
   pub store : IsNew source.store None false
   pub fetched : source.fetched ≡ 0
 
--- this was printed of a file, through blocks: `behind` is what the output behind them came to
+-- this was printed of a file
 pub record Prints (print : Print) (limit : ℕ) (before : Outputs) (status : ℕ) (after : Outputs) : Type 0 where
   pub old : SourceState
   pub new : SourceState
-  pub behind : OutState
   pub opened : IsOfSystem old
-  pub printed : HasPrinted print limit old before.out before.err status new behind after.err
+  pub printed : HasPrinted print limit old before.out before.err status new after.out after.err
 
 -- how a command ends that prints this of the file of this name, with names up to a limit
 pub data EndsPrint (print : Print) (limit : ℕ) (file : List ℕ) (before : Outputs) (status : ℕ) (after : Outputs) : Type 0 where

@@ -35,8 +35,9 @@ impl Held {
 
 impl Out for Held {
     ghost use Rattle.std.specs.Prelude.{Some};
+    ghost use Rattle.mdmp_source.specs.Output.{unlent};
 
-    ghost state = { λ h. record { taken = Some h.text.items; failures = h.failures } };
+    ghost state = { λ h. record { taken = Some h.text.items; failures = unlent h.failures } };
 
     fn write(&mut self, bytes: &[u8]) -> Result<usize, OutFailed> {
         if self.text.try_extend_from_slice(bytes).is_ok() {

@@ -121,7 +121,10 @@ fn print_file<R: Files, A: Allocator + Copy, O: Out, E: Out>(
         return tell::<(), E>(Err(ToolFault::Memory), err);
     };
     let mut blocks = BlockOut::over(buffer, out);
-    print_told(alloc, print, Source::new(store), limits, &mut blocks, err).status
+    let status = print_told(alloc, print, Source::new(store), limits, &mut blocks, err).status;
+    // The loan comes back for the prover alone: what was printed is what `out` took.
+    let _out = blocks.into_inner();
+    status
 }
 
 /// Copies the streams of these types out of one file into another, which is made.

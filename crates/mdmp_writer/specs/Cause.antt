@@ -1,7 +1,6 @@
 -- Why a writer stops.
 use Rattle.std.specs.Prelude.{◌≡◌, Result, Ok, Err, Bool, IsFalse}
-use Rattle.mdmp_source.specs.Count.{HasRisen}
-use Rattle.mdmp_source.specs.Output.{OutState}
+use Rattle.mdmp_source.specs.Output.{HasRefused, OutState}
 use Rattle.mdmp_writer.specs.declared.fault.WriteFault.{WriteFault}
 use Rattle.mdmp_writer.specs.declared.fault.WriteFault.TheVariants.{Layout, Out, View}
 
@@ -9,6 +8,6 @@ use Rattle.mdmp_writer.specs.declared.fault.WriteFault.TheVariants.{Layout, Out,
 -- stop, nothing was refused.
 abbrev pub HasCause : {T : Type 0} → Bool → Result T WriteFault → OutState → OutState → Type 0
 HasCause reliable (Ok x) before after = after.failures ≡ before.failures
-HasCause reliable (Err Out) before after = HasRisen before.failures after.failures
+HasCause reliable (Err Out) before after = HasRefused before.failures after.failures
 HasCause reliable (Err (View fault)) before after = IsFalse reliable × (after.failures ≡ before.failures)
 HasCause reliable (Err (Layout fault)) before after = ⊥

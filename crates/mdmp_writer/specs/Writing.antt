@@ -1,7 +1,6 @@
 -- What a writer of a whole dump answers, and what goes out.
 use Rattle.std.specs.Prelude.{◌≡◌, ℕ, Some, None, Result, Ok, Err, IsFalse}
-use Rattle.mdmp_source.specs.Count.{HasRisen}
-use Rattle.mdmp_source.specs.Output.{OutState, Takes, TakesPrefix}
+use Rattle.mdmp_source.specs.Output.{HasRefused, OutState, Takes, TakesPrefix}
 use Rattle.mdmp_dump.specs.declared.dump.Dump.{Dump}
 use Rattle.mdmp_dump.specs.Shape.{Shape}
 use Rattle.mdmp_writer.specs.declared.fault.WriteFault.{WriteFault}
@@ -15,7 +14,7 @@ use Rattle.mdmp_writer.specs.Written.{written}
 abbrev pub IsWritingOf : Shape → Result ℕ WriteFault → OutState → OutState → Type 0
 IsWritingOf shape (Ok size) before after = (size_answer shape.streams ≡ Ok size) × (after.failures ≡ before.failures)
 IsWritingOf shape (Err (Layout fault)) before after = (size_answer shape.streams ≡ Err fault) × (after ≡ before)
-IsWritingOf shape (Err Out) before after = (shape_fault shape.streams ≡ None) × HasRisen before.failures after.failures
+IsWritingOf shape (Err Out) before after = (shape_fault shape.streams ≡ None) × HasRefused before.failures after.failures
 IsWritingOf shape (Err (View fault)) before after =
     (shape_fault shape.streams ≡ None) × IsFalse shape.is_reliable × (after.failures ≡ before.failures)
 

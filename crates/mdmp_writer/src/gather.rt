@@ -1,7 +1,6 @@
 //! The caller's buffer, in which small pieces of a text are gathered.
 ghost use Rattle.std.specs.Prelude.{◌≡◌, ◌≤◌, ◌<◌, ◌+◌, ◌-◌, ◌++◌, ℕ, List, [], length, take, drop, get_or, min, nat_lt, Bool, IsTrue, Some, IfErr, IfOk, OnOk, MatchResult};
-ghost use Rattle.mdmp_source.specs.Count.{raised_if};
-ghost use Rattle.mdmp_source.specs.Output.{Takes};
+ghost use Rattle.mdmp_source.specs.Output.{Takes, refused_if};
 ghost use Rattle.mdmp_writer.specs.Gather.{gathered, Puts, Writes};
 ghost use Rattle.mdmp_writer.specs.Cause.{HasCause};
 
@@ -118,7 +117,7 @@ fn send_front<O: Out>(out: &mut O, buffer: &mut [u8], held: usize) -> usize
     ensures len { length buffer.new ≡ length buffer.old }
     ensures bound { result ≤ held }
     ensures puts { Puts (gathered (O.state out.old) (take held buffer.old)) [] (gathered (O.state out.new) (take result buffer.new)) }
-    ensures failures { (O.state out.new).failures ≡ raised_if (nat_lt 0 result) (O.state out.old).failures }
+    ensures failures { (O.state out.new).failures ≡ refused_if (nat_lt 0 result) (O.state out.old).failures }
 {
     let sent = send(out, &buffer[..held]);
     move_front(buffer, sent, held);

@@ -75,6 +75,15 @@ fn block_of_a_buffer_is_its_room(rt: HostRuntime) -> Result<(), Fail> {
 }
 
 #[test]
+fn inner_output_comes_back_without_what_is_pending(rt: HostRuntime) -> Result<(), Fail> {
+    let inner = patchy_out(rt.alloc(), 100, 100, None)?;
+    let mut blocks = blocks_of(rt.alloc(), 2, inner).ok_or("room")?;
+    write_pieces(&rt, &mut blocks, &[b"abc".as_slice()]);
+    assert_taken(&rt, &blocks.into_inner(), b"ab");
+    Ok(())
+}
+
+#[test]
 fn with_room_succeeds(rt: HostRuntime) -> Result<(), Fail> {
     let inner = patchy_out(rt.alloc(), 5, 5, None)?;
     assert_taken(&rt, &inner, b"");

@@ -1,0 +1,119 @@
+-- What was printed to a loan of an output was printed to the output.
+use Rattle.std.proofs.Common.{◌≡◌, ◌∙◌, ℕ, List, ◌∷◌, [], ap, refl, sym, subst}
+use Rattle.std.specs.Prelude.{Result, Ok, Err}
+use Rattle.mdmp_source.specs.Output.{HasRefused, OutState, PutsAll, PutsPrefix, Refusals, lent}
+use Rattle.mdmp_source.specs.Source.{SourceState}
+use Rattle.mdmp_source.specs.Store.{StoreState}
+use Rattle.mdmp_lister.specs.declared.choice.Choice.{Choice}
+use Rattle.mdmp_tool.specs.declared.fault.ToolFault.{ToolFault}
+use Rattle.mdmp_tool.specs.declared.fault.ToolFault.TheVariants.{Opening, List as BadList, Source, Memory, Out}
+use Rattle.mdmp_words.specs.declared.request.Print.{Print}
+use Rattle.mdmp_words.specs.declared.request.Print.TheVariants.{Check, List as Listing, Hex}
+use Rattle.mdmp_tool.specs.Causes.{HasOutCause}
+use Rattle.mdmp_tool.specs.Commands.{HasPrinted, HasRun}
+use Rattle.mdmp_tool.specs.Engines.{IsFlushed, Pace, RefusesWithin, RunsThrough, StopsShort, Tells, Writes, in_blocks}
+use Rattle.mdmp_tool.proofs.BlockLemmas.{at_fault, quiet_from}
+
+-- ---- the loans stay
+
+cause_loans : {T : Type 0} (r : Result T ToolFault) (a b : OutState) → HasOutCause a r b → b.failures.loans ≡ a.failures.loans
+cause_loans (Err Out) a b cause = cause.loans
+cause_loans r a b cause = ap (λ (f : Refusals). f.loans) cause
+
+printed_loans : (print : Print) (limit : ℕ) (old : SourceState) (before err_before : OutState) (status : ℕ) (new : SourceState) (after err_after : OutState)
+    → HasPrinted print limit old before err_before status new after err_after → after.failures.loans ≡ before.failures.loans
+printed_loans Check limit old before err_before status new after err_after ran = cause_loans ran.answer before after ran.tells.out_cause
+printed_loans (Listing pdb) limit old before err_before status new after err_after ran = cause_loans ran.answer before after ran.tells.out_cause
+printed_loans (Hex span) limit old before err_before status new after err_after ran = cause_loans ran.answer before after ran.tells.out_cause
+
+-- ---- what is said of an output that is lent holds of its lender
+
+flushed_none : {T : Type 0} (r : Result T ToolFault) → IsFlushed r []
+flushed_none (Err Out) = tt
+flushed_none r = refl
+
+module _ (name : ℕ) (a b : OutState) where
+  same_refusals : (lent name b).failures ≡ (lent name a).failures → b.failures ≡ a.failures
+  same_refusals same =
+      let count : b.failures.count ≡ a.failures.count = ap (λ (f : Refusals). f.count) same in
+      let all : name ∷ b.failures.loans ≡ name ∷ a.failures.loans = ap (λ (f : Refusals). f.loans) same in
+      let loans : b.failures.loans ≡ a.failures.loans = cc in
+      λ i. record { count = count i; loans = loans i }
+
+  more_refusals : HasRefused (lent name a).failures (lent name b).failures → HasRefused a.failures b.failures
+  more_refusals refused =
+      let all : name ∷ b.failures.loans ≡ name ∷ a.failures.loans = refused.loans in
+      let loans : b.failures.loans ≡ a.failures.loans = cc in
+      record { more = refused.more; loans = loans }
+
+  puts_all : (text : List ℕ) → PutsAll (lent name a) text (lent name b) → PutsAll a text b
+  puts_all text put = record { took = put.took; steady = same_refusals put.steady }
+
+  puts_prefix : (text : List ℕ) → PutsPrefix (lent name a) text (lent name b) → PutsPrefix a text b
+  puts_prefix text cut = record { took = cut.took; refused = more_refusals cut.refused }
+
+  stops_short : (text : List ℕ) → StopsShort (lent name a) text (lent name b) → StopsShort a text b
+  stops_short text cut = record { took = cut.took; steady = same_refusals cut.steady }
+
+  refuses_within : (text : List ℕ) → RefusesWithin (lent name a) text (lent name b) → RefusesWithin a text b
+  refuses_within text cut = record { within = cut.within; refused = more_refusals cut.refused }
+
+  module _ {T : Type 0} (pace : Pace) where
+    writes_lent : (text : List ℕ) (r : Result T ToolFault) → Writes pace text (lent name a) r (lent name b) → Writes pace text a r b
+    writes_lent text (Ok x) put = puts_all text put
+    writes_lent text (Err (BadList f)) put = at_fault pace _ _ (puts_all text) put
+    writes_lent text (Err (Opening f)) put = puts_all [] put
+    writes_lent text (Err Memory) put = puts_all [] put
+    writes_lent text (Err (Source f)) put = stops_short _ put
+    writes_lent text (Err Out) put = puts_prefix text put
+    writes_lent text (Err fault) never = absurd never
+
+    runs_lent : (F : List ℕ) (choice : Choice) (Ends : Result T ToolFault → Type 0) (text : List ℕ) (r : Result T ToolFault)
+        → RunsThrough F choice Ends pace text (lent name a) r (lent name b) → RunsThrough F choice Ends pace text a r b
+    runs_lent F choice Ends text (Err Out) cut = refuses_within text cut
+    runs_lent F choice Ends text r run = record { says = run.says; writes = writes_lent text r run.writes }
+
+    cause_lent : (r : Result T ToolFault) → HasOutCause (lent name a) r (lent name b) → HasOutCause a r b
+    cause_lent (Err Out) cause = more_refusals cause
+    cause_lent r cause = same_refusals cause
+
+    tells_lent : (store : StoreState) (size : ℕ) (r : Result T ToolFault) → Tells in_blocks pace store size (lent name a) r (lent name b) → Tells in_blocks pace store size a r b
+    tells_lent store size r tells = record {
+      good = tells.good;
+      refusal = tells.refusal;
+      short = tells.short;
+      quiet = quiet_from pace r [] _ _ (flushed_none r) (λ _. puts_all []) tells.quiet;
+      out_cause = cause_lent r tells.out_cause;
+    }
+
+    run_lent : (End : Result T ToolFault → ℕ → OutState → OutState → Type 0) (Through : List ℕ → OutState → Result T ToolFault → OutState → Type 0)
+        (old : SourceState) (err_before : OutState) (status : ℕ) (new : SourceState) (err_after : OutState)
+        → ((file : List ℕ) (r : Result T ToolFault) → Through file (lent name a) r (lent name b) → Through file a r b)
+        → HasRun End Through pace old (lent name a) err_before status new (lent name b) err_after → HasRun End Through pace old a err_before status new b err_after
+    run_lent End Through old err_before status new err_after through ran = record {
+      answer = ran.answer;
+      ends = ran.ends;
+      writes = λ file known. through file ran.answer (ran.writes file known);
+      tells = tells_lent old.store old.size ran.answer ran.tells;
+      reads = ran.reads;
+    }
+
+  has_printed : (print : Print) (limit : ℕ) (old : SourceState) (err_before : OutState) (status : ℕ) (new : SourceState) (err_after : OutState)
+      → HasPrinted print limit old (lent name a) err_before status new (lent name b) err_after → HasPrinted print limit old a err_before status new b err_after
+  has_printed Check limit old err_before status new err_after ran = run_lent _ _ _ old err_before status new err_after (λ file. runs_lent _ file _ _ _) ran
+  has_printed (Listing pdb) limit old err_before status new err_after ran = run_lent _ _ _ old err_before status new err_after (λ file. runs_lent _ file _ _ _) ran
+  has_printed (Hex span) limit old err_before status new err_after ran = run_lent _ _ _ old err_before status new err_after (λ file. runs_lent _ file _ _ _) ran
+
+-- what was printed to a loan, which came back, was printed to its lender
+pub printed_lent : (print : Print) (limit : ℕ) (old : SourceState) (name last : ℕ) (start behind stop : OutState) (err_before : OutState) (status : ℕ) (new : SourceState)
+    (inner_old inner_new err_after : OutState) → inner_old ≡ lent name start → lent last behind ≡ inner_new
+    → HasPrinted print limit old inner_old err_before status new inner_new err_after → (last ≡ name → behind ≡ stop)
+    → HasPrinted print limit old start err_before status new stop err_after
+printed_lent print limit old name last start behind stop err_before status new inner_old inner_new err_after began ended ran back =
+    let loans : last ∷ behind.failures.loans ≡ name ∷ start.failures.loans =
+    ap (λ (o : OutState). o.failures.loans) ended ∙ printed_loans print limit old inner_old err_before status new inner_new err_after ran ∙ ap (λ (o : OutState). o.failures.loans) began in
+    let same : last ≡ name = cc in
+    let stops : inner_new ≡ lent name stop = sym ended ∙ (ap (λ (n : ℕ). lent n behind) same ∙ ap (lent name) (back same)) in
+    has_printed name start stop print limit old err_before status new err_after (
+    subst (λ (x : OutState). HasPrinted print limit old x err_before status new (lent name stop) err_after) began
+    (subst (λ (y : OutState). HasPrinted print limit old inner_old err_before status new y err_after) stops ran))

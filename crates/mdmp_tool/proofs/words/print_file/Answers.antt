@@ -1,0 +1,16 @@
+use Rattle.std.proofs.Common.{ap, rules}
+use Rattle.mdmp_source.specs.Blocks.{BlockState}
+use Rattle.mdmp_tool.proofs.Loans.{printed_lent}
+use Rattle.mdmp_tool.specs.Words.{printed}
+use Rattle.mdmp_tool.proofs.words.print_file.Goals as goal
+
+pub returns : goal.returns
+returns g c =
+    printed (record {
+      old = _;
+      new = _;
+      opened = search rules;
+      printed = printed_lent c.args.print c.args.limits.name _ _ c.into_inner-out.result.ghost_name (g.O.Out.state c.args.out.now)
+          (g.O.Out.state c.into_inner-out.result.now) _ _ _ _ _ _ _ (ap (λ (b : BlockState). b.inner) c.over-blocks.ensures) c.into_inner-out.ensures c.print_told-status.ensures
+          (λ same. ap g.O.Out.state (search (same, rules)));
+    })
