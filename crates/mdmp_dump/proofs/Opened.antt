@@ -18,6 +18,7 @@ use Rattle.mdmp_lister.specs.Opening.{IsOpenRefusal, IsRefusalOf, IsUnread, IsUn
 use Rattle.mdmp_dump.specs.Reading.{Fetches, IsOwn, refusal_of}
 use Rattle.mdmp_dump.specs.Refusal.{read_refusal}
 use Rattle.mdmp_dump.proofs.Budget.{Fetches-read}
+use Rattle.mdmp_dump.proofs.Taking.{Fetches_memory}
 
 -- ---- the header and the directory
 
@@ -65,5 +66,5 @@ pub opening-fetches : {T : Type 0} (n : ℕ) (fault : OpenFault) (old new : Sour
 opening-fetches {T = T} n (opening.Source fault) old new fetches cause good refusal =
     let read = Fetches-read {T = T} n fault old new fetches cause.0 (λ file is. good file is tt) in
     record { fetches = read.fetches; told = read.told; good = read.good; refusal = refusal }
-opening-fetches n opening.Memory old new fetches cause good refusal = record { fetches = record { count = n; fetches = fetches }; told = tt; good = λ file is. refl; refusal = tt }
+opening-fetches n opening.Memory old new fetches cause good refusal = Fetches_memory old new (record { count = n; fetches = fetches })
 opening-fetches n fault old new fetches cause good refusal = record { fetches = record { count = n; fetches = fetches }; told = tt; good = λ file is. refl; refusal = refusal }

@@ -2,7 +2,7 @@
 use Rattle.std.proofs.Common.{◌≡◌, ◌∙◌, ℕ, Bool, true, false, List, [], ◌∷◌, ◌++◌, length, slice_get, Option, Some, None, Result, Ok, Err, ap, refl, subst, sym}
 use Rattle.std.specs.Prelude.{IsTrue, IsFalse, IfOk, is_some, not, ◌==◌, ◌&&◌, ◌||◌, if◌then◌else◌}
 use Rattle.mdmp_source.specs.Range.{is_inside}
-use Rattle.mdmp_source.specs.Source.{SourceState, FetchesSome}
+use Rattle.mdmp_source.specs.Source.{FetchesSome}
 use Rattle.mdmp_source.specs.Store.{IsSizeOf}
 use Rattle.mdmp_source.specs.declared.location.Location.{Location}
 use Rattle.mdmp_lister.specs.declared.fault.Fault.{Fault}
@@ -23,22 +23,10 @@ use Rattle.mdmp_dump.specs.declared.dump.Stream.TheVariants as streams
 use Rattle.mdmp_dump.specs.declared.reader.Reader.{Reader}
 use Rattle.mdmp_dump.specs.LaysOut.{HasBytes}
 use Rattle.mdmp_dump.specs.Left.{is_item_of, left_from, run_of}
-use Rattle.mdmp_dump.specs.Reading.{Fetches, HasBytesAt, HasOneRecord, IsEntryRead, IsLeftBehind, IsNextStream, IsOneStream, IsRaw, NoRowFirst, Settles, Takes, owed, refusal_in}
+use Rattle.mdmp_dump.specs.Reading.{HasBytesAt, HasOneRecord, IsEntryRead, IsLeftBehind, IsNextStream, IsOneStream, IsRaw, NoRowFirst, Settles, Takes, owed, refusal_in}
 use Rattle.mdmp_dump.specs.Refusal.{Step, Take, first_refusal, stream_steps}
-use Rattle.mdmp_dump.proofs.Taking.{FetchesSome_none, FetchesSome_then, Fetches_later}
+use Rattle.mdmp_dump.proofs.Taking.{FetchesSome_none}
 use Rattle.mdmp_dump.proofs.Left.{all_given, no_row_first, stream_given}
-
--- ---- some fetches, and then more
-
--- an answer behind some fetches
-module _ {T : Type 0} (a b c : SourceState) (first : FetchesSome a b) where
-  pub fetches_ok : (x : T) → FetchesSome b c → Fetches (Ok x) a c
-  fetches_ok x more = record { fetches = FetchesSome_then a b c first more; told = tt; good = λ file good. tt; refusal = tt }
-
-  pub fetches_err : {U : Type 0} (fault : ReadFault) → Fetches {T = U} (Err fault) b c → Fetches {T = T} (Err fault) a c
-  fetches_err fault more =
-      let all = Fetches_later (Err fault) a b c first more in
-      record { fetches = all.fetches; told = all.told; good = all.good; refusal = all.refusal }
 
 -- ---- behind an entry
 

@@ -1,5 +1,6 @@
 -- Steps that are taken one after another.
 use Rattle.std.proofs.Common.{◌≡◌, ◌∙◌, ◌+◌, ℕ, List, [], ◌++◌, Option, Some, None, Result, Ok, Err, ap, append_assoc, refl, subst, sym}
+use Rattle.std.specs.Prelude.{IfSome}
 use Rattle.mdmp_source.specs.Source.{SourceState, FetchesSome}
 use Rattle.mdmp_source.specs.SourceLaws.{fetches_then, told_later}
 use Rattle.mdmp_source.specs.declared.fault.SourceFault.{SourceFault}
@@ -26,21 +27,40 @@ FetchesSome_then a b c first then = record {
 }
 
 -- a fault that is told behind some fetches is told by them all
-pub last_told_later : (fault : Option SourceFault) (a b c : SourceState) → FetchesSome a b → IsLastTold fault b c → IsLastTold fault a c
+pub last_told_later : (fault : Option SourceFault) (a b c : SourceState) → FetchesSome a b
+    → IfSome fault (λ of_store. IsLastTold of_store b c) → IfSome fault (λ of_store. IsLastTold of_store a c)
 last_told_later (Some (Changed at)) a b c first told = sym first.fetches.same_content ∙ told
 last_told_later (Some (Failed at)) a b c first told = told_later (Failed at) first.count a b c first.fetches told
 last_told_later (Some (ShortRead at)) a b c first told = told_later (ShortRead at) first.count a b c first.fetches told
 last_told_later None a b c first told = tt
 
+-- no fault of the store behind some fetches: an answer, or want of memory
+pub Fetches_only : {T : Type 0} (x : T) (a b : SourceState) → FetchesSome a b → Fetches (Ok x) a b
+Fetches_only x a b some = record { fetches = some; told = tt; good = λ file good. tt; refusal = tt }
+
+pub Fetches_memory : {T : Type 0} (a b : SourceState) → FetchesSome a b → Fetches {T = T} (Err faults.Memory) a b
+Fetches_memory a b some = record { fetches = some; told = tt; good = λ file good. refl; refusal = tt }
+
+-- a fault where another type of answer was asked for
+pub Fetches_as : {T U : Type 0} (fault : ReadFault) (a b : SourceState) → Fetches {T = T} (Err fault) a b → Fetches {T = U} (Err fault) a b
+Fetches_as fault a b told = record { fetches = told.fetches; told = told.told; good = told.good; refusal = told.refusal }
+
 -- fetches without a fault, and then more
+module _ {T : Type 0} (a b c : SourceState) (first : FetchesSome a b) where
+  pub fetches_ok : (x : T) → FetchesSome b c → Fetches (Ok x) a c
+  fetches_ok x more = Fetches_only x a c (FetchesSome_then a b c first more)
+
+  pub fetches_err : {U : Type 0} (fault : ReadFault) → Fetches {T = U} (Err fault) b c → Fetches {T = T} (Err fault) a c
+  fetches_err fault more = record {
+    fetches = FetchesSome_then a b c first more.fetches;
+    told = last_told_later (store_fault fault) a b c first more.told;
+    good = λ file good. more.good file (IsGood-later file first.count a b first.fetches good);
+    refusal = subst (λ (size : ℕ). IsReadRefusal size fault) first.fetches.same_size more.refusal;
+  }
+
 pub Fetches_later : {T : Type 0} (result : Result T ReadFault) (a b c : SourceState) → FetchesSome a b → Fetches result b c → Fetches result a c
-Fetches_later (Ok x) a b c first then = record { fetches = FetchesSome_then a b c first then.fetches; told = tt; good = λ file good. tt; refusal = tt }
-Fetches_later (Err fault) a b c first then = record {
-  fetches = FetchesSome_then a b c first then.fetches;
-  told = last_told_later (store_fault fault) a b c first then.told;
-  good = λ file good. then.good file (IsGood-later file first.count a b first.fetches good);
-  refusal = subst (λ (size : ℕ). IsReadRefusal size fault) first.fetches.same_size then.refusal;
-}
+Fetches_later (Ok x) a b c first then = fetches_ok a b c first x then.fetches
+Fetches_later (Err fault) a b c first then = fetches_err a b c first fault then
 
 -- ---- steps
 
@@ -49,7 +69,7 @@ module _ {S A : Type 0} where
   pub Takes_none : {T : Type 0} (old : Reader S A) (x : T) → Takes [] old (Ok x) old
   Takes_none old x = record {
     same = refl;
-    fetches = record { fetches = FetchesSome_none old.lister.source; told = tt; good = λ file good. tt; refusal = tt };
+    fetches = Fetches_only x old.lister.source old.lister.source (FetchesSome_none old.lister.source);
     settles = λ rest last. refl;
   }
 
@@ -57,7 +77,7 @@ module _ {S A : Type 0} where
   pub Takes_memory : {T : Type 0} (steps : List Step) (old : Reader S A) → Takes {T = T} steps old (Err faults.Memory) old
   Takes_memory steps old = record {
     same = refl;
-    fetches = record { fetches = FetchesSome_none old.lister.source; told = tt; good = λ file good. refl; refusal = tt };
+    fetches = Fetches_memory old.lister.source old.lister.source (FetchesSome_none old.lister.source);
     settles = λ rest last other. absurd (other tt);
   }
 
@@ -74,7 +94,7 @@ module _ {S A : Type 0} where
     pub Takes_as : (x : T) (y : U) (new : Reader S A) → Takes steps old (Ok x) new → Takes steps old (Ok y) new
     Takes_as x y new takes = record {
       same = takes.same;
-      fetches = record { fetches = takes.fetches.fetches; told = tt; good = λ file good. tt; refusal = tt };
+      fetches = Fetches_only y old.lister.source new.lister.source takes.fetches.fetches;
       settles = λ rest last. takes.settles rest last;
     }
 
@@ -95,7 +115,7 @@ module _ {S A : Type 0} where
         → Takes {T = T} steps old (Err fault) new → Takes {T = U} (steps ++ more) old (Err fault) new
     Takes_fault more fault new takes = record {
       same = takes.same;
-      fetches = record { fetches = takes.fetches.fetches; told = takes.fetches.told; good = takes.fetches.good; refusal = takes.fetches.refusal };
+      fetches = Fetches_as fault old.lister.source new.lister.source takes.fetches;
       settles = λ rest last other.
           ap (λ (all : List Step). first_refusal old.left 0 all last) (append_assoc steps more rest) ∙ takes.settles (more ++ rest) last other;
     }
@@ -104,7 +124,7 @@ module _ {S A : Type 0} where
     pub Takes_fault_as : (fault : ReadFault) (new : Reader S A) → Takes {T = T} steps old (Err fault) new → Takes {T = U} steps old (Err fault) new
     Takes_fault_as fault new takes = record {
       same = takes.same;
-      fetches = record { fetches = takes.fetches.fetches; told = takes.fetches.told; good = takes.fetches.good; refusal = takes.fetches.refusal };
+      fetches = Fetches_as fault old.lister.source new.lister.source takes.fetches;
       settles = λ rest last other. takes.settles rest last other;
     }
 

@@ -1,5 +1,5 @@
 -- What reading a file into a value does, step by step.
-use Rattle.std.specs.Prelude.{◌≡◌, ◌≤◌, ◌<◌, ◌+◌, ◌*◌, ℕ, List, [], ◌∷◌, ◌++◌, length, Option, Some, None, Result, Ok, Err, IsTrue, IsFalse, ◌==◌, IfErr, IfOk, slice_get, flat_map, option_map}
+use Rattle.std.specs.Prelude.{◌≡◌, ◌≤◌, ◌<◌, ◌+◌, ◌*◌, ℕ, List, [], ◌∷◌, ◌++◌, length, Option, Some, None, Result, Ok, Err, IsTrue, IsFalse, ◌==◌, IfErr, IfOk, IfSome, slice_get, flat_map, option_map}
 use Rattle.mdmp_source.specs.Source.{SourceState, FetchesSome, IsTold}
 use Rattle.mdmp_source.specs.Store.{IsGood}
 use Rattle.mdmp_source.specs.declared.fault.SourceFault.{SourceFault}
@@ -69,10 +69,9 @@ IsOwn fault = (told : SourceFault) × (store_fault fault ≡ Some told)
 
 -- a fault of the store is the last that the source told, and has its cause in these fetches; or the store has changed, which
 -- one of known content does not
-abbrev pub IsLastTold : Option SourceFault → SourceState → SourceState → Type 0
-IsLastTold (Some (Changed at)) old new = old.store.content ≡ None
-IsLastTold (Some fault) old new = IsTold fault old new
-IsLastTold None old new = Unit {0}
+abbrev pub IsLastTold : SourceFault → SourceState → SourceState → Type 0
+IsLastTold (Changed at) old new = old.store.content ≡ None
+IsLastTold fault old new = IsTold fault old new
 
 -- the first refusal that is left is told, unless memory or the store is wanting; or it is left still
 abbrev pub Settles : {T : Type 0} → Option ReadFault → Result T ReadFault → (T → Option ReadFault) → Type 0
@@ -82,7 +81,7 @@ Settles old (Err fault) new = (IsOwn fault → ⊥) → old ≡ Some fault
 -- some fetches, of which a fault of the store is told as such, and one of the opening is that of a file of this size
 pub record Fetches {T : Type 0} (result : Result T ReadFault) (old new : SourceState) : Type 0 where
   pub fetches : FetchesSome old new
-  pub told : IfErr result (λ fault. IsLastTold (store_fault fault) old new)
+  pub told : IfErr result (λ fault. IfSome (store_fault fault) (λ of_store. IsLastTold of_store old new))
   pub good : (file : List ℕ) → IsGood old.store file → IfErr result (λ fault. store_fault fault ≡ None)
   pub refusal : IfErr result (IsReadRefusal old.size)
 

@@ -17,9 +17,9 @@ use Rattle.mdmp_lister.specs.declared.verdict.Verdict.{Verdict}
 use Rattle.mdmp_lister.specs.Fault.{IsOfSource, IsToldBy, IsToldIn}
 use Rattle.mdmp_lister.specs.Format.Listing.{Numbered, entries_from, entry_count, only_chosen, verdicts}
 use Rattle.mdmp_lister.specs.Sink.{Taken, TakenToStop}
+use Rattle.mdmp_dump.specs.Reading.{IsLastTold}
 use Rattle.mdmp_tool.specs.declared.fault.ToolFault.{ToolFault}
 use Rattle.mdmp_tool.specs.declared.fault.ToolFault.TheVariants.{Source}
-use Rattle.mdmp_tool.specs.Causes.{IsLastTold}
 use Rattle.mdmp_tool.specs.CheckRuns.{TakesVerdict}
 use Rattle.mdmp_tool.specs.CheckText.{bad_count, fault_count, verdict_line, verdict_lines}
 use Rattle.mdmp_tool.specs.Engines.{StopsShort}

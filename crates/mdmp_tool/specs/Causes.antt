@@ -1,13 +1,12 @@
 -- Why a call ended with a fault, of whatever file.
-use Rattle.std.specs.Prelude.{◌≡◌, ℕ, None, Result, Err}
+use Rattle.std.specs.Prelude.{◌≡◌, ℕ, Result, Err}
 use Rattle.mdmp_source.specs.Output.{HasRefused, OutState}
-use Rattle.mdmp_source.specs.Source.{SourceState, IsTold}
-use Rattle.mdmp_source.specs.declared.fault.SourceFault.{SourceFault}
-use Rattle.mdmp_source.specs.declared.fault.SourceFault.TheVariants.{Changed}
+use Rattle.mdmp_source.specs.Source.{SourceState}
 use Rattle.mdmp_lister.specs.declared.fault.OpenFault.{OpenFault}
 use Rattle.mdmp_lister.specs.declared.fault.OpenFault.TheVariants as opening
 use Rattle.mdmp_lister.specs.Opening.{IsOpenRefusal}
 use Rattle.mdmp_lister.specs.Fault.{IsOfSource}
+use Rattle.mdmp_dump.specs.Reading.{IsLastTold}
 use Rattle.mdmp_tool.specs.declared.fault.ToolFault.{ToolFault}
 use Rattle.mdmp_tool.specs.declared.fault.ToolFault.TheVariants.{Opening, List, Reading, Layout, Source, Out, NotCopied}
 
@@ -15,12 +14,6 @@ use Rattle.mdmp_tool.specs.declared.fault.ToolFault.TheVariants.{Opening, List, 
 abbrev pub IsNoSourceFault : {T : Type 0} → Result T ToolFault → Type 0
 IsNoSourceFault (Err (Source fault)) = ⊥
 IsNoSourceFault _ = Unit {0}
-
--- the fault is the last that the source answered, and names where its store gave nothing in this call; or the store has
--- changed, which one of known content does not
-abbrev pub IsLastTold : SourceFault → SourceState → SourceState → Type 0
-IsLastTold (Changed at) old new = old.store.content ≡ None
-IsLastTold fault old new = IsTold fault old new
 
 -- a source's fault is told as the source answered it, and has its cause in this call
 abbrev pub HasSourceCause : {T : Type 0} → SourceState → Result T ToolFault → SourceState → Type 0
@@ -38,9 +31,13 @@ IsOfFile (opening.Source fault) = ⊥
 IsOfFile opening.Memory = ⊥
 IsOfFile fault = Unit {0}
 
+-- an opening is refused for what is in a file of `size` bytes, and such a file may be refused so
+abbrev pub IsOpeningTold : ℕ → OpenFault → Type 0
+IsOpeningTold size fault = IsOfFile fault × IsOpenRefusal size fault
+
 -- a listing of a file of size bytes that is refused may be, and what is told of the file is its own; no listing is a copy
 abbrev pub IsRefusal : {T : Type 0} → ℕ → Result T ToolFault → Type 0
-IsRefusal size (Err (Opening fault)) = IsOfFile fault × IsOpenRefusal size fault
+IsRefusal size (Err (Opening fault)) = IsOpeningTold size fault
 IsRefusal size (Err (List fault)) = IsOfSource fault.kind → ⊥
 IsRefusal size (Err (Reading fault)) = ⊥
 IsRefusal size (Err (Layout fault)) = ⊥

@@ -5,7 +5,6 @@ use Rattle.mdmp_lister.specs.declared.choice.Choice.TheVariants.{Types}
 use Rattle.mdmp_lister.specs.declared.fault.OpenFault.TheVariants.{TooShort}
 use Rattle.mdmp_lister.specs.Fault.{IsOfSource}
 use Rattle.mdmp_lister.specs.Format.Kind.{is_known}
-use Rattle.mdmp_lister.specs.Opening.{IsOpenRefusal}
 use Rattle.mdmp_dump.specs.declared.dump.Dump.{Dump}
 use Rattle.mdmp_dump.specs.declared.fault.ReadFault.{ReadFault}
 use Rattle.mdmp_dump.specs.declared.fault.ReadFault.TheVariants as reads
@@ -17,7 +16,7 @@ use Rattle.mdmp_writer.specs.Layout.{layout_fault, written_size}
 use Rattle.mdmp_writer.specs.Written.{written}
 use Rattle.mdmp_tool.specs.declared.fault.ToolFault.{ToolFault}
 use Rattle.mdmp_tool.specs.declared.fault.ToolFault.TheVariants as tool
-use Rattle.mdmp_tool.specs.Causes.{IsOfFile}
+use Rattle.mdmp_tool.specs.Causes.{IsOpeningTold}
 
 -- ---- types
 
@@ -98,7 +97,7 @@ module _ (Z : Type 0) where
   Ends content file_size types limit before (Err tool.Out) after = IsCopy content types limit before (Err tool.Out) after
   Ends content file_size types limit before (Err (tool.Layout fault)) after = HasLayoutFault content types limit before fault after
   Ends content file_size types limit before (Err (tool.Opening fault)) after =
-      IsOfFile fault × (IsOpenRefusal file_size fault × (IsRefused content types limit (reads.Opening fault) × (after ≡ before)))
+      IsOpeningTold file_size fault × (IsRefused content types limit (reads.Opening fault) × (after ≡ before))
   Ends content file_size types limit before (Err (tool.List fault)) after =
       (IsOfSource fault.kind → ⊥) × (IsRefused content types limit (reads.List fault) × (after ≡ before))
   Ends content file_size types limit before (Err (tool.Reading fault)) after =

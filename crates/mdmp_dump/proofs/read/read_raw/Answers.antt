@@ -1,5 +1,6 @@
 use Rattle.std.proofs.Common.{◌≡◌, ◌∙◌, Err, Ok, rules, sym}
-use Rattle.mdmp_dump.proofs.Streams.{RawTaken, fetches_err, fetches_ok, raw_left, raw_read, raw_taken}
+use Rattle.mdmp_dump.proofs.Streams.{RawTaken, raw_left, raw_read, raw_taken}
+use Rattle.mdmp_dump.proofs.Taking.{fetches_err, fetches_ok}
 use Rattle.mdmp_dump.proofs.read.read_raw.Goals as goal
 use Rattle.mdmp_dump.proofs.read.read_raw.Goals.{else-inside, then-inside+in_ok-bytes}
 

@@ -6,7 +6,7 @@ use Rattle.mdmp_dump.specs.Left.{run_of}
 use Rattle.mdmp_dump.specs.Reading.{owed, refusal_of}
 use Rattle.mdmp_dump.specs.Refusal.{read_refusal}
 use Rattle.mdmp_dump.proofs.Opened.{opened-head, opening-fetches, opening-settles}
-use Rattle.mdmp_dump.proofs.Taking.{FetchesSome_then, Fetches_later}
+use Rattle.mdmp_dump.proofs.Taking.{fetches_err, fetches_ok}
 use Rattle.mdmp_dump.proofs.read.read_source.Goals as goal
 
 pub returns-in-Err-clause-refuses : goal.returns-in-Err-clause-refuses
@@ -31,9 +31,8 @@ returns-in-Err-read_streams-clause-refuses g c = λ file known own.
 
 pub returns-in-Err-read_streams-clause-cause : goal.returns-in-Err-read_streams-clause-cause
 returns-in-Err-read_streams-clause-cause g c =
-    let told = c.in-Err-read_streams.ensures.fetches in
-    rw c.into_source-in-Err-read_streams.ensures.value (Fetches_later (Err c.in-Err-read_streams.fault) c.args.source c.in-Ok.lister.source c.read_streams.new.reader.lister.source
-    (record { count = _; fetches = c.in-Ok.ensures.new.fetches }) (record { fetches = told.fetches; told = told.told; good = told.good; refusal = told.refusal }))
+    rw c.into_source-in-Err-read_streams.ensures.value (fetches_err c.args.source c.in-Ok.lister.source c.read_streams.new.reader.lister.source
+    (record { count = _; fetches = c.in-Ok.ensures.new.fetches }) c.in-Err-read_streams.fault c.in-Err-read_streams.ensures.fetches)
 
 pub returns-in-Ok-read_streams-clause-lays_out : goal.returns-in-Ok-read_streams-clause-lays_out
 returns-in-Ok-read_streams-clause-lays_out g c = λ file known.
@@ -54,12 +53,9 @@ returns-in-Ok-read_streams-clause-refuses g c = λ file known.
     sym owes ∙ read.1
 
 pub returns-in-Ok-read_streams-clause-cause : goal.returns-in-Ok-read_streams-clause-cause
-returns-in-Ok-read_streams-clause-cause g c = rw c.into_source.ensures.value (record {
-  fetches = FetchesSome_then c.args.source c.in-Ok.lister.source c.read_streams.new.reader.lister.source (record { count = _; fetches = c.in-Ok.ensures.new.fetches }) c.in-Ok-read_streams.ensures.fetches.fetches;
-  told = tt;
-  good = λ file good. tt;
-  refusal = tt;
-})
+returns-in-Ok-read_streams-clause-cause g c =
+    rw c.into_source.ensures.value (fetches_ok c.args.source c.in-Ok.lister.source c.read_streams.new.reader.lister.source
+    (record { count = _; fetches = c.in-Ok.ensures.new.fetches }) _ c.in-Ok-read_streams.ensures.fetches.fetches)
 
 pub returns-in-Err-read_streams-clause-short : goal.returns-in-Err-read_streams-clause-short
 returns-in-Err-read_streams-clause-short g c = λ few. absurd (c.in-Ok.ensures.short few)

@@ -9,8 +9,8 @@ use Rattle.mdmp_dump.specs.Thread.{IsThread}
 use Rattle.mdmp_dump.specs.Unloaded.{IsUnloaded}
 use Rattle.mdmp_dump.specs.Exception.{IsException}
 use Rattle.mdmp_dump.specs.System.{IsSystem}
-use Rattle.mdmp_dump.proofs.Streams.{fetches_err, one_single, stream_read, stream_refused, unused_read}
-use Rattle.mdmp_dump.proofs.Taking.{FetchesSome_none}
+use Rattle.mdmp_dump.proofs.Streams.{one_single, stream_read, stream_refused, unused_read}
+use Rattle.mdmp_dump.proofs.Taking.{Fetches_as}
 use Rattle.mdmp_dump.proofs.read.read_stream.Goals as goal
 
 pub returns-in_ok-threads-in-3-clause-of_file : goal.returns-in_ok-threads-in-3-clause-of_file
@@ -99,7 +99,6 @@ returns-in_err-behind-in-0-clause-of_file g c =
 
 pub returns-in_err-behind-in-0-clause-fetches : goal.returns-in_err-behind-in-0-clause-fetches
 returns-in_err-behind-in-0-clause-fetches g c =
-    let old = c.args.reader.now.lister.source in
     let r = c.in_err-behind-in-0 in
     let is : c.from_residual.result ≡ Err r.field-0.0 = search rules in
-    rw is (fetches_err old old c.behind.new.self.lister.source (FetchesSome_none old) r.field-0.0 r.ensures.fetches)
+    rw is (Fetches_as r.field-0.0 c.args.reader.now.lister.source c.behind.new.self.lister.source r.ensures.fetches)

@@ -1,15 +1,13 @@
 use Rattle.std.proofs.Common.{◌≡◌, Err, Ok, refl, rules}
-use Rattle.mdmp_dump.proofs.Streams.{fetches_err}
 use Rattle.mdmp_dump.proofs.Walked.{all_read, awaited_going, fewer_left, more_read, more_refused, never_none, none_read, none_refused, none_refused_behind}
-use Rattle.mdmp_dump.proofs.Taking.{FetchesSome_none, FetchesSome_then}
+use Rattle.mdmp_dump.proofs.Taking.{FetchesSome_then, Fetches_as, Fetches_memory, fetches_err}
 use Rattle.mdmp_dump.proofs.read.read_streams.Goals as goal
 
 pub returns-in_err-next-clause-fetches : goal.returns-in_err-next-clause-fetches
 returns-in_err-next-clause-fetches g c =
-    let old = c.args.reader.now.lister.source in
     let r = c.in_err-next in
     let is : c.from_residual.result ≡ Err r.field-0.0 = search rules in
-    rw is (fetches_err old old c.behind.new.self.lister.source (FetchesSome_none old) r.field-0.0 r.ensures.fetches)
+    rw is (Fetches_as r.field-0.0 c.args.reader.now.lister.source c.behind.new.self.lister.source r.ensures.fetches)
 
 pub returns-in_err-next-clause-of_file : goal.returns-in_err-next-clause-of_file
 returns-in_err-next-clause-of_file g c =
@@ -41,12 +39,9 @@ returns-in_err-stream-clause-of_file g c =
     (tt, more_refused c.args.reader.now c.loop-next.reader c.read_stream.new.reader c.loop-next.streams.items c.in-Some.item so_far file limit xs known left r.field-0.0 r.ensures.of_file))
 
 pub returns-in-Err-clause-fetches : goal.returns-in-Err-clause-fetches
-returns-in-Err-clause-fetches g c = record {
-  fetches = FetchesSome_then c.args.reader.now.lister.source c.loop-next.reader.lister.source c.read_stream.new.reader.lister.source c.loop-next.invariant.fetches c.in_ok-stream.ensures.fetches.fetches;
-  told = tt;
-  good = λ file good. refl;
-  refusal = tt;
-}
+returns-in-Err-clause-fetches g c =
+    Fetches_memory c.args.reader.now.lister.source c.read_stream.new.reader.lister.source
+    (FetchesSome_then c.args.reader.now.lister.source c.loop-next.reader.lister.source c.read_stream.new.reader.lister.source c.loop-next.invariant.fetches c.in_ok-stream.ensures.fetches.fetches)
 
 pub loop-next-smaller-in-Ok-push : goal.loop-next-smaller-in-Ok-push
 loop-next-smaller-in-Ok-push g c = rw c.in-Some.is (fewer_left c.loop-next.reader.lister c.in-Some.item c.in_ok-stream.behind c.read_stream.new.reader.lister c.in_ok-stream.ensures.going)

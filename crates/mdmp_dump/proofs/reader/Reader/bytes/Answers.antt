@@ -1,5 +1,6 @@
 use Rattle.std.proofs.Common.{◌≡◌, ◌∙◌, length, arith, refl, sym}
 use Rattle.mdmp_dump.proofs.Budget.{array_is, Fetches-none, inside_is, taken-all, take-refused, take-taken}
+use Rattle.mdmp_dump.proofs.Taking.{Fetches_only}
 use Rattle.mdmp_dump.proofs.reader.Reader.bytes.Goals as goal
 
 pub returns-then-size-self-clause-takes : goal.returns-then-size-self-clause-takes
@@ -12,7 +13,7 @@ returns-then-size-self-clause-takes g c = record {
 pub returns-clause-takes : goal.returns-clause-takes
 returns-clause-takes g c = record {
   same = c.in-Ok-read_part.ensures.reads.same;
-  fetches = record { fetches = record { count = _; fetches = c.in-Ok-read_part.ensures.reads.fetches }; told = tt; good = λ file good. tt; refusal = tt };
+  fetches = Fetches_only _ c.args.self.now.lister.source _ (record { count = _; fetches = c.in-Ok-read_part.ensures.reads.fetches });
   settles = λ rest last. take-taken c.args.self.now.left c.args.place.entry c.args.place.index c.args.size rest last (omega (arith, c.if-size-self.false));
 }
 

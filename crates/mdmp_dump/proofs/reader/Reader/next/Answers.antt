@@ -1,14 +1,13 @@
 use Rattle.std.proofs.Common.{rules, ◌≡◌, ◌∙◌, length, Err}
 use Rattle.mdmp_dump.proofs.Settled.{row-read, row-refused}
-use Rattle.mdmp_dump.proofs.Taking.{FetchesSome_then, Fetches_later}
+use Rattle.mdmp_dump.proofs.Taking.{fetches_err, fetches_ok}
 use Rattle.mdmp_dump.proofs.reader.Reader.next.Goals as goal
 
 pub returns-in_err-read-in-Record-clause-fetches : goal.returns-in_err-read-in-Record-clause-fetches
 returns-in_err-read-in-Record-clause-fetches g c =
     let fault = c.in_err-read-in-Record.field-0.0 in
     let is : c.from_residual-in_err-read-in-Record.result ≡ Err fault = search rules in
-    let takes = c.in_err-read-in-Record.ensures.takes.fetches in
-    rw is (Fetches_later (Err fault) c.args.self.now.lister.source c.find.new.self.lister.source c.read.new.reader.lister.source c.in_ok-found.ensures.fetches.fetches (record { fetches = takes.fetches; told = takes.told; good = takes.good; refusal = takes.refusal }))
+    rw is (fetches_err c.args.self.now.lister.source c.find.new.self.lister.source c.read.new.reader.lister.source c.in_ok-found.ensures.fetches.fetches fault c.in_err-read-in-Record.ensures.takes.fetches)
 
 pub returns-in_err-read-in-Record-clause-of_file : goal.returns-in_err-read-in-Record-clause-of_file
 returns-in_err-read-in-Record-clause-of_file g c = λ file limit x k xs known left kind.
@@ -20,12 +19,8 @@ returns-in_err-read-in-Record-clause-of_file g c = λ file limit x k xs known le
     rw is (tt, row-refused file limit x k xs g.T.Row.kind g.T.Row.told g.T.Row.steps g.T.Row.IsAt _ c.find.new.self c.in-Record.found c.in-Record.name found.0 found.1 size (first.same_content ∙ known) c.read.new.reader fault c.in_err-read-in-Record.ensures)
 
 pub returns-in_ok-read-in-Record-clause-fetches : goal.returns-in_ok-read-in-Record-clause-fetches
-returns-in_ok-read-in-Record-clause-fetches g c = record {
-  fetches = FetchesSome_then c.args.self.now.lister.source c.find.new.self.lister.source c.read.new.reader.lister.source c.in_ok-found.ensures.fetches.fetches c.in_ok-read-in-Record.ensures.takes.fetches.fetches;
-  told = tt;
-  good = λ file good. tt;
-  refusal = tt;
-}
+returns-in_ok-read-in-Record-clause-fetches g c =
+    fetches_ok c.args.self.now.lister.source c.find.new.self.lister.source c.read.new.reader.lister.source c.in_ok-found.ensures.fetches.fetches _ c.in_ok-read-in-Record.ensures.takes.fetches.fetches
 
 pub returns-in_ok-read-in-Record-clause-of_file : goal.returns-in_ok-read-in-Record-clause-of_file
 returns-in_ok-read-in-Record-clause-of_file g c = λ file limit x k xs known left kind.

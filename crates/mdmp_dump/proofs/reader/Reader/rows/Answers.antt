@@ -1,15 +1,14 @@
-use Rattle.std.proofs.Common.{rules, ◌≡◌, ◌∙◌, ◌+◌, ◌∷◌, [], ◌++◌, ℕ, length, length-append, refl, Some, Err, arith, subst, sym}
+use Rattle.std.proofs.Common.{rules, ◌≡◌, ◌∙◌, ◌+◌, ◌∷◌, [], ◌++◌, ℕ, length, length-append, Some, Err, arith, subst, sym}
 use Rattle.mdmp_dump.specs.Left.{left_from}
 use Rattle.mdmp_dump.proofs.Settled.{rows-all, rows-more}
-use Rattle.mdmp_dump.proofs.Taking.{FetchesSome_then, Fetches_later}
+use Rattle.mdmp_dump.proofs.Taking.{FetchesSome_then, Fetches_memory, fetches_err, fetches_ok}
 use Rattle.mdmp_dump.proofs.reader.Reader.rows.Goals as goal
 
 pub returns-in_err-row-clause-fetches : goal.returns-in_err-row-clause-fetches
 returns-in_err-row-clause-fetches g c =
     let fault = c.in_err-row.field-0.0 in
     let is : c.from_residual.result ≡ Err fault = search rules in
-    let told = c.in_err-row.ensures.fetches in
-    rw is (Fetches_later (Err fault) c.args.self.now.lister.source c.loop-rows.self.lister.source c.next.new.self.lister.source c.loop-rows.invariant.fetches (record { fetches = told.fetches; told = told.told; good = told.good; refusal = told.refusal }))
+    rw is (fetches_err c.args.self.now.lister.source c.loop-rows.self.lister.source c.next.new.self.lister.source c.loop-rows.invariant.fetches fault c.in_err-row.ensures.fetches)
 
 pub loop-rows-preserved : goal.loop-rows-preserved
 loop-rows-preserved g c =
@@ -32,20 +31,13 @@ loop-rows-preserved g c =
     }
 
 pub returns-in-Err-clause-fetches : goal.returns-in-Err-clause-fetches
-returns-in-Err-clause-fetches g c = record {
-  fetches = FetchesSome_then c.args.self.now.lister.source c.loop-rows.self.lister.source c.next.new.self.lister.source c.loop-rows.invariant.fetches c.in_ok-row.ensures.fetches.fetches;
-  told = tt;
-  good = λ file good. refl;
-  refusal = tt;
-}
+returns-in-Err-clause-fetches g c =
+    Fetches_memory c.args.self.now.lister.source c.next.new.self.lister.source
+    (FetchesSome_then c.args.self.now.lister.source c.loop-rows.self.lister.source c.next.new.self.lister.source c.loop-rows.invariant.fetches c.in_ok-row.ensures.fetches.fetches)
 
 pub returns-in-Behind-clause-fetches : goal.returns-in-Behind-clause-fetches
-returns-in-Behind-clause-fetches g c = record {
-  fetches = FetchesSome_then c.args.self.now.lister.source c.loop-rows.self.lister.source c.next.new.self.lister.source c.loop-rows.invariant.fetches c.in_ok-row.ensures.fetches.fetches;
-  told = tt;
-  good = λ file good. tt;
-  refusal = tt;
-}
+returns-in-Behind-clause-fetches g c =
+    fetches_ok c.args.self.now.lister.source c.loop-rows.self.lister.source c.next.new.self.lister.source c.loop-rows.invariant.fetches _ c.in_ok-row.ensures.fetches.fetches
 
 pub returns-in-Behind-clause-of_file : goal.returns-in-Behind-clause-of_file
 returns-in-Behind-clause-of_file g c = λ file limit x xs known left kind.

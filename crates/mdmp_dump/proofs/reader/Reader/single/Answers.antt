@@ -1,14 +1,13 @@
 use Rattle.std.proofs.Common.{rules, ◌≡◌, ◌∙◌, refl, Err}
 use Rattle.mdmp_dump.proofs.Settled.{behind-given, no-row-after-one, one-read}
-use Rattle.mdmp_dump.proofs.Taking.{FetchesSome_then, Fetches_later}
+use Rattle.mdmp_dump.proofs.Taking.{fetches_err, fetches_ok}
 use Rattle.mdmp_dump.proofs.reader.Reader.single.Goals as goal
 
 pub returns-in_err-behind-in-Row-clause-fetches : goal.returns-in_err-behind-in-Row-clause-fetches
 returns-in_err-behind-in-Row-clause-fetches g c =
     let fault = c.in_err-behind-in-Row.field-0.0 in
     let is : c.from_residual-in_err-behind-in-Row.result ≡ Err fault = search rules in
-    let told = c.in_err-behind-in-Row.ensures.fetches in
-    rw is (Fetches_later (Err fault) c.args.self.now.lister.source c.next.new.self.lister.source c.behind.new.self.lister.source c.in_ok-row.ensures.fetches.fetches (record { fetches = told.fetches; told = told.told; good = told.good; refusal = told.refusal }))
+    rw is (fetches_err c.args.self.now.lister.source c.next.new.self.lister.source c.behind.new.self.lister.source c.in_ok-row.ensures.fetches.fetches fault c.in_err-behind-in-Row.ensures.fetches)
 
 pub returns-in_err-behind-in-Row-clause-of_file : goal.returns-in_err-behind-in-Row-clause-of_file
 returns-in_err-behind-in-Row-clause-of_file g c = λ file limit x xs known left kind one.
@@ -20,12 +19,8 @@ returns-in_err-behind-in-Row-clause-of_file g c = λ file limit x xs known left 
     rw is (record { value = tt; settles = λ own. given.1 ∙ behind.1 own })
 
 pub returns-in_ok-behind-in-Row-clause-fetches : goal.returns-in_ok-behind-in-Row-clause-fetches
-returns-in_ok-behind-in-Row-clause-fetches g c = record {
-  fetches = FetchesSome_then c.args.self.now.lister.source c.next.new.self.lister.source c.behind.new.self.lister.source c.in_ok-row.ensures.fetches.fetches c.in_ok-behind-in-Row.ensures.fetches.fetches;
-  told = tt;
-  good = λ file good. tt;
-  refusal = tt;
-}
+returns-in_ok-behind-in-Row-clause-fetches g c =
+    fetches_ok c.args.self.now.lister.source c.next.new.self.lister.source c.behind.new.self.lister.source c.in_ok-row.ensures.fetches.fetches _ c.in_ok-behind-in-Row.ensures.fetches.fetches
 
 pub returns-in_ok-behind-in-Row-clause-of_file : goal.returns-in_ok-behind-in-Row-clause-of_file
 returns-in_ok-behind-in-Row-clause-of_file g c = λ file limit x xs known left kind one.
