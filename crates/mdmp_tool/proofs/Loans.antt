@@ -20,12 +20,6 @@ cause_loans : {T : Type 0} (r : Result T ToolFault) (a b : OutState) → HasOutC
 cause_loans (Err Out) a b cause = cause.loans
 cause_loans r a b cause = ap (λ (f : Refusals). f.loans) cause
 
-printed_loans : (print : Print) (limit : ℕ) (old : SourceState) (before err_before : OutState) (status : ℕ) (new : SourceState) (after err_after : OutState)
-    → HasPrinted print limit old before err_before status new after err_after → after.failures.loans ≡ before.failures.loans
-printed_loans Check limit old before err_before status new after err_after ran = cause_loans ran.answer before after ran.tells.out_cause
-printed_loans (Listing pdb) limit old before err_before status new after err_after ran = cause_loans ran.answer before after ran.tells.out_cause
-printed_loans (Hex span) limit old before err_before status new after err_after ran = cause_loans ran.answer before after ran.tells.out_cause
-
 -- ---- what is said of an output that is lent holds of its lender
 
 flushed_none : {T : Type 0} (r : Result T ToolFault) → IsFlushed r []
@@ -98,22 +92,31 @@ module _ (name : ℕ) (a b : OutState) where
       reads = ran.reads;
     }
 
-  has_printed : (print : Print) (limit : ℕ) (old : SourceState) (err_before : OutState) (status : ℕ) (new : SourceState) (err_after : OutState)
-      → HasPrinted print limit old (lent name a) err_before status new (lent name b) err_after → HasPrinted print limit old a err_before status new b err_after
-  has_printed Check limit old err_before status new err_after ran = run_lent _ _ _ old err_before status new err_after (λ file. runs_lent _ file _ _ _) ran
-  has_printed (Listing pdb) limit old err_before status new err_after ran = run_lent _ _ _ old err_before status new err_after (λ file. runs_lent _ file _ _ _) ran
-  has_printed (Hex span) limit old err_before status new err_after ran = run_lent _ _ _ old err_before status new err_after (λ file. runs_lent _ file _ _ _) ran
+-- ---- a loan that came back
 
--- what was printed to a loan, which came back, was printed to its lender
-pub printed_lent : (print : Print) (limit : ℕ) (old : SourceState) (name last : ℕ) (start behind stop : OutState) (err_before : OutState) (status : ℕ) (new : SourceState)
-    (inner_old inner_new err_after : OutState) → inner_old ≡ lent name start → lent last behind ≡ inner_new
-    → HasPrinted print limit old inner_old err_before status new inner_new err_after → (last ≡ name → behind ≡ stop)
-    → HasPrinted print limit old start err_before status new stop err_after
-printed_lent print limit old name last start behind stop err_before status new inner_old inner_new err_after began ended ran back =
-    let loans : last ∷ behind.failures.loans ≡ name ∷ start.failures.loans =
-    ap (λ (o : OutState). o.failures.loans) ended ∙ printed_loans print limit old inner_old err_before status new inner_new err_after ran ∙ ap (λ (o : OutState). o.failures.loans) began in
-    let same : last ≡ name = cc in
-    let stops : inner_new ≡ lent name stop = sym ended ∙ (ap (λ (n : ℕ). lent n behind) same ∙ ap (lent name) (back same)) in
-    has_printed name start stop print limit old err_before status new err_after (
-    subst (λ (x : OutState). HasPrinted print limit old x err_before status new (lent name stop) err_after) began
-    (subst (λ (y : OutState). HasPrinted print limit old inner_old err_before status new y err_after) stops ran))
+module _ (name last : ℕ) (start behind stop inner_old inner_new : OutState) (began : inner_old ≡ lent name start) (ended : lent last behind ≡ inner_new)
+    (back : last ≡ name → behind ≡ stop) where
+  -- is the loan that was given, where its name is the same
+  came_back : inner_new.failures.loans ≡ inner_old.failures.loans → inner_new ≡ lent name stop
+  came_back kept =
+      let loans : last ∷ behind.failures.loans ≡ name ∷ start.failures.loans =
+      ap (λ (o : OutState). o.failures.loans) ended ∙ kept ∙ ap (λ (o : OutState). o.failures.loans) began in
+      let same : last ≡ name = cc in
+      sym ended ∙ (ap (λ (n : ℕ). lent n behind) same ∙ ap (lent name) (back same))
+
+  ran_lent : {T : Type 0} (pace : Pace) (End : Result T ToolFault → ℕ → OutState → OutState → Type 0) (Through : List ℕ → OutState → Result T ToolFault → OutState → Type 0)
+      (old : SourceState) (err_before : OutState) (status : ℕ) (new : SourceState) (err_after : OutState)
+      → ((file : List ℕ) (r : Result T ToolFault) → Through file (lent name start) r (lent name stop) → Through file start r stop)
+      → HasRun End Through pace old inner_old err_before status new inner_new err_after → HasRun End Through pace old start err_before status new stop err_after
+  ran_lent pace End Through old err_before status new err_after through ran =
+      let stops : inner_new ≡ lent name stop = came_back (cause_loans ran.answer inner_old inner_new ran.tells.out_cause) in
+      run_lent name start stop pace End Through old err_before status new err_after through (
+      subst (λ (x : OutState). HasRun End Through pace old x err_before status new (lent name stop) err_after) began
+      (subst (λ (y : OutState). HasRun End Through pace old inner_old err_before status new y err_after) stops ran))
+
+  -- what was printed to it was printed to its lender
+  pub printed_lent : (print : Print) (limit : ℕ) (old : SourceState) (err_before : OutState) (status : ℕ) (new : SourceState) (err_after : OutState)
+      → HasPrinted print limit old inner_old err_before status new inner_new err_after → HasPrinted print limit old start err_before status new stop err_after
+  printed_lent Check limit old err_before status new err_after ran = ran_lent _ _ _ old err_before status new err_after (λ file. runs_lent name start stop _ file _ _ _) ran
+  printed_lent (Listing pdb) limit old err_before status new err_after ran = ran_lent _ _ _ old err_before status new err_after (λ file. runs_lent name start stop _ file _ _ _) ran
+  printed_lent (Hex span) limit old err_before status new err_after ran = ran_lent _ _ _ old err_before status new err_after (λ file. runs_lent name start stop _ file _ _ _) ran

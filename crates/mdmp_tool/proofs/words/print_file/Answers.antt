@@ -10,7 +10,7 @@ returns g c =
       old = _;
       new = _;
       opened = search rules;
-      printed = printed_lent c.args.print c.args.limits.name _ _ c.into_inner-out.result.ghost_name (g.O.Out.state c.args.out.now)
-          (g.O.Out.state c.into_inner-out.result.now) _ _ _ _ _ _ _ (ap (λ (b : BlockState). b.inner) c.over-blocks.ensures) c.into_inner-out.ensures c.print_told-status.ensures
-          (λ same. ap g.O.Out.state (search (same, rules)));
+      printed = printed_lent _ c.into_inner-out.result.ghost_name (g.O.Out.state c.args.out.now) (g.O.Out.state c.into_inner-out.result.now) _ _ _
+          (ap (λ (b : BlockState). b.inner) c.over-blocks.ensures) c.into_inner-out.ensures (λ same. ap g.O.Out.state (search (same, rules)))
+          c.args.print c.args.limits.name _ _ _ _ _ c.print_told-status.ensures;
     })
