@@ -1,5 +1,4 @@
 //! The exception of a dump.
-ghost use Rattle.mdmp_dump.specs.Reading.{IsRowRead};
 ghost use Rattle.mdmp_lister.specs.declared.kind.Kind.TheVariants as kinds;
 ghost use Rattle.mdmp_dump.specs.Exception.{ExceptionFits, IsException, exception_seen, exception_steps, exception_told};
 ghost use Rattle.mdmp_dump.specs.TellingLaws.{exception_tells};

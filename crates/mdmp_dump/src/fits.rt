@@ -1,6 +1,6 @@
 //! The numbers of a value fit the places that a file has for them, as their types say: each function
 //! here does nothing.
-ghost use Rattle.std.specs.Prelude.{All, length, slice_index, ℕ, ◌^◌, ◌<◌, ◌≡◌};
+ghost use Rattle.std.specs.Prelude.{All, slice_index, ℕ, ◌^◌, ◌<◌};
 ghost use Rattle.mdmp_dump.specs.Name.{NameFits};
 ghost use Rattle.mdmp_dump.specs.Part.{PartFits};
 

@@ -1,5 +1,4 @@
 //! A range of memory of a dump.
-ghost use Rattle.mdmp_dump.specs.Reading.{IsRowRead};
 ghost use Rattle.mdmp_lister.specs.declared.kind.Kind.TheVariants as kinds;
 ghost use Rattle.mdmp_dump.specs.Memory.{IsMemory, MemoryFits, memory_seen, memory_steps, range_told};
 ghost use Rattle.mdmp_dump.specs.TellingLaws.{memory_tells};

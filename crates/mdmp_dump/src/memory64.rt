@@ -1,5 +1,4 @@
 //! A range of a 64-bit memory list of a dump.
-ghost use Rattle.mdmp_dump.specs.Reading.{IsRowRead};
 ghost use Rattle.mdmp_lister.specs.declared.kind.Kind.TheVariants as kinds;
 ghost use Rattle.mdmp_dump.specs.Memory.{range_told};
 ghost use Rattle.mdmp_dump.specs.Memory64.{IsMemory64, Memory64Fits, memory64_seen, memory64_steps};

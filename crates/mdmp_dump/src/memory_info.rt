@@ -1,5 +1,4 @@
 //! A region of memory of a dump, which is the record itself.
-ghost use Rattle.mdmp_dump.specs.Reading.{IsRowRead};
 ghost use Rattle.std.specs.Prelude.{[], ◌≡◌};
 ghost use Rattle.mdmp_lister.specs.declared.kind.Kind.TheVariants as kinds;
 ghost use Rattle.mdmp_wire.specs.MemoryInfo.{memory_info_at};

@@ -1,5 +1,4 @@
 //! A module of a dump.
-ghost use Rattle.mdmp_dump.specs.Reading.{IsRowRead};
 ghost use Rattle.mdmp_lister.specs.declared.kind.Kind.TheVariants as kinds;
 ghost use Rattle.mdmp_dump.specs.Module.{IsModule, ModuleFits, VersionFits, module_seen, module_steps, module_told};
 ghost use Rattle.mdmp_dump.specs.TellingLaws.{module_tells};

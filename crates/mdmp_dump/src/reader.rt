@@ -1,5 +1,5 @@
 //! A lister that is read into values.
-ghost use Rattle.std.specs.Prelude.{◌≡◌, ◌<◌, ◌^◌, ◌∷◌, [], ℕ, List, length, Option, Some, None, Ok, IfOk, MatchResult};
+ghost use Rattle.std.specs.Prelude.{◌≡◌, ◌<◌, ◌∷◌, [], ℕ, List, length, Option, Some, None, Ok, IfOk, MatchResult};
 ghost use Rattle.mdmp_source.specs.Extent.{extent_of};
 ghost use Rattle.mdmp_source.specs.Range.{IsInside};
 ghost use Rattle.mdmp_source.specs.Store.{IsSizeOf};

@@ -1,5 +1,4 @@
 //! A thread of a dump.
-ghost use Rattle.mdmp_dump.specs.Reading.{IsRowRead};
 ghost use Rattle.mdmp_lister.specs.declared.kind.Kind.TheVariants as kinds;
 ghost use Rattle.mdmp_dump.specs.Thread.{IsThread, ThreadFits, thread_seen, thread_steps, thread_told};
 ghost use Rattle.mdmp_dump.specs.TellingLaws.{thread_tells};

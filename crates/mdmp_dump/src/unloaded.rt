@@ -1,5 +1,4 @@
 //! An unloaded module of a dump.
-ghost use Rattle.mdmp_dump.specs.Reading.{IsRowRead};
 ghost use Rattle.std.specs.Prelude.{[]};
 ghost use Rattle.mdmp_lister.specs.declared.kind.Kind.TheVariants as kinds;
 ghost use Rattle.mdmp_dump.specs.Unloaded.{IsUnloaded, UnloadedFits, unloaded_seen, unloaded_told};

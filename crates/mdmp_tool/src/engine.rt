@@ -1,5 +1,5 @@
 //! What is the same for each command over the listing of a file.
-ghost use Rattle.std.specs.Prelude.{◌≡◌, ◌≤◌, ◌<◌, ℕ, List, [], None, Some, Err};
+ghost use Rattle.std.specs.Prelude.{◌≡◌, ◌<◌, ℕ, List, [], Some, Err};
 ghost use Rattle.mdmp_source.specs.Blocks.{MovesFront};
 ghost use Rattle.mdmp_lister.specs.Format.Refusal.{opening_fault};
 ghost use Rattle.mdmp_tool.specs.Engines.{EndsFlushed, IsFlushed, Reads, Runs, RunsThrough, Tells, directly, in_blocks, unless_refused};

@@ -1,5 +1,5 @@
 //! The command `list`.
-ghost use Rattle.std.specs.Prelude.{◌≡◌, ◌≤◌, ◌<◌, ℕ, List, None, Some, IfSome, false};
+ghost use Rattle.std.specs.Prelude.{◌≡◌, ◌<◌, ℕ, List, None, Some, IfSome};
 ghost use Rattle.mdmp_source.specs.Range.{IsInside};
 ghost use Rattle.mdmp_lister.specs.Format.Listing.{Run};
 ghost use Rattle.mdmp_tool.specs.Engines.{Leaves, Reads, Tells, directly, up_to_a_fault};

@@ -1,5 +1,5 @@
 -- The streams of a dump that are left, and what is to be written of them.
-use Rattle.std.specs.Prelude.{ℕ, ◌+◌, ◌<◌, ◌≤◌, ◌≡◌, List, [], ◌∷◌, ◌++◌, length, drop, map, Result}
+use Rattle.std.specs.Prelude.{ℕ, ◌+◌, ◌<◌, ◌≤◌, ◌≡◌, List, [], ◌∷◌, ◌++◌, length, drop, map}
 use Rattle.std.proofs.Common.{refl, ap, arith, sym, subst, ◌∙◌, append_assoc}
 use Rattle.std.proofs.lemmas.List.{drop_more, length-map}
 use Rattle.std.proofs.Math.ListN.{drop_of_length-le}
@@ -9,7 +9,7 @@ use Rattle.mdmp_wire.specs.Header.{header_bytes}
 use Rattle.mdmp_dump.specs.declared.view.HeaderFields.{HeaderFields}
 use Rattle.mdmp_dump.specs.Shape.{Shape, StreamShape, seen_at, shape_of, stream_at, unused_seen}
 use Rattle.mdmp_dump.specs.View.{DumpSeen, StreamSeen}
-use Rattle.mdmp_writer.specs.Gather.{Gathered, IsLeft, Puts, PutsPrefix, Writes}
+use Rattle.mdmp_writer.specs.Gather.{Gathered, IsLeft, Puts, PutsPrefix}
 use Rattle.mdmp_writer.specs.Layout.{block_size, blocks_end, far_size, first_block, shapes_in}
 use Rattle.mdmp_writer.specs.Written.{block_text, blocks, directory, entry_of, far_text, fars, header_of, text_of}
 use Rattle.mdmp_writer.proofs.Blocks.{known_stream}

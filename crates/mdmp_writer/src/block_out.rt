@@ -1,5 +1,5 @@
 //! A stream to an output: its body, and behind it its names and parts.
-ghost use Rattle.std.specs.Prelude.{◌≡◌, ◌<◌, ◌+◌, ◌^◌, ◌++◌, Some, length};
+ghost use Rattle.std.specs.Prelude.{◌≡◌, ◌<◌, ◌+◌, ◌^◌, Some, length};
 ghost use Rattle.mdmp_dump.specs.declared.view.Kind.TheVariants.{Known, Raw};
 ghost use Rattle.mdmp_dump.specs.Places.{up};
 ghost use Rattle.mdmp_dump.specs.Shape.{body_of, room_of, seen_at, stream_at};
@@ -8,7 +8,7 @@ ghost use Rattle.mdmp_writer.specs.Block.{RecordsAreKnown};
 ghost use Rattle.mdmp_writer.specs.Gather.{gathered, Writes};
 ghost use Rattle.mdmp_writer.specs.Layout.{block_size};
 ghost use Rattle.mdmp_writer.specs.Cause.{HasCause};
-ghost use Rattle.mdmp_writer.specs.Written.{all_padded, block_text, head_text, padded, padding, parts_of, rows};
+ghost use Rattle.mdmp_writer.specs.Written.{all_padded, block_text, padded, parts_of};
 
 use crate::body_out::put_body;
 use crate::fault::WriteFault;

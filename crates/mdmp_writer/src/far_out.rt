@@ -2,7 +2,7 @@
 ghost use Rattle.std.specs.Prelude.{◌≡◌, ◌<◌, ◌^◌, List, Some, length};
 ghost use Rattle.mdmp_dump.specs.declared.view.Kind.TheVariants.{Known};
 ghost use Rattle.mdmp_dump.specs.Seen.{Seen};
-ghost use Rattle.mdmp_dump.specs.Shape.{body_of, far_of, seen_at, stream_at};
+ghost use Rattle.mdmp_dump.specs.Shape.{body_of, seen_at, stream_at};
 ghost use Rattle.mdmp_dump.specs.View.{DumpSeen};
 ghost use Rattle.mdmp_writer.specs.Gather.{gathered, Writes};
 ghost use Rattle.mdmp_writer.specs.Layout.{far_size};

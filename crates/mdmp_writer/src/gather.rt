@@ -1,6 +1,6 @@
 //! The caller's buffer, in which small pieces of a text are gathered.
 ghost use Rattle.std.specs.Prelude.{◌≡◌, ◌≤◌, ◌<◌, ◌+◌, ◌-◌, ◌++◌, ℕ, List, [], length, take, drop, get_or, min, nat_lt, Bool, IsTrue, Some, IfErr, IfOk, OnOk, MatchResult};
-ghost use Rattle.mdmp_source.specs.Output.{Takes, refused_if};
+ghost use Rattle.mdmp_source.specs.Output.{refused_if};
 ghost use Rattle.mdmp_writer.specs.Gather.{gathered, Puts, Writes};
 ghost use Rattle.mdmp_writer.specs.Cause.{HasCause};
 

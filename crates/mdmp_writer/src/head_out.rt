@@ -1,10 +1,9 @@
 //! The header of a dump and its directory to an output.
 ghost use Rattle.std.specs.Prelude.{◌≡◌, ◌<◌, ◌+◌, ◌^◌, length, Bool};
 ghost use Rattle.mdmp_dump.specs.Shape.{body_of, stream_at};
-ghost use Rattle.mdmp_wire.specs.Entry.{entry_bytes};
 ghost use Rattle.mdmp_wire.specs.Header.{header_bytes};
 ghost use Rattle.mdmp_writer.specs.Gather.{gathered, Writes};
-ghost use Rattle.mdmp_writer.specs.Layout.{block_size, blocks_end, file_size, first_block};
+ghost use Rattle.mdmp_writer.specs.Layout.{blocks_end, file_size, first_block};
 ghost use Rattle.mdmp_writer.specs.Cause.{HasCause};
 ghost use Rattle.mdmp_writer.specs.Written.{directory, entry_of, header_of, type_by};
 

@@ -1,5 +1,5 @@
 //! Records to an output.
-ghost use Rattle.std.specs.Prelude.{◌≡◌, ◌≤◌, Bool};
+ghost use Rattle.std.specs.Prelude.{◌≤◌, Bool};
 ghost use Rattle.mdmp_wire.specs.AnyRecord.{any_bytes};
 ghost use Rattle.mdmp_writer.specs.Gather.{gathered, Writes};
 ghost use Rattle.mdmp_writer.specs.Cause.{HasCause};

@@ -1,4 +1,4 @@
-use Rattle.std.proofs.Common.{◌≡◌, ◌+◌, ◌*◌, ◌++◌, ◌∙◌, ap, arith, sym, length, refl, Some, Err, true, List, ℕ}
+use Rattle.std.proofs.Common.{◌≡◌, ◌+◌, ◌*◌, ◌++◌, ◌∙◌, ap, arith, sym, length, refl, Some, Err, true}
 use Rattle.mdmp_wire.specs.Header.{header_bytes}
 use Rattle.mdmp_dump.specs.Shape.{Shape}
 use Rattle.mdmp_dump.specs.View.{DumpSeen}
