@@ -12,7 +12,7 @@ use Rattle.mdmp_lister.specs.Meter.{BooksAside}
 use Rattle.mdmp_lister.specs.Walk.Mapping.{IsMapped}
 use Rattle.mdmp_lister.specs.Walk.Paying.{owed_of, unread_bytes}
 use Rattle.mdmp_lister.specs.Walk.Requests.{CodeViewFetched}
-use Rattle.mdmp_lister.specs.Walk.{left_of, left_of_entry}
+use Rattle.mdmp_lister.specs.Walk.{IsSound, left_of, left_of_entry}
 
 -- what a lister is to its callers
 abbrev pub viewed : {T : Type 0} {x y : T} → x ≡ y → T
@@ -27,25 +27,31 @@ state_aside old new is limit left unread =
 
 module _ {S A : Type 0} where
   -- but for what was counted and the bytes of the buffer of names it stays
+  pub aside_sound : (n : ℕ) (w new : Walk S A) → IsSound w → BooksAside n w.meter new.meter → vec_len new.name ≡ vec_len w.name → IsSound (record w { meter = new.meter; name = new.name })
+  aside_sound n w new old books room =
+      let content = books.fetches.same_content in
+      let size = books.fetches.same_size in
+      record {
+        sized = rw (content, size) old.sized;
+        window = old.window;
+        small = rw room old.small;
+        few = old.few;
+        placed = old.placed;
+        staged = rw size old.staged;
+        holding = rw content old.holding;
+        headed = λ file known. old.headed file (sym content ∙ known);
+        ended = old.ended;
+        directory = λ file known. old.directory file (sym content ∙ known);
+        header_is = λ file known. old.header_is file (sym content ∙ known);
+        unfailed = λ file good. old.unfailed file (record { known = sym content ∙ good.known; reliable = rw (← books.fetches.same_reliable) good.reliable });
+      }
+
   aside_mapped : (n : ℕ) (w new : Walk S A) (map : MapState) → IsMapped w map → BooksAside n w.meter new.meter → vec_len new.name ≡ vec_len w.name → IsMapped (record w { meter = new.meter; name = new.name }) map
   aside_mapped n w new map old books room =
       let content = books.fetches.same_content in
       let size = books.fetches.same_size in
       record {
-        sound = record {
-          sized = rw (content, size) old.sound.sized;
-          window = old.sound.window;
-          small = rw room old.sound.small;
-          few = old.sound.few;
-          placed = old.sound.placed;
-          staged = rw size old.sound.staged;
-          holding = rw content old.sound.holding;
-          headed = λ file known. old.sound.headed file (sym content ∙ known);
-          ended = old.sound.ended;
-          directory = λ file known. old.sound.directory file (sym content ∙ known);
-          header_is = λ file known. old.sound.header_is file (sym content ∙ known);
-          unfailed = λ file good. old.sound.unfailed file (record { known = sym content ∙ good.known; reliable = rw (← books.fetches.same_reliable) good.reliable });
-        };
+        sound = aside_sound n w new old.sound books room;
         room = record { ahead = old.room.ahead; owed = λ file known. old.room.owed file (sym content ∙ known) };
         inside = rw size old.inside;
         bounded = record {

@@ -137,7 +137,7 @@ module _ {S A : Type 0} (old new : Walk S A) (kind : Kind) (shape : Shape) (k of
             (item file known here) (here list) (rw (places.0, places.1) at stands) behind,
       ))
       (λ end. absurd (cc)) (λ file good. rw on refl))
-      (rw at refl) (rw on refl) (rw (on, at) (omega (arith, left)))
+      (rw at refl) (rw on refl) (rw (on, at) (omega (arith, left))) (rw (on, at) (omega (arith, left)))
       same (tells.passed old.next) (tells.stays e)
       (rw (reading.known, same.room.name) tells.held) tells.begins
       reads.fetches (omega arith)

@@ -1,6 +1,7 @@
 -- A run, one item longer.
-use Rattle.std.proofs.Common.{◌≡◌, ◌≤◌, ◌+◌, ◌-◌, List, [], ◌∷◌, ◌++◌, ℕ, Some, ap, arith, Result, Ok, Err, inl, inr, refl, subst, sym, ◌∙◌, append_assoc}
+use Rattle.std.proofs.Common.{◌≡◌, ◌≤◌, ◌<◌, ◌+◌, ◌-◌, ◌^◌, List, [], ◌∷◌, ◌++◌, ℕ, Some, ap, arith, Result, Ok, Err, inl, inr, refl, subst, sym, ◌∙◌, append_assoc}
 use Rattle.std.proofs.lemmas.List.Sums.{sum_by-append, sum_by-cons}
+use Rattle.mdmp_source.specs.Count.{raised}
 use Rattle.mdmp_source.specs.Source.{SourceState, FetchesAtMost}
 use Rattle.mdmp_source.specs.SourceLaws.{fetches_then}
 use Rattle.mdmp_wire.specs.declared.entry.Entry.{Entry}
@@ -67,6 +68,10 @@ same_lister-then a b c first then = record {
   aside = then.aside ∙ first.aside;
   start = then.start ∙ first.start;
 }
+
+-- a count that is not at its greatest rose by just so much
+pub rose_exactly : (old new n : ℕ) → new + 1 < 2 ^ 128 → new ≡ raised old n → new ≡ old + n
+rose_exactly old new n small rose = omega (arith, small, rose)
 
 -- one item more, and its name
 pub names_of_all-more : (xs : List Item) (x : Item) (old mid new : ℕ) → mid ≡ old + names_of_all xs → new ≡ mid + names_of x → new ≡ old + names_of_all (xs ++ plain x ∷ [])

@@ -2,10 +2,13 @@ pub mod AddressRows
 pub mod Addresses
 pub mod Advancing
 pub mod Asides
+pub mod Beginning
 pub mod Bodies
+pub mod Changing
 pub mod Classes
 pub mod CodeViews
 pub mod Costs
+pub mod Counted
 pub mod Directory
 pub mod Ending
 pub mod Entries
@@ -16,6 +19,7 @@ pub mod Handing
 pub mod Heads
 pub mod Judging
 pub mod LawsLemmas
+pub mod Leaving
 pub mod Listed
 pub mod Mapping
 pub mod Metering

@@ -42,6 +42,11 @@ names_of-read z buffer kind (step.Record r) of = ap (λ (s : Summary). named_onc
 names_of-step : (z : ℕ) (buffer : List ℕ) (kind : Option Kind) (s : Step) (x : Item) → IsStepOf kind s → plain x ≡ step_item z buffer s → names_of x ≡ told_once s
 names_of-step z buffer kind s x of same = sym (names_of-plain x) ∙ ap names_of same ∙ names_of-read z buffer kind s of
 
+-- the count of names rises by those of the item
+pub names_raised : (z : ℕ) (buffer : List ℕ) (kind : Option Kind) (s : Step) (x : Item) (old new : ℕ) → IsStepOf kind s → plain x ≡ step_item z buffer s
+    → new ≡ raised old (told_once s) → new ≡ raised old (names_of x)
+names_raised z buffer kind s x old new of same rose = rw (names_of-step z buffer kind s x of same) rose
+
 read_most : (name : NameRead) → read_once name ≤ 1
 read_most read.None = omega arith
 read_most _ = omega arith
@@ -50,7 +55,7 @@ told_most : (s : Step) → told_once s ≤ 1
 told_most (step.Stream x) = omega arith
 told_most (step.Record r) = read_most r.name
 
--- the count of names rises by those of the item, since it does not stand at its greatest
+-- by just so many where it does not stand at its greatest
 pub names_given : (z : ℕ) (buffer : List ℕ) (kind : Option Kind) (s : Step) (x : Item) (old new : ℕ) → IsStepOf kind s → plain x ≡ step_item z buffer s → old < 2 ^ 66
     → new ≡ raised old (told_once s) → new ≡ old + names_of x
 names_given z buffer kind s x old new of same small rose = rw (names_of-step z buffer kind s x of same) (omega (arith, small, rose, told_most s))

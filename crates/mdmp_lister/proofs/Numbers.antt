@@ -1,10 +1,14 @@
 -- What a lister tells of itself, and its bounds.
-use Rattle.std.proofs.Common.{◌≡◌, ◌≤◌, ◌<◌, ◌+◌, ◌*◌, ◌^◌, ◌-◌, ◌∙◌, ℕ, suc, List, [], ◌∷◌, Bool, true, false, if◌then◌else◌, ◌&&◌, arith, refl, ap, length, get_or, vec_len}
+use Rattle.std.proofs.Common.{◌≡◌, ◌≤◌, ◌<◌, ◌+◌, ◌*◌, ◌^◌, ◌-◌, ◌∙◌, ℕ, suc, Some, List, [], ◌∷◌, Bool, true, false, if◌then◌else◌, ◌&&◌, arith, refl, ap, length, get_or, vec_len}
 use Rattle.std.specs.Prelude.{filter, map, sum}
 use Rattle.std.proofs.Math.Nat.{mul-le-mul}
 use Rattle.mdmp_wire.specs.declared.entry.Entry.{Entry}
 use Rattle.mdmp_lister.specs.declared.choice.Choice.{Choice}
 use Rattle.mdmp_lister.specs.declared.walk.Walk.{Walk}
+use Rattle.mdmp_map.specs.declared.range.Range.{Range}
+use Rattle.mdmp_lister.specs.Counts.{AreHeld, AreOfFile, AreSpent}
+use Rattle.mdmp_lister.specs.Meter.{IsBooked, counts_of}
+use Rattle.mdmp_lister.specs.Walk.Telling.{numbers_of_walk}
 use Rattle.mdmp_lister.specs.Format.Bounds.{call_bound, fetch_bound}
 use Rattle.mdmp_lister.specs.Format.Numbers.{is_listed, listed, listed_bytes, listed_sizes, sizes_of}
 use Rattle.mdmp_lister.specs.Format.Directory.{IsDirectory}
@@ -12,6 +16,7 @@ use Rattle.mdmp_lister.specs.Format.Listing.{Numbered, entries_from, entry_of, i
 use Rattle.mdmp_lister.specs.Walk.Paying.{IsBounded, cost_by, cost_of, sizes_in, stream_calls}
 use Rattle.mdmp_lister.specs.Walk.{IsSound}
 use Rattle.mdmp_lister.proofs.Heads.{heads_few}
+use Rattle.mdmp_lister.proofs.Leaving.{listed_by}
 use Rattle.mdmp_lister.proofs.Paying.{called_bound, paid_bound}
 use Rattle.mdmp_lister.proofs.Sliding.{fills_most}
 
@@ -68,3 +73,24 @@ module _ {S A : Type 0} (w : Walk S A) (sound : IsSound w) (bounded : IsBounded 
       let names : w.meter.names ≤ 2 ^ 66 = omega (arith, bounded.names) in
       let limit : vec_len w.name + 4 ≤ 2 ^ 33 = omega (arith, sound.small) in
       omega (arith, ok, fetched_most, small, sound.few, mul-le-mul names limit)
+
+-- ---- the numbers that are told
+
+module _ {S A : Type 0} (w : Walk S A) (ranges : ℕ) where
+  -- of a known file they are the file's
+  pub counts_of_file : IsSound w → (file : List ℕ) → w.meter.source.store.content ≡ Some file → AreOfFile file w.choice (numbers_of_walk ranges w)
+  counts_of_file sound file known =
+      let dir = sound.directory file known in
+      record { entries = dir.count; listed = costs_listed file w.choice w.meter.source.size w.entries.items (rw known at sound.sized) dir }
+
+  pub counts_held : (rs : List Range) → length rs ≤ ranges → IsBooked w.meter.source (counts_of w.meter) → AreHeld (listed_by rs ranges w) (numbers_of_walk ranges w)
+  counts_held rs few booked = record { held = omega (arith, few); entries = omega (arith, w.entries.ok); ranges = few; booked = booked }
+
+  pub counts_spent : (rs : List Range) → IsSound w → IsBounded w → cost_of w.choice w.meter.source.size w.entries.items ≤ 2 ^ 32 * length w.entries.items
+      → AreSpent (listed_by rs ranges w) (numbers_of_walk ranges w)
+  counts_spent rs sound bounded small = record {
+    fetched = fetched_most w sound bounded;
+    calls = called_most w sound bounded;
+    below = fetched_below w sound bounded small;
+    sizes = λ file known. sizes_listed file w.choice w.meter.source.size w.entries.items (rw known at sound.sized) (sound.directory file known);
+  }

@@ -21,7 +21,7 @@ shape-ranges : (F : List ℕ) (e : Entry) (kind : Kind) (shape : Shape) (list : 
 shape-ranges F e kind shape true whole known shaped = rw (whole, known, shaped) refl
 shape-ranges F e kind shape false whole known shaped = refl
 
-ranges_in-shape : (F : List ℕ) (e : Entry) (kind : Kind) (shape : Shape) → location_fault (length F) e ≡ None → kind_of e.stream_type ≡ Some kind
+pub ranges_in-shape : (F : List ℕ) (e : Entry) (kind : Kind) (shape : Shape) → location_fault (length F) e ≡ None → kind_of e.stream_type ≡ Some kind
     → shape_of F e.location.rva e.location.size kind ≡ Ok shape → ranges_in F e (kind_of e.stream_type) ≡ ranges_by kind shape.count
 ranges_in-shape F e kind shape whole known shaped = rw known (shape-ranges F e kind shape (lists_ranges kind) whole known shaped)
 

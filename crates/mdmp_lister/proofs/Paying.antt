@@ -18,7 +18,7 @@ use Rattle.mdmp_lister.specs.declared.shape.Shape.{Shape}
 use Rattle.mdmp_lister.specs.declared.stage.Stage.TheVariants.{Between}
 use Rattle.mdmp_lister.specs.declared.walk.Walk.{Walk}
 use Rattle.mdmp_lister.specs.Meter.{Books, Spends}
-use Rattle.mdmp_lister.specs.Walk.Paying.{IsBounded, IsPaid, allowed_of, calls_of, calls_owed, cost_of, entry_cost_by, owed_of}
+use Rattle.mdmp_lister.specs.Walk.Paying.{IsBounded, IsPaid, IsWithinSince, allowed_of, calls_of, calls_owed, cost_of, entry_cost_by, owed_of, unread_bytes}
 use Rattle.mdmp_lister.specs.Format.Shape.{FitsIn}
 use Rattle.mdmp_lister.specs.Format.Kind.{kind_of, record_size}
 use Rattle.mdmp_lister.specs.Stage.{fault_stage, stage_by}
@@ -81,6 +81,15 @@ module _ {S A : Type 0} (allowed : Amount) (before calls spent : ℕ) (old new :
     names = rw (same.room.entries, same.next, books.same_names) (omega (arith, paid.names, falls));
   }
 
+-- ---- what was fetched since
+
+module _ {S A : Type 0} (calls spent begun : ℕ) (old new : Walk S A) where
+  pub within_named : vec_len new.name ≡ vec_len old.name → Spends calls spent (vec_len old.name) old.meter new.meter → unread_bytes new + spent ≤ unread_bytes old + begun
+      → IsWithinSince old.meter.fetched old.meter.names (unread_bytes old + begun) new
+  within_named room spends owes = λ few.
+      let pays = spends.paid (omega (arith, few, spends.more_names)) in
+      rw room (omega (arith, pays, owes))
+
 -- ---- entries
 
 -- a stream has fewer than 2^32 records
@@ -117,6 +126,10 @@ module _ {S A : Type 0} (allowed : Amount) (w : Walk S A) where
 
   pub called_bound : IsPaid allowed 0 w → w.meter.calls ≤ allowed.calls + w.meter.names * 2
   called_bound paid = omega (arith, paid.calls)
+
+-- and the count of names is not at its greatest
+pub few_names : {S A : Type 0} (w : Walk S A) → IsBounded w → w.meter.names + 1 < 2 ^ 128
+few_names w bounded = omega (arith, bounded.names)
 
 module _ {S A : Type 0} (old new : Walk S A) where
   pub bounded_then : IsBounded old → ((allowed : Amount) (before : ℕ) → IsPaid allowed before old → IsPaid allowed before new) → SameRoom old new → new.meter.source.size ≡ old.meter.source.size → IsBounded new

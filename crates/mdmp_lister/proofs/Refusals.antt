@@ -22,7 +22,7 @@ use Rattle.mdmp_lister.specs.Meter.{Books, MeterState}
 use Rattle.mdmp_lister.specs.Fault.{IsCaused}
 use Rattle.mdmp_lister.proofs.Fetches.{FetchesAtMost-within, IsCaused_later, not_unread, unread_caused}
 use Rattle.mdmp_lister.proofs.Heads.{heads_few}
-use Rattle.mdmp_lister.specs.Opening.{Finds, IsDirectoryRefusal, IsHandedBack, IsOfHead, IsRefused, FitsHeader, unread_of}
+use Rattle.mdmp_lister.specs.Opening.{Finds, FitsHeader, IsBareRefusal, IsDirectoryRefusal, IsHandedBack, IsHandedBackBare, IsOfHead, IsOpenRefusal, IsRefused, unread_of}
 use Rattle.mdmp_lister.specs.Format.Refusal.{directory_refusal, behind_header}
 
 -- the fault of the directory that a header places in a file of `size` bytes, or none
@@ -64,20 +64,33 @@ directory_refusal-outside F bytes h size len room whole fetched good read outsid
 -- ---- sources that are handed back
 
 -- of a file whose directory was not begun
-pub IsHandedBack-head : (choice : Choice) (old new : SourceState) (fault : OpenFault) → FetchesAtMost 32 old new → new.calls ≤ raised old.calls 1
-    → ((size : ℕ) → fault ≡ TooShort size → new ≡ old) → IsHandedBack choice old fault new
-IsHandedBack-head choice old new fault fetches calls short = record {
+IsHandedBackBare-head : (old new : SourceState) (fault : OpenFault) → FetchesAtMost 32 old new → new.calls ≤ raised old.calls 1
+    → ((size : ℕ) → fault ≡ TooShort size → new ≡ old) → IsHandedBackBare old fault new
+IsHandedBackBare-head old new fault fetches calls short = record {
   asked = 0;
-  entries = [];
-  obtained = omega arith;
   fetches = fetches;
-  bound = fetches;
   calls = calls;
-  known = λ file known. (omega arith, λ i d over. absurd (omega (arith, over)));
+  known = λ file known. omega arith;
   inside = omega arith;
   begun = λ some. absurd (omega (arith, some));
   early = λ of. refl;
   short = short;
+}
+
+-- no heads were fetched
+pub IsHandedBack_bare : (choice : Choice) (old : SourceState) (fault : OpenFault) (new : SourceState) → IsHandedBackBare old fault new → IsHandedBack choice old fault new
+IsHandedBack_bare choice old fault new bare = record {
+  asked = bare.asked;
+  entries = [];
+  obtained = omega arith;
+  fetches = FetchesAtMost-within (32 + 12 * bare.asked) (32 + 12 * bare.asked + heads_ahead choice old.size []) old new (omega arith) bare.fetches;
+  bound = FetchesAtMost-within (32 + 12 * bare.asked) (32 + 28 * bare.asked) old new (omega arith) bare.fetches;
+  calls = omega (arith, bare.calls);
+  known = λ file known. (bare.known file known, λ i d over. absurd (omega (arith, over)));
+  inside = bare.inside;
+  begun = bare.begun;
+  early = bare.early;
+  short = bare.short;
 }
 
 -- of one whose directory was, by fetches of the header and then of more
@@ -130,16 +143,26 @@ refusal-found F (BadVersion low) finds = finds
 refusal-found F (DirectoryOutside offset size) finds = finds
 refusal-found F (TooManyRanges count) finds = finds
 
+-- a refusal of one whose ranges are not counted is one of any
+pub open_refusal : (size : ℕ) (fault : OpenFault) → IsBareRefusal size fault → IsOpenRefusal size fault
+open_refusal size (TooManyRanges count) of = absurd of
+open_refusal size (TooShort told) of = of
+open_refusal size BadSignature of = of
+open_refusal size (BadVersion low) of = of
+open_refusal size (DirectoryOutside offset len) of = of
+open_refusal size (Source fault) of = of
+open_refusal size Memory of = of
+
 -- a file whose header was read has one
 pub header-long : (h : Header) (old new : SourceState) → FitsHeader old (Ok h) new → 32 ≤ old.size
 header-long h old new reads = let never : old.size < 32 → ⊥ = λ less. let same = reads.short less in cc in omega (arith, never)
 
-module _ (choice : Choice) (old new : MeterState) where
+module _ (old new : MeterState) where
   -- by its header
   pub IsRefused-header : (fault : OpenFault) → FitsHeader old.source (Err fault) new.source → ((file : List ℕ) → old.source.store.content ≡ Some file → Finds file (Err fault))
-      → Books 1 32 old new → IsCaused (unread_of fault) old.source new.source → IsRefused choice old.source fault new.source
+      → Books 1 32 old new → IsCaused (unread_of fault) old.source new.source → IsRefused old.source fault new.source
   IsRefused-header fault reads finds books caused = record {
-    handed_back = IsHandedBack-head choice old.source new.source fault books.fetches books.source_calls (λ size same. reads.untouched size (cc));
+    handed_back = IsHandedBackBare-head old.source new.source fault books.fetches books.source_calls (λ size same. reads.untouched size (cc));
     opens = λ file known. refusal-found file fault (finds file known);
     refusal = reads.refusal;
     short = λ less. let same = reads.short less in cc;
@@ -150,9 +173,9 @@ module _ (choice : Choice) (old new : MeterState) where
 
   -- for want of memory, behind its header
   pub IsRefused-memory : (h : Header) → FitsHeader old.source (Ok h) new.source → ((file : List ℕ) → old.source.store.content ≡ Some file → Finds file (Ok h))
-      → Books 1 32 old new → IsCaused None old.source new.source → IsRefused choice old.source Memory new.source
+      → Books 1 32 old new → IsCaused None old.source new.source → IsRefused old.source Memory new.source
   IsRefused-memory h reads finds books caused = record {
-    handed_back = IsHandedBack-head choice old.source new.source Memory books.fetches books.source_calls (λ size same. cc);
+    handed_back = IsHandedBackBare-head old.source new.source Memory books.fetches books.source_calls (λ size same. cc);
     opens = λ file known. (finds file known).0;
     refusal = header-long h old.source new.source reads;
     short = λ less. absurd (omega (arith, less, header-long h old.source new.source reads));
@@ -162,16 +185,24 @@ module _ (choice : Choice) (old new : MeterState) where
   }
 
 -- by a fault of the store, in its directory
-pub IsRefused-directory : (choice : Choice) (old mid new : MeterState) (h : Header) (fault : SourceFault) → FitsHeader old.source (Ok h) mid.source
+pub IsRefused-directory : (old mid new : MeterState) (h : Header) (fault : SourceFault) → FitsHeader old.source (Ok h) mid.source
     → ((file : List ℕ) → old.source.store.content ≡ Some file → Finds file (Ok h)) → Books 1 32 old mid → IsCaused None old.source mid.source
-    → Books h.number_of_streams (12 * h.number_of_streams) mid new → IsCaused (Some fault) mid.source new.source → IsRefused choice old.source (Source fault) new.source
-IsRefused-directory choice old mid new h fault reads finds header none books caused =
+    → Books h.number_of_streams (12 * h.number_of_streams) mid new → IsCaused (Some fault) mid.source new.source → IsRefused old.source (Source fault) new.source
+IsRefused-directory old mid new h fault reads finds header none books caused =
     let long = header-long h old.source mid.source reads in
     let all = IsCaused_later (Some fault) 32 old.source mid.source new.source header.fetches none caused in
     record {
-      handed_back = IsHandedBack-begun choice old.source mid.source new.source (Source fault) h [] 32 _ header.fetches books.fetches (omega arith)
-          (omega arith) (omega (arith, header.source_calls, books.source_calls))
-          (directory_room h.stream_directory_rva h.number_of_streams old.source.size reads.inside) finds (λ file known i d over. absurd (omega (arith, over))) (λ of. of);
+      handed_back = record {
+        asked = h.number_of_streams;
+        fetches = FetchesAtMost-within (32 + 12 * h.number_of_streams) (32 + 12 * h.number_of_streams) old.source new.source (omega arith)
+            (fetches_then 32 (12 * h.number_of_streams) old.source mid.source new.source header.fetches books.fetches);
+        calls = omega (arith, header.source_calls, books.source_calls);
+        known = λ file known. let same = ap (λ (x : Header). x.number_of_streams) (finds file known).1 in omega (arith, same);
+        inside = directory_room h.stream_directory_rva h.number_of_streams old.source.size reads.inside;
+        begun = λ some file known. (finds file known).0;
+        early = λ of. absurd of;
+        short = λ size same. cc;
+      };
       opens = λ file known. tt;
       refusal = long;
       short = λ less. absurd (omega (arith, less, long));

@@ -20,14 +20,14 @@ use Rattle.mdmp_lister.specs.Walk.Reaching.{Reaches, given_once, told_once}
 use Rattle.mdmp_lister.specs.Fault.{IsOfSource}
 use Rattle.mdmp_lister.specs.Walk.Requests.{Answered, FaultMet, HeadRead, StepGiven}
 use Rattle.mdmp_lister.specs.Format.Kind.{kind_of}
-use Rattle.mdmp_lister.specs.Stage.{IsStageAfter, failure_of, fault_stage, stage_by, stop_of}
-use Rattle.mdmp_lister.specs.Step.{CurrentAfter, IsStepHeld, current_by, passed_by, step_item, stream_told}
+use Rattle.mdmp_lister.specs.Stage.{IsStageAfter, failure_of, fault_stage, records_left_in, stage_by, stop_of}
+use Rattle.mdmp_lister.specs.Step.{CurrentAfter, IsStepHeld, TakesRecord, current_by, passed_by, step_item, stream_told}
 use Rattle.mdmp_lister.specs.Walk.{Advances, IsListing, IsSound, IsThrough, PassesTo, SameEntry, SameRoom, current_of, left_of, left_of_entry, rest_of, stage_work, work_of}
 use Rattle.mdmp_lister.proofs.Bodies.{joined-with_item}
 use Rattle.mdmp_lister.proofs.Costs.{stopped-unread, unread-within}
 use Rattle.mdmp_lister.proofs.Ending.{left_of-ended, left_of-fault}
 use Rattle.mdmp_lister.proofs.Fetches.{FetchesAtMost-none, FetchesAtMost-within, told_in_later}
-use Rattle.mdmp_lister.proofs.Paying.{fault_stage-calls, fault_stage-owed, fault_stage-work, paid_named}
+use Rattle.mdmp_lister.proofs.Paying.{fault_stage-calls, fault_stage-owed, fault_stage-work, paid_named, within_named}
 use Rattle.mdmp_lister.proofs.Soundness.{IsGood-after, IsSound-after, fault_stage-going, fault_stage-headed, fault_stage-staged, fault_stage-unfailed, fault_stage-windowed}
 
 -- ---- stages
@@ -61,6 +61,11 @@ pub through-going : (stage : Stage) → IsThrough stage → stop_of stage ≡ No
 through-going Between through = refl
 through-going (Records kind shape index offset) through = refl
 through-going _ through = absurd through
+
+pub through-none : (stage : Stage) → IsThrough stage → records_left_in stage ≡ 0
+through-none Between through = refl
+through-none (Records kind shape index offset) through = omega (arith, through)
+through-none _ through = absurd through
 
 pub stage-through : (F : List ℕ) (limit number : ℕ) (e : Entry) (stage : Stage) → IsThrough stage → left_of_entry F limit number e stage ≡ nothing
 stage-through F limit number e Between through = refl
@@ -123,9 +128,11 @@ module _ {S A : Type 0} (n calls spent : ℕ) (old new : Walk S A) (f : ListFaul
         stage = at;
         passed = same.next;
         current = same.current;
+        records = tt;
         rests = rw (same.room.entries, same.next, at, fault_stage-work f) (omega arith);
         fetches = FetchesAtMost-within n _ old.meter.source new.meter.source (omega (arith, within, owed, none)) fetches;
         counts = Moves-spent calls spent (vec_len old.name) old.meter new.meter spends;
+        spent = within_named calls spent 0 old new same.room.name spends (omega (arith, none, owed));
         named = tt;
         paid = λ allowed before paid. paid_named allowed before calls spent old new paid spends same fetches.same_size
             (rw (at, fault_stage-owed old.meter.source.size old.current new.window f) (omega (arith, owed)))
@@ -140,6 +147,7 @@ module _ {S A : Type 0} (n calls spent : ℕ) (old new : Walk S A) (f : ListFaul
 module _ {S A : Type 0} (n calls spent : ℕ) (old new : Walk S A) (step : Step) where
   -- from a record of the current entry, which is left of it
   pub answered_step : IsSound new → stop_of old.stage ≡ None → stop_of new.stage ≡ None → stage_work new.stage < stage_work old.stage
+      → records_left_in old.stage ≡ records_left_in new.stage + 1
       → SameEntry old new → passed_by step old.next ≡ old.next → current_by step old.current ≡ old.current
       → IsStepHeld (vec_len new.name) (kind_of old.current.stream_type) step
       → stream_told step ≡ None
@@ -150,7 +158,7 @@ module _ {S A : Type 0} (n calls spent : ℕ) (old new : Walk S A) (step : Step)
       → Reaches (told_once step) old.meter new.meter
       → ((file : List ℕ) → old.meter.source.store.content ≡ Some file → current_of old file ≡ with_item (step_item old.meter.source.size new.name.items step) (current_of new file))
       → Answered old (Ok (Some step)) new
-  answered_step sound going on falls same passed stays held begins fetches within spends owed called named left =
+  answered_step sound going on falls counted same passed stays held begins fetches within spends owed called named left =
       let less : work_of new < work_of old = rw (same.room.entries, same.next) (omega (arith, falls)) in
       let owes : unread_bytes new + spent ≤ unread_bytes old = rw (fetches.same_size, same.current) owed in
       let none : stream_begun old.meter.source.size (stream_told step) ≡ 0 = rw begins refl in
@@ -162,14 +170,16 @@ module _ {S A : Type 0} (n calls spent : ℕ) (old new : Walk S A) (step : Step)
             ap (λ (run : Run). joined run (rest_of old file)) (left file known)
             ∙ joined-with_item (step_item old.meter.source.size new.name.items step) (current_of new file) (rest_of old file)
             ∙ ap (λ (run : Run). with_item (step_item old.meter.source.size new.name.items step) (joined (current_of new file) run)) rest;
-        given = record { held = rw same.current held; begins = rw begins (omega (arith, owes)); falls = less };
+        given = record { held = rw same.current held; begins = rw begins (omega (arith, owes)); head = rw begins tt; falls = less };
         met = λ _. tt;
         stage = on;
         passed = same.next ∙ sym passed;
         current = same.current ∙ sym stays;
+        records = λ some. (begins, counted);
         rests = omega (arith, less);
         fetches = FetchesAtMost-within n _ old.meter.source new.meter.source (omega (arith, within, owes, none)) fetches;
         counts = Moves-spent calls spent (vec_len old.name) old.meter new.meter spends;
+        spent = within_named calls spent (stream_begun old.meter.source.size (stream_told step)) old new same.room.name spends (omega (arith, owes));
         named = named;
         paid = λ allowed before paid. paid_named allowed before calls spent old new paid spends same fetches.same_size owed called falls;
         repeats = λ stop stopped. absurd (cc);
@@ -197,9 +207,11 @@ module _ {S A : Type 0} (w : Walk S A) (sound : IsSound w) where
         stage = at;
         passed = refl;
         current = refl;
+        records = tt;
         rests = omega arith;
         fetches = FetchesAtMost-within 0 _ w.meter.source w.meter.source (omega arith) (FetchesAtMost-none w.meter.source);
         counts = Moves-none 1 w.meter;
+        spent = λ few. omega arith;
         named = tt;
         paid = λ allowed before paid. paid;
         repeats = λ stop same. (refl, sym stopped ∙ same);
@@ -224,9 +236,11 @@ module _ {S A : Type 0} (w : Walk S A) (sound : IsSound w) where
         stage = stopped;
         passed = tt;
         current = refl;
+        records = rw at refl;
         rests = omega arith;
         fetches = FetchesAtMost-within 0 _ w.meter.source w.meter.source (omega arith) (FetchesAtMost-none w.meter.source);
         counts = Moves-none 1 w.meter;
+        spent = λ few. omega arith;
         named = omega arith;
         paid = λ allowed before paid. paid;
         repeats = λ stop same. (refl, sym stopped ∙ same);
@@ -249,6 +263,12 @@ IsUnreadBy-then : (z y a b c : ℕ) (stream : Option StreamItem) → y ≡ z →
 IsUnreadBy-then z y a b c (Some x) size less is = rw size at is
 IsUnreadBy-then z y a b c None size less is = omega (arith, less, is)
 
+-- no record was left before a head was read
+none_taken : (result : Result (Option Step) ListFault) (new : ℕ) → TakesRecord 0 result new
+none_taken (Ok None) new = refl
+none_taken (Ok (Some s)) new = λ some. absurd (omega (arith, some))
+none_taken (Err f) new = tt
+
 module _ {S A : Type 0} (old mid new : Walk S A) (head : HeadRead old mid) where
   same_then : SameRoom mid new → SameRoom old new
   same_then same = record {
@@ -268,6 +288,7 @@ module _ {S A : Type 0} (old mid new : Walk S A) (head : HeadRead old mid) where
   given_then (Ok (Some step)) given = record {
     held = given.held;
     begins = IsUnreadBy-then old.meter.source.size mid.meter.source.size (unread_bytes old) (unread_bytes mid) (unread_bytes new) (stream_told step) head.books.fetches.same_size head.owes given.begins;
+    head = given.head;
     falls = omega (arith, given.falls, head.falls);
   }
   given_then (Ok None) given = tt
@@ -310,10 +331,12 @@ module _ {S A : Type 0} (old mid new : Walk S A) (head : HeadRead old mid) where
         stage = then.stage;
         passed = subst (λ next. PassesTo result next new.next) head.same.next then.passed;
         current = subst (λ current. CurrentAfter result current new.current) head.same.current then.current;
+        records = rw at (none_taken result (records_left_in new.stage));
         rests = omega (arith, then.rests, head.falls);
         fetches = FetchesAtMost-within _ _ old.meter.source new.meter.source (omega (arith, begun, spent, within, head.owes))
             (fetches_then _ _ old.meter.source mid.meter.source new.meter.source head.books.fetches then.fetches);
         counts = Moves-booked 1 _ 1 old.meter mid.meter new.meter head.books then.counts;
+        spent = λ few. let behind = rw head.books.same_names at (then.spent few) in omega (arith, behind, begun, head.books.fetched, head.owes);
         named = named_then result then.named;
         paid = λ allowed before paid. then.paid allowed before (head.paid allowed before paid);
         repeats = λ stop stopped. let going : stop_of old.stage ≡ None = rw at refl in absurd (cc);

@@ -3,7 +3,7 @@ use Rattle.std.specs.Prelude.{◌≡◌, ◌≤◌, ◌<◌, ◌+◌, ◌-◌, �
 use Rattle.mdmp_lister.specs.declared.choice.Choice.{Choice}
 use Rattle.mdmp_lister.specs.declared.counts.Counts.{Counts}
 use Rattle.mdmp_lister.specs.Format.Bounds.{call_bound, fetch_bound, held_bound}
-use Rattle.mdmp_lister.specs.Format.Numbers.{listed_bytes, listed_sizes, range_count}
+use Rattle.mdmp_lister.specs.Format.Numbers.{listed_bytes, listed_sizes}
 use Rattle.mdmp_lister.specs.Lister.{ListerState}
 use Rattle.mdmp_lister.specs.Format.Listing.{entry_count}
 use Rattle.mdmp_lister.specs.Meter.{IsBooked}
@@ -25,23 +25,24 @@ numbers_of v = record {
 -- those of a known file are the file's
 pub record AreOfFile (file : List ℕ) (choice : Choice) (c : Counts) : Type 0 where
   pub entries : c.s ≡ entry_count file
-  pub ranges : c.r ≡ range_count file choice
   pub listed : c.n ≡ listed_bytes file choice
 
 -- the bytes that a lister's lists have together
 abbrev pub bytes_of : ListerState → ℕ
 bytes_of v = v.rooms.window + 12 * length v.entries + 24 * length v.ranges + v.limit
 
--- a lister's lists, fetches and calls stay within the bounds that its numbers and the sizes of the listed streams tell, no
--- list has outgrown the room that it took as the file was opened, and its source's own counts have risen by what was
--- fetched or stand at their greatest
-pub record AreBounds (v : ListerState) (c : Counts) : Type 0 where
+-- a lister's lists stay within the bound that its numbers tell, no list has outgrown the room that it took as the file was
+-- opened, and its source's own counts have risen by what was fetched or stand at their greatest
+pub record AreHeld (v : ListerState) (c : Counts) : Type 0 where
   pub held : bytes_of v ≤ c.held
+  pub entries : length v.entries ≤ v.rooms.entries
+  pub ranges : length v.ranges ≤ v.rooms.ranges
+  pub booked : IsBooked v.source v.counts
+
+-- its fetches and calls stay within the bounds that its numbers and the sizes of the listed streams tell
+pub record AreSpent (v : ListerState) (c : Counts) : Type 0 where
   pub fetched : c.fetched ≤ fetch_bound v.limit c.s c.n c.m
   pub calls : c.calls ≤ call_bound v.rooms.window c.s (sizes_in v.choice v.source.size v.entries) c.m
   pub below : c.fetched < 2 ^ 128 - 1
-  pub booked : IsBooked v.source v.counts
-  pub entries : length v.entries ≤ v.rooms.entries
-  pub ranges : length v.ranges ≤ v.rooms.ranges
   -- where the file is known, the streams that are listed are the file's
   pub sizes : (file : List ℕ) → v.source.store.content ≡ Some file → sizes_in v.choice v.source.size v.entries ≡ listed_sizes file v.choice

@@ -62,6 +62,11 @@ abbrev pub Answers : {X Y : Type 0} → Result X Fault → (Y → X) → Result 
 Answers wanted value (Ok y) = wanted ≡ Ok (value y)
 Answers wanted value (Err fault) = (IsOfSource fault.kind → ⊥) → wanted ≡ Err fault
 
+-- the same of an answer of a listing
+abbrev pub IsAnsweredFor : {X : Type 0} → Result X ListFault → Result X ListFault → Type 0
+IsAnsweredFor wanted (Ok x) = wanted ≡ Ok x
+IsAnsweredFor wanted (Err f) = (IsOfSource f.kind → ⊥) → wanted ≡ Err f
+
 -- a memory list
 abbrev pub IsRanged : Option Kind → Type 0
 IsRanged (Some kind) = IsTrue (lists_ranges kind)

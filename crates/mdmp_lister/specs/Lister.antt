@@ -1,5 +1,5 @@
 -- What a contract sees of a lister.
-use Rattle.std.specs.Prelude.{◌≡◌, ◌≤◌, ◌<◌, ◌+◌, ◌-◌, ◌*◌, ℕ, length, List, [], ◌∷◌, ◌++◌, drop, slice_get, Bool, true, false, not, is_some, ◌==◌, ◌&&◌, Option, None, Some, Result, Ok, Err, IfOk, IfErr, IfSome, IsOk}
+use Rattle.std.specs.Prelude.{◌≡◌, ◌≤◌, ◌<◌, ◌+◌, ◌-◌, ◌*◌, ◌^◌, ℕ, length, List, [], ◌∷◌, ◌++◌, drop, slice_get, Bool, true, false, not, is_some, ◌==◌, ◌&&◌, Option, None, Some, Result, Ok, Err, IfOk, IfErr, IfSome, IsOk}
 use Rattle.std.specs.Option.{option_map}
 use Rattle.mdmp_source.specs.Count.{raised}
 use Rattle.mdmp_source.specs.Source.{SourceState, FetchesAtMost, IsTold}
@@ -63,7 +63,7 @@ pub record ListerState : Type 0 where
   pub stop : Option (Option ListFault)
   -- the bytes of the current entry's stream that may still be fetched
   pub unread : ℕ
-  -- how many records of the current entry are left, once the first of them was given
+  -- how many records of the current entry are left, once its head was read
   pub records : ℕ
   -- a number that falls with each item
   pub work : ℕ
@@ -122,6 +122,12 @@ abbrev pub IsCurrent : Result (Option Item) ListFault → Entry → Entry → Ty
 IsCurrent (Ok (Some item)) old new = new ≡ current_after item old
 IsCurrent answer old new = new ≡ old
 
+-- while records of the current entry are left, an item is the next of them
+abbrev pub GivesRecord : ℕ → Result (Option Item) ListFault → ℕ → Type 0
+GivesRecord old (Ok None) new = old ≡ 0
+GivesRecord old (Ok (Some item)) new = 0 < old → ((summary_of item).stream ≡ None) × (old ≡ new + 1)
+GivesRecord old (Err f) new = Unit {0}
+
 -- the ranges inside the file of an answer
 abbrev pub ranges_answered : Result (Option Item) ListFault → List Range
 ranges_answered (Ok (Some item)) = ranges_of (item ∷ [])
@@ -141,11 +147,9 @@ is_for_good (Some (Some f)) = is_of_source f.kind
 abbrev pub is_fresh : ListerState → Bool
 is_fresh v = v.passed == 0 && not (is_some v.stop)
 
--- a lister that was opened over a source, and has given nothing
-pub record IsNewLister (source : SourceState) (choice : Choice) (limits : Limits) (new : ListerState) : Type 0 where
-  -- the header was fetched, the directory, and the heads of the chosen memory lists
-  pub fetches : FetchesAtMost (32 + 12 * new.header.number_of_streams + heads_ahead choice source.size new.entries) source new.source
-  pub calls : new.source.calls ≤ raised source.calls (1 + 2 * new.header.number_of_streams)
+-- a listing that was opened over a source, and has given nothing, whether it keeps ranges or not
+pub record IsNewList (source : SourceState) (choice : Choice) (limits : Limits) (new : ListerState) : Type 0 where
+  pub same_content : new.source.store.content ≡ source.store.content
   pub steady : IsSteady source new.source
   pub header_is : (file : List ℕ) → source.store.content ≡ Some file → new.header ≡ header_at file 0
   pub directory : (file : List ℕ) → source.store.content ≡ Some file → IsDirectory file new.entries
@@ -154,13 +158,20 @@ pub record IsNewLister (source : SourceState) (choice : Choice) (limits : Limits
   pub limit_is : new.limit ≡ limits.name
   pub entry_room : new.rooms.entries ≡ new.header.number_of_streams
   pub window_room : new.rooms.window ≡ limits.window
-  pub range_room : (file : List ℕ) → source.store.content ≡ Some file → new.rooms.ranges ≡ range_count file choice
   pub passed : new.passed ≡ 0
   pub ranges : new.ranges ≡ []
   pub counts : IsBegun source new.counts
   pub left : new.left ≡ option_map (λ file. listing file choice limits.name) source.store.content
   pub unread : new.unread ≡ 0
   pub stop : new.stop ≡ None
+
+-- a lister that was opened over a source, and has given nothing
+pub record IsNewLister (source : SourceState) (choice : Choice) (limits : Limits) (new : ListerState) : Type 0 where
+  pub list : IsNewList source choice limits new
+  -- the header was fetched, the directory, and the heads of the chosen memory lists
+  pub fetches : FetchesAtMost (32 + 12 * new.header.number_of_streams + heads_ahead choice source.size new.entries) source new.source
+  pub calls : new.source.calls ≤ raised source.calls (1 + 2 * new.header.number_of_streams)
+  pub range_room : (file : List ℕ) → source.store.content ≡ Some file → new.rooms.ranges ≡ range_count file choice
 
 -- what no listing changes
 pub record IsSameLister (old new : ListerState) : Type 0 where
@@ -172,7 +183,7 @@ pub record IsSameLister (old new : ListerState) : Type 0 where
   pub aside : new.counts.aside ≡ old.counts.aside
   pub start : new.counts.start ≡ old.counts.start
 
--- what a request for the next item leaves
+-- what a request for the next item leaves, whether ranges are kept or not
 pub record Leaves (old : ListerState) (result : Result (Option Item) ListFault) (new : ListerState) : Type 0 where
   pub same : IsSameLister old new
   -- what came off the unread bytes of the current entry's stream, and the name of the item
@@ -180,17 +191,17 @@ pub record Leaves (old : ListerState) (result : Result (Option Item) ListFault) 
   -- and at most one name was reached
   pub counts : Moves 1 old.counts new.counts
   -- just those that items have, where no fault stands
-  pub names : IfOk result (λ given. new.counts.names ≡ old.counts.names + names_in (Ok given))
+  pub names : IfOk result (λ given. new.counts.names ≡ raised old.counts.names (names_in (Ok given)))
   -- and at a fault that is first answered that of a name, or maybe one where the store failed
-  pub names_at_fault : old.stop ≡ None → IfErr result (λ f. (old.counts.names + names_in (Err f) ≤ new.counts.names) × (new.counts.names ≤ old.counts.names + most_names_in (Err f)))
+  pub names_at_fault : old.stop ≡ None → IfErr result (λ f. (raised old.counts.names (names_in (Err f)) ≤ new.counts.names) × (new.counts.names ≤ old.counts.names + most_names_in (Err f)))
   pub unread : LeavesUnread old.source.size result old.unread new.unread
   pub left : new.left ≡ option_map (left_after result) old.left
   pub stop : new.stop ≡ stop_after result
   pub passed : Passes result old.passed new.passed
   pub current : IsCurrent result old.current new.current
+  pub records : GivesRecord old.records result new.records
   -- what the item names is classed by the file's size
   pub classed : IfOk result (λ given. IfSome given (IsClassed old.source.size new.current))
-  pub ranges : new.ranges ≡ old.ranges ++ ranges_answered result
   pub falls : IfOk result (λ given. IfSome given (λ item. new.work < old.work))
   -- an answer that is given again changes nothing
   pub repeats : (stop : Option ListFault) → old.stop ≡ Some stop → new ≡ old
@@ -199,6 +210,12 @@ pub record Leaves (old : ListerState) (result : Result (Option Item) ListFault) 
   -- a fault stands in the entry whose Stream item was given last
   pub entry : old.stop ≡ None → IfErr result (λ f. f.entry + 1 ≡ old.passed)
   pub rests : new.work ≤ old.work
+
+-- and of a lister, which keeps the ranges that it gives, and whose count of names is never at its greatest
+pub record ListerLeaves (old : ListerState) (result : Result (Option Item) ListFault) (new : ListerState) : Type 0 where
+  pub list : Leaves old result new
+  pub ranges : new.ranges ≡ old.ranges ++ ranges_answered result
+  pub few_names : new.counts.names + 1 < 2 ^ 128
 
 -- what a call leaves that fetches at most n bytes aside from the listing, with this answer: a fault is told in this call,
 -- and over a good store there is none

@@ -85,6 +85,17 @@ pub record IsHandedBack (choice : Choice) (old : SourceState) (fault : OpenFault
   pub early : IsOfHead fault → asked ≡ 0
   pub short : (size : ℕ) → fault ≡ TooShort size → new ≡ old
 
+-- the same where no heads are fetched, as of a walk
+pub record IsHandedBackBare (old : SourceState) (fault : OpenFault) (new : SourceState) : Type 0 where
+  pub asked : ℕ
+  pub fetches : FetchesAtMost (32 + 12 * asked) old new
+  pub calls : new.calls ≤ raised old.calls (1 + asked)
+  pub known : (file : List ℕ) → old.store.content ≡ Some file → asked ≤ entry_count file
+  pub inside : 12 * asked ≤ old.size
+  pub begun : 0 < asked → (file : List ℕ) → old.store.content ≡ Some file → directory_refusal file ≡ None
+  pub early : IsOfHead fault → asked ≡ 0
+  pub short : (size : ℕ) → fault ≡ TooShort size → new ≡ old
+
 -- a file of `size` bytes may be refused so, whatever its bytes
 abbrev pub IsOpenRefusal : ℕ → OpenFault → Type 0
 IsOpenRefusal size (TooShort told) = (told ≡ size) × (size < 32)
@@ -92,11 +103,16 @@ IsOpenRefusal size (DirectoryOutside offset len) = is_inside offset len size ≡
 IsOpenRefusal size (TooManyRanges count) = (32 ≤ size) × (most_ranges < count)
 IsOpenRefusal size fault = 32 ≤ size
 
+-- the same where no ranges are counted
+abbrev pub IsBareRefusal : ℕ → OpenFault → Type 0
+IsBareRefusal size (TooManyRanges count) = ⊥
+IsBareRefusal size fault = IsOpenRefusal size fault
+
 -- what is told of the header of a file fits its size, whatever its bytes
 pub record FitsHeader (old : SourceState) (result : Result Header OpenFault) (new : SourceState) : Type 0 where
   pub sized : IsSizeOf old.store.content old.size
   pub inside : IfOk result (λ header. IsInside header.stream_directory_rva (12 * header.number_of_streams) old.size)
-  pub refusal : IfErr result (IsOpenRefusal old.size)
+  pub refusal : IfErr result (IsBareRefusal old.size)
   pub short : old.size < 32 → result ≡ Err (TooShort old.size)
   -- a file that is too short is not touched
   pub untouched : (size : ℕ) → result ≡ Err (TooShort size) → new ≡ old
@@ -109,10 +125,10 @@ pub record ReadsHeader (old : MeterState) (result : Result Header OpenFault) (ne
   pub caused : IsCaused (unread_fault result) old.source new.source
 
 -- the header or the directory of a file was refused, or there was no memory to list it, and its source was handed back
-pub record IsRefused (choice : Choice) (old : SourceState) (fault : OpenFault) (new : SourceState) : Type 0 where
-  pub handed_back : IsHandedBack choice old fault new
+pub record IsRefused (old : SourceState) (fault : OpenFault) (new : SourceState) : Type 0 where
+  pub handed_back : IsHandedBackBare old fault new
   pub opens : (file : List ℕ) → old.store.content ≡ Some file → IsDirectoryRefusal file fault
-  pub refusal : IsOpenRefusal old.size fault
+  pub refusal : IsBareRefusal old.size fault
   pub short : old.size < 32 → fault ≡ TooShort old.size
   -- memory is taken before the directory is read
   pub memory : fault ≡ Memory → FetchesAtMost 32 old new

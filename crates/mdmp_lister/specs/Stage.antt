@@ -6,7 +6,7 @@ use Rattle.mdmp_lister.specs.declared.fault.ListFault.{ListFault}
 use Rattle.mdmp_lister.specs.declared.sink.RunFault.{RunFault}
 use Rattle.mdmp_lister.specs.declared.sink.RunFault.TheVariants as run
 use Rattle.mdmp_lister.specs.declared.stage.Stage.{Stage}
-use Rattle.mdmp_lister.specs.declared.stage.Stage.TheVariants.{Records, Bad, Failed, Ended}
+use Rattle.mdmp_lister.specs.declared.stage.Stage.TheVariants.{Between, Records, Bad, Failed, Ended}
 
 -- the stage behind a fault: one of the store stays for good
 abbrev pub stage_by : FaultKind → ListFault → Stage
@@ -53,6 +53,13 @@ records_left_in stage = 0
 abbrev pub IsStageAfter : {X : Type 0} → Result (Option X) ListFault → Stage → Type 0
 IsStageAfter (Ok given) stage = stop_of stage ≡ stop_given given
 IsStageAfter (Err f) stage = stage ≡ fault_stage f
+
+-- no record of an entry was given, whose records are counted so: once its head was read, its stage tells their count
+abbrev pub IsCounted : Result ℕ ListFault → Stage → Type 0
+IsCounted told Between = told ≡ Ok 0
+IsCounted told (Records kind shape index offset) = (told ≡ Ok shape.count) × (index ≡ 0)
+IsCounted told (Bad f) = told ≡ Err f
+IsCounted told stage = Unit {0}
 
 -- what requests are answered with behind a run
 abbrev pub stop_after_run : Result (Unit {0}) RunFault → Option (Option ListFault)

@@ -1,5 +1,5 @@
 -- Items whose names stand in a buffer.
-use Rattle.std.specs.Prelude.{◌≡◌, ℕ, List, Option, Some, None, Result, Ok, ◌≤◌, ◌%◌, take}
+use Rattle.std.specs.Prelude.{◌≡◌, ℕ, List, Option, Some, None, Result, Ok, Err, ◌≤◌, ◌<◌, ◌+◌, ◌%◌, take}
 use Rattle.mdmp_wire.specs.AnyRecord.{name_rva}
 use Rattle.mdmp_wire.specs.declared.any_record.AnyRecord.{AnyRecord}
 use Rattle.mdmp_wire.specs.declared.any_record.AnyRecord.TheVariants as any
@@ -71,6 +71,12 @@ IsStepHeld room kind s = IsNameHeld room s × IsStepOf kind s
 abbrev pub stream_told : Step → Option StreamItem
 stream_told (step.Stream x) = Some x
 stream_told (step.Record r) = None
+
+-- while records of the current entry are left, what is given is the next of them
+abbrev pub TakesRecord : ℕ → Result (Option Step) ListFault → ℕ → Type 0
+TakesRecord old (Ok None) new = old ≡ 0
+TakesRecord old (Ok (Some s)) new = 0 < old → (stream_told s ≡ None) × (old ≡ new + 1)
+TakesRecord old (Err f) new = Unit {0}
 
 -- how many bytes stand behind those of the ranges before it, of a range of a 64-bit memory list
 abbrev pub bytes_behind : Step → ℕ

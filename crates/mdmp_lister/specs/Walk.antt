@@ -5,6 +5,7 @@ pub mod Owing
 pub mod Paying
 pub mod Reaching
 pub mod Requests
+pub mod Telling
 use Rattle.std.specs.Prelude.{◌≡◌, ◌≤◌, ◌<◌, ◌+◌, ◌-◌, ◌*◌, ◌^◌, ℕ, List, Option, None, Some, Result, Ok, Err, IfOk, vec_capacity, vec_len}
 use Rattle.mdmp_source.specs.Count.{raised}
 use Rattle.mdmp_source.specs.Range.{IsInside}
@@ -35,7 +36,7 @@ use Rattle.mdmp_lister.specs.Format.Refusal.{directory_refusal}
 use Rattle.mdmp_lister.specs.Fault.{IsCaused, IsOfSource, IsSteady}
 use Rattle.mdmp_lister.specs.Format.Shape.{FitsIn, shape_of}
 use Rattle.mdmp_lister.specs.Format.Kind.{greatest_record, kind_of}
-use Rattle.mdmp_lister.specs.Stage.{failure_of}
+use Rattle.mdmp_lister.specs.Stage.{failure_of, fault_stage, records_left_in}
 use Rattle.mdmp_lister.specs.Step.{passed_by, step_item}
 
 -- what is left of an entry with this number
@@ -139,6 +140,8 @@ module _ {S A : Type 0} where
     pub name : vec_len w.name ≡ limits.name
     pub next : w.next ≡ 0
     pub stage : w.stage ≡ Between
+    -- no entry was begun
+    pub current_is : w.current.stream_type ≡ 0
     pub sound : IsSound w
     -- the file has a header, and neither it nor the place of the directory is at fault
     pub long : 32 ≤ source.size
@@ -177,6 +180,11 @@ abbrev pub IsListing : Stage → Type 0
 IsListing Between = Unit {0}
 IsListing (Records kind shape index offset) = Unit {0}
 IsListing stage = ⊥
+
+-- the head was read, or needs not be
+abbrev pub IsPastHead : Stage → Type 0
+IsPastHead Head = ⊥
+IsPastHead stage = Unit {0}
 
 -- no record of the current entry is left to be read
 abbrev pub IsThrough : Stage → Type 0

@@ -7,6 +7,7 @@ ghost use Rattle.mdmp_lister.specs.Walk.Mapping.{IsMapped};
 
 use crate::fault::{FaultKind, ListFault};
 use crate::lister::push_range;
+use crate::ranging::read_head;
 use crate::sink::{RunFault, Stopped, VerdictSink};
 use crate::stage::Stage;
 use crate::verdict::Verdict;
@@ -50,7 +51,7 @@ fn judge_entry<S: Store + Drop, A: Allocator + Copy>(
     requires head { walk.old.stage ≡ Stage.Head }
     ensures { EntryJudged walk.old map.old result walk.new map.new }
 {
-    if let Err(fault) = walk.read_head(map.free()) {
+    if let Err(fault) = read_head(walk, map.free()) {
         return judged(fault);
     }
     loop {

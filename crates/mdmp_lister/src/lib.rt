@@ -47,6 +47,7 @@ mod lister;
 mod meter;
 mod name;
 mod opening;
+mod ranging;
 mod recording;
 mod shape;
 mod sink;

@@ -13,7 +13,8 @@ ghost use Rattle.mdmp_map.specs.Ranges.{IsWithin};
 ghost use Rattle.mdmp_source.specs.Source.{FetchesAtMost};
 ghost use Rattle.mdmp_lister.specs.Addressing.{ReadsCells};
 ghost use Rattle.mdmp_lister.specs.Meter.{IsBooked};
-ghost use Rattle.mdmp_lister.specs.Counts.{AreBounds, AreOfFile, numbers_of};
+ghost use Rattle.mdmp_lister.specs.Counts.{AreHeld, AreOfFile, AreSpent, numbers_of};
+ghost use Rattle.mdmp_lister.specs.Format.Numbers.{range_count};
 ghost use Rattle.mdmp_lister.specs.Format.Ranges.{IsPlacedIn, ranges_of};
 ghost use Rattle.mdmp_lister.specs.Fault.{IsOfSource, IsToldIn};
 ghost use Rattle.mdmp_lister.specs.Stage.{stop_after, stop_after_run};
@@ -22,17 +23,18 @@ use crate::addressing::read_addresses;
 use crate::checking::check_entries;
 use crate::choice::Choice;
 use crate::codeview::CodeViewBytes;
-use crate::counts::{Counts, listed_bytes};
+use crate::counts::Counts;
 use crate::fault::{ListFault, OpenFault};
 use crate::item::Item;
 use crate::limits::Limits;
 use crate::opening::OpenRefused;
+use crate::ranging::advance;
 use crate::sink::{RunFault, Sink, Stopped, VerdictSink};
 use crate::stage::Stage;
 use crate::walk::{Walk, refused};
 use mdmp_map::AddressMap;
 use mdmp_source::{Extent, Location, Source, SourceFault, Store};
-use mdmp_wire::{Entry, Header, Record};
+use mdmp_wire::Header;
 use std::alloc::{AllocError, Allocator};
 use std::marker::Model;
 
@@ -86,7 +88,7 @@ impl<S: Store + Drop, A: Allocator + Copy> Lister<S, A> {
     ghost use Rattle.mdmp_lister.specs.contracts.lister.Lister.{the_row};
     ghost use Rattle.mdmp_lister.specs.Check.{CheckLeaves};
     ghost use Rattle.mdmp_lister.specs.Sink.{RunLeaves};
-    ghost use Rattle.mdmp_lister.specs.Lister.{Gives, IsNewLister, IsRecordsLeft, IsSameLister, Leaves, ReadsAside, is_for_good, is_fresh, listing_behind};
+    ghost use Rattle.mdmp_lister.specs.Lister.{Gives, IsNewLister, IsRecordsLeft, IsSameLister, ListerLeaves, ReadsAside, is_for_good, is_fresh, listing_behind};
 
     /// Opens a file. Its header is read; memory is taken for the directory, the window and a name; the
     /// directory is read, and the ranges of the chosen memory lists are counted by their heads; then
@@ -95,7 +97,7 @@ impl<S: Store + Drop, A: Allocator + Copy> Lister<S, A> {
     ///
     /// A refusal hands the source back: the fault of the header or of the place of the directory, too
     /// many ranges, want of memory, or that the store failed, behind which nothing more is fetched.
-    #[tactic(auto, using(crate::proofs::Paying::bounded_new, crate::proofs::Fetches::IsCaused_later))]
+    #[tactic(auto, using(crate::proofs::Paying::bounded_new, crate::proofs::Fetches::IsCaused_later, crate::proofs::Refusals::IsHandedBack_bare, crate::proofs::Refusals::open_refusal))]
     pub fn open(
         alloc: A,
         source: Source<S>,
@@ -151,23 +153,12 @@ impl<S: Store + Drop, A: Allocator + Copy> Lister<S, A> {
     pub fn counts(&self) -> Counts
         ensures value { result ≡ numbers_of self.now }
         ensures of_file { (file : List ℕ) → self.now.source.store.content ≡ Some file → AreOfFile file self.now.choice result }
-        ensures bounds { AreBounds self.now result }
+        ensures ranges { (file : List ℕ) → self.now.source.store.content ≡ Some file → result.r ≡ range_count file self.now.choice }
+        ensures held { AreHeld self.now result }
+        ensures spent { AreSpent self.now result }
     {
-        let walk = &self.walk;
-        let entries = walk.entries.len() as u128;
-        let directory = Entry::SIZE as u128 * entries;
-        let ranges = self.map.len() as u128 + self.map.free() as u128;
-        let counted = walk.meter.counts();
-        Counts {
-            s: entries,
-            r: ranges,
-            n: listed_bytes(&walk.entries, &walk.choice, walk.meter.size()),
-            m: counted.names,
-            held: walk.window.room() as u128 + directory + 24 * ranges + walk.name.len() as u128,
-            fetched: counted.fetched,
-            calls: counted.calls,
-            aside: counted.aside.bytes,
-        }
+        self.walk
+            .counts(self.map.len() as u128 + self.map.free() as u128)
     }
 
     /// The next item, whose name is lent until the next call, or none behind the last one. A fault
@@ -180,11 +171,11 @@ impl<S: Store + Drop, A: Allocator + Copy> Lister<S, A> {
     /// stream goes. The name of an item is fetched beside it, of one over the limit its length alone.
     pub fn next(&mut self) -> Result<Option<Item<'_>>, ListFault>
         ensures gives { (left : _) → self.old.left ≡ Some left → Gives left result }
-        ensures* leaves { sem 𝓛 (Rests (the_row S.row A.row S.Store A.Allocator) self.entry (Leaves self.old result)) }
+        ensures* leaves { sem 𝓛 (Rests (the_row S.row A.row S.Store A.Allocator) self.entry (ListerLeaves self.old result)) }
         ensures repeats { (stop : _) → self.old.stop ≡ Some stop → stop_after result ≡ Some stop }
         ensures good { (file : List ℕ) → IsGood self.old.source.store file → IfErr result (λ fault. IsOfSource fault.kind → ⊥) }
     {
-        match self.walk.advance(self.map.free()) {
+        match advance(&mut self.walk, self.map.free()) {
             Ok(None) => Ok(None),
             Ok(Some(step)) => {
                 let item = self.walk.item(&step);
@@ -201,10 +192,7 @@ impl<S: Store + Drop, A: Allocator + Copy> Lister<S, A> {
     pub fn records_left(&self) -> u64
         ensures { IsRecordsLeft self.now result }
     {
-        match self.walk.stage {
-            Stage::Records { shape, index, .. } => shape.count - index,
-            _ => 0,
-        }
+        self.walk.records_left()
     }
 
     /// Whether no item, verdict or fault was given yet, nor the end. Calls aside don't change it.
@@ -318,7 +306,7 @@ impl<S: Store + Drop, A: Allocator + Copy> Lister<S, A> {
         ensures bytes { (file : List ℕ) → self.old.source.store.content ≡ Some file → OnOk result (out.new ≡ bytes_at file at (length out.new)) }
         ensures reads { ReadsAside (length out.new) result self.old self.new }
     {
-        self.walk.meter.fetch_aside(at, out)
+        self.walk.read_part(at, out)
     }
 
     /// Fetches the CodeView record of a module, which its `CvRecord` locates and which lies inside the

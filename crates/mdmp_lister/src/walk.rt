@@ -1,15 +1,19 @@
 //! The walk over the entries of a file, without its public face.
-ghost use Rattle.std.specs.Prelude.{◌≡◌, ◌+◌, ◌^◌, ◌≤◌, ◌<◌, ◌-◌, IfOk, IfErr, MatchOption, MatchResult, vec_len};
-ghost use Rattle.mdmp_source.specs.Range.{IsInside};
+ghost use Rattle.std.specs.Prelude.{◌≡◌, ◌+◌, ◌*◌, ◌^◌, ◌≤◌, ◌<◌, ◌-◌, ℕ, List, Some, IfOk, IfErr, MatchOption, MatchResult, OnOk, length, vec_len};
+ghost use Rattle.mdmp_source.specs.Range.{IsInside, bytes_at};
+ghost use Rattle.mdmp_source.specs.Store.{IsSizeOf};
 ghost use Rattle.mdmp_lister.specs.CodeView.{codeview_read, codeview_told};
+ghost use Rattle.mdmp_lister.specs.Fetching.{Reads};
+ghost use Rattle.mdmp_lister.specs.Meter.{BooksAside, IsBooked, IsSourceOf, counts_of};
 ghost use Rattle.mdmp_lister.specs.Opening.{IsRefused};
-ghost use Rattle.mdmp_lister.specs.Stage.{fault_stage};
+ghost use Rattle.mdmp_lister.specs.Stage.{fault_stage, records_left_in};
 ghost use Rattle.mdmp_lister.specs.Step.{IsItemOf, IsNameHeld, bytes_behind};
-ghost use Rattle.mdmp_lister.specs.Walk.Owing.{HasRoom, count_answered};
+ghost use Rattle.mdmp_lister.specs.Walk.Owing.{ranges_ahead};
 
 use crate::choice::Choice;
 use crate::codeview::{CodeViewBytes, CodeViewRead, read_codeview};
 use crate::counting::count_ranges;
+use crate::counts::{Counts, listed_bytes};
 use crate::fault::{Fault, FaultKind, ListFault, OpenFault};
 use crate::heading::begin_stream;
 use crate::item::{Item, StreamItem};
@@ -22,7 +26,7 @@ use crate::shape::{Shape, location_fault, record_at};
 use crate::stage::Stage;
 use crate::step::{Step, record_item};
 use mdmp_source::{Location, Source, SourceFault, Store, Window};
-use mdmp_wire::{AnyRecord, Entry, Header};
+use mdmp_wire::{AnyRecord, Entry, Header, Record};
 use std::alloc::Allocator;
 
 /// Stands in the place of the current entry before the first one.
@@ -49,9 +53,10 @@ pub(crate) struct Walk<S: Store + Drop, A: Allocator + Copy> {
 }
 
 impl<S: Store + Drop, A: Allocator + Copy> Walk<S, A> {
-    ghost use Rattle.mdmp_lister.specs.Walk.Requests.{Answered, CodeViewFetched, EntrySkipped, HeadRead, StepTaken};
+    ghost use Rattle.mdmp_lister.specs.Walk.Requests.{Answered, CodeViewFetched, Counted, EntrySkipped, EntryTaken, HasChanged, HeadRead, StepTaken};
     ghost use Rattle.mdmp_lister.specs.Walk.Checking.{EntryBegun, NoneLeft, RecordRead, RecordTaken};
-    ghost use Rattle.mdmp_lister.specs.Walk.{CountsRanges, IsListing, IsNewWalk, IsSound, IsThrough};
+    ghost use Rattle.mdmp_lister.specs.Walk.Telling.{numbers_of_walk};
+    ghost use Rattle.mdmp_lister.specs.Walk.{CountsRanges, IsListing, IsNewWalk, IsPastHead, IsSound, IsThrough};
 
     /// Reads the header and the directory of a file, and takes all the memory that a walk needs.
     pub(crate) fn open(
@@ -61,7 +66,7 @@ impl<S: Store + Drop, A: Allocator + Copy> Walk<S, A> {
         choice: Choice,
     ) -> Result<Self, OpenRefused<S>>
         ensures new { IfOk result (IsNewWalk source choice limits) }
-        ensures refused { IfErr result (λ refused. IsRefused choice source refused.fault refused.source) }
+        ensures refused { IfErr result (λ refused. IsRefused source refused.fault refused.source) }
     {
         let mut meter = Meter::new(source);
         let header = match read_header(&mut meter) {
@@ -101,22 +106,30 @@ impl<S: Store + Drop, A: Allocator + Copy> Walk<S, A> {
         count_ranges(&mut self.meter, &self.entries, &self.choice)
     }
 
-    /// Gives the next step, or the fault that is next. A memory list whose head counts more than
-    /// `room` ranges has changed since the file was opened.
-    pub(crate) fn advance(&mut self, room: usize) -> Result<Option<Step>, ListFault>
+    /// Gives the next step, or the fault that is next.
+    pub(crate) fn advance(&mut self) -> Result<Option<Step>, ListFault>
+        requires { IsSound self.old }
+        ensures { Answered self.old result self.new }
+    {
+        match self.stage {
+            Stage::Head => {
+                self.read_head()?;
+                self.go_on()
+            }
+            _ => self.go_on(),
+        }
+    }
+
+    /// The same where the head of the current entry was read, or has a fault.
+    pub(crate) fn go_on(&mut self) -> Result<Option<Step>, ListFault>
         requires sound { IsSound self.old }
-        requires room { HasRoom room 0 self.old }
-        ensures answered { Answered self.old result self.new }
-        ensures room { HasRoom room (count_answered result) self.new }
+        requires headed { IsPastHead self.old.stage }
+        ensures { StepTaken self.old result self.new }
     {
         match self.stage {
             Stage::Bad(fault) | Stage::Failed(fault) => Err(fault),
             Stage::Ended => Ok(None),
-            Stage::Head => {
-                self.read_head(room)?;
-                self.step()
-            }
-            Stage::Between | Stage::Records { .. } => self.step(),
+            Stage::Head | Stage::Between | Stage::Records { .. } => self.step(),
         }
     }
 
@@ -178,14 +191,12 @@ impl<S: Store + Drop, A: Allocator + Copy> Walk<S, A> {
         taken
     }
 
-    /// Reads where the records of the current entry stand. A memory list that counts more than `room`
-    /// ranges has changed since the file was opened.
-    pub(crate) fn read_head(&mut self, room: usize) -> Result<(), ListFault>
+    /// Reads where the records of the current entry stand.
+    pub(crate) fn read_head(&mut self) -> Result<(), ListFault>
         requires sound { IsSound self.old }
-        requires room { HasRoom room 0 self.old }
         requires head { self.old.stage ≡ Stage.Head }
         ensures read { MatchResult result (λ _. HeadRead self.old self.new) (λ fault. Answered self.old (Err fault) self.new) }
-        ensures room { HasRoom room 0 self.new }
+        ensures counted { Counted self.old self.new }
     {
         let number = (self.next - 1) as u32;
         if let Some(fault) = location_fault(self.current, self.meter.size()) {
@@ -202,11 +213,6 @@ impl<S: Store + Drop, A: Allocator + Copy> Walk<S, A> {
             kind,
         ) {
             Ok(head) => {
-                if kind.ranges_by(head.shape.count) > room as u64 {
-                    let at = u64::from(self.current.location.rva);
-                    let changed = Fault::from(SourceFault::Changed { at });
-                    return self.stop_at(ListFault::of_entry(number, None, changed));
-                }
                 self.stage = Stage::Records {
                     kind,
                     shape: head.shape,
@@ -217,6 +223,46 @@ impl<S: Store + Drop, A: Allocator + Copy> Walk<S, A> {
             }
             Err(fault) => self.stop_at(ListFault::of_entry(number, None, fault)),
         }
+    }
+
+    /// How many records of the current entry are left, once its head was read.
+    pub(crate) fn records_left(&self) -> u64
+        requires { IsSound self.now }
+        ensures { result ≡ records_left_in self.now.stage }
+    {
+        match self.stage {
+            Stage::Records { shape, index, .. } => shape.count - index,
+            _ => 0,
+        }
+    }
+
+    /// How many ranges those records tell.
+    pub(crate) fn ranges_ahead(&self) -> u64
+        requires { IsSound self.now }
+        ensures { result ≡ ranges_ahead self.now.stage }
+    {
+        match self.stage {
+            Stage::Records {
+                kind,
+                shape,
+                index,
+                ..
+            } => kind.ranges_by(shape.count - index),
+            _ => 0,
+        }
+    }
+
+    /// Stays at the fault that the store has changed, for good, since the head of the current entry's
+    /// stream does not agree with what was read of it before.
+    pub(crate) fn stop_changed<T: Drop>(&mut self) -> Result<T, ListFault>
+        requires sound { IsSound self.old }
+        requires begun { 0 < self.old.next }
+        ensures { HasChanged self.old result self.new }
+    {
+        let number = (self.next - 1) as u32;
+        let at = u64::from(self.current.location.rva);
+        let changed = Fault::from(SourceFault::Changed { at });
+        self.stop_at(ListFault::of_entry(number, None, changed))
     }
 
     /// Gives the next record of the current entry, whose head was read, or none behind the last one.
@@ -289,15 +335,57 @@ impl<S: Store + Drop, A: Allocator + Copy> Walk<S, A> {
             self.stage = Stage::Ended;
             return None;
         };
+        Some(self.begin_entry(at))
+    }
+
+    /// Gives the Stream item of an entry, chosen or not.
+    pub(crate) fn begin_entry(&mut self, at: usize) -> Step
+        requires sound { IsSound self.old }
+        requires within { at < vec_len self.old.entries }
+        ensures { EntryTaken at self.old result self.new }
+    {
         let entry = self.entries[at];
         self.next = at + 1;
         self.current = entry;
         self.stage = Stage::Head;
-        Some(Step::Stream(StreamItem {
+        Step::Stream(StreamItem {
             entry: at as u32,
             stream_type: entry.stream_type,
             location: entry.location,
-        }))
+        })
+    }
+
+    /// Fetches bytes of the file, which lie inside it, aside from the listing.
+    pub(crate) fn read_part(&mut self, at: u64, out: &mut [u8]) -> Result<(), SourceFault>
+        requires { IsInside at (length out.old) self.old.meter.source.size }
+        ensures same { self.new ≡ record self.old { meter = self.new.meter } }
+        ensures reads { Reads (BooksAside (length out.new)) (λ file _. out.new ≡ bytes_at file at (length out.new)) result self.old.meter self.new.meter }
+    {
+        self.meter.fetch_aside(at, out)
+    }
+
+    /// The numbers that bound what it holds beside a map with room for so many ranges, and what it has
+    /// fetched.
+    pub(crate) fn counts(&self, ranges: u128) -> Counts
+        requires sound { IsSound self.now }
+        requires few { ranges < 2 ^ 65 }
+        ensures value { result ≡ numbers_of_walk ranges self.now }
+        ensures listed { result.n ≤ 2 ^ 32 * length self.now.entries.items }
+        ensures booked { IsBooked self.now.meter.source (counts_of self.now.meter) }
+    {
+        let entries = self.entries.len() as u128;
+        let directory = Entry::SIZE as u128 * entries;
+        let counted = self.meter.counts();
+        Counts {
+            s: entries,
+            r: ranges,
+            n: listed_bytes(&self.entries, &self.choice, self.meter.size()),
+            m: counted.names,
+            held: self.window.room() as u128 + directory + 24 * ranges + self.name.len() as u128,
+            fetched: counted.fetched,
+            calls: counted.calls,
+            aside: counted.aside.bytes,
+        }
     }
 
     /// Stays at a fault.

@@ -152,7 +152,7 @@ pub fn plain_name(rt: &HostRuntime, name: &Name<'_>) -> Result<Named, AllocError
 }
 
 /// An item as a plain value.
-fn plain(rt: &HostRuntime, item: &Item<'_>) -> Result<Given, AllocError> {
+pub fn plain(rt: &HostRuntime, item: &Item<'_>) -> Result<Given, AllocError> {
     match item {
         Item::Stream(item) => {
             let location = item.location;

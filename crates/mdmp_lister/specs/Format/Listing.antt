@@ -14,7 +14,7 @@ use Rattle.mdmp_lister.specs.declared.choice.Choice.TheVariants.{All, Types}
 use Rattle.mdmp_lister.specs.declared.verdict.Verdict.{Verdict}
 use Rattle.mdmp_lister.specs.declared.shape.Shape.{Shape}
 use Rattle.mdmp_lister.specs.Format.Kind.{kind_of}
-use Rattle.mdmp_lister.specs.Format.Shape.{shape_of, location_fault}
+use Rattle.mdmp_lister.specs.Format.Shape.{shape_of, location_fault, record_count}
 use Rattle.mdmp_lister.specs.Format.Item.{item_at}
 
 -- ---- the chosen entries
@@ -138,6 +138,19 @@ listing F choice limit = all_joined (map (entry_listing F limit) (chosen F choic
 -- what is left from entry i on
 abbrev pub listing_from : List ℕ → Choice → ℕ → ℕ → Run
 listing_from F choice limit i = all_joined (map (entry_listing F limit) (chosen_from F choice i))
+
+-- all that entry i gives, chosen or not, and what the chosen ones behind it give
+abbrev pub listing_sought : List ℕ → Choice → ℕ → ℕ → Run
+listing_sought F choice limit i = joined (entry_listing F limit (record { number = i; entry = entry_of F i })) (listing_from F choice limit (i + 1))
+
+-- a count of records, or the fault that stands in a listing in their place
+abbrev pub count_told : ℕ → Result ℕ Fault → Result ℕ ListFault
+count_told e (Ok count) = Ok count
+count_told e (Err f) = Err (list_fault e None f)
+
+-- how many records an entry has, or that fault
+abbrev pub records_told : List ℕ → Numbered → Result ℕ ListFault
+records_told F x = count_told x.number (record_count F x.entry)
 
 -- each chosen entry with its fault or none
 abbrev pub verdicts : List ℕ → Choice → ℕ → List Verdict

@@ -78,6 +78,12 @@ pub record IsPaid {S A : Type 0} (allowed : Amount) (before : ℕ) (w : Walk S A
       + before * 2 ≤ allowed.calls + w.meter.names * 2
   pub names : w.meter.names + work_of w < 2 ^ 66
 
+-- so many bytes were allowed since so many were fetched and so many names reached: what was fetched since then and may still
+-- be of the current entry is within them, with a name and its length for each name, unless their count is at its greatest
+abbrev pub IsWithinSince : {S A : Type 0} → (fetched names allowed : ℕ) → Walk S A → Type 0
+IsWithinSince fetched names allowed w =
+    w.meter.names + 1 < 2 ^ 128 → w.meter.fetched + unread_bytes w + names * (vec_len w.name + 4) ≤ fetched + allowed + w.meter.names * (vec_len w.name + 4)
+
 -- what is allowed, by the entries of the directory: the header, they, the heads that are fetched twice, and the streams
 abbrev pub allowed_of : {S A : Type 0} → Walk S A → Amount
 allowed_of w =

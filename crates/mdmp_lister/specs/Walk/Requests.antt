@@ -1,25 +1,30 @@
 -- What a request for the next item leaves of a walk.
-use Rattle.std.specs.Prelude.{◌≡◌, ◌≤◌, ◌<◌, ◌+◌, ◌-◌, ℕ, List, Option, Some, None, Result, IfOk, IfErr, IfSome, IsTrue, false, vec_len}
+use Rattle.std.specs.Prelude.{◌≡◌, ◌≤◌, ◌<◌, ◌+◌, ◌-◌, ℕ, List, Option, Some, None, Result, Err, IfOk, IfErr, IfSome, IsTrue, false, get_or, vec_len}
 use Rattle.mdmp_source.specs.Source.{FetchesAtMost}
 use Rattle.mdmp_source.specs.Store.{IsGood}
 use Rattle.mdmp_source.specs.declared.fault.SourceFault.{SourceFault}
+use Rattle.mdmp_source.specs.declared.fault.SourceFault.TheVariants.{Changed}
+use Rattle.mdmp_wire.specs.declared.entry.Entry.{Entry}
 use Rattle.mdmp_source.specs.declared.location.Location.{Location}
 use Rattle.mdmp_lister.specs.declared.codeview.CodeViewRead.{CodeViewRead}
+use Rattle.mdmp_lister.specs.declared.fault.FaultKind.TheVariants.{Source}
 use Rattle.mdmp_lister.specs.declared.fault.ListFault.{ListFault}
 use Rattle.mdmp_lister.specs.declared.meter.Amount.{Amount}
 use Rattle.mdmp_lister.specs.declared.step.Step.{Step}
+use Rattle.mdmp_lister.specs.declared.step.Step.TheVariants as step
 use Rattle.mdmp_lister.specs.declared.walk.Walk.{Walk}
 use Rattle.mdmp_lister.specs.CodeView.{ReadsCodeView}
 use Rattle.mdmp_lister.specs.Costs.{IsUnreadBy, begun_at, given_spent, stream_begun}
 use Rattle.mdmp_lister.specs.Meter.{Books, Moves, counts_of}
-use Rattle.mdmp_lister.specs.Walk.Paying.{IsPaid, unread_bytes}
+use Rattle.mdmp_lister.specs.Walk.Paying.{IsPaid, IsWithinSince, unread_bytes}
 use Rattle.mdmp_lister.specs.Walk.Reaching.{Reaches, ReachesAtFault, given_once}
 use Rattle.mdmp_lister.specs.Fault.{IsOfSource, IsToldIn}
 use Rattle.mdmp_lister.specs.Format.Kind.{kind_of}
-use Rattle.mdmp_lister.specs.Stage.{IsStageAfter, ends, stop_after, stop_of}
-use Rattle.mdmp_lister.specs.declared.stage.Stage.TheVariants.{Between}
+use Rattle.mdmp_lister.specs.Format.Listing.{records_told}
+use Rattle.mdmp_lister.specs.Stage.{IsCounted, IsStageAfter, ends, fault_stage, records_left_in, stop_after, stop_of}
+use Rattle.mdmp_lister.specs.declared.stage.Stage.TheVariants.{Between, Head}
 use Rattle.mdmp_lister.specs.Walk.Owing.{HasRoom, count_answered}
-use Rattle.mdmp_lister.specs.Step.{CurrentAfter, IsStepHeld, stream_told}
+use Rattle.mdmp_lister.specs.Step.{CurrentAfter, IsStepHeld, TakesRecord, stream_told}
 use Rattle.mdmp_lister.specs.Walk.{Advances, IsListing, IsSound, PassesTo, SameEntry, SameRoom, current_of, left_of, work_of}
 
 module _ {S A : Type 0} where
@@ -29,6 +34,7 @@ module _ {S A : Type 0} where
     pub held : IsStepHeld (vec_len new.name) (kind_of new.current.stream_type) step
     -- where it begins an entry, the stream of that entry is left to be read
     pub begins : IsUnreadBy old.meter.source.size (stream_told step) (unread_bytes old) (unread_bytes new)
+    pub head : IfSome (stream_told step) (λ _. new.stage ≡ Head)
     pub falls : work_of new < work_of old
 
   -- a fault that was met: it stands in the current entry, and one of the store was told by the last fetch
@@ -49,12 +55,15 @@ module _ {S A : Type 0} where
     pub stage : IsStageAfter result new.stage
     pub passed : PassesTo result old.next new.next
     pub current : CurrentAfter result old.current new.current
+    pub records : TakesRecord (records_left_in old.stage) result (records_left_in new.stage)
     pub rests : work_of new ≤ work_of old
     -- what came off the unread bytes of the current entry's stream was fetched, and the name of the step
     pub fetches : FetchesAtMost (unread_bytes old + stream_begun old.meter.source.size (begun_at result) + given_spent (vec_len old.name) result - unread_bytes new)
         old.meter.source new.meter.source
     pub counts : Moves 1 (counts_of old.meter) (counts_of new.meter)
     pub named : IfOk result (λ given. Reaches (given_once given) old.meter new.meter)
+    -- and so it was counted, with a name and its length where one was reached
+    pub spent : IsWithinSince old.meter.fetched old.meter.names (unread_bytes old + stream_begun old.meter.source.size (begun_at result)) new
     pub paid : (allowed : Amount) (before : ℕ) → IsPaid allowed before old → IsPaid allowed before new
     -- an answer that is given again changes nothing
     pub repeats : (stop : Option ListFault) → stop_of old.stage ≡ Some stop → (new ≡ old) × (stop_after result ≡ Some stop)
@@ -71,6 +80,29 @@ module _ {S A : Type 0} where
     pub owes : unread_bytes new ≤ unread_bytes old
     pub books : Books 1 (unread_bytes old - unread_bytes new) old.meter new.meter
     pub paid : (allowed : Amount) (before : ℕ) → IsPaid allowed before old → IsPaid allowed before new
+
+  -- the head of the current entry was read, or has a fault: what was fetched of it came off what was unread, and where the
+  -- file is known the stage tells how many records the entry has
+  pub record Counted (old new : Walk S A) : Type 0 where
+    pub books : Books 1 (unread_bytes old - unread_bytes new) old.meter new.meter
+    pub of_file : (file : List ℕ) → old.meter.source.store.content ≡ Some file → IsCounted (records_told file (record { number = old.next - 1; entry = old.current })) new.stage
+
+  -- it stays for good at the fault that the store has changed
+  pub record HasChanged {T : Type 0} (old : Walk S A) (result : Result T ListFault) (new : Walk S A) : Type 0 where
+    pub fault : ListFault
+    pub answer : result ≡ Err fault
+    pub stops : new ≡ record old { stage = fault_stage fault }
+    pub kind : fault.kind ≡ Source (Changed old.current.location.rva)
+    pub placed : (fault.offset ≡ old.current.location.rva) × (fault.size ≡ 0)
+    pub index : fault.index ≡ None
+    pub entry : fault.entry + 1 ≡ old.next
+
+  -- the Stream item of an entry was given, chosen or not
+  pub record EntryTaken (at : ℕ) (old : Walk S A) (given : Step) (new : Walk S A) : Type 0 where
+    pub sound : IsSound new
+    pub is : new ≡ record old { next = at + 1; current = new.current; stage = Head }
+    pub entry : (d : Entry) → get_or old.entries.items at d ≡ new.current
+    pub step_is : given ≡ step.Stream (record { entry = at; stream_type = new.current.stream_type; location = new.current.location })
 
   -- a request was answered so, and as much room is left as the ranges that may still be given need
   pub record StepTaken (old : Walk S A) (result : Result (Option Step) ListFault) (new : Walk S A) : Type 0 where

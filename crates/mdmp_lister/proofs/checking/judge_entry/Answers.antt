@@ -6,7 +6,7 @@ use Rattle.mdmp_lister.proofs.checking.judge_entry.Goals as goal
 pub returns-in-Err : goal.returns-in-Err
 returns-in-Err g c =
     let w = c.args.walk.now in
-    let n = c.read_head.new.self in
+    let n = c.read_head.new.walk in
     let m = c.args.map.now in
     let f = c.in-Err.fault in
     let of = c.in-Err.ensures in
@@ -19,7 +19,7 @@ loop-fault-init g c =
     let of = c.in_default.ensures in
     record {
       items = [];
-      read = head_items c.args.walk.now c.read_head.new.self c.args.map.now c.requires.mapped of.read (rw c.free.ensures.value at of.room);
+      read = head_items c.args.walk.now c.read_head.new.walk c.args.map.now c.requires.mapped of.read (rw c.free.ensures.value at of.room);
       stage = of.read.stage;
     }
 

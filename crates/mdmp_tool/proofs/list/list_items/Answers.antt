@@ -21,7 +21,7 @@ returns-in-Ok-None-clause-leaves g c =
     record {
       good = λ file good. tt;
       behind = tt;
-      reads = record { cause = tt; fetches = record { count = so_far.count + _; fetches = fetches_then _ _ _ _ _ so_far.fetches c.next.follows.holds-at-none.fetches } };
+      reads = record { cause = tt; fetches = record { count = so_far.count + _; fetches = fetches_then _ _ _ _ _ so_far.fetches c.next.follows.holds-at-none.list.fetches } };
       out_cause = c.loop-item.invariant.steady;
     }
 
@@ -37,7 +37,7 @@ returns-in-Err-put_item_line-clause-leaves g c =
     record {
       good = λ file good. tt;
       behind = tt;
-      reads = record { cause = tt; fetches = record { count = so_far.count + _; fetches = fetches_then _ _ _ _ _ so_far.fetches c.next.follows.holds-at-none.fetches } };
+      reads = record { cause = tt; fetches = record { count = so_far.count + _; fetches = fetches_then _ _ _ _ _ so_far.fetches c.next.follows.holds-at-none.list.fetches } };
       out_cause = search rules;
     }
 
@@ -53,14 +53,14 @@ returns-in-Err-clause-leaves g c =
     record {
       good = search rules;
       behind = search rules;
-      reads = record { cause = search rules; fetches = record { count = so_far.count + _; fetches = fetches_then _ _ _ _ _ so_far.fetches c.next.follows.holds-at-none.fetches } };
+      reads = record { cause = search rules; fetches = record { count = so_far.count + _; fetches = fetches_then _ _ _ _ _ so_far.fetches c.next.follows.holds-at-none.list.fetches } };
       out_cause = search rules;
     }
 
 pub loop-item-preserved : goal.loop-item-preserved
 loop-item-preserved g c =
     let so_far = c.loop-item.invariant.source in
-    let holds = c.next.follows.holds-at-none in
+    let holds = c.next.follows.holds-at-none.list in
     let told = c.in_ok-put_symbols.ensures in
     let read = fetches_then _ _ _ _ _ so_far.fetches holds.fetches in
     let limit = holds.same.limit ∙ c.loop-item.invariant.limit in
@@ -86,7 +86,7 @@ loop-item-preserved g c =
 pub returns-in_err-put_symbols-clause-lists : goal.returns-in_err-put_symbols-clause-lists
 returns-in_err-put_symbols-clause-lists g c = λ file content run known.
     let so_far = c.loop-item.invariant.source in
-    let holds = c.next.follows.holds-at-none in
+    let holds = c.next.follows.holds-at-none.list in
     let told = c.in_err-put_symbols.ensures in
     let read = fetches_then _ _ _ _ _ so_far.fetches holds.fetches in
     let limit = holds.same.limit ∙ c.loop-item.invariant.limit in
@@ -102,7 +102,7 @@ returns-in_err-put_symbols-clause-lists g c = λ file content run known.
 pub returns-in_err-put_symbols-clause-leaves : goal.returns-in_err-put_symbols-clause-leaves
 returns-in_err-put_symbols-clause-leaves g c =
     let so_far = c.loop-item.invariant.source in
-    let read = fetches_then _ _ _ _ _ so_far.fetches c.next.follows.holds-at-none.fetches in
+    let read = fetches_then _ _ _ _ _ so_far.fetches c.next.follows.holds-at-none.list.fetches in
     let f = c.in_err-put_symbols.field-0.0 in
     let is : c.from_residual.result ≡ Err f = search rules in
     rw is (Leaves-later _ _ _ _ _ _ _ (Err f) read (c.in-Ok.ensures.steady ∙ c.loop-item.invariant.steady) c.in_err-put_symbols.ensures.leaves)

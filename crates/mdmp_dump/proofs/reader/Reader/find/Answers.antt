@@ -10,12 +10,12 @@ returns-in-Err-clause-of_file g c = λ file limit x k xs known left kind. (tt, �
 pub returns-in-Ok-None-clause-of_file : goal.returns-in-Ok-None-clause-of_file
 returns-in-Ok-None-clause-of_file g c = λ file limit x k xs known left kind.
     let none = rw c.in-Ok-None.field-0-is at (c.in-Ok-None.ensures.gives _ left) in
-    let new : c.next.follows.lender-at-none.left ≡ Some (left_from file limit x k xs) = rw (c.in-Ok-None.is, c.in-Ok-None.field-0-is, left) at c.next.follows.holds-at-none.left in
+    let new : c.next.follows.lender-at-none.left ≡ Some (left_from file limit x k xs) = rw (c.in-Ok-None.is, c.in-Ok-None.field-0-is, left) at c.next.follows.holds-at-none.list.left in
     rw (new, left) (end-given file limit x k xs none, refl)
 
 pub returns-in-Ok-Some-clause-of_file : goal.returns-in-Ok-Some-clause-of_file
 returns-in-Ok-Some-clause-of_file g c = λ file limit x k xs known left kind.
     let item = c.in-Ok-Some.item in
     let first = rw c.in-Ok-Some.field-0-is at (c.in-Ok-Some.ensures.gives _ left) in
-    let new : c.next.follows.lender-at-none.left ≡ Some (tail (left_from file limit x k xs)) = rw (c.in-Ok-Some.is, c.in-Ok-Some.field-0-is, left) at c.next.follows.holds-at-none.left in
+    let new : c.next.follows.lender-at-none.left ≡ Some (tail (left_from file limit x k xs)) = rw (c.in-Ok-Some.is, c.in-Ok-Some.field-0-is, left) at c.next.follows.holds-at-none.list.left in
     rw (new, left) (found-given file limit x k xs g.T.Row.kind g.T.Row.told g.T.Row.steps g.met.T.Row.tells kind c.args.self.now.left _ first c.told_of.result c.told_of.ensures)

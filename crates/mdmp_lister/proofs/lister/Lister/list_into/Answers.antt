@@ -7,7 +7,7 @@ use Rattle.mdmp_lister.specs.Sink.{give_all}
 use Rattle.mdmp_lister.specs.Lister.{ListerState, tail}
 use Rattle.mdmp_lister.specs.Format.Listing.{nothing, only_fault}
 use Rattle.mdmp_lister.proofs.Advancing.{current_after-plain, passed_after-plain}
-use Rattle.mdmp_lister.proofs.Handing.{AllClassed-more, HasCost-end, HasCost-more, HasCost-most, HasCost-none, current_behind-more, give_all-next, names_of_all-more, passed_behind-more, same_lister-then, Taken-more, TakenToStop-end}
+use Rattle.mdmp_lister.proofs.Handing.{AllClassed-more, HasCost-end, HasCost-more, HasCost-most, HasCost-none, current_behind-more, give_all-next, names_of_all-more, passed_behind-more, rose_exactly, same_lister-then, Taken-more, TakenToStop-end}
 use Rattle.mdmp_lister.proofs.Mapping.{ranges_of-more}
 use Rattle.mdmp_lister.proofs.lister.Lister.list_into.Goals as goal
 
@@ -31,18 +31,19 @@ loop-item-init g c = record {
 }
 
 pub returns-in-Ok-None-clause-same : goal.returns-in-Ok-None-clause-same
-returns-in-Ok-None-clause-same g c = same_lister-then _ _ _ c.loop-item.invariant.same c.next.follows.holds-at-none.same
+returns-in-Ok-None-clause-same g c = same_lister-then _ _ _ c.loop-item.invariant.same c.next.follows.holds-at-none.list.same
 
 pub returns-in-Err-clause-same : goal.returns-in-Err-clause-same
-returns-in-Err-clause-same g c = same_lister-then _ _ _ c.loop-item.invariant.same c.next.follows.holds-at-none.same
+returns-in-Err-clause-same g c = same_lister-then _ _ _ c.loop-item.invariant.same c.next.follows.holds-at-none.list.same
 
 pub returns-in-Err-take-clause-same : goal.returns-in-Err-take-clause-same
-returns-in-Err-take-clause-same g c = same_lister-then _ _ _ c.loop-item.invariant.same c.next.follows.holds-at-none.same
+returns-in-Err-take-clause-same g c = same_lister-then _ _ _ c.loop-item.invariant.same c.next.follows.holds-at-none.list.same
 
 pub returns-in-Err-take-clause-runs : goal.returns-in-Err-take-clause-runs
 returns-in-Err-take-clause-runs g c =
     let run = c.loop-item.invariant.given in
-    let holds = c.next.follows.holds-at-none in
+    let leaves = c.next.follows.holds-at-none in
+    let holds = leaves.list in
     let x = c.in-Ok-Some.item in
     let now = rw (c.in-Ok-Some.is, c.in-Ok-Some.field-0-is) at holds.current in
     let cost = HasCost-more _ _ _ _ run.items _ _ run.cost x (rw (c.in-Ok-Some.is, c.in-Ok-Some.field-0-is) at holds.fetches)
@@ -54,12 +55,12 @@ returns-in-Err-take-clause-runs g c =
       current = current_behind-more run.items (plain x) _ _ _ run.current (now ∙ sym (current_after-plain x _));
       classed = AllClassed-more _ run.items x _ _ c.next.follows.lender-at-none.current run.classed run.current now
           (rw (run.cost.fetches.same_size, c.in-Ok-Some.is, c.in-Ok-Some.field-0-is) at holds.classed);
-      ranges = ranges_of-more _ _ _ run.items x run.ranges (rw (c.in-Ok-Some.is, c.in-Ok-Some.field-0-is) at holds.ranges);
-      left = λ left known.
-          let rest = run.left left known in
+      ranges = ranges_of-more _ _ _ run.items x run.ranges (rw (c.in-Ok-Some.is, c.in-Ok-Some.field-0-is) at leaves.ranges);
+      left = λ run_left known.
+          let rest = run.left run_left known in
           let first : slice_get rest.0.items 0 ≡ Some (plain x) = rw c.in-Ok-Some.field-0-is at (c.in-Ok-Some.ensures.gives rest.0 rest.1.0) in
-          (tail rest.0, (rw (c.in-Ok-Some.is, c.in-Ok-Some.field-0-is, rest.1.0) at holds.left, give_all-next left run.items (plain x) rest.0 rest.1.1 first));
-      names = names_of_all-more run.items x _ _ _ run.names (rw (c.in-Ok-Some.is, c.in-Ok-Some.field-0-is) at holds.names);
+          (tail rest.0, (rw (c.in-Ok-Some.is, c.in-Ok-Some.field-0-is, rest.1.0) at holds.left, give_all-next run_left run.items (plain x) rest.0 rest.1.1 first));
+      names = names_of_all-more run.items x _ _ _ run.names (rose_exactly _ _ _ leaves.few_names (rw (c.in-Ok-Some.is, c.in-Ok-Some.field-0-is) at holds.names));
       names_at_end = λ _. tt;
       fetches = HasCost-most _ _ _ _ _ cost;
       unread = cost.within;
@@ -69,7 +70,8 @@ pub loop-item-preserved : goal.loop-item-preserved
 loop-item-preserved g c =
     let so_far = c.loop-item.invariant in
     let run = so_far.given in
-    let holds = c.next.follows.holds-at-none in
+    let leaves = c.next.follows.holds-at-none in
+    let holds = leaves.list in
     let x = c.in-Ok-Some.item in
     let now = rw (c.in-Ok-Some.is, c.in-Ok-Some.field-0-is) at holds.current in
     record {
@@ -87,12 +89,12 @@ loop-item-preserved g c =
         current = current_behind-more run.items (plain x) _ _ _ run.current (now ∙ sym (current_after-plain x _));
         classed = AllClassed-more _ run.items x _ _ c.next.follows.lender-at-none.current run.classed run.current now
             (rw (run.cost.fetches.same_size, c.in-Ok-Some.is, c.in-Ok-Some.field-0-is) at holds.classed);
-        ranges = ranges_of-more _ _ _ run.items x run.ranges (rw (c.in-Ok-Some.is, c.in-Ok-Some.field-0-is) at holds.ranges);
-        left = λ left known.
-            let rest = run.left left known in
+        ranges = ranges_of-more _ _ _ run.items x run.ranges (rw (c.in-Ok-Some.is, c.in-Ok-Some.field-0-is) at leaves.ranges);
+        left = λ run_left known.
+            let rest = run.left run_left known in
             let first : slice_get rest.0.items 0 ≡ Some (plain x) = rw c.in-Ok-Some.field-0-is at (c.in-Ok-Some.ensures.gives rest.0 rest.1.0) in
-            (tail rest.0, (rw (c.in-Ok-Some.is, c.in-Ok-Some.field-0-is, rest.1.0) at holds.left, give_all-next left run.items (plain x) rest.0 rest.1.1 first));
-        names = names_of_all-more run.items x _ _ _ run.names (rw (c.in-Ok-Some.is, c.in-Ok-Some.field-0-is) at holds.names);
+            (tail rest.0, (rw (c.in-Ok-Some.is, c.in-Ok-Some.field-0-is, rest.1.0) at holds.left, give_all-next run_left run.items (plain x) rest.0 rest.1.1 first));
+        names = names_of_all-more run.items x _ _ _ run.names (rose_exactly _ _ _ leaves.few_names (rw (c.in-Ok-Some.is, c.in-Ok-Some.field-0-is) at holds.names));
         cost = HasCost-more _ _ _ _ run.items _ _ run.cost x (rw (c.in-Ok-Some.is, c.in-Ok-Some.field-0-is) at holds.fetches)
             (rw (c.in-Ok-Some.is, c.in-Ok-Some.field-0-is) at holds.unread);
       };
@@ -102,7 +104,8 @@ pub returns-in-Err-clause-runs : goal.returns-in-Err-clause-runs
 returns-in-Err-clause-runs g c =
     let so_far = c.loop-item.invariant in
     let run = so_far.given in
-    let holds = c.next.follows.holds-at-none in
+    let leaves = c.next.follows.holds-at-none in
+    let holds = leaves.list in
     let f = c.in-Err.fault in
     let none = rw c.in-Err.is at holds.unread in
     record {
@@ -111,12 +114,12 @@ returns-in-Err-clause-runs g c =
       passed = (rw c.in-Err.is at holds.passed) ∙ run.passed;
       current = (rw c.in-Err.is at holds.current) ∙ run.current;
       classed = run.classed;
-      ranges = (rw c.in-Err.is at holds.ranges) ∙ append-nil _ ∙ run.ranges;
-      left = λ left known.
-          let rest = run.left left known in
+      ranges = (rw c.in-Err.is at leaves.ranges) ∙ append-nil _ ∙ run.ranges;
+      left = λ run_left known.
+          let rest = run.left run_left known in
           (only_fault f, (rw (c.in-Err.is, rest.1.0) at holds.left, ((rest.0, rest.1.1), (λ not. rest.1.1 ∙ ap (give_all run.items) (c.in-Err.ensures.gives rest.0 rest.1.0 not), refl))));
       names = (omega (arith, run.names, holds.counts.more_names), omega (arith, run.names, holds.counts.most_names));
-      names_at_end = λ going. let at = rw c.in-Err.is at (holds.names_at_fault (so_far.going going)) in (omega (arith, run.names, at.0), omega (arith, run.names, at.1));
+      names_at_end = λ going. let at = rw c.in-Err.is at (holds.names_at_fault (so_far.going going)) in (omega (arith, run.names, at.0, leaves.few_names), omega (arith, run.names, at.1));
       fetches = HasCost-end _ _ _ _ run.items _ _ run.cost _ _ (rw c.in-Err.is at holds.fetches) (ap (λ n. bad_name_cost n f.kind) so_far.same.limit) none;
       unread = omega (arith, none);
     }
@@ -124,7 +127,8 @@ returns-in-Err-clause-runs g c =
 pub returns-in-Ok-None-clause-runs : goal.returns-in-Ok-None-clause-runs
 returns-in-Ok-None-clause-runs g c =
     let run = c.loop-item.invariant.given in
-    let holds = c.next.follows.holds-at-none in
+    let leaves = c.next.follows.holds-at-none in
+    let holds = leaves.list in
     let none = rw (c.in-Ok-None.is, c.in-Ok-None.field-0-is) at holds.unread in
     record {
       items = run.items;
@@ -132,9 +136,9 @@ returns-in-Ok-None-clause-runs g c =
       passed = tt;
       current = (rw (c.in-Ok-None.is, c.in-Ok-None.field-0-is) at holds.current) ∙ run.current;
       classed = run.classed;
-      ranges = (rw (c.in-Ok-None.is, c.in-Ok-None.field-0-is) at holds.ranges) ∙ append-nil _ ∙ run.ranges;
-      left = λ left known.
-          let rest = run.left left known in
+      ranges = (rw (c.in-Ok-None.is, c.in-Ok-None.field-0-is) at leaves.ranges) ∙ append-nil _ ∙ run.ranges;
+      left = λ run_left known.
+          let rest = run.left run_left known in
           let none : rest.0 ≡ nothing = rw c.in-Ok-None.field-0-is at (c.in-Ok-None.ensures.gives rest.0 rest.1.0) in
           (rest.0, (rw (c.in-Ok-None.is, c.in-Ok-None.field-0-is, rest.1.0) at holds.left, (rest.1.1 ∙ ap (give_all run.items) none, none)));
       names = let none = rw (c.in-Ok-None.is, c.in-Ok-None.field-0-is) at holds.names in omega (arith, none, run.names);

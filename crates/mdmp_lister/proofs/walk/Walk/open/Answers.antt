@@ -10,22 +10,22 @@ use Rattle.mdmp_lister.proofs.walk.Walk.open.Goals as goal
 pub returns-in-Err-clause-refused : goal.returns-in-Err-clause-refused
 returns-in-Err-clause-refused g c =
     let of = c.in-Err.ensures in
-    rw c.refused.ensures (rw c.new-meter.ensures at (IsRefused-header c.args.choice _ c.read_header.new.meter c.in-Err.fault of.fits of.finds of.books of.caused))
+    rw c.refused.ensures (rw c.new-meter.ensures at (IsRefused-header _ c.read_header.new.meter c.in-Err.fault of.fits of.finds of.books of.caused))
 
 pub returns-in_default-clause-refused : goal.returns-in_default-clause-refused
 returns-in_default-clause-refused g c =
     let of = c.in-Ok.ensures in
-    rw c.refused-in_default.ensures (rw c.new-meter.ensures at (IsRefused-memory c.args.choice _ c.read_header.new.meter c.in-Ok.header of.fits of.finds of.books of.caused))
+    rw c.refused-in_default.ensures (rw c.new-meter.ensures at (IsRefused-memory _ c.read_header.new.meter c.in-Ok.header of.fits of.finds of.books of.caused))
 
 pub returns-in_default-with_room-clause-refused : goal.returns-in_default-with_room-clause-refused
 returns-in_default-with_room-clause-refused g c =
     let of = c.in-Ok.ensures in
-    rw c.refused-in_default-with_room.ensures (rw c.new-meter.ensures at (IsRefused-memory c.args.choice _ c.read_header.new.meter c.in-Ok.header of.fits of.finds of.books of.caused))
+    rw c.refused-in_default-with_room.ensures (rw c.new-meter.ensures at (IsRefused-memory _ c.read_header.new.meter c.in-Ok.header of.fits of.finds of.books of.caused))
 
 pub returns-in_default-vec-clause-refused : goal.returns-in_default-vec-clause-refused
 returns-in_default-vec-clause-refused g c =
     let of = c.in-Ok.ensures in
-    rw c.refused-in_default-vec.ensures (rw c.new-meter.ensures at (IsRefused-memory c.args.choice _ c.read_header.new.meter c.in-Ok.header of.fits of.finds of.books of.caused))
+    rw c.refused-in_default-vec.ensures (rw c.new-meter.ensures at (IsRefused-memory _ c.read_header.new.meter c.in-Ok.header of.fits of.finds of.books of.caused))
 
 pub returns-in-Err-read_directory-clause-refused : goal.returns-in-Err-read_directory-clause-refused
 returns-in-Err-read_directory-clause-refused g c =
@@ -36,7 +36,7 @@ returns-in-Err-read_directory-clause-refused g c =
     let few = directory_fills n window.room (rw c.in-Ok-with_room.ensures c.args.limits.window_least) in
     let books = Books-within _ n (12 * n) (12 * n) c.read_header.new.meter c.read_directory.new.meter few (omega arith) read.ensures.reads.books in
     rw c.refused-in-Err-read_directory.ensures
-    (rw c.new-meter.ensures at (IsRefused-directory c.args.choice _ c.read_header.new.meter c.read_directory.new.meter c.in-Ok.header read.fault of.fits of.finds of.books of.caused books read.ensures.reads.caused))
+    (rw c.new-meter.ensures at (IsRefused-directory _ c.read_header.new.meter c.read_directory.new.meter c.in-Ok.header read.fault of.fits of.finds of.books of.caused books read.ensures.reads.caused))
 
 pub returns-clause-new : goal.returns-clause-new
 returns-clause-new g c =
@@ -69,6 +69,7 @@ returns-clause-new g c =
       name = search rules;
       next = refl;
       stage = refl;
+      current_is = refl;
       sound = record {
         sized = rw (all.fetches.same_content, all.fetches.same_size) of.fits.sized;
         window = search rules;

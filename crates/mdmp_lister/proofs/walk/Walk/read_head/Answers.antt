@@ -1,56 +1,71 @@
-use Rattle.std.proofs.Common.{◌≡◌, ◌<◌, ℕ, List, Some, None, ◌∙◌, ap, arith, refl, rules, sym}
+use Rattle.std.proofs.Common.{◌≡◌, ◌<◌, Some, None, ◌∙◌, ap, arith, refl, rules, sym}
 use Rattle.mdmp_lister.specs.Fault.{IsOfSource, source_of}
 use Rattle.mdmp_lister.specs.Format.Item.{sizes_before}
 use Rattle.mdmp_lister.specs.Format.Kind.{kind_of}
 use Rattle.mdmp_lister.specs.Format.Shape.{location_fault}
 use Rattle.mdmp_lister.proofs.Bodies.{body-faulted}
 use Rattle.mdmp_lister.proofs.EntrySteps.{answered_head, head_read}
+use Rattle.mdmp_lister.proofs.Counted.{counted_bad, counted_none, counted_outside, counted_shaped}
 use Rattle.mdmp_lister.proofs.Fetches.{not_of_source, told_in_caused}
-use Rattle.mdmp_lister.proofs.Naming.{source_reached}
-use Rattle.mdmp_lister.proofs.Owing.{ranged, ranges-counted, told_changed, unknown}
-use Rattle.mdmp_lister.proofs.walk.Walk.read_head.Given as given
+use Rattle.mdmp_lister.proofs.Heads.{listed-inside}
+use Rattle.mdmp_lister.proofs.Metering.{Books-within, Books_none}
+use Rattle.mdmp_lister.proofs.Paying.{entry_cost-listed, fault_stage-owed}
 use Rattle.mdmp_lister.proofs.walk.Walk.read_head.Goals as goal
 
-pub returns-else-ranges_by-room-clause-read : goal.returns-else-ranges_by-room-clause-read
+pub returns-in-Ok-clause-read : goal.returns-in-Ok-clause-read
 unfolding sizes_before
-returns-else-ranges_by-room-clause-read g c =
+returns-in-Ok-clause-read g c =
     let w = c.args.self.now in
     let of = c.in-Ok.ensures in
     let base = c.from.ensures in
     head_read w _ c.in-Some-of_type.kind c.requires.head c.requires.sound (search rules) (search rules) (search rules) _ of.begins.books
     c.in-Ok.head c.from.result refl of.head (omega (arith, base, c.from.type_inv)) of.begins.comes of.begins.bytes of.begins.fills_left (λ file content memory. omega (arith, base, of.base file content memory)) of.shape
 
--- where the file is known, the list counts as many ranges as it did when the file was opened
-never : (g : given.Over) (c : goal.After-stop_at-then-ranges_by-room g) → (file : List ℕ) → c.args.self.now.meter.source.store.content ≡ Some file → ⊥
-never g c file known =
-    let counted = ranges-counted c.args.self.now c.args.room c.in-Some-of_type.kind c.in-Ok.head.shape file c.requires.room c.requires.head known (rw known at c.requires.sound.sized)
-    (search rules) (search rules) (c.in-Ok.ensures.shape file known) in
-    let more = c.if-ranges_by-room.true in
-    absurd (omega (arith, counted, more, c.ranges_by.ensures))
-
-pub returns-then-ranges_by-room-clause-read : goal.returns-then-ranges_by-room-clause-read
-returns-then-ranges_by-room-clause-read g c =
+pub returns-in-Ok-clause-counted : goal.returns-in-Ok-clause-counted
+returns-in-Ok-clause-counted g c =
     let w = c.args.self.now in
-    let f = c.of_entry-then-ranges_by-room.result in
-    let told = c.of_entry-then-ranges_by-room.ensures in
-    let is = rw c.from-at.ensures at c.from-changed.ensures in
-    let begins = c.in-Ok.ensures.begins in
-    let books = begins.books in
+    let of = c.in-Ok.ensures in
     let kind = c.in-Some-of_type.kind in
-    let begun : 0 < w.next = rw c.requires.head at c.requires.sound.staged in
+    let whole : location_fault w.meter.source.size w.current ≡ None = search rules in
     let known : kind_of w.current.stream_type ≡ Some kind = search rules in
-    rw (c.stop_at-then-ranges_by-room.ensures.1, c.stop_at-then-ranges_by-room.ensures.0)
-    (answered_head w _ kind c.requires.head c.requires.sound (search rules) (search rules) known _ books f refl
-    (record {
-      told = told_changed w.current f w.meter.source c.begin_stream.new.meter.source (rw is at told.kind) (rw is at told.place) (told.of_store (rw is tt))
-          (unknown w.meter.source.store.content (never g c))
-          (ranged _ kind c.in-Ok.head.shape.count c.args.room known (omega (arith, c.ranges_by.ensures, c.if-ranges_by-room.true)));
-      number = omega (arith, told.entry, begun);
-      named = source_reached f.kind w.meter c.begin_stream.new.meter (rw (told.kind, is) tt) (rw books.same_names (omega arith)) (rw books.same_names (omega arith));
+    let inside = listed-inside w.meter.source.size w.current kind whole known in
+    record {
+      books = Books-within 1 1 _ _ w.meter c.begin_stream.new.meter (omega arith)
+          (rw (c.requires.head, entry_cost-listed (λ d. d) w.meter.source.size w.current kind known inside) (omega (arith, of.begins.bytes))) of.begins.books;
+      of_file = λ file content. (counted_shaped file _ w.current kind c.in-Ok.head.shape (rw (rw content at c.requires.sound.sized) at whole) known (of.shape file content), refl);
+    }
+
+pub returns-in-Err-clause-counted : goal.returns-in-Err-clause-counted
+returns-in-Err-clause-counted g c =
+    let w = c.args.self.now in
+    let of = c.in-Err.ensures in
+    let f = c.of_entry-in-Err.result in
+    let kind = c.in-Some-of_type.kind in
+    let whole : location_fault w.meter.source.size w.current ≡ None = search rules in
+    let known : kind_of w.current.stream_type ≡ Some kind = search rules in
+    let inside = listed-inside w.meter.source.size w.current kind whole known in
+    rw c.stop_at-in-Err.ensures.1 (record {
+      books = Books-within 1 1 _ _ w.meter c.begin_stream.new.meter (omega arith)
+          (rw (c.requires.head, of.begins.books.fetches.same_size, entry_cost-listed (λ d. d) w.meter.source.size w.current kind known inside, fault_stage-owed w.meter.source.size w.current c.begin_stream.new.window f) (omega (arith, of.begins.bytes))) of.begins.books;
+      of_file = λ file content. counted_bad file _ w.current kind c.in-Err.fault f (rw (rw content at c.requires.sound.sized) at whole) known (of.shape file content) c.of_entry-in-Err.ensures;
     })
-    (omega (arith, begins.bytes))
-    (λ file content. absurd (never g c file content))
-    (λ file good of. never g c file good.known))
+
+pub returns-in-Some-clause-counted : goal.returns-in-Some-clause-counted
+returns-in-Some-clause-counted g c =
+    let w = c.args.self.now in
+    rw c.stop_at.ensures.1 (record {
+      books = Books_none 1 _ w.meter;
+      of_file = λ file content. counted_outside file _ w.current c.in-Some.fault c.of_entry.result (search rules) c.of_entry.ensures;
+    })
+
+pub returns-in_default-of_type-clause-counted : goal.returns-in_default-of_type-clause-counted
+returns-in_default-of_type-clause-counted g c =
+    let w = c.args.self.now in
+    let whole : location_fault w.meter.source.size w.current ≡ None = search rules in
+    record {
+      books = Books_none 1 _ w.meter;
+      of_file = λ file content. counted_none file _ w.current (rw (rw content at c.requires.sound.sized) at whole) (search rules);
+    }
 
 pub returns-in-Err-clause-read : goal.returns-in-Err-clause-read
 returns-in-Err-clause-read g c =

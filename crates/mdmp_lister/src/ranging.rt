@@ -1,0 +1,52 @@
+//! A walk whose ranges of memory are kept: there is room for so many.
+//!
+//! A memory list whose head counts more ranges than there is room left for has changed since the file
+//! was opened, when that room was taken by the same head.
+ghost use Rattle.std.specs.Prelude.{◌≡◌, MatchResult};
+ghost use Rattle.mdmp_lister.specs.Walk.{IsSound};
+ghost use Rattle.mdmp_lister.specs.Walk.Owing.{HasRoom, count_answered};
+ghost use Rattle.mdmp_lister.specs.Walk.Requests.{Answered, HeadRead};
+
+use crate::fault::ListFault;
+use crate::stage::Stage;
+use crate::step::Step;
+use crate::walk::Walk;
+use mdmp_source::Store;
+use std::alloc::Allocator;
+
+/// Gives the next step, or the fault that is next, with room for so many ranges.
+pub(crate) fn advance<S: Store + Drop, A: Allocator + Copy>(
+    walk: &mut Walk<S, A>,
+    room: usize,
+) -> Result<Option<Step>, ListFault>
+    requires sound { IsSound walk.old }
+    requires room { HasRoom room 0 walk.old }
+    ensures answered { Answered walk.old result walk.new }
+    ensures room { HasRoom room (count_answered result) walk.new }
+{
+    match walk.stage {
+        Stage::Head => {
+            read_head(walk, room)?;
+            walk.go_on()
+        }
+        _ => walk.go_on(),
+    }
+}
+
+/// Reads where the records of the current entry stand, with room for so many ranges.
+pub(crate) fn read_head<S: Store + Drop, A: Allocator + Copy>(
+    walk: &mut Walk<S, A>,
+    room: usize,
+) -> Result<(), ListFault>
+    requires sound { IsSound walk.old }
+    requires room { HasRoom room 0 walk.old }
+    requires head { walk.old.stage ≡ Stage.Head }
+    ensures read { MatchResult result (λ _. HeadRead walk.old walk.new) (λ fault. Answered walk.old (Err fault) walk.new) }
+    ensures room { HasRoom room 0 walk.new }
+{
+    walk.read_head()?;
+    if walk.ranges_ahead() > room as u64 {
+        return walk.stop_changed();
+    }
+    Ok(())
+}
