@@ -36,6 +36,7 @@ module _ {S A : Type 0} where
         window = old.window;
         small = rw room old.small;
         few = old.few;
+        whole = old.whole;
         placed = old.placed;
         staged = rw size old.staged;
         holding = rw content old.holding;

@@ -69,6 +69,7 @@ module _ {S A : Type 0} (w : Walk S A) (at : ℕ) (e : Entry) where
             let counts = ranges-first file w.choice w.next at e (next.first file (sound.directory file known)) (is_entry file known) in
             omega (arith, has.owed file known, counts);
       };
+      unchanged = λ stays. tt;
     }
 
     entry_begun : EntryBegun w began

@@ -9,7 +9,7 @@ use Rattle.mdmp_lister.specs.declared.kind.Kind.{Kind}
 use Rattle.mdmp_lister.specs.declared.shape.Shape.{Shape}
 use Rattle.mdmp_lister.specs.Fault.{IsListFaultOf, IsOfSource}
 use Rattle.mdmp_lister.specs.Format.Kind.{kind_of}
-use Rattle.mdmp_lister.specs.Format.Listing.{count_told, records_told}
+use Rattle.mdmp_lister.specs.Format.Listing.{count_listed, records_told}
 use Rattle.mdmp_lister.specs.Format.Shape.{location_fault, record_count, records_in, shape_of}
 use Rattle.mdmp_lister.specs.Stage.{IsCounted, fault_stage, stage_by}
 
@@ -35,7 +35,7 @@ counted-fault : (F : List ℕ) (number : ℕ) (e : Entry) (fault : Fault) (f : L
 counted-fault F number e fault f told is =
     stage_by-counted (records_told F (record { number = number; entry = e })) f f.kind
     (λ not. let other : IsOfSource fault.kind → ⊥ = λ of. not (rw told.kind of) in
-    ap (count_told number) (is other) ∙ ap Err (sym (told.of_file other)))
+    ap (count_listed number) (is other) ∙ ap Err (sym (told.of_file other)))
 
 module _ (F : List ℕ) (number : ℕ) (e : Entry) where
   pub counted_outside : (fault : Fault) (f : ListFault) → location_fault (length F) e ≡ Some fault → IsListFaultOf number None fault f
@@ -48,8 +48,8 @@ module _ (F : List ℕ) (number : ℕ) (e : Entry) where
   counted_bad kind fault f whole known shape told = counted-fault F number e fault f told (λ other. count-shaped F e kind (Err fault) whole known (shape other))
 
   pub counted_none : location_fault (length F) e ≡ None → kind_of e.stream_type ≡ None → records_told F (record { number = number; entry = e }) ≡ Ok 0
-  counted_none whole none = ap (count_told number) (count-opaque F e whole none)
+  counted_none whole none = ap (count_listed number) (count-opaque F e whole none)
 
   pub counted_shaped : (kind : Kind) (shape : Shape) → location_fault (length F) e ≡ None → kind_of e.stream_type ≡ Some kind
       → shape_of F e.location.rva e.location.size kind ≡ Ok shape → records_told F (record { number = number; entry = e }) ≡ Ok shape.count
-  counted_shaped kind shape whole known shaped = ap (count_told number) (count-shaped F e kind (Ok shape) whole known shaped)
+  counted_shaped kind shape whole known shaped = ap (count_listed number) (count-shaped F e kind (Ok shape) whole known shaped)

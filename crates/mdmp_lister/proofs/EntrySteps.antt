@@ -57,7 +57,7 @@ module _ {S A : Type 0} (old new : Walk S A) (kind : Kind) (at : old.stage ≡ s
       let less : unread_bytes new + spent ≤ unread_bytes old = rw (books.fetches.same_size, same.current) fits in
       record {
         sound = IsSound-after spent old new sound books.fetches same
-            (rw next (record { begun = begun; known = known; within = omega arith; inside = inside; fits = of.fits; ranges = of.ranges; bound = omega (arith, small) }))
+            (rw next (record { begun = begun; known = known; within = omega arith; inside = inside; fits = of.fits; ranges = of.ranges; bound = omega (arith, small); few = of.few }))
             (rw next (record { held = comes.held; end = comes.end; place = omega (arith, comes.place) }))
             (λ file content. rw next (shape file content, base file content))
             (λ end. absurd (cc))
@@ -126,7 +126,7 @@ module _ {S A : Type 0} (old new : Walk S A) (kind : Kind) (shape : Shape) (k of
       let e = old.current in
       answered_step _ (min 1 spent) spent old new step
       (IsSound-after _ old new sound reads.fetches same
-      (rw on (record { begun = reading.begun; known = reading.known; within = omega (arith, left); inside = reading.inside; fits = reading.fits; ranges = reading.ranges; bound = omega (arith, bound, reading.bound) }))
+      (rw on (record { begun = reading.begun; known = reading.known; within = omega (arith, left); inside = reading.inside; fits = reading.fits; ranges = reading.ranges; bound = omega (arith, bound, reading.bound); few = reading.few }))
       (rw on (record { held = comes.held; end = comes.end ∙ holding.end; place = omega (arith, comes.place, stands) }))
       (λ file known. let headed = rw at at (sound.headed file known) in rw on (
         headed.0,

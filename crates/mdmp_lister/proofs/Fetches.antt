@@ -10,7 +10,7 @@ use Rattle.mdmp_lister.specs.declared.fault.Fault.{Fault}
 use Rattle.mdmp_lister.specs.declared.fault.FaultKind.{FaultKind}
 use Rattle.mdmp_lister.specs.declared.fault.FaultKind.TheVariants as kinds
 use Rattle.mdmp_lister.specs.declared.fault.ListFault.{ListFault}
-use Rattle.mdmp_lister.specs.Fault.{IsCaused, IsCausedAt, IsOfSource, IsPlaced, IsPlacedAt, IsSteady, IsToldBy, IsToldIn, source_fault, source_of}
+use Rattle.mdmp_lister.specs.Fault.{IsCaused, IsCausedAt, IsOfSource, IsPlaced, IsPlacedAt, IsSteady, IsToldBy, IsToldIn, TellsNoChange, source_fault, source_of}
 use Rattle.mdmp_source.specs.declared.fault.SourceFault.TheVariants.{Failed, ShortRead, Changed}
 use Rattle.mdmp_lister.specs.declared.fault.OpenFault.{OpenFault}
 use Rattle.mdmp_lister.specs.declared.fault.OpenFault.TheVariants.{Source}
@@ -121,6 +121,13 @@ told_in_caused e fault f old new caused kind place none = record {
   by = subst (λ k. IsToldBy e k old new) (sym kind) (told_by_caused e fault.kind old new caused.caused);
   placed = subst (λ k. IsPlaced k f) (sym kind) (placed_in fault.kind f fault.offset fault.size caused.placed place.0 place.1 none);
 }
+
+-- which a fault that has its cause does not
+pub unchanged_caused : {T : Type 0} (fault : Fault) (f : ListFault) (old new : SourceState) → IsCausedAt {T = T} (Err fault) old new → f.kind ≡ fault.kind → TellsNoChange f.kind
+unchanged_caused fault f old new caused kind = subst TellsNoChange (sym kind) (of fault.kind caused.caused) where
+  of : (k : FaultKind) → IsCaused (source_of k) old new → TellsNoChange k
+  of (kinds.Source (Changed at)) by = absurd by.told.cause
+  of _ by = tt
 
 told_by_later : (e : Entry) (kind : FaultKind) (n : ℕ) (a b c : SourceState) → FetchesAtMost n a b → IsToldBy e kind b c → IsToldBy e kind a c
 told_by_later e (kinds.Source (Changed at)) n a b c first told = (sym first.same_content ∙ told.0, told.1)

@@ -41,4 +41,6 @@ pub mod Sizes
 pub mod Sliding
 pub mod Soundness
 pub mod Summary
+pub mod Unchanged
 pub mod Verdicts
+pub mod Walked

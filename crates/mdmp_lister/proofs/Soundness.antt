@@ -39,6 +39,7 @@ module _ {S A : Type 0} (n : ℕ) (old new : Walk S A) where
     window = rw same.room.window sound.window;
     small = rw same.room.name sound.small;
     few = rw same.room.entries sound.few;
+    whole = rw (same.room.entries, same.room.header_is) sound.whole;
     placed = rw (same.room.entries, same.next) sound.placed;
     staged = rw (fetches.same_size, same.next, same.current) staged;
     holding = rw (fetches.same_content, same.current) windowed;

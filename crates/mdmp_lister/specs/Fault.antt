@@ -88,6 +88,11 @@ pub record IsToldIn (e : Entry) (f : ListFault) (old new : SourceState) : Type 0
   pub by : IsToldBy e f.kind old new
   pub placed : IsPlaced f.kind f
 
+-- it does not tell that the store has changed
+abbrev pub TellsNoChange : FaultKind → Type 0
+TellsNoChange (Source (Changed at)) = ⊥
+TellsNoChange kind = Unit {0}
+
 -- a listing tells a fault so, of an item of the entry with this number or of all of it; one of the store is that of no item
 pub record IsListFaultOf (number : ℕ) (index : Option ℕ) (fault : Fault) (f : ListFault) : Type 0 where
   pub of_file : (IsOfSource fault.kind → ⊥) → f ≡ list_fault number index fault

@@ -17,3 +17,4 @@ pub mod Stage
 pub mod Step
 pub mod StopAt
 pub mod Walk
+pub mod Walker

@@ -1,5 +1,6 @@
 -- How far a walk has listed the current entry, and what it answers from then on.
 use Rattle.std.specs.Prelude.{◌≡◌, ◌-◌, ℕ, Bool, true, false, Option, None, Some, Result, Ok, Err}
+use Rattle.mdmp_lister.specs.Fault.{TellsNoChange}
 use Rattle.mdmp_lister.specs.declared.fault.FaultKind.{FaultKind}
 use Rattle.mdmp_lister.specs.declared.fault.FaultKind.TheVariants.{Source}
 use Rattle.mdmp_lister.specs.declared.fault.ListFault.{ListFault}
@@ -20,6 +21,11 @@ fault_stage f = stage_by f.kind f
 abbrev pub failure_of : Stage → Option ListFault
 failure_of (Failed f) = Some f
 failure_of stage = None
+
+-- that fault does not tell that the store has changed
+abbrev pub StaysUnchanged : Stage → Type 0
+StaysUnchanged (Failed f) = TellsNoChange f.kind
+StaysUnchanged stage = Unit {0}
 
 -- what every request for an item is answered with, the end or a fault, where there is such an answer
 abbrev pub stop_of : Stage → Option (Option ListFault)
@@ -60,6 +66,11 @@ IsCounted told Between = told ≡ Ok 0
 IsCounted told (Records kind shape index offset) = (told ≡ Ok shape.count) × (index ≡ 0)
 IsCounted told (Bad f) = told ≡ Err f
 IsCounted told stage = Unit {0}
+
+-- an entry was begun, and the end was not reached
+abbrev pub IsUnended : Stage → Type 0
+IsUnended Ended = ⊥
+IsUnended stage = Unit {0}
 
 -- what requests are answered with behind a run
 abbrev pub stop_after_run : Result (Unit {0}) RunFault → Option (Option ListFault)

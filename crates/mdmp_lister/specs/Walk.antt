@@ -3,6 +3,7 @@ pub mod Checking
 pub mod Mapping
 pub mod Owing
 pub mod Paying
+pub mod Positions
 pub mod Reaching
 pub mod Requests
 pub mod Telling
@@ -57,6 +58,7 @@ pub record IsReading (size next : ℕ) (e : Entry) (kind : Kind) (shape : Shape)
   pub fits : FitsIn e.location.size kind shape
   pub ranges : kind ≡ Memory64 → (shape.first ≡ 16) × (shape.stride ≡ 16)
   pub bound : offset < 2 ^ 64 * (index + 1)
+  pub few : shape.count < 2 ^ 32
 
 -- what is kept of an entry that is partly listed
 abbrev pub IsStaged : ℕ → ℕ → Entry → Stage → Type 0
@@ -99,6 +101,8 @@ module _ {S A : Type 0} where
     pub window : greatest_record ≤ w.window.room
     pub small : vec_len w.name < 2 ^ 32
     pub few : vec_len w.entries < 2 ^ 32
+    -- the whole directory was read
+    pub whole : vec_len w.entries ≡ w.header.number_of_streams
     pub placed : w.next ≤ vec_len w.entries
     pub staged : IsStaged w.meter.source.size w.next w.current w.stage
     pub holding : IsWindowed w.meter.source.store.content w.current w.window w.stage
@@ -180,6 +184,11 @@ abbrev pub IsListing : Stage → Type 0
 IsListing Between = Unit {0}
 IsListing (Records kind shape index offset) = Unit {0}
 IsListing stage = ⊥
+
+-- it tells what a count of the records that are left was answered with, or the fault in its place
+abbrev pub IsStageCounted : Result ℕ ListFault → Stage → Type 0
+IsStageCounted (Ok count) stage = (records_left_in stage ≡ count) × IsListing stage
+IsStageCounted (Err f) stage = stage ≡ fault_stage f
 
 -- the head was read, or needs not be
 abbrev pub IsPastHead : Stage → Type 0

@@ -16,7 +16,7 @@ use mdmp_wire::{Record, get_at};
 
 /// The name of a record, whose units were read into the front of a buffer.
 #[derive(Clone, Copy, Debug, PartialEq, Eq)]
-pub(crate) enum NameRead {
+pub enum NameRead {
     /// The RVA of the name is 0.
     None,
     /// How many bytes its units have.

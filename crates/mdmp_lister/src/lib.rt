@@ -12,7 +12,8 @@
 //! the verdict on each entry, its first fault or none, to a [`VerdictSink`]; [`Choice`] says which
 //! entries are listed, [`Limits`] how long the window and a name may be. The ranges of memory that were
 //! given are kept in a map: [`Lister::read_address`] reads memory by it.
-//! [`Lister::read_part`] reads any bytes of the file, beside the listing.
+//! [`Lister::read_part`] reads any bytes of the file, beside the listing. A [`Walker`] keeps no such map, and
+//! goes to any entry.
 //! [`name_at`] and [`shape_of`] read a name and where the records of a stream stand, of a file that is
 //! wholly in memory.
 //!
@@ -47,6 +48,7 @@ mod lister;
 mod meter;
 mod name;
 mod opening;
+mod position;
 mod ranging;
 mod recording;
 mod shape;
@@ -56,11 +58,13 @@ mod step;
 mod stop_at;
 mod verdict;
 mod walk;
+mod walker;
 
 pub use crate::choice::{Choice, TypeSet};
 pub use crate::codeview::CodeViewBytes;
 pub use crate::counts::Counts;
 pub use crate::fault::{Fault, FaultKind, ListFault, OpenFault};
+pub use crate::fetching::NameRead;
 pub use crate::item::{
     ExceptionItem, Item, MemoryInfoItem, ModuleItem, RangeItem, StreamItem, SystemItem, ThreadItem,
     UnloadedItem,
@@ -73,5 +77,7 @@ pub use crate::name::{Name, name_at};
 pub use crate::opening::OpenRefused;
 pub use crate::shape::{Shape, shape_of};
 pub use crate::sink::{RunFault, Sink, Stopped, VerdictSink};
+pub use crate::step::{RecordRead, Step};
 pub use crate::stop_at::StopAt;
 pub use crate::verdict::Verdict;
+pub use crate::walker::Walker;

@@ -1,5 +1,5 @@
 //! Where the records of a stream stand.
-ghost use Rattle.std.specs.Prelude.{◌≡◌, ◌≤◌, ◌+◌, ◌*◌, ◌<◌, None, length, IfOk};
+ghost use Rattle.std.specs.Prelude.{◌≡◌, ◌≤◌, ◌+◌, ◌*◌, ◌<◌, None, length, IfOk, IfSome};
 ghost use Rattle.mdmp_source.specs.Range.{IsInside};
 ghost use Rattle.mdmp_lister.specs.Format.Shape.{FitsIn, IsListIn, IsRangeListIn, IsShapedIn, counted, location_fault, ranges64, shape_of, single, sized};
 ghost use Rattle.mdmp_lister.specs.Format.Kind.{record_size};
@@ -25,6 +25,7 @@ pub struct Shape {
 /// is not looked at.
 pub(crate) fn location_fault(entry: Entry, size: u64) -> Option<Fault>
     ensures fault { result ≡ location_fault size entry }
+    ensures kind { IfSome result (λ fault. fault.kind ≡ FaultKind.StreamOutside) }
     ensures inside { result ≡ None → 0 < entry.stream_type → IsInside entry.location.rva entry.location.size size }
 {
     let offset = u64::from(entry.location.rva);

@@ -13,22 +13,22 @@ use mdmp_wire::{AnyRecord, UnitsRef};
 
 /// A record that was read, of any kind. The units of its name stand at the front of a buffer.
 #[derive(Clone, Copy)]
-pub(crate) struct RecordRead {
+pub struct RecordRead {
     /// The number of the entry in the directory.
-    pub(crate) entry: u32,
+    pub entry: u32,
     /// The index of the record in its stream.
-    pub(crate) index: u64,
+    pub index: u64,
     /// The record as it stands in the file.
-    pub(crate) fields: AnyRecord,
+    pub fields: AnyRecord,
     /// Where the bytes of a range of a 64-bit memory list stand.
-    pub(crate) offset: u128,
+    pub offset: u128,
     /// Its name; none of a kind without names.
-    pub(crate) name: NameRead,
+    pub name: NameRead,
 }
 
 /// An item that was read.
 #[derive(Clone, Copy)]
-pub(crate) enum Step {
+pub enum Step {
     Stream(StreamItem),
     Record(RecordRead),
 }

@@ -6,7 +6,7 @@ ghost use Rattle.mdmp_lister.specs.CodeView.{codeview_read, codeview_told};
 ghost use Rattle.mdmp_lister.specs.Fetching.{Reads};
 ghost use Rattle.mdmp_lister.specs.Meter.{BooksAside, IsBooked, IsSourceOf, counts_of};
 ghost use Rattle.mdmp_lister.specs.Opening.{IsRefused};
-ghost use Rattle.mdmp_lister.specs.Stage.{fault_stage, records_left_in};
+ghost use Rattle.mdmp_lister.specs.Stage.{IsUnended, StaysUnchanged, fault_stage, records_left_in};
 ghost use Rattle.mdmp_lister.specs.Step.{IsItemOf, IsNameHeld, bytes_behind};
 ghost use Rattle.mdmp_lister.specs.Walk.Owing.{ranges_ahead};
 
@@ -53,7 +53,7 @@ pub(crate) struct Walk<S: Store + Drop, A: Allocator + Copy> {
 }
 
 impl<S: Store + Drop, A: Allocator + Copy> Walk<S, A> {
-    ghost use Rattle.mdmp_lister.specs.Walk.Requests.{Answered, CodeViewFetched, Counted, EntrySkipped, EntryTaken, HasChanged, HeadRead, StepTaken};
+    ghost use Rattle.mdmp_lister.specs.Walk.Requests.{Answered, CodeViewFetched, Counted, EntrySkipped, EntryTaken, HasChanged, HeadRead, RecordsCounted, StepTaken};
     ghost use Rattle.mdmp_lister.specs.Walk.Checking.{EntryBegun, NoneLeft, RecordRead, RecordTaken};
     ghost use Rattle.mdmp_lister.specs.Walk.Telling.{numbers_of_walk};
     ghost use Rattle.mdmp_lister.specs.Walk.{CountsRanges, IsListing, IsNewWalk, IsPastHead, IsSound, IsThrough};
@@ -109,7 +109,8 @@ impl<S: Store + Drop, A: Allocator + Copy> Walk<S, A> {
     /// Gives the next step, or the fault that is next.
     pub(crate) fn advance(&mut self) -> Result<Option<Step>, ListFault>
         requires { IsSound self.old }
-        ensures { Answered self.old result self.new }
+        ensures answered { Answered self.old result self.new }
+        ensures unchanged { StaysUnchanged self.old.stage → StaysUnchanged self.new.stage }
     {
         match self.stage {
             Stage::Head => {
@@ -233,6 +234,23 @@ impl<S: Store + Drop, A: Allocator + Copy> Walk<S, A> {
         match self.stage {
             Stage::Records { shape, index, .. } => shape.count - index,
             _ => 0,
+        }
+    }
+
+    /// How many records the current entry has, whose head may not be read yet, and of whose records none
+    /// was given.
+    pub(crate) fn count_records(&mut self) -> Result<u64, ListFault>
+        requires sound { IsSound self.old }
+        requires begun { IsUnended self.old.stage }
+        ensures { RecordsCounted self.old result self.new }
+    {
+        match self.stage {
+            Stage::Head => {
+                self.read_head()?;
+                Ok(self.records_left())
+            }
+            Stage::Bad(fault) | Stage::Failed(fault) => Err(fault),
+            Stage::Between | Stage::Records { .. } | Stage::Ended => Ok(self.records_left()),
         }
     }
 

@@ -1,7 +1,9 @@
-//! A lister over a store that changes while it is read.
+//! A lister and a walker over a store that changes while it is read.
 use crate::given::{range, stream};
 use crate::opening::{fault, open_and_close};
-use crate::script::{Call, LEAST, ends, fails, gives, has_room, play};
+use crate::same::assert_same;
+use crate::script::{Call, LEAST, counts, ends, fails, gives, has_room, play};
+use crate::walking::{open_over, other_by};
 use mdmp_lister::{Choice, FaultKind};
 use mdmp_source::{Extent, Source, SourceFault, TwoFaces};
 use mdmp_test_support::file_of_numbers;
@@ -57,5 +59,26 @@ fn list_that_counts_fewer_ranges_than_before_is_listed(rt: HostRuntime) -> Resul
         ends(),
     ];
     assert!(rt; plays(&rt, 2, 1, &script)?);
+    Ok(())
+}
+
+#[test]
+fn walker_has_no_room_to_keep_and_tells_no_change(rt: HostRuntime) -> Result<(), Fail> {
+    let first = counting(&rt, 1)?;
+    let second = counting(&rt, 2)?;
+    if first.len() != second.len() {
+        return Err(Fail::from("length"));
+    }
+    // The header and the directory are read as it is opened, and no head.
+    let store = TwoFaces::new(&first, &second, 2);
+    let mut walker = open_over(&rt, store, LEAST, Choice::All)?;
+    let script = [
+        gives(stream(0, 5, 36, 44)),
+        counts(2),
+        gives(range(0, 0x1000, 4, Extent::Inside, 80)),
+        gives(range(1, 0x2000, 4, Extent::Inside, 84)),
+        ends(),
+    ];
+    assert_same(&rt, other_by(&rt, &mut walker, &script)?, None);
     Ok(())
 }

@@ -1,6 +1,6 @@
 //! Tests of `mdmp_lister`, by its public calls alone.
 //!
-//! `given`, `opening` and `script` make the calls whose contracts are long, in helpers without a
+//! `given`, `opening`, `script` and `walking` make the calls whose contracts are long, in helpers without a
 //! contract; the tests compare what they give, which is plain values.
 #![tactic(auto)]
 
@@ -41,6 +41,8 @@ mod parts;
 #[cfg(test)]
 mod ranges;
 #[cfg(test)]
+mod record_counts;
+#[cfg(test)]
 mod records;
 #[cfg(test)]
 mod records_left;
@@ -49,8 +51,14 @@ mod same;
 #[cfg(test)]
 mod script;
 #[cfg(test)]
+mod seeking;
+#[cfg(test)]
 mod shapes;
 #[cfg(test)]
 mod stores;
+#[cfg(test)]
+mod walkers;
+#[cfg(test)]
+mod walking;
 #[cfg(test)]
 mod windows;

@@ -1,4 +1,4 @@
-//! The calls of one lister in a row, and what each is to answer.
+//! The calls of one lister, or of one walker, in a row, and what each is to answer.
 use crate::given::{Given, next_of};
 use crate::opening::chosen;
 use mdmp_lister::{Choice, Limits, ListFault, Lister, RunFault, StopAt};
@@ -20,7 +20,7 @@ pub const NAMED: Limits = Limits {
     name: 4096,
 };
 
-/// A call of a lister.
+/// A call of a lister or of a walker.
 #[derive(Clone, Copy, Debug, PartialEq, Eq)]
 pub enum Step {
     /// How many entries its header counts.
@@ -47,6 +47,10 @@ pub enum Step {
     Numbers,
     /// How many records of the current entry are still to come.
     RecordsLeft,
+    /// Go to an entry.
+    Seek(usize),
+    /// How many records the stream has whose Stream item was given last.
+    Records,
 }
 
 /// What a call answers.
@@ -72,6 +76,9 @@ pub enum Answer {
     Failed(SourceFault),
     Numbers { size: u64, aside: u128 },
     RecordsLeft(u64),
+    Counted(u64),
+    /// It has no such call, or it may not be called there.
+    NoCall,
 }
 
 /// A call and its answer.
@@ -192,14 +199,34 @@ pub fn has_records_left(count: u64) -> Call {
     called(Step::RecordsLeft, Answer::RecordsLeft(count))
 }
 
-fn next_answer<S: Store + Drop>(
-    rt: &HostRuntime,
-    lister: &mut Lister<S, Global>,
-) -> Result<Answer, AllocError> {
-    match next_of(rt, lister)? {
-        Ok(Some(item)) => Ok(Answer::Item(item)),
-        Ok(None) => Ok(Answer::End),
-        Err(fault) => Ok(Answer::Fault(fault)),
+pub fn seeks(number: usize) -> Call {
+    called(Step::Seek(number), Answer::Done)
+}
+
+/// An entry that is not there.
+pub fn cannot_seek(number: usize) -> Call {
+    called(Step::Seek(number), Answer::NoCall)
+}
+
+pub fn counts(records: u64) -> Call {
+    called(Step::Records, Answer::Counted(records))
+}
+
+pub fn count_fails(fault: ListFault) -> Call {
+    called(Step::Records, Answer::Fault(fault))
+}
+
+/// No Stream item was given last.
+pub fn cannot_count() -> Call {
+    called(Step::Records, Answer::NoCall)
+}
+
+/// An item, the end or a fault as an answer.
+pub fn answer_by(given: Result<Option<Given>, ListFault>) -> Answer {
+    match given {
+        Ok(Some(item)) => Answer::Item(item),
+        Ok(None) => Answer::End,
+        Err(fault) => Answer::Fault(fault),
     }
 }
 
@@ -254,7 +281,7 @@ fn answer_of<S: Store + Drop>(
 ) -> Result<Answer, AllocError> {
     let answer = match step {
         Step::Entries => Answer::Entries(lister.header().number_of_streams),
-        Step::Next => next_answer(rt, lister)?,
+        Step::Next => answer_by(next_of(rt, lister)?),
         Step::Skip => {
             lister.skip_entry();
             Answer::Done
@@ -280,6 +307,7 @@ fn answer_of<S: Store + Drop>(
             aside: lister.counts().aside,
         },
         Step::RecordsLeft => Answer::RecordsLeft(lister.records_left()),
+        Step::Seek(_) | Step::Records => Answer::NoCall,
     };
     Ok(answer)
 }

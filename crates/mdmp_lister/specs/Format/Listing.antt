@@ -144,13 +144,13 @@ abbrev pub listing_sought : List ℕ → Choice → ℕ → ℕ → Run
 listing_sought F choice limit i = joined (entry_listing F limit (record { number = i; entry = entry_of F i })) (listing_from F choice limit (i + 1))
 
 -- a count of records, or the fault that stands in a listing in their place
-abbrev pub count_told : ℕ → Result ℕ Fault → Result ℕ ListFault
-count_told e (Ok count) = Ok count
-count_told e (Err f) = Err (list_fault e None f)
+abbrev pub count_listed : ℕ → Result ℕ Fault → Result ℕ ListFault
+count_listed e (Ok count) = Ok count
+count_listed e (Err f) = Err (list_fault e None f)
 
 -- how many records an entry has, or that fault
 abbrev pub records_told : List ℕ → Numbered → Result ℕ ListFault
-records_told F x = count_told x.number (record_count F x.entry)
+records_told F x = count_listed x.number (record_count F x.entry)
 
 -- each chosen entry with its fault or none
 abbrev pub verdicts : List ℕ → Choice → ℕ → List Verdict

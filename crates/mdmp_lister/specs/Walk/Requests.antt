@@ -1,5 +1,5 @@
 -- What a request for the next item leaves of a walk.
-use Rattle.std.specs.Prelude.{◌≡◌, ◌≤◌, ◌<◌, ◌+◌, ◌-◌, ℕ, List, Option, Some, None, Result, Err, IfOk, IfErr, IfSome, IsTrue, false, get_or, vec_len}
+use Rattle.std.specs.Prelude.{◌≡◌, ◌≤◌, ◌<◌, ◌+◌, ◌-◌, ℕ, List, Option, Some, None, Result, Err, IfOk, IfErr, IfSome, IsOk, IsTrue, false, get_or, vec_len}
 use Rattle.mdmp_source.specs.Source.{FetchesAtMost}
 use Rattle.mdmp_source.specs.Store.{IsGood}
 use Rattle.mdmp_source.specs.declared.fault.SourceFault.{SourceFault}
@@ -21,11 +21,11 @@ use Rattle.mdmp_lister.specs.Walk.Reaching.{Reaches, ReachesAtFault, given_once}
 use Rattle.mdmp_lister.specs.Fault.{IsOfSource, IsToldIn}
 use Rattle.mdmp_lister.specs.Format.Kind.{kind_of}
 use Rattle.mdmp_lister.specs.Format.Listing.{records_told}
-use Rattle.mdmp_lister.specs.Stage.{IsCounted, IsStageAfter, ends, fault_stage, records_left_in, stop_after, stop_of}
+use Rattle.mdmp_lister.specs.Stage.{IsCounted, IsStageAfter, StaysUnchanged, ends, fault_stage, records_left_in, stop_after, stop_of}
 use Rattle.mdmp_lister.specs.declared.stage.Stage.TheVariants.{Between, Head}
 use Rattle.mdmp_lister.specs.Walk.Owing.{HasRoom, count_answered}
 use Rattle.mdmp_lister.specs.Step.{CurrentAfter, IsStepHeld, TakesRecord, stream_told}
-use Rattle.mdmp_lister.specs.Walk.{Advances, IsListing, IsSound, PassesTo, SameEntry, SameRoom, current_of, left_of, work_of}
+use Rattle.mdmp_lister.specs.Walk.{Advances, IsListing, IsPastHead, IsSound, IsStageCounted, PassesTo, SameEntry, SameRoom, current_of, left_of, work_of}
 
 module _ {S A : Type 0} where
   -- a step that was given
@@ -86,6 +86,7 @@ module _ {S A : Type 0} where
   pub record Counted (old new : Walk S A) : Type 0 where
     pub books : Books 1 (unread_bytes old - unread_bytes new) old.meter new.meter
     pub of_file : (file : List ℕ) → old.meter.source.store.content ≡ Some file → IsCounted (records_told file (record { number = old.next - 1; entry = old.current })) new.stage
+    pub unchanged : StaysUnchanged new.stage
 
   -- it stays for good at the fault that the store has changed
   pub record HasChanged {T : Type 0} (old : Walk S A) (result : Result T ListFault) (new : Walk S A) : Type 0 where
@@ -104,10 +105,28 @@ module _ {S A : Type 0} where
     pub entry : (d : Entry) → get_or old.entries.items at d ≡ new.current
     pub step_is : given ≡ step.Stream (record { entry = at; stream_type = new.current.stream_type; location = new.current.location })
 
+  -- the records of the current entry were counted, or there is a fault, which is met the first time
+  pub record RecordsCounted (old : Walk S A) (result : Result ℕ ListFault) (new : Walk S A) : Type 0 where
+    pub sound : IsSound new
+    pub same : SameEntry old new
+    pub stage : IsStageCounted result new.stage
+    pub left : (file : List ℕ) → old.meter.source.store.content ≡ Some file → IsOk result → left_of new file ≡ left_of old file
+    pub books : Books 1 (unread_bytes old - unread_bytes new) old.meter new.meter
+    pub owes : unread_bytes new ≤ unread_bytes old
+    pub of_file : (file : List ℕ) → old.meter.source.store.content ≡ Some file → IsCounted (records_told file (record { number = old.next - 1; entry = old.current })) old.stage
+        → IsCounted (records_told file (record { number = old.next - 1; entry = old.current })) new.stage
+    pub met : stop_of old.stage ≡ None → IfErr result (λ fault. IsToldIn old.current fault old.meter.source new.meter.source × (fault.entry + 1 ≡ old.next))
+    pub good : (file : List ℕ) → IsGood old.meter.source.store file → IfErr result (λ fault. IsOfSource fault.kind → ⊥)
+    pub repeats : IsPastHead old.stage → new ≡ old
+    pub unchanged : StaysUnchanged old.stage → StaysUnchanged new.stage
+    pub rests : work_of new ≤ work_of old
+
   -- a request was answered so, and as much room is left as the ranges that may still be given need
   pub record StepTaken (old : Walk S A) (result : Result (Option Step) ListFault) (new : Walk S A) : Type 0 where
     pub answered : Answered old result new
     pub room : (room : ℕ) → HasRoom room 0 old → HasRoom room (count_answered result) new
+    -- of its own it never tells that the store has changed
+    pub unchanged : StaysUnchanged old.stage → StaysUnchanged new.stage
 
   -- what is left of the current entry was dropped, unless nothing is given for good
   pub record EntrySkipped (old new : Walk S A) : Type 0 where

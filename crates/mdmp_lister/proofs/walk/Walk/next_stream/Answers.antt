@@ -52,6 +52,7 @@ returns-in_default g c =
               let over : entry_count file ≤ c.len-self.result = omega (arith, ok, c.len-self.ensures, directory.count) in
               rw (chosen_from-end file w.choice c.len-self.result over) (omega arith);
         };
+        unchanged = λ stays. tt;
       };
       begins = record {
         stage = refl;

@@ -75,6 +75,7 @@ returns-clause-new g c =
         window = search rules;
         small = search rules;
         few = search rules;
+        whole = read.count;
         placed = omega arith;
         staged = tt;
         holding = tt;

@@ -6,10 +6,11 @@ use Rattle.mdmp_lister.specs.Format.Shape.{location_fault}
 use Rattle.mdmp_lister.proofs.Bodies.{body-faulted}
 use Rattle.mdmp_lister.proofs.EntrySteps.{answered_head, head_read}
 use Rattle.mdmp_lister.proofs.Counted.{counted_bad, counted_none, counted_outside, counted_shaped}
-use Rattle.mdmp_lister.proofs.Fetches.{not_of_source, told_in_caused}
+use Rattle.mdmp_lister.proofs.Fetches.{not_of_source, told_in_caused, unchanged_caused}
 use Rattle.mdmp_lister.proofs.Heads.{listed-inside}
 use Rattle.mdmp_lister.proofs.Metering.{Books-within, Books_none}
 use Rattle.mdmp_lister.proofs.Paying.{entry_cost-listed, fault_stage-owed}
+use Rattle.mdmp_lister.proofs.Unchanged.{fault_stage-unchanged}
 use Rattle.mdmp_lister.proofs.walk.Walk.read_head.Goals as goal
 
 pub returns-in-Ok-clause-read : goal.returns-in-Ok-clause-read
@@ -33,6 +34,7 @@ returns-in-Ok-clause-counted g c =
       books = Books-within 1 1 _ _ w.meter c.begin_stream.new.meter (omega arith)
           (rw (c.requires.head, entry_cost-listed (λ d. d) w.meter.source.size w.current kind known inside) (omega (arith, of.begins.bytes))) of.begins.books;
       of_file = λ file content. (counted_shaped file _ w.current kind c.in-Ok.head.shape (rw (rw content at c.requires.sound.sized) at whole) known (of.shape file content), refl);
+      unchanged = tt;
     }
 
 pub returns-in-Err-clause-counted : goal.returns-in-Err-clause-counted
@@ -48,6 +50,7 @@ returns-in-Err-clause-counted g c =
       books = Books-within 1 1 _ _ w.meter c.begin_stream.new.meter (omega arith)
           (rw (c.requires.head, of.begins.books.fetches.same_size, entry_cost-listed (λ d. d) w.meter.source.size w.current kind known inside, fault_stage-owed w.meter.source.size w.current c.begin_stream.new.window f) (omega (arith, of.begins.bytes))) of.begins.books;
       of_file = λ file content. counted_bad file _ w.current kind c.in-Err.fault f (rw (rw content at c.requires.sound.sized) at whole) known (of.shape file content) c.of_entry-in-Err.ensures;
+      unchanged = fault_stage-unchanged f (unchanged_caused c.in-Err.fault f w.meter.source c.begin_stream.new.meter.source of.begins.caused c.of_entry-in-Err.ensures.kind);
     })
 
 pub returns-in-Some-clause-counted : goal.returns-in-Some-clause-counted
@@ -56,6 +59,7 @@ returns-in-Some-clause-counted g c =
     rw c.stop_at.ensures.1 (record {
       books = Books_none 1 _ w.meter;
       of_file = λ file content. counted_outside file _ w.current c.in-Some.fault c.of_entry.result (search rules) c.of_entry.ensures;
+      unchanged = fault_stage-unchanged c.of_entry.result (rw (c.of_entry.ensures.kind, c.in-Some.ensures.kind) tt);
     })
 
 pub returns-in_default-of_type-clause-counted : goal.returns-in_default-of_type-clause-counted
@@ -65,6 +69,7 @@ returns-in_default-of_type-clause-counted g c =
     record {
       books = Books_none 1 _ w.meter;
       of_file = λ file content. counted_none file _ w.current (rw (rw content at c.requires.sound.sized) at whole) (search rules);
+      unchanged = tt;
     }
 
 pub returns-in-Err-clause-read : goal.returns-in-Err-clause-read
