@@ -54,7 +54,7 @@ impl ThreadItem {
 }
 
 /// A module, `MINIDUMP_MODULE`.
-#[derive(Drop)]
+#[derive(Debug, Drop, PartialEq, Eq)]
 pub struct ModuleItem<'a> {
     /// The number of the entry in the directory, from 0.
     pub entry: u32,
@@ -71,7 +71,7 @@ pub struct ModuleItem<'a> {
 }
 
 /// A module that was unloaded, `MINIDUMP_UNLOADED_MODULE`.
-#[derive(Drop)]
+#[derive(Debug, Drop, PartialEq, Eq)]
 pub struct UnloadedItem<'a> {
     /// The number of the entry in the directory, from 0.
     pub entry: u32,
@@ -114,7 +114,7 @@ impl ExceptionItem {
 }
 
 /// The system, `MINIDUMP_SYSTEM_INFO`.
-#[derive(Drop)]
+#[derive(Debug, Drop, PartialEq, Eq)]
 pub struct SystemItem<'a> {
     /// The number of the entry in the directory, from 0.
     pub entry: u32,
@@ -204,7 +204,7 @@ fn classify(offset: u128, len: u64, size: u64) -> Extent
 }
 
 /// What a listing gives, one at a time: an entry of the directory, and then its records.
-#[derive(Drop)]
+#[derive(Debug, Drop, PartialEq, Eq)]
 pub enum Item<'a> {
     /// An entry of the directory.
     Stream(StreamItem),

@@ -9,7 +9,7 @@ use mdmp_source::inside;
 use mdmp_wire::{UnitsRef, get_at};
 
 /// The name of a module, or of a service pack: a `MINIDUMP_STRING`.
-#[derive(Drop)]
+#[derive(Debug, Drop, PartialEq, Eq)]
 pub enum Name<'a> {
     /// The RVA of the name is 0.
     None,

@@ -12,7 +12,7 @@ use crate::name::Name;
 use mdmp_wire::{AnyRecord, UnitsRef};
 
 /// A record that was read, of any kind. The units of its name stand at the front of a buffer.
-#[derive(Clone, Copy)]
+#[derive(Clone, Copy, Debug, PartialEq, Eq)]
 pub struct RecordRead {
     /// The number of the entry in the directory.
     pub entry: u32,
@@ -27,7 +27,7 @@ pub struct RecordRead {
 }
 
 /// An item that was read.
-#[derive(Clone, Copy)]
+#[derive(Clone, Copy, Debug, PartialEq, Eq)]
 pub enum Step {
     Stream(StreamItem),
     Record(RecordRead),

@@ -1,7 +1,7 @@
 //! Prints what the commands make of the real dumps of the folder data: their lists, whether their
 //! entries are good, the symbol files of their modules, and copies of some of their streams; that small
-//! windows and the greatest list the same; and how many items each has, how its value compares with its
-//! list, and how it is written anew.
+//! windows and the greatest list the same, and that each entry that is gone to gives what is listed of
+//! it; and how many items each has, how its value compares with its list, and how it is written anew.
 #![tactic(auto)]
 
 mod checks;
@@ -11,6 +11,7 @@ mod lists;
 mod status;
 mod symbols;
 mod value;
+mod walks;
 mod windows;
 mod written;
 
@@ -19,6 +20,7 @@ use crate::copies::{CHOSEN, tell_copy};
 use crate::lists::{list, tell_items};
 use crate::symbols::tell_symbols;
 use crate::value::tell_totals;
+use crate::walks::tell_walk;
 use crate::windows::tell_windows;
 use crate::written::tell_value;
 use std::process::ExitCode;
@@ -46,6 +48,9 @@ fn tell_all(rt: &HostRuntime) -> Result<(), u8> {
     }
     for dump in DUMPS {
         tell_windows(rt, dump)?;
+    }
+    for dump in DUMPS {
+        tell_walk(rt, dump)?;
     }
     for dump in DUMPS {
         tell_items(rt, dump)?;
