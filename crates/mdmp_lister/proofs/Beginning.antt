@@ -70,6 +70,7 @@ module _ {S A : Type 0} (w : Walk S A) (at : ℕ) (e : Entry) where
             omega (arith, has.owed file known, counts);
       };
       unchanged = λ stays. tt;
+      nameless = λ none. refl;
     }
 
     entry_begun : EntryBegun w began

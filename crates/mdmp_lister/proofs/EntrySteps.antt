@@ -1,5 +1,5 @@
 -- What requests leave of a walk within an entry: behind its head, behind each record, and at their faults.
-use Rattle.std.proofs.Common.{◌≡◌, ◌≤◌, ◌<◌, ◌+◌, ◌-◌, ◌*◌, ◌/◌, ◌^◌, ◌∙◌, ℕ, List, None, Some, Ok, Err, arith, ap, min, refl, sym, vec_len}
+use Rattle.std.proofs.Common.{◌≡◌, ◌≤◌, ◌<◌, ◌+◌, ◌-◌, ◌*◌, ◌/◌, ◌^◌, ◌∙◌, ℕ, List, None, Some, Ok, Err, false, arith, ap, min, refl, sym, vec_len}
 use Rattle.mdmp_source.specs.Store.{IsGood}
 use Rattle.mdmp_lister.specs.declared.fault.Fault.{Fault}
 use Rattle.mdmp_lister.specs.declared.fault.ListFault.{ListFault}
@@ -13,7 +13,7 @@ use Rattle.mdmp_lister.specs.declared.walk.Walk.{Walk}
 use Rattle.mdmp_lister.specs.Fault.{IsListFaultOf, IsOfSource, source_of}
 use Rattle.mdmp_lister.specs.Fetching.{IsHeadOf, ReadsRecord, TellsRecord}
 use Rattle.mdmp_lister.specs.Format.Item.{item_at, range_offset}
-use Rattle.mdmp_lister.specs.Format.Kind.{greatest_record, kind_of}
+use Rattle.mdmp_lister.specs.Format.Kind.{HasNoNames, greatest_record, has_names, kind_of}
 use Rattle.mdmp_lister.specs.Format.Listing.{body_of, only_fault}
 use Rattle.mdmp_lister.specs.Format.Shape.{location_fault, shape_of}
 use Rattle.mdmp_lister.specs.Holding.{ComesTo, fills, started, unfetched}
@@ -166,3 +166,11 @@ module _ {S A : Type 0} (old new : Walk S A) (kind : Kind) (shape : Shape) (k of
       let other : IsOfSource fault.kind → ⊥ = λ is. not (rw (sym told.kind) at is) in
       rw (at, told.of_file other) (records-faulted file (vec_len old.name) (old.next - 1) e.location.rva kind shape k left fault (rw stands at (item file known here other))))
       (λ file good. not_of_source f.kind (ap source_of told.kind ∙ reads.caused.caused.good file good))
+
+-- ---- an entry whose records have no names
+
+module _ {S A : Type 0} (w : Walk S A) (kind : Kind) (shape : Shape) (k offset : ℕ) (at : w.stage ≡ stage.Records kind shape k offset) (sound : IsSound w) where
+  pub nameless_reading : HasNoNames (kind_of w.current.stream_type) → has_names kind ≡ false
+  nameless_reading none =
+      let reading : IsReading w.meter.source.size w.next w.current kind shape k offset = rw at at sound.staged in
+      rw reading.known at none

@@ -1,5 +1,5 @@
 -- A record of any kind that was fetched, and the item of it and its name.
-use Rattle.std.proofs.Common.{◌≡◌, ◌≤◌, ◌∙◌, ℕ, List, length, take, drop, Ok, Err, ap, sym, refl, subst}
+use Rattle.std.proofs.Common.{◌≡◌, ◌≤◌, ◌∙◌, ℕ, List, length, take, drop, Some, false, Ok, Err, ap, sym, refl, subst}
 use Rattle.mdmp_wire.specs.AnyRecord.{name_rva}
 use Rattle.mdmp_wire.specs.declared.any_record.AnyRecord.{AnyRecord}
 use Rattle.mdmp_wire.specs.declared.any_record.AnyRecord.TheVariants as any
@@ -17,7 +17,7 @@ use Rattle.mdmp_lister.specs.declared.kind.Kind.{Kind}
 use Rattle.mdmp_lister.specs.declared.kind.Kind.TheVariants as kinds
 use Rattle.mdmp_lister.specs.declared.name.Name.{Name}
 use Rattle.mdmp_lister.specs.Format.Item.{item_at, item_of, kind_told, name_of, named, offset_in, range_offset, record_at}
-use Rattle.mdmp_lister.specs.Format.Kind.{record_size}
+use Rattle.mdmp_lister.specs.Format.Kind.{has_names, record_size}
 
 -- a record is read of its own bytes alone
 record_at-part : (kind : Kind) (n o : ℕ) (F : List ℕ) → record_size kind ≤ n → record_at kind (take n (drop o F)) 0 ≡ record_at kind F o
@@ -40,6 +40,17 @@ kind_told-at kinds.System F o = refl
 kind_told-at kinds.Memory64 F o = refl
 kind_told-at kinds.Unloaded F o = refl
 kind_told-at kinds.MemoryInfo F o = refl
+
+-- where it tells the place of a name, records of its kind have names
+pub named_kind : (w : AnyRecord) (rva : ℕ) → name_rva w ≡ Some rva → has_names (kind_told w) ≡ false → ⊥
+named_kind (any.Thread r) rva is none = cc
+named_kind (any.Module r) rva is none = cc
+named_kind (any.Memory r) rva is none = cc
+named_kind (any.Exception r) rva is none = cc
+named_kind (any.System r) rva is none = cc
+named_kind (any.Memory64 r) rva is none = cc
+named_kind (any.Unloaded r) rva is none = cc
+named_kind (any.MemoryInfo r) rva is none = cc
 
 -- the record of the bytes that were fetched is that of the file
 pub record-fetched : (kind : Kind) (n o : ℕ) (F bytes : List ℕ) (fields : AnyRecord) → record_size kind ≤ n → bytes ≡ take n (drop o F) → fields ≡ record_at kind bytes 0 → record_at kind F o ≡ fields

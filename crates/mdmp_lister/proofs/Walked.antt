@@ -31,6 +31,7 @@ use Rattle.mdmp_lister.specs.Costs.{IsUnreadBy, begun_at, stream_begun}
 use Rattle.mdmp_lister.specs.Fault.{IsAnsweredFor, IsCaused, IsOfSource, TellsNoChange}
 use Rattle.mdmp_lister.specs.Format.Item.{item_of, plain}
 use Rattle.mdmp_lister.specs.Format.Name.{plain_name}
+use Rattle.mdmp_lister.specs.Format.Kind.{HasNoNames, kind_of}
 use Rattle.mdmp_lister.specs.Format.Listing.{Run, body_of, entry_of, joined, listing_from, listing_sought, records_told, stream_item, with_item}
 use Rattle.mdmp_lister.specs.Format.Summary.{entry_begun}
 use Rattle.mdmp_lister.specs.Lister.{Gives, Leaves, ListerState, ReadsAside, tail}
@@ -494,22 +495,22 @@ module _ {S A : Type 0} (w n : Walk S A) (mark : MeterCounts) where
   abbrev walker_is : Result (Option Step) ListFault → WalkerState
   walker_is r = record { list = walked_by (position_by (begun_at r)) n; position = position_by (begun_at r); mark = mark_by (begun_at r) (counts_of n.meter) mark }
 
-  pub step_leaves : (p : Position) (r : Result (Option Step) ListFault) → IsWalked p mark w → AnsweredFrom p w r n → IfErr r (λ f. TellsNoChange f.kind) → StepLeaves (walker_was p) r (walker_is r)
-  step_leaves p (Ok None) walked e unchanged = record {
+  pub step_leaves : (p : Position) (r : Result (Option Step) ListFault) → IsWalked p mark w → AnsweredFrom p w r n → IfErr r (λ f. TellsNoChange f.kind) → (HasNoNames (kind_of w.current.stream_type) → n.meter.names ≡ w.meter.names) → StepLeaves (walker_was p) r (walker_is r)
+  step_leaves p (Ok None) walked e unchanged nameless = record {
     answer = Ok None;
     told = refl;
-    leaves = record { list = none_leaves w n p e; position = refl; mark = refl; spent = request_spent w n mark walked.within p (Ok None) e; unchanged = tt };
+    leaves = record { list = none_leaves w n p e; position = refl; mark = refl; spent = request_spent w n mark walked.within p (Ok None) e; unchanged = tt; nameless = nameless };
     gives = none_gives w n p e;
     sought = λ number is. none_unsought w n p e number is;
   }
-  step_leaves p (Err f) walked e unchanged = record {
+  step_leaves p (Err f) walked e unchanged nameless = record {
     answer = Err f;
     told = refl;
-    leaves = record { list = fault_leaves w n p f e; position = refl; mark = refl; spent = request_spent w n mark walked.within p (Err f) e; unchanged = unchanged };
+    leaves = record { list = fault_leaves w n p f e; position = refl; mark = refl; spent = request_spent w n mark walked.within p (Err f) e; unchanged = unchanged; nameless = nameless };
     gives = fault_gives w n p f e;
     sought = λ number is. fault_unsought w n p f e number is;
   }
-  step_leaves p (Ok (Some s)) walked e unchanged =
+  step_leaves p (Ok (Some s)) walked e unchanged nameless =
       let z = n.meter.source.size in
       let buffer = n.name.items in
       let x : Item = step_item z buffer s in
@@ -525,6 +526,7 @@ module _ {S A : Type 0} (w n : Walk S A) (mark : MeterCounts) where
           mark = rw begins refl;
           spent = request_spent w n mark walked.within p (Ok (Some s)) e;
           unchanged = tt;
+          nameless = nameless;
         };
         gives = item_gives w n s x same walked.sound p walked.placed e;
         sought = given_sought w n s x same p walked.placed e;

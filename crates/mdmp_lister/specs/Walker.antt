@@ -24,6 +24,7 @@ use Rattle.mdmp_lister.specs.declared.position.Position.TheVariants.{Begun, Soug
 use Rattle.mdmp_lister.specs.Costs.{begun_by}
 use Rattle.mdmp_lister.specs.Fault.{IsOfSource, IsToldIn, TellsNoChange}
 use Rattle.mdmp_lister.specs.Format.Item.{item_of, plain}
+use Rattle.mdmp_lister.specs.Format.Kind.{HasNoNames, kind_of}
 use Rattle.mdmp_lister.specs.Format.Listing.{Run, listing_sought, only_fault, records_told, stream_item}
 use Rattle.mdmp_lister.specs.Lister.{Gives, IsNewList, IsSameLister, Leaves, ListerState, is_of_source}
 use Rattle.mdmp_lister.specs.Meter.{Moves}
@@ -86,6 +87,8 @@ pub record WalkerLeaves (old : WalkerState) (result : Result (Option Item) ListF
   pub spent : IsSpentSince old new.list.counts
   -- it keeps no ranges, so it never tells that the store has changed
   pub unchanged : IfErr result (λ f. TellsNoChange f.kind)
+  -- no name is reached in an entry whose records have none
+  pub nameless : HasNoNames (kind_of old.list.current.stream_type) → new.list.counts.names ≡ old.list.counts.names
 
 -- ---- entries that are sought
 

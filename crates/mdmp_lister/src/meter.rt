@@ -3,7 +3,7 @@ ghost use Rattle.std.specs.Prelude.{◌≡◌, ◌≤◌, OnErr, OnOk, length, m
 ghost use Rattle.mdmp_source.specs.Count.{raised};
 ghost use Rattle.mdmp_source.specs.Range.{IsInside, bytes_at};
 ghost use Rattle.mdmp_source.specs.Source.{fault_of};
-ghost use Rattle.mdmp_source.specs.Store.{IsSizeOf};
+ghost use Rattle.mdmp_source.specs.Store.{IsOfBytes, IsSizeOf};
 ghost use Rattle.mdmp_source.specs.Window.{IsFilled, next_len_of};
 ghost use Rattle.mdmp_lister.specs.Fault.{IsCaused};
 ghost use Rattle.mdmp_lister.specs.Fetching.{Reads};
@@ -95,6 +95,7 @@ impl<S: Store> Meter<S> {
     pub(crate) fn size(&self) -> u64
         ensures value { result ≡ self.now.source.size }
         ensures content { IsSizeOf self.now.source.store.content result }
+        ensures bytes { IsOfBytes self.now.source.store.content }
     {
         self.source.size()
     }

@@ -1,12 +1,12 @@
 //! A record of any kind and its name, read through a source.
-ghost use Rattle.std.specs.Prelude.{◌≡◌, ◌≤◌, ◌<◌, ◌+◌, ◌^◌, ℕ, List, Some, length, min, take, IfOk, OnOk};
+ghost use Rattle.std.specs.Prelude.{◌≡◌, ◌≤◌, ◌<◌, ◌+◌, ◌^◌, ℕ, List, Some, false, length, min, take, IfOk, OnOk};
 ghost use Rattle.mdmp_source.specs.Range.{bytes_at};
 ghost use Rattle.mdmp_lister.specs.Fetching.{Reads, ReadsRecord, TellsRecord};
 ghost use Rattle.mdmp_lister.specs.Format.Item.{item_at, kind_told, range_offset, record_at};
 ghost use Rattle.mdmp_lister.specs.Holding.{ComesTo, IsAhead, Slides, needed};
 ghost use Rattle.mdmp_lister.specs.Meter.{Books};
 ghost use Rattle.mdmp_lister.specs.Fault.{Answers};
-ghost use Rattle.mdmp_lister.specs.Format.Kind.{greatest_record, record_size};
+ghost use Rattle.mdmp_lister.specs.Format.Kind.{greatest_record, has_names, record_size};
 ghost use Rattle.mdmp_lister.specs.Step.{step_item};
 
 use crate::fault::Fault;
@@ -59,7 +59,7 @@ fn read_record<S: Store, A: Allocator>(
 
 /// The record at `at` and its name, or the fault of its name. The bytes of a range of a 64-bit memory
 /// list stand at `offset`.
-#[tactic(auto, using(crate::proofs::RecordItems::item_read, crate::proofs::RecordItems::name_faulted, crate::proofs::Fetches::IsCausedAt_later, crate::proofs::Naming::source_reached, crate::proofs::Sliding::slides_then, crate::proofs::Sliding::slides_fault))]
+#[tactic(auto, using(crate::proofs::RecordItems::item_read, crate::proofs::RecordItems::name_faulted, crate::proofs::Fetches::IsCausedAt_later, crate::proofs::Naming::source_reached, crate::proofs::Sliding::slides_then, crate::proofs::Sliding::slides_fault, crate::proofs::RecordItems::named_kind))]
 pub(crate) fn read_item<S: Store, A: Allocator>(
     meter: &mut Meter<S>,
     window: &mut Window<A>,
@@ -80,6 +80,7 @@ pub(crate) fn read_item<S: Store, A: Allocator>(
     ensures comes { ComesTo at meter.old.source.store.content window.old window.new }
     ensures slides { Slides at (record_size kind) window.old result window.new }
     ensures reads { ReadsRecord (needed at (record_size kind) window.old) (length buffer.new) result meter.old meter.new }
+    ensures nameless { has_names kind ≡ false → meter.new.names ≡ meter.old.names }
 {
     // The proof learns here that the size is that of the content.
     let _size = meter.size();

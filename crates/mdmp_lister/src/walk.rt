@@ -4,6 +4,7 @@ ghost use Rattle.mdmp_source.specs.Range.{IsInside, bytes_at};
 ghost use Rattle.mdmp_source.specs.Store.{IsSizeOf};
 ghost use Rattle.mdmp_lister.specs.CodeView.{codeview_read, codeview_told};
 ghost use Rattle.mdmp_lister.specs.Fetching.{Reads};
+ghost use Rattle.mdmp_lister.specs.Format.Kind.{HasNoNames, kind_of};
 ghost use Rattle.mdmp_lister.specs.Meter.{BooksAside, IsBooked, IsSourceOf, counts_of};
 ghost use Rattle.mdmp_lister.specs.Opening.{IsRefused};
 ghost use Rattle.mdmp_lister.specs.Stage.{IsUnended, StaysUnchanged, fault_stage, records_left_in};
@@ -111,6 +112,7 @@ impl<S: Store + Drop, A: Allocator + Copy> Walk<S, A> {
         requires { IsSound self.old }
         ensures answered { Answered self.old result self.new }
         ensures unchanged { StaysUnchanged self.old.stage → StaysUnchanged self.new.stage }
+        ensures nameless { HasNoNames (kind_of self.old.current.stream_type) → self.new.meter.names ≡ self.old.meter.names }
     {
         match self.stage {
             Stage::Head => {

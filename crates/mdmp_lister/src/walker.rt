@@ -4,11 +4,12 @@ ghost use Rattle.std.specs.Borrow.{sem};
 ghost use Rattle.std.specs.Io.BufRead.{Rests};
 ghost use Rattle.mdmp_source.specs.Range.{IsInside, bytes_at};
 ghost use Rattle.mdmp_source.specs.Source.{FetchesAtMost};
-ghost use Rattle.mdmp_source.specs.Store.{IsGood, IsSizeOf};
+ghost use Rattle.mdmp_source.specs.Store.{IsGood, IsOfBytes, IsSizeOf};
 ghost use Rattle.mdmp_wire.specs.Header.{header_at};
 ghost use Rattle.mdmp_lister.specs.Costs.{begun_at};
 ghost use Rattle.mdmp_lister.specs.Counts.{AreHeld, AreOfFile, numbers_of};
 ghost use Rattle.mdmp_lister.specs.Fault.{IsAnsweredFor, IsOfSource, TellsNoChange};
+ghost use Rattle.mdmp_lister.specs.Format.Kind.{HasNoNames, kind_of};
 ghost use Rattle.mdmp_lister.specs.Format.Listing.{entry_of, is_chosen};
 ghost use Rattle.mdmp_lister.specs.Format.Refusal.{directory_refusal};
 ghost use Rattle.mdmp_lister.specs.Meter.{IsBooked, counts_of};
@@ -134,6 +135,7 @@ impl<S: Store + Drop, A: Allocator + Copy> Walker<S, A> {
     pub fn size(&self) -> u64
         ensures value { result ≡ self.now.list.source.size }
         ensures content { IsSizeOf self.now.list.source.store.content result }
+        ensures bytes { IsOfBytes self.now.list.source.store.content }
     {
         self.walk.meter.size()
     }
@@ -290,6 +292,7 @@ fn advance_from<S: Store + Drop, A: Allocator + Copy>(
     ensures position { position.new ≡ position_by (begun_at result) }
     ensures mark { mark.new ≡ mark_by (begun_at result) (counts_of walk.new.meter) mark.old }
     ensures unchanged { IfErr result (λ fault. TellsNoChange fault.kind) }
+    ensures nameless { HasNoNames (kind_of walk.old.current.stream_type) → walk.new.meter.names ≡ walk.old.meter.names }
 {
     let answer = answer_from(walk, *position);
     if let Ok(Some(Step::Stream(_))) = answer {
@@ -311,6 +314,7 @@ fn answer_from<S: Store + Drop, A: Allocator + Copy>(
     requires unchanged { StaysUnchanged walk.old.stage }
     ensures answered { AnsweredFrom position walk.old result walk.new }
     ensures unchanged { StaysUnchanged walk.new.stage }
+    ensures nameless { HasNoNames (kind_of walk.old.current.stream_type) → walk.new.meter.names ≡ walk.old.meter.names }
 {
     match position {
         Position::Sought(number) => Ok(Some(walk.begin_entry(number))),

@@ -1,5 +1,5 @@
 -- What a store is, and what its calls say.
-use Rattle.std.specs.Prelude.{◌≡◌, ◌≢◌, ◌<◌, ◌&&◌, ◌==◌, ℕ, Bool, false, List, Option, Result, Some, Ok, Err, IsTrue, length, take, IfOk, IfSome, is_err, nat_lt, if◌then◌else◌}
+use Rattle.std.specs.Prelude.{◌≡◌, ◌≢◌, ◌<◌, ◌^◌, ◌&&◌, ◌==◌, ℕ, Bool, false, List, Option, Result, Some, Ok, Err, IsTrue, length, take, IfOk, IfSome, is_err, nat_lt, if◌then◌else◌, slice_index}
 use Rattle.mdmp_source.specs.Count.{raised, raised_if}
 use Rattle.mdmp_source.specs.Range.{bytes_at}
 use Rattle.mdmp_source.specs.declared.store.Tally.{Tally}
@@ -19,6 +19,14 @@ pub record StoreState : Type 0 where
 pub record IsGood (store : StoreState) (file : List ℕ) : Type 0 where
   pub known : store.content ≡ Some file
   pub reliable : IsTrue store.is_reliable
+
+-- each number of a file is a byte
+abbrev pub AreBytes : List ℕ → Type 0
+AreBytes file = (k : ℕ) → slice_index file k < 2 ^ 8
+
+-- a known content is one of bytes
+abbrev pub IsOfBytes : Option (List ℕ) → Type 0
+IsOfBytes content = (file : List ℕ) → content ≡ Some file → AreBytes file
 
 -- a store that was just made: its content where that is known, whether it never fails, and no calls yet
 pub record IsNew (store : StoreState) (content : Option (List ℕ)) (is_reliable : Bool) : Type 0 where

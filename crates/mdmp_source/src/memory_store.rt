@@ -1,6 +1,7 @@
 //! A file in memory.
 ghost use Rattle.std.specs.Prelude.{◌≡◌, ◌-◌, length, take, min};
 ghost use Rattle.mdmp_source.specs.Range.{bytes_at};
+ghost use Rattle.mdmp_source.specs.Store.{AreBytes};
 
 use crate::store::{Store, StoreFailed, Tally};
 
@@ -9,6 +10,7 @@ use crate::store::{Store, StoreFailed, Tally};
 pub struct MemoryStore<'a> {
     bytes: &'a [u8],
     tally: Tally,
+    ghost are_bytes: { AreBytes bytes.now },
 }
 
 impl<'a> MemoryStore<'a> {
@@ -19,6 +21,7 @@ impl<'a> MemoryStore<'a> {
     pub fn new(bytes: &'a [u8]) -> Self
         ensures { IsNew (⟦<MemoryStore<'a> as Store>⟧.state result) (Some bytes.now) true }
     {
+        know_bytes(bytes);
         MemoryStore {
             bytes,
             tally: Tally::new(),
@@ -44,6 +47,15 @@ impl Store for MemoryStore<'_> {
         let answer = Ok(copy_at(self.bytes, at, out));
         self.tally.count(&answer, at, out.len());
         answer
+    }
+}
+
+/// Looks at each byte of a slice, so that it is known of all that they are below 2^8, and does nothing.
+pub(crate) fn know_bytes(bytes: &[u8])
+    ensures { AreBytes bytes.now }
+{
+    for k in 0..bytes.len() {
+        let _byte = bytes[k];
     }
 }
 

@@ -1,8 +1,9 @@
 //! A file in memory that gives few bytes a call, and may fail once: for tests.
 ghost use Rattle.std.specs.Prelude.{◌<◌, length};
 ghost use Rattle.mdmp_source.specs.Patchy.{PatchyStoreState};
+ghost use Rattle.mdmp_source.specs.Store.{AreBytes};
 
-use crate::memory_store::copy_at;
+use crate::memory_store::{copy_at, know_bytes};
 use crate::store::{Store, StoreFailed, Tally};
 use std::marker::Model;
 
@@ -26,7 +27,7 @@ impl<'a> Model for PatchyStore<'a> {
       counts = s.tally;
     } };
 
-    ghost invariant = { λ s. 0 < length s.caps.now };
+    ghost invariant = { λ s. (0 < length s.caps.now) × AreBytes s.bytes.now };
 }
 
 impl<'a> PatchyStore<'a> {
@@ -42,6 +43,7 @@ impl<'a> PatchyStore<'a> {
         ensures state { IsNew (⟦<PatchyStore<'a> as Store>⟧.state result) (Some bytes.now)
             (is_none fail_at && list_all (λ cap. nat_lt 0 cap) caps.now) }
     {
+        know_bytes(bytes);
         PatchyStore {
             bytes,
             caps,

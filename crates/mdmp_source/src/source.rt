@@ -2,7 +2,7 @@
 ghost use Rattle.std.specs.Prelude.{◌≡◌, ◌≤◌, ◌<◌, ◌+◌, ◌^◌, None, List, ℕ, length, IfSome, IfErr, IsOk, IsTrue, OnOk};
 ghost use Rattle.mdmp_source.specs.Count.{raised, HasRisen};
 ghost use Rattle.mdmp_source.specs.Range.{IsInside, IsObtained, bytes_at};
-ghost use Rattle.mdmp_source.specs.Store.{IsSizeOf, IsGood};
+ghost use Rattle.mdmp_source.specs.Store.{IsSizeOf, IsGood, IsOfBytes};
 ghost use Rattle.mdmp_source.specs.Source.{SourceState, FailsOnce, FetchesAtMost, IsTold, fault_of};
 ghost use Rattle.mdmp_source.specs.Fault.{fault_at, HasCause};
 
@@ -35,7 +35,7 @@ impl<S: Store> Model for Source<S> {
       fault = s.fault;
     } };
 
-    ghost invariant = { λ s. IsSizeOf (S.state s.store).content s.size };
+    ghost invariant = { λ s. IsSizeOf (S.state s.store).content s.size × IsOfBytes (S.state s.store).content };
 }
 
 impl<S: Store> Source<S> {
@@ -61,6 +61,7 @@ impl<S: Store> Source<S> {
     pub fn size(&self) -> u64
         ensures value { result ≡ self.now.size }
         ensures content { IsSizeOf self.now.store.content result }
+        ensures bytes { IsOfBytes self.now.store.content }
     {
         self.size
     }

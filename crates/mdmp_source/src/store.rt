@@ -61,7 +61,7 @@ impl Tally {
 /// what they answer for every store, and what more for a good one.
 // A slice of the whole file would be simpler, and would hold the whole file.
 pub trait Store {
-    ghost use Rattle.mdmp_source.specs.Store.{StoreState, IsSizeOf, GivesContent, GivesSome, after_call};
+    ghost use Rattle.mdmp_source.specs.Store.{IsOfBytes, StoreState, IsSizeOf, GivesContent, GivesSome, after_call};
 
     /// Its content where that is known, its calls so far, and whether it never fails.
     ghost state: { Self → StoreState };
@@ -69,7 +69,8 @@ pub trait Store {
     /// The number of bytes in the file.
     fn size(&self) -> u64
         ensures value { result ≡ (state self.now).size }
-        ensures content { IsSizeOf (state self.now).content result };
+        ensures content { IsSizeOf (state self.now).content result }
+        ensures bytes { IsOfBytes (state self.now).content };
 
     /// Reads some of the bytes at the offset `at` into the front of `out`, and answers how many.
     fn read_at(&mut self, at: u64, out: &mut [u8]) -> Result<usize, StoreFailed>

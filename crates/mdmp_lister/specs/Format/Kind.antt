@@ -1,5 +1,5 @@
 -- Which streams have records: the type, the form and the records of each kind.
-use Rattle.std.specs.Prelude.{ℕ, Option, Some, None, Bool, true, false, is_some, ◌==◌, if◌then◌else◌}
+use Rattle.std.specs.Prelude.{◌≡◌, ℕ, Option, Some, None, Bool, true, false, is_some, ◌==◌, if◌then◌else◌}
 use Rattle.mdmp_lister.specs.declared.form.Form.{Form}
 use Rattle.mdmp_lister.specs.declared.form.Form.TheVariants as forms
 use Rattle.mdmp_lister.specs.declared.kind.Kind.{Kind}
@@ -54,3 +54,15 @@ abbrev pub lists_ranges : Kind → Bool
 lists_ranges kinds.Memory = true
 lists_ranges kinds.Memory64 = true
 lists_ranges kind = false
+
+-- its records have names
+abbrev pub has_names : Kind → Bool
+has_names kinds.Modules = true
+has_names kinds.System = true
+has_names kinds.Unloaded = true
+has_names kind = false
+
+-- of a stream of this kind no record has a name; of none no records are listed
+abbrev pub HasNoNames : Option Kind → Type 0
+HasNoNames (Some kind) = has_names kind ≡ false
+HasNoNames None = Unit {0}

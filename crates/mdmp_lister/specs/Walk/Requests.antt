@@ -19,7 +19,7 @@ use Rattle.mdmp_lister.specs.Meter.{Books, Moves, counts_of}
 use Rattle.mdmp_lister.specs.Walk.Paying.{IsPaid, IsWithinSince, unread_bytes}
 use Rattle.mdmp_lister.specs.Walk.Reaching.{Reaches, ReachesAtFault, given_once}
 use Rattle.mdmp_lister.specs.Fault.{IsOfSource, IsToldIn}
-use Rattle.mdmp_lister.specs.Format.Kind.{kind_of}
+use Rattle.mdmp_lister.specs.Format.Kind.{HasNoNames, kind_of}
 use Rattle.mdmp_lister.specs.Format.Listing.{records_told}
 use Rattle.mdmp_lister.specs.Stage.{IsCounted, IsStageAfter, StaysUnchanged, ends, fault_stage, records_left_in, stop_after, stop_of}
 use Rattle.mdmp_lister.specs.declared.stage.Stage.TheVariants.{Between, Head}
@@ -127,6 +127,8 @@ module _ {S A : Type 0} where
     pub room : (room : ℕ) → HasRoom room 0 old → HasRoom room (count_answered result) new
     -- of its own it never tells that the store has changed
     pub unchanged : StaysUnchanged old.stage → StaysUnchanged new.stage
+    -- no name is reached in an entry whose records have none
+    pub nameless : HasNoNames (kind_of old.current.stream_type) → new.meter.names ≡ old.meter.names
 
   -- what is left of the current entry was dropped, unless nothing is given for good
   pub record EntrySkipped (old new : Walk S A) : Type 0 where

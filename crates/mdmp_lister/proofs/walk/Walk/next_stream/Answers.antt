@@ -53,6 +53,7 @@ returns-in_default g c =
               rw (chosen_from-end file w.choice c.len-self.result over) (omega arith);
         };
         unchanged = λ stays. tt;
+        nameless = λ none. refl;
       };
       begins = record {
         stage = refl;

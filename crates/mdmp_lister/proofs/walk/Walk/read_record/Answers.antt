@@ -1,6 +1,6 @@
 use Rattle.std.proofs.Common.{◌≡◌, arith, ◌∙◌, length, refl, rules, vec_len}
 use Rattle.mdmp_lister.proofs.Bodies.{take-lent}
-use Rattle.mdmp_lister.proofs.EntrySteps.{answered_record, answered_record_fault, given_record}
+use Rattle.mdmp_lister.proofs.EntrySteps.{answered_record, answered_record_fault, given_record, nameless_reading}
 use Rattle.mdmp_lister.proofs.Fetches.{unchanged_caused}
 use Rattle.mdmp_lister.proofs.Sizes.{most_record}
 use Rattle.mdmp_lister.proofs.Unchanged.{fault_stage-unchanged}
@@ -22,6 +22,7 @@ returns-in-Ok g c =
             (λ file known here. rw (take-lent (vec_len w.name) c.read_item.new.buffer _ room) (rw room at (of.item file known w.current.location.rva here)));
         room = search rules;
         unchanged = λ stays. tt;
+        nameless = λ none. of.nameless (nameless_reading w a.kind a.shape a.index a.offset c.requires.stage c.requires.sound none);
       },
       given_record w _ a.kind a.shape a.index a.offset c.record_at-at.result c.requires.stage c.requires.left c.requires.sound (search rules) c.record_at-at.ensures.place
           c.in-Ok.step c.offset_behind.result refl
@@ -40,6 +41,7 @@ returns-in-Err g c =
           _ c.in-Err.fault c.of_entry.result refl (rw room at of.reads) (omega (arith, of.slides.bytes)) (omega (arith, of.slides.calls greatest_record (most_record a.kind) c.requires.sound.window)) c.of_entry.ensures (λ file known here other. rw room at (of.item file known w.current.location.rva here other));
       room = search rules;
       unchanged = λ stays. fault_stage-unchanged c.of_entry.result (unchanged_caused c.in-Err.fault c.of_entry.result w.meter.source c.read_item.new.meter.source of.reads.caused c.of_entry.ensures.kind);
+      nameless = λ none. of.nameless (nameless_reading w a.kind a.shape a.index a.offset c.requires.stage c.requires.sound none);
     })
 
 pub read_item-requires-clause-ahead : goal.read_item-requires-clause-ahead

@@ -22,7 +22,7 @@ returns-in-Ok-None g c =
       (
         refl,
         λ _. tt,
-        record { list = none_leaves w n p e; position = refl; mark = refl; spent = request_spent w n c.self.inside.mark c.self.invariant.within p (Ok None) e; unchanged = tt },
+        record { list = none_leaves w n p e; position = refl; mark = refl; spent = request_spent w n c.self.inside.mark c.self.invariant.within p (Ok None) e; unchanged = tt; nameless = of.nameless },
       ),
       record { gives = none_gives w n p e; leaves = tt; sought = λ number is. none_unsought w n p e number is; repeats = λ stop same. stop_again w n p (Ok None) e stop same; good = λ _ _. tt },
     )
@@ -53,6 +53,7 @@ returns-in-Ok-Some g c =
           mark = rw begins refl;
           spent = request_spent w n c.self.inside.mark c.self.invariant.within p (Ok (Some s)) e;
           unchanged = tt;
+          nameless = of.nameless;
         },
       ),
       record { gives = item_gives w n s x told sound p placed e; leaves = tt; sought = given_sought w n s x told p placed e; repeats = λ stop same. let again : None ≡ Some stop = stop_again w n p (Ok (Some s)) e stop same in absurd (cc); good = λ _ _. tt },
@@ -69,7 +70,7 @@ returns-in-Err g c =
       (
         refl,
         λ _. tt,
-        record { list = fault_leaves w n p f of.answered; position = refl; mark = refl; spent = request_spent w n c.self.inside.mark c.self.invariant.within p (Err f) of.answered; unchanged = of.unchanged },
+        record { list = fault_leaves w n p f of.answered; position = refl; mark = refl; spent = request_spent w n c.self.inside.mark c.self.invariant.within p (Err f) of.answered; unchanged = of.unchanged; nameless = of.nameless },
       ),
       record { gives = fault_gives w n p f of.answered; leaves = tt; sought = λ number is. fault_unsought w n p f of.answered number is; repeats = λ stop same. stop_again w n p (Err f) of.answered stop same; good = fault_good w n p f of.answered },
     )

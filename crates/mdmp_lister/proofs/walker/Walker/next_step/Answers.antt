@@ -5,7 +5,7 @@ pub returns-clause-leaves : goal.returns-clause-leaves
 returns-clause-leaves g c =
     let of = c.advance_from.ensures in
     rw (← c.self.view_is, of.position, of.mark)
-    (step_leaves c.self.inside.walk c.advance_from.new.walk c.self.inside.mark c.self.inside.position c.advance_from.result c.self.invariant of.answered of.unchanged)
+    (step_leaves c.self.inside.walk c.advance_from.new.walk c.self.inside.mark c.self.inside.position c.advance_from.result c.self.invariant of.answered of.unchanged of.nameless)
 
 pub returns-clause-good : goal.returns-clause-good
 returns-clause-good g c =
