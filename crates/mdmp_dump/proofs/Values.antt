@@ -1,17 +1,13 @@
 -- A view of a value gives what the value has.
-use Rattle.std.proofs.Common.{◌≡◌, ◌∙◌, ◌<◌, ◌≤◌, ◌+◌, ℕ, zero, suc, List, [], ◌∷◌, length, map, get_or, drop, Option, Some, None, Bool, true, false, if◌then◌else◌, refl, ap, sym, subst, arith}
+use Rattle.std.proofs.Common.{◌≡◌, ◌∙◌, ◌<◌, ◌≤◌, ◌+◌, ℕ, zero, suc, List, [], ◌∷◌, length, map, get_or, drop, Bool, true, false, if◌then◌else◌, refl, ap, sym, subst, arith}
 use Rattle.std.proofs.lemmas.List.{at_drop_more, drop_more}
 use Rattle.std.proofs.Math.ListN.{drop_of_length-le, get_or-map}
-use Rattle.mdmp_wire.specs.NumberLaws.{length-les}
-use Rattle.mdmp_wire.specs.declared.any_record.AnyRecord.{AnyRecord}
 use Rattle.mdmp_dump.specs.declared.dump.Dump.{Dump}
 use Rattle.mdmp_dump.specs.declared.dump.Stream.{Stream}
 use Rattle.mdmp_dump.specs.declared.dump.Stream.TheVariants as streams
-use Rattle.mdmp_dump.specs.declared.part.Part.{Part}
-use Rattle.mdmp_dump.specs.declared.part.Part.TheVariants as parts
 use Rattle.mdmp_dump.specs.declared.view.Fields.{Fields}
-use Rattle.mdmp_dump.specs.declared.view.PartSize.{PartSize}
-use Rattle.mdmp_dump.specs.Seen.{Seen, seen, nothing_seen, size_of, bytes_of, name_size, unit_bytes}
+use Rattle.mdmp_dump.specs.declared.view.Kind.TheVariants.{Known}
+use Rattle.mdmp_dump.specs.Seen.{Seen, nothing_seen}
 use Rattle.mdmp_dump.specs.View.{kind_in, raw_in, records_seen, stream_seen}
 use Rattle.mdmp_dump.specs.Exception.{exception_seen}
 use Rattle.mdmp_dump.specs.Memory.{memory_seen}
@@ -21,9 +17,9 @@ use Rattle.mdmp_dump.specs.Module.{module_seen}
 use Rattle.mdmp_dump.specs.System.{system_seen}
 use Rattle.mdmp_dump.specs.Thread.{thread_seen}
 use Rattle.mdmp_dump.specs.Unloaded.{unloaded_seen}
-use Rattle.mdmp_dump.specs.Placed.{size_in, fields_room, far_room}
-use Rattle.mdmp_dump.specs.Shape.{GivesRecord, IsSized, fars, is_far, parts_at, record_at, rooms, shape_of, sizes_at, stream_at, told, unused_seen, value_cursor, value_shape}
-use Rattle.mdmp_dump.specs.ShapeLaws.{held}
+use Rattle.mdmp_dump.specs.Placed.{fields_bytes, fields_room, far_room}
+use Rattle.mdmp_dump.specs.Shape.{GivesRecord, IsSized, all_bytes, fars, is_far, parts_at, record_at, rooms, shape_of, sizes_at, stream_at, told, type_told, unused_seen, value_cursor, value_shape}
+use Rattle.mdmp_dump.specs.ShapeLaws.{held, name_sized, part_sized, three_sized}
 
 -- a fact of each record that some things are seen as is one of the record at any place
 at_any : {X : Type 0} (P : Seen → Type 0) (see : X → Seen) → P nothing_seen → ((x : X) → P (see x)) → (xs : List X) (k : ℕ) → P (get_or (map see xs) k nothing_seen)
@@ -31,23 +27,19 @@ at_any P see none each [] k = none
 at_any P see none each (x ∷ xs) zero = each x
 at_any P see none each (x ∷ xs) (suc k) = at_any P see none each xs k
 
+-- the same of a place inside the list, for a fact that `nothing_seen` need not have
+at_in : {X : Type 0} (P : Seen → Type 0) (see : X → Seen) → ((x : X) → P (see x)) → (xs : List X) (k : ℕ) → k < length (map see xs) → P (get_or (map see xs) k nothing_seen)
+at_in P see each [] k inside = absurd (omega arith)
+at_in P see each (x ∷ xs) zero inside = each x
+at_in P see each (x ∷ xs) (suc k) inside = at_in P see each xs k (let h : suc k < suc (length (map see xs)) = inside in omega (arith, h))
+
 nothing_sized : IsSized nothing_seen
 nothing_sized k = refl
-
-three_sized : (w : AnyRecord) (p q r : PartSize) (a b c : List ℕ) → length a ≡ size_in p → length b ≡ size_in q → length c ≡ size_in r → IsSized (seen w (p ∷ q ∷ r ∷ []) (a ∷ b ∷ c ∷ []))
-three_sized w p q r a b c first second third zero = first
-three_sized w p q r a b c first second third (suc zero) = second
-three_sized w p q r a b c first second third (suc (suc zero)) = third
-three_sized w p q r a b c first second third (suc (suc (suc k))) = refl
 
 -- a record takes room in one way alone
 abbrev pub HasOneRoom : Bool → Seen → Type 0
 HasOneRoom true x = fields_room x.fields ≡ 0
 HasOneRoom false x = far_room x.fields ≡ 0
-
-name_sized : (name : Option (List ℕ)) → length (unit_bytes name) ≡ size_in (name_size name)
-name_sized None = refl
-name_sized (Some units) = length-les 2 units
 
 -- the room of the rest: of records that stand behind their stream, and of 64-bit memory
 near : Bool → List Seen → ℕ
@@ -66,6 +58,10 @@ unfolding away rooms fars
 away_next true x xs one = refl
 away_next false x xs one = omega (arith, one)
 
+bytes_next : (x : Seen) (xs : List Seen) → all_bytes (x ∷ xs) ≡ fields_bytes x.fields + all_bytes xs
+unfolding all_bytes
+bytes_next x xs = refl
+
 none_left : (far : Bool) (xs : List Seen) → length xs ≡ 0 → (near far xs ≡ 0) × (away far xs ≡ 0)
 unfolding near away rooms fars
 none_left true [] e = (refl, refl)
@@ -73,10 +69,6 @@ none_left false [] e = (refl, refl)
 none_left far (x ∷ xs) e = absurd (let h : suc (length xs) ≡ 0 = e in omega (arith, h))
 
 module _ {Z : Type 0} where
-  part_sized : (p : Part Z) → length (bytes_of p) ≡ size_in (size_of p)
-  part_sized (parts.Bytes bytes) = refl
-  part_sized (parts.Absent size) = refl
-
   pub record_sized : (s : Stream Z) (k : ℕ) → IsSized (record_at s k)
   record_sized streams.Unused k = nothing_sized
   record_sized (streams.Threads ts) k = at_any IsSized thread_seen nothing_sized (λ t. three_sized (thread_seen t).fields.wire _ _ _ _ _ _ (part_sized t.stack) (part_sized t.context) refl) ts k
@@ -101,6 +93,19 @@ module _ {Z : Type 0} where
   one_room (streams.MemoryInfo rs) k = at_any (HasOneRoom false) memory_info_seen refl (λ r. refl) rs k
   one_room (streams.Raw t bytes) k = refl
 
+  -- the record at a place that a stream has is of the stream's kind
+  record_kind : (s : Stream Z) (k : ℕ) → k < length (records_seen s) → kind_in s ≡ Known (type_told (record_at s k).fields.wire)
+  record_kind streams.Unused k inside = absurd (omega arith)
+  record_kind (streams.Threads ts) k inside = at_in (λ x. Known 3 ≡ Known (type_told x.fields.wire)) thread_seen (λ t. refl) ts k inside
+  record_kind (streams.Modules ms) k inside = at_in (λ x. Known 4 ≡ Known (type_told x.fields.wire)) module_seen (λ m. refl) ms k inside
+  record_kind (streams.Memory ms) k inside = at_in (λ x. Known 5 ≡ Known (type_told x.fields.wire)) memory_seen (λ m. refl) ms k inside
+  record_kind (streams.Exception x) k inside = at_in (λ x. Known 6 ≡ Known (type_told x.fields.wire)) exception_seen (λ x. refl) (x ∷ []) k inside
+  record_kind (streams.System s) k inside = at_in (λ x. Known 7 ≡ Known (type_told x.fields.wire)) system_seen (λ s. refl) (s ∷ []) k inside
+  record_kind (streams.Memory64 ms) k inside = at_in (λ x. Known 9 ≡ Known (type_told x.fields.wire)) memory64_seen (λ m. refl) ms k inside
+  record_kind (streams.Unloaded us) k inside = at_in (λ x. Known 14 ≡ Known (type_told x.fields.wire)) unloaded_seen (λ u. refl) us k inside
+  record_kind (streams.MemoryInfo rs) k inside = at_in (λ x. Known 16 ≡ Known (type_told x.fields.wire)) memory_info_seen (λ r. refl) rs k inside
+  record_kind (streams.Raw t bytes) k inside = absurd (omega arith)
+
   -- a step of the cursor
   pub value_next : (s : Stream Z) (k next : ℕ) (f : Fields) → next ≡ k + 1 → k < length (records_seen s) → f ≡ (record_at s k).fields → GivesRecord (value_cursor s k) f (value_cursor s next)
   unfolding near away
@@ -112,9 +117,11 @@ module _ {Z : Type 0} where
       let far = is_far (kind_in s) in
       rw (e, same) record {
         records = ap length split ∙ (let h : suc (length rest) ≡ length rest + 1 = omega arith in h);
-        room = ap (near far) split ∙ near_next far x rest (one_room s k);
-        far = ap (away far) split ∙ away_next far x rest (one_room s k);
-        last = λ z. none_left far rest z;
+        kind = record_kind s k fewer;
+        stays = refl;
+        room = λ _. record { left = ap (near far) split ∙ near_next far x rest (one_room s k); last = λ z. (none_left far rest z).0 };
+        far = λ _. record { left = ap (away far) split ∙ away_next far x rest (one_room s k); last = λ z. (none_left far rest z).1 };
+        bytes = (let h : all_bytes (drop k (records_seen s)) ≡ fields_bytes x.fields + all_bytes rest = ap all_bytes split ∙ bytes_next x rest in omega (arith, h));
         sizes = λ j. ap (λ (n : ℕ). (value_cursor s n).sizes j) place;
         seen = λ xs known. record {
           first = x;
@@ -143,7 +150,7 @@ module _ {Z : Type 0} where
 
   -- the shape of one of a value's streams
   value_stream : (d : Dump Z) (k : ℕ) → stream_at (value_shape d) k ≡ shape_of (stream_seen (get_or d.streams k streams.Unused))
-  unfolding rooms
+  unfolding rooms all_bytes
   value_stream d k =
       get_or-map shape_of (map stream_seen d.streams) k unused_seen ∙ ap shape_of (get_or-map (λ (s : Stream Z). stream_seen s) d.streams k streams.Unused)
 

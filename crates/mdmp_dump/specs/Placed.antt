@@ -20,6 +20,10 @@ size_in NoPart = 0
 size_in (Size n) = n
 size_in (Absent n) = 0
 
+-- the bytes of its name and parts
+abbrev pub fields_bytes : Fields → ℕ
+fields_bytes f = size_in (size_at f 0) + size_in (size_at f 1) + size_in (size_at f 2)
+
 abbrev pub bytes_in : Seen → ℕ → List ℕ
 bytes_in s k = get_or s.parts k []
 

@@ -1,13 +1,16 @@
--- What a view is: a shape that stays, and a cursor that moves.
-use Rattle.std.specs.Prelude.{◌≡◌, ◌^◌, ℕ, zero, suc, ◌+◌, ◌-◌, ◌*◌, List, [], ◌∷◌, length, map, get_or, drop, Option, Some, option_map, Bool, true, false, ◌==◌, if◌then◌else◌, min}
+-- What a view is: a shape that stays, a cursor that moves, and what was spent of it.
+use Rattle.std.specs.Prelude.{◌≡◌, ◌^◌, ◌≤◌, ◌<◌, ℕ, zero, suc, ◌+◌, ◌-◌, ◌*◌, List, [], ◌∷◌, length, map, get_or, drop, Option, Some, None, option_map, Bool, true, false, ◌==◌, if◌then◌else◌, min}
+use Rattle.mdmp_wire.specs.declared.any_record.AnyRecord.{AnyRecord}
+use Rattle.mdmp_wire.specs.declared.any_record.AnyRecord.TheVariants as any
 use Rattle.mdmp_dump.specs.declared.view.Fields.{Fields}
 use Rattle.mdmp_dump.specs.declared.view.Kind.{Kind}
 use Rattle.mdmp_dump.specs.declared.view.Kind.TheVariants as kinds
+use Rattle.mdmp_dump.specs.declared.view.ViewFault.{ViewFault}
 use Rattle.mdmp_dump.specs.declared.dump.Stream.{Stream}
 use Rattle.mdmp_dump.specs.declared.dump.Dump.{Dump}
 use Rattle.mdmp_dump.specs.Seen.{Seen, nothing_seen}
 use Rattle.mdmp_dump.specs.View.{DumpSeen, StreamSeen, dump_seen, kind_in, raw_in, records_seen}
-use Rattle.mdmp_dump.specs.Placed.{size_at, size_in, fields_room, far_room}
+use Rattle.mdmp_dump.specs.Placed.{size_at, size_in, fields_bytes, fields_room, far_room}
 
 -- ---- kinds
 
@@ -33,14 +36,27 @@ body_by kinds.Unused records raw = 0
 body_by (kinds.Known t) records raw = head_of t + records * row_of t
 body_by (kinds.Raw t) records raw = raw
 
+-- the type of a stream that has such records
+abbrev pub type_told : AnyRecord → ℕ
+type_told (any.Thread r) = 3
+type_told (any.Module r) = 4
+type_told (any.Memory r) = 5
+type_told (any.Exception r) = 6
+type_told (any.System r) = 7
+type_told (any.Memory64 r) = 9
+type_told (any.Unloaded r) = 14
+type_told (any.MemoryInfo r) = 16
+
 -- ---- what stays
 
--- a stream: its kind, how many records and raw bytes it has, and the room of its parts; of 64-bit memory their plain sum
+-- a stream: its kind, how many records and raw bytes it has, and the room of its parts; of 64-bit memory their plain sum.
+-- Its names and parts have at most `bytes`, without their lengths and padding.
 pub record StreamShape : Type 0 where
   pub kind : Kind
   pub records : ℕ
   pub raw : ℕ
   pub parts : ℕ
+  pub bytes : ℕ
 
 -- the bytes of its body, the room of its parts behind it, and its bytes of 64-bit memory
 abbrev pub body_of : StreamShape → ℕ
@@ -52,14 +68,20 @@ room_of s = if is_far s.kind then 0 else s.parts
 abbrev pub far_of : StreamShape → ℕ
 far_of s = if is_far s.kind then s.parts else 0
 
--- a view: its streams, whether none of its calls answers a fault, and what it gives where that is known
+-- the bytes that can be asked for: its names and parts, and its raw bytes
+abbrev pub asks_of : StreamShape → ℕ
+asks_of s = s.bytes + s.raw
+
+-- a view: its streams, and the cost of a pass over each, 0 where none is told; whether none of its calls answers a fault,
+-- and what it gives where that is known
 pub record Shape : Type 0 where
   pub streams : List StreamShape
+  pub costs : List ℕ
   pub is_reliable : Bool
   pub seen : Option DumpSeen
 
 abbrev pub unused_shape : StreamShape
-unused_shape = record { kind = kinds.Unused; records = 0; raw = 0; parts = 0 }
+unused_shape = record { kind = kinds.Unused; records = 0; raw = 0; parts = 0; bytes = 0 }
 
 abbrev pub unused_seen : StreamSeen
 unused_seen = record { kind = kinds.Unused; records = []; raw = [] }
@@ -73,11 +95,16 @@ unfoldable pub fars : List Seen → ℕ
 fars [] = 0
 fars (x ∷ xs) = far_room x.fields + fars xs
 
+-- the bytes of their names and parts
+unfoldable pub all_bytes : List Seen → ℕ
+all_bytes [] = 0
+all_bytes (x ∷ xs) = fields_bytes x.fields + all_bytes xs
+
 abbrev pub parts_in : Kind → List Seen → ℕ
 parts_in kind xs = if is_far kind then fars xs else rooms xs
 
 abbrev pub shape_of : StreamSeen → StreamShape
-shape_of s = record { kind = s.kind; records = length s.records; raw = length s.raw; parts = parts_in s.kind s.records }
+shape_of s = record { kind = s.kind; records = length s.records; raw = length s.raw; parts = parts_in s.kind s.records; bytes = all_bytes s.records }
 
 -- known content has this shape
 abbrev pub IsSound : Shape → Type 0
@@ -85,6 +112,9 @@ IsSound s = (x : DumpSeen) → s.seen ≡ Some x → s.streams ≡ map shape_of 
 
 abbrev pub stream_at : Shape → ℕ → StreamShape
 stream_at s k = get_or s.streams k unused_shape
+
+abbrev pub cost_at : Shape → ℕ → ℕ
+cost_at s k = get_or s.costs k 0
 
 abbrev pub seen_at : DumpSeen → ℕ → StreamSeen
 seen_at x k = get_or x.streams k unused_seen
@@ -95,13 +125,16 @@ told n = min n (2 ^ 64 - 1)
 
 -- ---- what moves
 
--- what is still to be given of a stream: how many records, the room of their parts and their bytes of 64-bit
--- memory, and the records where they are known. Then what `part` can be asked for: the sizes of the parts of the
--- record given last, or of the raw bytes as part 0, and their bytes where they are known.
+-- what is still to be given of a stream of this kind: how many records, the room of their parts and their bytes of 64-bit
+-- memory, how many bytes their names and parts have at most, and the records where they are known. Then what `part` can be
+-- asked for: the sizes of the parts of the record given last, or of the raw bytes as part 0, and their bytes where they are
+-- known.
 pub record Cursor : Type 0 where
+  pub kind : Kind
   pub records : ℕ
   pub room : ℕ
   pub far : ℕ
+  pub bytes : ℕ
   pub seen : Option (List Seen)
   pub sizes : ℕ → ℕ
   pub parts : Option (List (List ℕ))
@@ -113,9 +146,11 @@ raw_sizes n (suc k) = 0
 -- a stream is begun
 abbrev pub begun : Shape → ℕ → Cursor
 begun s k = record {
+  kind = (stream_at s k).kind;
   records = (stream_at s k).records;
   room = room_of (stream_at s k);
   far = far_of (stream_at s k);
+  bytes = (stream_at s k).bytes;
   seen = option_map (λ x. (seen_at x k).records) s.seen;
   sizes = raw_sizes (stream_at s k).raw;
   parts = option_map (λ x. (seen_at x k).raw ∷ []) s.seen;
@@ -124,6 +159,19 @@ begun s k = record {
 -- a record's parts have the sizes that its fields tell
 abbrev pub IsSized : Seen → Type 0
 IsSized x = (k : ℕ) → length (get_or x.parts k []) ≡ size_in (size_at x.fields k)
+
+-- a record of a stream of this kind, whose parts have the sizes that it tells
+pub record IsOf (kind : Kind) (x : Seen) : Type 0 where
+  pub kind_is : kind ≡ kinds.Known (type_told x.fields.wire)
+  pub sized : IsSized x
+
+abbrev pub AreOf : Kind → List Seen → Type 0
+AreOf kind [] = Unit {0}
+AreOf kind (x ∷ xs) = IsOf kind x × AreOf kind xs
+
+-- the records of each stream are of its kind, where they are known
+abbrev pub AreOfTheirKinds : Shape → Type 0
+AreOfTheirKinds s = (x : DumpSeen) (k : ℕ) → s.seen ≡ Some x → AreOf (seen_at x k).kind (seen_at x k).records
 
 -- of known records the first was given
 pub record GivesSeen (xs : List Seen) (f : Fields) (new : Cursor) : Type 0 where
@@ -135,20 +183,41 @@ pub record GivesSeen (xs : List Seen) (f : Fields) (new : Cursor) : Type 0 where
   pub left : new.seen ≡ Some others
   pub parts : new.parts ≡ Some first.parts
 
--- a record was given: its parts never pass the room that is left, and with the last record none is left
+-- what a record takes comes off a sum, of which nothing is left where no record is
+pub record TakesOff (old taken new records : ℕ) : Type 0 where
+  pub left : old ≡ taken + new
+  pub last : records ≡ 0 → new ≡ 0
+
+-- a record of the stream's kind was given: its parts never pass the room that is left, and with the last record none is
+-- left, unless the room stands at the greatest size that is told
 pub record GivesRecord (old : Cursor) (f : Fields) (new : Cursor) : Type 0 where
+  pub kind : old.kind ≡ kinds.Known (type_told f.wire)
+  pub stays : new.kind ≡ old.kind
   pub records : old.records ≡ new.records + 1
-  pub room : old.room ≡ fields_room f + new.room
-  pub far : old.far ≡ far_room f + new.far
-  pub last : new.records ≡ 0 → (new.room ≡ 0) × (new.far ≡ 0)
+  pub room : old.room < 2 ^ 64 - 1 → TakesOff old.room (fields_room f) new.room new.records
+  pub far : old.far < 2 ^ 64 - 1 → TakesOff old.far (far_room f) new.far new.records
+  pub bytes : fields_bytes f + new.bytes ≤ old.bytes
   pub sizes : (k : ℕ) → new.sizes k ≡ size_in (size_at f k)
   pub seen : (xs : List Seen) → old.seen ≡ Some xs → GivesSeen xs f new
+
+-- ---- what is spent
+
+-- the costs of the passes that were begun, and how many bytes of names, parts and raw streams were asked for; and the fault
+-- that was answered last
+pub record Spent : Type 0 where
+  pub passed : ℕ
+  pub asked : ℕ
+  pub fault : Option ViewFault
+
+-- nothing was spent
+abbrev pub unspent : Spent
+unspent = record { passed = 0; asked = 0; fault = None }
 
 -- ---- of a value
 
 module _ {Z : Type 0} where
   abbrev pub value_shape : Dump Z → Shape
-  value_shape d = record { streams = map shape_of (dump_seen d).streams; is_reliable = true; seen = Some (dump_seen d) }
+  value_shape d = record { streams = map shape_of (dump_seen d).streams; costs = []; is_reliable = true; seen = Some (dump_seen d) }
 
   -- a view of this value
   abbrev pub IsViewOf : Dump Z → Shape → Type 0
@@ -169,9 +238,11 @@ module _ {Z : Type 0} where
   -- so many records of a stream were given
   abbrev pub value_cursor : Stream Z → ℕ → Cursor
   value_cursor s k = record {
+    kind = kind_in s;
     records = length (drop k (records_seen s));
     room = if is_far (kind_in s) then 0 else parts_in (kind_in s) (drop k (records_seen s));
     far = if is_far (kind_in s) then parts_in (kind_in s) (drop k (records_seen s)) else 0;
+    bytes = all_bytes (drop k (records_seen s));
     seen = Some (drop k (records_seen s));
     sizes = sizes_at s k;
     parts = Some (parts_at s k);

@@ -1,8 +1,27 @@
--- A value has the shape of its view.
-use Rattle.std.proofs.Common.{map, ap, Option, Some, None}
+-- A value has the shape of its view, and its records are of their streams' kinds.
+use Rattle.std.proofs.Common.{◌≡◌, ℕ, zero, suc, List, [], ◌∷◌, length, map, get_or, ap, subst, refl, Option, Some, None}
+use Rattle.mdmp_wire.specs.NumberLaws.{length-les}
+use Rattle.mdmp_wire.specs.declared.any_record.AnyRecord.{AnyRecord}
 use Rattle.mdmp_dump.specs.declared.dump.Dump.{Dump}
-use Rattle.mdmp_dump.specs.Shape.{IsSound, shape_of, value_shape}
-use Rattle.mdmp_dump.specs.View.{DumpSeen}
+use Rattle.mdmp_dump.specs.declared.dump.Stream.{Stream}
+use Rattle.mdmp_dump.specs.declared.dump.Stream.TheVariants as streams
+use Rattle.mdmp_dump.specs.declared.part.Part.{Part}
+use Rattle.mdmp_dump.specs.declared.part.Part.TheVariants as parts
+use Rattle.mdmp_dump.specs.declared.view.Kind.{Kind}
+use Rattle.mdmp_dump.specs.declared.view.Kind.TheVariants.{Known}
+use Rattle.mdmp_dump.specs.declared.view.PartSize.{PartSize}
+use Rattle.mdmp_dump.specs.Exception.{exception_seen}
+use Rattle.mdmp_dump.specs.Memory.{memory_seen}
+use Rattle.mdmp_dump.specs.Memory64.{memory64_seen}
+use Rattle.mdmp_dump.specs.MemoryInfo.{memory_info_seen}
+use Rattle.mdmp_dump.specs.Module.{module_seen}
+use Rattle.mdmp_dump.specs.Placed.{size_in}
+use Rattle.mdmp_dump.specs.Seen.{Seen, seen, size_of, bytes_of, name_size, unit_bytes}
+use Rattle.mdmp_dump.specs.Shape.{AreOf, AreOfTheirKinds, IsOf, IsSized, IsSound, seen_at, shape_of, type_told, unused_seen, value_shape}
+use Rattle.mdmp_dump.specs.System.{system_seen}
+use Rattle.mdmp_dump.specs.Thread.{thread_seen}
+use Rattle.mdmp_dump.specs.Unloaded.{unloaded_seen}
+use Rattle.mdmp_dump.specs.View.{DumpSeen, kind_in, records_seen, stream_seen}
 
 -- what an option holds, or else x
 abbrev pub held : {X : Type 0} → X → Option X → X
@@ -11,3 +30,49 @@ held x (Some y) = y
 
 pub value_sound : {Z : Type 0} (d : Dump Z) → IsSound (value_shape d)
 value_sound d x known = ap (λ (x : DumpSeen). map shape_of x.streams) (ap (held x) known)
+
+-- ---- the sizes of parts
+
+pub three_sized : (w : AnyRecord) (p q r : PartSize) (a b c : List ℕ) → length a ≡ size_in p → length b ≡ size_in q → length c ≡ size_in r → IsSized (seen w (p ∷ q ∷ r ∷ []) (a ∷ b ∷ c ∷ []))
+three_sized w p q r a b c first second third zero = first
+three_sized w p q r a b c first second third (suc zero) = second
+three_sized w p q r a b c first second third (suc (suc zero)) = third
+three_sized w p q r a b c first second third (suc (suc (suc k))) = refl
+
+pub name_sized : (name : Option (List ℕ)) → length (unit_bytes name) ≡ size_in (name_size name)
+name_sized None = refl
+name_sized (Some units) = length-les 2 units
+
+pub part_sized : {Z : Type 0} (p : Part Z) → length (bytes_of p) ≡ size_in (size_of p)
+part_sized (parts.Bytes bytes) = refl
+part_sized (parts.Absent size) = refl
+
+-- ---- the kinds of records
+
+three_of : (w : AnyRecord) (p q r : PartSize) (a b c : List ℕ) → length a ≡ size_in p → length b ≡ size_in q → length c ≡ size_in r → IsOf (Known (type_told w)) (seen w (p ∷ q ∷ r ∷ []) (a ∷ b ∷ c ∷ []))
+three_of w p q r a b c first second third = record { kind_is = refl; sized = three_sized w p q r a b c first second third }
+
+each_of : {X : Type 0} (kind : Kind) (see : X → Seen) → ((x : X) → IsOf kind (see x)) → (xs : List X) → AreOf kind (map see xs)
+each_of kind see each [] = tt
+each_of kind see each (x ∷ xs) = (each x, each_of kind see each xs)
+
+module _ {Z : Type 0} where
+  stream_kinds : (s : Stream Z) → AreOf (kind_in s) (records_seen s)
+  stream_kinds streams.Unused = tt
+  stream_kinds (streams.Threads ts) = each_of (Known 3) thread_seen (λ t. three_of (thread_seen t).fields.wire _ _ _ _ _ _ (part_sized t.stack) (part_sized t.context) refl) ts
+  stream_kinds (streams.Modules ms) = each_of (Known 4) module_seen (λ m. three_of (module_seen m).fields.wire _ _ _ _ _ _ (name_sized m.name) (part_sized m.codeview) (part_sized m.misc)) ms
+  stream_kinds (streams.Memory ms) = each_of (Known 5) memory_seen (λ m. three_of (memory_seen m).fields.wire _ _ _ _ _ _ (part_sized m.bytes) refl refl) ms
+  stream_kinds (streams.Exception x) = (three_of (exception_seen x).fields.wire _ _ _ _ _ _ (part_sized x.context) refl refl, tt)
+  stream_kinds (streams.System s) = (three_of (system_seen s).fields.wire _ _ _ _ _ _ (name_sized s.name) refl refl, tt)
+  stream_kinds (streams.Memory64 ms) = each_of (Known 9) memory64_seen (λ m. three_of (memory64_seen m).fields.wire _ _ _ _ _ _ refl refl refl) ms
+  stream_kinds (streams.Unloaded us) = each_of (Known 14) unloaded_seen (λ u. three_of (unloaded_seen u).fields.wire _ _ _ _ _ _ (name_sized u.name) refl refl) us
+  stream_kinds (streams.MemoryInfo rs) = each_of (Known 16) memory_info_seen (λ r. three_of (memory_info_seen r).fields.wire _ _ _ _ _ _ refl refl refl) rs
+  stream_kinds (streams.Raw t bytes) = tt
+
+  streams_kinds : (ss : List (Stream Z)) (k : ℕ) → AreOf (get_or (map stream_seen ss) k unused_seen).kind (get_or (map stream_seen ss) k unused_seen).records
+  streams_kinds [] k = tt
+  streams_kinds (s ∷ ss) zero = stream_kinds s
+  streams_kinds (s ∷ ss) (suc k) = streams_kinds ss k
+
+  pub value_kinds : (d : Dump Z) → AreOfTheirKinds (value_shape d)
+  value_kinds d x k known = subst (λ (y : DumpSeen). AreOf (seen_at y k).kind (seen_at y k).records) (ap (held x) known) (streams_kinds d.streams k)

@@ -2,8 +2,8 @@
 ghost use Rattle.std.specs.Prelude.{◌≡◌, ◌<◌, ◌≤◌, ◌+◌, ◌*◌, [], length, take, drop, get_or};
 ghost use Rattle.mdmp_dump.specs.declared.dump.Stream.TheVariants.{Unused};
 ghost use Rattle.mdmp_dump.specs.View.{kind_in, raw_in, records_seen, stream_seen};
-ghost use Rattle.mdmp_dump.specs.Shape.{body_of, parts_at, parts_in, record_at, shape_of, told, value_cursor, value_shape};
-ghost use Rattle.mdmp_dump.specs.ShapeLaws.{value_sound};
+ghost use Rattle.mdmp_dump.specs.Shape.{body_of, parts_at, parts_in, record_at, shape_of, told, unspent, value_cursor, value_shape};
+ghost use Rattle.mdmp_dump.specs.ShapeLaws.{value_kinds, value_sound};
 
 use crate::dump::{Dump, Stream};
 use crate::given::{Given, far_of_all, fields_at, part_at, room_of_all, room_of_one};
@@ -216,6 +216,7 @@ impl<A: Allocator> Dump<A> {
     pub fn view<'a>(&'a self) -> ValueView<'a, A>
         ensures shape { ⟦<ValueView<'a, A> as DumpView>⟧.shape result ≡ value_shape self.now }
         ensures cursor { ⟦<ValueView<'a, A> as DumpView>⟧.cursor result ≡ value_cursor (get_or self.now.streams 0 Unused) 0 }
+        ensures spent { ⟦<ValueView<'a, A> as DumpView>⟧.spent result ≡ unspent }
     {
         ValueView {
             dump: self,
@@ -232,7 +233,17 @@ impl<'a, A: Allocator> DumpView for ValueView<'a, A> {
 
     ghost cursor = { λ v. value_cursor (get_or v.dump.now.streams v.stream Unused) v.given };
 
+    ghost spent = { λ v. unspent };
+
+    ghost Moves = { λ u v. Unit {0} };
+
     ghost sound = { λ v. value_sound v.dump.now };
+
+    ghost kinds = { λ v. value_kinds v.dump.now };
+
+    ghost stays = { λ v. tt };
+
+    ghost follows = { λ u v w p q. tt };
 
     fn streams(&mut self) -> u64 {
         self.dump.streams.as_slice().len() as u64
@@ -277,5 +288,13 @@ impl<'a, A: Allocator> DumpView for ValueView<'a, A> {
         let bytes = part_of(streams, self.stream, self.given, which);
         copy_part(bytes, at, out);
         Ok(())
+    }
+
+    fn passed(&mut self) -> u128 {
+        0
+    }
+
+    fn asked(&mut self) -> u128 {
+        0
     }
 }

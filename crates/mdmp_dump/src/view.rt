@@ -59,13 +59,14 @@ pub enum Kind {
 /// A dump given a record at a time, so that what takes it need not hold it.
 ///
 /// A view has a shape, which stays: how many streams it has, of each how many records and bytes, and
-/// what these are where that is known. And it has a cursor, which says what is still to be given of
-/// the stream that was begun last. After a fault nothing is said of the cursor, so `next_record` and
-/// `part` want a new `rewind` first.
+/// what these are where that is known. It has a cursor, which says what is still to be given of the
+/// stream that was begun last. After a fault nothing is said of the cursor, so `next_record` and
+/// `part` want a new `rewind` first. And it counts what is spent of it: what the passes over its
+/// streams cost, and how many bytes it is asked for.
 // No condition of a call is stated by what the view gives: of a view of a file that may be unknown.
 pub trait DumpView {
     ghost use Rattle.std.specs.Prelude.{◌≡◌, ◌<◌, ◌≤◌, ◌+◌, ℕ, List, [], Some, length, take, drop, get_or, IfErr, IfOk, IsTrue, OnOk};
-    ghost use Rattle.mdmp_dump.specs.Shape.{begun, body_of, Cursor, GivesRecord, IsSound, Shape, stream_at, told};
+    ghost use Rattle.mdmp_dump.specs.Shape.{AreOfTheirKinds, begun, body_of, cost_at, Cursor, GivesRecord, IsSound, Shape, Spent, stream_at, told};
     ghost use Rattle.mdmp_dump.specs.View.{DumpSeen};
 
     /// The memory of a value that this may be a view of.
@@ -77,24 +78,36 @@ pub trait DumpView {
     // What moves.
     ghost cursor: { Self → Cursor };
 
+    // What was spent of it.
+    ghost spent: { Self → Spent };
+
+    // A relation by which each of its calls moves it.
+    ghost Moves: { Self → Self → Type 0 };
+
     /// How many streams it has.
     fn streams(&mut self) -> u64
         ensures count { result ≡ length (shape self.old).streams }
         ensures shape { shape self.new ≡ shape self.old }
-        ensures cursor { cursor self.new ≡ cursor self.old };
+        ensures cursor { cursor self.new ≡ cursor self.old }
+        ensures spent { spent self.new ≡ spent self.old }
+        ensures moves { Moves self.old self.new };
 
     /// The numbers of its header.
     fn header(&mut self) -> HeaderFields
         ensures header { (x : DumpSeen) → (shape self.old).seen ≡ Some x → result ≡ x.header }
         ensures shape { shape self.new ≡ shape self.old }
-        ensures cursor { cursor self.new ≡ cursor self.old };
+        ensures cursor { cursor self.new ≡ cursor self.old }
+        ensures spent { spent self.new ≡ spent self.old }
+        ensures moves { Moves self.old self.new };
 
     /// What a stream is.
     fn kind(&mut self, stream: u64) -> Kind
         requires { stream < length (shape self.old).streams }
         ensures kind { result ≡ (stream_at (shape self.old) stream).kind }
         ensures shape { shape self.new ≡ shape self.old }
-        ensures cursor { cursor self.new ≡ cursor self.old };
+        ensures cursor { cursor self.new ≡ cursor self.old }
+        ensures spent { spent self.new ≡ spent self.old }
+        ensures moves { Moves self.old self.new };
 
     /// How many bytes its body has as it is written: its records and what stands before them, or its
     /// raw bytes; 2^64 - 1 where they are more.
@@ -102,7 +115,9 @@ pub trait DumpView {
         requires { stream < length (shape self.old).streams }
         ensures size { result ≡ told (body_of (stream_at (shape self.old) stream)) }
         ensures shape { shape self.new ≡ shape self.old }
-        ensures cursor { cursor self.new ≡ cursor self.old };
+        ensures cursor { cursor self.new ≡ cursor self.old }
+        ensures spent { spent self.new ≡ spent self.old }
+        ensures moves { Moves self.old self.new };
 
     /// How many bytes its names and parts take behind its body, each padded to a multiple of 4; of
     /// 64-bit memory how many bytes it has. 2^64 - 1 where they are more.
@@ -110,13 +125,19 @@ pub trait DumpView {
         requires { stream < length (shape self.old).streams }
         ensures size { result ≡ told (stream_at (shape self.old) stream).parts }
         ensures shape { shape self.new ≡ shape self.old }
-        ensures cursor { cursor self.new ≡ cursor self.old };
+        ensures cursor { cursor self.new ≡ cursor self.old }
+        ensures spent { spent self.new ≡ spent self.old }
+        ensures moves { Moves self.old self.new };
 
     /// Begins a stream. Its raw bytes can be asked for as part 0.
     fn rewind(&mut self, stream: u64) -> Result<(), ViewFault>
         requires { stream < length (shape self.old).streams }
         ensures shape { shape self.new ≡ shape self.old }
         ensures begins { OnOk result (cursor self.new ≡ begun (shape self.old) stream) }
+        ensures passed { (spent self.new).passed ≤ (spent self.old).passed + cost_at (shape self.old) stream }
+        ensures asked { (spent self.new).asked ≤ (spent self.old).asked }
+        ensures told { IfErr result (λ fault. (spent self.new).fault ≡ Some fault) }
+        ensures moves { Moves self.old self.new }
         ensures reliable { IsTrue (shape self.old).is_reliable → IfErr result (λ _. ⊥) };
 
     /// The next record of the stream that was begun. Its name and parts can then be asked for.
@@ -124,6 +145,10 @@ pub trait DumpView {
         requires { 0 < (cursor self.old).records }
         ensures shape { shape self.new ≡ shape self.old }
         ensures gives { IfOk result (λ f. GivesRecord (cursor self.old) f (cursor self.new)) }
+        ensures passed { (spent self.new).passed ≤ (spent self.old).passed }
+        ensures asked { (spent self.new).asked ≤ (spent self.old).asked }
+        ensures told { IfErr result (λ fault. (spent self.new).fault ≡ Some fault) }
+        ensures moves { Moves self.old self.new }
         ensures reliable { IsTrue (shape self.old).is_reliable → IfErr result (λ _. ⊥) };
 
     /// The bytes of a part from a place on, as many as fit `out`: of the record given last the part of
@@ -135,8 +160,40 @@ pub trait DumpView {
         ensures cursor { OnOk result (cursor self.new ≡ cursor self.old) }
         ensures bytes { OnOk result ((parts : List (List ℕ)) → (cursor self.old).parts ≡ Some parts
             → out.new ≡ take (length out.old) (drop at (get_or parts which []))) }
+        ensures passed { (spent self.new).passed ≤ (spent self.old).passed }
+        ensures asked { (spent self.new).asked ≤ (spent self.old).asked + length out.old }
+        ensures told { IfErr result (λ fault. (spent self.new).fault ≡ Some fault) }
+        ensures moves { Moves self.old self.new }
         ensures reliable { IsTrue (shape self.old).is_reliable → IfErr result (λ _. ⊥) };
+
+    /// The costs of all passes that `rewind` began, in bytes. A pass over a stream costs what it may
+    /// fetch of a file: the bytes of the stream if its records are known, and 4 for each that may have
+    /// a name; of a value nothing.
+    fn passed(&mut self) -> u128
+        ensures value { result ≡ (spent self.old).passed }
+        ensures shape { shape self.new ≡ shape self.old }
+        ensures cursor { cursor self.new ≡ cursor self.old }
+        ensures spent { spent self.new ≡ spent self.old }
+        ensures moves { Moves self.old self.new };
+
+    /// How many bytes of names, parts and raw streams `part` was asked for; of a value none are
+    /// counted.
+    fn asked(&mut self) -> u128
+        ensures value { result ≡ (spent self.old).asked }
+        ensures shape { shape self.new ≡ shape self.old }
+        ensures cursor { cursor self.new ≡ cursor self.old }
+        ensures spent { spent self.new ≡ spent self.old }
+        ensures moves { Moves self.old self.new };
 
     // What it gives, where that is known, has its shape.
     ghost sound: { (v : Self) → IsSound (shape v) };
+
+    // Its records, where they are known, are of their streams' kinds, and their parts have the sizes
+    // that they tell.
+    ghost kinds: { (v : Self) → AreOfTheirKinds (shape v) };
+
+    // It is moved so by no call, and by calls one behind the other.
+    ghost stays: { (v : Self) → Moves v v };
+
+    ghost follows: { (u v w : Self) → Moves u v → Moves v w → Moves u w };
 }

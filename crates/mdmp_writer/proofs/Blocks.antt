@@ -18,7 +18,7 @@ use Rattle.mdmp_writer.proofs.Padded.{parts_none}
 -- ---- shapes
 
 pub known_stream : (s : Shape) (x : DumpSeen) (k : ℕ) → s.streams ≡ map shape_of x.streams → stream_at s k ≡ shape_of (seen_at x k)
-unfolding shape.rooms
+unfolding shape.rooms shape.all_bytes
 known_stream s x k e = ap (λ (ss : List StreamShape). get_or ss k unused_shape) e ∙ get_or-map shape_of x.streams k unused_seen
 
 pub begun_parts : (s : Shape) (x : DumpSeen) (k : ℕ) → s.seen ≡ Some x → (begun s k).parts ≡ Some ((seen_at x k).raw ∷ [])

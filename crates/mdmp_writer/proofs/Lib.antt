@@ -6,6 +6,7 @@ pub mod Forms
 pub mod Heads
 pub mod Loops
 pub mod Padded
+pub mod Passing
 pub mod Placing
 pub mod ReadBack
 pub mod Returns

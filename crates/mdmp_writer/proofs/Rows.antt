@@ -148,7 +148,7 @@ module _ (Z : Type 0) where
 
 -- one stream of this kind
 abbrev one_stream : Kind → ℕ → ℕ → List StreamShape
-one_stream kind raw parts = record { kind = kind; records = 0; raw = raw; parts = parts } ∷ []
+one_stream kind raw parts = record { kind = kind; records = 0; raw = raw; parts = parts; bytes = 0 } ∷ []
 
 -- the last address that the streams may end at, and the next
 last-address : shape_fault (one_stream (kinds.Raw 10) (2 ^ 32 - 48) 0) ≡ None

@@ -1,6 +1,7 @@
 -- Why a writer stops.
-use Rattle.std.specs.Prelude.{◌≡◌, Result, Ok, Err, Bool, IsFalse}
+use Rattle.std.specs.Prelude.{◌≡◌, Option, Some, Result, Ok, Err, Bool, IsFalse}
 use Rattle.mdmp_source.specs.Output.{HasRefused, OutState}
+use Rattle.mdmp_dump.specs.declared.view.ViewFault.{ViewFault}
 use Rattle.mdmp_writer.specs.declared.fault.WriteFault.{WriteFault}
 use Rattle.mdmp_writer.specs.declared.fault.WriteFault.TheVariants.{Layout, Out, View}
 
@@ -11,3 +12,10 @@ HasCause reliable (Ok x) before after = after.failures ≡ before.failures
 HasCause reliable (Err Out) before after = HasRefused before.failures after.failures
 HasCause reliable (Err (View fault)) before after = IsFalse reliable × (after.failures ≡ before.failures)
 HasCause reliable (Err (Layout fault)) before after = ⊥
+
+-- a fault of a view is the one that it answered last
+abbrev pub IsToldBy : {T : Type 0} → Result T WriteFault → Option ViewFault → Type 0
+IsToldBy (Ok x) last = Unit {0}
+IsToldBy (Err Out) last = Unit {0}
+IsToldBy (Err (View fault)) last = last ≡ Some fault
+IsToldBy (Err (Layout fault)) last = Unit {0}

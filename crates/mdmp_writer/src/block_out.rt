@@ -1,13 +1,14 @@
 //! A stream to an output: its body, and behind it its names and parts.
-ghost use Rattle.std.specs.Prelude.{◌≡◌, ◌<◌, ◌+◌, ◌^◌, Some, length};
+ghost use Rattle.std.specs.Prelude.{◌≡◌, ◌<◌, ◌≤◌, ◌+◌, ◌*◌, ◌^◌, Some, length};
 ghost use Rattle.mdmp_dump.specs.declared.view.Kind.TheVariants.{Known, Raw};
 ghost use Rattle.mdmp_dump.specs.Places.{up};
-ghost use Rattle.mdmp_dump.specs.Shape.{body_of, room_of, seen_at, stream_at};
+ghost use Rattle.mdmp_dump.specs.Shape.{body_of, cost_at, room_of, seen_at, stream_at};
 ghost use Rattle.mdmp_dump.specs.View.{DumpSeen};
 ghost use Rattle.mdmp_writer.specs.Block.{RecordsAreKnown};
 ghost use Rattle.mdmp_writer.specs.Gather.{gathered, Writes};
 ghost use Rattle.mdmp_writer.specs.Layout.{block_size};
-ghost use Rattle.mdmp_writer.specs.Cause.{HasCause};
+ghost use Rattle.mdmp_writer.specs.Cause.{HasCause, IsToldBy};
+ghost use Rattle.mdmp_writer.specs.Passes.{block_asks, block_passes, parts_asks, parts_passes};
 ghost use Rattle.mdmp_writer.specs.Written.{all_padded, block_text, padded, parts_of};
 
 use crate::body_out::put_body;
@@ -20,8 +21,8 @@ use crate::sizes::count_of;
 use mdmp_dump::{DumpView, Kind, PartSize};
 use mdmp_source::Out;
 
-/// Writes the names and parts of a stream of so many records.
-fn put_stream_parts<V: DumpView, O: Out>(
+/// Writes the names and parts of a stream of so many records, by a second pass over it.
+fn put_second_pass<V: DumpView, O: Out>(
     view: &mut V,
     out: &mut O,
     gather: &mut Gather<'_>,
@@ -35,11 +36,49 @@ fn put_stream_parts<V: DumpView, O: Out>(
     ensures writes { (x : DumpSeen) → (V.shape view.old).seen ≡ Some x
         → Writes result (gathered (O.state out.old) gather.old) (all_padded (parts_of (seen_at x stream).records)) (gathered (O.state out.new) gather.new) }
     ensures cause { HasCause (V.shape view.old).is_reliable result (O.state out.old) (O.state out.new) }
+    ensures passed { (V.spent view.new).passed ≤ (V.spent view.old).passed + cost_at (V.shape view.old) stream }
+    ensures asked { (V.spent view.new).asked ≤ (V.spent view.old).asked + (stream_at (V.shape view.old) stream).bytes }
+    ensures told { IsToldBy result (V.spent view.new).fault }
+    ensures moves { V.Moves view.old view.new }
 {
     match view.rewind(stream) {
         Ok(()) => put_parts(view, out, gather, count),
         Err(fault) => Err(WriteFault::View(fault)),
     }
+}
+
+/// Writes what stands behind the body of a stream of so many records of this type, its names and
+/// parts: by a second pass, where they take room there.
+fn put_stream_parts<V: DumpView, O: Out>(
+    view: &mut V,
+    out: &mut O,
+    gather: &mut Gather<'_>,
+    stream: u64,
+    stream_type: u32,
+    count: u64,
+) -> Result<(), WriteFault>
+    requires stream { stream < length (V.shape view.old).streams }
+    requires kind { (stream_at (V.shape view.old) stream).kind ≡ Known stream_type }
+    requires count { count ≡ (stream_at (V.shape view.old) stream).records }
+    requires room { room_of (stream_at (V.shape view.old) stream) < 2 ^ 32 }
+    ensures shape { V.shape view.new ≡ V.shape view.old }
+    ensures writes { (x : DumpSeen) → (V.shape view.old).seen ≡ Some x
+        → Writes result (gathered (O.state out.old) gather.old) (all_padded (parts_of (seen_at x stream).records)) (gathered (O.state out.new) gather.new) }
+    ensures cause { HasCause (V.shape view.old).is_reliable result (O.state out.old) (O.state out.new) }
+    ensures passed { (V.spent view.new).passed ≤ (V.spent view.old).passed + parts_passes (V.shape view.old) stream }
+    ensures asked { (V.spent view.new).asked ≤ (V.spent view.old).asked + parts_asks (V.shape view.old) stream }
+    ensures told { IsToldBy result (V.spent view.new).fault }
+    ensures moves { V.Moves view.old view.new }
+{
+    // The bytes of 64-bit memory stand behind all streams.
+    if stream_type == 9 {
+        return Ok(());
+    }
+    let parts = view.parts_size(stream);
+    if parts == 0 {
+        return Ok(());
+    }
+    put_second_pass(view, out, gather, stream, count)
 }
 
 /// Writes a stream of records of this type, whose body has so many bytes.
@@ -60,6 +99,10 @@ fn put_records<V: DumpView, O: Out>(
     ensures writes { (x : DumpSeen) → (V.shape view.old).seen ≡ Some x
         → Writes result (gathered (O.state out.old) gather.old) (block_text (seen_at x stream) place.at place.far) (gathered (O.state out.new) gather.new) }
     ensures cause { HasCause (V.shape view.old).is_reliable result (O.state out.old) (O.state out.new) }
+    ensures passed { (V.spent view.new).passed ≤ (V.spent view.old).passed + block_passes (V.shape view.old) stream }
+    ensures asked { (V.spent view.new).asked ≤ (V.spent view.old).asked + block_asks (V.shape view.old) stream }
+    ensures told { IsToldBy result (V.spent view.new).fault }
+    ensures moves { V.Moves view.old view.new }
 {
     let count = count_of(stream_type, body);
     let behind = Place {
@@ -68,7 +111,7 @@ fn put_records<V: DumpView, O: Out>(
     };
     match put_body(view, out, gather, stream, stream_type, count, behind) {
         Ok(()) => match put_padding(out, gather, body) {
-            Ok(()) => put_stream_parts(view, out, gather, stream, count),
+            Ok(()) => put_stream_parts(view, out, gather, stream, stream_type, count),
             Err(fault) => Err(fault),
         },
         Err(fault) => Err(fault),
@@ -89,6 +132,10 @@ fn put_raw<V: DumpView, O: Out>(
     ensures writes { (x : DumpSeen) → (V.shape view.old).seen ≡ Some x
         → Writes result (gathered (O.state out.old) gather.old) (padded (seen_at x stream).raw) (gathered (O.state out.new) gather.new) }
     ensures cause { HasCause (V.shape view.old).is_reliable result (O.state out.old) (O.state out.new) }
+    ensures passed { (V.spent view.new).passed ≤ (V.spent view.old).passed + cost_at (V.shape view.old) stream }
+    ensures asked { (V.spent view.new).asked ≤ (V.spent view.old).asked + size }
+    ensures told { IsToldBy result (V.spent view.new).fault }
+    ensures moves { V.Moves view.old view.new }
 {
     match view.rewind(stream) {
         Ok(()) => put_padded(view, out, gather, 0, PartSize::Size(size)),
@@ -110,6 +157,10 @@ pub(crate) fn put_block<V: DumpView, O: Out>(
     ensures writes { (x : DumpSeen) → (V.shape view.old).seen ≡ Some x → RecordsAreKnown (seen_at x stream)
         → Writes result (gathered (O.state out.old) gather.old) (block_text (seen_at x stream) place.at place.far) (gathered (O.state out.new) gather.new) }
     ensures cause { HasCause (V.shape view.old).is_reliable result (O.state out.old) (O.state out.new) }
+    ensures passed { (V.spent view.new).passed ≤ (V.spent view.old).passed + block_passes (V.shape view.old) stream }
+    ensures asked { (V.spent view.new).asked ≤ (V.spent view.old).asked + block_asks (V.shape view.old) stream }
+    ensures told { IsToldBy result (V.spent view.new).fault }
+    ensures moves { V.Moves view.old view.new }
 {
     let body = view.body_size(stream);
     match view.kind(stream) {

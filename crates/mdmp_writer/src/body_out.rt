@@ -1,9 +1,10 @@
 //! The body of a stream of records to an output.
-ghost use Rattle.std.specs.Prelude.{◌≡◌, ◌<◌, ◌+◌, ◌^◌, ◌++◌, Bool, Some, length};
-ghost use Rattle.mdmp_dump.specs.Shape.{room_of, seen_at, stream_at};
+ghost use Rattle.std.specs.Prelude.{◌≡◌, ◌<◌, ◌≤◌, ◌+◌, ◌^◌, ◌++◌, Bool, Option, Some, length};
+ghost use Rattle.mdmp_dump.specs.declared.view.ViewFault.{ViewFault};
+ghost use Rattle.mdmp_dump.specs.Shape.{cost_at, room_of, seen_at, stream_at};
 ghost use Rattle.mdmp_dump.specs.View.{DumpSeen};
 ghost use Rattle.mdmp_writer.specs.Gather.{gathered, Writes};
-ghost use Rattle.mdmp_writer.specs.Cause.{HasCause};
+ghost use Rattle.mdmp_writer.specs.Cause.{HasCause, IsToldBy};
 ghost use Rattle.mdmp_writer.specs.Written.{head_text, rows};
 
 use crate::fault::WriteFault;
@@ -27,6 +28,7 @@ fn put_head<O: Out>(
     requires { count < 2 ^ 32 }
     ensures writes { Writes result (gathered (O.state out.old) gather.old) (head_text stream_type count far) (gathered (O.state out.new) gather.new) }
     ensures cause { (reliable : Bool) → HasCause reliable result (O.state out.old) (O.state out.new) }
+    ensures told { (last : Option ViewFault) → IsToldBy result last }
 {
     match stream_type {
         3 => put_record(out, gather, &(count as u32)),
@@ -82,6 +84,10 @@ pub(crate) fn put_body<V: DumpView, O: Out>(
         → Writes result (gathered (O.state out.old) gather.old)
         (head_text stream_type count place.far ++ rows place.at (seen_at x stream).records) (gathered (O.state out.new) gather.new) }
     ensures cause { HasCause (V.shape view.old).is_reliable result (O.state out.old) (O.state out.new) }
+    ensures passed { (V.spent view.new).passed ≤ (V.spent view.old).passed + cost_at (V.shape view.old) stream }
+    ensures asked { (V.spent view.new).asked ≤ (V.spent view.old).asked }
+    ensures told { IsToldBy result (V.spent view.new).fault }
+    ensures moves { V.Moves view.old view.new }
 {
     match view.rewind(stream) {
         Ok(()) => match put_head(out, gather, stream_type, count, place.far) {

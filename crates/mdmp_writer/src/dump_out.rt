@@ -1,12 +1,13 @@
 //! A dump to an output.
-ghost use Rattle.std.specs.Prelude.{◌≡◌, ◌<◌, ◌++◌, None, Some, length};
+ghost use Rattle.std.specs.Prelude.{◌≡◌, ◌<◌, ◌≤◌, ◌+◌, ◌*◌, ◌++◌, None, Some, length};
 ghost use Rattle.mdmp_dump.specs.declared.dump.Dump.{Dump};
 ghost use Rattle.mdmp_dump.specs.Shape.{IsViewOf};
 ghost use Rattle.mdmp_dump.specs.View.{DumpSeen};
 ghost use Rattle.mdmp_writer.specs.Block.{AllAreKnown};
 ghost use Rattle.mdmp_writer.specs.Gather.{gathered, Writes};
 ghost use Rattle.mdmp_writer.specs.Layout.{AreEnds, blocks_end, first_block, shape_fault};
-ghost use Rattle.mdmp_writer.specs.Cause.{HasCause};
+ghost use Rattle.mdmp_writer.specs.Cause.{HasCause, IsToldBy};
+ghost use Rattle.mdmp_writer.specs.Passes.{all_asks, all_costs};
 ghost use Rattle.mdmp_writer.specs.Writing.{IsWritingOf, IsWritingOfDump};
 ghost use Rattle.mdmp_writer.specs.Written.{blocks, fars, text_of};
 
@@ -22,11 +23,12 @@ use mdmp_source::Out;
 /// Writes a dump to an output, from front to back, and answers how many bytes it has.
 ///
 /// Small pieces are gathered in `buffer`, which must not be empty, and parts are fetched into it: no
-/// memory is taken, and nothing that went out is written again. A dump that can't be written is
-/// refused before any byte goes out. Where the output refuses or the view answers a fault, a first part
-/// of the dump went out, perhaps none of it. The output is not flushed, and the view wants a `rewind`
-/// before it is asked for records again. Raw streams are written as their bytes: offsets in them are not
-/// moved.
+/// memory is taken, and nothing that went out is written again. Each stream is begun at most twice, and
+/// no more bytes are asked for than its names, parts and raw bytes have. A dump that can't be written
+/// is refused before any byte goes out. Where the output refuses or the view answers a fault, a first
+/// part of the dump went out, perhaps none of it. The output is not flushed, and the view wants a
+/// `rewind` before it is asked for records again. Raw streams are written as their bytes: offsets in
+/// them are not moved.
 pub fn write_dump<V: DumpView, O: Out>(
     view: &mut V,
     out: &mut O,
@@ -36,6 +38,10 @@ pub fn write_dump<V: DumpView, O: Out>(
     ensures shape { V.shape view.new ≡ V.shape view.old }
     ensures ends { IsWritingOf (V.shape view.old) result (O.state out.old) (O.state out.new) }
     ensures writes { (d : Dump V.Memory) → IsViewOf d (V.shape view.old) → IsWritingOfDump d result (O.state out.old) (O.state out.new) }
+    ensures passed { (V.spent view.new).passed ≤ (V.spent view.old).passed + 2 * all_costs (V.shape view.old) }
+    ensures asked { (V.spent view.new).asked ≤ (V.spent view.old).asked + all_asks (V.shape view.old) }
+    ensures told { IsToldBy result (V.spent view.new).fault }
+    ensures moves { V.Moves view.old view.new }
 {
     let ends = match layout(view) {
         Ok(ends) => ends,
@@ -64,6 +70,10 @@ fn put_dump<V: DumpView, O: Out>(
     ensures writes { (x : DumpSeen) → (V.shape view.old).seen ≡ Some x → AllAreKnown x
         → Writes result (gathered (O.state out.old) gather.old) (text_of x) (gathered (O.state out.new) gather.new) }
     ensures cause { HasCause (V.shape view.old).is_reliable result (O.state out.old) (O.state out.new) }
+    ensures passed { (V.spent view.new).passed ≤ (V.spent view.old).passed + 2 * all_costs (V.shape view.old) }
+    ensures asked { (V.spent view.new).asked ≤ (V.spent view.old).asked + all_asks (V.shape view.old) }
+    ensures told { IsToldBy result (V.spent view.new).fault }
+    ensures moves { V.Moves view.old view.new }
 {
     let header = view.header();
     let streams = view.streams();
@@ -97,6 +107,10 @@ fn put_streams<V: DumpView, O: Out>(
     ensures writes { (x : DumpSeen) → (V.shape view.old).seen ≡ Some x → AllAreKnown x
         → Writes result (gathered (O.state out.old) gather.old) (blocks x.streams first.at first.far ++ fars x.streams) (gathered (O.state out.new) gather.new) }
     ensures cause { HasCause (V.shape view.old).is_reliable result (O.state out.old) (O.state out.new) }
+    ensures passed { (V.spent view.new).passed ≤ (V.spent view.old).passed + 2 * all_costs (V.shape view.old) }
+    ensures asked { (V.spent view.new).asked ≤ (V.spent view.old).asked + all_asks (V.shape view.old) }
+    ensures told { IsToldBy result (V.spent view.new).fault }
+    ensures moves { V.Moves view.old view.new }
 {
     match put_blocks(view, out, gather, first) {
         Ok(()) => put_fars(view, out, gather),

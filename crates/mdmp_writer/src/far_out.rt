@@ -1,12 +1,13 @@
 //! 64-bit memory to an output.
-ghost use Rattle.std.specs.Prelude.{◌≡◌, ◌<◌, ◌^◌, List, Some, length};
+ghost use Rattle.std.specs.Prelude.{◌≡◌, ◌<◌, ◌≤◌, ◌+◌, ◌^◌, List, Some, length};
 ghost use Rattle.mdmp_dump.specs.declared.view.Kind.TheVariants.{Known};
 ghost use Rattle.mdmp_dump.specs.Seen.{Seen};
-ghost use Rattle.mdmp_dump.specs.Shape.{body_of, seen_at, stream_at};
+ghost use Rattle.mdmp_dump.specs.Shape.{body_of, cost_at, seen_at, stream_at};
 ghost use Rattle.mdmp_dump.specs.View.{DumpSeen};
 ghost use Rattle.mdmp_writer.specs.Gather.{gathered, Writes};
 ghost use Rattle.mdmp_writer.specs.Layout.{far_size};
-ghost use Rattle.mdmp_writer.specs.Cause.{HasCause};
+ghost use Rattle.mdmp_writer.specs.Cause.{HasCause, IsToldBy};
+ghost use Rattle.mdmp_writer.specs.Passes.{far_asks, far_passes};
 ghost use Rattle.mdmp_writer.specs.Written.{far_text, ranges_text};
 
 use crate::fault::WriteFault;
@@ -28,6 +29,10 @@ fn put_ranges<V: DumpView, O: Out>(
     ensures writes { (xs : List Seen) → (V.cursor view.old).seen ≡ Some xs → length xs ≡ count
         → Writes result (gathered (O.state out.old) gather.old) (ranges_text xs) (gathered (O.state out.new) gather.new) }
     ensures cause { HasCause (V.shape view.old).is_reliable result (O.state out.old) (O.state out.new) }
+    ensures passed { (V.spent view.new).passed ≤ (V.spent view.old).passed }
+    ensures asked { (V.spent view.new).asked ≤ (V.spent view.old).asked + (V.cursor view.old).bytes }
+    ensures told { IsToldBy result (V.spent view.new).fault }
+    ensures moves { V.Moves view.old view.new }
 {
     let mut left = count;
     while left > 0 {
@@ -63,6 +68,10 @@ fn put_memory<V: DumpView, O: Out>(
     ensures writes { (x : DumpSeen) → (V.shape view.old).seen ≡ Some x
         → Writes result (gathered (O.state out.old) gather.old) (far_text (seen_at x stream)) (gathered (O.state out.new) gather.new) }
     ensures cause { HasCause (V.shape view.old).is_reliable result (O.state out.old) (O.state out.new) }
+    ensures passed { (V.spent view.new).passed ≤ (V.spent view.old).passed + cost_at (V.shape view.old) stream }
+    ensures asked { (V.spent view.new).asked ≤ (V.spent view.old).asked + (stream_at (V.shape view.old) stream).bytes }
+    ensures told { IsToldBy result (V.spent view.new).fault }
+    ensures moves { V.Moves view.old view.new }
 {
     match view.rewind(stream) {
         Ok(()) => match put_ranges(view, out, gather, count) {
@@ -87,6 +96,10 @@ pub(crate) fn put_far<V: DumpView, O: Out>(
     ensures writes { (x : DumpSeen) → (V.shape view.old).seen ≡ Some x
         → Writes result (gathered (O.state out.old) gather.old) (far_text (seen_at x stream)) (gathered (O.state out.new) gather.new) }
     ensures cause { HasCause (V.shape view.old).is_reliable result (O.state out.old) (O.state out.new) }
+    ensures passed { (V.spent view.new).passed ≤ (V.spent view.old).passed + far_passes (V.shape view.old) stream }
+    ensures asked { (V.spent view.new).asked ≤ (V.spent view.old).asked + far_asks (V.shape view.old) stream }
+    ensures told { IsToldBy result (V.spent view.new).fault }
+    ensures moves { V.Moves view.old view.new }
 {
     match view.kind(stream) {
         Kind::Unused => Ok(()),

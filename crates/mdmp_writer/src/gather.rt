@@ -1,8 +1,9 @@
 //! The caller's buffer, in which small pieces of a text are gathered.
-ghost use Rattle.std.specs.Prelude.{◌≡◌, ◌≤◌, ◌<◌, ◌+◌, ◌-◌, ◌++◌, ℕ, List, [], length, take, drop, get_or, min, nat_lt, Bool, IsTrue, Some, IfErr, IfOk, OnOk, MatchResult};
+ghost use Rattle.std.specs.Prelude.{◌≡◌, ◌≤◌, ◌<◌, ◌+◌, ◌-◌, ◌++◌, ℕ, List, [], length, take, drop, get_or, min, nat_lt, Bool, Option, IsTrue, Some, IfErr, IfOk, OnOk, MatchResult};
 ghost use Rattle.mdmp_source.specs.Output.{refused_if};
+ghost use Rattle.mdmp_dump.specs.declared.view.ViewFault.{ViewFault};
 ghost use Rattle.mdmp_writer.specs.Gather.{gathered, Puts, Writes};
-ghost use Rattle.mdmp_writer.specs.Cause.{HasCause};
+ghost use Rattle.mdmp_writer.specs.Cause.{HasCause, IsToldBy};
 
 use crate::fault::WriteFault;
 use mdmp_dump::{DumpView, ViewFault};
@@ -43,6 +44,7 @@ impl<'b> Gather<'b> {
         ensures puts { Puts (gathered (O.state out.old) self.old) [] (gathered (O.state out.new) self.new) }
         ensures empties { OnOk result (self.new ≡ []) }
         ensures cause { (reliable : Bool) → HasCause reliable result (O.state out.old) (O.state out.new) }
+        ensures told { (last : Option ViewFault) → IsToldBy result last }
     {
         self.held = send_front(out, self.buffer, self.held);
         if self.held == 0 {
@@ -56,6 +58,7 @@ impl<'b> Gather<'b> {
     pub(crate) fn put<O: Out>(&mut self, out: &mut O, bytes: &[u8]) -> Result<(), WriteFault>
         ensures writes { Writes result (gathered (O.state out.old) self.old) bytes.now (gathered (O.state out.new) self.new) }
         ensures cause { (reliable : Bool) → HasCause reliable result (O.state out.old) (O.state out.new) }
+        ensures told { (last : Option ViewFault) → IsToldBy result last }
     {
         let mut at = self.hold(bytes);
         while at < bytes.len() {
@@ -95,6 +98,10 @@ impl<'b> Gather<'b> {
             → self.new ≡ self.old ++ take k (drop at (get_or parts which [])))
             (λ _. self.new ≡ self.old) }
         ensures reliable { IsTrue (V.shape view.old).is_reliable → IfErr result (λ _. ⊥) }
+        ensures passed { (V.spent view.new).passed ≤ (V.spent view.old).passed }
+        ensures asked { MatchResult result (λ k. (V.spent view.new).asked ≤ (V.spent view.old).asked + k) (λ _. (V.spent view.new).asked ≤ (V.spent view.old).asked + most) }
+        ensures told { IfErr result (λ fault. (V.spent view.new).fault ≡ Some fault) }
+        ensures moves { V.Moves view.old view.new }
     {
         let count = most.min((self.buffer.len() - self.held) as u64);
         if count == 0 {
@@ -164,6 +171,10 @@ fn fetch_behind<V: DumpView>(
         × ((parts : List (List ℕ)) → (V.cursor view.old).parts ≡ Some parts
         → take (held + count) buffer.new ≡ take held buffer.old ++ take count (drop at (get_or parts which [])))) }
     ensures reliable { IsTrue (V.shape view.old).is_reliable → IfErr result (λ _. ⊥) }
+    ensures passed { (V.spent view.new).passed ≤ (V.spent view.old).passed }
+    ensures asked { (V.spent view.new).asked ≤ (V.spent view.old).asked + count }
+    ensures told { IfErr result (λ fault. (V.spent view.new).fault ≡ Some fault) }
+    ensures moves { V.Moves view.old view.new }
 {
     view.part(which, at, &mut buffer[held..held + count])
 }

@@ -1,10 +1,11 @@
 //! The header of a dump and its directory to an output.
-ghost use Rattle.std.specs.Prelude.{◌≡◌, ◌<◌, ◌+◌, ◌^◌, length, Bool};
+ghost use Rattle.std.specs.Prelude.{◌≡◌, ◌<◌, ◌+◌, ◌^◌, length, Bool, Option};
+ghost use Rattle.mdmp_dump.specs.declared.view.ViewFault.{ViewFault};
 ghost use Rattle.mdmp_dump.specs.Shape.{body_of, stream_at};
 ghost use Rattle.mdmp_wire.specs.Header.{header_bytes};
 ghost use Rattle.mdmp_writer.specs.Gather.{gathered, Writes};
 ghost use Rattle.mdmp_writer.specs.Layout.{blocks_end, file_size, first_block};
-ghost use Rattle.mdmp_writer.specs.Cause.{HasCause};
+ghost use Rattle.mdmp_writer.specs.Cause.{HasCause, IsToldBy};
 ghost use Rattle.mdmp_writer.specs.Written.{directory, entry_of, header_of, type_by};
 
 use crate::fault::WriteFault;
@@ -25,6 +26,7 @@ pub(crate) fn put_header<O: Out>(
     requires { streams < 2 ^ 32 }
     ensures writes { Writes result (gathered (O.state out.old) gather.old) (header_bytes (header_of header streams)) (gathered (O.state out.new) gather.new) }
     ensures cause { (reliable : Bool) → HasCause reliable result (O.state out.old) (O.state out.new) }
+    ensures told { (last : Option ViewFault) → IsToldBy result last }
 {
     let header = Header {
         signature: Header::SIGNATURE,
@@ -56,6 +58,8 @@ fn entry_for<V: DumpView>(view: &mut V, stream: u64, at: u64) -> Entry
     requires body { body_of (stream_at (V.shape view.old) stream) < 2 ^ 32 }
     ensures shape { V.shape view.new ≡ V.shape view.old }
     ensures entry { result ≡ entry_of (stream_at (V.shape view.old) stream) at }
+    ensures spent { V.spent view.new ≡ V.spent view.old }
+    ensures moves { V.Moves view.old view.new }
 {
     let body = view.body_size(stream);
     let rva = if body == 0 { 0 } else { at };
@@ -81,6 +85,9 @@ pub(crate) fn put_directory<V: DumpView, O: Out>(
     ensures shape { V.shape view.new ≡ V.shape view.old }
     ensures writes { Writes result (gathered (O.state out.old) gather.old) (directory (V.shape view.old).streams first) (gathered (O.state out.new) gather.new) }
     ensures cause { (reliable : Bool) → HasCause reliable result (O.state out.old) (O.state out.new) }
+    ensures told { (last : Option ViewFault) → IsToldBy result last }
+    ensures spent { V.spent view.new ≡ V.spent view.old }
+    ensures moves { V.Moves view.old view.new }
 {
     let mut at = first;
     for stream in 0..view.streams() {

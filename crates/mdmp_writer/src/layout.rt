@@ -33,6 +33,8 @@ pub fn written_size<V: DumpView>(view: &mut V) -> Result<u64, LayoutFault>
     ensures cursor { V.cursor view.new ≡ V.cursor view.old }
     ensures answer { result ≡ size_answer (V.shape view.old).streams }
     ensures value { (d : Dump V.Memory) → IsViewOf d (V.shape view.old) → result ≡ size_or (written_size d) (layout_fault d) }
+    ensures spent { V.spent view.new ≡ V.spent view.old }
+    ensures moves { V.Moves view.old view.new }
 {
     match layout(view) {
         Ok(ends) => Ok(ends.file),
@@ -47,6 +49,8 @@ pub(crate) fn layout<V: DumpView>(view: &mut V) -> Result<Ends, LayoutFault>
     ensures ends { MatchResult result
         (λ ends. (shape_fault (V.shape view.old).streams ≡ None) × AreEnds (V.shape view.old).streams ends)
         (λ fault. shape_fault (V.shape view.old).streams ≡ Some fault) }
+    ensures spent { V.spent view.new ≡ V.spent view.old }
+    ensures moves { V.Moves view.old view.new }
 {
     if let Some(stream) = misnamed_stream(view) {
         return Err(LayoutFault::RawKnownType { stream });
@@ -76,6 +80,8 @@ fn misnamed_stream<V: DumpView>(view: &mut V) -> Option<u64>
     ensures shape { V.shape view.new ≡ V.shape view.old }
     ensures cursor { V.cursor view.new ≡ V.cursor view.old }
     ensures first { result ≡ first_misnamed 0 (V.shape view.old).streams }
+    ensures spent { V.spent view.new ≡ V.spent view.old }
+    ensures moves { V.Moves view.old view.new }
 {
     for stream in 0..view.streams() {
         if is_misnamed(view.kind(stream)) {
@@ -104,6 +110,8 @@ pub(crate) fn room_for<V: DumpView>(view: &mut V, stream: u64) -> Room
     ensures shape { V.shape view.new ≡ V.shape view.old }
     ensures cursor { V.cursor view.new ≡ V.cursor view.old }
     ensures room { IsRoom (stream_at (V.shape view.old) stream) (Some result) }
+    ensures spent { V.spent view.new ≡ V.spent view.old }
+    ensures moves { V.Moves view.old view.new }
 {
     let body = up(view.body_size(stream));
     let parts = view.parts_size(stream);
@@ -126,6 +134,8 @@ fn room_if<V: DumpView>(view: &mut V, stream: u64) -> Option<Room>
     ensures shape { V.shape view.new ≡ V.shape view.old }
     ensures cursor { V.cursor view.new ≡ V.cursor view.old }
     ensures room { IsRoom (stream_at (V.shape view.old) stream) result }
+    ensures spent { V.spent view.new ≡ V.spent view.old }
+    ensures moves { V.Moves view.old view.new }
 {
     let body = view.body_size(stream);
     let parts = view.parts_size(stream);
@@ -161,6 +171,8 @@ fn find_ends<V: DumpView>(view: &mut V) -> Option<Ends>
     ensures ends { MatchOption result
         (IsTrue (is_too_large (V.shape view.old).streams))
         (λ ends. IsFalse (is_too_large (V.shape view.old).streams) × AreEnds (V.shape view.old).streams ends) }
+    ensures spent { V.spent view.new ≡ V.spent view.old }
+    ensures moves { V.Moves view.old view.new }
 {
     let count = view.streams();
     let mut blocks = match directory_end(count) {

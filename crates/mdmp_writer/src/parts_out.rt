@@ -1,11 +1,11 @@
 //! The names and parts of records to an output.
 ghost use Rattle.std.specs.Prelude.{◌≡◌, ◌<◌, ◌≤◌, ◌+◌, ◌^◌, ◌++◌, ℕ, List, [], ◌∷◌, Some, length, get_or, OnOk};
-ghost use Rattle.mdmp_dump.specs.Placed.{fields_room, name_around, name_room, seen_parts, size_at, size_in};
+ghost use Rattle.mdmp_dump.specs.Placed.{fields_bytes, fields_room, name_around, name_room, seen_parts, size_at, size_in};
 ghost use Rattle.mdmp_dump.specs.Seen.{Seen};
 ghost use Rattle.mdmp_dump.specs.Shape.{IsSized};
 ghost use Rattle.mdmp_wire.specs.Number.{zeros};
 ghost use Rattle.mdmp_writer.specs.Gather.{gathered, Writes};
-ghost use Rattle.mdmp_writer.specs.Cause.{HasCause};
+ghost use Rattle.mdmp_writer.specs.Cause.{HasCause, IsToldBy};
 ghost use Rattle.mdmp_writer.specs.Written.{all_padded, padded, padding, parts_of};
 
 use crate::fault::WriteFault;
@@ -32,6 +32,10 @@ fn put_units<V: DumpView, O: Out>(
         → Writes result (gathered (O.state out.old) gather.old)
         (get_or parts 0 [] ++ zeros 2 ++ padding (4 + size + 2)) (gathered (O.state out.new) gather.new) }
     ensures cause { HasCause (V.shape view.old).is_reliable result (O.state out.old) (O.state out.new) }
+    ensures passed { (V.spent view.new).passed ≤ (V.spent view.old).passed }
+    ensures asked { (V.spent view.new).asked ≤ (V.spent view.old).asked + size }
+    ensures told { IsToldBy result (V.spent view.new).fault }
+    ensures moves { V.Moves view.old view.new }
 {
     match put_part(view, out, gather, 0, size) {
         Ok(()) => match put_record(out, gather, &0u16) {
@@ -56,6 +60,10 @@ fn put_name<V: DumpView, O: Out>(
     ensures writes { (parts : List (List ℕ)) → (V.cursor view.old).parts ≡ Some parts → length (get_or parts 0 []) ≡ size_in name
         → Writes result (gathered (O.state out.old) gather.old) (padded (name_around name (get_or parts 0 []))) (gathered (O.state out.new) gather.new) }
     ensures cause { HasCause (V.shape view.old).is_reliable result (O.state out.old) (O.state out.new) }
+    ensures passed { (V.spent view.new).passed ≤ (V.spent view.old).passed }
+    ensures asked { (V.spent view.new).asked ≤ (V.spent view.old).asked + size_in name }
+    ensures told { IsToldBy result (V.spent view.new).fault }
+    ensures moves { V.Moves view.old view.new }
 {
     match name {
         PartSize::NoPart => Ok(()),
@@ -86,6 +94,10 @@ fn put_two<V: DumpView, O: Out>(
         → Writes result (gathered (O.state out.old) gather.old)
         (all_padded (get_or parts which [] ∷ get_or parts (which + 1) [] ∷ [])) (gathered (O.state out.new) gather.new) }
     ensures cause { HasCause (V.shape view.old).is_reliable result (O.state out.old) (O.state out.new) }
+    ensures passed { (V.spent view.new).passed ≤ (V.spent view.old).passed }
+    ensures asked { (V.spent view.new).asked ≤ (V.spent view.old).asked + size_in first + size_in second }
+    ensures told { IsToldBy result (V.spent view.new).fault }
+    ensures moves { V.Moves view.old view.new }
 {
     match put_padded(view, out, gather, which, first) {
         Ok(()) => put_padded(view, out, gather, which + 1, second),
@@ -107,6 +119,10 @@ fn put_fields_parts<V: DumpView, O: Out>(
     ensures writes { (x : Seen) → (V.cursor view.old).parts ≡ Some x.parts → IsSized x → x.fields ≡ fields.now
         → Writes result (gathered (O.state out.old) gather.old) (all_padded (seen_parts x)) (gathered (O.state out.new) gather.new) }
     ensures cause { HasCause (V.shape view.old).is_reliable result (O.state out.old) (O.state out.new) }
+    ensures passed { (V.spent view.new).passed ≤ (V.spent view.old).passed }
+    ensures asked { (V.spent view.new).asked ≤ (V.spent view.old).asked + fields_bytes fields.now }
+    ensures told { IsToldBy result (V.spent view.new).fault }
+    ensures moves { V.Moves view.old view.new }
 {
     let [first, second, third] = fields.parts;
     match fields.wire {
@@ -137,6 +153,10 @@ pub(crate) fn put_parts<V: DumpView, O: Out>(
     ensures writes { (xs : List Seen) → (V.cursor view.old).seen ≡ Some xs → length xs ≡ count
         → Writes result (gathered (O.state out.old) gather.old) (all_padded (parts_of xs)) (gathered (O.state out.new) gather.new) }
     ensures cause { HasCause (V.shape view.old).is_reliable result (O.state out.old) (O.state out.new) }
+    ensures passed { (V.spent view.new).passed ≤ (V.spent view.old).passed }
+    ensures asked { (V.spent view.new).asked ≤ (V.spent view.old).asked + (V.cursor view.old).bytes }
+    ensures told { IsToldBy result (V.spent view.new).fault }
+    ensures moves { V.Moves view.old view.new }
 {
     let mut left = count;
     while left > 0 {

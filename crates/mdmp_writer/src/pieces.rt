@@ -1,8 +1,9 @@
 //! The bytes of parts to an output.
-ghost use Rattle.std.specs.Prelude.{◌≡◌, ◌<◌, ◌≤◌, ◌+◌, ℕ, List, [], Some, length, take, drop, get_or, Bool, IfOk, OnOk, MatchResult};
+ghost use Rattle.std.specs.Prelude.{◌≡◌, ◌<◌, ◌≤◌, ◌+◌, ℕ, List, [], Some, length, take, drop, get_or, Bool, Option, IfOk, OnOk, MatchResult};
+ghost use Rattle.mdmp_dump.specs.declared.view.ViewFault.{ViewFault};
 ghost use Rattle.mdmp_dump.specs.Placed.{size_in};
 ghost use Rattle.mdmp_writer.specs.Gather.{gathered, Puts, Writes};
-ghost use Rattle.mdmp_writer.specs.Cause.{HasCause};
+ghost use Rattle.mdmp_writer.specs.Cause.{HasCause, IsToldBy};
 ghost use Rattle.mdmp_writer.specs.Written.{padded, padding};
 
 use crate::fault::WriteFault;
@@ -29,6 +30,10 @@ fn fetch_more<V: DumpView, O: Out>(
         → Puts (gathered (O.state out.old) gather.old) (take k (drop at (get_or parts which []))) (gathered (O.state out.new) gather.new))
         (λ _. Puts (gathered (O.state out.old) gather.old) [] (gathered (O.state out.new) gather.new)) }
     ensures cause { HasCause (V.shape view.old).is_reliable result (O.state out.old) (O.state out.new) }
+    ensures passed { (V.spent view.new).passed ≤ (V.spent view.old).passed }
+    ensures asked { MatchResult result (λ k. (V.spent view.new).asked ≤ (V.spent view.old).asked + k) (λ _. (V.spent view.new).asked ≤ (V.spent view.old).asked + most) }
+    ensures told { IsToldBy result (V.spent view.new).fault }
+    ensures moves { V.Moves view.old view.new }
 {
     match gather.flush(out) {
         Ok(()) => match gather.fetch(view, which, at, most) {
@@ -53,6 +58,10 @@ pub(crate) fn put_part<V: DumpView, O: Out>(
     ensures writes { (parts : List (List ℕ)) → (V.cursor view.old).parts ≡ Some parts → length (get_or parts which []) ≡ size
         → Writes result (gathered (O.state out.old) gather.old) (get_or parts which []) (gathered (O.state out.new) gather.new) }
     ensures cause { HasCause (V.shape view.old).is_reliable result (O.state out.old) (O.state out.new) }
+    ensures passed { (V.spent view.new).passed ≤ (V.spent view.old).passed }
+    ensures asked { (V.spent view.new).asked ≤ (V.spent view.old).asked + size }
+    ensures told { IsToldBy result (V.spent view.new).fault }
+    ensures moves { V.Moves view.old view.new }
 {
     let mut at = match gather.fetch(view, which, 0, size) {
         Ok(count) => count,
@@ -75,6 +84,7 @@ pub(crate) fn put_padding<O: Out>(
 ) -> Result<(), WriteFault>
     ensures writes { Writes result (gathered (O.state out.old) gather.old) (padding size) (gathered (O.state out.new) gather.new) }
     ensures cause { (reliable : Bool) → HasCause reliable result (O.state out.old) (O.state out.new) }
+    ensures told { (last : Option ViewFault) → IsToldBy result last }
 {
     let zeros = [0u8; 3];
     let count = ((4 - size % 4) % 4) as usize;
@@ -95,6 +105,10 @@ pub(crate) fn put_padded<V: DumpView, O: Out>(
     ensures writes { (parts : List (List ℕ)) → (V.cursor view.old).parts ≡ Some parts → length (get_or parts which []) ≡ size_in part
         → Writes result (gathered (O.state out.old) gather.old) (padded (get_or parts which [])) (gathered (O.state out.new) gather.new) }
     ensures cause { HasCause (V.shape view.old).is_reliable result (O.state out.old) (O.state out.new) }
+    ensures passed { (V.spent view.new).passed ≤ (V.spent view.old).passed }
+    ensures asked { (V.spent view.new).asked ≤ (V.spent view.old).asked + size_in part }
+    ensures told { IsToldBy result (V.spent view.new).fault }
+    ensures moves { V.Moves view.old view.new }
 {
     let size = part.size();
     match put_part(view, out, gather, which, size) {

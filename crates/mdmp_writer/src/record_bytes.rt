@@ -1,8 +1,9 @@
 //! Records to an output.
-ghost use Rattle.std.specs.Prelude.{◌≤◌, Bool};
+ghost use Rattle.std.specs.Prelude.{◌≤◌, Bool, Option};
 ghost use Rattle.mdmp_wire.specs.AnyRecord.{any_bytes};
+ghost use Rattle.mdmp_dump.specs.declared.view.ViewFault.{ViewFault};
 ghost use Rattle.mdmp_writer.specs.Gather.{gathered, Writes};
-ghost use Rattle.mdmp_writer.specs.Cause.{HasCause};
+ghost use Rattle.mdmp_writer.specs.Cause.{HasCause, IsToldBy};
 
 use crate::fault::WriteFault;
 use crate::gather::Gather;
@@ -18,6 +19,7 @@ pub(crate) fn put_record<R: Record, O: Out>(
     requires { R.SIZE ≤ 168 }
     ensures writes { Writes result (gathered (O.state out.old) gather.old) (R.bytes_of value.now) (gathered (O.state out.new) gather.new) }
     ensures cause { (reliable : Bool) → HasCause reliable result (O.state out.old) (O.state out.new) }
+    ensures told { (last : Option ViewFault) → IsToldBy result last }
 {
     let mut buffer = [0; 168];
     let bytes = &mut buffer[..R::SIZE];
@@ -33,6 +35,7 @@ pub(crate) fn put_any<O: Out>(
 ) -> Result<(), WriteFault>
     ensures writes { Writes result (gathered (O.state out.old) gather.old) (any_bytes row.now) (gathered (O.state out.new) gather.new) }
     ensures cause { (reliable : Bool) → HasCause reliable result (O.state out.old) (O.state out.new) }
+    ensures told { (last : Option ViewFault) → IsToldBy result last }
 {
     match row {
         AnyRecord::Thread(thread) => put_record(out, gather, thread),

@@ -1,8 +1,8 @@
 //! The records of a stream to an output.
-ghost use Rattle.std.specs.Prelude.{◌≡◌, ◌<◌, ◌+◌, ◌^◌, List, Some, length};
+ghost use Rattle.std.specs.Prelude.{◌≡◌, ◌<◌, ◌≤◌, ◌+◌, ◌^◌, List, Some, length};
 ghost use Rattle.mdmp_dump.specs.Seen.{Seen};
 ghost use Rattle.mdmp_writer.specs.Gather.{gathered, Writes};
-ghost use Rattle.mdmp_writer.specs.Cause.{HasCause};
+ghost use Rattle.mdmp_writer.specs.Cause.{HasCause, IsToldBy};
 ghost use Rattle.mdmp_writer.specs.Written.{rows};
 
 use crate::fault::WriteFault;
@@ -25,6 +25,10 @@ pub(crate) fn put_rows<V: DumpView, O: Out>(
     ensures writes { (xs : List Seen) → (V.cursor view.old).seen ≡ Some xs → length xs ≡ count
         → Writes result (gathered (O.state out.old) gather.old) (rows at xs) (gathered (O.state out.new) gather.new) }
     ensures cause { HasCause (V.shape view.old).is_reliable result (O.state out.old) (O.state out.new) }
+    ensures passed { (V.spent view.new).passed ≤ (V.spent view.old).passed }
+    ensures asked { (V.spent view.new).asked ≤ (V.spent view.old).asked }
+    ensures told { IsToldBy result (V.spent view.new).fault }
+    ensures moves { V.Moves view.old view.new }
 {
     let mut place = at;
     let mut left = count;

@@ -1,10 +1,11 @@
 //! All streams to an output, and their 64-bit memory behind them.
-ghost use Rattle.std.specs.Prelude.{◌≡◌, ◌<◌, ◌^◌, Some};
+ghost use Rattle.std.specs.Prelude.{◌≡◌, ◌<◌, ◌≤◌, ◌+◌, ◌^◌, Some};
 ghost use Rattle.mdmp_dump.specs.View.{DumpSeen};
 ghost use Rattle.mdmp_writer.specs.Block.{AllAreKnown};
 ghost use Rattle.mdmp_writer.specs.Gather.{gathered, Writes};
 ghost use Rattle.mdmp_writer.specs.Layout.{blocks_end, file_size, first_block};
-ghost use Rattle.mdmp_writer.specs.Cause.{HasCause};
+ghost use Rattle.mdmp_writer.specs.Cause.{HasCause, IsToldBy};
+ghost use Rattle.mdmp_writer.specs.Passes.{all_block_asks, all_block_passes, all_far_asks, all_far_passes};
 ghost use Rattle.mdmp_writer.specs.Written.{blocks, fars};
 
 use crate::block_out::put_block;
@@ -31,6 +32,10 @@ pub(crate) fn put_blocks<V: DumpView, O: Out>(
     ensures writes { (x : DumpSeen) → (V.shape view.old).seen ≡ Some x → AllAreKnown x
         → Writes result (gathered (O.state out.old) gather.old) (blocks x.streams first.at first.far) (gathered (O.state out.new) gather.new) }
     ensures cause { HasCause (V.shape view.old).is_reliable result (O.state out.old) (O.state out.new) }
+    ensures passed { (V.spent view.new).passed ≤ (V.spent view.old).passed + all_block_passes (V.shape view.old) }
+    ensures asked { (V.spent view.new).asked ≤ (V.spent view.old).asked + all_block_asks (V.shape view.old) }
+    ensures told { IsToldBy result (V.spent view.new).fault }
+    ensures moves { V.Moves view.old view.new }
 {
     let mut at = first.at;
     let mut far = first.far;
@@ -59,6 +64,10 @@ pub(crate) fn put_fars<V: DumpView, O: Out>(
     ensures writes { (x : DumpSeen) → (V.shape view.old).seen ≡ Some x
         → Writes result (gathered (O.state out.old) gather.old) (fars x.streams) (gathered (O.state out.new) gather.new) }
     ensures cause { HasCause (V.shape view.old).is_reliable result (O.state out.old) (O.state out.new) }
+    ensures passed { (V.spent view.new).passed ≤ (V.spent view.old).passed + all_far_passes (V.shape view.old) }
+    ensures asked { (V.spent view.new).asked ≤ (V.spent view.old).asked + all_far_asks (V.shape view.old) }
+    ensures told { IsToldBy result (V.spent view.new).fault }
+    ensures moves { V.Moves view.old view.new }
 {
     for stream in 0..view.streams() {
         match put_far(view, out, gather, stream) {

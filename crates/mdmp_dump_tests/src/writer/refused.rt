@@ -1,5 +1,7 @@
 //! Dumps that can't be written, and why.
-ghost use Rattle.std.specs.Prelude.{[], ◌∷◌, false, None};
+ghost use Rattle.std.specs.Prelude.{◌≡◌, [], ◌∷◌, false, None, Some};
+ghost use Rattle.mdmp_source.specs.declared.fault.SourceFault.TheVariants.{Failed};
+ghost use Rattle.mdmp_dump.specs.declared.view.ViewFault.TheVariants.{Source};
 ghost use Rattle.mdmp_dump.specs.declared.view.Kind.TheVariants as kinds;
 ghost use Rattle.std.proofs.lemmas.Option.{none-some};
 
@@ -24,13 +26,18 @@ impl DumpView for Sizes {
     type Memory = Global;
 
     ghost shape = { λ v. record {
-      streams = record { kind = kinds.Raw v.stream_type; records = 0; raw = v.raw; parts = 0 }
-          ∷ record { kind = kinds.Known 9; records = 0; raw = 0; parts = v.far } ∷ [];
+      streams = record { kind = kinds.Raw v.stream_type; records = 0; raw = v.raw; parts = 0; bytes = 0 }
+          ∷ record { kind = kinds.Known 9; records = 0; raw = 0; parts = v.far; bytes = 0 } ∷ [];
+      costs = [];
       is_reliable = false;
       seen = None;
     } };
 
-    ghost cursor = { λ v. record { records = 1; room = 0; far = 0; seen = None; sizes = λ k. 0; parts = None } };
+    ghost cursor = { λ v. record { kind = kinds.Unused; records = 1; room = 0; far = 0; bytes = 0; seen = None; sizes = λ k. 0; parts = None } };
+
+    ghost spent = { λ v. record { passed = 0; asked = 0; fault = Some (Source (Failed 0)) } };
+
+    ghost Moves = { λ u v. Unit {0} };
 
     fn streams(&mut self) -> u64 {
         2
@@ -75,11 +82,27 @@ impl DumpView for Sizes {
         Err(no_bytes())
     }
 
+    fn passed(&mut self) -> u128 {
+        0
+    }
+
+    fn asked(&mut self) -> u128 {
+        0
+    }
+
     ghost sound = { λ v x known. absurd (none-some x known) };
+
+    ghost kinds = { λ v x k known. absurd (none-some x known) };
+
+    ghost stays = { λ v. tt };
+
+    ghost follows = { λ u v w p q. tt };
 }
 
 /// Sizes alone are known.
-fn no_bytes() -> ViewFault {
+fn no_bytes() -> ViewFault
+    ensures { result ≡ Source (Failed 0) }
+{
     ViewFault::Source(SourceFault::Failed { at: 0 })
 }
 

@@ -1,4 +1,5 @@
-//! Views that answer a fault, and what went out before it.
+//! A view whose calls are watched: what went out before one that answers a fault, and how often a
+//! writer begins its streams.
 ghost use Rattle.std.specs.Prelude.{false, None};
 ghost use Rattle.std.proofs.lemmas.Option.{none-some};
 
@@ -8,7 +9,7 @@ use crate::files::{LEAST, NAMED};
 use crate::same::assert_same;
 use mdmp_dump::{Dump, DumpView, Fields, HeaderFields, Kind, ViewFault};
 use mdmp_source::SourceFault;
-use mdmp_test_support::{MEMORY64, SIX, file_of_numbers};
+use mdmp_test_support::{MEMORY64, MODULE, OVERLAPPING, SIX, THRICE, file_of_numbers};
 use mdmp_writer::WriteFault;
 use std::alloc::Global;
 use std::process::Abort;
@@ -37,19 +38,46 @@ impl Calls {
     }
 }
 
-/// A view that gives what another one gives, but where a call fails. Its content counts as unknown.
+/// A view that gives what another one gives, but where a call fails; its content counts as unknown.
+/// It counts how often each of its first six streams was begun.
 #[derive(Drop)]
-struct Failing<V: DumpView> {
+struct Watched<V: DumpView> {
     inner: V,
     calls: Calls,
+    last: Option<ViewFault>,
+    begun: [u32; 6],
 }
 
-impl<V: DumpView> DumpView for Failing<V> {
+impl<V: DumpView> Watched<V> {
+    /// A view that fails at this call, counted from 0.
+    fn new(inner: V, fail_at: u64) -> Self {
+        Watched {
+            inner,
+            calls: Calls { made: 0, fail_at },
+            last: None,
+            begun: [0; 6],
+        }
+    }
+}
+
+impl<V: DumpView> DumpView for Watched<V> {
     type Memory = V::Memory;
 
     ghost shape = { λ v. record (V.shape v.inner) { is_reliable = false; seen = None } };
 
     ghost cursor = { λ v. record (V.cursor v.inner) { seen = None; parts = None } };
+
+    ghost spent = { λ v. record (V.spent v.inner) { fault = v.last } };
+
+    ghost Moves = { λ u v. V.Moves u.inner v.inner };
+
+    ghost sound = { λ v x known. absurd (none-some x known) };
+
+    ghost kinds = { λ v x k known. absurd (none-some x known) };
+
+    ghost stays = { λ v. V.stays v.inner };
+
+    ghost follows = { λ u v w. V.follows u.inner v.inner w.inner };
 
     fn streams(&mut self) -> u64 {
         self.inner.streams()
@@ -72,21 +100,43 @@ impl<V: DumpView> DumpView for Failing<V> {
     }
 
     fn rewind(&mut self, stream: u64) -> Result<(), ViewFault> {
-        self.calls.count()?;
-        self.inner.rewind(stream)
+        if stream < 6 {
+            let count = &mut self.begun[stream as usize];
+            *count = count.saturating_add(1);
+        }
+        let answer = match self.calls.count() {
+            Ok(()) => self.inner.rewind(stream),
+            Err(fault) => Err(fault),
+        };
+        self.last = answer.err();
+        answer
     }
 
     fn next_record(&mut self) -> Result<Fields, ViewFault> {
-        self.calls.count()?;
-        self.inner.next_record()
+        let answer = match self.calls.count() {
+            Ok(()) => self.inner.next_record(),
+            Err(fault) => Err(fault),
+        };
+        self.last = answer.err();
+        answer
     }
 
     fn part(&mut self, which: usize, at: u64, out: &mut [u8]) -> Result<(), ViewFault> {
-        self.calls.count()?;
-        self.inner.part(which, at, out)
+        let answer = match self.calls.count() {
+            Ok(()) => self.inner.part(which, at, out),
+            Err(fault) => Err(fault),
+        };
+        self.last = answer.err();
+        answer
     }
 
-    ghost sound = { λ v x known. absurd (none-some x known) };
+    fn passed(&mut self) -> u128 {
+        self.inner.passed()
+    }
+
+    fn asked(&mut self) -> u128 {
+        self.inner.asked()
+    }
 }
 
 /// Writes the dump of a file with each call of its view failing in turn: what went out is a first part
@@ -99,11 +149,7 @@ fn assert_first_parts(
     room: usize,
 ) -> Result<(), Fail> {
     for fail_at in 0..1000 {
-        let calls = Calls { made: 0, fail_at };
-        let mut view = Failing {
-            inner: dump.view(),
-            calls,
-        };
+        let mut view = Watched::new(dump.view(), fail_at);
         let mut out = open_out(alloc)?;
         let answer = write_view(&mut view, &mut out, room);
         if answer.is_ok() {
@@ -136,5 +182,86 @@ fn fault_in_64_bit_memory_leaves_a_first_part(rt: HostRuntime) -> Result<(), Fai
     for room in [1, 64] {
         assert_first_parts(&rt, rt.alloc(), &dump, &file, room)?;
     }
+    Ok(())
+}
+
+/// Writes a dump, and tells how often each of its first six streams was begun.
+fn begun_by(alloc: Global, dump: &Dump<Global>) -> Result<[u32; 6], Fail> {
+    let mut view = Watched::new(dump.view(), u64::MAX);
+    let mut out = open_out(alloc)?;
+    write_view(&mut view, &mut out, 64).map_err(|_| "a dump that is written")?;
+    Ok(view.begun)
+}
+
+#[test]
+fn streams_are_begun_twice_at_most(rt: HostRuntime) -> Result<(), Fail> {
+    let rows: [(&str, u32, &[u32], [u32; 6]); 9] = [
+        (
+            "six streams, two of them empty lists",
+            6,
+            &SIX,
+            [2, 2, 1, 2, 1, 1],
+        ),
+        ("threads without parts", 3, &THRICE, [1, 1, 1, 0, 0, 0]),
+        (
+            "a module with its name and parts",
+            1,
+            &MODULE,
+            [2, 0, 0, 0, 0, 0],
+        ),
+        ("memory", 1, &OVERLAPPING, [2, 0, 0, 0, 0, 0]),
+        (
+            "memory without bytes",
+            1,
+            &[5, 36, 44, 2, 0x1000, 0, 4, 0, 0x2000, 0, 0, 0],
+            [1, 0, 0, 0, 0, 0],
+        ),
+        (
+            "an unloaded module and its name",
+            1,
+            &[14, 36, 44, 12, 24, 1, 0, 0, 0, 0, 0, 80, 0, 0],
+            [2, 0, 0, 0, 0, 0],
+        ),
+        (
+            "a region of memory",
+            1,
+            &[16, 64, 44, 16, 48, 1, 0, 0, 0, 0, 0, 0, 0, 0, 0, 0, 0, 0, 0],
+            [1, 0, 0, 0, 0, 0],
+        ),
+        (
+            "a range of 64-bit memory, a byte, and no range",
+            3,
+            &[
+                9, 32, 68, 10, 1, 100, 9, 16, 104, // the directory
+                1, 0, 120, 0, 0x3000, 0, 2, 0, // one range
+                1, // the byte
+                0, 0, 124, 0, // no range
+                0x4847,
+            ],
+            [2, 1, 2, 0, 0, 0],
+        ),
+        (
+            "raw bytes, none and some",
+            4,
+            &[10, 5, 80, 0, 0, 0, 11, 0, 0, 12, 1, 88, 0x04030201, 5, 6],
+            [1, 0, 1, 1, 0, 0],
+        ),
+    ];
+    for (what, streams, numbers, begun) in rows {
+        let file = file_of_numbers(rt.alloc(), streams, numbers)?;
+        let dump = read(rt.alloc(), &file, NAMED, 18)?;
+        assert_eq!(rt; begun_by(rt.alloc(), &dump)?, begun, "{what}");
+    }
+    Ok(())
+}
+
+#[test]
+fn nothing_is_spent_of_a_value(rt: HostRuntime) -> Result<(), Fail> {
+    let file = file_of_numbers(rt.alloc(), 6, &SIX)?;
+    let six = read(rt.alloc(), &file, NAMED, 18)?;
+    let mut view = six.view();
+    let mut out = open_out(rt.alloc())?;
+    assert_same(&rt, write_view(&mut view, &mut out, 64), Ok(444));
+    assert_same(&rt, (view.passed(), view.asked()), (0, 0));
     Ok(())
 }

@@ -1,11 +1,55 @@
-use Rattle.std.proofs.Common.{◌∙◌, sym, ap}
-use Rattle.mdmp_dump.specs.Shape.{Cursor, seen_at}
-use Rattle.mdmp_writer.proofs.Blocks.{begun_seen, known_count}
+use Rattle.std.proofs.Common.{◌≡◌, ◌∙◌, List, ℕ, sym, ap, subst, arith, if◌then◌else◌}
+use Rattle.std.proofs.lemmas.Bool.{ne_eqb}
+use Rattle.mdmp_dump.specs.declared.view.Kind.{Kind}
+use Rattle.mdmp_dump.specs.declared.view.Kind.TheVariants.{Known}
+use Rattle.mdmp_dump.specs.Shape.{Shape, Spent, cost_at, is_far, room_of, stream_at}
+use Rattle.mdmp_writer.specs.Gather.{Puts, gathered}
+use Rattle.mdmp_writer.proofs.Passing.{near_asks, near_passes, near_room, no_second}
+use Rattle.mdmp_writer.proofs.Sending.{puts_nothing}
 use Rattle.mdmp_writer.proofs.block_out.put_stream_parts.Goals as goal
 
-pub returns-in-Ok-clause-writes : goal.returns-in-Ok-clause-writes
-returns-in-Ok-clause-writes g c x known =
+pub returns-then-stream_type-eq9-clause-writes : goal.returns-then-stream_type-eq9-clause-writes
+returns-then-stream_type-eq9-clause-writes g c x known =
     let s = g.V.DumpView.shape c.args.view.now in
     let k = c.args.stream in
-    c.put_parts.ensures.writes (seen_at x k).records (ap (λ (u : Cursor). u.seen) c.in-Ok.ensures.begins ∙ begun_seen s x k known)
-    (sym (known_count s x k c.args.count (g.met.V.DumpView.sound c.args.view.now x known) c.requires.count))
+    let before = gathered (g.O.Out.state c.args.out.now) c.args.gather.now in
+    let is : (stream_at s k).kind ≡ Known 9 = c.requires.kind ∙ ap Known c.if-stream_type-eq9.true in
+    let none : room_of (stream_at s k) ≡ 0 = ap (λ (o : Kind). if is_far o then 0 else (stream_at s k).parts) is in
+    subst (λ (t : List ℕ). Puts before t before)
+    (sym (no_second s x k (g.met.V.DumpView.sound c.args.view.now x known) (g.met.V.DumpView.kinds c.args.view.now x k known) none)) (puts_nothing before)
+
+pub returns-then-parts-eq0-clause-writes : goal.returns-then-parts-eq0-clause-writes
+returns-then-parts-eq0-clause-writes g c x known =
+    let s = g.V.DumpView.shape c.args.view.now in
+    let k = c.args.stream in
+    let before = gathered (g.O.Out.state c.args.out.now) c.args.gather.now in
+    let none : room_of (stream_at s k) ≡ 0 = near_room (stream_at s k) (omega (arith, c.parts_size-parts.ensures.size, c.if-parts-eq0.true)) in
+    subst (λ (t : List ℕ). Puts before t before)
+    (sym (no_second s x k (g.met.V.DumpView.sound c.args.view.now x known) (g.met.V.DumpView.kinds c.args.view.now x k known) none)) (puts_nothing before)
+
+pub returns-clause-writes : goal.returns-clause-writes
+returns-clause-writes g c x known = c.put_second_pass.ensures.writes x (ap (λ (t : Shape). t.seen) c.parts_size-parts.ensures.shape ∙ known)
+
+pub returns-clause-passed : goal.returns-clause-passed
+returns-clause-passed g c =
+    let s = g.V.DumpView.shape c.args.view.now in
+    let k = c.args.stream in
+    omega (
+      arith,
+      c.put_second_pass.ensures.passed,
+      ap (λ (t : Spent). t.passed) c.parts_size-parts.ensures.spent,
+      ap (λ (t : Shape). cost_at t k) c.parts_size-parts.ensures.shape,
+      near_passes s k c.args.stream_type c.requires.kind (ne_eqb c.args.stream_type 9 c.if-stream_type-eq9.false),
+    )
+
+pub returns-clause-asked : goal.returns-clause-asked
+returns-clause-asked g c =
+    let s = g.V.DumpView.shape c.args.view.now in
+    let k = c.args.stream in
+    omega (
+      arith,
+      c.put_second_pass.ensures.asked,
+      ap (λ (t : Spent). t.asked) c.parts_size-parts.ensures.spent,
+      ap (λ (t : Shape). (stream_at t k).bytes) c.parts_size-parts.ensures.shape,
+      near_asks s k c.args.stream_type c.requires.kind (ne_eqb c.args.stream_type 9 c.if-stream_type-eq9.false),
+    )

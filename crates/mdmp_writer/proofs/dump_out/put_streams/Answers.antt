@@ -1,6 +1,8 @@
-use Rattle.std.proofs.Common.{◌∙◌, ap}
+use Rattle.std.proofs.Common.{◌∙◌, ap, arith}
 use Rattle.mdmp_dump.specs.Shape.{Shape}
+use Rattle.mdmp_writer.specs.Passes.{all_far_asks, all_far_passes}
 use Rattle.mdmp_writer.specs.Written.{blocks, fars}
+use Rattle.mdmp_writer.proofs.Passing.{asks_within, passes_within}
 use Rattle.mdmp_writer.proofs.Sending.{writes_then}
 use Rattle.mdmp_writer.proofs.dump_out.put_streams.Goals as goal
 
@@ -8,3 +10,29 @@ pub returns-in-Ok-clause-writes : goal.returns-in-Ok-clause-writes
 returns-in-Ok-clause-writes g c x known all =
     writes_then c.put_fars.result _ _ _ (blocks x.streams c.args.first.at c.args.first.far) (fars x.streams) (c.in-Ok.ensures.writes x known all)
     (c.put_fars.ensures.writes x (ap (λ (s : Shape). s.seen) c.put_blocks.ensures.shape ∙ known))
+
+pub returns-in-Ok-clause-passed : goal.returns-in-Ok-clause-passed
+returns-in-Ok-clause-passed g c =
+    omega (
+      arith,
+      c.in-Ok.ensures.passed,
+      c.put_fars.ensures.passed,
+      ap (λ (s : Shape). all_far_passes s) c.put_blocks.ensures.shape,
+      passes_within (g.V.DumpView.shape c.args.view.now),
+    )
+
+pub returns-in-Ok-clause-asked : goal.returns-in-Ok-clause-asked
+returns-in-Ok-clause-asked g c =
+    omega (
+      arith,
+      c.in-Ok.ensures.asked,
+      c.put_fars.ensures.asked,
+      ap (λ (s : Shape). all_far_asks s) c.put_blocks.ensures.shape,
+      asks_within (g.V.DumpView.shape c.args.view.now),
+    )
+
+pub returns-in-Err-clause-passed : goal.returns-in-Err-clause-passed
+returns-in-Err-clause-passed g c = omega (arith, c.in-Err.ensures.passed, passes_within (g.V.DumpView.shape c.args.view.now))
+
+pub returns-in-Err-clause-asked : goal.returns-in-Err-clause-asked
+returns-in-Err-clause-asked g c = omega (arith, c.in-Err.ensures.asked, asks_within (g.V.DumpView.shape c.args.view.now))

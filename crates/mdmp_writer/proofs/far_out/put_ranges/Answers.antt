@@ -11,6 +11,9 @@ pub loop-left-init : goal.loop-left-init
 loop-left-init g c = record {
   shape = refl;
   count = sym c.requires;
+  passed = omega arith;
+  asked = omega arith;
+  moves = g.met.V.DumpView.stays _;
   ranges = λ xs known len. rest_begin _ ranges_text xs _ _ known len;
   steady = refl;
 }
@@ -41,6 +44,9 @@ loop-left-preserved g c =
     record {
       shape = c.put_part.ensures.shape ∙ c.next_record.ensures.shape ∙ c.loop-left.invariant.shape;
       count = rw stays (omega (arith, gives.records, c.loop-left.invariant.count));
+      passed = omega (arith, c.loop-left.invariant.passed, c.in-Ok.ensures.passed, c.in-Ok-put_part.ensures.passed);
+      asked = rw stays (omega (arith, c.loop-left.invariant.asked, c.in-Ok.ensures.asked, c.in-Ok-put_part.ensures.asked, gives.bytes, c.size.ensures));
+      moves = g.met.V.DumpView.follows _ _ _ c.loop-left.invariant.moves (g.met.V.DumpView.follows _ _ _ c.in-Ok.ensures.moves c.in-Ok-put_part.ensures.moves);
       ranges = λ xs known len.
           let n = next_of old new c.in-Ok.fields c.loop-left.left _ (c.loop-left.invariant.ranges xs known len) gives in
           ranges_put _ _ _ _ new now c.in-Ok.fields _ c.loop-left.left n (omega arith) (ap (λ (k : Cursor). k.seen) stays)
@@ -50,3 +56,14 @@ loop-left-preserved g c =
 
 pub returns-clause-writes : goal.returns-clause-writes
 returns-clause-writes g c xs known len = ranges_done _ _ _ c.loop-left.left _ (omega arith) (c.loop-left.invariant.ranges xs known len)
+
+pub returns-in-Err-clause-moves : goal.returns-in-Err-clause-moves
+returns-in-Err-clause-moves g c = g.met.V.DumpView.follows _ _ _ c.loop-left.invariant.moves c.in-Err.ensures.moves
+
+pub returns-in-Err-put_part-clause-moves : goal.returns-in-Err-put_part-clause-moves
+returns-in-Err-put_part-clause-moves g c =
+    g.met.V.DumpView.follows _ _ _ c.loop-left.invariant.moves (g.met.V.DumpView.follows _ _ _ c.in-Ok.ensures.moves c.in-Err-put_part.ensures.moves)
+
+pub returns-in-Err-put_part-clause-asked : goal.returns-in-Err-put_part-clause-asked
+returns-in-Err-put_part-clause-asked g c =
+    omega (arith, c.loop-left.invariant.asked, c.in-Ok.ensures.asked, c.in-Err-put_part.ensures.asked, c.in-Ok.ensures.gives.bytes, c.size.ensures)

@@ -10,6 +10,8 @@ use Rattle.mdmp_writer.proofs.head_out.put_directory.Goals as goal
 pub loop-stream-init : goal.loop-stream-init
 loop-stream-init g c = record {
   shape = c.streams-stream-end.ensures.shape;
+  spent = c.streams-stream-end.ensures.spent;
+  moves = c.streams-stream-end.ensures.moves;
   steady = refl;
   at = omega (arith, c.requires.first);
   left = left_begin _ _;
@@ -62,6 +64,8 @@ loop-stream-preserved g c =
     let room : c.room_for-room.result.block ≡ block_size (stream_at s k) = c.room_for-room.ensures.room.0 ∙ ap (λ (t : Shape). block_size (stream_at t k)) c.loop-stream.invariant.shape in
     record {
       shape = c.entry_for-entry.ensures.shape ∙ c.room_for-room.ensures.shape ∙ c.loop-stream.invariant.shape;
+      spent = c.entry_for-entry.ensures.spent ∙ c.room_for-room.ensures.spent ∙ c.loop-stream.invariant.spent;
+      moves = g.met.V.DumpView.follows _ _ _ c.loop-stream.invariant.moves (g.met.V.DumpView.follows _ _ _ c.room_for-room.ensures.moves c.entry_for-entry.ensures.moves);
       steady = c.in-Ok.ensures.cause true ∙ c.loop-stream.invariant.steady;
       at = omega (arith, room, blocks_next s k fewer, c.loop-stream.invariant.at);
       left = entry_put s k at _ c.entry_for-entry.result _ _ _ _ fewer is (ap (λ (n : ℕ). at + n) room) c.loop-stream.invariant.left c.in-Ok.ensures.writes;
@@ -72,3 +76,6 @@ returns-clause-writes g c =
     let s = g.V.DumpView.shape c.args.view.now in
     let past : length s.streams ≤ c.loop-stream.stream = omega (arith, c.loop-stream-test.false, c.streams-stream-end.ensures.count) in
     left_none _ _ _ _ (directory_none s c.loop-stream.stream c.loop-stream.at past) c.loop-stream.invariant.left
+
+pub returns-in-Err-clause-moves : goal.returns-in-Err-clause-moves
+returns-in-Err-clause-moves g c = g.met.V.DumpView.follows _ _ _ c.loop-stream.invariant.moves (g.met.V.DumpView.follows _ _ _ c.room_for-room.ensures.moves c.entry_for-entry.ensures.moves)

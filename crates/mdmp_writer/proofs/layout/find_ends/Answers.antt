@@ -37,6 +37,8 @@ loop-stream-preserved g c =
     record {
       shape = c.room_if.ensures.shape ∙ c.loop-stream.invariant.shape;
       cursor = c.room_if.ensures.cursor ∙ c.loop-stream.invariant.cursor;
+      spent = c.room_if.ensures.spent ∙ c.loop-stream.invariant.spent;
+      moves = g.met.V.DumpView.follows _ _ _ c.loop-stream.invariant.moves c.room_if.ensures.moves;
       low = omega (arith, c.from.ensures, c.if-room-from.false);
       blocks = omega (arith, is.0, blocks_next s k fewer, c.loop-stream.invariant.blocks);
       far = omega (arith, is.1, fars_next s k fewer, c.loop-stream.invariant.far);

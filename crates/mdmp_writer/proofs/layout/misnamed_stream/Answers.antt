@@ -17,6 +17,8 @@ loop-stream-preserved g c =
     record {
       shape = c.kind.ensures.shape ∙ c.loop-stream.invariant.shape;
       cursor = c.kind.ensures.cursor ∙ c.loop-stream.invariant.cursor;
+      spent = c.kind.ensures.spent ∙ c.loop-stream.invariant.spent;
+      moves = g.met.V.DumpView.follows _ _ _ c.loop-stream.invariant.moves c.kind.ensures.moves;
       first = sym (misnamed_later s c.loop-stream.stream (omega (arith, c.loop-stream-test.true, c.streams-stream-end.ensures.count)) is) ∙ c.loop-stream.invariant.first;
     }
 

@@ -1,4 +1,4 @@
-use Rattle.std.proofs.Common.{◌≡◌, ◌∙◌, List, Err, arith, refl, sym, ap}
+use Rattle.std.proofs.Common.{◌≡◌, ◌<◌, ◌-◌, ◌^◌, ◌∙◌, List, Err, arith, refl, sym, ap}
 use Rattle.mdmp_dump.specs.Seen.{Seen}
 use Rattle.mdmp_dump.specs.Shape.{Cursor, Shape}
 use Rattle.mdmp_writer.specs.Written.{all_padded, parts_of}
@@ -11,6 +11,9 @@ loop-left-init g c = record {
   shape = refl;
   count = sym c.requires.count;
   room = omega arith;
+  passed = omega arith;
+  asked = omega arith;
+  moves = g.met.V.DumpView.stays _;
   parts = λ xs known len. rest_begin _ (λ (ys : List Seen). all_padded (parts_of ys)) xs _ _ known len;
   steady = refl;
 }
@@ -38,10 +41,14 @@ loop-left-preserved g c =
     let now = g.V.DumpView.cursor c.put_fields_parts.new.view in
     let stays : now ≡ new = c.in-Ok-put_fields_parts.ensures.cursor in
     let gives = c.in-Ok.ensures.gives in
+    let low : old.room < 2 ^ 64 - 1 = omega (arith, c.loop-left.invariant.room, c.requires.room) in
     record {
       shape = c.put_fields_parts.ensures.shape ∙ c.next_record.ensures.shape ∙ c.loop-left.invariant.shape;
       count = rw stays (omega (arith, gives.records, c.loop-left.invariant.count));
-      room = rw stays (omega (arith, gives.room, c.loop-left.invariant.room));
+      room = rw stays (omega (arith, gives.room low, c.loop-left.invariant.room));
+      passed = omega (arith, c.loop-left.invariant.passed, c.in-Ok.ensures.passed, c.in-Ok-put_fields_parts.ensures.passed);
+      asked = rw stays (omega (arith, c.loop-left.invariant.asked, c.in-Ok.ensures.asked, c.in-Ok-put_fields_parts.ensures.asked, gives.bytes));
+      moves = g.met.V.DumpView.follows _ _ _ c.loop-left.invariant.moves (g.met.V.DumpView.follows _ _ _ c.in-Ok.ensures.moves c.in-Ok-put_fields_parts.ensures.moves);
       parts = λ xs known len.
           let n = next_of old new c.in-Ok.fields c.loop-left.left _ (c.loop-left.invariant.parts xs known len) gives in
           parts_put _ _ _ _ new now c.in-Ok.fields _ c.loop-left.left n (omega arith) (ap (λ (k : Cursor). k.seen) stays)
@@ -51,3 +58,20 @@ loop-left-preserved g c =
 
 pub returns-clause-writes : goal.returns-clause-writes
 returns-clause-writes g c xs known len = parts_done _ _ _ c.loop-left.left _ (omega arith) (c.loop-left.invariant.parts xs known len)
+
+pub put_fields_parts-requires-clause-room : goal.put_fields_parts-requires-clause-room
+put_fields_parts-requires-clause-room g c =
+    let old = g.V.DumpView.cursor c.loop-left.view in
+    let low : old.room < 2 ^ 64 - 1 = omega (arith, c.loop-left.invariant.room, c.requires.room) in
+    omega (arith, c.in-Ok.ensures.gives.room low, c.loop-left.invariant.room, c.requires.room)
+
+pub returns-in-Err-clause-moves : goal.returns-in-Err-clause-moves
+returns-in-Err-clause-moves g c = g.met.V.DumpView.follows _ _ _ c.loop-left.invariant.moves c.in-Err.ensures.moves
+
+pub returns-in-Err-put_fields_parts-clause-moves : goal.returns-in-Err-put_fields_parts-clause-moves
+returns-in-Err-put_fields_parts-clause-moves g c =
+    g.met.V.DumpView.follows _ _ _ c.loop-left.invariant.moves (g.met.V.DumpView.follows _ _ _ c.in-Ok.ensures.moves c.in-Err-put_fields_parts.ensures.moves)
+
+pub returns-in-Err-put_fields_parts-clause-asked : goal.returns-in-Err-put_fields_parts-clause-asked
+returns-in-Err-put_fields_parts-clause-asked g c =
+    omega (arith, c.loop-left.invariant.asked, c.in-Ok.ensures.asked, c.in-Err-put_fields_parts.ensures.asked, c.in-Ok.ensures.gives.bytes)

@@ -1,4 +1,4 @@
-use Rattle.std.proofs.Common.{◌≡◌, ◌≤◌, List, Some, length}
+use Rattle.std.proofs.Common.{◌≡◌, ◌≤◌, ◌+◌, List, Some, length}
 use Rattle.mdmp_dump.specs.Seen.{Seen}
 use Rattle.mdmp_writer.specs.Gather.{gathered}
 use Rattle.mdmp_writer.specs.Written.{all_padded, parts_of}
@@ -12,6 +12,9 @@ invariant-loop-left g l =
       shape : g.V.DumpView.shape l.view ≡ g.V.DumpView.shape l.fn.view;
       count : (g.V.DumpView.cursor l.view).records ≡ l.left;
       room : (g.V.DumpView.cursor l.view).room ≤ (g.V.DumpView.cursor l.fn.view).room;
+      passed : (g.V.DumpView.spent l.view).passed ≤ (g.V.DumpView.spent l.fn.view).passed;
+      asked : (g.V.DumpView.spent l.view).asked + (g.V.DumpView.cursor l.view).bytes ≤ (g.V.DumpView.spent l.fn.view).asked + (g.V.DumpView.cursor l.fn.view).bytes;
+      moves : g.V.DumpView.Moves l.fn.view l.view;
       parts : (xs : List Seen) → (g.V.DumpView.cursor l.fn.view).seen ≡ Some xs → length xs ≡ l.count
           → RestIs (g.V.DumpView.cursor l.view).seen l.left (PartsLeft (gathered (state l.fn.out) l.fn.gather) (all_padded (parts_of xs)) (gathered (state l.out) l.gather));
       steady : (state l.out).failures ≡ (state l.fn.out).failures;

@@ -14,6 +14,9 @@ loop-at-preserved g c =
       shape = c.fetch_more.ensures.shape ∙ so_far.shape;
       cursor = more.bound.2 ∙ so_far.cursor;
       within = omega (arith, more.bound);
+      passed = omega (arith, so_far.passed, more.passed);
+      asked = omega (arith, so_far.asked, more.asked);
+      moves = g.met.V.DumpView.follows _ _ _ so_far.moves more.moves;
       puts = λ ps known. puts_piece _ _ _ (get_or ps c.args.which []) c.loop-at.at c.in-Ok-fetch_more.count (so_far.puts ps known)
           (more.puts ps (ap (λ (k : Cursor). k.parts) so_far.cursor ∙ known));
       steady = more.cause ∙ so_far.steady;
@@ -22,3 +25,6 @@ loop-at-preserved g c =
 pub returns-in-Err-fetch_more-clause-writes : goal.returns-in-Err-fetch_more-clause-writes
 returns-in-Err-fetch_more-clause-writes g c ps known len =
     cut_at _ _ _ (get_or ps c.args.which []) c.loop-at.at (c.loop-at.invariant.puts ps known) c.in-Err-fetch_more.ensures.puts
+
+pub returns-in-Err-fetch_more-clause-moves : goal.returns-in-Err-fetch_more-clause-moves
+returns-in-Err-fetch_more-clause-moves g c = g.met.V.DumpView.follows _ _ _ c.loop-at.invariant.moves c.in-Err-fetch_more.ensures.moves

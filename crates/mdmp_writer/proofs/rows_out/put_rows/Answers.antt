@@ -1,4 +1,4 @@
-use Rattle.std.proofs.Common.{◌+◌, ◌∙◌, ℕ, arith, refl, sym, ap, true, Err}
+use Rattle.std.proofs.Common.{◌<◌, ◌+◌, ◌-◌, ◌^◌, ◌∙◌, ℕ, arith, refl, sym, ap, true, Err}
 use Rattle.mdmp_writer.specs.Written.{rows}
 use Rattle.mdmp_writer.proofs.Causes.{cause_after}
 use Rattle.mdmp_writer.proofs.Loops.{next_of, rest_begin, row_cut, row_put, rows_stop, rows_done}
@@ -9,6 +9,9 @@ loop-left-init g c = record {
   shape = refl;
   count = sym c.requires.count;
   room = refl;
+  passed = omega arith;
+  asked = omega arith;
+  moves = g.met.V.DumpView.stays _;
   rows = λ xs known len. rest_begin _ (rows c.args.at) xs _ _ known len;
   steady = refl;
 }
@@ -32,10 +35,14 @@ loop-left-preserved g c =
     let old = g.V.DumpView.cursor c.loop-left.view in
     let new = g.V.DumpView.cursor c.next_record.new.self in
     let gives = c.in-Ok.ensures.gives in
+    let low : old.room < 2 ^ 64 - 1 = omega (arith, c.loop-left.invariant.room, c.requires.room) in
     record {
       shape = c.next_record.ensures.shape ∙ c.loop-left.invariant.shape;
       count = omega (arith, gives.records, c.loop-left.invariant.count);
-      room = omega (arith, gives.room, c.loop-left.invariant.room, c.room.ensures.value);
+      room = omega (arith, gives.room low, c.loop-left.invariant.room, c.room.ensures.value);
+      passed = omega (arith, c.loop-left.invariant.passed, c.in-Ok.ensures.passed);
+      asked = omega (arith, c.loop-left.invariant.asked, c.in-Ok.ensures.asked);
+      moves = g.met.V.DumpView.follows _ _ _ c.loop-left.invariant.moves c.in-Ok.ensures.moves;
       rows = λ xs known len. row_put _ _ _ _ new c.in-Ok.fields c.loop-left.place _ _ c.loop-left.left
           (next_of old new c.in-Ok.fields c.loop-left.left _ (c.loop-left.invariant.rows xs known len) gives) (omega arith)
           (ap (λ (n : ℕ). c.loop-left.place + n) c.room.ensures.value) (rw c.placed.ensures at c.in-Ok-put_any.ensures.writes);
@@ -44,3 +51,15 @@ loop-left-preserved g c =
 
 pub returns-clause-writes : goal.returns-clause-writes
 returns-clause-writes g c xs known len = rows_done _ _ _ c.loop-left.place c.loop-left.left _ (omega arith) (c.loop-left.invariant.rows xs known len)
+
+pub placed-requires : goal.placed-requires
+placed-requires g c =
+    let old = g.V.DumpView.cursor c.loop-left.view in
+    let low : old.room < 2 ^ 64 - 1 = omega (arith, c.loop-left.invariant.room, c.requires.room) in
+    omega (arith, c.in-Ok.ensures.gives.room low, c.loop-left.invariant.room, c.requires.room)
+
+pub returns-in-Err-clause-moves : goal.returns-in-Err-clause-moves
+returns-in-Err-clause-moves g c = g.met.V.DumpView.follows _ _ _ c.loop-left.invariant.moves c.in-Err.ensures.moves
+
+pub returns-in-Err-put_any-clause-moves : goal.returns-in-Err-put_any-clause-moves
+returns-in-Err-put_any-clause-moves g c = g.met.V.DumpView.follows _ _ _ c.loop-left.invariant.moves c.in-Ok.ensures.moves

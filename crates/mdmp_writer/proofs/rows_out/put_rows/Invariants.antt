@@ -1,4 +1,4 @@
-use Rattle.std.proofs.Common.{◌≡◌, ◌+◌, List, Some, length}
+use Rattle.std.proofs.Common.{◌≡◌, ◌≤◌, ◌+◌, List, Some, length}
 use Rattle.mdmp_dump.specs.Seen.{Seen}
 use Rattle.mdmp_writer.specs.Gather.{gathered}
 use Rattle.mdmp_writer.specs.Written.{rows}
@@ -11,6 +11,9 @@ invariant-loop-left g l =
     record {
       shape : g.V.DumpView.shape l.view ≡ g.V.DumpView.shape l.fn.view;
       count : (g.V.DumpView.cursor l.view).records ≡ l.left;
+      passed : (g.V.DumpView.spent l.view).passed ≤ (g.V.DumpView.spent l.fn.view).passed;
+      asked : (g.V.DumpView.spent l.view).asked ≤ (g.V.DumpView.spent l.fn.view).asked;
+      moves : g.V.DumpView.Moves l.fn.view l.view;
       room : l.place + (g.V.DumpView.cursor l.view).room ≡ l.at + (g.V.DumpView.cursor l.fn.view).room;
       rows : (xs : List Seen) → (g.V.DumpView.cursor l.fn.view).seen ≡ Some xs → length xs ≡ l.count
           → RestIs (g.V.DumpView.cursor l.view).seen l.left (RowsLeft (gathered (state l.fn.out) l.fn.gather) (rows l.at xs) (gathered (state l.out) l.gather) l.place);

@@ -1,6 +1,8 @@
 use Rattle.std.proofs.Common.{◌≡◌, ◌<◌, ◌≤◌, ◌+◌, ◌^◌, ◌∙◌, ℕ, ap, arith, refl, sym, subst, length}
-use Rattle.mdmp_dump.specs.Shape.{Shape, stream_at}
+use Rattle.mdmp_dump.specs.Shape.{Shape, Spent, stream_at}
 use Rattle.mdmp_writer.specs.Layout.{block_size, far_size}
+use Rattle.mdmp_writer.specs.Passes.{block_asks, block_passes}
+use Rattle.mdmp_writer.proofs.Passing.{sum_more, sum_next, sum_none, sum_with}
 use Rattle.mdmp_writer.proofs.Sending.{left_begin, left_none}
 use Rattle.mdmp_writer.proofs.Streaming.{blocks_none, block_cut, block_put}
 use Rattle.mdmp_writer.proofs.Sums.{blocks_next, fars_next, ends_below, far_within}
@@ -9,6 +11,9 @@ use Rattle.mdmp_writer.proofs.streams_out.put_blocks.Goals as goal
 pub loop-stream-init : goal.loop-stream-init
 loop-stream-init g c = record {
   shape = c.streams-stream-end.ensures.shape;
+  passed = omega (arith, sum_none (block_passes (g.V.DumpView.shape c.args.view.now)), ap (λ (t : Spent). t.passed) c.streams-stream-end.ensures.spent);
+  asked = omega (arith, sum_none (block_asks (g.V.DumpView.shape c.args.view.now)), ap (λ (t : Spent). t.asked) c.streams-stream-end.ensures.spent);
+  moves = c.streams-stream-end.ensures.moves;
   steady = refl;
   at = omega (arith, c.requires.at);
   far = omega (arith, c.requires.far);
@@ -52,6 +57,9 @@ loop-stream-preserved g c =
     let far : c.room_for-room.result.far ≡ far_size (stream_at s k) = c.room_for-room.ensures.room.1 ∙ ap (λ (t : Shape). far_size (stream_at t k)) c.loop-stream.invariant.shape in
     record {
       shape = c.put_block.ensures.shape ∙ c.room_for-room.ensures.shape ∙ c.loop-stream.invariant.shape;
+      passed = omega (arith, c.loop-stream.invariant.passed, c.in-Ok.ensures.passed, ap (λ (t : Shape). block_passes t k) (c.room_for-room.ensures.shape ∙ c.loop-stream.invariant.shape), sum_next (block_passes s) k, ap (λ (t : Spent). t.passed) c.room_for-room.ensures.spent);
+      asked = omega (arith, c.loop-stream.invariant.asked, c.in-Ok.ensures.asked, ap (λ (t : Shape). block_asks t k) (c.room_for-room.ensures.shape ∙ c.loop-stream.invariant.shape), sum_next (block_asks s) k, ap (λ (t : Spent). t.asked) c.room_for-room.ensures.spent);
+      moves = g.met.V.DumpView.follows _ _ _ c.loop-stream.invariant.moves (g.met.V.DumpView.follows _ _ _ c.room_for-room.ensures.moves c.in-Ok.ensures.moves);
       steady = c.in-Ok.ensures.cause ∙ c.loop-stream.invariant.steady;
       at = omega (arith, block, blocks_next s k fewer, c.loop-stream.invariant.at);
       far = omega (arith, far, fars_next s k fewer, c.loop-stream.invariant.far);
@@ -80,3 +88,30 @@ overflow_add-far g c =
     let fewer : k < length s.streams = omega (arith, c.loop-stream-test.true, c.streams-stream-end.ensures.count) in
     let far : c.room_for-room.result.far ≡ far_size (stream_at s k) = c.room_for-room.ensures.room.1 ∙ ap (λ (t : Shape). far_size (stream_at t k)) c.loop-stream.invariant.shape in
     omega (arith, far, fars_next s k fewer, c.loop-stream.invariant.far, c.requires.short)
+
+pub returns-in-Err-clause-passed : goal.returns-in-Err-clause-passed
+returns-in-Err-clause-passed g c =
+    let s = g.V.DumpView.shape c.args.view.now in
+    let k = c.loop-stream.stream in
+    let fewer : k < length s.streams = omega (arith, c.loop-stream-test.true, c.streams-stream-end.ensures.count) in
+    omega (arith, c.loop-stream.invariant.passed, c.in-Err.ensures.passed, ap (λ (t : Shape). block_passes t k) (c.room_for-room.ensures.shape ∙ c.loop-stream.invariant.shape), ap (λ (t : Spent). t.passed) c.room_for-room.ensures.spent, sum_with (block_passes s) k (length s.streams) fewer)
+
+pub returns-in-Err-clause-asked : goal.returns-in-Err-clause-asked
+returns-in-Err-clause-asked g c =
+    let s = g.V.DumpView.shape c.args.view.now in
+    let k = c.loop-stream.stream in
+    let fewer : k < length s.streams = omega (arith, c.loop-stream-test.true, c.streams-stream-end.ensures.count) in
+    omega (arith, c.loop-stream.invariant.asked, c.in-Err.ensures.asked, ap (λ (t : Shape). block_asks t k) (c.room_for-room.ensures.shape ∙ c.loop-stream.invariant.shape), ap (λ (t : Spent). t.asked) c.room_for-room.ensures.spent, sum_with (block_asks s) k (length s.streams) fewer)
+
+pub returns-in-Err-clause-moves : goal.returns-in-Err-clause-moves
+returns-in-Err-clause-moves g c = g.met.V.DumpView.follows _ _ _ c.loop-stream.invariant.moves (g.met.V.DumpView.follows _ _ _ c.room_for-room.ensures.moves c.in-Err.ensures.moves)
+
+pub returns-clause-passed : goal.returns-clause-passed
+returns-clause-passed g c =
+    let s = g.V.DumpView.shape c.args.view.now in
+    omega (arith, c.loop-stream.invariant.passed, sum_more (block_passes s) c.loop-stream.stream (length s.streams) (omega (arith, c.streams-stream-end.ensures.count)))
+
+pub returns-clause-asked : goal.returns-clause-asked
+returns-clause-asked g c =
+    let s = g.V.DumpView.shape c.args.view.now in
+    omega (arith, c.loop-stream.invariant.asked, sum_more (block_asks s) c.loop-stream.stream (length s.streams) (omega (arith, c.streams-stream-end.ensures.count)))

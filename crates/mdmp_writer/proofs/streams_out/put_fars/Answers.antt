@@ -1,6 +1,8 @@
 use Rattle.std.proofs.Common.{◌<◌, ◌≤◌, ◌^◌, ◌∙◌, ap, arith, refl, sym, subst, length}
-use Rattle.mdmp_dump.specs.Shape.{Shape, body_of, stream_at}
+use Rattle.mdmp_dump.specs.Shape.{Shape, Spent, body_of, stream_at}
 use Rattle.mdmp_writer.specs.Layout.{far_size}
+use Rattle.mdmp_writer.specs.Passes.{far_asks, far_passes}
+use Rattle.mdmp_writer.proofs.Passing.{sum_more, sum_next, sum_none, sum_with}
 use Rattle.mdmp_writer.proofs.Sending.{left_begin, left_none}
 use Rattle.mdmp_writer.proofs.Streaming.{fars_none, far_cut, far_put}
 use Rattle.mdmp_writer.proofs.Sums.{block_within, far_within}
@@ -9,6 +11,9 @@ use Rattle.mdmp_writer.proofs.streams_out.put_fars.Goals as goal
 pub loop-stream-init : goal.loop-stream-init
 loop-stream-init g c = record {
   shape = c.streams-stream-end.ensures.shape;
+  passed = omega (arith, sum_none (far_passes (g.V.DumpView.shape c.args.view.now)), ap (λ (t : Spent). t.passed) c.streams-stream-end.ensures.spent);
+  asked = omega (arith, sum_none (far_asks (g.V.DumpView.shape c.args.view.now)), ap (λ (t : Spent). t.asked) c.streams-stream-end.ensures.spent);
+  moves = c.streams-stream-end.ensures.moves;
   steady = refl;
   left = λ x known. left_begin _ _;
 }
@@ -33,6 +38,9 @@ loop-stream-preserved g c =
     let fewer : k < length s.streams = omega (arith, c.loop-stream-test.true, c.streams-stream-end.ensures.count) in
     record {
       shape = c.put_far.ensures.shape ∙ c.loop-stream.invariant.shape;
+      passed = omega (arith, c.loop-stream.invariant.passed, c.in-Ok.ensures.passed, ap (λ (t : Shape). far_passes t k) c.loop-stream.invariant.shape, sum_next (far_passes s) k);
+      asked = omega (arith, c.loop-stream.invariant.asked, c.in-Ok.ensures.asked, ap (λ (t : Shape). far_asks t k) c.loop-stream.invariant.shape, sum_next (far_asks s) k);
+      moves = g.met.V.DumpView.follows _ _ _ c.loop-stream.invariant.moves c.in-Ok.ensures.moves;
       steady = c.in-Ok.ensures.cause ∙ c.loop-stream.invariant.steady;
       left = λ x known. far_put s x k _ _ _ _ (g.met.V.DumpView.sound c.args.view.now x known) fewer (c.loop-stream.invariant.left x known) (c.in-Ok.ensures.writes x (ap (λ (t : Shape). t.seen) c.loop-stream.invariant.shape ∙ known));
     }
@@ -48,3 +56,30 @@ put_far-requires-clause-body g c =
     let s = g.V.DumpView.shape c.args.view.now in
     let k = c.loop-stream.stream in
     subst (λ (t : Shape). body_of (stream_at t k) < 2 ^ 32) (sym c.loop-stream.invariant.shape) (omega (arith, block_within s.streams k, c.requires.low))
+
+pub returns-in-Err-clause-passed : goal.returns-in-Err-clause-passed
+returns-in-Err-clause-passed g c =
+    let s = g.V.DumpView.shape c.args.view.now in
+    let k = c.loop-stream.stream in
+    let fewer : k < length s.streams = omega (arith, c.loop-stream-test.true, c.streams-stream-end.ensures.count) in
+    omega (arith, c.loop-stream.invariant.passed, c.in-Err.ensures.passed, ap (λ (t : Shape). far_passes t k) c.loop-stream.invariant.shape, sum_with (far_passes s) k (length s.streams) fewer)
+
+pub returns-in-Err-clause-asked : goal.returns-in-Err-clause-asked
+returns-in-Err-clause-asked g c =
+    let s = g.V.DumpView.shape c.args.view.now in
+    let k = c.loop-stream.stream in
+    let fewer : k < length s.streams = omega (arith, c.loop-stream-test.true, c.streams-stream-end.ensures.count) in
+    omega (arith, c.loop-stream.invariant.asked, c.in-Err.ensures.asked, ap (λ (t : Shape). far_asks t k) c.loop-stream.invariant.shape, sum_with (far_asks s) k (length s.streams) fewer)
+
+pub returns-in-Err-clause-moves : goal.returns-in-Err-clause-moves
+returns-in-Err-clause-moves g c = g.met.V.DumpView.follows _ _ _ c.loop-stream.invariant.moves c.in-Err.ensures.moves
+
+pub returns-clause-passed : goal.returns-clause-passed
+returns-clause-passed g c =
+    let s = g.V.DumpView.shape c.args.view.now in
+    omega (arith, c.loop-stream.invariant.passed, sum_more (far_passes s) c.loop-stream.stream (length s.streams) (omega (arith, c.streams-stream-end.ensures.count)))
+
+pub returns-clause-asked : goal.returns-clause-asked
+returns-clause-asked g c =
+    let s = g.V.DumpView.shape c.args.view.now in
+    omega (arith, c.loop-stream.invariant.asked, sum_more (far_asks s) c.loop-stream.stream (length s.streams) (omega (arith, c.streams-stream-end.ensures.count)))
