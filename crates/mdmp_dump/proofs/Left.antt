@@ -31,7 +31,7 @@ records_from-all : (F : List ℕ) (limit e at size : ℕ) (kind : Option Kind) �
 records_from-all F limit e at size (Some kind) = shaped_from-all F limit e at kind (shape_of F at size kind)
 records_from-all F limit e at size None = refl
 
-body_from-all : (F : List ℕ) (limit : ℕ) (x : Numbered) (outside : Option Fault) → outside ≡ location_fault (length F) x.entry → body_from F limit x 0 ≡ body_of F limit x
+pub body_from-all : (F : List ℕ) (limit : ℕ) (x : Numbered) (outside : Option Fault) → outside ≡ location_fault (length F) x.entry → body_from F limit x 0 ≡ body_of F limit x
 body_from-all F limit x None inside = rw (← inside) (records_from-all F limit x.number x.entry.location.rva x.entry.location.size (kind_of x.entry.stream_type))
 body_from-all F limit x (Some f) outside = rw (← outside) refl
 
@@ -109,7 +109,7 @@ data LeftIs (F : List ℕ) (limit : ℕ) (x : Numbered) (k : ℕ) (xs : List Num
 module _ (F : List ℕ) (limit : ℕ) (x : Numbered) (xs : List Numbered) (placed : location_fault (length F) x.entry ≡ None) where
   module _ (kind : Kind) (known : kind_of x.entry.stream_type ≡ Some kind) where
     module _ (shape : Shape) (shaped : shape_of F x.entry.location.rva x.entry.location.size kind ≡ Ok shape) where
-      body_from-shaped : (k : ℕ) → body_from F limit x k ≡ items_from F limit x.number x.entry.location.rva kind shape (shape.count - k) k
+      pub body_from-shaped : (k : ℕ) → body_from F limit x k ≡ items_from F limit x.number x.entry.location.rva kind shape (shape.count - k) k
       body_from-shaped k = rw (placed, known, shaped) refl
 
       -- by the item of record k

@@ -14,7 +14,8 @@ use Rattle.mdmp_lister.specs.declared.fault.OpenFault.{OpenFault}
 use Rattle.mdmp_lister.specs.declared.fault.OpenFault.TheVariants as opening
 use Rattle.mdmp_lister.specs.Format.Listing.{entry_count}
 use Rattle.mdmp_lister.specs.Format.Refusal.{behind_directory, behind_header, directory_fault, directory_refusal, opening_fault}
-use Rattle.mdmp_lister.specs.Opening.{IsOpenRefusal, IsRefusalOf, IsUnread, IsUnreadFor}
+use Rattle.mdmp_lister.specs.Opening.{IsDirectoryRefusal, IsOpenRefusal, IsRefusalOf, IsUnread, IsUnreadFor}
+use Rattle.mdmp_dump.specs.FileRefusal.{view_refusal}
 use Rattle.mdmp_dump.specs.Reading.{Fetches, IsOwn, refusal_of}
 use Rattle.mdmp_dump.specs.Refusal.{read_refusal}
 use Rattle.mdmp_dump.proofs.Budget.{Fetches-read}
@@ -36,11 +37,11 @@ long-opens : (F : List ℕ) (short : Bool) → nat_lt (length F) 32 ≡ short
 long-opens F true is none = absurd (cc none)
 long-opens F false is none = (ltb-false (length F) 32 is, none)
 
--- a file that opens has a header, and its directory lies inside it
-pub opened-head : (F : List ℕ) (choice : Choice) → opening_fault F choice ≡ None
+-- a file whose directory is not refused has a header, and its directory lies inside it
+pub directory-head : (F : List ℕ) → directory_refusal F ≡ None
     → HasHeader F (header_at F 0) × IsTrue (is_inside (header_at F 0).stream_directory_rva (12 * entry_count F) (length F))
-opened-head F choice none =
-    let long = long-opens F (nat_lt (length F) 32) refl (directory-opens F choice (directory_refusal F) none) in
+directory-head F none =
+    let long = long-opens F (nat_lt (length F) 32) refl none in
     let head = header-opens F (header_fault F) long.1 in (
       record {
         room = long.0;
@@ -51,6 +52,11 @@ opened-head F choice none =
       grind (arith, common_steps, head.1),
     )
 
+-- and so has one that opens
+pub opened-head : (F : List ℕ) (choice : Choice) → opening_fault F choice ≡ None
+    → HasHeader F (header_at F 0) × IsTrue (is_inside (header_at F 0).stream_directory_rva (12 * entry_count F) (length F))
+opened-head F choice none = directory-head F (directory-opens F choice (directory_refusal F) none)
+
 -- ---- a refused opening
 
 -- it is the refusal of the file, but for want of memory and a fault of the store
@@ -59,6 +65,13 @@ pub opening-settles : (F : List ℕ) (choice : Choice) (limit parts : ℕ) (faul
 opening-settles F choice limit parts (opening.Source fault) is own = absurd (own (fault, refl))
 opening-settles F choice limit parts opening.Memory is own = absurd (own tt)
 opening-settles F choice limit parts fault is own = rw is refl
+
+-- and that of its view, for which no ranges are counted
+pub directory-settles : (F : List ℕ) (choice : Choice) (names : ℕ) (fault : OpenFault) → IsDirectoryRefusal F fault
+    → (IsOwn (refusal_of fault) → ⊥) → view_refusal F choice names ≡ Some (refusal_of fault)
+directory-settles F choice names (opening.Source fault) is own = absurd (own (fault, refl))
+directory-settles F choice names opening.Memory is own = absurd (own tt)
+directory-settles F choice names fault is own = rw is refl
 
 -- of which a fault of the store is told as such
 pub opening-fetches : {T : Type 0} (n : ℕ) (fault : OpenFault) (old new : SourceState) → FetchesAtMost n old new → IsUnreadFor fault old new

@@ -81,7 +81,7 @@ module _ {Z : Type 0} where
   record_sized (streams.MemoryInfo rs) k = at_any IsSized memory_info_seen nothing_sized (λ r. three_sized (memory_info_seen r).fields.wire _ _ _ _ _ _ refl refl refl) rs k
   record_sized (streams.Raw t bytes) k = nothing_sized
 
-  one_room : (s : Stream Z) (k : ℕ) → HasOneRoom (is_far (kind_in s)) (record_at s k)
+  pub one_room : (s : Stream Z) (k : ℕ) → HasOneRoom (is_far (kind_in s)) (record_at s k)
   one_room streams.Unused k = refl
   one_room (streams.Threads ts) k = at_any (HasOneRoom false) thread_seen refl (λ t. refl) ts k
   one_room (streams.Modules ms) k = at_any (HasOneRoom false) module_seen refl (λ m. refl) ms k

@@ -1,5 +1,12 @@
+pub mod EntryWalk
 pub mod Exception
+pub mod FileRefusal
+pub mod FileView
+pub mod FileViewLaws
+pub mod Finding
 pub mod Fits
+pub mod FoundRecord
+pub mod InFile
 pub mod LaysOut
 pub mod Left
 pub mod Memory
@@ -7,6 +14,7 @@ pub mod Memory64
 pub mod MemoryInfo
 pub mod Module
 pub mod Name
+pub mod Opening
 pub mod Part
 pub mod Placed
 pub mod Places
@@ -22,4 +30,5 @@ pub mod Thread
 pub mod Unloaded
 pub mod Value
 pub mod View
+pub mod Walking
 pub mod Within

@@ -41,7 +41,7 @@ pub(crate) fn part_at<T: Given>(records: &[T], index: usize, which: usize) -> &[
 }
 
 /// A sum that stops at the greatest.
-fn add_told(total: u64, more: u128) -> u64
+pub(crate) fn add_told(total: u64, more: u128) -> u64
     requires { more ≤ 2 ^ 70 }
     ensures { result ≡ told (total + more) }
 {

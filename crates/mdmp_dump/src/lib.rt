@@ -23,19 +23,25 @@
 //! A [`DumpView`] is a dump given a record at a time, so that what takes one, as a writer does, need
 //! not hold it: of each stream the records, with 0 for their locations, and behind each the bytes of
 //! its name and its parts. [`Dump::view`] is that of a value, a [`ValueView`], which never answers a
-//! fault. What a view gives of a dump is defined in `specs/View.antt`.
+//! fault. [`FileView::open`] opens that of a file, a [`FileView`], which holds a window and 24 bytes for
+//! each entry of the directory; where it can't be opened, [`ViewRefused`] has the source too. What a
+//! view gives of a dump is defined in `specs/View.antt`.
 //!
 //! The definitions in `specs/LaysOut.antt` say when a file lays out a dump, those in
-//! `specs/Refusal.antt` why it gives none. Four laws are functions that do nothing:
-//! [`a_file_lays_out_one_dump`], [`a_choice_lays_out_a_part`], [`a_dump_within_limits_is_read`] and
-//! [`the_numbers_of_a_dump_fit`].
+//! `specs/Refusal.antt` why it gives none, and those in `specs/FileRefusal.antt` why it gives no view.
+//! Six laws are functions that do nothing: [`a_file_lays_out_one_dump`], [`a_choice_lays_out_a_part`],
+//! [`a_dump_within_limits_is_read`], [`the_numbers_of_a_dump_fit`], [`a_file_that_is_read_is_viewed`]
+//! and [`a_file_that_is_viewed_lays_out_a_dump`].
 #![tactic(auto)]
 
 mod bytes;
 mod dump;
+mod entry_walk;
 mod exception;
 mod fault;
+mod file_view;
 mod fits;
+mod found_record;
 mod given;
 mod laws;
 mod memory;
@@ -56,10 +62,13 @@ mod view;
 
 pub use crate::bytes::Bytes;
 pub use crate::dump::{Dump, Stream};
+pub use crate::entry_walk::ViewRefused;
 pub use crate::exception::Exception;
 pub use crate::fault::{PartName, ReadFault};
+pub use crate::file_view::FileView;
 pub use crate::laws::{
     a_choice_lays_out_a_part, a_dump_within_limits_is_read, a_file_lays_out_one_dump,
+    a_file_that_is_read_is_viewed, a_file_that_is_viewed_lays_out_a_dump,
     the_numbers_of_a_dump_fit,
 };
 pub use crate::memory::MemoryRange;

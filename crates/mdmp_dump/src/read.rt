@@ -109,7 +109,7 @@ pub fn read_source<S: Store + Drop, A: Allocator + Copy>(
 }
 
 /// A file that can't be listed gives no dump.
-fn refusal(fault: OpenFault) -> ReadFault
+pub(crate) fn refusal(fault: OpenFault) -> ReadFault
     ensures { result ≡ refusal_of fault }
 {
     match fault {

@@ -6,4 +6,4 @@ mod read;
 mod refused;
 mod sizes;
 mod values;
-mod view;
+pub mod view;

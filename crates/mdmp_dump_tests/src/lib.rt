@@ -9,4 +9,6 @@ mod files;
 #[cfg(test)]
 mod same;
 #[cfg(test)]
+mod viewed;
+#[cfg(test)]
 mod writer;

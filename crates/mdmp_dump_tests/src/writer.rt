@@ -15,7 +15,7 @@ use std::process::Abort;
 use std::test::Fail;
 
 /// An output in memory that takes all of a small dump.
-fn open_out(alloc: Global) -> Result<PatchyOut<Global>, AllocError> {
+pub fn open_out(alloc: Global) -> Result<PatchyOut<Global>, AllocError> {
     PatchyOut::with_room(alloc, 4096, 4096, None)
 }
 
@@ -25,7 +25,7 @@ fn size_of(dump: &Dump<Global>) -> Result<u64, LayoutFault> {
 }
 
 /// Writes what a view gives through a buffer of so many bytes, from 1 to 4096.
-fn write_view<V: DumpView>(
+pub fn write_view<V: DumpView>(
     view: &mut V,
     out: &mut PatchyOut<Global>,
     room: usize,
@@ -35,7 +35,7 @@ fn write_view<V: DumpView>(
 }
 
 /// Writes a dump through a buffer of so many bytes, from 1 to 4096.
-fn write_value(
+pub fn write_value(
     dump: &Dump<Global>,
     out: &mut PatchyOut<Global>,
     room: usize,

@@ -14,6 +14,7 @@ pub mod MemoryInfo
 pub mod MemoryInfoList
 pub mod Module
 pub mod Number
+pub mod NumberBounds
 pub mod NumberLaws
 pub mod System
 pub mod Thread

@@ -23,7 +23,7 @@ unfolding array_at
 length-array_at F at len inside = grind (arith, nat_tests, length-take len (drop at F), length-drop at F)
 
 -- a location is said to lie inside only where it does
-extent-inside : (at : Location) (z : ℕ) → extent_of at z ≡ classes.Inside → is_inside at.rva at.size z ≡ true
+pub extent-inside : (at : Location) (z : ℕ) → extent_of at z ≡ classes.Inside → is_inside at.rva at.size z ≡ true
 extent-inside at z is = by (at.size == 0) (at.rva == 0) (is_inside at.rva at.size z) is where
   by : (a b i : Bool) → (if a then classes.Empty else if b then classes.Absent else if i then classes.Inside else classes.Outside) ≡ classes.Inside → i ≡ true
   by true b i is = absurd (cc)

@@ -5,7 +5,7 @@ ghost use Rattle.mdmp_dump.specs.Shape.{head_of, stream_at};
 use super::built::read;
 use crate::files::{LEAST, NAMED};
 use crate::same::assert_same;
-use mdmp_dump::{DumpView, Fields, HeaderFields, Kind, PartSize};
+use mdmp_dump::{DumpView, Fields, HeaderFields, Kind, PartSize, ViewFault};
 use mdmp_source::Location;
 use mdmp_test_support::{ABSENT_STACK, MEMORY64, SIX, file_of_numbers};
 use mdmp_wire::{AnyRecord, Descriptor, Descriptor64, ThreadRecord};
@@ -13,14 +13,14 @@ use std::test::Fail;
 
 /// What is told of a stream.
 #[derive(Clone, Copy, Debug, PartialEq, Eq)]
-struct Told {
+pub struct Told {
     kind: Kind,
     body: u64,
     parts: u64,
 }
 
 /// What is told of a stream, if there is one with this number.
-fn told_of<V: DumpView>(view: &mut V, stream: u64) -> Option<Told> {
+pub fn told_of<V: DumpView>(view: &mut V, stream: u64) -> Option<Told> {
     if stream >= view.streams() {
         return None;
     }
@@ -65,6 +65,35 @@ fn has_records<V: DumpView>(view: &mut V, stream: u64) -> bool
 }
 
 /// The first record of a stream, if it has records, and of one of its parts the bytes from a place
+/// on, if there are so many; or the fault of the view.
+pub fn first_or_fault<V: DumpView>(
+    view: &mut V,
+    stream: u64,
+    which: usize,
+    at: u64,
+    out: &mut [u8],
+) -> Option<Result<Fields, ViewFault>> {
+    if stream >= view.streams() || !has_records(view, stream) {
+        return None;
+    }
+    if let Err(fault) = view.rewind(stream) {
+        return Some(Err(fault));
+    }
+    let fields = match view.next_record() {
+        Ok(fields) => fields,
+        Err(fault) => return Some(Err(fault)),
+    };
+    if let Some(PartSize::Size(size)) = fields.parts.get(which) {
+        if at <= *size && out.len() as u64 <= *size - at {
+            if let Err(fault) = view.part(which, at, out) {
+                return Some(Err(fault));
+            }
+        }
+    }
+    Some(Ok(fields))
+}
+
+/// The first record of a stream, if it has records, and of one of its parts the bytes from a place
 /// on, if there are so many.
 fn first_record<V: DumpView>(
     view: &mut V,
@@ -73,17 +102,7 @@ fn first_record<V: DumpView>(
     at: u64,
     out: &mut [u8],
 ) -> Option<Fields> {
-    if stream >= view.streams() || !has_records(view, stream) {
-        return None;
-    }
-    view.rewind(stream).ok()?;
-    let fields = view.next_record().ok()?;
-    if let Some(PartSize::Size(size)) = fields.parts.get(which) {
-        if at <= *size && out.len() as u64 <= *size - at {
-            view.part(which, at, out).ok()?;
-        }
-    }
-    Some(fields)
+    first_or_fault(view, stream, which, at, out)?.ok()
 }
 
 /// The raw bytes of a stream from a place on, if there are so many.

@@ -1,0 +1,59 @@
+-- What a walk keeps where it is opened, and where bytes are read beside it.
+use Rattle.std.proofs.Common.{◌≡◌, ◌∙◌, ℕ, Bool, Result, arith, ap, subst, sym}
+use Rattle.mdmp_source.specs.Source.{FetchesAtMost, SourceState}
+use Rattle.mdmp_source.specs.declared.fault.SourceFault.{SourceFault}
+use Rattle.mdmp_lister.specs.declared.choice.Choice.{Choice}
+use Rattle.mdmp_lister.specs.declared.limits.Limits.{Limits}
+use Rattle.mdmp_lister.specs.declared.meter.Amount.{Amount}
+use Rattle.mdmp_lister.specs.declared.meter.MeterCounts.{MeterCounts}
+use Rattle.mdmp_lister.specs.Lister.{ListerState, ReadsAside}
+use Rattle.mdmp_lister.specs.Meter.{SpendsAside}
+use Rattle.mdmp_lister.specs.Walker.{IsNewWalker, WalkerState}
+use Rattle.mdmp_dump.specs.declared.entry_walk.EntryPlace.{EntryPlace}
+use Rattle.mdmp_dump.specs.EntryWalk.{IsOpened, numbered}
+use Rattle.mdmp_dump.specs.Walking.{IsKept, IsStanding, ended_with, state_of}
+use Rattle.mdmp_dump.proofs.EntryPlaces.{chosen_all, few_chosen, length-numbered}
+
+-- ---- a walk that was opened
+
+pub opened : (source : SourceState) (choice : Choice) (limits : Limits) (new : WalkerState) → IsNewWalker source choice limits new → limits.name ≡ 0 → IsOpened source limits.window choice (state_of new)
+opened source choice limits new is none =
+    let l = is.list in
+    let mark = ap (λ (c : MeterCounts). c.fetched) is.mark in
+    let names = ap (λ (c : MeterCounts). c.names) is.mark in
+    record {
+      fetches = record { count = _; fetches = is.fetches };
+      choice_is = l.choice_is;
+      few = omega (arith, few_chosen new.list.choice (numbered 0 new.list.entries), length-numbered 0 new.list.entries, l.count);
+      held = omega (arith, l.window_room, l.limit_is, none, l.count, is.range_room);
+      allowed = omega (arith, mark, names, is.fetched, is.unbegun);
+      aside = ap (λ (a : Amount). a.bytes) l.counts.aside;
+      names = l.counts.names;
+      failed = ap ended_with l.stop;
+      header_is = l.header_is;
+      chosen_are = λ F known. rw l.choice_is (chosen_all F choice new.list.entries (l.directory F known));
+    }
+
+-- ---- bytes beside it
+
+-- what is counted aside is nothing to it
+module _ (old : WalkerState) (source : SourceState) (counts : MeterCounts) (n : ℕ) (fetches : FetchesAtMost n old.list.source source) (spends : SpendsAside n old.list.counts counts) (place : EntryPlace) (far : Bool) (is : IsStanding old place far) where
+  abbrev aside_state : WalkerState
+  aside_state = record old { list = record old.list { source = source; counts = counts } }
+
+  kept_aside : IsKept aside_state
+  kept_aside = record {
+    limit = is.kept.limit;
+    within = rw spends.same_names is.kept.within;
+    spent = rw (spends.same_names, spends.same_fetched, fetches.same_size) is.kept.spent;
+    of_file = λ F known. is.kept.of_file F (sym fetches.same_content ∙ known);
+  }
+
+  stands_aside : IsStanding aside_state place far
+  stands_aside = record { kept = kept_aside; stands = record { number = is.stands.number; behind = is.stands.behind }; told = is.told }
+
+pub stands_beside : {T : Type 0} (old new : WalkerState) (n : ℕ) (result : Result T SourceFault) (place : EntryPlace) (far : Bool) → ReadsAside n result old.list new.list → new ≡ record old { list = new.list }
+    → IsStanding old place far → IsStanding new place far
+stands_beside old new n result place far reads same is =
+    let all : new ≡ aside_state old new.list.source new.list.counts n reads.fetches reads.aside place far is = same ∙ ap (λ (l : ListerState). record old { list = l }) reads.same in
+    subst (λ (w : WalkerState). IsStanding w place far) (sym all) (stands_aside old new.list.source new.list.counts n reads.fetches reads.aside place far is)

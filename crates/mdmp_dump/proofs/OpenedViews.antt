@@ -1,0 +1,108 @@
+-- A view of a file that was opened.
+use Rattle.std.proofs.Common.{◌≡◌, ◌∙◌, ◌<◌, ◌+◌, ◌*◌, ◌^◌, ℕ, List, length, Option, Some, None, ap, arith, refl, subst, sym}
+use Rattle.std.specs.Prelude.{IsTrue}
+use Rattle.mdmp_source.specs.Source.{SourceState, FetchesSome}
+use Rattle.mdmp_source.specs.Store.{IsGood, IsOfBytes, IsSizeOf}
+use Rattle.mdmp_lister.specs.declared.choice.Choice.{Choice}
+use Rattle.mdmp_lister.specs.Format.Listing.{Numbered, chosen}
+use Rattle.mdmp_lister.specs.Format.Refusal.{directory_refusal}
+use Rattle.mdmp_dump.specs.declared.fault.ReadFault.{ReadFault}
+use Rattle.mdmp_dump.specs.EntryWalk.{IsOpened, WalkState}
+use Rattle.mdmp_dump.specs.FileRefusal.{run_told, view_refusal}
+use Rattle.mdmp_dump.specs.FileView.{AreWalked, IsPaid, IsView, IsViewed, PaysAll, file_shape, opening_cost, room_told, shape_by}
+use Rattle.mdmp_dump.specs.InFile.{dump_in, stream_named}
+use Rattle.mdmp_dump.specs.Left.{run_of}
+use Rattle.mdmp_dump.specs.Shape.{IsViewOf}
+use Rattle.mdmp_dump.proofs.Moving.{content_before, entry_stays, opening_stays}
+use Rattle.mdmp_dump.proofs.Refusals.{none_told, opened_run}
+use Rattle.mdmp_dump.proofs.Taking.{FetchesSome_then}
+
+module _ (Z : Type 0) (source : SourceState) (window limit : ℕ) (choice : Choice) (w v : WalkState) (counts rooms : List ℕ) (opened : IsOpened source window choice w)
+    (opens : (F : List ℕ) → source.store.content ≡ Some F → directory_refusal F ≡ None) (sized : IsSizeOf w.source.store.content w.source.size) (bytes : IsOfBytes w.source.store.content)
+    (pays : PaysAll counts w v) (counted : length counts ≡ length w.chosen) (roomed : length rooms ≡ length w.chosen) (going : v.failed ≡ None)
+    (light : w.held < 2 ^ 64) (of_file : (F : List ℕ) → w.source.store.content ≡ Some F → AreWalked Z F limit w counts rooms) where
+  at_first : (F : List ℕ) → w.source.store.content ≡ Some F → source.store.content ≡ Some F
+  at_first F known = sym opened.fetches.fetches.same_content ∙ known
+
+  chosen_same : (xs : List Numbered) → xs ≡ w.chosen → length v.chosen ≡ length xs
+  chosen_same xs is = ap (λ (ys : List Numbered). length ys) (pays.same.chosen ∙ sym is)
+
+  -- nothing of the file is refused
+  quiet_file : (F : List ℕ) → w.source.store.content ≡ Some F → view_refusal F choice limit ≡ None
+  quiet_file F known =
+      let first = at_first F known in
+      let walked = of_file F known in
+      opened_run F choice limit (opens F first)
+      ∙ ap (λ (xs : List Numbered). run_told F (run_of F limit xs)) (sym (opened.chosen_are F first))
+      ∙ none_told F limit w.chosen (λ k inside. walked.quiet k (omega (arith, inside, counted)))
+
+  opened_view : (F : List ℕ) → v.source.store.content ≡ Some F → IsViewed Z F limit v counts rooms
+  opened_view F now =
+      let known = content_before w v pays.same F now in
+      let first = at_first F known in
+      let walked = of_file F known in
+      let choice_same : v.choice ≡ choice = pays.same.choice ∙ opened.choice_is in
+      record {
+        size = pays.same.fetches.fetches.same_size ∙ (rw known at sized);
+        bytes = bytes F known;
+        header = pays.same.header ∙ opened.header_is F first;
+        chosen_are = pays.same.chosen ∙ opened.chosen_are F first ∙ ap (chosen F) (sym choice_same);
+        quiet = ap (λ c. view_refusal F c limit) choice_same ∙ quiet_file F known;
+        counted = λ k inside. rw (entry_stays w v pays.same k) (walked.counted k (omega (arith, inside, chosen_same w.chosen refl, counted)));
+        roomed = λ k inside.
+            walked.roomed k (omega (arith, inside, chosen_same w.chosen refl, counted))
+            ∙ ap (λ (x : Numbered). room_told (stream_named {Z = Z} F x.entry)) (sym (entry_stays w v pays.same k));
+      }
+
+  costs_same : opening_cost v counts ≡ opening_cost w counts
+  costs_same = opening_stays w v pays.same counts
+
+  opened_paid : IsPaid v counts None 0 0
+  opened_paid = record {
+    bytes = λ low.
+        let names : v.names + 1 < 2 ^ 128 = omega (arith, low, costs_same, pays.reached, opened.names) in
+        omega (arith, costs_same, pays.allowed names, opened.allowed, opened.aside, pays.aside);
+    names = λ low. omega (arith, costs_same, pays.reached, opened.names);
+  }
+
+  pub is_view : IsView Z limit v counts rooms None 0 0 None
+  is_view = record {
+    counted = counted ∙ sym (chosen_same w.chosen refl);
+    roomed = roomed ∙ sym (chosen_same w.chosen refl);
+    few = rw (pays.same.chosen, pays.same.header) opened.few;
+    light = rw pays.same.held light;
+    passing = λ p none. absurd (let some = none in cc);
+    paid = opened_paid;
+    of_file = opened_view;
+    pass_of = λ F p known none. absurd (let some = none in cc);
+    ended = λ told ended. absurd (let none = going in cc);
+    steady = λ F good. going;
+  }
+
+  pub view_quiet : (F : List ℕ) → source.store.content ≡ Some F → view_refusal F choice limit ≡ None
+  view_quiet F known = quiet_file F (opened.fetches.fetches.same_content ∙ known)
+
+  -- what it gives is the dump that the file lays out
+  pub view_of : (F : List ℕ) → source.store.content ≡ Some F → IsViewOf (dump_in {Z = Z} F choice) (file_shape Z v counts rooms)
+  view_of F known =
+      let now : v.source.store.content ≡ Some F = pays.same.fetches.fetches.same_content ∙ opened.fetches.fetches.same_content ∙ known in
+      subst (λ (c : Option (List ℕ)). IsViewOf (dump_in {Z = Z} F choice) (shape_by Z c v counts rooms)) (sym now)
+      (subst (λ (c : Choice). IsViewOf (dump_in {Z = Z} F c) (shape_by Z (Some F) v counts rooms)) (pays.same.choice ∙ opened.choice_is) refl)
+
+  -- over a good store it is reliable
+  pub view_reliable : (F : List ℕ) → IsGood source.store F → IsTrue (file_shape Z v counts rooms).is_reliable
+  view_reliable F good =
+      let now : v.source.store.content ≡ Some F = pays.same.fetches.fetches.same_content ∙ opened.fetches.fetches.same_content ∙ good.known in
+      subst (λ (c : Option (List ℕ)). IsTrue (shape_by Z c v counts rooms).is_reliable) (sym now) (pays.same.fetches.fetches.same_reliable ∙ opened.fetches.fetches.same_reliable ∙ good.reliable)
+
+  pub held_whole : v.held + 12 * v.header.number_of_streams ≡ window + 24 * v.header.number_of_streams
+  held_whole = omega (arith, opened.held, pays.same.held, ap (λ h. h.number_of_streams) pays.same.header)
+
+  pub view_fetches : FetchesSome source v.source
+  view_fetches = FetchesSome_then source w.source v.source opened.fetches pays.same.fetches
+
+-- a refusal among the items is that of the file
+pub run_refused : (source : SourceState) (window limit : ℕ) (choice : Choice) (w : WalkState) → IsOpened source window choice w → (F : List ℕ) → source.store.content ≡ Some F → directory_refusal F ≡ None
+    → (fault : ReadFault) → run_told F (run_of F limit w.chosen) ≡ Some fault → view_refusal F choice limit ≡ Some fault
+run_refused source window limit choice w opened F known opens fault refused =
+    opened_run F choice limit opens ∙ ap (λ (xs : List Numbered). run_told F (run_of F limit xs)) (sym (opened.chosen_are F known)) ∙ refused

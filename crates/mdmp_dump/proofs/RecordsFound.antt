@@ -1,0 +1,524 @@
+-- The records of a stream, which a walker gives with their places.
+use Rattle.std.proofs.Common.{◌≡◌, ◌∙◌, ◌≤◌, ◌<◌, ◌+◌, ◌-◌, ◌*◌, ◌^◌, ◌⊎◌, ℕ, Bool, true, false, List, length, slice_get, Option, Some, None, Result, Ok, Err, arith, ap, refl, sym, subst, inl, inr, if◌then◌else◌}
+use Rattle.std.specs.Prelude.{◌==◌, IfErr, IfOk, IfSome, MatchResult, option_map}
+use Rattle.mdmp_source.specs.Extent.{extent_of}
+use Rattle.mdmp_source.specs.Source.{FetchesSome, SourceState}
+use Rattle.mdmp_source.specs.Store.{AreBytes, IsGood, IsOfBytes, IsSizeOf}
+use Rattle.mdmp_source.specs.declared.fault.SourceFault.TheVariants.{Changed}
+use Rattle.mdmp_source.specs.declared.location.Location.{Location}
+use Rattle.mdmp_source.specs.declared.location.Extent.{Extent}
+use Rattle.mdmp_source.specs.declared.location.Extent.TheVariants.{Empty, Inside}
+use Rattle.mdmp_wire.specs.AnyRecord.{name_rva}
+use Rattle.mdmp_wire.specs.declared.any_record.AnyRecord.{AnyRecord}
+use Rattle.mdmp_wire.specs.declared.any_record.AnyRecord.TheVariants as any
+use Rattle.mdmp_wire.specs.declared.entry.Entry.{Entry}
+use Rattle.mdmp_lister.proofs.Bodies.{joined-with_item, records-faulted, records-given}
+use Rattle.mdmp_lister.proofs.Summary.{summary_of-plain}
+use Rattle.mdmp_lister.specs.Fault.{IsOfSource}
+use Rattle.mdmp_lister.specs.declared.fault.Fault.{Fault}
+use Rattle.mdmp_lister.specs.declared.fault.ListFault.{ListFault}
+use Rattle.mdmp_lister.specs.declared.item.Item.{Item}
+use Rattle.mdmp_lister.specs.declared.item.Item.TheVariants as items
+use Rattle.mdmp_lister.specs.declared.item.RangeItem.{RangeItem}
+use Rattle.mdmp_lister.specs.declared.item.StreamItem.{StreamItem}
+use Rattle.mdmp_lister.specs.declared.kind.Kind.{Kind}
+use Rattle.mdmp_lister.specs.declared.kind.Kind.TheVariants as kinds
+use Rattle.mdmp_lister.specs.declared.meter.Amount.{Amount}
+use Rattle.mdmp_lister.specs.declared.meter.MeterCounts.{MeterCounts}
+use Rattle.mdmp_lister.specs.declared.name.Name.{Name}
+use Rattle.mdmp_lister.specs.declared.shape.Shape.{Shape}
+use Rattle.mdmp_lister.specs.Format.Classes.{IsClassed, IsRecordOf, IsStream}
+use Rattle.mdmp_lister.specs.Format.Item.{item_at, item_of, kind_told, name_of, named, offset_in, plain, range_extent_of, record_at}
+use Rattle.mdmp_lister.specs.Format.Kind.{HasNoNames, kind_of}
+use Rattle.mdmp_lister.specs.Format.Listing.{Numbered, Run, items_from, joined, list_fault, only_fault, with_item}
+use Rattle.mdmp_lister.specs.Format.Ranges.{IsPlacedIn, IsRangeIn}
+use Rattle.mdmp_lister.specs.Format.Shape.{known_count, location_fault, record_count, records_in, shape_of}
+use Rattle.mdmp_lister.specs.Format.Summary.{Summary, number_behind, entry_begun, summary_of}
+use Rattle.mdmp_lister.specs.Lister.{IsSameLister, tail}
+use Rattle.mdmp_lister.specs.Meter.{Moves}
+use Rattle.mdmp_lister.specs.Walk.Paying.{entry_cost}
+use Rattle.mdmp_lister.specs.Walk.Positions.{mark_by}
+use Rattle.mdmp_lister.specs.Walker.{IsSpentSince, WalkerLeaves, WalkerState}
+use Rattle.mdmp_dump.specs.declared.fault.ReadFault.{ReadFault}
+use Rattle.mdmp_dump.specs.declared.fault.ReadFault.TheVariants as faults
+use Rattle.mdmp_dump.specs.declared.found_record.FoundRecord.{FoundRecord}
+use Rattle.mdmp_dump.specs.declared.view.Kind.TheVariants as view
+use Rattle.mdmp_dump.specs.EntryWalk.{FindsNext, FindsRow, GivesNext, IsFoundIn, IsRowFound, Pays, ended_by, kind_by, name_cost, row_told}
+use Rattle.mdmp_dump.specs.FileRefusal.{IsOfWalk}
+use Rattle.mdmp_dump.specs.Finding.{FindsRecord, FindsSeen, IsFittingOf, IsFoundInside, IsOfPlaces, IsOfRecord, is_list64, range_kind, record_kind, seen_in}
+use Rattle.mdmp_dump.specs.FoundRecord.{AreIn}
+use Rattle.mdmp_dump.specs.Left.{RowGiven, body_from, left_from, run_of}
+use Rattle.mdmp_dump.specs.Reading.{IsLastTold, IsReadRefusal, store_fault}
+use Rattle.mdmp_dump.specs.Refusal.{item_steps}
+use Rattle.mdmp_dump.specs.Seen.{Seen}
+use Rattle.mdmp_dump.specs.Shape.{type_told}
+use Rattle.mdmp_dump.specs.Walking.{HasLeft, IsFar, IsKept, current_of, ended_with, left_by, left_of, state_of}
+use Rattle.mdmp_dump.proofs.EntryBegun.{last_told, left_begun, left_stopped, no_store_fault, own_store_fault, paid_by, plain_stream, walk_same}
+use Rattle.std.proofs.lemmas.Bool.Decides.{nat_tests}
+use Rattle.mdmp_dump.proofs.Laid.{range_inside, type_by, type_of_kind}
+use Rattle.mdmp_dump.proofs.Within.Part.{extent-inside}
+use Rattle.mdmp_dump.proofs.Left.{row_given}
+use Rattle.mdmp_dump.proofs.Limits.{refused_under}
+use Rattle.mdmp_dump.proofs.Taking.{Fetches_only}
+
+-- ---- types and kinds
+
+pub names_or_none : (t : ℕ) → HasNoNames (kind_of t) ⊎ (name_cost t ≡ 4)
+names_or_none t = by (kind_of t) refl where
+  cost : (kind : Kind) → HasNoNames (Some kind) ⊎ (name_cost (type_by kind) ≡ 4)
+  cost kinds.Modules = inr refl
+  cost kinds.System = inr refl
+  cost kinds.Unloaded = inr refl
+  cost kind = inl refl
+
+  of_type : (kind : Kind) → kind_of t ≡ Some kind → HasNoNames (Some kind) ⊎ (name_cost (type_by kind) ≡ 4) → HasNoNames (kind_of t) ⊎ (name_cost t ≡ 4)
+  of_type kind is (inl none) = inl (rw is none)
+  of_type kind is (inr some) = inr (ap name_cost (type_of_kind t kind is) ∙ some)
+
+  by : (kind : Option Kind) → kind_of t ≡ kind → HasNoNames (kind_of t) ⊎ (name_cost t ≡ 4)
+  by None is = inl (rw is tt)
+  by (Some kind) is = of_type kind is (cost kind)
+
+-- the kind of a view, of the records of such a stream
+known_by : (t : ℕ) (w : AnyRecord) → kind_of t ≡ Some (kind_told w) → kind_by t ≡ view.Known (type_told w)
+known_by t w is = ap kind_by (type_of_kind t (kind_told w) is) ∙ of_wire w where
+  of_wire : (w : AnyRecord) → kind_by (type_by (kind_told w)) ≡ view.Known (type_told w)
+  of_wire (any.Thread r) = refl
+  of_wire (any.Module r) = refl
+  of_wire (any.Memory r) = refl
+  of_wire (any.Exception r) = refl
+  of_wire (any.System r) = refl
+  of_wire (any.Memory64 r) = refl
+  of_wire (any.Unloaded r) = refl
+  of_wire (any.MemoryInfo r) = refl
+
+pub far_by_type : (t : ℕ) (kind : Kind) → kind_of t ≡ Some kind → is_list64 kind ≡ (t == 9)
+far_by_type t kind is = of_kind kind ∙ ap (λ (n : ℕ). n == 9) (sym (type_of_kind t kind is)) where
+  of_kind : (kind : Kind) → is_list64 kind ≡ (type_by kind == 9)
+  of_kind kinds.Memory64 = refl
+  of_kind kind = refl
+
+-- ---- an item, by the record that it tells
+
+plain_kind : (far : Bool) (item : Item) → record_kind far item ≡ record_kind far (plain item)
+plain_kind far (items.Stream x) = refl
+plain_kind far item = refl
+
+told_kind : (far : Bool) (z e k offset : ℕ) (w : AnyRecord) (name : Name) → far ≡ is_list64 (kind_told w) → record_kind far (item_of z e k offset w name) ≡ Some (kind_told w)
+told_kind far z e k offset (any.Memory r) name is = ap (λ (b : Bool). Some (range_kind b)) is
+told_kind far z e k offset (any.Memory64 r) name is = ap (λ (b : Bool). Some (range_kind b)) is
+told_kind far z e k offset w name is = refl
+
+some_in : (size : ℕ) (b : Bool) (rest : Extent) → (size == 0) ≡ b → (if b then Empty else rest) ≡ Inside → 0 < size
+some_in size true rest none is = absurd (cc is)
+some_in size false rest some is = grind (arith, nat_tests, some)
+
+extent_in : (at : Location) (z : ℕ) → extent_of at z ≡ Inside → (0 < at.size) × (at.rva + at.size ≤ z)
+extent_in at z is =
+    let some = some_in at.size (at.size == 0) _ refl is in
+    let inside = extent-inside at z is in
+    (some, grind (arith, nat_tests, some, inside))
+
+range_in : (offset size z : ℕ) → range_extent_of offset size z ≡ Inside → (0 < size) × (offset + size ≤ z)
+range_in offset size z is =
+    let some = some_in size (size == 0) _ refl is in
+    let inside = range_inside offset size z (λ out. cc (is, out)) in
+    (some, grind (arith, nat_tests, some, inside))
+
+-- where a record is told in a file whose size has 64 bits, so are its places
+told_placed : (z : ℕ) → z ≤ 2 ^ 64 - 1 → (e k offset : ℕ) (w : AnyRecord) (name : Name) → IfSome (summary_of (item_of z e k offset w name)).range (IsRangeIn (2 ^ 64 - 1))
+told_placed z few e k offset (any.Memory r) name = λ is. let all = extent_in r.memory z is in (all.0, (omega (arith, all.1, few), omega (arith, all.1, few)))
+told_placed z few e k offset (any.Memory64 r) name = λ is. let all = range_in offset r.data_size z is in (all.0, (omega (arith, all.1, few), omega (arith, all.1, few)))
+told_placed z few e k offset w name = tt
+
+pub record_placed : (z : ℕ) (kind : Option Kind) (item : Item) → z ≤ 2 ^ 64 - 1 → IsRecordOf z kind (plain item) → IsPlacedIn (2 ^ 64 - 1) item
+record_placed z kind item few is =
+    let range : (summary_of (plain item)).range ≡ (summary_of item).range = ap (λ (s : Summary). s.range) (summary_of-plain item) in
+    subst (λ (r : Option RangeItem). IfSome r (IsRangeIn (2 ^ 64 - 1))) range
+    (subst (λ (x : Item). IfSome (summary_of x).range (IsRangeIn (2 ^ 64 - 1))) (sym is.same) (told_placed z few is.entry is.index is.offset is.fields is.name))
+
+no_stream : (item : Item) → (summary_of item).stream ≡ None → IsStream (plain item) → ⊥
+no_stream item none stream =
+    let is = plain_stream item stream.0 stream.1 in
+    let some : (summary_of item).stream ≡ Some stream.0 = ap (λ (x : Item). (summary_of x).stream) is in
+    cc (none, some)
+
+pub record_classed : (z : ℕ) (e : Entry) (item : Item) → (summary_of item).stream ≡ None → IsClassed z e item → IsRecordOf z (kind_of e.stream_type) (plain item)
+record_classed z e item none (inl stream) = absurd (no_stream item none stream)
+record_classed z e item none (inr is) = is
+
+-- what is found of it is of its stream's kind
+pub found_in : (z t : ℕ) (far : Bool) (item : Item) (f : FoundRecord) → far ≡ (t == 9) → IsRecordOf z (kind_of t) (plain item) → IsFittingOf (record_kind far item) f → AreIn z f.parts → IsFoundIn z t f
+found_in z t far item f is_far is fits inside =
+    let by_kind : far ≡ is_list64 (kind_told is.fields) = is_far ∙ sym (far_by_type t (kind_told is.fields) is.known) in
+    let told : record_kind far item ≡ Some (kind_told is.fields) =
+    plain_kind far item ∙ ap (record_kind far) is.same ∙ told_kind far z is.entry is.index is.offset is.fields is.name by_kind in
+    let wire : Some (kind_told is.fields) ≡ Some (kind_told f.wire) = sym told ∙ fits.0 in
+    record { kind_is = known_by t f.wire (is.known ∙ wire); inside = inside; bytes = fits.1 }
+
+-- ---- while records are left
+
+some_left : (passed records : ℕ) (b : Bool) → (passed == 0) ≡ b → 0 < (if b then 0 else records) → ((if b then 0 else records) ≡ records) × (passed ≡ 0 → ⊥)
+some_left passed records true fresh none = absurd (omega (arith, none))
+some_left passed records false begun some = (refl, λ fresh. let none : (0 == 0) ≡ false = subst (λ (n : ℕ). (n == 0) ≡ false) fresh begun in cc none)
+
+pub left_some : (passed : ℕ) (stop : Option (Option ListFault)) (records : ℕ) → 0 < left_by passed stop records → (stop ≡ None) × ((left_by passed stop records ≡ records) × (passed ≡ 0 → ⊥))
+left_some passed None records some = (refl, some_left passed records (passed == 0) refl some)
+left_some passed (Some stop) records some = absurd (omega (arith, some))
+
+-- of a known file they have a shape
+pub record Counted (F : List ℕ) (e : Entry) (n : ℕ) : Type 0 where
+  pub placed : location_fault (length F) e ≡ None
+  pub kind : Kind
+  pub known : kind_of e.stream_type ≡ Some kind
+  pub shape : Shape
+  pub shaped : shape_of F e.location.rva e.location.size kind ≡ Ok shape
+  pub count : shape.count ≡ n
+
+module _ (F : List ℕ) (e : Entry) (n : ℕ) (some : 0 < n) where
+  counted_shape : (kind : Kind) → location_fault (length F) e ≡ None → kind_of e.stream_type ≡ Some kind → (r : Result Shape Fault) → shape_of F e.location.rva e.location.size kind ≡ r → records_in r ≡ Ok n → Counted F e n
+  counted_shape kind placed known (Ok shape) shaped is = record { placed = placed; kind = kind; known = known; shape = shape; shaped = shaped; count = cc is }
+  counted_shape kind placed known (Err f) shaped is = absurd (cc is)
+
+  counted_kind : location_fault (length F) e ≡ None → (kind : Option Kind) → kind_of e.stream_type ≡ kind → known_count F e.location.rva e.location.size kind ≡ Ok n → Counted F e n
+  counted_kind placed (Some kind) known is = counted_shape kind placed known (shape_of F e.location.rva e.location.size kind) refl is
+  counted_kind placed None known is = absurd (let none : 0 ≡ n = cc is in omega (arith, some, none))
+
+  counted_place : (outside : Option Fault) → location_fault (length F) e ≡ outside → record_count F e ≡ Ok n → Counted F e n
+  counted_place None placed is = counted_kind placed (kind_of e.stream_type) refl (rw placed at is)
+  counted_place (Some f) placed is = absurd (let other : Err f ≡ Ok n = rw placed at is in cc other)
+
+  pub counted : record_count F e ≡ Ok n → Counted F e n
+  counted is = counted_place (location_fault (length F) e) refl is
+
+-- ---- a name with a fault
+
+named_fault : (r : Result Name Fault) (item : Name → Item) (f : Fault) → named r item ≡ Err f → r ≡ Err f
+named_fault (Ok n) item f is = absurd (cc is)
+named_fault (Err g) item f is = ap Err (cc is)
+
+name_refused : (F : List ℕ) (limit : ℕ) (rva : Option ℕ) (f : Fault) → name_of F 0 rva ≡ Err f → name_of F limit rva ≡ Err f
+name_refused F limit None f is = absurd (cc is)
+name_refused F limit (Some rva) f is = refused_under F rva 0 limit f is
+
+item_refused : (F : List ℕ) (limit e k at o : ℕ) (kind : Kind) (f : Fault) → item_at F 0 e k at o kind ≡ Err f → item_at F limit e k at o kind ≡ Err f
+item_refused F limit e k at o kind f is =
+    let name = name_refused F limit (name_rva (record_at kind F o)) f (named_fault (name_of F 0 (name_rva (record_at kind F o))) (λ n. item_of (length F) e k (offset_in F at k kind) (record_at kind F o) n) f is) in
+    ap (λ (r : Result Name Fault). named r (λ n. item_of (length F) e k (offset_in F at k kind) (record_at kind F o) n)) name
+
+-- the fault with which what is left begins is that of the next record
+module _ (F : List ℕ) (limit : ℕ) (x : Numbered) (k : ℕ) (xs : List Numbered) (n : ℕ) (c : Counted F x.entry n) (within : k < n) (f : ListFault) where
+  abbrev place : ℕ
+  place = x.entry.location.rva + c.shape.first + k * c.shape.stride
+
+  body : body_from F 0 x k ≡ items_from F 0 x.number x.entry.location.rva c.kind c.shape (c.shape.count - k) k
+  body = rw (c.placed, c.known, c.shaped) refl
+
+  within_shape : k < c.shape.count
+  within_shape = let count = c.count in omega (arith, within, count)
+
+  fault_by : left_from F 0 x k xs ≡ only_fault f → (r : Result Item Fault) → item_at F 0 x.number k x.entry.location.rva place c.kind ≡ r
+      → (g : Fault) × ((item_at F 0 x.number k x.entry.location.rva place c.kind ≡ Err g) × (f ≡ list_fault x.number (Some k) g))
+  fault_by left (Ok item) is =
+      let rest = items_from F 0 x.number x.entry.location.rva c.kind c.shape (c.shape.count - (k + 1)) (k + 1) in
+      let row : left_from F 0 x k xs ≡ with_item item (joined rest (run_of F 0 xs)) =
+      ap (λ (run : Run). joined run (run_of F 0 xs)) (body ∙ records-given F 0 x.number x.entry.location.rva c.kind c.shape k within_shape item is) ∙ joined-with_item item rest (run_of F 0 xs) in
+      let first : Some item ≡ None = ap (λ (run : Run). slice_get run.items 0) (sym row ∙ left) in
+      absurd (cc first)
+  fault_by left (Err g) is =
+      let row : left_from F 0 x k xs ≡ only_fault (list_fault x.number (Some k) g) =
+      ap (λ (run : Run). joined run (run_of F 0 xs)) (body ∙ records-faulted F 0 x.number x.entry.location.rva c.kind c.shape k within_shape g is) in
+      let same : Some (list_fault x.number (Some k) g) ≡ Some f = ap (λ (run : Run). run.fault) (sym row ∙ left) in
+      (g, (is, sym (cc same)))
+
+  pub row_refused : ((IsOfSource f.kind → ⊥) → left_from F 0 x k xs ≡ only_fault f) → FindsRow F limit x k (Err (faults.List f))
+  row_refused gives = record {
+    kind = c.kind;
+    shape = c.shape;
+    kind_is = c.known;
+    shape_is = c.shaped;
+    within = within_shape;
+    finds = λ not.
+        let g = fault_by (gives (own_store_fault f.kind not)) (item_at F 0 x.number k x.entry.location.rva place c.kind) refl in
+        ap (row_told F x.number k) (item_refused F limit x.number k x.entry.location.rva place c.kind g.0 g.1.0) ∙ ap (λ (h : ListFault). Some (faults.List h)) (sym g.1.1);
+  }
+
+-- and what is found of the item that was given is found of it
+row_found : (F : List ℕ) (e k : ℕ) (r : Result Item Fault) (item : Item) (seen : Seen) (result : Result FoundRecord ReadFault) → r ≡ Ok item → FindsSeen F (item_steps (length F) item) seen result → IsRowFound F e k r seen result
+row_found F e k r item seen (Ok f) is found = (ap (row_told F e k) is ∙ found.0, found.1)
+row_found F e k r item seen (Err fault) is found = λ own. ap (row_told F e k) is ∙ found own
+
+-- ---- what an answer leaves
+
+-- no entry was begun
+pub record Stays (old new : WalkerState) : Type 0 where
+  pub same : IsSameLister old.list new.list
+  pub fetches : FetchesSome old.list.source new.list.source
+  pub mark : new.mark ≡ old.mark
+  pub current : new.list.current ≡ old.list.current
+  pub passed : new.list.passed ≡ old.list.passed
+  pub counts : Moves 1 old.list.counts new.list.counts
+  pub spent : IsSpentSince old new.list.counts
+  pub nameless : HasNoNames (kind_of old.list.current.stream_type) → new.list.counts.names ≡ old.list.counts.names
+
+pub stays_record : (old new : WalkerState) (item : Item) → (summary_of item).stream ≡ None → WalkerLeaves old (Ok (Some item)) new → Stays old new
+stays_record old new item none leaves = record {
+  same = leaves.list.same;
+  fetches = record { count = _; fetches = leaves.list.fetches };
+  mark = leaves.mark ∙ ap (λ (s : Option StreamItem). mark_by s new.list.counts old.mark) none;
+  current = leaves.list.current ∙ ap (λ (s : Option StreamItem). entry_begun s old.list.current) none;
+  passed = leaves.list.passed ∙ ap (λ (s : Option StreamItem). number_behind s old.list.passed) none;
+  counts = leaves.list.counts;
+  spent = leaves.spent;
+  nameless = leaves.nameless;
+}
+
+pub stays_fault : (old new : WalkerState) (f : ListFault) → WalkerLeaves old (Err f) new → Stays old new
+stays_fault old new f leaves = record {
+  same = leaves.list.same;
+  fetches = record { count = _; fetches = leaves.list.fetches };
+  mark = leaves.mark;
+  current = leaves.list.current;
+  passed = leaves.list.passed;
+  counts = leaves.list.counts;
+  spent = leaves.spent;
+  nameless = leaves.nameless;
+}
+
+module _ (old new : WalkerState) (kept : IsKept old) (stays : Stays old new) where
+  names_most : 4 * new.list.counts.names ≤ 4 * old.list.counts.names + name_cost old.list.current.stream_type
+  names_most = by (names_or_none old.list.current.stream_type) where
+    by : HasNoNames (kind_of old.list.current.stream_type) ⊎ (name_cost old.list.current.stream_type ≡ 4) → 4 * new.list.counts.names ≤ 4 * old.list.counts.names + name_cost old.list.current.stream_type
+    by (inl none) = let same = stays.nameless none in omega (arith, same)
+    by (inr some) = let most = stays.counts.most_names in omega (arith, some, most)
+
+  cost_same : entry_cost new.list.source.size new.list.current ≡ entry_cost old.list.source.size old.list.current
+  cost_same = λ i. entry_cost (stays.fetches.fetches.same_size i) (stays.current i)
+
+  mark_fetched : new.mark.fetched ≡ old.mark.fetched
+  mark_fetched = ap (λ (c : MeterCounts). c.fetched) stays.mark
+
+  mark_names : new.mark.names ≡ old.mark.names
+  mark_names = ap (λ (c : MeterCounts). c.names) stays.mark
+
+  pub pays : Pays 0 (name_cost old.list.current.stream_type) (state_of old) (state_of new)
+  pays = record {
+    same = walk_same old new stays.same stays.fetches;
+    aside = ap (λ (a : Amount). a.bytes) stays.same.aside;
+    allowed = λ few. let more = stays.counts.more_names in omega (arith, names_most, cost_same, mark_fetched, mark_names, kept.within, more);
+    reached = names_most;
+    more = stays.counts.more_names;
+  }
+
+  pub current_same : current_of new.list ≡ current_of old.list
+  current_same = λ i. record { number = stays.passed i - 1; entry = stays.current i }
+
+  -- it is kept where what is left is
+  pub kept_by : ((file : List ℕ) → new.list.source.store.content ≡ Some file → 0 < left_of new.list → HasLeft file new.list) → IsKept new
+  kept_by left = record {
+    limit = stays.same.limit ∙ kept.limit;
+    within = let more = stays.counts.more_names in omega (arith, mark_names, kept.within, more);
+    spent = λ few.
+        let within : old.mark.names ≤ new.list.counts.names = let more = stays.counts.more_names in omega (arith, kept.within, more) in
+        let most = paid_by old.list.limit new.list.counts.fetched (old.mark.fetched + entry_cost old.list.source.size old.list.current) old.mark.names new.list.counts.names kept.limit (stays.spent few) within in
+        omega (arith, most, cost_same, mark_fetched, mark_names);
+    of_file = left;
+  }
+
+-- ---- a record
+
+-- want of memory, a refusal of the record, or a change of the store
+ends_not : (fault : ReadFault) → IsOfPlaces fault → ended_by {T = FoundRecord} (Err fault) ≡ None
+ends_not (faults.List f) of_places = absurd of_places
+ends_not fault of_places = refl
+
+record_fault : (fault : ReadFault) → IsOfRecord fault → store_fault fault ≡ None
+record_fault (faults.NameTooLong e k n) is = refl
+record_fault (faults.PartOutside e k part offset n) is = refl
+record_fault fault is = absurd is
+
+-- it tells of the store that it has changed, or nothing
+places_told : (fault : ReadFault) (old new : SourceState) → IsOfPlaces fault → ((IsOfRecord fault → ⊥) → old.store.content ≡ None) → IfSome (store_fault fault) (λ of_store. IsLastTold of_store old new)
+places_told (faults.Source (Changed at)) old new is unknown = unknown (λ never. never)
+places_told faults.Memory old new is unknown = tt
+places_told (faults.NameTooLong e k n) old new is unknown = tt
+places_told (faults.PartOutside e k part offset n) old new is unknown = tt
+places_told fault old new is unknown = absurd is
+
+-- a refusal of the record is no want of memory
+able_of : (fault : ReadFault) → IsOfRecord fault → fault ≡ faults.Memory → ⊥
+able_of fault of_record is = subst IsOfRecord is of_record
+
+places_of_walk : (fault : ReadFault) → IsOfPlaces fault → IsOfWalk fault
+places_of_walk (faults.Opening f) is = absurd is
+places_of_walk (faults.PartsTooLarge e k) is = absurd is
+places_of_walk fault is = tt
+
+places_refused : (size : ℕ) (fault : ReadFault) → IsOfPlaces fault → IsReadRefusal size fault
+places_refused size (faults.Opening f) is = absurd is
+places_refused size fault is = tt
+
+module _ (old new : WalkerState) (kept : IsKept old) (left : 0 < left_of old.list) (item : Item) (leaves : WalkerLeaves old (Ok (Some item)) new) where
+  went : ((summary_of item).stream ≡ None) × (old.list.records ≡ new.list.records + 1)
+  went =
+      let some = left_some old.list.passed old.list.stop old.list.records left in
+      leaves.list.records (omega (arith, left, some.1.0))
+
+  stays : Stays old new
+  stays = stays_record old new item went.0 leaves
+
+  fewer_left : left_of old.list ≡ left_of new.list + 1
+  fewer_left =
+      let some = left_some old.list.passed old.list.stop old.list.records left in
+      let same = stays.passed in
+      let now = left_begun new.list.passed new.list.stop new.list.records (λ fresh. some.1.1 (sym same ∙ fresh)) leaves.list.stop in
+      omega (arith, some.1.0, now, went.1)
+
+  pub record_is : IsRecordOf old.list.source.size (kind_of old.list.current.stream_type) (plain item)
+  record_is = record_classed old.list.source.size old.list.current item went.0 (subst (λ (e : Entry). IsClassed old.list.source.size e item) stays.current leaves.list.classed)
+
+  -- of a known file it is the next of those that are left
+  module _ (gives : (left : Run) → old.list.left ≡ Some left → slice_get left.items 0 ≡ Some (plain item)) (F : List ℕ) (known : old.list.source.store.content ≡ Some F) where
+    had : HasLeft F old.list
+    had = kept.of_file F known left
+
+    shaped : Counted F old.list.current (had.0 + left_of old.list)
+    shaped = counted F old.list.current (had.0 + left_of old.list) (omega (arith, left)) had.2.1
+
+    given : RowGiven F 0 (current_of old.list) had.0 had.1 shaped.kind (plain item)
+    given = row_given F 0 (current_of old.list) had.0 had.1 shaped.kind (plain item) shaped.known (no_stream item went.0) (gives (left_from F 0 (current_of old.list) had.0 had.1) had.2.0)
+
+    left_behind : HasLeft F new.list
+    left_behind =
+        let rest : new.list.left ≡ Some (left_from F 0 (current_of old.list) (had.0 + 1) had.1) = leaves.list.left ∙ ap (option_map tail) had.2.0 ∙ ap Some given.rest in
+        let count : had.0 + left_of old.list ≡ had.0 + 1 + left_of new.list = omega (arith, fewer_left) in (
+          had.0 + 1,
+          had.1,
+          (
+            subst (λ (y : Numbered). new.list.left ≡ Some (left_from F 0 y (had.0 + 1) had.1)) (sym (current_same old new kept stays)) rest,
+            ap (record_count F) stays.current ∙ had.2.1 ∙ ap Ok count,
+          ),
+        )
+
+    module _ (limit : ℕ) (far : Bool) (is_far : far ≡ (old.list.current.stream_type == 9)) (result : Result FoundRecord ReadFault) (finds : IsFoundInside F far (plain item) limit result) where
+      abbrev offset : ℕ
+      offset = old.list.current.location.rva + given.shape.first + had.0 * given.shape.stride
+
+      found : FindsRecord F limit (current_of old.list).number had.0 old.list.current.location.rva offset shaped.kind result × IfErr result IsOfRecord
+      found = finds (current_of old.list).number had.0 old.list.current.location.rva offset shaped.kind (far_by_type old.list.current.stream_type shaped.kind shaped.known ∙ sym is_far) given.is_item
+
+      found_next : FindsNext F limit (state_of old) result
+      found_next = (
+        had.0,
+        (
+          had.2.1,
+          record {
+            kind = shaped.kind;
+            shape = given.shape;
+            kind_is = shaped.known;
+            shape_is = given.shaped;
+            within = given.within;
+            finds = row_found F (current_of old.list).number had.0 _ found.0.0 (seen_in shaped.kind F old.list.current.location.rva had.0 offset) result found.0.1.0 found.0.1.1;
+          },
+        ),
+      )
+
+  pub kept_record : ((left : Run) → old.list.left ≡ Some left → slice_get left.items 0 ≡ Some (plain item)) → IsKept new
+  kept_record gives = kept_by old new kept stays (λ F known some. left_behind gives F (sym stays.fetches.fetches.same_content ∙ known))
+
+  pub far_record : (far : Bool) → IsFar old.list far → IsFar new.list far
+  far_record far is some = is left ∙ ap (λ (e : Entry). e.stream_type == 9) (sym stays.current)
+
+  module _ (gives : (left : Run) → old.list.left ≡ Some left → slice_get left.items 0 ≡ Some (plain item)) (far : Bool) (is_far : IsFar old.list far) (limit size : ℕ) (size_is : size ≡ old.list.source.size)
+      (sized : IsSizeOf old.list.source.store.content size) (bytes : IsOfBytes old.list.source.store.content) where
+    abbrev Finds : Result FoundRecord ReadFault → Type 0
+    Finds result = (F : List ℕ) → length F ≡ size → AreBytes F → IsFoundInside F far (plain item) limit result
+
+    inside_of : (result : Result FoundRecord ReadFault) → Finds result → (F : List ℕ) → old.list.source.store.content ≡ Some F → IsFoundInside F far (plain item) limit result
+    inside_of result finds F known =
+        let length_is : size ≡ length F = subst (λ (c : Option (List ℕ)). IsSizeOf c size) known sized in
+        finds F (sym length_is) (bytes F known)
+
+    of_known : (result : Result FoundRecord ReadFault) → Finds result → (F : List ℕ) → old.list.source.store.content ≡ Some F → FindsNext F limit (state_of old) result
+    of_known result finds F known = found_next gives F known limit far (is_far left) result (inside_of result finds F known)
+
+    refused_known : (fault : ReadFault) → Finds (Err fault) → (F : List ℕ) → old.list.source.store.content ≡ Some F → IsOfRecord fault
+    refused_known fault finds F known = (found gives F known limit far (is_far left) (Err fault) (inside_of (Err fault) finds F known)).1
+
+    unknown : (fault : ReadFault) → Finds (Err fault) → (IsOfRecord fault → ⊥) → (content : Option (List ℕ)) → old.list.source.store.content ≡ content → old.list.source.store.content ≡ None
+    unknown fault finds not None is = is
+    unknown fault finds not (Some F) is = absurd (not (refused_known fault finds F is))
+
+    gives_found : (f : FoundRecord) → Finds (Ok f) → IsFittingOf (record_kind far item) f → AreIn size f.parts → GivesNext (state_of old) limit (Ok f) (state_of new)
+    gives_found f finds fits inside = record {
+      pays = pays old new kept stays;
+      goes = (current_same old new kept stays, fewer_left);
+      found = found_in old.list.source.size old.list.current.stream_type far item f (is_far left) record_is fits (subst (λ (z : ℕ). AreIn z f.parts) size_is inside);
+      of_file = of_known (Ok f) finds;
+      told = tt;
+      able = λ F known. tt;
+      fetches = Fetches_only f old.list.source new.list.source stays.fetches;
+      failed = ap ended_with leaves.list.stop;
+    }
+
+    gives_refused : (fault : ReadFault) → Finds (Err fault) → IsOfPlaces fault → GivesNext (state_of old) limit (Err fault) (state_of new)
+    gives_refused fault finds of_places = record {
+      pays = pays old new kept stays;
+      goes = tt;
+      found = tt;
+      of_file = of_known (Err fault) finds;
+      told = places_of_walk fault of_places;
+      able = λ F known. able_of fault (refused_known fault finds F known);
+      fetches = record {
+        fetches = stays.fetches;
+        told = places_told fault old.list.source new.list.source of_places (λ not. unknown fault finds not old.list.source.store.content refl);
+        good = λ F good. record_fault fault (refused_known fault finds F good.known);
+        refusal = places_refused old.list.source.size fault of_places;
+      };
+      failed = ap ended_with leaves.list.stop ∙ sym (ends_not fault of_places);
+    }
+
+    pub gives_next : (result : Result FoundRecord ReadFault) → Finds result → MatchResult result (IsFittingOf (record_kind far item)) IsOfPlaces → IfOk result (λ f. AreIn size f.parts)
+        → GivesNext (state_of old) limit result (state_of new)
+    gives_next (Ok f) finds fits inside = gives_found f finds fits inside
+    gives_next (Err fault) finds fits inside = gives_refused fault finds fits
+
+-- ---- a fault
+
+-- the next record is refused, or the store failed
+module _ (old new : WalkerState) (kept : IsKept old) (left : 0 < left_of old.list) (f : ListFault) (leaves : WalkerLeaves old (Err f) new) where
+  stopped : left_of new.list ≡ 0
+  stopped = left_stopped new.list.passed new.list.stop (Some f) new.list.records leaves.list.stop
+
+  pub kept_fault : IsKept new
+  kept_fault = kept_by old new kept (stays_fault old new f leaves) (λ F known some. absurd (omega (arith, some, stopped)))
+
+  pub gives_fault : ((left : Run) → old.list.left ≡ Some left → (IsOfSource f.kind → ⊥) → left ≡ only_fault f) → ((file : List ℕ) → IsGood old.list.source.store file → IsOfSource f.kind → ⊥)
+      → (limit : ℕ) → GivesNext (state_of old) limit (Err (faults.List f)) (state_of new)
+  gives_fault gives good limit =
+      let going = (left_some old.list.passed old.list.stop old.list.records left).0 in
+      let stays = stays_fault old new f leaves in
+      record {
+        pays = pays old new kept stays;
+        goes = tt;
+        found = tt;
+        of_file = λ F known.
+            let had = kept.of_file F known left in
+            let shaped = counted F old.list.current (had.0 + left_of old.list) (omega (arith, left)) had.2.1 in (
+              had.0,
+              (
+                had.2.1,
+                row_refused F limit (current_of old.list) had.0 had.1 (had.0 + left_of old.list) shaped (omega (arith, left)) f
+                    (gives (left_from F 0 (current_of old.list) had.0 had.1) had.2.0),
+              ),
+            );
+        told = tt;
+        able = λ F known is. cc is;
+        fetches = record {
+          fetches = stays.fetches;
+          told = last_told old.list.current f.kind old.list.source new.list.source (leaves.list.told going).by leaves.unchanged;
+          good = λ F is. no_store_fault f.kind (good F is);
+          refusal = tt;
+        };
+        failed = ap ended_with leaves.list.stop;
+      }

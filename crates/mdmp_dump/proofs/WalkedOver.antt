@@ -1,0 +1,241 @@
+-- A file that is walked over as a view of it is opened.
+use Rattle.std.proofs.Common.{◌≡◌, ◌∙◌, ◌<◌, ◌+◌, ◌*◌, ◌^◌, ℕ, List, [], ◌∷◌, ◌++◌, length, get_or, take, Some, None, Result, Ok, Err, ap, arith, inl, inr, refl, subst, sym, sum, length-append}
+use Rattle.std.proofs.lemmas.Bool.{cases_lt}
+use Rattle.std.proofs.lemmas.List.{get_or_append_left, get_or_push}
+use Rattle.mdmp_lister.specs.Format.Listing.{Numbered}
+use Rattle.mdmp_lister.specs.Format.Shape.{record_count}
+use Rattle.mdmp_dump.specs.declared.fault.ReadFault.{ReadFault}
+use Rattle.mdmp_dump.specs.declared.found_record.FoundRecord.{FoundRecord}
+use Rattle.mdmp_dump.specs.declared.view.Fields.{Fields}
+use Rattle.mdmp_dump.specs.EntryWalk.{Begins, FindsRow, GivesNext, IsSameWalk, Pays, WalkState, entry_at, listed, name_cost, no_entry, pass_cost}
+use Rattle.mdmp_dump.specs.FileRefusal.{body_told, entry_told, run_told}
+use Rattle.mdmp_dump.specs.Left.{run_of}
+use Rattle.mdmp_dump.specs.FileView.{AreWalked, HasWalked, PaysAll, costs_in, room_told, stream_of}
+use Rattle.mdmp_dump.specs.FoundRecord.{fields_of}
+use Rattle.mdmp_dump.specs.InFile.{stream_named}
+use Rattle.mdmp_dump.specs.Placed.{far_room, fields_room}
+use Rattle.mdmp_dump.specs.Reading.{Fetches, IsOwn}
+use Rattle.mdmp_dump.specs.Shape.{parts_in, record_at, told}
+use Rattle.mdmp_dump.specs.View.{kind_in, records_seen}
+use Rattle.mdmp_dump.proofs.FileViews.{costs_push}
+use Rattle.mdmp_dump.proofs.Refusals.{count_refused, entry_begins, one_told, row_passed, row_refused, rows_passed}
+use Rattle.mdmp_dump.proofs.Taking.{FetchesSome_none, FetchesSome_then, fetches_err}
+use Rattle.mdmp_dump.proofs.Viewed.{records_are, rooms_all, rooms_none, rooms_step, row_seen}
+
+-- ---- walks one behind the other
+
+pub same_then : (u v w : WalkState) → IsSameWalk u v → IsSameWalk v w → IsSameWalk u w
+same_then u v w p q = record {
+  header = q.header ∙ p.header;
+  choice = q.choice ∙ p.choice;
+  chosen = q.chosen ∙ p.chosen;
+  held = q.held ∙ p.held;
+  fetches = FetchesSome_then u.source v.source w.source p.fetches q.fetches;
+}
+
+pub pays_then : (a b c d : ℕ) (u v w : WalkState) → Pays a b u v → Pays c d v w → Pays (a + c) (b + d) u w
+pays_then a b c d u v w p q = record {
+  same = same_then u v w p.same q.same;
+  aside = q.aside ∙ p.aside;
+  allowed = λ few. (let later = q.allowed few in let first = p.allowed (omega (arith, few, q.more)) in omega (arith, later, first));
+  reached = omega (arith, p.reached, q.reached);
+  more = omega (arith, p.more, q.more);
+}
+
+-- ---- the records of a stream
+
+-- so many of its records were found, none of them refused, and their names and parts take so much
+pub record IsWalkedTo (Z : Type 0) (F : List ℕ) (limit : ℕ) (x : Numbered) (count index room : ℕ) : Type 0 where
+  pub counted : record_count F x.entry ≡ Ok count
+  pub quiet : entry_told F limit x ≡ body_told F limit x index
+  pub room_is : room ≡ told (parts_in (kind_in (stream_named {Z = Z} F x.entry)) (take index (records_seen (stream_named {Z = Z} F x.entry))))
+
+-- and the walk stands behind them
+pub record IsWalking (Z : Type 0) (limit : ℕ) (old : WalkState) (k count : ℕ) (now : WalkState) (index room : ℕ) : Type 0 where
+  pub pays : Pays (listed (entry_at old k).entry) (index * name_cost (entry_at old k).entry.stream_type) old now
+  pub current : now.current ≡ entry_at old k
+  pub left : index + now.left ≡ count
+  pub few : count < 2 ^ 32
+  pub going : now.failed ≡ None
+  pub of_file : (F : List ℕ) → old.source.store.content ≡ Some F → IsWalkedTo Z F limit (entry_at old k) count index room
+
+no_more : (cost : ℕ) → 0 ≡ 0 * cost
+no_more cost = omega arith
+
+one_more : (index cost : ℕ) → (index + 1) * cost ≡ index * cost + cost
+one_more index cost = omega arith
+
+module _ (Z : Type 0) (limit : ℕ) (old : WalkState) (k : ℕ) where
+  pub walking_begins : (count : ℕ) (now : WalkState) → Begins old k (Ok count) now → IsWalking Z limit old k count now 0 0
+  walking_begins count now begins = record {
+    pays = subst (λ (b : ℕ). Pays (listed (entry_at old k).entry) b old now) (no_more (name_cost (entry_at old k).entry.stream_type)) begins.pays;
+    current = begins.begun.0;
+    left = omega (arith, begins.begun.1);
+    few = begins.begun.2;
+    going = begins.failed;
+    of_file = λ F known. record {
+      counted = begins.of_file F known;
+      quiet = entry_begins F limit (entry_at old k);
+      room_is = sym (rooms_none (kind_in (stream_of {Z = Z} F old k)) (records_seen (stream_of {Z = Z} F old k)));
+    };
+  }
+
+  pub walking_unbegun : (fault : ReadFault) (now : WalkState) → Begins old k (Err fault) now → (F : List ℕ) → old.source.store.content ≡ Some F → HasWalked Z F limit old k (Err fault)
+  walking_unbegun fault now begins F known = λ own.
+      let told = begins.of_file F known own in
+      count_refused F limit (entry_at old k) told.0 told.1.0 ∙ ap Some (sym told.1.1)
+
+  module _ (count : ℕ) (now : WalkState) (index room : ℕ) (walking : IsWalking Z limit old k count now index room) (next : WalkState) where
+    known_now : (F : List ℕ) → old.source.store.content ≡ Some F → now.source.store.content ≡ Some F
+    known_now F known = walking.pays.same.fetches.fetches.same_content ∙ known
+
+    row_next : (result : Result FoundRecord ReadFault) → GivesNext now limit result next → (F : List ℕ) → old.source.store.content ≡ Some F → FindsRow F limit (entry_at old k) index result
+    row_next result gives F known =
+        let found = gives.of_file F (known_now F known) in
+        let count_is : record_count F (entry_at old k).entry ≡ Ok (found.0 + now.left) = subst (λ (x : Numbered). record_count F x.entry ≡ Ok (found.0 + now.left)) walking.current found.1.0 in
+        let whole : found.0 + now.left ≡ count = (let a = count_is in let b = (walking.of_file F known).counted in cc) in
+        let same : found.0 ≡ index = omega (arith, whole, walking.left) in
+        subst (λ (i : ℕ). FindsRow F limit (entry_at old k) i result) same (subst (λ (x : Numbered). FindsRow F limit x found.0 result) walking.current found.1.1)
+
+    pub walking_goes : (f : FoundRecord) (g : Fields) (met : ℕ) → GivesNext now limit (Ok f) next → index < count → g ≡ fields_of f → met ≡ told (told (room + fields_room g) + far_room g)
+        → IsWalking Z limit old k count next (index + 1) met
+    walking_goes f g met gives fewer same sum =
+        let cost = name_cost (entry_at old k).entry.stream_type in
+        let pays : Pays 0 cost now next = subst (λ (x : Numbered). Pays 0 (name_cost x.entry.stream_type) now next) walking.current gives.pays in
+        let both : Pays (listed (entry_at old k).entry + 0) (index * cost + cost) old next = pays_then (listed (entry_at old k).entry) (index * cost) 0 cost old now next walking.pays pays in
+        let bytes : listed (entry_at old k).entry + 0 ≡ listed (entry_at old k).entry = omega arith in
+        record {
+          pays = subst (λ (a : ℕ). Pays a ((index + 1) * cost) old next) bytes (subst (λ (b : ℕ). Pays (listed (entry_at old k).entry + 0) b old next) (sym (one_more index cost)) both);
+          current = gives.goes.0 ∙ walking.current;
+          left = omega (arith, walking.left, gives.goes.1);
+          few = walking.few;
+          going = gives.failed;
+          of_file = λ F known.
+              let of = walking.of_file F known in
+              let row = row_next (Ok f) gives F known in
+              let fields : g ≡ (record_at (stream_of {Z = Z} F old k) index).fields = same ∙ (row_seen Z F (entry_at old k) count of.counted limit index f row).fields in
+              record {
+                counted = of.counted;
+                quiet = of.quiet ∙ row_passed F limit (entry_at old k) count of.counted index f row;
+                room_is = rooms_step Z F (entry_at old k) count of.counted index room met fewer of.room_is (subst (λ (h : Fields). met ≡ told (told (room + fields_room h) + far_room h)) fields sum);
+              };
+        }
+
+    pub walking_refused : (fault : ReadFault) → GivesNext now limit (Err fault) next → (F : List ℕ) → old.source.store.content ≡ Some F → HasWalked Z F limit old k (Err fault)
+    walking_refused fault gives F known = λ own.
+        let of = walking.of_file F known in
+        of.quiet ∙ row_refused F limit (entry_at old k) count of.counted index fault (row_next (Err fault) gives F known) own
+
+    pub walking_same : (fault : ReadFault) → GivesNext now limit (Err fault) next → IsSameWalk old next
+    walking_same fault gives = same_then old now next walking.pays.same gives.pays.same
+
+    pub walking_fetches : {T : Type 0} (fault : ReadFault) → GivesNext now limit (Err fault) next → Fetches {T = T} (Err fault) old.source next.source
+    walking_fetches {T = T} fault gives = fetches_err old.source now.source next.source walking.pays.same.fetches fault gives.fetches
+
+  pub walking_ends : (count : ℕ) (now : WalkState) (index room : ℕ) → IsWalking Z limit old k count now index room → index ≡ count → (F : List ℕ) → old.source.store.content ≡ Some F
+      → HasWalked Z F limit old k (Ok (record { count = count; room = room }))
+  walking_ends count now index room walking all F known =
+      let of = walking.of_file F known in
+      let s = stream_of {Z = Z} F old k in (
+        of.counted,
+        of.room_is ∙ ap told (rooms_all (kind_in s) (records_seen s) index (omega (arith, all, records_are Z F (entry_at old k) count of.counted))),
+        of.quiet ∙ ap (body_told F limit (entry_at old k)) all ∙ rows_passed F limit (entry_at old k) count of.counted,
+      )
+
+-- ---- all streams
+
+-- the streams that were walked over, and the walk behind them
+pub record AreWalking (Z : Type 0) (limit : ℕ) (old now : WalkState) (counts rooms : List ℕ) (k : ℕ) : Type 0 where
+  pub pays : PaysAll counts old now
+  pub counted : length counts ≡ k
+  pub roomed : length rooms ≡ k
+  pub going : now.failed ≡ None
+  pub of_file : (F : List ℕ) → old.source.store.content ≡ Some F → AreWalked Z F limit old counts rooms
+
+none_cost_sum : (xs : List Numbered) → sum (costs_in xs []) ≡ 0
+unfolding costs_in
+none_cost_sum [] = refl
+none_cost_sum (x ∷ xs) = refl
+
+-- what is true of each of some numbers and of one more behind them
+each_push : (P : ℕ → ℕ → Type 0) (ns : List ℕ) (n : ℕ) → ((k : ℕ) → k < length ns → P k (get_or ns k 0)) → P (length ns) n → (k : ℕ) → k < length (ns ++ n ∷ []) → P k (get_or (ns ++ n ∷ []) k 0)
+each_push P ns n each last k inside = elim (cases_lt k (length ns)) [
+  | inl before ↦ subst (P k) (sym (get_or_append_left ns (n ∷ []) 0 k before)) (each k before)
+  | inr at ↦
+      let same : k ≡ length ns = omega (arith, at, inside, length-append ns (n ∷ [])) in
+      subst (λ (i : ℕ). P i (get_or (ns ++ n ∷ []) i 0)) (sym same) (subst (P (length ns)) (sym (get_or_push ns n 0 (length ns) refl)) last)
+]
+
+module _ (Z : Type 0) (limit : ℕ) (old : WalkState) where
+  pub all_begin : old.failed ≡ None → AreWalking Z limit old old [] [] 0
+  all_begin going = record {
+    pays = record {
+      same = record { header = refl; choice = refl; chosen = refl; held = refl; fetches = FetchesSome_none old.source };
+      aside = refl;
+      allowed = λ few. omega (arith, none_cost_sum old.chosen);
+      reached = omega (arith, none_cost_sum old.chosen);
+    };
+    counted = refl;
+    roomed = refl;
+    going = going;
+    of_file = λ F known. record {
+      counted = λ k inside. absurd (let h : k < 0 = inside in omega (arith, h));
+      roomed = λ k inside. absurd (let h : k < 0 = inside in omega (arith, h));
+      quiet = λ k inside. absurd (let h : k < 0 = inside in omega (arith, h));
+    };
+  }
+
+  module _ (now : WalkState) (counts rooms : List ℕ) (k : ℕ) (walking : AreWalking Z limit old now counts rooms k) (inside : k < length old.chosen) (next : WalkState) where
+    entry_now : entry_at now k ≡ entry_at old k
+    entry_now = ap (λ (xs : List Numbered). get_or xs k no_entry) walking.pays.same.chosen
+
+    file_now : (F : List ℕ) → old.source.store.content ≡ Some F → now.source.store.content ≡ Some F
+    file_now F known = walking.pays.same.fetches.fetches.same_content ∙ known
+
+    pub one_walked : (n r : ℕ) → Pays (listed (entry_at now k).entry) (n * name_cost (entry_at now k).entry.stream_type) now next → next.failed ≡ None
+        → ((F : List ℕ) → now.source.store.content ≡ Some F → HasWalked Z F limit now k (Ok (record { count = n; room = r }))) → (counts_new rooms_new : List ℕ) → counts_new ≡ counts ++ n ∷ [] → rooms_new ≡ rooms ++ r ∷ []
+        → AreWalking Z limit old next counts_new rooms_new (k + 1)
+    one_walked n r pays going of counts_new rooms_new pushed also =
+        let e : Numbered → ℕ = λ (x : Numbered). listed x.entry + n * name_cost x.entry.stream_type in
+        let cost : listed (entry_at now k).entry + n * name_cost (entry_at now k).entry.stream_type ≡ pass_cost (get_or old.chosen (length counts) no_entry).entry n =
+        ap e entry_now ∙ ap (λ (i : ℕ). e (get_or old.chosen i no_entry)) (sym walking.counted) in
+        let sums : sum (costs_in old.chosen counts_new) ≡ sum (costs_in old.chosen counts) + pass_cost (get_or old.chosen (length counts) no_entry).entry n =
+        ap (λ (ns : List ℕ). sum (costs_in old.chosen ns)) pushed ∙ costs_push old.chosen counts n (omega (arith, inside, walking.counted)) in
+        record {
+          pays = record {
+            same = same_then old now next walking.pays.same pays.same;
+            aside = pays.aside ∙ walking.pays.aside;
+            allowed = λ few. (let first = walking.pays.allowed (omega (arith, few, pays.more)) in let then = pays.allowed few in omega (arith, first, then, sums, cost));
+            reached = omega (arith, walking.pays.reached, pays.reached, sums, cost);
+          };
+          counted = ap (λ (ns : List ℕ). length ns) pushed ∙ length-append counts (n ∷ []) ∙ ap (λ (i : ℕ). i + 1) walking.counted;
+          roomed = ap (λ (ns : List ℕ). length ns) also ∙ length-append rooms (r ∷ []) ∙ ap (λ (i : ℕ). i + 1) walking.roomed;
+          going = going;
+          of_file = λ F known.
+              let before = walking.of_file F known in
+              let one = of F (file_now F known) in
+              let here : entry_at now k ≡ entry_at old (length counts) = entry_now ∙ ap (entry_at old) (sym walking.counted) in
+              let rooms_same : length rooms ≡ length counts = walking.roomed ∙ sym walking.counted in
+              rw (pushed, also) (record {
+                counted = each_push (λ i m. record_count F (entry_at old i).entry ≡ Ok m) counts n before.counted (subst (λ (x : Numbered). record_count F x.entry ≡ Ok n) here one.0);
+                roomed = λ i within.
+                    each_push (λ j m. m ≡ room_told (stream_of {Z = Z} F old j)) rooms r (λ j less. before.roomed j (omega (arith, less, rooms_same)))
+                    (subst (λ (m : ℕ). r ≡ room_told (stream_of {Z = Z} F old m)) (sym rooms_same) (subst (λ (x : Numbered). r ≡ room_told (stream_named {Z = Z} F x.entry)) here one.1)) i
+                    (omega (arith, within, rooms_same, length-append rooms (r ∷ []), length-append counts (n ∷ [])));
+                quiet = λ i within.
+                    each_push (λ j m. entry_told F limit (entry_at old j) ≡ None) counts n before.quiet (subst (λ (x : Numbered). entry_told F limit x ≡ None) here one.2) i within;
+              });
+        }
+
+    pub one_refused : (fault : ReadFault) → ((F : List ℕ) → now.source.store.content ≡ Some F → HasWalked Z F limit now k (Err fault)) → (F : List ℕ) → old.source.store.content ≡ Some F
+        → (IsOwn fault → ⊥) → run_told F (run_of F limit old.chosen) ≡ Some fault
+    one_refused fault of F known own =
+        one_told F limit old.chosen k fault
+        (λ i before. (walking.of_file F known).quiet i (omega (arith, before, walking.counted))) inside
+        (subst (λ (x : Numbered). entry_told F limit x ≡ Some fault) entry_now (of F (file_now F known) own))
+
+    pub one_same : IsSameWalk now next → IsSameWalk old next
+    one_same same = same_then old now next walking.pays.same same
+
+    pub one_fetches : {T U : Type 0} (fault : ReadFault) → Fetches {T = T} (Err fault) now.source next.source → Fetches {T = U} (Err fault) old.source next.source
+    one_fetches fault fetches = fetches_err old.source now.source next.source walking.pays.same.fetches fault fetches

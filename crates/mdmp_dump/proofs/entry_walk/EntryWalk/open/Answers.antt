@@ -1,0 +1,15 @@
+use Rattle.std.proofs.Common.{refl}
+use Rattle.mdmp_dump.proofs.EntryWalks.{opened}
+use Rattle.mdmp_dump.proofs.Opened.{directory-settles}
+use Rattle.mdmp_dump.proofs.Refusals.{bare_refusal}
+use Rattle.mdmp_dump.proofs.entry_walk.EntryWalk.open.Goals as goal
+
+pub returns-in-Ok-clause-opened : goal.returns-in-Ok-clause-opened
+returns-in-Ok-clause-opened g c = opened c.args.source c.args.choice _ c.in-Ok.walker c.in-Ok.ensures.new refl
+
+pub returns-in-Err-clause-refusal : goal.returns-in-Err-clause-refusal
+returns-in-Err-clause-refusal g c = rw c.refusal.ensures (bare_refusal c.args.source.size c.in-Err.refused.fault c.in-Err.ensures.refusal)
+
+pub returns-in-Err-clause-of_file : goal.returns-in-Err-clause-of_file
+returns-in-Err-clause-of_file g c = λ file known names.
+    rw c.refusal.ensures (directory-settles file c.args.choice names c.in-Err.refused.fault (c.in-Err.ensures.opens file known))

@@ -1,0 +1,56 @@
+use Rattle.std.proofs.Common.{◌≡◌, ◌+◌, ◌-◌, arith, refl, Ok}
+use Rattle.mdmp_dump.specs.declared.file_view.Pass.{Pass}
+use Rattle.mdmp_dump.specs.declared.view.Fields.{Fields}
+use Rattle.mdmp_dump.proofs.FaultsTold.{next_changed, next_refused}
+use Rattle.mdmp_dump.proofs.Taken.{met_whole, met_within, pass_behind, record_given}
+use Rattle.mdmp_dump.proofs.file_view.take_record.Goals as goal
+use Rattle.mdmp_dump.proofs.file_view.take_record.Goals.{else-left-eq0-via-then-left-eq0+else-met-pass-2, else-left-eq0-via-else-left-eq0}
+
+pub returns-in-Err-clause-tells : goal.returns-in-Err-clause-tells
+returns-in-Err-clause-tells g c =
+    let w = c.args.walk.now in
+    let p = c.args.pass in
+    rw c.told_reading.ensures
+    (next_refused g.row.A.Denot w c.next_record.new.self c.args.limit p c.requires.passing c.requires.going c.requires.unfailed c.requires.of_file (Fields × Pass) c.in-Err.fault p.rva c.in-Err.ensures)
+
+pub returns-then-met-pass-clause-tells : goal.returns-then-met-pass-clause-tells
+returns-then-met-pass-clause-tells g c =
+    let w = c.args.walk.now in
+    let p = c.args.pass in
+    rw c.changed.ensures
+    (next_changed g.row.A.Denot w c.next_record.new.self c.args.limit p c.requires.passing c.requires.going c.requires.unfailed c.requires.of_file (Fields × Pass) (Ok c.in-Ok.found) p.rva c.in-Ok.ensures refl
+    (λ F known.
+    let within = met_within g.row.A.Denot w c.next_record.new.self c.args.limit p c.requires.passing c.requires.going c.requires.unfailed c.requires.of_file c.size-size.ensures.bytes
+    c.in-Ok.found c.in-Ok.ensures c.fields-fields.result c.fields-fields.ensures c.met_room-met.result c.met_room-met.ensures F known in
+    omega (arith, within, c.if-met-pass.true)))
+
+pub returns-then-met-pass-2-clause-tells : goal.returns-then-met-pass-2-clause-tells
+returns-then-met-pass-2-clause-tells g c =
+    let w = c.args.walk.now in
+    let p = c.args.pass in
+    rw c.changed-then-met-pass-2.ensures
+    (next_changed g.row.A.Denot w c.next_record.new.self c.args.limit p c.requires.passing c.requires.going c.requires.unfailed c.requires.of_file (Fields × Pass) (Ok c.in-Ok.found) p.rva c.in-Ok.ensures refl
+    (λ F known.
+    let last : p.left ≡ 1 = omega (arith, c.if-left-eq0.true, c.requires.going) in
+    let whole = met_whole g.row.A.Denot w c.next_record.new.self c.args.limit p c.requires.passing c.requires.going c.requires.unfailed c.requires.of_file c.size-size.ensures.bytes
+    c.in-Ok.found c.in-Ok.ensures c.fields-fields.result c.fields-fields.ensures c.met_room-met.result c.met_room-met.ensures F known last in
+    omega (arith, whole, c.if-met-pass-2.true)))
+
+pub returns-clause-gives : goal.returns-clause-gives
+returns-clause-gives g c =
+    let w = c.args.walk.now in
+    let p = c.args.pass in
+    let q = record p { given = p.given + 1; left = p.left - 1; met = c.met_room-met.result; parts = c.in-Ok.found.parts } in
+    record_given g.row.A.Denot w c.next_record.new.self c.args.limit p c.requires.passing c.requires.going c.requires.unfailed c.requires.of_file c.size-size.ensures.bytes
+    c.in-Ok.found c.in-Ok.ensures c.fields-fields.result c.fields-fields.ensures c.met_room-met.result c.met_room-met.ensures
+    q refl refl (omega (arith, c.requires.going)) refl refl refl (omega (arith, c.size-size.ensures.value)) (omega arith) (omega arith)
+    (λ none. elim c.else-left-eq0.branch [ else-left-eq0-via-then-left-eq0+else-met-pass-2 v ↦ omega (arith, c.if-met-pass.false, v.if-met-pass-2.false) | else-left-eq0-via-else-left-eq0 v ↦ absurd (omega (arith, none, v.if-left-eq0.false)) ])
+
+pub returns-clause-passes_of : goal.returns-clause-passes_of
+returns-clause-passes_of g c =
+    let w = c.args.walk.now in
+    let p = c.args.pass in
+    let q = record p { given = p.given + 1; left = p.left - 1; met = c.met_room-met.result; parts = c.in-Ok.found.parts } in
+    pass_behind g.row.A.Denot w c.next_record.new.self c.args.limit p c.requires.passing c.requires.going c.requires.unfailed c.requires.of_file c.size-size.ensures.bytes
+    c.in-Ok.found c.in-Ok.ensures c.fields-fields.result c.fields-fields.ensures c.met_room-met.result c.met_room-met.ensures
+    q refl refl (omega (arith, c.requires.going)) refl refl refl

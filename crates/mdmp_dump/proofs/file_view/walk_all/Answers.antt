@@ -1,0 +1,37 @@
+use Rattle.std.proofs.Common.{◌≡◌, ◌<◌, length, ap, arith}
+use Rattle.mdmp_wire.specs.declared.header.Header.{Header}
+use Rattle.mdmp_dump.proofs.WalkedOver.{all_begin, one_fetches, one_refused, one_same, one_walked}
+use Rattle.mdmp_dump.proofs.file_view.walk_all.Goals as goal
+
+pub loop-stream-init : goal.loop-stream-init
+loop-stream-init g c =
+    let entries : c.header-room.result.number_of_streams ≡ c.args.walk.now.header.number_of_streams = ap (λ (h : Header). h.number_of_streams) c.header-room.ensures in
+    record {
+      walking = rw (c.in-Ok.ensures.items, c.in-Ok-with_capacity.ensures.items) (all_begin g.row.A.Denot c.args.limit c.args.walk.now c.requires.going);
+      room = (omega (arith, entries, c.in-Ok.ensures.capacity), omega (arith, entries, c.in-Ok-with_capacity.ensures.capacity));
+    }
+
+pub loop-stream-preserved : goal.loop-stream-preserved
+loop-stream-preserved g c =
+    let inside : c.loop-stream.stream < length c.args.walk.now.chosen = omega (arith, c.loop-stream-test.true, c.streams-streams.ensures) in
+    let of = c.in-Ok-walk_stream.ensures in
+    record {
+      walking = one_walked g.row.A.Denot c.args.limit c.args.walk.now c.loop-stream.walk c.loop-stream.counts.items c.loop-stream.rooms.items c.loop-stream.stream c.loop-stream.invariant.walking inside c.walk_stream.new.walk c.in-Ok-walk_stream.walked.count c.in-Ok-walk_stream.walked.room of.pays of.goes of.of_file
+          c.push_reserved.new.self.items c.push_reserved-in-Ok-walk_stream.new.self.items c.push_reserved.ensures.items c.push_reserved-in-Ok-walk_stream.ensures.items;
+      room = (omega (arith, c.loop-stream.invariant.room, c.push_reserved.ensures.capacity), omega (arith, c.loop-stream.invariant.room, c.push_reserved-in-Ok-walk_stream.ensures.capacity));
+    }
+
+pub returns-in-Err-clause-pays : goal.returns-in-Err-clause-pays
+returns-in-Err-clause-pays g c =
+    let inside : c.loop-stream.stream < length c.args.walk.now.chosen = omega (arith, c.loop-stream-test.true, c.streams-streams.ensures) in
+    one_same g.row.A.Denot c.args.limit c.args.walk.now c.loop-stream.walk c.loop-stream.counts.items c.loop-stream.rooms.items c.loop-stream.stream c.loop-stream.invariant.walking inside c.walk_stream.new.walk c.in-Err.ensures.pays
+
+pub returns-in-Err-clause-of_file : goal.returns-in-Err-clause-of_file
+returns-in-Err-clause-of_file g c =
+    let inside : c.loop-stream.stream < length c.args.walk.now.chosen = omega (arith, c.loop-stream-test.true, c.streams-streams.ensures) in
+    one_refused g.row.A.Denot c.args.limit c.args.walk.now c.loop-stream.walk c.loop-stream.counts.items c.loop-stream.rooms.items c.loop-stream.stream c.loop-stream.invariant.walking inside c.walk_stream.new.walk c.in-Err.fault c.in-Err.ensures.of_file
+
+pub returns-in-Err-clause-fetches : goal.returns-in-Err-clause-fetches
+returns-in-Err-clause-fetches g c =
+    let inside : c.loop-stream.stream < length c.args.walk.now.chosen = omega (arith, c.loop-stream-test.true, c.streams-streams.ensures) in
+    one_fetches g.row.A.Denot c.args.limit c.args.walk.now c.loop-stream.walk c.loop-stream.counts.items c.loop-stream.rooms.items c.loop-stream.stream c.loop-stream.invariant.walking inside c.walk_stream.new.walk c.in-Err.fault c.in-Err.ensures.fetches

@@ -1,0 +1,40 @@
+use Rattle.std.proofs.Common.{◌≡◌, ◌*◌, arith, subst}
+use Rattle.mdmp_dump.specs.declared.file_view.Walked.{Walked}
+use Rattle.mdmp_dump.specs.EntryWalk.{Pays, entry_at, listed, name_cost}
+use Rattle.mdmp_dump.proofs.WalkedOver.{walking_begins, walking_ends, walking_fetches, walking_goes, walking_refused, walking_same, walking_unbegun}
+use Rattle.mdmp_dump.proofs.file_view.walk_stream.Goals as goal
+
+pub loop-index-init : goal.loop-index-init
+loop-index-init g c = walking_begins g.row.A.Denot c.args.limit c.args.walk.now c.args.stream c.in-Ok.count c.begin.new.self c.in-Ok.ensures
+
+pub loop-index-preserved : goal.loop-index-preserved
+loop-index-preserved g c =
+    walking_goes g.row.A.Denot c.args.limit c.args.walk.now c.args.stream c.in-Ok.count c.loop-index.walk c.loop-index.index c.loop-index.room c.loop-index.invariant c.next_record.new.self c.in-Ok-next_record.found c.fields.result c.met_room-room.result
+    c.in-Ok-next_record.ensures c.loop-index-test.true c.fields.ensures c.met_room-room.ensures
+
+pub returns-in-Err-clause-told : goal.returns-in-Err-clause-told
+returns-in-Err-clause-told g c = let told = c.in-Err.ensures.told in rw told.1 tt
+
+pub returns-in-Err-clause-of_file : goal.returns-in-Err-clause-of_file
+returns-in-Err-clause-of_file g c = walking_unbegun g.row.A.Denot c.args.limit c.args.walk.now c.args.stream c.in-Err.fault c.begin.new.self c.in-Err.ensures
+
+pub returns-in-Err-next_record-clause-pays : goal.returns-in-Err-next_record-clause-pays
+returns-in-Err-next_record-clause-pays g c = walking_same g.row.A.Denot c.args.limit c.args.walk.now c.args.stream c.in-Ok.count c.loop-index.walk c.loop-index.index c.loop-index.room c.loop-index.invariant c.next_record.new.self c.in-Err-next_record.fault c.in-Err-next_record.ensures
+
+pub returns-in-Err-next_record-clause-of_file : goal.returns-in-Err-next_record-clause-of_file
+returns-in-Err-next_record-clause-of_file g c = walking_refused g.row.A.Denot c.args.limit c.args.walk.now c.args.stream c.in-Ok.count c.loop-index.walk c.loop-index.index c.loop-index.room c.loop-index.invariant c.next_record.new.self c.in-Err-next_record.fault c.in-Err-next_record.ensures
+
+pub returns-in-Err-next_record-clause-fetches : goal.returns-in-Err-next_record-clause-fetches
+returns-in-Err-next_record-clause-fetches g c = walking_fetches g.row.A.Denot c.args.limit c.args.walk.now c.args.stream c.in-Ok.count c.loop-index.walk c.loop-index.index c.loop-index.room c.loop-index.invariant c.next_record.new.self {T = Walked} c.in-Err-next_record.fault c.in-Err-next_record.ensures
+
+pub returns-clause-pays : goal.returns-clause-pays
+returns-clause-pays g c =
+    let all : c.loop-index.index ≡ c.in-Ok.count = omega (arith, c.loop-index-test.false, c.loop-index.auto.index-end) in
+    let w = c.args.walk.now in
+    let e = (entry_at w c.args.stream).entry in
+    subst (λ n. Pays (listed e) (n * name_cost e.stream_type) w c.loop-index.walk) all c.loop-index.invariant.pays
+
+pub returns-clause-of_file : goal.returns-clause-of_file
+returns-clause-of_file g c =
+    let all : c.loop-index.index ≡ c.in-Ok.count = omega (arith, c.loop-index-test.false, c.loop-index.auto.index-end) in
+    walking_ends g.row.A.Denot c.args.limit c.args.walk.now c.args.stream c.in-Ok.count c.loop-index.walk c.loop-index.index c.loop-index.room c.loop-index.invariant all

@@ -1,0 +1,22 @@
+use Rattle.std.proofs.Common.{◌≡◌, Err, rules, refl}
+use Rattle.mdmp_dump.proofs.Founding.{thread_context, thread_found, thread_stack}
+use Rattle.mdmp_dump.proofs.Rooms.{thread_room_most}
+use Rattle.mdmp_dump.proofs.found_record.found_thread.Goals as goal
+
+pub returns-in_err-stack-clause-finds : goal.returns-in_err-stack-clause-finds
+returns-in_err-stack-clause-finds c = λ F e k at o kind is.
+    let fault = c.in_err-stack.field-0.0 in
+    let same : c.from_residual.result ≡ Err fault = search rules in
+    rw same (thread_stack F c.args.limit e k at o fault kind c.args.x.now is c.in_err-stack.ensures.finds)
+
+pub returns-in_err-context-clause-finds : goal.returns-in_err-context-clause-finds
+returns-in_err-context-clause-finds c = λ F e k at o kind is.
+    let fault = c.in_err-context.field-0.0 in
+    let same : c.from_residual-in_err-context.result ≡ Err fault = search rules in
+    rw same (thread_context F c.args.limit e k at o c.in_ok-stack.stack fault kind c.args.x.now is c.in_ok-stack.ensures.finds c.in_err-context.ensures.finds)
+
+pub returns-clause-finds : goal.returns-clause-finds
+returns-clause-finds c = λ F e k at o kind is. rw (c.nowhere.ensures, c.nowhere-2.ensures) (thread_found F c.args.limit e k at o c.in_ok-stack.stack c.in_ok-context.context kind c.args.x.now is c.in_ok-stack.ensures.finds c.in_ok-context.ensures.finds)
+
+pub returns-clause-fits : goal.returns-clause-fits
+returns-clause-fits c = (refl, thread_room_most c.in_ok-stack.stack c.in_ok-context.context)

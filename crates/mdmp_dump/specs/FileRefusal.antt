@@ -1,0 +1,59 @@
+-- Why a file gives no view of its dump, where memory suffices and its bytes are obtained: parts are not taken, so that they
+-- have no limit, and neither has the number of ranges of memory.
+use Rattle.std.specs.Prelude.{ℕ, ◌+◌, List, [], ◌∷◌, length, Option, Some, None, option_map, flat_map}
+use Rattle.mdmp_lister.specs.declared.choice.Choice.{Choice}
+use Rattle.mdmp_lister.specs.declared.fault.OpenFault.{OpenFault}
+use Rattle.mdmp_lister.specs.Format.Listing.{Numbered, Run, entry_listing, listing}
+use Rattle.mdmp_lister.specs.Format.Refusal.{directory_refusal}
+use Rattle.mdmp_lister.specs.Opening.{IsBareRefusal}
+use Rattle.mdmp_dump.specs.declared.fault.ReadFault.{ReadFault}
+use Rattle.mdmp_dump.specs.declared.fault.ReadFault.TheVariants as faults
+use Rattle.mdmp_dump.specs.Left.{body_from}
+use Rattle.mdmp_dump.specs.Refusal.{Step, Refuse, Take, item_steps}
+
+-- the first step that is refused, or else the last fault
+unfoldable pub first_told : List Step → Option ReadFault → Option ReadFault
+first_told [] last = last
+first_told (Refuse fault ∷ steps) last = Some fault
+first_told (Take e k size ∷ steps) last = first_told steps last
+
+-- the bytes that some steps take
+unfoldable pub taken_by : List Step → ℕ
+taken_by [] = 0
+taken_by (Refuse fault ∷ steps) = taken_by steps
+taken_by (Take e k size ∷ steps) = size + taken_by steps
+
+-- the first refusal among the items of a run, or else its fault
+abbrev pub run_told : List ℕ → Run → Option ReadFault
+run_told F run = first_told (flat_map (item_steps (length F)) run.items) (option_map faults.List run.fault)
+
+-- the first refusal among what an entry gives
+abbrev pub entry_told : List ℕ → ℕ → Numbered → Option ReadFault
+entry_told F name_limit x = run_told F (entry_listing F name_limit x)
+
+-- and among what is left of it behind its Stream item and k of its records
+abbrev pub body_told : List ℕ → ℕ → Numbered → ℕ → Option ReadFault
+body_told F name_limit x k = run_told F (body_from F name_limit x k)
+
+abbrev pub opened_told : List ℕ → Choice → ℕ → Option OpenFault → Option ReadFault
+opened_told F choice name_limit (Some fault) = Some (faults.Opening fault)
+opened_told F choice name_limit None = run_told F (listing F choice name_limit)
+
+-- the first reason why F gives no view of its chosen entries, where names have at most name_limit bytes each, or none
+abbrev pub view_refusal : List ℕ → Choice → ℕ → Option ReadFault
+view_refusal F choice name_limit = opened_told F choice name_limit (directory_refusal F)
+
+-- a walk may answer this fault, whatever the file's bytes: none of its opening, and parts have no limit
+abbrev pub IsOfWalk : ReadFault → Type 0
+IsOfWalk (faults.Opening fault) = ⊥
+IsOfWalk (faults.PartsTooLarge e k) = ⊥
+IsOfWalk fault = Unit {0}
+
+-- a file of `size` bytes may be refused so: of its opening no number of ranges is told
+abbrev pub IsViewRefusal : ℕ → ReadFault → Type 0
+IsViewRefusal size (faults.Opening fault) = IsBareRefusal size fault
+IsViewRefusal size fault = IsOfWalk fault
+
+-- the bytes of all parts inside F, and of the streams whose records are not known
+abbrev pub parts_taken : List ℕ → Choice → ℕ → ℕ
+parts_taken F choice name_limit = taken_by (flat_map (item_steps (length F)) (listing F choice name_limit).items)

@@ -1,0 +1,254 @@
+-- A view of a file, by what it keeps of each stream.
+use Rattle.std.specs.Prelude.{◌≡◌, ◌≤◌, ◌<◌, ◌+◌, ◌-◌, ◌*◌, ◌^◌, ◌⊎◌, ℕ, List, [], ◌∷◌, length, map, get_or, take, Option, Some, None, Result, Ok, Err, false, ◌==◌, if◌then◌else◌, sum, IfErr, IfSome, IsOk, MatchResult}
+use Rattle.mdmp_source.specs.Range.{bytes_at}
+use Rattle.mdmp_source.specs.Source.{FetchesSome}
+use Rattle.mdmp_source.specs.Store.{AreBytes, IsGood}
+use Rattle.mdmp_source.specs.declared.fault.SourceFault.{SourceFault}
+use Rattle.mdmp_source.specs.declared.fault.SourceFault.TheVariants.{Changed}
+use Rattle.mdmp_wire.specs.Header.{header_at}
+use Rattle.mdmp_lister.specs.Format.Listing.{Numbered, chosen}
+use Rattle.mdmp_lister.specs.Format.Shape.{record_count}
+use Rattle.mdmp_dump.specs.declared.dump.Dump.{Dump}
+use Rattle.mdmp_dump.specs.declared.dump.Stream.{Stream}
+use Rattle.mdmp_dump.specs.declared.fault.ReadFault.{ReadFault}
+use Rattle.mdmp_dump.specs.declared.file_view.Pass.{Pass}
+use Rattle.mdmp_dump.specs.declared.file_view.Walked.{Walked}
+use Rattle.mdmp_dump.specs.declared.view.Kind.{Kind}
+use Rattle.mdmp_dump.specs.declared.view.Kind.TheVariants as kinds
+use Rattle.mdmp_dump.specs.declared.view.ViewFault.{ViewFault}
+use Rattle.mdmp_dump.specs.declared.view.ViewFault.TheVariants as view
+use Rattle.mdmp_dump.specs.EntryWalk.{IsSameWalk, WalkState, entry_at, kind_by, name_cost, pass_cost, raw_part}
+use Rattle.mdmp_dump.specs.FileRefusal.{body_told, entry_told, view_refusal}
+use Rattle.mdmp_dump.specs.FoundRecord.{AreIn, no_part}
+use Rattle.mdmp_dump.specs.InFile.{dump_in, stream_named}
+use Rattle.mdmp_dump.specs.Placed.{size_in}
+use Rattle.mdmp_dump.specs.Reading.{IsLastTold, IsOwn}
+use Rattle.mdmp_dump.specs.Shape.{Cursor, Shape, StreamShape, is_far, parts_at, parts_in, shape_of, sizes_at, told, value_cursor}
+use Rattle.mdmp_dump.specs.View.{dump_seen, kind_in, records_seen}
+
+-- ---- what a pass costs
+
+unfoldable pub costs_in : List Numbered → List ℕ → List ℕ
+costs_in (x ∷ xs) (n ∷ ns) = pass_cost x.entry n ∷ costs_in xs ns
+costs_in xs ns = []
+
+-- ---- of unknown content
+
+-- the greatest sum that is told
+abbrev pub greatest : ℕ
+greatest = 2 ^ 64 - 1
+
+abbrev pub raw_by : Kind → ℕ → ℕ
+raw_by (kinds.Raw t) size = size
+raw_by kind size = 0
+
+-- the bytes of names and parts of so many records: no more than their room where that is told, else 3 parts each
+abbrev pub bytes_by : ℕ → ℕ → ℕ → ℕ
+bytes_by count room left = if room == greatest then count * (3 * 2 ^ 64) else left
+
+-- a stream of so many records whose names and parts take so much
+abbrev pub stream_in : Numbered → ℕ → ℕ → StreamShape
+stream_in x count room = record {
+  kind = kind_by x.entry.stream_type;
+  records = count;
+  raw = raw_by (kind_by x.entry.stream_type) x.entry.location.size;
+  parts = room;
+  bytes = bytes_by count room room;
+}
+
+unfoldable pub streams_in : List Numbered → List ℕ → List ℕ → List StreamShape
+streams_in (x ∷ xs) (n ∷ ns) (r ∷ rs) = stream_in x n r ∷ streams_in xs ns rs
+streams_in xs ns rs = []
+
+abbrev pub unknown_shape : WalkState → List ℕ → List ℕ → Shape
+unknown_shape w counts rooms = record { streams = streams_in w.chosen counts rooms; costs = costs_in w.chosen counts; is_reliable = false; seen = None }
+
+-- what is left of the room of a stream
+abbrev pub left_room : Pass → ℕ
+left_room p = if p.room == greatest then greatest else p.room - p.met
+
+abbrev pub unknown_cursor : WalkState → Pass → Cursor
+unknown_cursor w p = record {
+  kind = kind_by (entry_at w p.stream).entry.stream_type;
+  records = p.left;
+  room = if is_far (kind_by (entry_at w p.stream).entry.stream_type) then 0 else left_room p;
+  far = if is_far (kind_by (entry_at w p.stream).entry.stream_type) then left_room p else 0;
+  bytes = bytes_by p.left p.room (p.room - p.met);
+  seen = None;
+  sizes = λ k. size_in (get_or p.parts k no_part).size;
+  parts = None;
+}
+
+-- no stream is begun
+abbrev pub no_cursor : Cursor
+no_cursor = record { kind = kinds.Unused; records = 0; room = 0; far = 0; bytes = 0; seen = None; sizes = λ k. 0; parts = None }
+
+-- a pass fits the walk: while records are left, its stream is the current one; and the parts lie inside the file
+pub record IsPass (w : WalkState) (p : Pass) : Type 0 where
+  pub within : p.stream < length w.chosen
+  pub few : p.given + p.left < 2 ^ 32
+  pub met : p.met ≤ p.room
+  pub parts : AreIn w.source.size p.parts
+  pub going : 0 < p.left → (w.current ≡ entry_at w p.stream) × (w.left ≡ p.left)
+
+-- ---- of known content
+
+module _ {Z : Type 0} where
+  -- the stream of an entry of F
+  abbrev pub stream_of : List ℕ → WalkState → ℕ → Stream Z
+  stream_of F w k = stream_named F (entry_at w k).entry
+
+  -- what the names and parts of all records of a stream take, as it is told
+  abbrev pub room_told : Stream Z → ℕ
+  room_told s = told (parts_in (kind_in s) (records_seen s))
+
+  -- and those of the first records
+  abbrev pub met_told : Stream Z → ℕ → ℕ
+  met_told s given = told (parts_in (kind_in s) (take given (records_seen s)))
+
+  abbrev pub known_shape : (d : Dump Z) → WalkState → List ℕ → Shape
+  known_shape d w counts = record {
+    streams = map shape_of (dump_seen d).streams;
+    costs = costs_in w.chosen counts;
+    is_reliable = w.source.store.is_reliable;
+    seen = Some (dump_seen d);
+  }
+
+module _ (Z : Type 0) where
+  abbrev pub known_cursor : List ℕ → WalkState → Pass → Cursor
+  known_cursor F w p = value_cursor (stream_of {Z = Z} F w p.stream) p.given
+
+  -- a view of F: its entries have as many records as were counted, whose names and parts take what was told, and nothing of
+  -- it is refused
+  pub record IsViewed (F : List ℕ) (limit : ℕ) (w : WalkState) (counts rooms : List ℕ) : Type 0 where
+    pub size : w.source.size ≡ length F
+    pub bytes : AreBytes F
+    pub header : w.header ≡ header_at F 0
+    pub chosen_are : w.chosen ≡ chosen F w.choice
+    pub quiet : view_refusal F w.choice limit ≡ None
+    pub counted : (k : ℕ) → k < length w.chosen → record_count F (entry_at w k).entry ≡ Ok (get_or counts k 0)
+    pub roomed : (k : ℕ) → k < length w.chosen → get_or rooms k 0 ≡ room_told (stream_of {Z = Z} F w k)
+
+  -- a pass over a stream of F: so many of its records were given, none of those that are left is refused, and the parts of
+  -- the last one stand where it says, or the raw bytes
+  pub record IsPassOf (F : List ℕ) (limit : ℕ) (w : WalkState) (p : Pass) : Type 0 where
+    pub quiet : body_told F limit (entry_at w p.stream) p.given ≡ None
+    pub counted : record_count F (entry_at w p.stream).entry ≡ Ok (p.given + p.left)
+    pub room : p.room ≡ room_told (stream_of {Z = Z} F w p.stream)
+    pub met : p.met ≡ met_told (stream_of {Z = Z} F w p.stream) p.given
+    pub parts : (j : ℕ) → bytes_at F (get_or p.parts j no_part).at (size_in (get_or p.parts j no_part).size) ≡ get_or (parts_at (stream_of {Z = Z} F w p.stream) p.given) j []
+    pub sizes : (j : ℕ) → size_in (get_or p.parts j no_part).size ≡ sizes_at (stream_of {Z = Z} F w p.stream) p.given j
+
+  -- ---- of any content
+
+  abbrev pub shape_by : Option (List ℕ) → WalkState → List ℕ → List ℕ → Shape
+  shape_by None w counts rooms = unknown_shape w counts rooms
+  shape_by (Some F) w counts rooms = known_shape (dump_in {Z = Z} F w.choice) w counts
+
+  abbrev pub file_shape : WalkState → List ℕ → List ℕ → Shape
+  file_shape w counts rooms = shape_by w.source.store.content w counts rooms
+
+  abbrev pub cursor_by : Option (List ℕ) → WalkState → Pass → Cursor
+  cursor_by None w p = unknown_cursor w p
+  cursor_by (Some F) w p = known_cursor F w p
+
+  abbrev pub pass_cursor : WalkState → Pass → Cursor
+  pass_cursor w p = cursor_by w.source.store.content w p
+
+  abbrev pub file_cursor : WalkState → Option Pass → Cursor
+  file_cursor w None = no_cursor
+  file_cursor w (Some p) = pass_cursor w p
+
+-- a pass over a stream of so many records that begins, whose names and parts take so much
+abbrev pub first_pass : WalkState → ℕ → ℕ → ℕ → Pass
+first_pass w k count room = record {
+  stream = k;
+  rva = (entry_at w k).entry.location.rva;
+  given = 0;
+  left = count;
+  room = room;
+  met = 0;
+  parts = raw_part (entry_at w k).entry ∷ no_part ∷ no_part ∷ [];
+}
+
+-- ---- what was fetched
+
+-- by the opening
+abbrev pub opening_cost : WalkState → List ℕ → ℕ
+opening_cost w counts = 32 + 12 * w.header.number_of_streams + sum (costs_in w.chosen counts)
+
+-- the lengths of names that a pass may still fetch
+abbrev pub owed : WalkState → Option Pass → ℕ
+owed w None = 0
+owed w (Some p) = p.left * name_cost (entry_at w p.stream).entry.stream_type
+
+-- what was fetched is paid for: by the opening, by the passes that were begun, and by what was asked
+pub record IsPaid (w : WalkState) (counts : List ℕ) (pass : Option Pass) (passed asked : ℕ) : Type 0 where
+  pub bytes : opening_cost w counts + passed + asked < 2 ^ 128 - 1 → w.allowed + w.aside + owed w pass ≤ opening_cost w counts + passed + asked
+  pub names : opening_cost w counts + passed + asked < 2 ^ 128 - 1 → 4 * w.names + owed w pass ≤ opening_cost w counts + passed + asked
+
+-- ---- opening
+
+-- all streams were walked over, of so many records each
+pub record PaysAll (counts : List ℕ) (old new : WalkState) : Type 0 where
+  pub same : IsSameWalk old new
+  pub aside : new.aside ≡ old.aside
+  pub allowed : new.names + 1 < 2 ^ 128 → new.allowed ≤ old.allowed + sum (costs_in old.chosen counts)
+  pub reached : 4 * new.names ≤ 4 * old.names + sum (costs_in old.chosen counts)
+
+-- a stream of F was walked over: it has as many records as were counted, whose names and parts take what is told; or the
+-- first refusal among them is told
+module _ (Z : Type 0) where
+  abbrev pub HasWalked : List ℕ → ℕ → WalkState → ℕ → Result Walked ReadFault → Type 0
+  HasWalked F limit w k (Ok walked) =
+      (record_count F (entry_at w k).entry ≡ Ok walked.count) × (walked.room ≡ room_told (stream_of {Z = Z} F w k)) × (entry_told F limit (entry_at w k) ≡ None)
+  HasWalked F limit w k (Err fault) = (IsOwn fault → ⊥) → entry_told F limit (entry_at w k) ≡ Some fault
+
+  -- so many streams were
+  pub record AreWalked (F : List ℕ) (limit : ℕ) (w : WalkState) (counts rooms : List ℕ) : Type 0 where
+    pub counted : (k : ℕ) → k < length counts → record_count F (entry_at w k).entry ≡ Ok (get_or counts k 0)
+    pub roomed : (k : ℕ) → k < length counts → get_or rooms k 0 ≡ room_told (stream_of {Z = Z} F w k)
+    pub quiet : (k : ℕ) → k < length counts → entry_told F limit (entry_at w k) ≡ None
+
+-- ---- faults
+
+abbrev pub source_fault : ViewFault → SourceFault
+source_fault (view.Source fault) = fault
+
+-- a fault of the store is told as it is, and any other says that the file has changed where the stream stands
+abbrev pub told_as : ℕ → Option SourceFault → ViewFault
+told_as rva (Some fault) = view.Source fault
+told_as rva None = view.Source (Changed rva)
+
+-- a call that fetches answers so: a fault is told in it, or the walk has ended with it before; over a good store there is none
+pub record Tells {T : Type 0} (old : WalkState) (result : Result T ViewFault) (new : WalkState) : Type 0 where
+  pub told : old.failed ≡ None → IfErr result (λ fault. IsLastTold (source_fault fault) old.source new.source)
+  pub ended : (fault : SourceFault) → new.failed ≡ Some fault → MatchResult result (λ x. ⊥) (λ last. last ≡ view.Source fault)
+  pub repeats : (fault : SourceFault) → old.failed ≡ Some fault → (new.source ≡ old.source) × (new.failed ≡ old.failed)
+  pub good : (file : List ℕ) → IsGood old.source.store file → old.failed ≡ None → IsOk result
+
+-- calls of a view, of which the last that fetched ended with this fault or with none: the walk goes on, and the fault is told
+-- in them, or was the last before them
+pub record HasMoved (old : WalkState) (before : Option ViewFault) (new : WalkState) (last : Option ViewFault) : Type 0 where
+  pub header : new.header ≡ old.header
+  pub choice : new.choice ≡ old.choice
+  pub chosen : new.chosen ≡ old.chosen
+  pub held : new.held ≡ old.held
+  pub fetches : FetchesSome old.source new.source
+  pub told : IfSome last (λ fault. ((before ≡ last) × (new.source ≡ old.source)) ⊎ IsLastTold (source_fault fault) old.source new.source)
+
+-- ---- a view
+
+-- what is true of each view: what it keeps of the streams, its pass, and what was spent, fit how the walk stands
+pub record IsView (Z : Type 0) (limit : ℕ) (w : WalkState) (counts rooms : List ℕ) (pass : Option Pass) (passed asked : ℕ) (last : Option ViewFault) : Type 0 where
+  pub counted : length counts ≡ length w.chosen
+  pub roomed : length rooms ≡ length w.chosen
+  pub few : length w.chosen ≤ w.header.number_of_streams
+  pub light : w.held < 2 ^ 64
+  pub passing : (p : Pass) → pass ≡ Some p → IsPass w p
+  pub paid : IsPaid w counts pass passed asked
+  pub of_file : (F : List ℕ) → w.source.store.content ≡ Some F → IsViewed Z F limit w counts rooms
+  pub pass_of : (F : List ℕ) (p : Pass) → w.source.store.content ≡ Some F → pass ≡ Some p → IsPassOf Z F limit w p
+  -- a walk that has ended is begun no more
+  pub ended : (fault : SourceFault) → w.failed ≡ Some fault → (last ≡ Some (view.Source fault)) × (pass ≡ None)
+  pub steady : (F : List ℕ) → IsGood w.source.store F → w.failed ≡ None

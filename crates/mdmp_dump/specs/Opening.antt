@@ -1,0 +1,31 @@
+-- A view of a file as those see it who open it.
+use Rattle.std.specs.Prelude.{◌≡◌, ◌+◌, ◌*◌, ℕ, None}
+use Rattle.mdmp_source.specs.Source.{SourceState, FetchesSome}
+use Rattle.mdmp_source.specs.declared.store.Store.{Ghosts}
+use Rattle.mdmp_dump.specs.declared.file_view.FileView.{FileView}
+use Rattle.mdmp_dump.specs.FileView.{opening_cost}
+
+module _ {S A : Type 0} {G : Ghosts S} where
+  -- the source that it reads
+  abbrev pub source_in : FileView S A G → SourceState
+  source_in v = v.walk.source
+
+  -- how many entries the directory has
+  abbrev pub entries_in : FileView S A G → ℕ
+  entries_in v = v.walk.header.number_of_streams
+
+  -- the bytes that its lists take: those of the walk, and 12 for each entry
+  abbrev pub held_by : FileView S A G → ℕ
+  held_by v = v.walk.held + 12 * entries_in v
+
+  -- the bytes that its opening may fetch: the header, the directory, and what one pass over each stream costs
+  abbrev pub opened_by : FileView S A G → ℕ
+  opened_by v = opening_cost v.walk v.counts.items
+
+  -- it was opened over a source through a window of so many bytes, and nothing was asked of it yet
+  pub record IsNewView (source : SourceState) (window : ℕ) (v : FileView S A G) : Type 0 where
+    pub fetches : FetchesSome source (source_in v)
+    pub held : held_by v ≡ window + 24 * entries_in v
+    pub passed : v.passed ≡ 0
+    pub asked : v.asked ≡ 0
+    pub last : v.last ≡ None
