@@ -23,11 +23,11 @@ def header(stream_type, size):
     return struct.pack("<4sIIIIIQ", b"MDMP", 0xA793, 1, 32, 0, 0, 0) + struct.pack("<III", stream_type, size, 44)
 
 
-def best_times(commands):
+def best_times(commands, runs=RUNS):
     """The least time, in seconds, of each of these processes as a whole, with its output dropped. They run in turn, so
     that what else the machine does meets all of them."""
     best = [float("inf")] * len(commands)
-    for _ in range(RUNS):
+    for _ in range(runs):
         for k, words in enumerate(commands):
             start = time.perf_counter()
             subprocess.run(words, stdout=subprocess.DEVNULL, check=True)
@@ -38,3 +38,9 @@ def best_times(commands):
 def best_time(words):
     """The least time, in seconds, of a whole process whose output is dropped."""
     return best_times([words])[0]
+
+
+def resident(words):
+    """The most KiB that a process has resident."""
+    done = subprocess.run(["/usr/bin/time", "-f", "%M", *words], stdout=subprocess.DEVNULL, stderr=subprocess.PIPE, check=True)
+    return int(done.stderr.split()[-1])

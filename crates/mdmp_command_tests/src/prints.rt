@@ -75,17 +75,18 @@ pub struct CopyEnded {
     pub told: String,
 }
 
-/// Copies the streams of these types out of a store, to this output.
+/// Copies the streams of these types out of a store under these limits, to this output.
 pub fn copy_store_to<S: Store + Drop>(
     alloc: Global,
     store: S,
+    limits: Limits,
     types: &[u32],
     out: &mut PatchyOut<Global>,
 ) -> Result<CopyEnded, Fail> {
     let mut err = empty_out(alloc, FOR_LONG_TEXT)?;
     let types = TypeSet::new(types).ok_or("types")?;
     let source = Source::new(store);
-    let status = copy_told(alloc, types, source, Limits::default(), out, &mut err).status;
+    let status = copy_told(alloc, types, source, limits, out, &mut err).status;
     let mut bytes = Vec::new(alloc);
     bytes.extend_from_slice(out.bytes())?;
     let told = text_in(alloc, &err)?;

@@ -8,6 +8,7 @@ use mdmp_test_support::{
     FOR_LONG_TEXT, MODULE_FILE_TEXT, Room, SIX, SYSTEM_TEXT, faulty_file, file_of_numbers,
     module_file, start_of, system_file,
 };
+use mdmp_tool::Limits;
 use std::alloc::Global;
 use std::process::Abort;
 use std::test::Fail;
@@ -133,7 +134,13 @@ fn copy_told_succeeds(rt: HostRuntime) -> Result<(), Fail> {
     let six = file_of_numbers(rt.alloc(), 6, &SIX)?;
     let crash = file_of_numbers(rt.alloc(), 2, &CRASH)?;
     let mut out = PatchyOut::with_room(rt.alloc(), 1000, 7, None)?;
-    let ended = copy_store_to(rt.alloc(), MemoryStore::new(&six), &[3, 6], &mut out)?;
+    let ended = copy_store_to(
+        rt.alloc(),
+        MemoryStore::new(&six),
+        Limits::default(),
+        &[3, 6],
+        &mut out,
+    )?;
     assert_copy(&rt, &ended, 0, &crash, "");
     Ok(())
 }
@@ -146,23 +153,34 @@ fn copy_to_an_output_that_fails_has_the_first_bytes(rt: HostRuntime) -> Result<(
     // One that is full, and one whose second call fails.
     for (all, fail_at) in [(40, None), (1000, Some(1))] {
         let mut out = PatchyOut::with_room(rt.alloc(), all, 40, fail_at)?;
-        let ended = copy_store_to(rt.alloc(), MemoryStore::new(&six), &[3, 6], &mut out)?;
+        let ended = copy_store_to(
+            rt.alloc(),
+            MemoryStore::new(&six),
+            Limits::default(),
+            &[3, 6],
+            &mut out,
+        )?;
         assert_copy(&rt, &ended, 3, first, "mdmp: output failed\n");
     }
     Ok(())
 }
 
 #[test]
-fn copy_of_a_store_that_fails_writes_nothing(rt: HostRuntime) -> Result<(), Fail> {
+fn copy_of_a_store_that_fails_has_the_first_bytes(rt: HostRuntime) -> Result<(), Fail> {
     let six = file_of_numbers(rt.alloc(), 6, &SIX)?;
-    for (fail_at, told) in [
-        (0, "mdmp: store failed at 0\n"),
-        (103, "mdmp: store failed at 103\n"),
+    let crash = file_of_numbers(rt.alloc(), 2, &CRASH)?;
+    // Of the header and the directory, and, behind the first 168 bytes that went out, the last of all.
+    for (fail_at, told, taken) in [
+        (0, "mdmp: store failed at 0\n", 0),
+        (103, "mdmp: store failed at 103\n", 0),
+        (777, "mdmp: store failed at 435\n", 168),
     ] {
         let mut out = PatchyOut::with_room(rt.alloc(), 1000, 1000, None)?;
         let store = PatchyStore::new(&six, &[1], Some(fail_at));
-        let ended = copy_store_to(rt.alloc(), store, &[3, 6], &mut out)?;
-        assert_copy(&rt, &ended, 3, &[], told);
+        let limits = Limits::new(168, 0).ok_or("limits")?;
+        let ended = copy_store_to(rt.alloc(), store, limits, &[3, 6], &mut out)?;
+        let first = crash.get(..taken).ok_or("a first part")?;
+        assert_copy(&rt, &ended, 3, first, told);
     }
     Ok(())
 }
@@ -171,7 +189,13 @@ fn copy_of_a_store_that_fails_writes_nothing(rt: HostRuntime) -> Result<(), Fail
 fn type_that_is_not_copied_is_told(rt: HostRuntime) -> Result<(), Fail> {
     let six = file_of_numbers(rt.alloc(), 6, &SIX)?;
     let mut out = PatchyOut::with_room(rt.alloc(), 1000, 1000, None)?;
-    let ended = copy_store_to(rt.alloc(), MemoryStore::new(&six), &[3, 12], &mut out)?;
+    let ended = copy_store_to(
+        rt.alloc(),
+        MemoryStore::new(&six),
+        Limits::default(),
+        &[3, 12],
+        &mut out,
+    )?;
     assert_copy(&rt, &ended, 2, &[], "mdmp: type 12 is not copied\n");
     Ok(())
 }

@@ -1,7 +1,8 @@
 //! Prints what the commands make of the real dumps of the folder data: their lists, whether their
 //! entries are good, the symbol files of their modules, and copies of some of their streams; that small
 //! windows and the greatest list the same, and that each entry that is gone to gives what is listed of
-//! it; and how many items each has, how its value compares with its list, and how it is written anew.
+//! it; and how many items each has, how its value compares with its list, how that is written anew, and
+//! that a view of its file is written as it.
 #![tactic(auto)]
 
 mod checks;
@@ -22,7 +23,7 @@ use crate::symbols::tell_symbols;
 use crate::value::tell_totals;
 use crate::walks::tell_walk;
 use crate::windows::tell_windows;
-use crate::written::tell_value;
+use crate::written::{tell_value, tell_view};
 use std::process::ExitCode;
 
 /// The dumps, each named for the program that wrote it.
@@ -60,6 +61,9 @@ fn tell_all(rt: &HostRuntime) -> Result<(), u8> {
     }
     for dump in DUMPS {
         tell_value(rt, dump)?;
+    }
+    for dump in DUMPS {
+        tell_view(rt, dump)?;
     }
     for chosen in CHOSEN {
         tell_copy(rt, &chosen)?;

@@ -1,7 +1,7 @@
-//! A dump's value, written anew.
+//! A dump's value, written anew, and the dump through a view of its file.
 
 use crate::status::{DIFFERS, UNWRITTEN};
-use mdmp_dump::{Dump, read_dump};
+use mdmp_dump::{Dump, DumpView, FileView, read_dump};
 use mdmp_lister::{Choice, Limits};
 use mdmp_source::{FileStore, MemoryStore, Source, WriteOut};
 use mdmp_writer::write_dump;
@@ -37,8 +37,43 @@ fn size_of_value(rt: &HostRuntime, dump: &str) -> Option<u64> {
 
 /// The bytes that a value is written as.
 fn written(alloc: Global, value: &Dump<Global>) -> Option<Vec<u8, Global>> {
+    written_of(alloc, &mut value.view(), 4096)
+}
+
+/// The bytes that are written of what a view gives, through a buffer of so many bytes, from 1 to 4096.
+fn written_of<V: DumpView>(alloc: Global, view: &mut V, room: usize) -> Option<Vec<u8, Global>> {
     let mut out = WriteOut::new(Vec::new(alloc));
     let mut buffer = [0; 4096];
-    write_dump(&mut value.view(), &mut out, &mut buffer).ok()?;
+    write_dump(view, &mut out, &mut buffer[..room.clamp(1, 4096)]).ok()?;
     Some(out.into_inner())
+}
+
+/// Prints that a view of a dump's file writes what is written of its value.
+pub fn tell_view(rt: &HostRuntime, dump: &str) -> Result<(), u8> {
+    let Some(size) = size_of_view(rt, dump) else {
+        return Err(DIFFERS);
+    };
+    writeln!(
+        rt.stdout(),
+        "{dump}: {size} bytes by a view of the file, as of the value"
+    )
+    .map_err(|_| UNWRITTEN)
+}
+
+/// How many bytes are written through a view of a dump's file, or none where they are not those of its
+/// value, by one of some buffers.
+fn size_of_view(rt: &HostRuntime, dump: &str) -> Option<u64> {
+    let source = Source::new(FileStore::open(rt, dump).ok()?);
+    let limits = Limits::default();
+    let value = read_dump(rt.alloc(), source, limits, Choice::All, u64::MAX).ok()?;
+    let file = written(rt.alloc(), &value)?;
+    for room in [7, 168, 4096] {
+        let source = Source::new(FileStore::open(rt, dump).ok()?);
+        let least = Limits::new(Limits::LEAST_WINDOW, limits.name)?;
+        let mut view = FileView::open(rt.alloc(), source, least, Choice::All).ok()?;
+        if written_of(rt.alloc(), &mut view, room)? != file {
+            return None;
+        }
+    }
+    Some(file.len() as u64)
 }

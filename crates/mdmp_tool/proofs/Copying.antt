@@ -1,12 +1,14 @@
 -- What a copy does, from its parts.
-use Rattle.std.proofs.Common.{◌≡◌, ◌∙◌, ◌+◌, ◌<◌, ◌≤◌, ℕ, List, Option, Some, None, true, false, refl, ap, drop, length, slice_index_or, subst, sym}
-use Rattle.std.specs.Prelude.{Result, Ok, Err}
+use Rattle.std.proofs.Common.{◌≡◌, ◌⊎◌, ◌∙◌, ◌+◌, ◌<◌, ◌≤◌, ℕ, List, [], Option, Some, None, true, false, inl, inr, refl, ap, drop, length, slice_index_or, subst, sym}
+use Rattle.std.specs.Prelude.{Result, Ok, Err, IfSome, IsTrue}
 use Rattle.std.proofs.lemmas.List.{drop_more}
 use Rattle.std.proofs.lemmas.Option.{none-some}
 use Rattle.std.proofs.Math.ListN.{drop_of_length-le}
 use Rattle.mdmp_source.specs.Output.{OutState}
-use Rattle.mdmp_source.specs.Source.{SourceState}
+use Rattle.mdmp_source.specs.Source.{SourceState, FetchesSome}
+use Rattle.mdmp_source.specs.SourceLaws.{told_later}
 use Rattle.mdmp_source.specs.declared.fault.SourceFault.{SourceFault}
+use Rattle.mdmp_source.specs.declared.fault.SourceFault.TheVariants.{Changed, Failed, ShortRead}
 use Rattle.mdmp_lister.specs.declared.choice.Choice.TheVariants.{Types}
 use Rattle.mdmp_lister.specs.declared.fault.FaultKind.{FaultKind}
 use Rattle.mdmp_lister.specs.declared.fault.FaultKind.TheVariants as kinds
@@ -14,16 +16,22 @@ use Rattle.mdmp_lister.specs.declared.fault.ListFault.{ListFault}
 use Rattle.mdmp_lister.specs.declared.fault.OpenFault.{OpenFault}
 use Rattle.mdmp_lister.specs.declared.fault.OpenFault.TheVariants as opening
 use Rattle.mdmp_lister.specs.Fault.{IsOfSource}
-use Rattle.mdmp_lister.specs.Opening.{IsOpenRefusal}
-use Rattle.mdmp_dump.specs.declared.dump.Dump.{Dump}
+use Rattle.mdmp_lister.specs.Opening.{IsBareRefusal}
 use Rattle.mdmp_dump.specs.declared.fault.ReadFault.{ReadFault}
 use Rattle.mdmp_dump.specs.declared.fault.ReadFault.TheVariants as reads
+use Rattle.mdmp_dump.specs.declared.view.ViewFault.{ViewFault}
+use Rattle.mdmp_dump.specs.declared.view.ViewFault.TheVariants as view
+use Rattle.mdmp_dump.specs.EntryWalk.{WalkState}
+use Rattle.mdmp_dump.specs.FileRefusal.{IsViewRefusal, view_refusal}
+use Rattle.mdmp_dump.specs.FileView.{HasMoved, source_fault}
+use Rattle.mdmp_dump.specs.InFile.{dump_in}
 use Rattle.mdmp_dump.specs.LaysOut.{LaysOut}
-use Rattle.mdmp_dump.specs.Reading.{IsOwn, IsReadRefusal, store_fault_in}
+use Rattle.mdmp_dump.specs.Reading.{IsLastTold, IsOwn, store_fault, store_fault_in}
+use Rattle.mdmp_dump.specs.Shape.{Shape}
 use Rattle.mdmp_tool.specs.declared.fault.ToolFault.{ToolFault}
 use Rattle.mdmp_tool.specs.declared.fault.ToolFault.TheVariants as tool
-use Rattle.mdmp_tool.specs.Causes.{HasSourceCause}
-use Rattle.mdmp_tool.specs.Copying.{Copies, Ends, HasLayoutFault, IsDumpCopied, copy_refusal, first_not_copied, is_copied, refused_type}
+use Rattle.mdmp_tool.specs.Causes.{HasOutCause, HasSourceCause, IsNoSourceFault}
+use Rattle.mdmp_tool.specs.Copying.{Copies, EndsOf, IsCopy, IsCopyRefusal, IsDumpCopied, IsOfShape, IsQuietCopy, IsShapeCopied, IsToldByView, first_not_copied, is_copied, refused_type}
 use Rattle.mdmp_tool.specs.Telling.{opening_told, reading_told, told_by}
 
 -- ---- the first type that is not copied
@@ -40,68 +48,160 @@ pub none_left : (types : List ℕ) (k : ℕ) → length types ≤ k → first_no
 unfolding first_not_copied
 none_left types k past = ap first_not_copied (drop_of_length-le types past)
 
--- ---- a fault of the file
-
--- where the content is known, the fault is the reason, unless memory or the store was wanting
-abbrev pub IsTold : Option (List ℕ) → List ℕ → ℕ → ReadFault → Type 0
-IsTold content types limit fault = (file : List ℕ) → content ≡ Some file → (IsOwn fault → ⊥) → copy_refusal file types limit ≡ Some fault
+-- ---- causes
 
 -- what the listing tells of the store is a fault of the store
 of_store : (kind : FaultKind) (fault : SourceFault) → store_fault_in kind ≡ Some fault → IsOfSource kind
 of_store (kinds.Source f) fault is = tt
 of_store kind fault is = none-some fault is
 
--- no fault of the store is told of a dump that was read
-pub cause-copied : {Z : Type 0} (d : Dump Z) (before after : OutState) (r : Result ℕ ToolFault) (old new : SourceState) → IsDumpCopied d before r after → HasSourceCause old r new
-cause-copied d before after (Err (tool.Source fault)) old new never = absurd never
-cause-copied d before after r old new is = tt
+-- over a view that never answers a fault no fault of the store is told
+pub reliable_copied : (shape : Shape) (before after : OutState) (r : Result ℕ ToolFault) → IsShapeCopied shape before r after → IsTrue shape.is_reliable → IsNoSourceFault r
+reliable_copied shape before after (Err (tool.Source fault)) ends reliable = let never = ends.1 in cc
+reliable_copied shape before after r ends reliable = tt
 
--- ---- what is answered where all types are copied
+-- and of a good store none is told where the file gives no view
+opening_good : (fault : OpenFault) → store_fault (reads.Opening fault) ≡ None → IsNoSourceFault {T = ℕ} (Err (opening_told fault))
+opening_good (opening.Source f) none = none-some f (sym none)
+opening_good opening.Memory none = tt
+opening_good fault none = tt
+
+list_good : (kind : FaultKind) (fault : ListFault) → store_fault_in kind ≡ None → IsNoSourceFault {T = ℕ} (Err (told_by kind fault))
+list_good (kinds.Source f) fault none = none-some f (sym none)
+list_good kind fault none = tt
+
+pub good_read : (fault : ReadFault) → store_fault fault ≡ None → IsNoSourceFault {T = ℕ} (Err (reading_told fault))
+good_read (reads.Opening fault) none = opening_good fault none
+good_read (reads.List fault) none = list_good fault.kind fault none
+good_read (reads.Source fault) none = none-some fault (sym none)
+good_read fault none = tt
+
+-- a fault that is told of a call is told from before it
+told_from : (fault : SourceFault) (a b c : SourceState) → FetchesSome a b → IsLastTold fault b c → IsLastTold fault a c
+told_from (Changed at) a b c first told = sym first.fetches.same_content ∙ told
+told_from (Failed at) a b c first told = told_later (Failed at) first.count a b c first.fetches told
+told_from (ShortRead at) a b c first told = told_later (ShortRead at) first.count a b c first.fetches told
+
+-- the fault of the store is that of the last call of the view that fetched
+moved_cause : (source : SourceState) (w v : WalkState) (last : Option ViewFault) (fault : SourceFault) → FetchesSome source w.source → HasMoved w None v last → last ≡ Some (view.Source fault)
+    → IsLastTold fault source v.source
+moved_cause source w v last fault opened moved is =
+    elim (subst (λ (o : Option ViewFault). IfSome o (λ f. ((None ≡ o) × (v.source ≡ w.source)) ⊎ IsLastTold (source_fault f) w.source v.source)) is moved.told) [
+      | inl same ↦ absurd (none-some (view.Source fault) same.0)
+      | inr told ↦ told_from fault source w.source v.source opened told
+    ]
+
+pub cause_copied : (source : SourceState) (w v : WalkState) (first last : Option ViewFault) (r : Result ℕ ToolFault) → FetchesSome source w.source → first ≡ None → HasMoved w first v last
+    → IsToldByView r last → HasSourceCause source r v.source
+cause_copied source w v first last (Err (tool.Source fault)) opened none moved told =
+    moved_cause source w v last fault opened (subst (λ (o : Option ViewFault). HasMoved w o v last) none moved) told
+cause_copied source w v first last r opened none moved told = tt
+
+-- ---- what is answered
+
+-- nothing is said of a view where there is none
+no_shape : Shape
+no_shape = record { streams = []; costs = []; is_reliable = false; seen = None }
+
+-- a type is refused
+pub Copies-not : (Z : Type 0) (content : Option (List ℕ)) (file_size : ℕ) (types : List ℕ) (limit : ℕ) (before : OutState) (t : ℕ) → first_not_copied types ≡ Some t
+    → Copies Z content file_size types limit before (Err (tool.NotCopied t)) before
+Copies-not Z content file_size types limit before t is = record {
+  refuses = is;
+  short = λ few none. absurd (let some = is in cc);
+  refusal = tt;
+  quiet = refl;
+  out_cause = refl;
+  of_shape = record { shape = no_shape; size = tt };
+  of_file = λ F known. tt;
+}
 
 module _ (Z : Type 0) (content : Option (List ℕ)) (file_size : ℕ) (types : List ℕ) (limit : ℕ) (before : OutState) (all : first_not_copied types ≡ None) where
-  -- no type is refused, and the answer is the right one
-  abbrev Answers : Result ℕ ToolFault → OutState → Type 0
-  Answers answer after = (refused_type answer ≡ None) × Ends Z content file_size types limit before answer after
+  -- a view of the file was written
+  module _ (shape : Shape) (after : OutState) (laid_out : (F : List ℕ) → content ≡ Some F → LaysOut F (Types types) (dump_in {Z = Z} F (Types types)))
+      (within : (F : List ℕ) → content ≡ Some F → view_refusal F (Types types) limit ≡ None) (long : file_size < 32 → ⊥) where
+    copy : (r : Result ℕ ToolFault) (F : List ℕ) → content ≡ Some F → IsDumpCopied (dump_in {Z = Z} F (Types types)) before r after → IsCopy Z F types limit before r after
+    copy r F known copied = record { within = within F known; laid_out = laid_out F known; copied = copied }
 
-  copies : (answer : Result ℕ ToolFault) (after : OutState) → (file_size < 32 → answer ≡ Err (tool.Opening (opening.TooShort file_size))) → Answers answer after
-      → Copies Z content file_size types limit before answer after
-  copies answer after short answers = record { refuses = all ∙ sym answers.0; short = λ few _. short few; ends = answers.1 }
+    pub Copies-viewed : (r : Result ℕ ToolFault) → IsShapeCopied shape before r after
+        → ((F : List ℕ) → content ≡ Some F → IsDumpCopied (dump_in {Z = Z} F (Types types)) before r after) → Copies Z content file_size types limit before r after
+    Copies-viewed (Ok size) ends copied = record {
+      refuses = all;
+      short = λ few _. absurd (long few);
+      refusal = tt;
+      quiet = tt;
+      out_cause = ends.1;
+      of_shape = record { shape = shape; size = ends.0 };
+      of_file = λ F known. copy (Ok size) F known (copied F known);
+    }
+    Copies-viewed (Err (tool.Layout fault)) ends copied = record {
+      refuses = all;
+      short = λ few _. absurd (long few);
+      refusal = tt;
+      quiet = ends.1;
+      out_cause = ap (λ (o : OutState). o.failures) ends.1;
+      of_shape = record { shape = shape; size = ends.0 };
+      of_file = λ F known. copy (Err (tool.Layout fault)) F known (copied F known);
+    }
+    Copies-viewed (Err tool.Out) ends copied = record {
+      refuses = all;
+      short = λ few _. absurd (long few);
+      refusal = tt;
+      quiet = tt;
+      out_cause = ends.1;
+      of_shape = record { shape = shape; size = ends.0 };
+      of_file = λ F known. copy (Err tool.Out) F known (copied F known);
+    }
+    Copies-viewed (Err (tool.Source fault)) ends copied = record {
+      refuses = all;
+      short = λ few _. absurd (long few);
+      refusal = tt;
+      quiet = tt;
+      out_cause = ends.2;
+      of_shape = record { shape = shape; size = tt };
+      of_file = λ F known. inr (copy (Err (tool.Source fault)) F known (copied F known));
+    }
+    Copies-viewed (Err fault) ends copied = absurd ends
 
-  -- a dump was read
-  read : (after : OutState) (d : Dump Z) (r : Result ℕ ToolFault) → ((file : List ℕ) → content ≡ Some file → LaysOut file (Types types) d)
-      → ((file : List ℕ) → content ≡ Some file → copy_refusal file types limit ≡ None) → IsDumpCopied d before r after → Answers r after
-  read after d (Ok size) laid_out within is = (refl, record { dump = d; laid_out = laid_out; within = within; copied = is })
-  read after d (Err tool.Out) laid_out within is = (refl, record { dump = d; laid_out = laid_out; within = within; copied = is })
-  read after d (Err (tool.Layout fault)) laid_out within is = (refl, HasLayoutFault.of_dump (record { dump = d; laid_out = laid_out; within = within; copied = is }))
-  read after d (Err tool.Memory) laid_out within is = (refl, is)
-  read after d (Err fault) laid_out within is = absurd is
+  -- nothing was written, and no type is refused
+  abbrev Answers : Result ℕ ToolFault → Type 0
+  Answers r = (refused_type r ≡ None) × (IsCopyRefusal file_size r × (IsQuietCopy r (before ≡ before) × (HasOutCause before r before
+      × (IsOfShape no_shape r × ((F : List ℕ) → content ≡ Some F → EndsOf Z F types limit before r before)))))
 
-  pub Copies-read : (after : OutState) (d : Dump Z) (r : Result ℕ ToolFault) → ((file : List ℕ) → content ≡ Some file → LaysOut file (Types types) d)
-      → ((file : List ℕ) → content ≡ Some file → copy_refusal file types limit ≡ None) → (file_size < 32 → ⊥) → IsDumpCopied d before r after
-      → Copies Z content file_size types limit before r after
-  Copies-read after d r laid_out within long is = copies r after (λ few. absurd (long few)) (read after d r laid_out within is)
+  -- where the content is known, the fault is the reason, unless memory or the store was wanting
+  abbrev IsTold : ReadFault → Type 0
+  IsTold fault = (F : List ℕ) → content ≡ Some F → (IsOwn fault → ⊥) → view_refusal F (Types types) limit ≡ Some fault
 
-  -- the file gives no dump
-  opened : (fault : OpenFault) → IsTold content types limit (reads.Opening fault) → IsOpenRefusal file_size fault → Answers (Err (opening_told fault)) before
-  opened (opening.Source f) told refusal = (refl, refl)
-  opened opening.Memory told refusal = (refl, refl)
-  opened fault told refusal = (refl, ((tt, refusal), (λ file known. told file known (λ own. none-some own.0 own.1), refl)))
+  opened : (fault : OpenFault) → IsTold (reads.Opening fault) → IsBareRefusal file_size fault → Answers (Err (opening_told fault))
+  opened (opening.Source f) told refusal = (refl, (tt, (tt, (refl, (tt, λ F known. inl refl)))))
+  opened opening.Memory told refusal = (refl, (tt, (refl, (refl, (tt, λ F known. tt)))))
+  opened fault told refusal = (refl, ((tt, refusal), (refl, (refl, (tt, λ F known. told F known (λ own. none-some own.0 own.1))))))
 
-  listed : (kind : FaultKind) (fault : ListFault) → fault.kind ≡ kind → IsTold content types limit (reads.List fault) → Answers (Err (told_by kind fault)) before
-  listed (kinds.Source f) fault is told = (refl, refl)
+  listed : (kind : FaultKind) (fault : ListFault) → fault.kind ≡ kind → IsTold (reads.List fault) → Answers (Err (told_by kind fault))
+  listed (kinds.Source f) fault is told = (refl, (tt, (tt, (refl, (tt, λ F known. inl refl)))))
   listed kind fault is told =
       let own : IsOfSource fault.kind → ⊥ = subst (λ (k : FaultKind). IsOfSource k → ⊥) (sym is) (λ x. x) in
-      (refl, (own, (λ file known. told file known (λ x. own (of_store fault.kind x.0 x.1)), refl)))
+      (refl, (own, (refl, (refl, (tt, λ F known. told F known (λ x. own (of_store fault.kind x.0 x.1)))))))
 
-  refused : (fault : ReadFault) → IsTold content types limit fault → IsReadRefusal file_size fault → Answers (Err (reading_told fault)) before
+  refused : (fault : ReadFault) → IsTold fault → IsViewRefusal file_size fault → Answers (Err (reading_told fault))
   refused (reads.Opening fault) told refusal = opened fault told refusal
   refused (reads.List fault) told refusal = listed fault.kind fault refl told
-  refused (reads.PartsTooLarge e k) told refusal = (refl, HasLayoutFault.of_parts e k refl (λ file known. told file known (λ own. none-some own.0 own.1)) refl)
-  refused reads.Memory told refusal = (refl, refl)
-  refused (reads.Source fault) told refusal = (refl, refl)
-  refused fault told refusal = (refl, (tt, (λ file known. told file known (λ own. none-some own.0 own.1), refl)))
+  refused (reads.PartsTooLarge e k) told refusal = absurd refusal
+  refused reads.Memory told refusal = (refl, (tt, (refl, (refl, (tt, λ F known. tt)))))
+  refused (reads.Source fault) told refusal = (refl, (tt, (tt, (refl, (tt, λ F known. inl refl)))))
+  refused fault told refusal = (refl, (tt, (refl, (refl, (tt, λ F known. told F known (λ own. none-some own.0 own.1))))))
 
-  pub Copies-refused : (fault : ReadFault) → IsTold content types limit fault → IsReadRefusal file_size fault
-      → (file_size < 32 → fault ≡ reads.Opening (opening.TooShort file_size)) → Copies Z content file_size types limit before (Err (reading_told fault)) before
+  -- the file gives no view
+  pub Copies-refused : (fault : ReadFault) → IsTold fault → IsViewRefusal file_size fault → (file_size < 32 → fault ≡ reads.Opening (opening.TooShort file_size))
+      → Copies Z content file_size types limit before (Err (reading_told fault)) before
   Copies-refused fault told refusal short =
-      copies (Err (reading_told fault)) before (λ few. ap (λ (f : ReadFault). Err (reading_told f)) (short few)) (refused fault told refusal)
+      let answers = refused fault told refusal in
+      record {
+        refuses = all ∙ sym answers.0;
+        short = λ few _. ap (λ (f : ReadFault). Err (reading_told f)) (short few);
+        refusal = answers.1.0;
+        quiet = answers.1.1.0;
+        out_cause = answers.1.1.1.0;
+        of_shape = record { shape = no_shape; size = answers.1.1.1.1.0 };
+        of_file = answers.1.1.1.1.1;
+      }

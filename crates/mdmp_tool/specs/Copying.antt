@@ -1,22 +1,26 @@
 -- What a copy answers, and what it leaves written.
-use Rattle.std.specs.Prelude.{◌≡◌, ◌^◌, ◌-◌, ◌<◌, ◌==◌, ◌||◌, ℕ, Bool, List, [], ◌∷◌, Option, Some, None, Result, Ok, Err, nat_lt, if◌then◌else◌}
-use Rattle.mdmp_source.specs.Output.{OutState, PutsAll, PutsPrefix}
+use Rattle.std.specs.Prelude.{◌≡◌, ◌<◌, ◌⊎◌, ◌==◌, ◌||◌, ℕ, Bool, List, [], ◌∷◌, Option, Some, None, Result, Ok, Err, IsFalse, nat_lt, if◌then◌else◌}
+use Rattle.mdmp_source.specs.Output.{HasRefused, OutState, PutsAll, PutsPrefix}
 use Rattle.mdmp_lister.specs.declared.choice.Choice.TheVariants.{Types}
 use Rattle.mdmp_lister.specs.declared.fault.OpenFault.TheVariants.{TooShort}
 use Rattle.mdmp_lister.specs.Fault.{IsOfSource}
 use Rattle.mdmp_lister.specs.Format.Kind.{is_known}
+use Rattle.mdmp_lister.specs.Opening.{IsBareRefusal}
 use Rattle.mdmp_dump.specs.declared.dump.Dump.{Dump}
 use Rattle.mdmp_dump.specs.declared.fault.ReadFault.{ReadFault}
 use Rattle.mdmp_dump.specs.declared.fault.ReadFault.TheVariants as reads
+use Rattle.mdmp_dump.specs.declared.view.ViewFault.{ViewFault}
+use Rattle.mdmp_dump.specs.declared.view.ViewFault.TheVariants as view
+use Rattle.mdmp_dump.specs.FileRefusal.{view_refusal}
+use Rattle.mdmp_dump.specs.InFile.{dump_in}
 use Rattle.mdmp_dump.specs.LaysOut.{LaysOut}
-use Rattle.mdmp_dump.specs.Refusal.{read_refusal}
-use Rattle.mdmp_writer.specs.declared.fault.LayoutFault.{LayoutFault}
-use Rattle.mdmp_writer.specs.declared.fault.LayoutFault.TheVariants.{TooLarge}
-use Rattle.mdmp_writer.specs.Layout.{layout_fault, written_size}
+use Rattle.mdmp_dump.specs.Shape.{Shape}
+use Rattle.mdmp_writer.specs.Layout.{layout_fault, shape_fault, size_answer, written_size}
 use Rattle.mdmp_writer.specs.Written.{written}
 use Rattle.mdmp_tool.specs.declared.fault.ToolFault.{ToolFault}
 use Rattle.mdmp_tool.specs.declared.fault.ToolFault.TheVariants as tool
-use Rattle.mdmp_tool.specs.Causes.{IsOpeningTold}
+use Rattle.mdmp_tool.specs.Causes.{HasOutCause, IsOfFile}
+use Rattle.mdmp_tool.specs.Engines.{StopsShort}
 
 -- ---- types
 
@@ -38,78 +42,98 @@ abbrev pub refused_type : {T : Type 0} → Result T ToolFault → Option ℕ
 refused_type (Err (tool.NotCopied t)) = Some t
 refused_type answer = None
 
--- ---- reading
+-- ---- writing
 
--- why F gives no dump of its streams of these types, where their parts may have as many bytes as 64 bits count
-abbrev pub copy_refusal : List ℕ → List ℕ → ℕ → Option ReadFault
-copy_refusal F types limit = read_refusal F (Types types) limit (2 ^ 64 - 1)
+-- a view of this shape was written, whatever it gives: the size, or the reason why it can't be written, is that of the shape,
+-- and then nothing went out. It stops only where the output refused, or behind a fault of the view, which a reliable one has
+-- not, and then the output is not at fault.
+abbrev pub IsShapeCopied : Shape → OutState → Result ℕ ToolFault → OutState → Type 0
+IsShapeCopied shape before (Ok size) after = (size_answer shape.streams ≡ Ok size) × (after.failures ≡ before.failures)
+IsShapeCopied shape before (Err (tool.Layout fault)) after = (size_answer shape.streams ≡ Err fault) × (after ≡ before)
+IsShapeCopied shape before (Err tool.Out) after = (shape_fault shape.streams ≡ None) × HasRefused before.failures after.failures
+IsShapeCopied shape before (Err (tool.Source fault)) after =
+    (shape_fault shape.streams ≡ None) × IsFalse shape.is_reliable × (after.failures ≡ before.failures)
+IsShapeCopied shape before (Err fault) after = ⊥
 
--- where the content is known, this is why it gives none
-abbrev pub IsRefused : Option (List ℕ) → List ℕ → ℕ → ReadFault → Type 0
-IsRefused content types limit fault = (file : List ℕ) → content ≡ Some file → copy_refusal file types limit ≡ Some fault
+-- a dump was copied: all its bytes went out, or a first part of them, up to a refusal of the output or to a fault of the store;
+-- or nothing, where it can't be written
+abbrev pub IsDumpCopied : {Z : Type 0} → Dump Z → OutState → Result ℕ ToolFault → OutState → Type 0
+IsDumpCopied d before (Ok size) after = (layout_fault d ≡ None) × ((size ≡ written_size d) × PutsAll before (written d) after)
+IsDumpCopied d before (Err tool.Out) after = (layout_fault d ≡ None) × PutsPrefix before (written d) after
+IsDumpCopied d before (Err (tool.Source fault)) after = (layout_fault d ≡ None) × StopsShort before (written d) after
+IsDumpCopied d before (Err (tool.Layout fault)) after = (layout_fault d ≡ Some fault) × (after ≡ before)
+IsDumpCopied d before (Err fault) after = ⊥
+
+-- a fault of the store that is told of a copy is the one that its view answered last
+abbrev pub IsToldByView : Result ℕ ToolFault → Option ViewFault → Type 0
+IsToldByView (Err (tool.Source fault)) last = last ≡ Some (view.Source fault)
+IsToldByView answer last = Unit {0}
+
+-- ---- of whatever file
 
 -- the fault is a record's: a part outside the file, or a name that is too long
 abbrev pub IsOfRecord : ReadFault → Type 0
 IsOfRecord (reads.PartOutside e k part offset size) = Unit {0}
 IsOfRecord (reads.NameTooLong e k length) = Unit {0}
-IsOfRecord (reads.Opening fault) = ⊥
-IsOfRecord (reads.List fault) = ⊥
-IsOfRecord (reads.PartsTooLarge e k) = ⊥
-IsOfRecord reads.Memory = ⊥
-IsOfRecord (reads.Source fault) = ⊥
+IsOfRecord fault = ⊥
 
--- ---- copying
+-- a file of `size` bytes that is refused may be, and what is told of it is its own: of its opening no count of ranges, of its
+-- listing no fault of the store, of a record its part or its name
+abbrev pub IsCopyRefusal : ℕ → Result ℕ ToolFault → Type 0
+IsCopyRefusal size (Err (tool.Opening fault)) = IsOfFile fault × IsBareRefusal size fault
+IsCopyRefusal size (Err (tool.List fault)) = IsOfSource fault.kind → ⊥
+IsCopyRefusal size (Err (tool.Reading fault)) = IsOfRecord fault
+IsCopyRefusal size answer = Unit {0}
 
--- a dump was copied: all its bytes went out, or a first part of them up to a refusal of the output; or nothing, where it
--- can't be written or memory is wanting
-abbrev pub IsDumpCopied : {Z : Type 0} → Dump Z → OutState → Result ℕ ToolFault → OutState → Type 0
-IsDumpCopied d before (Ok size) after = (layout_fault d ≡ None) × ((size ≡ written_size d) × PutsAll before (written d) after)
-IsDumpCopied d before (Err tool.Out) after = (layout_fault d ≡ None) × PutsPrefix before (written d) after
-IsDumpCopied d before (Err (tool.Layout fault)) after = (layout_fault d ≡ Some fault) × (after ≡ before)
-IsDumpCopied d before (Err tool.Memory) after = after ≡ before
-IsDumpCopied d before (Err (tool.Opening fault)) after = ⊥
-IsDumpCopied d before (Err (tool.List fault)) after = ⊥
-IsDumpCopied d before (Err (tool.Reading fault)) after = ⊥
-IsDumpCopied d before (Err (tool.Source fault)) after = ⊥
-IsDumpCopied d before (Err (tool.NotCopied t)) after = ⊥
+-- nothing went out where the file is refused, where its dump can't be written, without memory and where a type is not copied
+abbrev pub IsQuietCopy : Result ℕ ToolFault → Type 0 → Type 0
+IsQuietCopy (Ok size) untouched = Unit {0}
+IsQuietCopy (Err tool.Out) untouched = Unit {0}
+IsQuietCopy (Err (tool.Source fault)) untouched = Unit {0}
+IsQuietCopy (Err fault) untouched = untouched
+
+-- the size, or the reason why there is none, is that of some view
+abbrev pub IsOfShape : Shape → Result ℕ ToolFault → Type 0
+IsOfShape shape (Ok size) = size_answer shape.streams ≡ Ok size
+IsOfShape shape (Err (tool.Layout fault)) = size_answer shape.streams ≡ Err fault
+IsOfShape shape (Err tool.Out) = shape_fault shape.streams ≡ None
+IsOfShape shape answer = Unit {0}
+
+pub record HasShape (answer : Result ℕ ToolFault) : Type 0 where
+  pub shape : Shape
+  pub size : IsOfShape shape answer
+
+-- ---- of a file that is known
 
 module _ (Z : Type 0) where
-  -- a dump was copied; where the content is known, it is the one that is laid out of the streams of these types, and there was
-  -- no reason to refuse it
-  pub record IsCopy (content : Option (List ℕ)) (types : List ℕ) (limit : ℕ) (before : OutState) (answer : Result ℕ ToolFault) (after : OutState) : Type 0 where
-    pub dump : Dump Z
-    pub laid_out : (file : List ℕ) → content ≡ Some file → LaysOut file (Types types) dump
-    pub within : (file : List ℕ) → content ≡ Some file → copy_refusal file types limit ≡ None
-    pub copied : IsDumpCopied dump before answer after
+  -- there is no reason why F gives no view of its streams of these types; it lays out their dump, which was copied
+  pub record IsCopy (F : List ℕ) (types : List ℕ) (limit : ℕ) (before : OutState) (answer : Result ℕ ToolFault) (after : OutState) : Type 0 where
+    pub within : view_refusal F (Types types) limit ≡ None
+    pub laid_out : LaysOut F (Types types) (dump_in {Z = Z} F (Types types))
+    pub copied : IsDumpCopied (dump_in {Z = Z} F (Types types)) before answer after
 
-  -- why there is no copy of this layout: the dump can't be written, or its parts have more bytes than 64 bits count
-  pub data HasLayoutFault (content : Option (List ℕ)) (types : List ℕ) (limit : ℕ) (before : OutState) (fault : LayoutFault) (after : OutState) : Type 0 where
-    of_dump : IsCopy content types limit before (Err (tool.Layout fault)) after → HasLayoutFault content types limit before fault after
-    of_parts : (e k : ℕ) → fault ≡ TooLarge → IsRefused content types limit (reads.PartsTooLarge e k) → after ≡ before
-        → HasLayoutFault content types limit before fault after
+  -- what an answer says of F: its dump was copied, all of it or up to a refusal of the output; or it can't be written; or there
+  -- is no view of F, for the first reason. Behind a fault of the store nothing went out, or a first part of the dump.
+  abbrev pub EndsOf : List ℕ → List ℕ → ℕ → OutState → Result ℕ ToolFault → OutState → Type 0
+  EndsOf F types limit before (Ok size) after = IsCopy F types limit before (Ok size) after
+  EndsOf F types limit before (Err tool.Out) after = IsCopy F types limit before (Err tool.Out) after
+  EndsOf F types limit before (Err (tool.Layout fault)) after = IsCopy F types limit before (Err (tool.Layout fault)) after
+  EndsOf F types limit before (Err (tool.Source fault)) after = (after ≡ before) ⊎ IsCopy F types limit before (Err (tool.Source fault)) after
+  EndsOf F types limit before (Err (tool.Opening fault)) after = view_refusal F (Types types) limit ≡ Some (reads.Opening fault)
+  EndsOf F types limit before (Err (tool.List fault)) after = view_refusal F (Types types) limit ≡ Some (reads.List fault)
+  EndsOf F types limit before (Err (tool.Reading fault)) after = view_refusal F (Types types) limit ≡ Some fault
+  EndsOf F types limit before (Err tool.Memory) after = Unit {0}
+  EndsOf F types limit before (Err (tool.NotCopied t)) after = Unit {0}
 
-  -- what a copy of a file of `file_size` bytes answers: all of it went out, or a first part of it up to a refusal of the output.
-  -- Nothing went out behind a reason why the file gives no dump, which is told of the file only where it is the file's, and of
-  -- its opening only where it fits the size; nor where the dump can't be written, behind a fault of the store, without memory
-  -- and where a type is not copied.
-  abbrev pub Ends : Option (List ℕ) → ℕ → List ℕ → ℕ → OutState → Result ℕ ToolFault → OutState → Type 0
-  Ends content file_size types limit before (Ok size) after = IsCopy content types limit before (Ok size) after
-  Ends content file_size types limit before (Err tool.Out) after = IsCopy content types limit before (Err tool.Out) after
-  Ends content file_size types limit before (Err (tool.Layout fault)) after = HasLayoutFault content types limit before fault after
-  Ends content file_size types limit before (Err (tool.Opening fault)) after =
-      IsOpeningTold file_size fault × (IsRefused content types limit (reads.Opening fault) × (after ≡ before))
-  Ends content file_size types limit before (Err (tool.List fault)) after =
-      (IsOfSource fault.kind → ⊥) × (IsRefused content types limit (reads.List fault) × (after ≡ before))
-  Ends content file_size types limit before (Err (tool.Reading fault)) after =
-      IsOfRecord fault × (IsRefused content types limit fault × (after ≡ before))
-  Ends content file_size types limit before (Err (tool.Source fault)) after = after ≡ before
-  Ends content file_size types limit before (Err tool.Memory) after = after ≡ before
-  Ends content file_size types limit before (Err (tool.NotCopied t)) after = after ≡ before
-
-  -- a copy of the streams of these types out of a store of `file_size` bytes, whose content may be known: a type is refused
-  -- exactly where one of them is not copied, and then the first of those; else a file that is too short is told as that
+  -- a copy of the streams of these types out of a store of `file_size` bytes, whose content may be known
   pub record Copies (content : Option (List ℕ)) (file_size : ℕ) (types : List ℕ) (limit : ℕ) (before : OutState) (answer : Result ℕ ToolFault)
       (after : OutState) : Type 0 where
+    -- a type is refused exactly where one of them is not copied, and then the first of those
     pub refuses : first_not_copied types ≡ refused_type answer
+    -- else a file that is too short is told as that
     pub short : file_size < 32 → first_not_copied types ≡ None → answer ≡ Err (tool.Opening (TooShort file_size))
-    pub ends : Ends content file_size types limit before answer after
+    pub refusal : IsCopyRefusal file_size answer
+    pub quiet : IsQuietCopy answer (after ≡ before)
+    pub out_cause : HasOutCause before answer after
+    pub of_shape : HasShape answer
+    pub of_file : (file : List ℕ) → content ≡ Some file → EndsOf file types limit before answer after

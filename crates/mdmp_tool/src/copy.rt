@@ -1,13 +1,23 @@
 //! The command `copy`.
-ghost use Rattle.std.specs.Prelude.{◌≡◌, ℕ, List, Some};
+ghost use Rattle.std.specs.Prelude.{◌≡◌, ◌<◌, ◌+◌, ◌*◌, ℕ, List, None, Some, Err, IfErr, IfOk, IsTrue, MatchResult, length};
 ghost use Rattle.mdmp_source.specs.Store.{IsGood};
+ghost use Rattle.mdmp_lister.specs.declared.choice.Choice.TheVariants.{Types};
+ghost use Rattle.mdmp_lister.specs.declared.fault.OpenFault.TheVariants.{TooShort};
+ghost use Rattle.mdmp_dump.specs.declared.dump.Dump.{Dump};
+ghost use Rattle.mdmp_dump.specs.declared.fault.ReadFault.TheVariants.{Opening};
+ghost use Rattle.mdmp_dump.specs.FileRefusal.{IsViewRefusal, view_refusal};
+ghost use Rattle.mdmp_dump.specs.InFile.{dump_in};
+ghost use Rattle.mdmp_dump.specs.LaysOut.{LaysOut};
+ghost use Rattle.mdmp_dump.specs.Opening.{IsNewView, entries_in, held_by};
+ghost use Rattle.mdmp_dump.specs.Reading.{Fetches, IsOwn};
+ghost use Rattle.mdmp_dump.specs.Shape.{IsViewOf};
 ghost use Rattle.mdmp_tool.specs.Causes.{IsNoSourceFault};
-ghost use Rattle.mdmp_tool.specs.Copying.{Copies, IsDumpCopied, first_not_copied, is_copied};
+ghost use Rattle.mdmp_tool.specs.Copying.{Copies, IsDumpCopied, IsShapeCopied, IsToldByView, first_not_copied, is_copied};
 ghost use Rattle.mdmp_tool.specs.Engines.{Reads};
 
 use crate::engine::Answered;
 use crate::fault::{ToolFault, told_reading};
-use mdmp_dump::{Dump, ViewFault, read_source};
+use mdmp_dump::{DumpView, FileView, ReadFault, ViewFault, ViewRefused};
 use mdmp_lister::{Choice, Kind, Limits, TypeSet};
 use mdmp_source::{Out, Source, Store};
 use mdmp_writer::{WriteFault, write_dump};
@@ -38,13 +48,14 @@ pub(crate) fn first_not_copied(types: &[u32]) -> Option<u32>
     None
 }
 
-/// Copies the streams of these types: they are read whole, as a dump, which is written to `out` as a
-/// file of its own. The answer is how many bytes it has.
+/// Copies the streams of these types: they are written to `out` as a file of its own, through a view of
+/// the store and a buffer of the window's size, so that what is held does not grow with them. The answer
+/// is how many bytes the copy has.
 ///
 /// A type whose streams are not copied is refused before the store is touched. Where the file gives no
-/// dump, or one that can't be written, and after a fault of the store or want of memory, nothing is
-/// written. After a fault of the output a first part of the copy went out. The bytes of a stream whose
-/// records are not known are written as they are: offsets in them are not moved.
+/// dump, or one that can't be written, and where memory is wanting, nothing is written. After a fault of
+/// the output, or of the store while parts are read, a first part of the copy went out. The bytes of a
+/// stream whose records are not known are written as they are: offsets in them are not moved.
 pub fn run_copy<S: Store + Drop, A: Allocator + Copy, O: Out>(
     alloc: A,
     store: S,
@@ -78,43 +89,78 @@ pub fn copy_source<S: Store + Drop, A: Allocator + Copy, O: Out>(
             source,
         };
     }
-    let choice = Choice::Types(types);
-    let mdmp_dump::Answered { answer, source } = read_source(
-        alloc,
-        source,
-        limits,
-        choice,
-        u64::MAX,
-    );
-    match answer {
-        Ok(dump) => Answered {
-            answer: write_copy(alloc, &dump, limits, out),
-            source,
+    match open_copy(alloc, source, limits, types) {
+        Ok(
+            Copying {
+                mut view,
+                mut buffer,
+            },
+        ) => Answered {
+            answer: write_copy(&mut view, out, &mut buffer),
+            source: view.into_source(),
         },
-        Err(fault) => Answered {
+        Err(ViewRefused { fault, source }) => Answered {
             answer: Err(told_reading(fault)),
             source,
         },
     }
 }
 
-/// Writes a dump through a buffer of the window's size.
-fn write_copy<A: Allocator + Copy, O: Out>(
+/// All that a copy holds while it is written.
+struct Copying<S: Store + Drop, A: Allocator + Copy> {
+    view: FileView<S, A>,
+    buffer: Vec<u8, A>,
+}
+
+/// Takes all memory of a copy: that of a view of these streams, and a buffer of the window's size.
+fn open_copy<S: Store + Drop, A: Allocator + Copy>(
     alloc: A,
-    dump: &Dump<A>,
+    source: Source<S>,
     limits: Limits,
-    out: &mut O,
-) -> Result<u64, ToolFault>
-    ensures { IsDumpCopied dump.now (O.state out.old) result (O.state out.new) }
+    types: TypeSet,
+) -> Result<Copying<S, A>, ViewRefused<S>>
+    ensures views { (file : List ℕ) → source.store.content ≡ Some file → IfOk result (λ copying.
+        LaysOut file (Types types) (dump_in {Z = A} file (Types types)) × IsViewOf (dump_in {Z = A} file (Types types)) (⟦<FileView<S, A> as DumpView>⟧.shape copying.view)) }
+    ensures refuses { (file : List ℕ) → source.store.content ≡ Some file
+        → MatchResult result (λ _. view_refusal file (Types types) limits.name ≡ None) (λ refused. (IsOwn refused.fault → ⊥) → view_refusal file (Types types) limits.name ≡ Some refused.fault) }
+    ensures cause { IfErr result (λ refused. Fetches {T = Unit {0}} (Err refused.fault) source refused.source) }
+    ensures refusal { IfErr result (λ refused. IsViewRefusal source.size refused.fault) }
+    ensures short { source.size < 32 → MatchResult result (λ _. ⊥) (λ refused. refused.fault ≡ Opening (TooShort source.size)) }
+    ensures new { IfOk result (λ copying. IsNewView source limits.window copying.view) }
+    ensures reliable { (file : List ℕ) → IsGood source.store file → IfOk result (λ copying. IsTrue (⟦<FileView<S, A> as DumpView>⟧.shape copying.view).is_reliable) }
+    ensures buffer { IfOk result (λ copying. length copying.buffer.items ≡ limits.window) }
+    ensures held { IfOk result (λ copying. held_by copying.view + length copying.buffer.items ≡ 2 * limits.window + 24 * entries_in copying.view) }
 {
-    let Ok(mut buffer) = vec![in alloc; 0; limits.window as usize] else {
-        return Err(ToolFault::Memory);
+    let choice = Choice::Types(types);
+    let view = match FileView::open_source(alloc, source, limits, choice) {
+        Ok(view) => view,
+        Err(refused) => return Err(refused),
     };
-    match write_dump(&mut dump.view(), out, &mut buffer) {
+    let Ok(buffer) = vec![in alloc; 0; limits.window as usize] else {
+        return Err(ViewRefused {
+            fault: ReadFault::Memory,
+            source: view.into_source(),
+        });
+    };
+    Ok(Copying { view, buffer })
+}
+
+/// Writes the dump that a view gives through a buffer, and takes no memory.
+fn write_copy<V: DumpView, O: Out>(
+    view: &mut V,
+    out: &mut O,
+    buffer: &mut [u8],
+) -> Result<u64, ToolFault>
+    requires { 0 < length buffer.old }
+    ensures ends { IsShapeCopied (V.shape view.old) (O.state out.old) result (O.state out.new) }
+    ensures copies { (d : Dump V.Memory) → IsViewOf d (V.shape view.old) → IsDumpCopied d (O.state out.old) result (O.state out.new) }
+    ensures told { IsToldByView result (V.spent view.new).fault }
+    ensures moves { V.Moves view.old view.new }
+{
+    match write_dump(view, out, buffer) {
         Ok(size) => Ok(size),
         Err(WriteFault::Layout(fault)) => Err(ToolFault::Layout(fault)),
         Err(WriteFault::Out) => Err(ToolFault::Out),
-        // The view of a value never answers one.
         Err(WriteFault::View(ViewFault::Source(fault))) => Err(ToolFault::Source(fault)),
     }
 }

@@ -76,8 +76,8 @@ pub(crate) fn told_list(fault: ListFault) -> ToolFault
     }
 }
 
-/// A fault of reading a file into a dump, as a command tells it. That more bytes are asked for than a
-/// dump may have is a fault of the copy.
+/// Why a file gives no dump, or no view of one, as a command tells it. That more bytes are asked for
+/// than a dump may have, which no view tells, is a fault of the copy.
 pub(crate) fn told_reading(fault: ReadFault) -> ToolFault
     ensures { result ≡ reading_told fault }
 {

@@ -9,7 +9,8 @@
 //! how many are bad. [`run_hex`] writes the text of `specs/HexText.antt`, or nothing where the store
 //! fails or the file's memory lists have a bad location. [`check_in_blocks`], [`list_in_blocks`] and
 //! [`hex_in_blocks`] do the same by few writes. [`run_copy`] writes the dump of the streams of some
-//! types as a file of its own, a first part of it where the output refuses, or nothing.
+//! types as a file of its own, a first part of it where the output refuses or the store fails, or
+//! nothing.
 //! A [`ToolFault`] has the exit status of [`status`] and the line of [`fault_line`].
 #![tactic(auto)]
 

@@ -7,7 +7,7 @@ use mdmp_source::{MemoryStore, PatchyStore, Source, SourceFault};
 use mdmp_test_support::{
     ABSENT_STACK, CRASH, Room, SIX, entry, file_of_numbers, file_of_parts, header_of, system_file,
 };
-use mdmp_tool::{Limits, PartName, ReadFault, ToolFault, copied};
+use mdmp_tool::{LayoutFault, Limits, PartName, ReadFault, ToolFault, copied};
 use std::test::Fail;
 
 #[test]
@@ -143,27 +143,46 @@ fn name_that_is_too_long_is_not_copied(rt: HostRuntime) -> Result<(), Fail> {
 }
 
 #[test]
-fn store_that_fails_leaves_nothing_copied(rt: HostRuntime) -> Result<(), Fail> {
+fn store_that_fails_leaves_a_first_part_of_the_copy(rt: HostRuntime) -> Result<(), Fail> {
     let six = file_of_numbers(rt.alloc(), 6, &SIX)?;
     let crash = file_of_numbers(rt.alloc(), 2, &CRASH)?;
     let mut failures = 0;
+    let mut longest = 0;
     for fail_at in 0..1000 {
         let store = PatchyStore::new(&six, &[1], Some(fail_at));
-        let limits = Limits::default();
-        let wrote = copy_store(rt.alloc(), rt.alloc(), store, limits, &[3, 6], ALL)?;
+        let wrote = copy_store(rt.alloc(), rt.alloc(), store, least(0)?, &[3, 6], ALL)?;
         match wrote.answer {
             Err(ToolFault::Source(SourceFault::Failed { .. })) => {
                 // The macro, as the sum below needs what it tells.
                 assert_eq!(rt; failures, fail_at);
-                assert!(rt; wrote.bytes.is_empty(), "at {fail_at}");
+                let first = crash.get(..wrote.bytes.len());
+                assert_eq!(rt; first, Some(wrote.bytes.as_slice()), "at {fail_at}");
+                longest = wrote.bytes.len();
                 failures += 1;
             }
             _ => assert_wrote(&rt, fail_at, &wrote, Ok(292), &crash),
         }
     }
-    // The header, the directory, and both streams with their parts.
-    assert!(rt; failures >= 32 + 72 + 52 + 168 + 14);
-    assert!(rt; failures < 1000);
+    // The header, the directory, both streams three times, and their parts.
+    assert_same(&rt, failures, 32 + 72 + 3 * (52 + 168) + 14);
+    // The buffer has gone out once.
+    assert_same(&rt, longest, 168);
+    Ok(())
+}
+
+#[test]
+fn store_that_fails_before_the_view_is_opened_leaves_nothing(rt: HostRuntime) -> Result<(), Fail> {
+    let six = file_of_numbers(rt.alloc(), 6, &SIX)?;
+    for fail_at in [0, 31, 32, 103, 104, 155, 156, 323] {
+        let store = PatchyStore::new(&six, &[1], Some(fail_at));
+        let wrote = copy_store(rt.alloc(), rt.alloc(), store, least(0)?, &[3, 6], ALL)?;
+        let failed = matches!(
+            wrote.answer,
+            Err(ToolFault::Source(SourceFault::Failed { .. }))
+        );
+        assert!(rt; failed, "at {fail_at}");
+        assert!(rt; wrote.bytes.is_empty(), "at {fail_at}");
+    }
     Ok(())
 }
 
@@ -186,5 +205,49 @@ fn want_of_memory_is_told_before_anything_is_copied(rt: HostRuntime) -> Result<(
         }
     }
     assert!(rt; enough);
+    Ok(())
+}
+
+#[test]
+fn memory_of_a_copy_is_two_windows_and_24_bytes_an_entry(rt: HostRuntime) -> Result<(), Fail> {
+    // Two windows of 176 bytes, and blocks of a heap that are multiples of 16: one entry takes three of them.
+    let limits = Limits::new(176, 0).ok_or("limits")?;
+    let room = Room {
+        all: 16384,
+        call: 16384,
+    };
+    for (entries, size, most, fewer) in [
+        (1, 44, 400, 384),
+        (100, 1232, 2752, 2736),
+        (1000, 12032, 24352, 24336),
+    ] {
+        let file = file_of_parts(rt.alloc(), &[&header_of(entries, 32)], size)?;
+        for (heap_size, answer, bytes) in [
+            (most, Ok(size as u64), file.as_slice()),
+            (fewer, Err(ToolFault::Memory), b"".as_slice()),
+        ] {
+            let heap = LocalHeap::new(rt.alloc(), heap_size)?;
+            let store = MemoryStore::new(&file);
+            let wrote = copy_store(rt.alloc(), &heap, store, limits, &[0], room)?;
+            assert_wrote(&rt, heap_size as u64, &wrote, answer, bytes);
+        }
+    }
+    Ok(())
+}
+
+#[test]
+fn copy_past_the_greatest_place_is_refused_before_anything_is_written(
+    rt: HostRuntime,
+) -> Result<(), Fail> {
+    // 1,100 entries that name one comment of 4,000,000 bytes.
+    let mut file = file_of_numbers(rt.alloc(), 1100, &[])?;
+    for _ in 0..1100 {
+        file.extend_from_slice(&entry(10, 4_000_000, 13232))?;
+    }
+    file.resize(4_013_232, 0)?;
+    let store = MemoryStore::new(&file);
+    let wrote = copy_store(rt.alloc(), rt.alloc(), store, least(0)?, &[10], ALL)?;
+    let large = Err(ToolFault::Layout(LayoutFault::TooLarge));
+    assert_wrote(&rt, 1100, &wrote, large, b"");
     Ok(())
 }

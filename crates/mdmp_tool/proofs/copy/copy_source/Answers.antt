@@ -1,26 +1,42 @@
 use Rattle.std.proofs.Common.{◌∙◌, ap, sym}
+use Rattle.mdmp_dump.specs.FileView.{file_shape}
+use Rattle.mdmp_dump.proofs.Taking.{FetchesSome_then}
 use Rattle.mdmp_tool.specs.Copying.{first_not_copied}
-use Rattle.mdmp_tool.proofs.Copying.{Copies-read, Copies-refused, cause-copied}
+use Rattle.mdmp_tool.proofs.Copying.{Copies-not, Copies-refused, Copies-viewed, cause_copied, good_read, reliable_copied}
 use Rattle.mdmp_tool.proofs.copy.copy_source.Goals as goal
+
+pub returns-in-Some-clause-copies : goal.returns-in-Some-clause-copies
+returns-in-Some-clause-copies g c =
+    Copies-not g.row.A.Denot c.args.source.store.content c.args.source.size c.args.types c.args.limits.name (g.O.Out.state c.args.out.now) c.in-Some.stream_type
+    (ap first_not_copied (sym c.types.ensures) ∙ sym c.first_not_copied.ensures ∙ c.in-Some.is)
 
 pub returns-in-Ok-clause-copies : goal.returns-in-Ok-clause-copies
 returns-in-Ok-clause-copies g c =
-    let read = c.read_source-answer.ensures in
-    Copies-read g.row.A.Denot c.args.source.store.content c.args.source.size c.args.types c.args.limits.name (g.O.Out.state c.args.out.now)
-    (ap first_not_copied (sym c.types.ensures) ∙ sym (c.in_default.ensures)) (g.O.Out.state c.write_copy.new.out) c.in-Ok.dump c.write_copy.result
-    (λ file known. rw c.in-Ok.is at (read.lays_out file known)) (λ file known. rw c.in-Ok.is at (read.refuses file known))
-    (λ few. let is = rw c.in-Ok.is at (read.short few) in absurd (cc is)) c.write_copy.ensures
+    let of = c.in-Ok.ensures in
+    Copies-viewed g.row.A.Denot c.args.source.store.content c.args.source.size c.args.types c.args.limits.name (g.O.Out.state c.args.out.now)
+    (ap first_not_copied (sym c.types.ensures) ∙ sym c.in_default.ensures) (file_shape g.row.A.Denot c.in-Ok.field-0.view.walk c.in-Ok.field-0.view.counts.items c.in-Ok.field-0.view.rooms.items) (g.O.Out.state c.write_copy.new.out)
+    (λ file known. (of.views file known).0) of.refuses of.short c.write_copy.result c.write_copy.ensures.ends
+    (λ file known. c.write_copy.ensures.copies _ (of.views file known).1)
+
+pub returns-in-Ok-clause-good : goal.returns-in-Ok-clause-good
+returns-in-Ok-clause-good g c = λ file good.
+    reliable_copied (file_shape g.row.A.Denot c.in-Ok.field-0.view.walk c.in-Ok.field-0.view.counts.items c.in-Ok.field-0.view.rooms.items) (g.O.Out.state c.args.out.now) (g.O.Out.state c.write_copy.new.out) c.write_copy.result c.write_copy.ensures.ends (c.in-Ok.ensures.reliable file good)
+
+pub returns-in-Ok-clause-reads : goal.returns-in-Ok-clause-reads
+returns-in-Ok-clause-reads g c =
+    let new = c.in-Ok.ensures.new in
+    let moved = c.write_copy.ensures.moves in
+    rw c.into_source.ensures (record {
+      cause = cause_copied c.args.source c.in-Ok.field-0.view.walk c.write_copy.new.view.walk c.in-Ok.field-0.view.last c.write_copy.new.view.last c.write_copy.result new.fetches new.last moved c.write_copy.ensures.told;
+      fetches = FetchesSome_then c.args.source c.in-Ok.field-0.view.walk.source c.write_copy.new.view.walk.source new.fetches moved.fetches;
+    })
+
+pub returns-in-Err-clause-good : goal.returns-in-Err-clause-good
+returns-in-Err-clause-good g c = λ file good. rw c.told_reading.ensures (good_read c.in-Err.field-0.fault (c.in-Err.ensures.cause.good file good))
 
 pub returns-in-Err-clause-copies : goal.returns-in-Err-clause-copies
 returns-in-Err-clause-copies g c =
-    let read = c.read_source-answer.ensures in
+    let of = c.in-Err.ensures in
     rw c.told_reading.ensures
     (Copies-refused g.row.A.Denot c.args.source.store.content c.args.source.size c.args.types c.args.limits.name (g.O.Out.state c.args.out.now)
-    (ap first_not_copied (sym c.types.ensures) ∙ sym (c.in_default.ensures)) c.in-Err.fault (λ file known. rw c.in-Err.is at (read.refuses file known)) (rw c.in-Err.is at read.cause.refusal)
-    (λ few. let is = rw c.in-Err.is at (read.short few) in cc))
-
-pub returns-in-Ok-clause-reads : goal.returns-in-Ok-clause-reads
-returns-in-Ok-clause-reads g c = record {
-  cause = cause-copied c.in-Ok.dump (g.O.Out.state c.args.out.now) (g.O.Out.state c.write_copy.new.out) c.write_copy.result c.args.source c.read_source-answer.result.source c.write_copy.ensures;
-  fetches = c.read_source-answer.ensures.cause.fetches;
-}
+    (ap first_not_copied (sym c.types.ensures) ∙ sym c.in_default.ensures) c.in-Err.field-0.fault of.refuses of.refusal of.short)
