@@ -1,5 +1,6 @@
 -- A view of a file as those see it who open it.
 use Rattle.std.specs.Prelude.{◌≡◌, ◌+◌, ◌*◌, ℕ, None}
+use Rattle.mdmp_source.specs.Count.{raised}
 use Rattle.mdmp_source.specs.Source.{SourceState, FetchesSome}
 use Rattle.mdmp_source.specs.declared.store.Store.{Ghosts}
 use Rattle.mdmp_dump.specs.declared.file_view.FileView.{FileView}
@@ -21,6 +22,10 @@ module _ {S A : Type 0} {G : Ghosts S} where
   -- the bytes that its opening may fetch: the header, the directory, and what one pass over each stream costs
   abbrev pub opened_by : FileView S A G → ℕ
   opened_by v = opening_cost v.walk v.counts.items
+
+  -- the bytes that its walk counts as fetched, for the walk and aside
+  abbrev pub fetched_by : FileView S A G → ℕ
+  fetched_by v = raised v.walk.fetched v.walk.aside
 
   -- it was opened over a source through a window of so many bytes, and nothing was asked of it yet
   pub record IsNewView (source : SourceState) (window : ℕ) (v : FileView S A G) : Type 0 where

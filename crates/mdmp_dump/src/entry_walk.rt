@@ -1,5 +1,6 @@
 //! A walk over the streams of a file, a record at a time.
 ghost use Rattle.std.specs.Prelude.{◌≡◌, ◌≤◌, ◌<◌, ◌+◌, ◌^◌, ◌==◌, ℕ, List, IfErr, IfOk, MatchResult, length, slice_get, None, Some, Err, OnOk};
+ghost use Rattle.mdmp_source.specs.Count.{raised};
 ghost use Rattle.mdmp_source.specs.Range.{IsInside, bytes_at};
 ghost use Rattle.mdmp_source.specs.Store.{IsOfBytes, IsSizeOf};
 ghost use Rattle.mdmp_lister.specs.Format.Refusal.{directory_refusal};
@@ -168,6 +169,7 @@ impl<S: Store + Drop, A: Allocator + Copy> EntryWalk<S, A> {
 
     /// How many bytes were fetched since it was opened.
     pub(crate) fn fetched(&self) -> u128
+        ensures value { result ≡ raised self.now.fetched self.now.aside }
         ensures most { result ≤ self.now.fetched + self.now.aside }
         ensures allowed { self.now.names + 1 < 2 ^ 128 → self.now.fetched ≤ self.now.allowed }
     {

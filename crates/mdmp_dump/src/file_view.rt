@@ -314,7 +314,7 @@ impl<S: Store + Drop, A: Allocator + Copy> FileView<S, A> {
     ghost use Rattle.mdmp_dump.specs.FileRefusal.{IsViewRefusal, view_refusal};
     ghost use Rattle.mdmp_dump.specs.InFile.{dump_in};
     ghost use Rattle.mdmp_dump.specs.LaysOut.{LaysOut};
-    ghost use Rattle.mdmp_dump.specs.Opening.{IsNewView, held_by, opened_by, source_in};
+    ghost use Rattle.mdmp_dump.specs.Opening.{IsNewView, fetched_by, held_by, opened_by, source_in};
     ghost use Rattle.mdmp_dump.specs.Reading.{Settles};
     ghost use Rattle.mdmp_dump.specs.Shape.{IsViewOf};
 
@@ -394,6 +394,7 @@ impl<S: Store + Drop, A: Allocator + Copy> FileView<S, A> {
 
     /// How many bytes were fetched since it was opened.
     pub fn fetched(&self) -> u128
+        ensures value { result ≡ fetched_by self.now }
         ensures bound { result ≤ opened_by self.now + (⟦<FileView<S, A> as DumpView>⟧.spent self.now).passed + (⟦<FileView<S, A> as DumpView>⟧.spent self.now).asked }
     {
         self.walk.fetched()
