@@ -2,7 +2,7 @@
 //! entries are good, the symbol files of their modules, and copies of some of their streams; that small
 //! windows and the greatest list the same, and that each entry that is gone to gives what is listed of
 //! it; and how many items each has, how its value compares with its list, how that is written anew, and
-//! that a view of its file is written as it.
+//! that views of its file, of all streams and of those of each type, are written as it.
 #![tactic(auto)]
 
 mod checks;

@@ -80,6 +80,15 @@ fn told_by_value(rt: &HostRuntime, dump: &str) -> Option<Vec<Told, Global>> {
     Some(streams)
 }
 
+/// The type of each stream of a dump's value.
+pub fn types_of(rt: &HostRuntime, dump: &str) -> Option<Vec<u32, Global>> {
+    let mut types = Vec::new(rt.alloc());
+    for told in &told_by_value(rt, dump)? {
+        types.push(told.stream_type).ok()?;
+    }
+    Some(types)
+}
+
 fn told_of(stream: &Stream<Global>) -> Told {
     match stream {
         Stream::Unused => Told::records(0, 0),
