@@ -76,6 +76,7 @@ walk_same old new same fetches = record {
   choice = same.choice;
   chosen = λ i. only_chosen (same.choice i) (numbered 0 (same.entries i));
   held = λ i. held_bound (same.rooms i).window (same.limit i) (length (same.entries i)) (same.rooms i).ranges;
+  start = ap (λ (a : Amount). a.bytes) same.start;
   fetches = fetches;
 }
 
@@ -247,7 +248,7 @@ module _ (number : ℕ) (e : Entry) (old mid new : WalkerState) (at : slice_get 
       pub begins_failed : (stream : ℕ) → Begins (state_of old) stream (Err (faults.List f)) (state_of new)
       begins_failed stream = subst (λ (w : WalkState). Begins (state_of old) stream (Err (faults.List f)) w) (sym state_stays) (record {
         pays = record {
-          same = record { header = refl; choice = refl; chosen = refl; held = refl; fetches = FetchesSome_none old.list.source };
+          same = record { header = refl; choice = refl; chosen = refl; held = refl; start = refl; fetches = FetchesSome_none old.list.source };
           aside = refl;
           allowed = λ few. omega arith;
           reached = omega arith;

@@ -26,6 +26,7 @@ opened source choice limits new is none =
       choice_is = l.choice_is;
       few = omega (arith, few_chosen new.list.choice (numbered 0 new.list.entries), length-numbered 0 new.list.entries, l.count);
       held = omega (arith, l.window_room, l.limit_is, none, l.count, is.range_room);
+      start = ap (λ (a : Amount). a.bytes) l.counts.start;
       allowed = omega (arith, mark, names, is.fetched, is.unbegun);
       aside = ap (λ (a : Amount). a.bytes) l.counts.aside;
       names = l.counts.names;

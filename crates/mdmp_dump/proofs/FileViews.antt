@@ -7,7 +7,7 @@ use Rattle.std.proofs.lemmas.List.Sums.{sum_by-cons}
 use Rattle.mdmp_wire.specs.declared.any_record.AnyRecord.{AnyRecord}
 use Rattle.mdmp_wire.specs.declared.any_record.AnyRecord.TheVariants as any
 use Rattle.mdmp_lister.specs.Format.Listing.{Numbered}
-use Rattle.mdmp_dump.specs.declared.file_view.Pass.{Pass}
+use Rattle.mdmp_dump.specs.declared.pass.Pass.{Pass}
 use Rattle.mdmp_dump.specs.declared.found_record.FoundRecord.{FoundRecord}
 use Rattle.mdmp_dump.specs.declared.found_record.PartAt.{PartAt}
 use Rattle.mdmp_dump.specs.declared.view.Fields.{Fields}

@@ -1,6 +1,7 @@
 pub mod Begun
 pub mod Budget
 pub mod DumpRows
+pub mod Costs
 pub mod EntryBegun
 pub mod EntryPlaces
 pub mod EntryWalks

@@ -8,7 +8,7 @@ use Rattle.mdmp_source.specs.Store.{IsGood}
 use Rattle.mdmp_source.specs.declared.fault.SourceFault.{SourceFault}
 use Rattle.mdmp_lister.specs.Format.Listing.{Numbered, chosen}
 use Rattle.mdmp_lister.specs.Format.Shape.{record_count}
-use Rattle.mdmp_dump.specs.declared.file_view.Pass.{Pass}
+use Rattle.mdmp_dump.specs.declared.pass.Pass.{Pass}
 use Rattle.mdmp_dump.specs.declared.found_record.PartAt.{PartAt}
 use Rattle.mdmp_dump.specs.declared.view.ViewFault.{ViewFault}
 use Rattle.mdmp_dump.specs.declared.view.ViewFault.TheVariants as view
@@ -151,7 +151,7 @@ module _ (Z : Type 0) (limit : ℕ) (w : WalkState) (counts rooms : List ℕ) (p
         inl ((is.ended told ended).0 ∙ sym (ended_then told (stays.1 ∙ ended)), stays.0)
 
     pub moves_err : HasMoved w last v (Some fault)
-    moves_err = record { header = same.header; choice = same.choice; chosen = same.chosen; held = same.held; fetches = same.fetches; told = moved_by w.failed refl }
+    moves_err = record { header = same.header; choice = same.choice; chosen = same.chosen; held = same.held; start = same.start; fetches = same.fetches; told = moved_by w.failed refl }
 
     -- the view behind it has no pass
     pub view_err : (more : ℕ) → IsPaid v counts None more asked → IsView Z limit v counts rooms None more asked (Some fault)
@@ -354,6 +354,7 @@ module _ (Z : Type 0) (limit : ℕ) (w : WalkState) (counts rooms : List ℕ) (p
       choice = ap (λ (u : WalkState). u.choice) reads.same;
       chosen = ap (λ (u : WalkState). u.chosen) reads.same;
       held = ap (λ (u : WalkState). u.held) reads.same;
+      start = ap (λ (u : WalkState). u.start) reads.same;
       fetches = reads.fetches;
     }
 

@@ -1,18 +1,20 @@
 -- A view of a file that was opened.
-use Rattle.std.proofs.Common.{◌≡◌, ◌∙◌, ◌<◌, ◌+◌, ◌*◌, ◌^◌, ℕ, List, length, Option, Some, None, ap, arith, refl, subst, sym}
+use Rattle.std.proofs.Common.{◌≡◌, ◌∙◌, ◌<◌, ◌+◌, ◌*◌, ◌^◌, ℕ, List, length, Option, Some, None, ap, arith, map, refl, subst, sum, sym}
 use Rattle.std.specs.Prelude.{IsTrue}
 use Rattle.mdmp_source.specs.Source.{SourceState, FetchesSome}
 use Rattle.mdmp_source.specs.Store.{IsGood, IsOfBytes, IsSizeOf}
 use Rattle.mdmp_lister.specs.declared.choice.Choice.{Choice}
-use Rattle.mdmp_lister.specs.Format.Listing.{Numbered, chosen}
+use Rattle.mdmp_lister.specs.Format.Listing.{Numbered, chosen, entry_count}
 use Rattle.mdmp_lister.specs.Format.Refusal.{directory_refusal}
 use Rattle.mdmp_dump.specs.declared.fault.ReadFault.{ReadFault}
 use Rattle.mdmp_dump.specs.EntryWalk.{IsOpened, WalkState}
 use Rattle.mdmp_dump.specs.FileRefusal.{run_told, view_refusal}
-use Rattle.mdmp_dump.specs.FileView.{AreWalked, IsPaid, IsView, IsViewed, PaysAll, file_shape, opening_cost, room_told, shape_by}
+use Rattle.mdmp_dump.specs.FileView.{AreWalked, IsPaid, IsView, IsViewed, PaysAll, costs_in, file_shape, opening_cost, room_told, shape_by}
 use Rattle.mdmp_dump.specs.InFile.{dump_in, stream_named}
 use Rattle.mdmp_dump.specs.Left.{run_of}
+use Rattle.mdmp_dump.specs.Opening.{opening_bound, pass_cost_in}
 use Rattle.mdmp_dump.specs.Shape.{IsViewOf}
+use Rattle.mdmp_dump.proofs.Costs.{costs_are}
 use Rattle.mdmp_dump.proofs.Moving.{content_before, entry_stays, opening_stays}
 use Rattle.mdmp_dump.proofs.Refusals.{none_told, opened_run}
 use Rattle.mdmp_dump.proofs.Taking.{FetchesSome_then}
@@ -97,6 +99,21 @@ module _ (Z : Type 0) (source : SourceState) (window limit : ℕ) (choice : Choi
 
   pub held_whole : v.held + 12 * v.header.number_of_streams ≡ window + 24 * v.header.number_of_streams
   held_whole = omega (arith, opened.held, pays.same.held, ap (λ h. h.number_of_streams) pays.same.header)
+
+  -- and what its opening may fetch is that of the file
+  pub view_cost : (F : List ℕ) → source.store.content ≡ Some F → opening_cost v counts ≡ opening_bound F choice
+  view_cost F known =
+      let now : v.source.store.content ≡ Some F = pays.same.fetches.fetches.same_content ∙ opened.fetches.fetches.same_content ∙ known in
+      let viewed = opened_view F now in
+      let entries : v.header.number_of_streams ≡ entry_count F = ap (λ h. h.number_of_streams) viewed.header in
+      let choice_same : v.choice ≡ choice = pays.same.choice ∙ opened.choice_is in
+      let chosen_are : v.chosen ≡ chosen F choice = viewed.chosen_are ∙ ap (chosen F) choice_same in
+      let costs : costs_in v.chosen counts ≡ map (pass_cost_in F) v.chosen = costs_are F v.chosen counts (omega (arith, counted, chosen_same w.chosen refl)) viewed.counted in
+      let all : sum (costs_in v.chosen counts) ≡ sum (map (pass_cost_in F) (chosen F choice)) = ap sum (costs ∙ ap (map (pass_cost_in F)) chosen_are) in
+      omega (arith, entries, all)
+
+  pub view_start : v.start ≡ source.fetched
+  view_start = pays.same.start ∙ opened.start
 
   pub view_fetches : FetchesSome source v.source
   view_fetches = FetchesSome_then source w.source v.source opened.fetches pays.same.fetches

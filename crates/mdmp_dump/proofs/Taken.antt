@@ -3,7 +3,7 @@ use Rattle.std.proofs.Common.{◌≡◌, ◌∙◌, ◌≤◌, ◌<◌, ◌+◌,
 use Rattle.mdmp_source.specs.Store.{IsOfBytes}
 use Rattle.mdmp_lister.specs.Format.Listing.{Numbered}
 use Rattle.mdmp_dump.specs.declared.dump.Stream.{Stream}
-use Rattle.mdmp_dump.specs.declared.file_view.Pass.{Pass}
+use Rattle.mdmp_dump.specs.declared.pass.Pass.{Pass}
 use Rattle.mdmp_dump.specs.declared.found_record.FoundRecord.{FoundRecord}
 use Rattle.mdmp_dump.specs.declared.view.Fields.{Fields}
 use Rattle.mdmp_dump.specs.EntryWalk.{FindsRow, GivesNext, WalkState, entry_at, no_entry}

@@ -30,6 +30,7 @@ same_then u v w p q = record {
   choice = q.choice ∙ p.choice;
   chosen = q.chosen ∙ p.chosen;
   held = q.held ∙ p.held;
+  start = q.start ∙ p.start;
   fetches = FetchesSome_then u.source v.source w.source p.fetches q.fetches;
 }
 
@@ -170,7 +171,7 @@ module _ (Z : Type 0) (limit : ℕ) (old : WalkState) where
   pub all_begin : old.failed ≡ None → AreWalking Z limit old old [] [] 0
   all_begin going = record {
     pays = record {
-      same = record { header = refl; choice = refl; chosen = refl; held = refl; fetches = FetchesSome_none old.source };
+      same = record { header = refl; choice = refl; chosen = refl; held = refl; start = refl; fetches = FetchesSome_none old.source };
       aside = refl;
       allowed = λ few. omega (arith, none_cost_sum old.chosen);
       reached = omega (arith, none_cost_sum old.chosen);

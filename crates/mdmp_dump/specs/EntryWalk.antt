@@ -70,6 +70,8 @@ pub record WalkState : Type 0 where
   pub chosen : List Numbered
   -- the bytes that its lists take
   pub held : ℕ
+  -- what the source's own count of bytes was when it was opened
+  pub start : ℕ
   -- the bytes fetched for the walk and aside, and the names that it reached
   pub fetched : ℕ
   pub aside : ℕ
@@ -92,6 +94,7 @@ pub record IsSameWalk (old new : WalkState) : Type 0 where
   pub choice : new.choice ≡ old.choice
   pub chosen : new.chosen ≡ old.chosen
   pub held : new.held ≡ old.held
+  pub start : new.start ≡ old.start
   pub fetches : FetchesSome old.source new.source
 
 -- what may have been fetched for the walk rises by at most so many bytes, and so many for the lengths of names
@@ -108,6 +111,7 @@ pub record IsOpened (source : SourceState) (window : ℕ) (choice : Choice) (w :
   pub choice_is : w.choice ≡ choice
   pub few : length w.chosen ≤ w.header.number_of_streams
   pub held : w.held ≡ window + 12 * w.header.number_of_streams
+  pub start : w.start ≡ source.fetched
   pub allowed : w.allowed ≤ 32 + 12 * w.header.number_of_streams
   pub aside : w.aside ≡ 0
   pub names : w.names ≡ 0

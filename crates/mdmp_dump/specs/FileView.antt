@@ -11,8 +11,8 @@ use Rattle.mdmp_lister.specs.Format.Shape.{record_count}
 use Rattle.mdmp_dump.specs.declared.dump.Dump.{Dump}
 use Rattle.mdmp_dump.specs.declared.dump.Stream.{Stream}
 use Rattle.mdmp_dump.specs.declared.fault.ReadFault.{ReadFault}
-use Rattle.mdmp_dump.specs.declared.file_view.Pass.{Pass}
-use Rattle.mdmp_dump.specs.declared.file_view.Walked.{Walked}
+use Rattle.mdmp_dump.specs.declared.pass.Pass.{Pass}
+use Rattle.mdmp_dump.specs.declared.stream_walk.Walked.{Walked}
 use Rattle.mdmp_dump.specs.declared.view.Kind.{Kind}
 use Rattle.mdmp_dump.specs.declared.view.Kind.TheVariants as kinds
 use Rattle.mdmp_dump.specs.declared.view.ViewFault.{ViewFault}
@@ -234,6 +234,7 @@ pub record HasMoved (old : WalkState) (before : Option ViewFault) (new : WalkSta
   pub choice : new.choice ≡ old.choice
   pub chosen : new.chosen ≡ old.chosen
   pub held : new.held ≡ old.held
+  pub start : new.start ≡ old.start
   pub fetches : FetchesSome old.source new.source
   pub told : IfSome last (λ fault. ((before ≡ last) × (new.source ≡ old.source)) ⊎ IsLastTold (source_fault fault) old.source new.source)
 

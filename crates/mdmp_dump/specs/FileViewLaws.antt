@@ -1,5 +1,5 @@
 -- What is true of each view of a file.
-use Rattle.std.proofs.Common.{◌≡◌, ◌+◌, ◌∙◌, ◌⊎◌, inl, inr, ℕ, List, Option, Some, None, refl, sym, subst}
+use Rattle.std.proofs.Common.{◌≡◌, ◌+◌, ◌*◌, ◌∙◌, ◌⊎◌, inl, inr, ℕ, List, Option, Some, None, ap, refl, sum, sym, subst}
 use Rattle.std.specs.Prelude.{IfSome}
 use Rattle.mdmp_source.specs.Source.{SourceState, FetchesSome}
 use Rattle.mdmp_source.specs.SourceLaws.{fetches_then, told_later}
@@ -8,7 +8,7 @@ use Rattle.mdmp_source.specs.declared.fault.SourceFault.TheVariants.{Failed, Sho
 use Rattle.mdmp_lister.proofs.Fetches.{FetchesAtMost-none}
 use Rattle.mdmp_dump.specs.declared.view.ViewFault.{ViewFault}
 use Rattle.mdmp_dump.specs.EntryWalk.{WalkState}
-use Rattle.mdmp_dump.specs.FileView.{HasMoved, file_shape, shape_by, source_fault}
+use Rattle.mdmp_dump.specs.FileView.{HasMoved, costs_in, file_shape, opening_cost, shape_by, source_fault}
 use Rattle.mdmp_dump.specs.InFile.{dump_in}
 use Rattle.mdmp_dump.specs.Reading.{IsLastTold}
 use Rattle.mdmp_dump.specs.Shape.{AreOfTheirKinds, IsSound}
@@ -31,6 +31,14 @@ module _ (Z : Type 0) (w : WalkState) (counts rooms : List ℕ) where
   pub view_kinds : AreOfTheirKinds (file_shape Z w counts rooms)
   view_kinds = kinds_by w.source.store.content
 
+  costs_by : (c : Option (List ℕ)) → (shape_by Z c w counts rooms).costs ≡ costs_in w.chosen counts
+  costs_by None = refl
+  costs_by (Some F) = refl
+
+  -- what its opening may fetch, by what its shape tells of the passes
+  pub opening_told : opening_cost w counts ≡ 32 + 12 * w.header.number_of_streams + sum (file_shape Z w counts rooms).costs
+  opening_told = ap (λ (ns : List ℕ). 32 + 12 * w.header.number_of_streams + sum ns) (sym (costs_by w.source.store.content))
+
 -- ---- how it moves
 
 later : (fault : SourceFault) (a b c : SourceState) → FetchesSome a b → IsLastTold fault b c → IsLastTold fault a c
@@ -44,7 +52,7 @@ stays_by w None = tt
 stays_by w (Some fault) = inl (refl, refl)
 
 pub view_stays : (w : WalkState) (last : Option ViewFault) → HasMoved w last w last
-view_stays w last = record { header = refl; choice = refl; chosen = refl; held = refl; fetches = record { count = 0; fetches = FetchesAtMost-none w.source }; told = stays_by w last }
+view_stays w last = record { header = refl; choice = refl; chosen = refl; held = refl; start = refl; fetches = record { count = 0; fetches = FetchesAtMost-none w.source }; told = stays_by w last }
 
 -- and by one behind the other
 follows_by : (u : WalkState) (first : Option ViewFault) (v : WalkState) (second : Option ViewFault) (w : WalkState) (last : Option ViewFault)
@@ -66,6 +74,7 @@ view_follows u first v second w last p q = record {
   choice = q.choice ∙ p.choice;
   chosen = q.chosen ∙ p.chosen;
   held = q.held ∙ p.held;
+  start = q.start ∙ p.start;
   fetches = record { count = p.fetches.count + q.fetches.count; fetches = fetches_then p.fetches.count q.fetches.count u.source v.source w.source p.fetches.fetches q.fetches.fetches };
   told = follows_by u first v second w last p.fetches p.told q.told;
 }

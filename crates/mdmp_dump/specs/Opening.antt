@@ -1,10 +1,31 @@
 -- A view of a file as those see it who open it.
-use Rattle.std.specs.Prelude.{◌≡◌, ◌+◌, ◌*◌, ℕ, None}
+use Rattle.std.specs.Prelude.{◌≡◌, ◌+◌, ◌*◌, ℕ, List, None, Result, Ok, Err, map, sum}
 use Rattle.mdmp_source.specs.Count.{raised}
 use Rattle.mdmp_source.specs.Source.{SourceState, FetchesSome}
 use Rattle.mdmp_source.specs.declared.store.Store.{Ghosts}
+use Rattle.mdmp_lister.specs.declared.choice.Choice.{Choice}
+use Rattle.mdmp_lister.specs.Format.Listing.{Numbered, chosen, entry_count}
+use Rattle.mdmp_lister.specs.Format.Shape.{record_count}
 use Rattle.mdmp_dump.specs.declared.file_view.FileView.{FileView}
+use Rattle.mdmp_dump.specs.EntryWalk.{pass_cost}
 use Rattle.mdmp_dump.specs.FileView.{opening_cost}
+
+-- ---- what a known file costs
+
+-- how many records were told
+abbrev pub count_in : {X : Type 0} → Result ℕ X → ℕ
+count_in (Ok n) = n
+count_in (Err fault) = 0
+
+-- a pass over a stream of F: its bytes, where its records are known, and the length of each name that they may have
+abbrev pub pass_cost_in : List ℕ → Numbered → ℕ
+pass_cost_in F x = pass_cost x.entry (count_in (record_count F x.entry))
+
+-- what opening a view of F may fetch: the header, the directory, and one pass over each chosen stream
+abbrev pub opening_bound : List ℕ → Choice → ℕ
+opening_bound F choice = 32 + 12 * entry_count F + sum (map (pass_cost_in F) (chosen F choice))
+
+-- ---- what is seen of a view
 
 module _ {S A : Type 0} {G : Ghosts S} where
   -- the source that it reads
@@ -27,9 +48,14 @@ module _ {S A : Type 0} {G : Ghosts S} where
   abbrev pub fetched_by : FileView S A G → ℕ
   fetched_by v = raised v.walk.fetched v.walk.aside
 
+  -- what its source's own count was when it was opened
+  abbrev pub started_by : FileView S A G → ℕ
+  started_by v = v.walk.start
+
   -- it was opened over a source through a window of so many bytes, and nothing was asked of it yet
   pub record IsNewView (source : SourceState) (window : ℕ) (v : FileView S A G) : Type 0 where
     pub fetches : FetchesSome source (source_in v)
+    pub start : started_by v ≡ source.fetched
     pub held : held_by v ≡ window + 24 * entries_in v
     pub passed : v.passed ≡ 0
     pub asked : v.asked ≡ 0

@@ -51,6 +51,7 @@ state_of w = record {
   choice = w.list.choice;
   chosen = chosen_of w.list;
   held = (numbers_of w.list).held;
+  start = w.list.counts.start.bytes;
   fetched = w.list.counts.fetched;
   aside = w.list.counts.aside.bytes;
   names = w.list.counts.names;

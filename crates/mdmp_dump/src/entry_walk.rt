@@ -184,9 +184,10 @@ impl<S: Store + Drop, A: Allocator + Copy> EntryWalk<S, A> {
         self.walker.counts().held
     }
 
-    /// Hands the source back.
+    /// Hands the source back, which counted what was fetched since it was opened.
     pub(crate) fn into_source(self) -> Source<S>
-        ensures { result ≡ self.source }
+        ensures value { result ≡ self.source }
+        ensures booked { result.fetched ≡ raised self.start (self.fetched + self.aside) }
     {
         self.walker.into_source()
     }

@@ -123,6 +123,20 @@ fn reads_to_open(alloc: Global, file: &[u8], limits: Limits) -> Result<u64, Fail
     }
 }
 
+/// How many reads of a store it takes to open a view of all entries of this file and to write them
+/// through a buffer of so many bytes.
+fn reads_to_write(alloc: Global, file: &[u8], limits: Limits, room: usize) -> Result<u64, Fail> {
+    let source = Source::new(TwoFaces::new(file, file, u64::MAX));
+    let Ok(mut view) = FileView::open(alloc, source, limits, Choice::All) else {
+        return Err(Fail::from("open"));
+    };
+    let mut out = open_out(alloc)?;
+    if write_view(&mut view, &mut out, room).is_err() {
+        return Err(Fail::from("write"));
+    }
+    Ok(view.into_source().into_store().reads())
+}
+
 /// Writes all entries of a file that becomes another one of the same length at this read.
 fn written_by_turns(
     alloc: Global,

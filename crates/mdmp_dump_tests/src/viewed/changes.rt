@@ -1,5 +1,5 @@
 //! Files that change while a view of them is opened or written.
-use super::{Outcome, Written, reads_to_open, written_by_turns};
+use super::{Outcome, Written, reads_to_open, reads_to_write, written_by_turns};
 use crate::files::NAMED;
 use mdmp_test_support::{SIX, file_of_numbers};
 use std::alloc::Global;
@@ -55,9 +55,10 @@ const CHANGES: [(usize, u8); 18] = [
 #[test]
 fn file_that_changes_is_never_written_with_another_length(rt: HostRuntime) -> Result<(), Fail> {
     let six = file_of_numbers(rt.alloc(), 6, &SIX)?;
+    let reads = reads_to_write(rt.alloc(), &six, NAMED, 7)?;
     for (at, byte) in CHANGES {
         let other = changed(rt.alloc(), &six, at, byte)?;
-        for turn in 0..30 {
+        for turn in 0..reads {
             let written = written_by_turns(rt.alloc(), &six, &other, turn, NAMED, 7)?;
             assert_length(&rt, turn, &written);
         }
@@ -69,10 +70,11 @@ fn file_that_changes_is_never_written_with_another_length(rt: HostRuntime) -> Re
 fn list_that_changes_behind_the_opening_leaves_a_first_part(rt: HostRuntime) -> Result<(), Fail> {
     let six = file_of_numbers(rt.alloc(), 6, &SIX)?;
     let opened = reads_to_open(rt.alloc(), &six, NAMED)?;
+    let reads = reads_to_write(rt.alloc(), &six, NAMED, 7)?;
     // The number of threads, the size of a name, the sizes of a stack and of two contexts.
     for (at, byte) in [(196, 0), (160, 40), (232, 8), (240, 12), (425, 0xff)] {
         let other = changed(rt.alloc(), &six, at, byte)?;
-        for turn in opened..opened.saturating_add(30) {
+        for turn in opened..reads {
             let written = written_by_turns(rt.alloc(), &six, &other, turn, NAMED, 7)?;
             let first = six.get(..written.bytes.len());
             assert_eq!(rt; first, Some(written.bytes.as_slice()), "{at} at {turn}");

@@ -26,7 +26,7 @@ pub returns-in-Ok-clause-reads : goal.returns-in-Ok-clause-reads
 returns-in-Ok-clause-reads g c =
     let new = c.in-Ok.ensures.new in
     let moved = c.write_copy.ensures.moves in
-    rw c.into_source.ensures (record {
+    rw c.into_source.ensures.value (record {
       cause = cause_copied c.args.source c.in-Ok.field-0.view.walk c.write_copy.new.view.walk c.in-Ok.field-0.view.last c.write_copy.new.view.last c.write_copy.result new.fetches new.last moved c.write_copy.ensures.told;
       fetches = FetchesSome_then c.args.source c.in-Ok.field-0.view.walk.source c.write_copy.new.view.walk.source new.fetches moved.fetches;
     })

@@ -2,7 +2,7 @@ use Rattle.mdmp_wire.specs.declared.header.Header.{Header}
 use Rattle.std.proofs.Common.{◌≡◌, ◌∙◌, ◌<◌, ◌^◌, ℕ, arith, ap, refl, subst}
 use Rattle.mdmp_source.specs.Store.{IsSizeOf}
 use Rattle.mdmp_dump.proofs.Laid.{viewed_lays}
-use Rattle.mdmp_dump.proofs.OpenedViews.{held_whole, is_view, run_refused, view_fetches, view_of, view_quiet, view_reliable}
+use Rattle.mdmp_dump.proofs.OpenedViews.{held_whole, is_view, run_refused, view_cost, view_fetches, view_of, view_quiet, view_reliable, view_start}
 use Rattle.mdmp_dump.proofs.Refusals.{walk_refusal}
 use Rattle.mdmp_dump.proofs.Taking.{fetches_err}
 use Rattle.mdmp_dump.proofs.file_view.FileView.open_source.Goals as goal
@@ -42,11 +42,20 @@ returns-in-Ok-walk_all-clause-new g c =
     let light : c.in-Ok.walk.held < 2 ^ 64 = omega (arith, c.in-Ok.ensures.opened.held, entries, c.args.limits.window_most) in
     record {
       fetches = view_fetches g.row.A.Denot c.args.source c.args.limits.window c.args.limits.name c.args.choice c.in-Ok.walk c.walk_all.new.walk c.in-Ok-walk_all.field-0.counts.items c.in-Ok-walk_all.field-0.rooms.items c.in-Ok.ensures.opened c.in-Ok.ensures.of_file sized c.size-size.ensures.bytes of.pays of.counts.0 of.counts.1 of.goes light of.of_file;
+      start = view_start g.row.A.Denot c.args.source c.args.limits.window c.args.limits.name c.args.choice c.in-Ok.walk c.walk_all.new.walk c.in-Ok-walk_all.field-0.counts.items c.in-Ok-walk_all.field-0.rooms.items c.in-Ok.ensures.opened c.in-Ok.ensures.of_file sized c.size-size.ensures.bytes of.pays of.counts.0 of.counts.1 of.goes light of.of_file;
       held = held_whole g.row.A.Denot c.args.source c.args.limits.window c.args.limits.name c.args.choice c.in-Ok.walk c.walk_all.new.walk c.in-Ok-walk_all.field-0.counts.items c.in-Ok-walk_all.field-0.rooms.items c.in-Ok.ensures.opened c.in-Ok.ensures.of_file sized c.size-size.ensures.bytes of.pays of.counts.0 of.counts.1 of.goes light of.of_file;
       passed = refl;
       asked = refl;
       last = refl;
     }
+
+pub returns-in-Ok-walk_all-clause-cost : goal.returns-in-Ok-walk_all-clause-cost
+returns-in-Ok-walk_all-clause-cost g c =
+    let of = c.in-Ok-walk_all.ensures in
+    let sized = subst (λ (n : ℕ). IsSizeOf c.in-Ok.walk.source.store.content n) c.size-size.ensures.value c.size-size.ensures.content in
+    let entries : c.header-entries.result.number_of_streams ≡ c.in-Ok.walk.header.number_of_streams = ap (λ (h : Header). h.number_of_streams) c.header-entries.ensures in
+    let light : c.in-Ok.walk.held < 2 ^ 64 = omega (arith, c.in-Ok.ensures.opened.held, entries, c.args.limits.window_most) in
+    view_cost g.row.A.Denot c.args.source c.args.limits.window c.args.limits.name c.args.choice c.in-Ok.walk c.walk_all.new.walk c.in-Ok-walk_all.field-0.counts.items c.in-Ok-walk_all.field-0.rooms.items c.in-Ok.ensures.opened c.in-Ok.ensures.of_file sized c.size-size.ensures.bytes of.pays of.counts.0 of.counts.1 of.goes light of.of_file
 
 pub returns-in-Ok-walk_all-clause-reliable : goal.returns-in-Ok-walk_all-clause-reliable
 returns-in-Ok-walk_all-clause-reliable g c =
@@ -67,5 +76,5 @@ returns-in-Err-walk_all-clause-refusal g c = walk_refusal c.args.source.size c.i
 
 pub returns-in-Err-walk_all-clause-cause : goal.returns-in-Err-walk_all-clause-cause
 returns-in-Err-walk_all-clause-cause g c =
-    rw c.into_source.ensures
+    rw c.into_source.ensures.value
     (fetches_err c.args.source c.in-Ok.walk.source c.walk_all.new.walk.source c.in-Ok.ensures.opened.fetches c.in-Err-walk_all.fault c.in-Err-walk_all.ensures.fetches)

@@ -1,7 +1,7 @@
 use Rattle.std.proofs.Common.{◌≡◌, ◌∙◌, ◌<◌, ◌+◌, ◌-◌, ◌^◌, get_or, ap, subst, sym, arith, Ok, Err}
 use Rattle.std.proofs.lemmas.List.{get_or_read}
 use Rattle.mdmp_wire.specs.declared.entry.Entry.{Entry}
-use Rattle.mdmp_dump.specs.declared.file_view.Pass.{Pass}
+use Rattle.mdmp_dump.specs.declared.pass.Pass.{Pass}
 use Rattle.mdmp_dump.specs.EntryWalk.{Pays, WalkState, entry_at, listed, pass_cost}
 use Rattle.mdmp_dump.specs.FileView.{Tells, first_pass, opening_cost, pass_cursor}
 use Rattle.mdmp_dump.proofs.KnownViews.{cost_told, inside_view, pass_begins}

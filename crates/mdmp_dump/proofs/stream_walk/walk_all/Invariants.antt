@@ -1,7 +1,7 @@
 use Rattle.std.proofs.Common.{◌≤◌}
 use Rattle.std.specs.Prelude.{vec_capacity}
 use Rattle.mdmp_dump.proofs.WalkedOver.{AreWalking}
-use Rattle.mdmp_dump.proofs.file_view.walk_all.Given as goal
+use Rattle.mdmp_dump.proofs.stream_walk.walk_all.Given as goal
 
 abbrev pub invariant-loop-stream : goal.invariant-loop-stream
 invariant-loop-stream g l = record {

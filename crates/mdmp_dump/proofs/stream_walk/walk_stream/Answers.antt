@@ -1,8 +1,8 @@
 use Rattle.std.proofs.Common.{◌≡◌, ◌*◌, arith, subst}
-use Rattle.mdmp_dump.specs.declared.file_view.Walked.{Walked}
+use Rattle.mdmp_dump.specs.declared.stream_walk.Walked.{Walked}
 use Rattle.mdmp_dump.specs.EntryWalk.{Pays, entry_at, listed, name_cost}
 use Rattle.mdmp_dump.proofs.WalkedOver.{walking_begins, walking_ends, walking_fetches, walking_goes, walking_refused, walking_same, walking_unbegun}
-use Rattle.mdmp_dump.proofs.file_view.walk_stream.Goals as goal
+use Rattle.mdmp_dump.proofs.stream_walk.walk_stream.Goals as goal
 
 pub loop-index-init : goal.loop-index-init
 loop-index-init g c = walking_begins g.row.A.Denot c.args.limit c.args.walk.now c.args.stream c.in-Ok.count c.begin.new.self c.in-Ok.ensures

@@ -1,10 +1,10 @@
 use Rattle.std.proofs.Common.{◌≡◌, ◌+◌, ◌-◌, arith, refl, Ok}
-use Rattle.mdmp_dump.specs.declared.file_view.Pass.{Pass}
+use Rattle.mdmp_dump.specs.declared.pass.Pass.{Pass}
 use Rattle.mdmp_dump.specs.declared.view.Fields.{Fields}
 use Rattle.mdmp_dump.proofs.FaultsTold.{next_changed, next_refused}
 use Rattle.mdmp_dump.proofs.Taken.{met_whole, met_within, pass_behind, record_given}
-use Rattle.mdmp_dump.proofs.file_view.take_record.Goals as goal
-use Rattle.mdmp_dump.proofs.file_view.take_record.Goals.{else-left-eq0-via-then-left-eq0+else-met-pass-2, else-left-eq0-via-else-left-eq0}
+use Rattle.mdmp_dump.proofs.pass.take_record.Goals as goal
+use Rattle.mdmp_dump.proofs.pass.take_record.Goals.{else-left-eq0-via-then-left-eq0+else-met-pass-2, else-left-eq0-via-else-left-eq0}
 
 pub returns-in-Err-clause-tells : goal.returns-in-Err-clause-tells
 returns-in-Err-clause-tells g c =

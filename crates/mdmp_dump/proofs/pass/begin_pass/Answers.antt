@@ -1,14 +1,14 @@
 use Rattle.std.proofs.Common.{◌≡◌, ◌∙◌, List, [], ◌∷◌, length, get_or, ap, sym, subst, arith, rules, Ok, Err, Some, true, false}
 use Rattle.mdmp_lister.specs.Format.Listing.{Numbered}
 use Rattle.mdmp_wire.specs.declared.entry.Entry.{Entry}
-use Rattle.mdmp_dump.specs.declared.file_view.Pass.{Pass}
+use Rattle.mdmp_dump.specs.declared.pass.Pass.{Pass}
 use Rattle.mdmp_dump.specs.EntryWalk.{Begins, WalkState, entry_at, no_entry, raw_part}
 use Rattle.mdmp_dump.specs.FoundRecord.{IsPartIn, no_part}
 use Rattle.mdmp_dump.proofs.FaultsTold.{begin_refused, going_on, same_count, tells_change}
 use Rattle.mdmp_dump.proofs.FileViews.{raw_parts}
 use Rattle.mdmp_dump.proofs.Viewed.{raw_inside}
-use Rattle.mdmp_dump.proofs.file_view.begin_pass.Goals as goal
-use Rattle.mdmp_dump.proofs.file_view.begin_pass.Goals.{then-now-count-via-then-now-count, then-now-count-via-else-now-count+then-not-lies_inside}
+use Rattle.mdmp_dump.proofs.pass.begin_pass.Goals as goal
+use Rattle.mdmp_dump.proofs.pass.begin_pass.Goals.{then-now-count-via-then-now-count, then-now-count-via-else-now-count+then-not-lies_inside}
 
 pub returns-in-Err-clause-tells : goal.returns-in-Err-clause-tells
 returns-in-Err-clause-tells g c =

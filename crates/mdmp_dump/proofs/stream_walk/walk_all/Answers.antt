@@ -1,7 +1,7 @@
 use Rattle.std.proofs.Common.{◌≡◌, ◌<◌, length, ap, arith}
 use Rattle.mdmp_wire.specs.declared.header.Header.{Header}
 use Rattle.mdmp_dump.proofs.WalkedOver.{all_begin, one_fetches, one_refused, one_same, one_walked}
-use Rattle.mdmp_dump.proofs.file_view.walk_all.Goals as goal
+use Rattle.mdmp_dump.proofs.stream_walk.walk_all.Goals as goal
 
 pub loop-stream-init : goal.loop-stream-init
 loop-stream-init g c =
