@@ -1,0 +1,39 @@
+-- A disk in memory, as its callers see it.
+use Rattle.std.specs.Prelude.{◌≡◌, ℕ, Bool, false, ◌&&◌, List, [], ◌∷◌, Option, Some, None, is_none, if◌then◌else◌}
+use Rattle.std.specs.Str.{bytes_eq}
+use denote.Ref.{Bor}
+use Rattle.mdmp_disk.specs.declared.disk.Requests.{Requests}
+use Rattle.mdmp_disk.specs.declared.memory_disk.GivenFile.{GivenFile}
+use Rattle.mdmp_disk.specs.Disk.{DiskState, FileAt, absent, present}
+
+-- a file that was given, which is read without fail where no read of it fails
+abbrev pub given_file : GivenFile → FileAt
+given_file file = present (record { bytes = Some file.bytes.now; is_reliable = is_none file.fail_at })
+
+-- a file of these bytes, which may be refused
+abbrev pub kept_file : List ℕ → FileAt
+kept_file bytes = present (record { bytes = Some bytes; is_reliable = false })
+
+-- what is known of a name where some files are there: the first of that name
+unfoldable pub given_at : List GivenFile → List ℕ → FileAt
+given_at [] name = absent
+given_at (file ∷ files) name = if bytes_eq file.name.now name then given_file file else given_at files name
+
+-- the same of a file that was found, or was not
+abbrev pub known_of : Option GivenFile → FileAt
+known_of (Some file) = given_file file
+known_of None = absent
+
+-- bytes that are lent, where they are known
+abbrev pub IsShown : Option (Bor (List ℕ)) → Option (List ℕ) → Type 0
+IsShown (Some lent) wanted = Some lent.now ≡ wanted
+IsShown None wanted = None ≡ wanted
+
+-- a disk of these files, and of one more where it was made
+abbrev pub memory_state : List GivenFile → Bool → List ℕ → List ℕ → Requests → DiskState
+memory_state given has_made made_name made_bytes requests = record {
+  files = λ name. if has_made && bytes_eq made_name name then kept_file made_bytes else given_at given name;
+  blank = Some [];
+  is_making = λ name. has_made && bytes_eq made_name name;
+  requests = requests;
+}

@@ -1,0 +1,145 @@
+//! A disk in memory: for tests, and for programs that have their files there.
+ghost use Rattle.std.specs.Prelude.{◌≡◌};
+ghost use Rattle.mdmp_disk.specs.Memory.{given_at, known_of};
+
+use crate::disk::{Disk, DiskRefused, Requests};
+use mdmp_source::{PatchyStore, WriteOut};
+use std::alloc::Allocator;
+
+/// How many bytes a read gives at most: all that are asked for.
+const ALL: [usize; 1] = [usize::MAX];
+
+/// A file that is given to a disk in memory.
+#[derive(Clone, Copy)]
+pub struct GivenFile<'a> {
+    pub name: &'a str,
+    pub bytes: &'a [u8],
+    /// The number of the read that fails once the file was opened, counted from 0, or none.
+    pub fail_at: Option<u64>,
+}
+
+/// A disk in memory: files that it borrows, which it opens without fail, and at most one file that is made.
+/// A second is refused.
+#[derive(Drop)]
+pub struct MemoryDisk<'a, A: Allocator> {
+    alloc: A,
+    given: &'a [GivenFile<'a>],
+    /// Whether a file was made, or is being made.
+    has_made: bool,
+    made_name: Vec<u8, A>,
+    made_bytes: Vec<u8, A>,
+    requests: Requests,
+}
+
+impl<'a, A: Allocator + Copy> MemoryDisk<'a, A> {
+    ghost use Rattle.std.specs.Prelude.{◌≡◌, false, List, [], ℕ, Some, IfSome};
+    ghost use Rattle.mdmp_disk.specs.Disk.{absent, bytes_of};
+    ghost use Rattle.mdmp_disk.specs.Memory.{IsShown, given_at, memory_state};
+    ghost use Rattle.mdmp_disk.specs.System.{no_requests};
+
+    /// The disk of these files.
+    pub fn new(alloc: A, given: &'a [GivenFile<'a>]) -> Self
+        ensures { ⟦<MemoryDisk<'a, A> as Disk>⟧.state result ≡ memory_state given.now false [] [] no_requests }
+    {
+        MemoryDisk {
+            alloc,
+            given,
+            has_made: false,
+            made_name: Vec::new(alloc),
+            made_bytes: Vec::new(alloc),
+            requests: Requests::new(),
+        }
+    }
+
+    /// The bytes of the file of this name, as they stand.
+    pub fn bytes(&self, name: &str) -> Option<&[u8]>
+        ensures { IsShown result (bytes_of ((⟦<MemoryDisk<'a, A> as Disk>⟧.state self.now).files name.now)) }
+    {
+        if self.has_made && self.made_name.as_slice() == name.as_bytes() {
+            return Some(&self.made_bytes);
+        }
+        match find_given(self.given, name) {
+            Some(file) => Some(file.bytes),
+            None => None,
+        }
+    }
+
+    /// How many files were opened and made so far, and how often it refused.
+    pub fn requests(&self) -> Requests
+        ensures { result ≡ (⟦<MemoryDisk<'a, A> as Disk>⟧.state self.now).requests }
+    {
+        self.requests
+    }
+
+    /// The name of a file that can be made, kept.
+    fn vacant(&self, name: &str) -> Option<Vec<u8, A>>
+        ensures kept { IfSome result (λ kept. kept.items ≡ name.now) }
+        ensures none { IfSome result (λ _. self.now.has_made ≡ false) }
+        ensures absent { IfSome result (λ _. given_at self.now.given.now name.now ≡ absent) }
+    {
+        if self.has_made {
+            return None;
+        }
+        match find_given(self.given, name) {
+            Some(_) => None,
+            None => Vec::from_slice(self.alloc, name.as_bytes()).ok(),
+        }
+    }
+}
+
+/// The first file of this name.
+fn find_given<'a>(files: &'a [GivenFile<'a>], name: &str) -> Option<GivenFile<'a>>
+    ensures { given_at files.now name.now ≡ known_of result }
+{
+    for file in files {
+        if file.name == name {
+            return Some(*file);
+        }
+    }
+    None
+}
+
+impl<'a, A: Allocator + Copy> Disk for MemoryDisk<'a, A> {
+    ghost use Rattle.mdmp_disk.specs.Memory.{memory_state};
+
+    type File = PatchyStore<'a>;
+
+    type Made = WriteOut<Vec<u8, A>>;
+
+    ghost state = { λ d. memory_state d.given.now d.has_made d.made_name.items d.made_bytes.items d.requests };
+
+    /// The file that was made is not opened.
+    fn open(&mut self, name: &str) -> Result<PatchyStore<'a>, DiskRefused> {
+        let is_made = self.has_made && self.made_name.as_slice() == name.as_bytes();
+        if is_made {
+            self.requests.count_open(false);
+            return Err(DiskRefused);
+        }
+        match find_given(self.given, name) {
+            Some(file) => {
+                self.requests.count_open(true);
+                Ok(PatchyStore::new(file.bytes, &ALL, file.fail_at))
+            }
+            None => {
+                self.requests.count_open(false);
+                Err(DiskRefused)
+            }
+        }
+    }
+
+    fn make(&mut self, name: &str) -> Result<Self::Made, DiskRefused> {
+        let Some(kept) = self.vacant(name) else {
+            self.requests.count_make(false);
+            return Err(DiskRefused);
+        };
+        self.has_made = true;
+        self.made_name = kept;
+        self.made_bytes = Vec::new(self.alloc);
+        self.requests.count_make(true);
+        Ok(WriteOut::new(Vec::new(self.alloc)))
+    }
+
+    fn close(&mut self, _name: &str, made: Self::Made) {
+        self.made_bytes = made.into_inner();
+    }
+}
