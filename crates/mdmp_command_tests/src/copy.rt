@@ -135,6 +135,16 @@ fn fault_of_the_file_leaves_an_empty_copy(rt: HostRuntime) -> Result<(), Fail> {
 }
 
 #[test]
+fn file_that_gives_no_bytes_leaves_an_empty_copy(rt: HostRuntime) -> Result<(), Fail> {
+    write_files(&rt, rt.alloc(), "folder.dmp")?;
+    // A directory is opened, and gives no bytes.
+    let words = ["copy", ".", "folder.dmp", "7"];
+    let ended = run(&rt, rt.alloc(), &words)?;
+    assert_ended(&rt, &words, &ended, 3, "", "mdmp: store failed at 0\n");
+    assert_file(&rt, "folder.dmp", b"")
+}
+
+#[test]
 fn want_of_memory_leaves_an_empty_copy(rt: HostRuntime) -> Result<(), Fail> {
     write_files(&rt, rt.alloc(), "memory.dmp")?;
     let words = ["copy", "system.dmp", "memory.dmp", "7"];

@@ -8,6 +8,8 @@
 #[cfg(test)]
 mod copy;
 #[cfg(test)]
+mod disks;
+#[cfg(test)]
 mod help;
 #[cfg(test)]
 mod hex;

@@ -2,13 +2,14 @@
 //! entries are good, the symbol files of their modules, and copies of some of their streams; that small
 //! windows and the greatest list the same, and that each entry that is gone to gives what is listed of
 //! it; and how many items each has, how its value compares with its list, how that is written anew, and
-//! that views of its file, of all streams and of those of each type, are written as it.
+//! that views of its file are written as it; and what some command lines write to each of their outputs.
 #![tactic(auto)]
 
 mod checks;
 mod copies;
 mod digest;
 mod lists;
+mod outputs;
 mod status;
 mod symbols;
 mod value;
@@ -19,6 +20,7 @@ mod written;
 use crate::checks::tell_check;
 use crate::copies::{CHOSEN, tell_copy};
 use crate::lists::{list, tell_items};
+use crate::outputs::tell_outputs;
 use crate::symbols::tell_symbols;
 use crate::value::tell_totals;
 use crate::walks::tell_walk;
@@ -68,7 +70,7 @@ fn tell_all(rt: &HostRuntime) -> Result<(), u8> {
     for chosen in CHOSEN {
         tell_copy(rt, &chosen)?;
     }
-    Ok(())
+    tell_outputs(rt)
 }
 
 fn main(rt: HostRuntime) -> ExitCode {

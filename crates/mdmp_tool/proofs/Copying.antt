@@ -31,7 +31,7 @@ use Rattle.mdmp_dump.specs.Shape.{Shape}
 use Rattle.mdmp_tool.specs.declared.fault.ToolFault.{ToolFault}
 use Rattle.mdmp_tool.specs.declared.fault.ToolFault.TheVariants as tool
 use Rattle.mdmp_tool.specs.Causes.{HasOutCause, HasSourceCause, IsNoSourceFault}
-use Rattle.mdmp_tool.specs.Copying.{Copies, EndsOf, IsCopy, IsCopyRefusal, IsDumpCopied, IsOfShape, IsQuietCopy, IsShapeCopied, IsToldByView, first_not_copied, is_copied, refused_type}
+use Rattle.mdmp_tool.specs.Copying.{Copies, EndsOf, IsCopy, IsCopyRefusal, IsDumpCopied, IsOfShape, IsQuietCopy, IsShapeCopied, IsToldByView, IsUnopened, first_not_copied, is_copied, refused_type}
 use Rattle.mdmp_tool.specs.Telling.{opening_told, reading_told, told_by}
 
 -- ---- the first type that is not copied
@@ -75,6 +75,32 @@ good_read (reads.Opening fault) none = opening_good fault none
 good_read (reads.List fault) none = list_good fault.kind fault none
 good_read (reads.Source fault) none = none-some fault (sym none)
 good_read fault none = tt
+
+-- where the file gives no view none was opened
+opening_unopened : (fault : OpenFault) → IsUnopened (Err (opening_told fault))
+opening_unopened (opening.Source f) = tt
+opening_unopened opening.Memory = tt
+opening_unopened fault = tt
+
+list_unopened : (kind : FaultKind) (fault : ListFault) → IsUnopened (Err (told_by kind fault))
+list_unopened (kinds.Source f) fault = tt
+list_unopened kind fault = tt
+
+pub read_unopened : (size : ℕ) (fault : ReadFault) → IsViewRefusal size fault → IsUnopened (Err (reading_told fault))
+read_unopened size (reads.Opening fault) refusal = opening_unopened fault
+read_unopened size (reads.List fault) refusal = list_unopened fault.kind fault
+read_unopened size (reads.PartsTooLarge e k) refusal = absurd refusal
+read_unopened size reads.Memory refusal = tt
+read_unopened size (reads.Source fault) refusal = tt
+read_unopened size fault refusal = tt
+
+-- what was written fits the shape
+pub shape_copied : (shape : Shape) (before after : OutState) (r : Result ℕ ToolFault) → IsShapeCopied shape before r after → IsOfShape shape r
+shape_copied shape before after (Ok size) ends = ends.0
+shape_copied shape before after (Err (tool.Layout fault)) ends = ends.0
+shape_copied shape before after (Err tool.Out) ends = ends.0
+shape_copied shape before after (Err (tool.Source fault)) ends = tt
+shape_copied shape before after (Err fault) ends = absurd ends
 
 -- a fault that is told of a call is told from before it
 told_from : (fault : SourceFault) (a b c : SourceState) → FetchesSome a b → IsLastTold fault b c → IsLastTold fault a c

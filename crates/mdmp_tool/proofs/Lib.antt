@@ -1,5 +1,6 @@
 pub mod BlockLemmas
 pub mod Checking
+pub mod CopyEnds
 pub mod CopyRows
 pub mod Copying
 pub mod Engining
@@ -14,5 +15,8 @@ pub mod PdbRows
 pub mod PlainLines
 pub mod Printing
 pub mod Rows
+pub mod SameRuns
+pub mod StandingCopy
 pub mod Symbols
 pub mod Telling
+pub mod Wording

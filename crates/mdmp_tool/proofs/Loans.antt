@@ -5,6 +5,7 @@ use Rattle.mdmp_source.specs.Output.{HasRefused, OutState, PutsAll, PutsPrefix, 
 use Rattle.mdmp_source.specs.Source.{SourceState}
 use Rattle.mdmp_source.specs.Store.{StoreState}
 use Rattle.mdmp_lister.specs.declared.choice.Choice.{Choice}
+use Rattle.mdmp_lister.specs.declared.limits.Limits.{Limits}
 use Rattle.mdmp_tool.specs.declared.fault.ToolFault.{ToolFault}
 use Rattle.mdmp_tool.specs.declared.fault.ToolFault.TheVariants.{Opening, List as BadList, Source, Memory, Out}
 use Rattle.mdmp_words.specs.declared.request.Print.{Print}
@@ -80,16 +81,17 @@ module _ (name : ℕ) (a b : OutState) where
       out_cause = cause_lent r tells.out_cause;
     }
 
-    run_lent : (End : Result T ToolFault → ℕ → OutState → OutState → Type 0) (Through : List ℕ → OutState → Result T ToolFault → OutState → Type 0)
+    run_lent : (limits : Limits) (End : Result T ToolFault → ℕ → OutState → OutState → Type 0) (Through : List ℕ → OutState → Result T ToolFault → OutState → Type 0)
         (old : SourceState) (err_before : OutState) (status : ℕ) (new : SourceState) (err_after : OutState)
         → ((file : List ℕ) (r : Result T ToolFault) → Through file (lent name a) r (lent name b) → Through file a r b)
-        → HasRun End Through pace old (lent name a) err_before status new (lent name b) err_after → HasRun End Through pace old a err_before status new b err_after
-    run_lent End Through old err_before status new err_after through ran = record {
+        → HasRun limits End Through pace old (lent name a) err_before status new (lent name b) err_after → HasRun limits End Through pace old a err_before status new b err_after
+    run_lent limits End Through old err_before status new err_after through ran = record {
       answer = ran.answer;
       ends = ran.ends;
       writes = λ file known. through file ran.answer (ran.writes file known);
       tells = tells_lent old.store old.size ran.answer ran.tells;
       reads = ran.reads;
+      through = ran.through;
     }
 
 -- ---- a loan that came back
@@ -104,19 +106,19 @@ module _ (name last : ℕ) (start behind stop inner_old inner_new : OutState) (b
       let same : last ≡ name = cc in
       sym ended ∙ (ap (λ (n : ℕ). lent n behind) same ∙ ap (lent name) (back same))
 
-  ran_lent : {T : Type 0} (pace : Pace) (End : Result T ToolFault → ℕ → OutState → OutState → Type 0) (Through : List ℕ → OutState → Result T ToolFault → OutState → Type 0)
+  ran_lent : {T : Type 0} (limits : Limits) (pace : Pace) (End : Result T ToolFault → ℕ → OutState → OutState → Type 0) (Through : List ℕ → OutState → Result T ToolFault → OutState → Type 0)
       (old : SourceState) (err_before : OutState) (status : ℕ) (new : SourceState) (err_after : OutState)
       → ((file : List ℕ) (r : Result T ToolFault) → Through file (lent name start) r (lent name stop) → Through file start r stop)
-      → HasRun End Through pace old inner_old err_before status new inner_new err_after → HasRun End Through pace old start err_before status new stop err_after
-  ran_lent pace End Through old err_before status new err_after through ran =
+      → HasRun limits End Through pace old inner_old err_before status new inner_new err_after → HasRun limits End Through pace old start err_before status new stop err_after
+  ran_lent limits pace End Through old err_before status new err_after through ran =
       let stops : inner_new ≡ lent name stop = came_back (cause_loans ran.answer inner_old inner_new ran.tells.out_cause) in
-      run_lent name start stop pace End Through old err_before status new err_after through (
-      subst (λ (x : OutState). HasRun End Through pace old x err_before status new (lent name stop) err_after) began
-      (subst (λ (y : OutState). HasRun End Through pace old inner_old err_before status new y err_after) stops ran))
+      run_lent name start stop pace limits End Through old err_before status new err_after through (
+      subst (λ (x : OutState). HasRun limits End Through pace old x err_before status new (lent name stop) err_after) began
+      (subst (λ (y : OutState). HasRun limits End Through pace old inner_old err_before status new y err_after) stops ran))
 
   -- what was printed to it was printed to its lender
-  pub printed_lent : (print : Print) (limit : ℕ) (old : SourceState) (err_before : OutState) (status : ℕ) (new : SourceState) (err_after : OutState)
-      → HasPrinted print limit old inner_old err_before status new inner_new err_after → HasPrinted print limit old start err_before status new stop err_after
-  printed_lent Check limit old err_before status new err_after ran = ran_lent _ _ _ old err_before status new err_after (λ file. runs_lent name start stop _ file _ _ _) ran
-  printed_lent (Listing pdb) limit old err_before status new err_after ran = ran_lent _ _ _ old err_before status new err_after (λ file. runs_lent name start stop _ file _ _ _) ran
-  printed_lent (Hex span) limit old err_before status new err_after ran = ran_lent _ _ _ old err_before status new err_after (λ file. runs_lent name start stop _ file _ _ _) ran
+  pub printed_lent : (print : Print) (limits : Limits) (old : SourceState) (err_before : OutState) (status : ℕ) (new : SourceState) (err_after : OutState)
+      → HasPrinted print limits old inner_old err_before status new inner_new err_after → HasPrinted print limits old start err_before status new stop err_after
+  printed_lent Check limits old err_before status new err_after ran = ran_lent limits _ _ _ old err_before status new err_after (λ file. runs_lent name start stop _ file _ _ _) ran
+  printed_lent (Listing pdb) limits old err_before status new err_after ran = ran_lent limits _ _ _ old err_before status new err_after (λ file. runs_lent name start stop _ file _ _ _) ran
+  printed_lent (Hex span) limits old err_before status new err_after ran = ran_lent limits _ _ _ old err_before status new err_after (λ file. runs_lent name start stop _ file _ _ _) ran

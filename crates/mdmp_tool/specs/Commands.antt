@@ -3,14 +3,15 @@ use Rattle.std.specs.Prelude.{◌≡◌, ◌⊎◌, ℕ, zero, suc, List, Some, 
 use Rattle.mdmp_source.specs.Output.{OutState, PutsAll, PutsPrefix}
 use Rattle.mdmp_source.specs.Source.{SourceState}
 use Rattle.mdmp_source.specs.Store.{IsGood}
+use Rattle.mdmp_lister.specs.declared.limits.Limits.{Limits}
 use Rattle.mdmp_tool.specs.declared.fault.ToolFault.{ToolFault}
 use Rattle.mdmp_words.specs.declared.request.Print.{Print}
 use Rattle.mdmp_words.specs.declared.request.Print.TheVariants.{Check, List as Listing, Hex}
 use Rattle.mdmp_tool.specs.Causes.{IsNoSourceFault}
 use Rattle.mdmp_tool.specs.CheckRuns.{ChecksThrough}
 use Rattle.mdmp_tool.specs.CheckText.{bad_text}
-use Rattle.mdmp_tool.specs.Copying.{Copies, first_not_copied}
-use Rattle.mdmp_tool.specs.Engines.{Pace, Reads, Tells, at_the_end, in_blocks, past_faults, up_to_a_fault}
+use Rattle.mdmp_tool.specs.Copying.{Copies, SpendsCopy, first_not_copied}
+use Rattle.mdmp_tool.specs.Engines.{IsThrough, Pace, Reads, Tells, at_the_end, in_blocks, past_faults, up_to_a_fault}
 use Rattle.mdmp_tool.specs.Faults.{fault_text, status_of}
 use Rattle.mdmp_tool.specs.HexRuns.{HexesThrough}
 use Rattle.mdmp_tool.specs.Lines.{error_line}
@@ -35,26 +36,28 @@ IsCheckEnd (Err fault) status before after = IsEnd {T = ℕ} (Err fault) status 
 
 -- ---- commands
 
--- a command has run, of which this is the engine and this is told of its answer
-pub record HasRun {T : Type 0} (End : Result T ToolFault → ℕ → OutState → OutState → Type 0) (Through : List ℕ → OutState → Result T ToolFault → OutState → Type 0)
+-- a command has run within these limits, of which this is the engine and this is told of its answer
+pub record HasRun {T : Type 0} (limits : Limits) (End : Result T ToolFault → ℕ → OutState → OutState → Type 0) (Through : List ℕ → OutState → Result T ToolFault → OutState → Type 0)
     (pace : Pace) (old : SourceState) (before err_before : OutState) (status : ℕ) (new : SourceState) (after err_after : OutState) : Type 0 where
   pub answer : Result T ToolFault
   pub ends : End answer status err_before err_after
   pub writes : (file : List ℕ) → old.store.content ≡ Some file → Through file before answer after
   pub tells : Tells in_blocks pace old.store old.size before answer after
   pub reads : Reads old answer new
+  pub through : IsThrough limits old answer new
 
--- a command that prints, over a source and through blocks, with names up to a limit
-abbrev pub HasPrinted : Print → ℕ → SourceState → OutState → OutState → ℕ → SourceState → OutState → OutState → Type 0
-HasPrinted Check limit = HasRun IsCheckEnd (λ file. ChecksThrough file limit) past_faults
-HasPrinted (Listing pdb) limit = HasRun IsEnd (λ file. ListsThrough pdb file limit) up_to_a_fault
-HasPrinted (Hex span) limit = HasRun IsEnd (λ file. HexesThrough file limit span.address span.length) at_the_end
+-- a command that prints, over a source and through blocks, within these limits
+abbrev pub HasPrinted : Print → Limits → SourceState → OutState → OutState → ℕ → SourceState → OutState → OutState → Type 0
+HasPrinted Check limits = HasRun limits IsCheckEnd (λ file. ChecksThrough file limits.name) past_faults
+HasPrinted (Listing pdb) limits = HasRun limits IsEnd (λ file. ListsThrough pdb file limits.name) up_to_a_fault
+HasPrinted (Hex span) limits = HasRun limits IsEnd (λ file. HexesThrough file limits.name span.address span.length) at_the_end
 
--- the streams of these types were copied
-pub record HasCopied (Z : Type 0) (types : List ℕ) (limit : ℕ) (old : SourceState) (before err_before : OutState) (status : ℕ) (new : SourceState) (after err_after : OutState) : Type 0 where
+-- the streams of these types were copied, within these limits
+pub record HasCopied (Z : Type 0) (types : List ℕ) (limits : Limits) (old : SourceState) (before err_before : OutState) (status : ℕ) (new : SourceState) (after err_after : OutState) : Type 0 where
   pub answer : Result ℕ ToolFault
   pub ends : IsEnd answer status err_before err_after
-  pub copies : Copies Z old.store.content old.size types limit before answer after
+  pub copies : Copies Z old.store.content old.size types limits.name before answer after
   pub good : (file : List ℕ) → IsGood old.store file → IsNoSourceFault answer
   pub reads : Reads old answer new
   pub unread : (t : ℕ) → first_not_copied types ≡ Some t → new ≡ old
+  pub spends : SpendsCopy Z types old answer new

@@ -1,5 +1,6 @@
 -- What a copy answers, and what it leaves written.
-use Rattle.std.specs.Prelude.{◌≡◌, ◌<◌, ◌⊎◌, ◌==◌, ◌||◌, ℕ, Bool, List, [], ◌∷◌, Option, Some, None, Result, Ok, Err, IsFalse, nat_lt, if◌then◌else◌}
+use Rattle.std.specs.Prelude.{◌≡◌, ◌<◌, ◌≤◌, ◌+◌, ◌*◌, ◌⊎◌, ◌==◌, ◌||◌, ℕ, Bool, List, [], ◌∷◌, Option, Some, None, Result, Ok, Err, IsFalse, nat_lt, if◌then◌else◌}
+use Rattle.mdmp_source.specs.Source.{SourceState}
 use Rattle.mdmp_source.specs.Output.{HasRefused, OutState, PutsAll, PutsPrefix}
 use Rattle.mdmp_lister.specs.declared.choice.Choice.TheVariants.{Types}
 use Rattle.mdmp_lister.specs.declared.fault.OpenFault.TheVariants.{TooShort}
@@ -14,8 +15,10 @@ use Rattle.mdmp_dump.specs.declared.view.ViewFault.TheVariants as view
 use Rattle.mdmp_dump.specs.FileRefusal.{view_refusal}
 use Rattle.mdmp_dump.specs.InFile.{dump_in}
 use Rattle.mdmp_dump.specs.LaysOut.{LaysOut}
-use Rattle.mdmp_dump.specs.Shape.{Shape}
+use Rattle.mdmp_dump.specs.Opening.{opening_bound}
+use Rattle.mdmp_dump.specs.Shape.{IsViewOf, Shape}
 use Rattle.mdmp_writer.specs.Layout.{layout_fault, shape_fault, size_answer, written_size}
+use Rattle.mdmp_writer.specs.Passes.{all_asks, all_costs}
 use Rattle.mdmp_writer.specs.Written.{written}
 use Rattle.mdmp_tool.specs.declared.fault.ToolFault.{ToolFault}
 use Rattle.mdmp_tool.specs.declared.fault.ToolFault.TheVariants as tool
@@ -102,6 +105,29 @@ IsOfShape shape answer = Unit {0}
 pub record HasShape (answer : Result ℕ ToolFault) : Type 0 where
   pub shape : Shape
   pub size : IsOfShape shape answer
+
+-- no view was opened
+abbrev pub IsUnopened : Result ℕ ToolFault → Type 0
+IsUnopened (Ok size) = ⊥
+IsUnopened (Err tool.Out) = ⊥
+IsUnopened (Err (tool.Layout fault)) = ⊥
+IsUnopened answer = Unit {0}
+
+-- what was fetched for a copy: to open a view of this shape the header, the directory and what a pass over each stream costs;
+-- to write it two passes more at most, and the bytes of names, parts and raw streams
+pub record HasSpent (Z : Type 0) (types : List ℕ) (old : SourceState) (answer : Result ℕ ToolFault) (new : SourceState) : Type 0 where
+  pub shape : Shape
+  pub size : IsOfShape shape answer
+  -- how many entries the directory has
+  pub entries : ℕ
+  pub fetched : new.fetched ≤ old.fetched + (32 + 12 * entries + 3 * all_costs shape + all_asks shape)
+  -- of a known file they are its own
+  pub costs : (file : List ℕ) → old.store.content ≡ Some file → 32 + 12 * entries + all_costs shape ≡ opening_bound file (Types types)
+  pub asks : (file : List ℕ) → old.store.content ≡ Some file → IsViewOf (dump_in {Z = Z} file (Types types)) shape
+
+pub data SpendsCopy (Z : Type 0) (types : List ℕ) (old : SourceState) (answer : Result ℕ ToolFault) (new : SourceState) : Type 0 where
+  unopened : IsUnopened answer → SpendsCopy Z types old answer new
+  spent : HasSpent Z types old answer new → SpendsCopy Z types old answer new
 
 -- ---- of a file that is known
 

@@ -1,11 +1,13 @@
 -- What every command over a listing promises, whatever it prints.
-use Rattle.std.specs.Prelude.{◌≡◌, ◌<◌, ◌⊎◌, ◌++◌, ℕ, List, [], Option, Some, None, Result, Ok, Err}
+use Rattle.std.specs.Prelude.{◌≡◌, ◌<◌, ◌≤◌, ◌+◌, ◌*◌, ◌⊎◌, ◌++◌, ℕ, List, [], Option, Some, None, Result, Ok, Err}
 use Rattle.mdmp_source.specs.Output.{HasRefused, OutState, PutsAll, PutsPrefix, TakesPrefix, refused_once}
-use Rattle.mdmp_source.specs.Source.{SourceState, FetchesSome}
+use Rattle.mdmp_source.specs.Source.{SourceState, FetchesAtMost, FetchesSome}
 use Rattle.mdmp_source.specs.Store.{StoreState, IsGood}
 use Rattle.mdmp_lister.specs.declared.choice.Choice.{Choice}
 use Rattle.mdmp_lister.specs.declared.fault.OpenFault.{OpenFault}
 use Rattle.mdmp_lister.specs.declared.fault.OpenFault.TheVariants.{TooShort}
+use Rattle.mdmp_lister.specs.declared.limits.Limits.{Limits}
+use Rattle.mdmp_lister.specs.Counts.{AreHeld, AreSpent, numbers_of}
 use Rattle.mdmp_lister.specs.Fault.{IsOfSource}
 use Rattle.mdmp_lister.specs.Format.Listing.{listing}
 use Rattle.mdmp_lister.specs.Lister.{ListerState}
@@ -163,6 +165,37 @@ pub record Tells {T : Type 0} (way : Way) (pace : Pace) (store : StoreState) (si
 pub record Reads {T : Type 0} (old : SourceState) (answer : Result T ToolFault) (new : SourceState) : Type 0 where
   pub cause : HasSourceCause old answer new
   pub fetches : FetchesSome old new
+
+-- ---- through which window
+
+-- what a command leaves as it was of the lister that it is given: the room that it took, and what its source's own counts were
+-- as it was opened
+pub record IsSameRun (old new : ListerState) : Type 0 where
+  pub rooms : new.rooms ≡ old.rooms
+  pub limit : new.limit ≡ old.limit
+  pub start : new.counts.start ≡ old.counts.start
+
+-- a file was listed through the window that was asked for, with names up to that limit: what such a lister holds, and all
+-- that its source counted since it was opened, is within the bounds that its numbers tell, beside what it read aside
+pub record HasListed (limits : Limits) (old new : SourceState) : Type 0 where
+  pub lister : ListerState
+  pub window : lister.rooms.window ≡ limits.window
+  pub limit : lister.limit ≡ limits.name
+  pub source : lister.source ≡ new
+  pub start : lister.counts.start ≡ record { bytes = old.fetched; calls = old.calls }
+  pub held : AreHeld lister (numbers_of lister)
+  pub spent : AreSpent lister (numbers_of lister)
+
+-- before all was opened a run does not end so
+abbrev pub IsEarly : {T : Type 0} → Result T ToolFault → Type 0
+IsEarly (Ok x) = ⊥
+IsEarly (Err (BadList fault)) = ⊥
+IsEarly answer = Unit {0}
+
+-- or it was refused, and so many entries of its directory were asked for
+pub data IsThrough {T : Type 0} (limits : Limits) (old : SourceState) (answer : Result T ToolFault) (new : SourceState) : Type 0 where
+  listed : HasListed limits old new → IsThrough limits old answer new
+  refused : (asked : ℕ) → IsEarly answer → FetchesAtMost (32 + 28 * asked) old new → 12 * asked ≤ old.size → IsThrough limits old answer new
 
 -- what ends the part of a command behind the opening: no fault of the opening, and of the listing only the file's own, if its
 -- pace lets one end it; where nothing was written the output is untouched, which is ⊥ where some text is out already

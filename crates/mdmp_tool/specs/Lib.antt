@@ -12,7 +12,9 @@ pub mod Line
 pub mod Lines
 pub mod PdbLines
 pub mod Pieces
+pub mod Program
 pub mod Runs
+pub mod Standing
 pub mod Telling
 pub mod Text
 pub mod Words

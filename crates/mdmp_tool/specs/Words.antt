@@ -1,10 +1,11 @@
 -- How the words of a command line end.
-use Rattle.std.specs.Prelude.{◌≡◌, ◌⊎◌, ◌∷◌, ℕ, false, List, [], Some, None, codes, map}
+use Rattle.std.specs.Prelude.{◌≡◌, ◌⊎◌, ◌∷◌, ℕ, List, [], Some, None, IsTrue, true, codes, map}
 use Rattle.std.specs.List.{concat}
 use denote.Ref.{Bor}
-use Rattle.mdmp_source.specs.Output.{OutState, PutsAll, PutsPrefix}
+use Rattle.mdmp_source.specs.Output.{OutState, PutsAll, PutsPrefix, unlent}
 use Rattle.mdmp_source.specs.Source.{SourceState}
-use Rattle.mdmp_source.specs.Store.{IsNew}
+use Rattle.mdmp_disk.specs.Disk.{DiskState, FileAt, FileState, IsOpened, IsPresent, KeepsOthers, bytes_of, make_counted, open_counted, opened_once, present, refused_once}
+use Rattle.mdmp_lister.specs.declared.limits.Limits.{Limits}
 use Rattle.mdmp_tool.specs.Commands.{HasCopied, HasPrinted, IsTold}
 use Rattle.mdmp_tool.specs.Copying.{first_not_copied}
 use Rattle.mdmp_tool.specs.Faults.{fault_text, status_of}
@@ -21,6 +22,11 @@ use Rattle.mdmp_words.specs.declared.request.Print.{Print}
 pub record Outputs : Type 0 where
   pub out : OutState
   pub err : OutState
+
+-- the disk, before and after
+pub record DiskChange : Type 0 where
+  pub old : DiskState
+  pub new : DiskState
 
 -- ---- before a file is read
 
@@ -60,59 +66,74 @@ pub record HelpsInPart (text : List ℕ) (before : Outputs) (status : ℕ) (afte
 
 -- ---- commands
 
--- a source over a file of the system: no contract knows its bytes
-pub record IsOfSystem (source : SourceState) : Type 0 where
-  pub store : IsNew source.store None false
+-- a source over a file of which this is known, of which nothing was fetched
+pub record IsOver (file : FileAt) (source : SourceState) : Type 0 where
+  pub store : IsOpened file source.store
   pub fetched : source.fetched ≡ 0
 
--- this was printed of a file
-pub record Prints (print : Print) (limit : ℕ) (before : Outputs) (status : ℕ) (after : Outputs) : Type 0 where
+-- no reliable file is known to be there, so its opening may be refused
+abbrev pub MayRefuse : FileAt → Type 0
+MayRefuse found = (file : FileState) → found ≡ present file → IsTrue file.is_reliable → ⊥
+
+-- this was printed of a file of which that is known
+pub record Prints (print : Print) (limits : Limits) (found : FileAt) (before : Outputs) (status : ℕ) (after : Outputs) : Type 0 where
   pub old : SourceState
   pub new : SourceState
-  pub opened : IsOfSystem old
-  pub printed : HasPrinted print limit old before.out before.err status new after.out after.err
+  pub opened : IsOver found old
+  pub printed : HasPrinted print limits old before.out before.err status new after.out after.err
 
--- how a command ends that prints this of the file of this name, with names up to a limit
-pub data EndsPrint (print : Print) (limit : ℕ) (file : List ℕ) (before : Outputs) (status : ℕ) (after : Outputs) : Type 0 where
-  unopened : Refuses 3 (unopened_text file) before status after → EndsPrint print limit file before status after
-  wanting : RefusesFault Memory before status after → EndsPrint print limit file before status after
-  printed : Prints print limit before status after → EndsPrint print limit file before status after
+-- how a command ends that prints this of the file of this name, within these limits: the disk was asked for that file,
+-- once, and for nothing else
+pub data EndsPrint (print : Print) (limits : Limits) (file : List ℕ) (disk : DiskChange) (before : Outputs) (status : ℕ) (after : Outputs) : Type 0 where
+  unopened : disk.new ≡ refused_once disk.old → MayRefuse (disk.old.files file) → Refuses 3 (unopened_text file) before status after
+      → EndsPrint print limits file disk before status after
+  wanting : disk.new ≡ opened_once disk.old → RefusesFault Memory before status after → EndsPrint print limits file disk before status after
+  printed : disk.new ≡ opened_once disk.old → Prints print limits (disk.old.files file) before status after → EndsPrint print limits file disk before status after
 
--- the streams of these types were copied to a file that was made
-pub record CopiesTo (Z : Type 0) (types : List ℕ) (limit : ℕ) (before : Outputs) (status : ℕ) (after : Outputs) : Type 0 where
+-- the streams of these types were copied out of one file into another, which was made under a name that had none, and holds
+-- what was copied; every other file is as it was
+pub record CopiesTo (Z : Type 0) (types : List ℕ) (limits : Limits) (file target : List ℕ) (disk : DiskChange) (before : Outputs) (status : ℕ) (after : Outputs) : Type 0 where
   pub old : SourceState
   pub new : SourceState
-  pub made : OutState
   pub written : OutState
-  pub opened : IsOfSystem old
-  pub copied : HasCopied Z types limit old made before.err status new written after.err
+  pub opened : IsOver (disk.old.files file) old
+  pub vacant : IsPresent (disk.old.files target) → ⊥
+  pub copied : HasCopied Z types limits old (record { taken = disk.old.blank; failures = unlent 0 }) before.err status new written after.err
+  pub holds : bytes_of (disk.new.files target) ≡ written.taken
+  pub others : KeepsOthers disk.old target disk.new
+  pub same_blank : disk.new.blank ≡ disk.old.blank
+  pub counted : disk.new.requests ≡ make_counted true (open_counted true disk.old.requests)
   pub quiet : after.out ≡ before.out
 
--- how a command ends that copies these types of one file to another: a type that is not copied is told before a file is opened
-pub data EndsCopy (Z : Type 0) (types : List ℕ) (limit : ℕ) (file target : List ℕ) (before : Outputs) (status : ℕ) (after : Outputs) : Type 0 where
-  refused : (t : ℕ) → first_not_copied types ≡ Some t → RefusesFault (NotCopied t) before status after → EndsCopy Z types limit file target before status after
-  unread : first_not_copied types ≡ None → Refuses 3 (unopened_text file) before status after → EndsCopy Z types limit file target before status after
-  unmade : first_not_copied types ≡ None → Refuses 3 (unmade_text target) before status after → EndsCopy Z types limit file target before status after
-  copied : first_not_copied types ≡ None → CopiesTo Z types limit before status after → EndsCopy Z types limit file target before status after
+-- how a command ends that copies these types of one file to another: a type that is not copied is told before a file is opened,
+-- and no file is made where that one is not opened
+pub data EndsCopy (Z : Type 0) (types : List ℕ) (limits : Limits) (file target : List ℕ) (disk : DiskChange) (before : Outputs) (status : ℕ) (after : Outputs) : Type 0 where
+  refused : (t : ℕ) → first_not_copied types ≡ Some t → disk.new ≡ disk.old → RefusesFault (NotCopied t) before status after
+      → EndsCopy Z types limits file target disk before status after
+  unread : first_not_copied types ≡ None → disk.new ≡ refused_once disk.old → MayRefuse (disk.old.files file)
+      → Refuses 3 (unopened_text file) before status after → EndsCopy Z types limits file target disk before status after
+  unmade : first_not_copied types ≡ None → disk.new ≡ refused_once (opened_once disk.old) → Refuses 3 (unmade_text target) before status after
+      → EndsCopy Z types limits file target disk before status after
+  copied : first_not_copied types ≡ None → CopiesTo Z types limits file target disk before status after → EndsCopy Z types limits file target disk before status after
 
-abbrev pub EndsCommand : Type 0 → Command → ℕ → List ℕ → Outputs → ℕ → Outputs → Type 0
-EndsCommand Z (commands.Print print) limit file = EndsPrint print limit file
-EndsCommand Z (commands.Copy target types) limit file = EndsCopy Z types limit file target.now
+abbrev pub EndsCommand : Type 0 → Command → Limits → List ℕ → DiskChange → Outputs → ℕ → Outputs → Type 0
+EndsCommand Z (commands.Print print) limits file disk before status after = EndsPrint print limits file disk before status after
+EndsCommand Z (commands.Copy target types) limits file disk before status after = EndsCopy Z types limits file target.now disk before status after
 
 -- ---- words
 
 -- how that ends which some words ask for
-abbrev pub EndsAsked : Type 0 → Asked → Outputs → ℕ → Outputs → Type 0
-EndsAsked Z (asks.Run request) before status after = EndsCommand Z request.command request.limits.name request.file.now before status after
-EndsAsked Z (asks.Help text) before status after = Helps text.bytes.items before status after ⊎ HelpsInPart text.bytes.items before status after
-EndsAsked Z (asks.Refused text) before status after = Explains text.bytes.items before status after
-EndsAsked Z asks.Bad before status after = Refuses 2 (codes "bad command line") before status after
-EndsAsked Z asks.Memory before status after = RefusesFault Memory before status after
+abbrev pub EndsAsked : Type 0 → Asked → DiskChange → Outputs → ℕ → Outputs → Type 0
+EndsAsked Z (asks.Run request) disk before status after = EndsCommand Z request.command request.limits request.file.now disk before status after
+EndsAsked Z (asks.Help text) disk before status after = (disk.new ≡ disk.old) × (Helps text.bytes.items before status after ⊎ HelpsInPart text.bytes.items before status after)
+EndsAsked Z (asks.Refused text) disk before status after = (disk.new ≡ disk.old) × Explains text.bytes.items before status after
+EndsAsked Z asks.Bad disk before status after = (disk.new ≡ disk.old) × Refuses 2 (codes "bad command line") before status after
+EndsAsked Z asks.Memory disk before status after = (disk.new ≡ disk.old) × RefusesFault Memory before status after
 
 -- what the words ask for, by how clap parts them, and that it ends so; no words ask for nothing that is run or helped
-pub record EndsWords (Z : Type 0) (words : List (Bor (List ℕ))) (before : Outputs) (status : ℕ) (after : Outputs) : Type 0 where
+pub record EndsWords (Z : Type 0) (words : List (Bor (List ℕ))) (disk : DiskChange) (before : Outputs) (status : ℕ) (after : Outputs) : Type 0 where
   pub asked : Asked
   pub valid : IsValid asked
   pub asks : AsksFor (map (λ word. word.now) words) asked
   pub empty : words ≡ [] → AsksNothing asked
-  pub ends : EndsAsked Z asked before status after
+  pub ends : EndsAsked Z asked disk before status after

@@ -2,7 +2,7 @@
 ghost use Rattle.std.specs.Prelude.{◌≡◌, ◌≤◌, ◌<◌, ◌+◌, ℕ, List, Some, []};
 ghost use Rattle.mdmp_map.specs.Ranges.{address_end};
 ghost use Rattle.mdmp_tool.specs.CheckRuns.{ChecksThrough};
-ghost use Rattle.mdmp_tool.specs.Engines.{IsFlushed, Reads, Tells, at_the_end, in_blocks, past_faults, up_to_a_fault};
+ghost use Rattle.mdmp_tool.specs.Engines.{IsFlushed, IsThrough, Reads, Tells, at_the_end, in_blocks, past_faults, up_to_a_fault};
 ghost use Rattle.mdmp_tool.specs.HexRuns.{HexesThrough};
 ghost use Rattle.mdmp_words.specs.HexWords.{length_limit};
 ghost use Rattle.mdmp_tool.specs.Runs.{ListsThrough};
@@ -29,6 +29,7 @@ pub fn check_in_blocks<S: Store + Drop, A: Allocator + Copy, O: Out, B: Allocato
     ensures flushed { IsFlushed result.answer blocks.new.pending }
     ensures tells { Tells in_blocks past_faults source.store source.size blocks.old.inner result.answer blocks.new.inner }
     ensures reads { Reads source result.answer result.source }
+    ensures through { IsThrough limits source result.answer result.source }
 {
     run_in_blocks(CheckEngine, alloc, source, limits, blocks)
 }
@@ -48,6 +49,7 @@ pub fn list_in_blocks<S: Store + Drop, A: Allocator + Copy, O: Out, B: Allocator
     ensures flushed { IsFlushed result.answer blocks.new.pending }
     ensures tells { Tells in_blocks up_to_a_fault source.store source.size blocks.old.inner result.answer blocks.new.inner }
     ensures reads { Reads source result.answer result.source }
+    ensures through { IsThrough limits source result.answer result.source }
 {
     run_in_blocks(ListEngine { pdb }, alloc, source, limits, blocks)
 }
@@ -71,6 +73,7 @@ pub fn hex_in_blocks<S: Store + Drop, A: Allocator + Copy, O: Out, B: Allocator>
     ensures flushed { IsFlushed result.answer blocks.new.pending }
     ensures tells { Tells in_blocks at_the_end source.store source.size blocks.old.inner result.answer blocks.new.inner }
     ensures reads { Reads source result.answer result.source }
+    ensures through { IsThrough limits source result.answer result.source }
 {
     run_in_blocks(HexEngine { address, length }, alloc, source, limits, blocks)
 }

@@ -4,7 +4,7 @@ ghost use Rattle.mdmp_lister.specs.declared.choice.Choice.TheVariants.{All};
 ghost use Rattle.mdmp_lister.specs.Format.Listing.{verdicts};
 ghost use Rattle.mdmp_tool.specs.CheckRuns.{CheckEnds, Checks};
 ghost use Rattle.mdmp_tool.specs.CheckText.{verdict_lines};
-ghost use Rattle.mdmp_tool.specs.Engines.{IsOpened, Leaves, Reads, Tells, Writes, directly, past_faults};
+ghost use Rattle.mdmp_tool.specs.Engines.{IsOpened, IsSameRun, IsThrough, Leaves, Reads, Tells, Writes, directly, past_faults};
 
 use crate::engine::{Answered, Engine, run, run_source};
 use crate::fault::{ToolFault, told_list};
@@ -40,6 +40,7 @@ pub fn check_source<S: Store + Drop, A: Allocator + Copy, O: Out>(
     ensures checks { (file : List ℕ) → source.store.content ≡ Some file → Checks file limits.name (O.state out.old) result.answer (O.state out.new) }
     ensures tells { Tells directly past_faults source.store source.size (O.state out.old) result.answer (O.state out.new) }
     ensures reads { Reads source result.answer result.source }
+    ensures through { IsThrough limits source result.answer result.source }
 {
     run_source(CheckEngine, alloc, source, limits, out)
 }
@@ -95,6 +96,7 @@ fn check_listed<S: Store + Drop, A: Allocator + Copy, O: Out>(
     ensures writes { (file : List ℕ) → lister.old.source.store.content ≡ Some file
         → Writes past_faults (verdict_lines (verdicts file All lister.old.limit)) (O.state lines.old.out.now) result (O.state lines.new.out.now) }
     ensures leaves { Leaves past_faults (O.state lines.new.out.now ≡ O.state lines.old.out.now) lister.old.source (O.state lines.old.out.now) result lister.new.source (O.state lines.new.out.now) }
+    ensures same { IsSameRun lister.old lister.new }
 {
     // The prover needs that a directory has fewer than 2^32 entries: so the count is never at its greatest.
     let _entries = lister.header().number_of_streams;

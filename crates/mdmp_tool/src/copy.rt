@@ -1,5 +1,5 @@
 //! The command `copy`.
-ghost use Rattle.std.specs.Prelude.{◌≡◌, ◌<◌, ◌+◌, ◌*◌, ℕ, List, None, Some, Err, IfErr, IfOk, IsTrue, MatchResult, length};
+ghost use Rattle.std.specs.Prelude.{◌≡◌, ◌<◌, ◌≤◌, ◌+◌, ◌*◌, ℕ, List, None, Some, Err, IfErr, IfOk, IsTrue, MatchResult, length};
 ghost use Rattle.mdmp_source.specs.Store.{IsGood};
 ghost use Rattle.mdmp_lister.specs.declared.choice.Choice.TheVariants.{Types};
 ghost use Rattle.mdmp_lister.specs.declared.fault.OpenFault.TheVariants.{TooShort};
@@ -8,11 +8,12 @@ ghost use Rattle.mdmp_dump.specs.declared.fault.ReadFault.TheVariants.{Opening};
 ghost use Rattle.mdmp_dump.specs.FileRefusal.{IsViewRefusal, view_refusal};
 ghost use Rattle.mdmp_dump.specs.InFile.{dump_in};
 ghost use Rattle.mdmp_dump.specs.LaysOut.{LaysOut};
-ghost use Rattle.mdmp_dump.specs.Opening.{IsNewView, entries_in, held_by};
+ghost use Rattle.mdmp_dump.specs.Opening.{IsNewView, entries_in, held_by, opened_by, opening_bound};
 ghost use Rattle.mdmp_dump.specs.Reading.{Fetches, IsOwn};
 ghost use Rattle.mdmp_dump.specs.Shape.{IsViewOf};
+ghost use Rattle.mdmp_writer.specs.Passes.{all_asks, all_costs};
 ghost use Rattle.mdmp_tool.specs.Causes.{IsNoSourceFault};
-ghost use Rattle.mdmp_tool.specs.Copying.{Copies, IsDumpCopied, IsShapeCopied, IsToldByView, first_not_copied, is_copied};
+ghost use Rattle.mdmp_tool.specs.Copying.{Copies, IsDumpCopied, IsShapeCopied, IsToldByView, SpendsCopy, first_not_copied, is_copied};
 ghost use Rattle.mdmp_tool.specs.Engines.{Reads};
 
 use crate::engine::Answered;
@@ -66,6 +67,9 @@ pub fn run_copy<S: Store + Drop, A: Allocator + Copy, O: Out>(
     ensures copies { Copies A (S.state store).content (S.state store).size types limits.name (O.state out.old) result (O.state out.new) }
     ensures good { (file : List ℕ) → IsGood (S.state store) file → IsNoSourceFault result }
 {
+    if let Some(stream_type) = first_not_copied(types.types()) {
+        return Err(ToolFault::NotCopied(stream_type));
+    }
     copy_source(alloc, Source::new(store), limits, types, out).answer
 }
 
@@ -82,6 +86,7 @@ pub fn copy_source<S: Store + Drop, A: Allocator + Copy, O: Out>(
     ensures good { (file : List ℕ) → IsGood source.store file → IsNoSourceFault result.answer }
     ensures reads { Reads source result.answer result.source }
     ensures unread { (t : ℕ) → first_not_copied types ≡ Some t → result.source ≡ source }
+    ensures spends { SpendsCopy A types source result.answer result.source }
 {
     if let Some(stream_type) = first_not_copied(types.types()) {
         return Answered {
@@ -129,6 +134,7 @@ fn open_copy<S: Store + Drop, A: Allocator + Copy>(
     ensures new { IfOk result (λ copying. IsNewView source limits.window copying.view) }
     ensures reliable { (file : List ℕ) → IsGood source.store file → IfOk result (λ copying. IsTrue (⟦<FileView<S, A> as DumpView>⟧.shape copying.view).is_reliable) }
     ensures buffer { IfOk result (λ copying. length copying.buffer.items ≡ limits.window) }
+    ensures cost { (file : List ℕ) → source.store.content ≡ Some file → IfOk result (λ copying. opened_by copying.view ≡ opening_bound file (Types types)) }
     ensures held { IfOk result (λ copying. held_by copying.view + length copying.buffer.items ≡ 2 * limits.window + 24 * entries_in copying.view) }
 {
     let choice = Choice::Types(types);
@@ -152,6 +158,9 @@ fn write_copy<V: DumpView, O: Out>(
     buffer: &mut [u8],
 ) -> Result<u64, ToolFault>
     requires { 0 < length buffer.old }
+    ensures shape { V.shape view.new ≡ V.shape view.old }
+    ensures passed { (V.spent view.new).passed ≤ (V.spent view.old).passed + 2 * all_costs (V.shape view.old) }
+    ensures asked { (V.spent view.new).asked ≤ (V.spent view.old).asked + all_asks (V.shape view.old) }
     ensures ends { IsShapeCopied (V.shape view.old) (O.state out.old) result (O.state out.new) }
     ensures copies { (d : Dump V.Memory) → IsViewOf d (V.shape view.old) → IsDumpCopied d (O.state out.old) result (O.state out.new) }
     ensures told { IsToldByView result (V.spent view.new).fault }

@@ -2,7 +2,7 @@
 ghost use Rattle.std.specs.Prelude.{◌≡◌, ◌<◌, ℕ, List, [], Some, Err};
 ghost use Rattle.mdmp_source.specs.Blocks.{MovesFront};
 ghost use Rattle.mdmp_lister.specs.Format.Refusal.{opening_fault};
-ghost use Rattle.mdmp_tool.specs.Engines.{EndsFlushed, IsFlushed, Reads, Runs, RunsThrough, Tells, directly, in_blocks, unless_refused};
+ghost use Rattle.mdmp_tool.specs.Engines.{EndsFlushed, IsFlushed, IsThrough, Reads, Runs, RunsThrough, Tells, directly, in_blocks, unless_refused};
 
 use crate::fault::{ToolFault, told_opening};
 use mdmp_lister::{Choice, Limits, Lister};
@@ -23,7 +23,7 @@ pub(crate) trait Engine: Copy {
     ghost use Rattle.std.specs.Prelude.{◌≡◌, ℕ, List, Some, Result};
     ghost use Rattle.mdmp_lister.specs.declared.choice.Choice.{Choice};
     ghost use Rattle.mdmp_tool.specs.declared.fault.ToolFault.{ToolFault};
-    ghost use Rattle.mdmp_tool.specs.Engines.{IsOpened, Leaves, Pace, Writes};
+    ghost use Rattle.mdmp_tool.specs.Engines.{IsOpened, IsSameRun, Leaves, Pace, Writes};
 
     /// What it answers where all was printed.
     type Answer: Copy;
@@ -59,7 +59,8 @@ pub(crate) trait Engine: Copy {
         ensures ends { (file : List ℕ) → lister.old.source.store.content ≡ Some file → Ends self.now file lister.old.limit result }
         ensures writes { (file : List ℕ) → lister.old.source.store.content ≡ Some file
             → Writes pace (text self.now file lister.old.limit) (O.state out.old) result (O.state out.new) }
-        ensures leaves { Leaves pace (O.state out.new ≡ O.state out.old) lister.old.source (O.state out.old) result lister.new.source (O.state out.new) };
+        ensures leaves { Leaves pace (O.state out.new ≡ O.state out.old) lister.old.source (O.state out.old) result lister.new.source (O.state out.new) }
+        ensures same { IsSameRun lister.old lister.new };
 }
 
 /// Runs a command over a store.
@@ -96,6 +97,7 @@ pub(crate) fn run_source<E: Engine, S: Store + Drop, A: Allocator + Copy, O: Out
         (O.state out.old) result.answer (O.state out.new) }
     ensures tells { Tells directly E.pace source.store source.size (O.state out.old) result.answer (O.state out.new) }
     ensures reads { Reads source result.answer result.source }
+    ensures through { IsThrough limits source result.answer result.source }
 {
     let mut lister = match Lister::open(alloc, source, limits, engine.chosen()) {
         Ok(lister) => lister,
@@ -107,6 +109,8 @@ pub(crate) fn run_source<E: Engine, S: Store + Drop, A: Allocator + Copy, O: Out
         }
     };
     let answer = engine.put(alloc, &mut lister, out);
+    // The proof learns here within which bounds the lister stayed.
+    let _counts = lister.counts();
     Answered {
         answer,
         source: lister.into_source(),
@@ -129,6 +133,7 @@ pub(crate) fn run_in_blocks<E: Engine, S: Store + Drop, A: Allocator + Copy, O: 
     ensures flushed { IsFlushed result.answer blocks.new.pending }
     ensures tells { Tells in_blocks E.pace source.store source.size blocks.old.inner result.answer blocks.new.inner }
     ensures reads { Reads source result.answer result.source }
+    ensures through { IsThrough limits source result.answer result.source }
 {
     let answered = run_source(engine, alloc, source, limits, blocks);
     flushed(answered, blocks)

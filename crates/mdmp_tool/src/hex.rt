@@ -6,7 +6,7 @@ ghost use Rattle.mdmp_source.specs.Source.{FetchesSome};
 ghost use Rattle.mdmp_lister.specs.Format.Listing.{Run};
 ghost use Rattle.mdmp_lister.specs.Format.Ranges.{ranges_of};
 ghost use Rattle.mdmp_lister.specs.Fault.{IsOfSource, IsToldIn};
-ghost use Rattle.mdmp_tool.specs.Engines.{Leaves, Reads, Tells, at_the_end, directly};
+ghost use Rattle.mdmp_tool.specs.Engines.{IsSameRun, IsThrough, Leaves, Reads, Tells, at_the_end, directly};
 ghost use Rattle.mdmp_tool.specs.HexRuns.{Hexes, HexesMemory, HexesRun};
 ghost use Rattle.mdmp_words.specs.HexWords.{length_limit};
 
@@ -53,6 +53,7 @@ pub fn hex_source<S: Store + Drop, A: Allocator + Copy, O: Out>(
     ensures hexes { (file : List ℕ) → source.store.content ≡ Some file → Hexes file limits.name address length (O.state out.old) result.answer (O.state out.new) }
     ensures tells { Tells directly at_the_end source.store source.size (O.state out.old) result.answer (O.state out.new) }
     ensures reads { Reads source result.answer result.source }
+    ensures through { IsThrough limits source result.answer result.source }
 {
     run_source(HexEngine { address, length }, alloc, source, limits, out)
 }
@@ -111,6 +112,7 @@ fn hex_listed<S: Store + Drop, A: Allocator + Copy, O: Out>(
     ensures hexes { (file : List ℕ) → lister.old.source.store.content ≡ Some file → (left : Run) → lister.old.left ≡ Some left
         → HexesRun file left address length (O.state out.old) result (O.state out.new) }
     ensures leaves { Leaves at_the_end (O.state out.new ≡ O.state out.old) lister.old.source (O.state out.old) result lister.new.source (O.state out.new) }
+    ensures same { IsSameRun lister.old lister.new }
 {
     match list_ranges(lister) {
         Ok(()) => {}
@@ -138,6 +140,7 @@ fn put_memory<S: Store + Drop, A: Allocator + Copy, O: Out>(
     ensures hexes { (file : List ℕ) → lister.old.source.store.content ≡ Some file
         → HexesMemory file lister.old.ranges address (length bytes.new) (O.state out.old) result (O.state out.new) }
     ensures leaves { Leaves at_the_end (O.state out.new ≡ O.state out.old) lister.old.source (O.state out.old) result lister.new.source (O.state out.new) }
+    ensures same { IsSameRun lister.old lister.new }
 {
     match lister.read_address(address, bytes, known) {
         Ok(()) => {}
@@ -161,6 +164,7 @@ fn list_ranges<S: Store + Drop, A: Allocator + Copy>(
     ensures good { (file : List ℕ) → IsGood lister.old.source.store file → IfErr result (λ fault. IsOfSource fault.kind → ⊥) }
     ensures told { IfErr result (λ fault. IsToldIn lister.new.current fault lister.old.source lister.new.source) }
     ensures fetches { FetchesSome lister.old.source lister.new.source }
+    ensures same { IsSameRun lister.old lister.new }
 {
     match lister.list_into(&mut Unseen) {
         Ok(()) => Ok(()),

@@ -2,7 +2,7 @@
 ghost use Rattle.std.specs.Prelude.{◌≡◌, ◌<◌, ℕ, List, None, Some, IfSome};
 ghost use Rattle.mdmp_source.specs.Range.{IsInside};
 ghost use Rattle.mdmp_lister.specs.Format.Listing.{Run};
-ghost use Rattle.mdmp_tool.specs.Engines.{Leaves, Reads, Tells, directly, up_to_a_fault};
+ghost use Rattle.mdmp_tool.specs.Engines.{IsSameRun, IsThrough, Leaves, Reads, Tells, directly, up_to_a_fault};
 ghost use Rattle.mdmp_tool.specs.Runs.{Lists, ListsFile, ListsRun, PutsSymbols};
 ghost use Rattle.mdmp_tool.specs.Text.{symbols_of, symbols_text};
 
@@ -46,6 +46,7 @@ pub fn list_source<S: Store + Drop, A: Allocator + Copy, O: Out>(
     ensures lists { (file : List ℕ) → source.store.content ≡ Some file → Lists pdb file limits.name (O.state out.old) result.answer (O.state out.new) }
     ensures tells { Tells directly up_to_a_fault source.store source.size (O.state out.old) result.answer (O.state out.new) }
     ensures reads { Reads source result.answer result.source }
+    ensures through { IsThrough limits source result.answer result.source }
 {
     run_source(ListEngine { pdb }, alloc, source, limits, out)
 }
@@ -104,6 +105,7 @@ fn put_listing<S: Store + Drop, A: Allocator + Copy, O: Out>(
     ensures lists { (file : List ℕ) → lister.old.source.store.content ≡ Some file → (left : Run) → lister.old.left ≡ Some left
         → ListsFile pdb file lister.old.limit lister.old.header left (O.state out.old) result (O.state out.new) }
     ensures leaves { Leaves up_to_a_fault (O.state out.new ≡ O.state out.old) lister.old.source (O.state out.old) result lister.new.source (O.state out.new) }
+    ensures same { IsSameRun lister.old lister.new }
 {
     if let Err(OutFailed) = put_dump_line(&lister.header(), out) {
         return Err(ToolFault::Out);
@@ -121,6 +123,7 @@ fn list_items<S: Store + Drop, A: Allocator + Copy, O: Out>(
     ensures lists { (file : List ℕ) → lister.old.source.store.content ≡ Some file → (left : Run) → lister.old.left ≡ Some left
         → ListsRun pdb file lister.old.limit left (O.state out.old) result (O.state out.new) }
     ensures leaves { Leaves up_to_a_fault ⊥ lister.old.source (O.state out.old) result lister.new.source (O.state out.new) }
+    ensures same { IsSameRun lister.old lister.new }
 {
     loop {
         let symbols = match lister.next() {
@@ -160,6 +163,7 @@ fn put_symbols<S: Store + Drop, A: Allocator + Copy, O: Out>(
         → PutsSymbols (symbols_text file lister.old.limit symbols) (O.state out.old) result (O.state out.new) }
     ensures stays { lister.new ≡ record lister.old { source = lister.new.source; counts = lister.new.counts } }
     ensures leaves { Leaves up_to_a_fault ⊥ lister.old.source (O.state out.old) result lister.new.source (O.state out.new) }
+    ensures same { IsSameRun lister.old lister.new }
 {
     let Some(location) = symbols else {
         return Ok(());

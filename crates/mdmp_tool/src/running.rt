@@ -36,7 +36,7 @@ pub fn print_told<S: Store + Drop, A: Allocator + Copy, O: Out, B: Allocator, E:
 ) -> Ended<S>
     requires within { IsPrintable print }
     requires none { blocks.old.pending ≡ [] }
-    ensures { HasPrinted print limits.name source blocks.old.inner (E.state err.old) result.status result.source blocks.new.inner (E.state err.new) }
+    ensures { HasPrinted print limits source blocks.old.inner (E.state err.old) result.status result.source blocks.new.inner (E.state err.new) }
 {
     match print {
         Print::Check => {
@@ -75,7 +75,7 @@ pub fn copy_told<S: Store + Drop, A: Allocator + Copy, O: Out, E: Out>(
     out: &mut O,
     err: &mut E,
 ) -> Ended<S>
-    ensures { HasCopied A types limits.name source (O.state out.old) (E.state err.old) result.status result.source (O.state out.new) (E.state err.new) }
+    ensures { HasCopied A types limits source (O.state out.old) (E.state err.old) result.status result.source (O.state out.new) (E.state err.new) }
 {
     let Answered { answer, source } = copy_source(alloc, source, limits, types, out);
     Ended {

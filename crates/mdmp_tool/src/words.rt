@@ -1,9 +1,12 @@
 //! The words of the command line, run.
-ghost use Rattle.std.specs.Prelude.{◌≡◌, ◌⊎◌, ◌∷◌, []};
+ghost use Rattle.std.specs.Prelude.{codes, ◌≡◌, ◌⊎◌, ◌∷◌, []};
 ghost use Rattle.std.specs.List.{concat};
 ghost use Rattle.mdmp_source.specs.Output.{OutState};
 ghost use Rattle.mdmp_tool.specs.Commands.{IsTold};
 ghost use Rattle.mdmp_words.specs.Requests.{IsPrintable, IsValid, IsWithin};
+ghost use Rattle.mdmp_disk.specs.Disk.{DiskState};
+ghost use Rattle.mdmp_disk.specs.System.{no_requests, system};
+ghost use Rattle.mdmp_disk.specs.declared.disk.Requests.{Requests};
 ghost use Rattle.mdmp_tool.specs.Words.{EndsAsked, EndsCommand, EndsCopy, EndsPrint, EndsWords, Helps, HelpsInPart};
 
 use crate::copy::first_not_copied;
@@ -11,25 +14,18 @@ use crate::fault::ToolFault;
 use crate::line::put_error_line;
 use crate::pieces::Piece;
 use crate::running::{copy_told, print_told, tell};
+use mdmp_disk::{Disk, SystemDisk};
 use mdmp_lister::{Limits, TypeSet};
-use mdmp_source::{BlockOut, FileStore, Out, OutFailed, Source, WriteOut, write_all};
+use mdmp_source::{BlockOut, Out, OutFailed, Source, write_all};
 use mdmp_words::{Asked, Command, Print, Request, request_of};
 use std::alloc::{AllocGlobal, Allocator};
-use std::fs::OpenOptions;
 use std::rt::Files;
 
 /// How many bytes of output are gathered before they are written.
 const BLOCK: usize = 65536;
 
-/// Runs the command that the words behind the program's name ask for: `check FILE`,
-/// `list FILE [--pdb]`, `hex FILE ADDRESS LENGTH` or `copy IN OUT TYPE...`, each with `--window N` and
-/// `--name N`. All words are judged before a file is opened. `copy` makes OUT, which must not be there;
-/// after a fault OUT is left as far as it was written.
-///
-/// It writes the lines, or the help that was asked for, to `out`, and the line of a fault to `err`, and
-/// answers the exit status: 0 where all went well; 1 where the file is at fault, for `check` where an
-/// entry is; 2 where the words are, or a type is not copied; 3 where the store, the output or memory
-/// is, or a file can't be opened or made. Where `err` refuses, the answer is the same.
+/// Runs the command that the words behind the program's name ask for, over the files of the system: see
+/// [`run_on_disk`].
 pub fn run_words<R: Files + AllocGlobal, A: Allocator + Copy, O: Out, E: Out>(
     rt: &R,
     alloc: A,
@@ -37,33 +33,52 @@ pub fn run_words<R: Files + AllocGlobal, A: Allocator + Copy, O: Out, E: Out>(
     out: &mut O,
     err: &mut E,
 ) -> u8
-    ensures { EndsWords A words.now (record { out = O.state out.old; err = E.state err.old }) result (record { out = O.state out.new; err = E.state err.new }) }
+    ensures { (requests : Requests) × EndsWords A words.now (record { old = system no_requests; new = system requests }) (record { out = O.state out.old; err = E.state err.old }) result (record { out = O.state out.new; err = E.state err.new }) }
 {
-    run_asked(rt, alloc, request_of(rt.alloc(), words), out, err)
+    run_on_disk(rt, &mut SystemDisk::new(rt), alloc, words, out, err)
+}
+
+/// Runs the command that the words behind the program's name ask for: `check FILE`,
+/// `list FILE [--pdb]`, `hex FILE ADDRESS LENGTH` or `copy IN OUT TYPE...`, each with `--window N` and
+/// `--name N`. All words are judged before a file is opened. `copy` makes OUT, which must not be there;
+/// after a fault OUT is left as far as it was written. No other file is changed.
+///
+/// It writes the lines, or the help that was asked for, to `out`, and the line of a fault to `err`, and
+/// answers the exit status: 0 where all went well; 1 where the file is at fault, for `check` where an
+/// entry is; 2 where the words are, or a type is not copied; 3 where the store, the output or memory
+/// is, or a file can't be opened or made. Where `err` refuses, the answer is the same.
+pub fn run_on_disk<R: AllocGlobal, D: Disk, A: Allocator + Copy, O: Out, E: Out>(
+    rt: &R,
+    disk: &mut D,
+    alloc: A,
+    words: &[&str],
+    out: &mut O,
+    err: &mut E,
+) -> u8
+    ensures { EndsWords A words.now (record { old = D.state disk.old; new = D.state disk.new }) (record { out = O.state out.old; err = E.state err.old }) result (record { out = O.state out.new; err = E.state err.new }) }
+{
+    run_asked(disk, alloc, request_of(rt.alloc(), words), out, err)
 }
 
 /// Does what some words ask for, and answers the exit status.
-fn run_asked<R: Files, A: Allocator + Copy, O: Out, E: Out>(
-    rt: &R,
+fn run_asked<D: Disk, A: Allocator + Copy, O: Out, E: Out>(
+    disk: &mut D,
     alloc: A,
     asked: Asked<'_>,
     out: &mut O,
     err: &mut E,
 ) -> u8
     requires { IsValid asked }
-    ensures { EndsAsked A asked.entry (record { out = O.state out.old; err = E.state err.old }) result (record { out = O.state out.new; err = E.state err.new }) }
+    ensures { EndsAsked A asked.entry (record { old = D.state disk.old; new = D.state disk.new }) (record { out = O.state out.old; err = E.state err.old }) result (record { out = O.state out.new; err = E.state err.new }) }
 {
     match asked {
-        Asked::Run(request) => run_request(rt, alloc, request, out, err),
+        Asked::Run(request) => run_request(disk, alloc, request, out, err),
         Asked::Help(text) => put_help(&text, out, err),
         Asked::Refused(text) => {
             let _ = write_all(err, text.as_bytes());
             2
         }
-        Asked::Bad => {
-            let _ = put_error_line(err, &[Piece::Text("bad command line")]);
-            2
-        }
+        Asked::Bad => refuse_words(err),
         Asked::Memory => tell::<(), E>(Err(ToolFault::Memory), err),
     }
 }
@@ -80,15 +95,15 @@ fn put_help<O: Out, E: Out>(text: &str, out: &mut O, err: &mut E) -> u8
 }
 
 /// Runs a command.
-fn run_request<R: Files, A: Allocator + Copy, O: Out, E: Out>(
-    rt: &R,
+fn run_request<D: Disk, A: Allocator + Copy, O: Out, E: Out>(
+    disk: &mut D,
     alloc: A,
     request: Request<'_>,
     out: &mut O,
     err: &mut E,
 ) -> u8
     requires { IsWithin request.command }
-    ensures { EndsCommand A request.entry.command request.entry.limits.name request.entry.file.now (record { out = O.state out.old; err = E.state err.old }) result (record { out = O.state out.new; err = E.state err.new }) }
+    ensures { EndsCommand A request.entry.command request.entry.limits request.entry.file.now (record { old = D.state disk.old; new = D.state disk.new }) (record { out = O.state out.old; err = E.state err.old }) result (record { out = O.state out.new; err = E.state err.new }) }
 {
     let Request {
         file,
@@ -96,14 +111,14 @@ fn run_request<R: Files, A: Allocator + Copy, O: Out, E: Out>(
         command,
     } = request;
     match command {
-        Command::Print(print) => print_file(rt, alloc, print, limits, file, out, err),
-        Command::Copy { target, types } => copy_file(rt, alloc, types, limits, file, target, err),
+        Command::Print(print) => print_file(disk, alloc, print, limits, file, out, err),
+        Command::Copy { target, types } => copy_file(disk, alloc, types, limits, file, target, err),
     }
 }
 
 /// Prints what is asked for of the file of this name.
-fn print_file<R: Files, A: Allocator + Copy, O: Out, E: Out>(
-    rt: &R,
+fn print_file<D: Disk, A: Allocator + Copy, O: Out, E: Out>(
+    disk: &mut D,
     alloc: A,
     print: Print,
     limits: Limits,
@@ -112,9 +127,9 @@ fn print_file<R: Files, A: Allocator + Copy, O: Out, E: Out>(
     err: &mut E,
 ) -> u8
     requires { IsPrintable print }
-    ensures { EndsPrint print limits.name file.now (record { out = O.state out.old; err = E.state err.old }) result (record { out = O.state out.new; err = E.state err.new }) }
+    ensures { EndsPrint print limits file.now (record { old = D.state disk.old; new = D.state disk.new }) (record { out = O.state out.old; err = E.state err.old }) result (record { out = O.state out.new; err = E.state err.new }) }
 {
-    let Ok(store) = FileStore::open(rt, file) else {
+    let Ok(store) = disk.open(file) else {
         return refuse_name("cannot open ", file, err);
     };
     let Ok(buffer) = Vec::with_capacity(alloc, BLOCK) else {
@@ -128,8 +143,8 @@ fn print_file<R: Files, A: Allocator + Copy, O: Out, E: Out>(
 }
 
 /// Copies the streams of these types out of one file into another, which is made.
-fn copy_file<R: Files, A: Allocator + Copy, E: Out>(
-    rt: &R,
+fn copy_file<D: Disk, A: Allocator + Copy, E: Out>(
+    disk: &mut D,
     alloc: A,
     types: TypeSet,
     limits: Limits,
@@ -137,23 +152,29 @@ fn copy_file<R: Files, A: Allocator + Copy, E: Out>(
     target: &str,
     err: &mut E,
 ) -> u8
-    ensures { (out : OutState) → EndsCopy A types limits.name file.now target.now (record { out = out; err = E.state err.old }) result (record { out = out; err = E.state err.new }) }
+    ensures { (out : OutState) → EndsCopy A types limits file.now target.now (record { old = D.state disk.old; new = D.state disk.new }) (record { out = out; err = E.state err.old }) result (record { out = out; err = E.state err.new }) }
 {
     if let Some(stream_type) = first_not_copied(types.types()) {
         return tell::<(), E>(Err(ToolFault::NotCopied(stream_type)), err);
     }
-    let Ok(store) = FileStore::open(rt, file) else {
+    let Ok(original) = disk.open(file) else {
         return refuse_name("cannot open ", file, err);
     };
-    let made = OpenOptions::new()
-        .write(true)
-        .create_new(true)
-        .open(rt, target);
-    let Ok(copy) = made else {
+    let Ok(mut copy) = disk.make(target) else {
         return refuse_name("cannot create ", target, err);
     };
-    let mut copy = WriteOut::new(copy);
-    copy_told(alloc, types, Source::new(store), limits, &mut copy, err).status
+    let status = copy_told(alloc, types, Source::new(original), limits, &mut copy, err).status;
+    disk.close(target, copy);
+    status
+}
+
+/// Tells that the words of a command line are bad, and answers the exit status.
+pub(crate) fn refuse_words<E: Out>(err: &mut E) -> u8
+    ensures status { result ≡ 2 }
+    ensures told { IsTold (E.state err.old) (codes "bad command line") (E.state err.new) }
+{
+    let _ = put_error_line(err, &[Piece::Text("bad command line")]);
+    2
 }
 
 /// Tells that a file could not be opened or made, and answers the exit status.

@@ -11,6 +11,7 @@ use Rattle.mdmp_tool.specs.CheckText.{bad_count, verdict_lines}
 use Rattle.mdmp_tool.specs.CheckRuns.{CheckEnds}
 use Rattle.mdmp_tool.specs.Engines.{Leaves, Writes, past_faults}
 use Rattle.mdmp_tool.proofs.Checking.{PutsPrefix-first, StopsShort-first, bad-taken, bad_entries, lines-stopped, lines-taken, name-stopped, name-taken, told-cause, told-source}
+use Rattle.mdmp_tool.proofs.SameRuns.{run_list, run_none}
 use Rattle.mdmp_tool.proofs.check.check_listed.Goals as goal
 
 pub returns-in-Ok-clause-same_output : goal.returns-in-Ok-clause-same_output
@@ -98,3 +99,12 @@ returns-in-Err-Stopped-clause-leaves g c =
     let checks = c.in-Err-Stopped.ensures.checks in
     let cut = lines-stopped (λ lines. g.O.Out.state lines.out.now) (λ lines. lines.bad) (λ lines. lines.out.ghost_name) checks.judged _ _ (rw c.in-Err-Stopped.field-0-is at checks.handed) in
     record { good = λ file good. tt; behind = tt; reads = record { cause = tt; fetches = checks.fetches }; out_cause = cut.refused }
+
+pub returns-in-Ok-clause-same : goal.returns-in-Ok-clause-same
+returns-in-Ok-clause-same g c = run_list _ _ _ (run_none _) c.in-Ok.ensures.checks.same
+
+pub returns-in-Err-At-clause-same : goal.returns-in-Err-At-clause-same
+returns-in-Err-At-clause-same g c = run_list _ _ _ (run_none _) c.in-Err-At.ensures.checks.same
+
+pub returns-in-Err-Stopped-clause-same : goal.returns-in-Err-Stopped-clause-same
+returns-in-Err-Stopped-clause-same g c = run_list _ _ _ (run_none _) c.in-Err-Stopped.ensures.checks.same

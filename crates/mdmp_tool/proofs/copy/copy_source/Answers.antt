@@ -1,8 +1,11 @@
-use Rattle.std.proofs.Common.{◌∙◌, ap, sym}
+use Rattle.std.proofs.Common.{◌≡◌, ◌+◌, ◌*◌, ◌∙◌, ap, arith, sum, sym}
 use Rattle.mdmp_dump.specs.FileView.{file_shape}
+use Rattle.mdmp_dump.specs.FileViewLaws.{opening_told}
+use Rattle.mdmp_dump.specs.Opening.{entries_in, opened_by}
+use Rattle.mdmp_dump.specs.Shape.{Shape}
 use Rattle.mdmp_dump.proofs.Taking.{FetchesSome_then}
-use Rattle.mdmp_tool.specs.Copying.{first_not_copied}
-use Rattle.mdmp_tool.proofs.Copying.{Copies-not, Copies-refused, Copies-viewed, cause_copied, good_read, reliable_copied}
+use Rattle.mdmp_tool.specs.Copying.{first_not_copied, spent, unopened}
+use Rattle.mdmp_tool.proofs.Copying.{Copies-not, Copies-refused, Copies-viewed, cause_copied, good_read, read_unopened, reliable_copied, shape_copied}
 use Rattle.mdmp_tool.proofs.copy.copy_source.Goals as goal
 
 pub returns-in-Some-clause-copies : goal.returns-in-Some-clause-copies
@@ -40,3 +43,29 @@ returns-in-Err-clause-copies g c =
     rw c.told_reading.ensures
     (Copies-refused g.row.A.Denot c.args.source.store.content c.args.source.size c.args.types c.args.limits.name (g.O.Out.state c.args.out.now)
     (ap first_not_copied (sym c.types.ensures) ∙ sym c.in_default.ensures) c.in-Err.field-0.fault of.refuses of.refusal of.short)
+
+pub returns-in-Some-clause-spends : goal.returns-in-Some-clause-spends
+returns-in-Some-clause-spends g c = unopened tt
+
+pub returns-in-Err-clause-spends : goal.returns-in-Err-clause-spends
+returns-in-Err-clause-spends g c = rw c.told_reading.ensures (unopened (read_unopened c.args.source.size c.in-Err.field-0.fault c.in-Err.ensures.refusal))
+
+pub returns-in-Ok-clause-spends : goal.returns-in-Ok-clause-spends
+returns-in-Ok-clause-spends g c =
+    let of = c.in-Ok.ensures in
+    let view = c.in-Ok.field-0.view in
+    let after = c.write_copy.new.view in
+    let written = c.write_copy.ensures in
+    let shape = file_shape g.row.A.Denot view.walk view.counts.items view.rooms.items in
+    let later : opened_by after ≡ 32 + 12 * entries_in after + sum (file_shape g.row.A.Denot after.walk after.counts.items after.rooms.items).costs = opening_told g.row.A.Denot after.walk after.counts.items after.rooms.items in
+    let first : opened_by view ≡ 32 + 12 * entries_in view + sum shape.costs = opening_told g.row.A.Denot view.walk view.counts.items view.rooms.items in
+    let costs : sum (file_shape g.row.A.Denot after.walk after.counts.items after.rooms.items).costs ≡ sum shape.costs = ap (λ (s : Shape). sum s.costs) written.shape in
+    let entries : entries_in after ≡ entries_in view = ap (λ h. h.number_of_streams) written.moves.header in
+    spent (record {
+      shape = shape;
+      size = shape_copied shape (g.O.Out.state c.args.out.now) (g.O.Out.state c.write_copy.new.out) c.write_copy.result written.ends;
+      entries = entries_in view;
+      fetched = omega (arith, c.into_source.ensures.spent, later, costs, entries, written.moves.start, of.new.start, of.new.passed, of.new.asked, written.passed, written.asked);
+      costs = λ F known. sym first ∙ of.cost F known;
+      asks = λ F known. (of.views F known).1;
+    })

@@ -1,6 +1,7 @@
 use Rattle.mdmp_lister.specs.Format.Refusal.{opening_fault}
 use Rattle.mdmp_tool.specs.Engines.{unless_refused}
 use Rattle.mdmp_tool.proofs.BlockLemmas.{Runs-flushed, Tells-flushed}
+use Rattle.mdmp_tool.proofs.SameRuns.{through_flushed}
 use Rattle.mdmp_tool.proofs.engine.run_in_blocks.Goals as goal
 
 pub returns-clause-runs : goal.returns-clause-runs
@@ -17,3 +18,9 @@ returns-clause-tells g c =
     let flush = c.flushed.ensures in
     Tells-flushed g.E.Engine.pace c.args.source.store c.args.source.size c.args.blocks.now.inner run.new.out.inner c.flushed.new.blocks.inner c.args.blocks.now.pending run.new.out.pending c.flushed.new.blocks.pending run.result.answer c.flushed.result.answer c.requires.none
     flush.moved flush.flushed flush.ends run.ensures.tells
+
+pub returns-clause-through : goal.returns-clause-through
+returns-clause-through g c =
+    let run = c.run_source-answered in
+    rw c.flushed.ensures.source
+    (through_flushed c.args.limits c.args.source run.result.source run.result.answer c.flushed.result.answer run.new.out.inner c.flushed.new.blocks.inner c.flushed.ensures.ends run.ensures.through)

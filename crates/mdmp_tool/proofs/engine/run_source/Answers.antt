@@ -1,6 +1,11 @@
-use Rattle.std.proofs.Common.{rules, ◌≡◌, ◌∙◌, ◌+◌}
+use Rattle.std.proofs.Common.{rules, ◌≡◌, ◌∙◌, ◌+◌, ap, refl, subst}
 use Rattle.mdmp_source.specs.SourceLaws.{fetches_then}
 use Rattle.mdmp_tool.proofs.Engining.{IsQuiet-behind, IsRefusal-behind, Runs-unopened}
+use Rattle.mdmp_lister.specs.Counts.{AreHeld, AreSpent}
+use Rattle.mdmp_lister.specs.declared.counts.Counts.{Counts}
+use Rattle.mdmp_lister.specs.Lister.{Rooms}
+use Rattle.mdmp_tool.specs.Engines.{IsThrough}
+use Rattle.mdmp_tool.proofs.SameRuns.{early_opening}
 use Rattle.mdmp_tool.proofs.engine.run_source.Goals as goal
 
 pub returns-in-Err-clause-runs : goal.returns-in-Err-clause-runs
@@ -30,3 +35,23 @@ returns-clause-reads g c =
         fetches = fetches_then _ _ _ _ _ c.in-Ok.ensures.new.fetches more.fetches.fetches;
       };
     })
+
+pub returns-in-Err-clause-through : goal.returns-in-Err-clause-through
+returns-in-Err-clause-through g c =
+    let back = c.in-Err.ensures.handed_back in
+    rw c.told_opening.ensures (IsThrough.refused back.asked (early_opening g.row.E-Answer.Denot c.in-Err.refused.fault) back.bound back.inside)
+
+pub returns-clause-through : goal.returns-clause-through
+returns-clause-through g c =
+    let new = c.in-Ok.ensures.new.list in
+    let same = c.put-answer.ensures.same in
+    let counts = c.counts-counts.ensures in
+    rw c.into_source.ensures.value (IsThrough.listed (record {
+      lister = c.put-answer.new.lister;
+      window = ap (λ (r : Rooms). r.window) same.rooms ∙ new.window_room;
+      limit = same.limit ∙ new.limit_is;
+      source = refl;
+      start = same.start ∙ new.counts.start;
+      held = subst (λ (n : Counts). AreHeld c.put-answer.new.lister n) counts.value counts.held;
+      spent = subst (λ (n : Counts). AreSpent c.put-answer.new.lister n) counts.value counts.spent;
+    }))

@@ -1,6 +1,7 @@
 use Rattle.std.proofs.Common.{rules, ◌≡◌, ◌∙◌, ◌+◌, length, arith}
 use Rattle.mdmp_source.specs.SourceLaws.{fetches_then}
 use Rattle.mdmp_tool.proofs.Hexing.{HexesRun-printed}
+use Rattle.mdmp_tool.proofs.SameRuns.{run_then}
 use Rattle.mdmp_tool.proofs.hex.hex_listed.Goals as goal
 
 pub returns-clause-hexes : goal.returns-clause-hexes
@@ -23,3 +24,6 @@ returns-clause-leaves g c =
       };
       out_cause = more.out_cause;
     }
+
+pub returns-clause-same : goal.returns-clause-same
+returns-clause-same g c = run_then _ _ _ c.list_ranges.ensures.same c.put_memory.ensures.same

@@ -1,5 +1,6 @@
 use Rattle.std.proofs.Common.{◌∙◌}
 use Rattle.mdmp_tool.proofs.Hexing.{never_stopped, ranges-all}
+use Rattle.mdmp_tool.proofs.SameRuns.{run_list, run_none}
 use Rattle.mdmp_tool.proofs.hex.list_ranges.Goals as goal
 
 pub returns-in-Ok-clause-lists : goal.returns-in-Ok-clause-lists
@@ -20,3 +21,12 @@ returns-in-Err-At-clause-fetches g c = record { count = _; fetches = c.list_into
 
 pub returns-in-Err-Stopped-clause-fetches : goal.returns-in-Err-Stopped-clause-fetches
 returns-in-Err-Stopped-clause-fetches g c = record { count = _; fetches = c.list_into.ensures.runs.fetches }
+
+pub returns-in-Ok-clause-same : goal.returns-in-Ok-clause-same
+returns-in-Ok-clause-same g c = run_list _ _ _ (run_none _) c.list_into.ensures.same
+
+pub returns-in-Err-At-clause-same : goal.returns-in-Err-At-clause-same
+returns-in-Err-At-clause-same g c = run_list _ _ _ (run_none _) c.list_into.ensures.same
+
+pub returns-in-Err-Stopped-clause-same : goal.returns-in-Err-Stopped-clause-same
+returns-in-Err-Stopped-clause-same g c = run_list _ _ _ (run_none _) c.list_into.ensures.same

@@ -7,6 +7,7 @@ use Rattle.mdmp_lister.specs.Lister.{ListerState, tail}
 use Rattle.mdmp_tool.specs.Runs.{PutsSymbols}
 use Rattle.mdmp_tool.proofs.Printing.{ListsRun-end, ListsRun-fault}
 use Rattle.mdmp_tool.proofs.Symbols.{HasPrinted-symbols, Leaves-later, ListsRun-line, ListsRun-symbols, symbols_text-is}
+use Rattle.mdmp_tool.proofs.SameRuns.{run_list, run_then}
 use Rattle.mdmp_tool.proofs.list.list_items.Goals as goal
 
 pub returns-in-Ok-None-clause-lists : goal.returns-in-Ok-None-clause-lists
@@ -68,6 +69,7 @@ loop-item-preserved g c =
       going = ap (λ (v : ListerState). v.stop) told.stays ∙ (rw (c.in-Ok-Some.is, c.in-Ok-Some.field-0-is) at holds.stop);
       source = record { count = so_far.count + _ + told.leaves.reads.fetches.count; fetches = fetches_then _ _ _ _ _ read told.leaves.reads.fetches.fetches };
       limit = ap (λ (v : ListerState). v.limit) told.stays ∙ limit;
+      run = run_then _ _ _ (run_list _ _ _ c.loop-item.invariant.run holds.same) told.same;
       steady = told.leaves.out_cause ∙ c.in-Ok.ensures.steady ∙ c.loop-item.invariant.steady;
       printed = λ file content run known.
           let printed = c.loop-item.invariant.printed file content run known in
@@ -106,3 +108,15 @@ returns-in_err-put_symbols-clause-leaves g c =
     let f = c.in_err-put_symbols.field-0.0 in
     let is : c.from_residual.result ≡ Err f = search rules in
     rw is (Leaves-later _ _ _ _ _ _ _ (Err f) read (c.in-Ok.ensures.steady ∙ c.loop-item.invariant.steady) c.in_err-put_symbols.ensures.leaves)
+
+pub returns-in-Ok-None-clause-same : goal.returns-in-Ok-None-clause-same
+returns-in-Ok-None-clause-same g c = run_list _ _ _ c.loop-item.invariant.run c.next.follows.holds-at-none.list.same
+
+pub returns-in-Err-put_item_line-clause-same : goal.returns-in-Err-put_item_line-clause-same
+returns-in-Err-put_item_line-clause-same g c = run_list _ _ _ c.loop-item.invariant.run c.next.follows.holds-at-none.list.same
+
+pub returns-in-Err-clause-same : goal.returns-in-Err-clause-same
+returns-in-Err-clause-same g c = run_list _ _ _ c.loop-item.invariant.run c.next.follows.holds-at-none.list.same
+
+pub returns-in_err-put_symbols-clause-same : goal.returns-in_err-put_symbols-clause-same
+returns-in_err-put_symbols-clause-same g c = run_then _ _ _ (run_list _ _ _ c.loop-item.invariant.run c.next.follows.holds-at-none.list.same) c.in_err-put_symbols.ensures.same

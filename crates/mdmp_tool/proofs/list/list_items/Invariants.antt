@@ -1,6 +1,7 @@
 use Rattle.std.proofs.Common.{◌≡◌, ℕ, List, Some, None}
 use Rattle.mdmp_source.specs.Source.{FetchesSome}
 use Rattle.mdmp_lister.specs.Format.Listing.{Run}
+use Rattle.mdmp_tool.specs.Engines.{IsSameRun}
 use Rattle.mdmp_tool.proofs.Printing.{HasPrinted}
 use Rattle.mdmp_tool.proofs.list.list_items.Given as goal
 
@@ -10,6 +11,7 @@ invariant-loop-item g l = record {
   going : l.lister.stop ≡ None;
   source : FetchesSome l.initial.lister.source l.lister.source;
   limit : l.lister.limit ≡ l.initial.lister.limit;
+  run : IsSameRun l.initial.lister l.lister;
   steady : (g.O.Out.state l.out).failures ≡ (g.O.Out.state l.initial.out).failures;
   printed : (file : List ℕ) → l.initial.lister.source.store.content ≡ Some file → (run : Run) → l.initial.lister.left ≡ Some run
       → (left : Run) × ((l.lister.left ≡ Some left)
