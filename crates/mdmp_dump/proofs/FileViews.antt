@@ -2,8 +2,7 @@
 use Rattle.std.proofs.Common.{◌≡◌, ◌∙◌, ◌≤◌, ◌<◌, ◌+◌, ◌-◌, ◌*◌, ◌^◌, ◌==◌, ℕ, zero, suc, List, [], ◌∷◌, length, map, get_or, refl, ap, sym, subst, arith, Bool, true, false, if◌then◌else◌}
 use Rattle.std.proofs.lemmas.Bool.Decides.{nat_tests}
 use Rattle.std.proofs.Math.ListN.{get_or-map}
-use Rattle.std.specs.Prelude.{None, ◌++◌, sum}
-use Rattle.std.proofs.lemmas.List.Sums.{sum_by-cons}
+use Rattle.std.specs.Prelude.{None}
 use Rattle.mdmp_wire.specs.declared.any_record.AnyRecord.{AnyRecord}
 use Rattle.mdmp_wire.specs.declared.any_record.AnyRecord.TheVariants as any
 use Rattle.mdmp_lister.specs.Format.Listing.{Numbered}
@@ -230,24 +229,3 @@ part_each part whole first (suc (suc (suc k))) some = absurd (let h : 0 < 0 = so
 -- a pass that begins has its raw bytes inside the file
 pub raw_parts : (part : PartAt) (whole : ℕ) → IsPartIn whole part.size part.at → AreIn whole (part ∷ no_part ∷ no_part ∷ [])
 raw_parts part whole inside = (refl, part_each part whole inside)
-
--- ---- opening
-
-sum_first : (x : ℕ) (xs : List ℕ) → sum (x ∷ xs) ≡ x + sum xs
-sum_first x xs = sum_by-cons (λ (n : ℕ). n) x xs
-
-none_cost : (es : List Numbered) → costs_in es [] ≡ []
-unfolding costs_in
-none_cost [] = refl
-none_cost (e ∷ es) = refl
-
--- the costs with those of one more stream
-pub costs_push : (es : List Numbered) (ns : List ℕ) (n : ℕ) → length ns < length es
-    → sum (costs_in es (ns ++ n ∷ [])) ≡ sum (costs_in es ns) + pass_cost (get_or es (length ns) no_entry).entry n
-unfolding costs_in
-costs_push [] ns n fewer = absurd (let h : length ns < 0 = fewer in omega (arith, h))
-costs_push (e ∷ es) [] n fewer = sum_first (pass_cost e.entry n) (costs_in es []) ∙ (rw (none_cost es) (omega arith))
-costs_push (e ∷ es) (m ∷ ns) n fewer =
-    sum_first (pass_cost e.entry m) (costs_in es (ns ++ n ∷ []))
-    ∙ ap (λ (k : ℕ). pass_cost e.entry m + k) (costs_push es ns n (let h : suc (length ns) < suc (length es) = fewer in omega (arith, h)))
-    ∙ (let h : sum (pass_cost e.entry m ∷ costs_in es ns) ≡ pass_cost e.entry m + sum (costs_in es ns) = sum_first (pass_cost e.entry m) (costs_in es ns) in omega (arith, h))

@@ -1,18 +1,22 @@
 -- A view of a file that was opened.
-use Rattle.std.proofs.Common.{◌≡◌, ◌∙◌, ◌<◌, ◌+◌, ◌*◌, ◌^◌, ℕ, List, length, Option, Some, None, ap, arith, map, refl, subst, sum, sym}
+use Rattle.std.proofs.Common.{◌≡◌, ◌∙◌, ◌≤◌, ◌<◌, ◌+◌, ◌*◌, ◌^◌, ℕ, List, [], length, Option, Some, None, ap, arith, inl, inr, map, refl, subst, sum, sym}
+use Rattle.std.proofs.lemmas.Bool.{cases_lt}
 use Rattle.std.specs.Prelude.{IsTrue}
+use Rattle.mdmp_source.specs.Count.{raised}
 use Rattle.mdmp_source.specs.Source.{SourceState, FetchesSome}
 use Rattle.mdmp_source.specs.Store.{IsGood, IsOfBytes, IsSizeOf}
 use Rattle.mdmp_lister.specs.declared.choice.Choice.{Choice}
+use Rattle.mdmp_lister.specs.declared.fault.OpenFault.{OpenFault}
 use Rattle.mdmp_lister.specs.Format.Listing.{Numbered, chosen, entry_count}
 use Rattle.mdmp_lister.specs.Format.Refusal.{directory_refusal}
+use Rattle.mdmp_lister.specs.Opening.{IsHandedBackBare}
 use Rattle.mdmp_dump.specs.declared.fault.ReadFault.{ReadFault}
 use Rattle.mdmp_dump.specs.EntryWalk.{IsOpened, WalkState}
 use Rattle.mdmp_dump.specs.FileRefusal.{run_told, view_refusal}
-use Rattle.mdmp_dump.specs.FileView.{AreWalked, IsPaid, IsView, IsViewed, PaysAll, costs_in, file_shape, opening_cost, room_told, shape_by}
+use Rattle.mdmp_dump.specs.FileView.{AreWalked, IsPaid, IsView, IsViewed, PaysAll, PaysSome, costs_in, file_shape, opening_cost, pass_cost_in, room_told, shape_by}
 use Rattle.mdmp_dump.specs.InFile.{dump_in, stream_named}
 use Rattle.mdmp_dump.specs.Left.{run_of}
-use Rattle.mdmp_dump.specs.Opening.{opening_bound, pass_cost_in}
+use Rattle.mdmp_dump.specs.Opening.{HasSpentOpening, opening_bound}
 use Rattle.mdmp_dump.specs.Shape.{IsViewOf}
 use Rattle.mdmp_dump.proofs.Costs.{costs_are}
 use Rattle.mdmp_dump.proofs.Moving.{content_before, entry_stays, opening_stays}
@@ -123,3 +127,35 @@ pub run_refused : (source : SourceState) (window limit : ℕ) (choice : Choice) 
     → (fault : ReadFault) → run_told F (run_of F limit w.chosen) ≡ Some fault → view_refusal F choice limit ≡ Some fault
 run_refused source window limit choice w opened F known opens fault refused =
     opened_run F choice limit opens ∙ ap (λ (xs : List Numbered). run_told F (run_of F limit xs)) (sym (opened.chosen_are F known)) ∙ refused
+
+-- ---- what was fetched of a file that gives no view
+
+-- the header or the directory was refused
+pub head_spent : (source left : SourceState) (choice : Choice) (fault : OpenFault) → IsHandedBackBare source fault left → HasSpentOpening choice source left
+unfolding costs_in
+head_spent source left choice fault back = record {
+  entries = back.asked;
+  chosen_are = [];
+  reached = [];
+  few = omega arith;
+  fetched = omega (arith, back.fetches.fetched);
+  of_file = λ F known. omega (arith, back.known F known);
+}
+
+-- a stream was, behind some others
+module _ (source : SourceState) (window : ℕ) (choice : Choice) (w v : WalkState) (opened : IsOpened source window choice w) (some : PaysSome w v) where
+  pub walk_spent : (left : SourceState) → left.fetched ≡ raised v.start (v.fetched + v.aside) → (v.names + 1 < 2 ^ 128 → v.fetched ≤ v.allowed) → HasSpentOpening choice source left
+  walk_spent left booked most = record {
+    entries = w.header.number_of_streams;
+    chosen_are = w.chosen;
+    reached = some.reached;
+    few = opened.few;
+    fetched = elim (cases_lt (v.names + 1) (2 ^ 128)) [
+      | inl few ↦ omega (arith, booked, most few, some.pays.allowed few, opened.allowed, some.pays.aside, opened.aside, some.pays.same.start, opened.start)
+      | inr many ↦ omega (arith, many, booked, some.pays.reached, opened.names, some.pays.same.start, opened.start)
+    ];
+    of_file = λ F known.
+        let entries : w.header.number_of_streams ≡ entry_count F = ap (λ h. h.number_of_streams) (opened.header_is F known) in
+        let passes : sum (map (pass_cost_in F) w.chosen) ≡ sum (map (pass_cost_in F) (chosen F choice)) = ap (λ (xs : List Numbered). sum (map (pass_cost_in F) xs)) (opened.chosen_are F known) in
+        omega (arith, entries, passes, some.few F (opened.fetches.fetches.same_content ∙ known));
+  }

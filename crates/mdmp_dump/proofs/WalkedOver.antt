@@ -1,5 +1,5 @@
 -- A file that is walked over as a view of it is opened.
-use Rattle.std.proofs.Common.{◌≡◌, ◌∙◌, ◌<◌, ◌+◌, ◌*◌, ◌^◌, ℕ, List, [], ◌∷◌, ◌++◌, length, get_or, take, Some, None, Result, Ok, Err, ap, arith, inl, inr, refl, subst, sym, sum, length-append}
+use Rattle.std.proofs.Common.{◌≡◌, ◌∙◌, ◌<◌, ◌≤◌, ◌+◌, ◌*◌, ◌^◌, ℕ, List, [], ◌∷◌, ◌++◌, length, get_or, take, Some, None, Result, Ok, Err, ap, arith, inl, inr, refl, subst, sym, sum, length-append}
 use Rattle.std.proofs.lemmas.Bool.{cases_lt}
 use Rattle.std.proofs.lemmas.List.{get_or_append_left, get_or_push}
 use Rattle.mdmp_lister.specs.Format.Listing.{Numbered}
@@ -10,14 +10,14 @@ use Rattle.mdmp_dump.specs.declared.view.Fields.{Fields}
 use Rattle.mdmp_dump.specs.EntryWalk.{Begins, FindsRow, GivesNext, IsSameWalk, Pays, WalkState, entry_at, listed, name_cost, no_entry, pass_cost}
 use Rattle.mdmp_dump.specs.FileRefusal.{body_told, entry_told, run_told}
 use Rattle.mdmp_dump.specs.Left.{run_of}
-use Rattle.mdmp_dump.specs.FileView.{AreWalked, HasWalked, PaysAll, costs_in, room_told, stream_of}
+use Rattle.mdmp_dump.specs.FileView.{AreWalked, HasWalked, PaysAll, PaysSome, PaysUpTo, costs_in, count_in, room_told, stream_of}
 use Rattle.mdmp_dump.specs.FoundRecord.{fields_of}
 use Rattle.mdmp_dump.specs.InFile.{stream_named}
 use Rattle.mdmp_dump.specs.Placed.{far_room, fields_room}
 use Rattle.mdmp_dump.specs.Reading.{Fetches, IsOwn}
 use Rattle.mdmp_dump.specs.Shape.{parts_in, record_at, told}
 use Rattle.mdmp_dump.specs.View.{kind_in, records_seen}
-use Rattle.mdmp_dump.proofs.FileViews.{costs_push}
+use Rattle.mdmp_dump.proofs.Costs.{costs_most, costs_push}
 use Rattle.mdmp_dump.proofs.Refusals.{count_refused, entry_begins, one_told, row_passed, row_refused, rows_passed}
 use Rattle.mdmp_dump.proofs.Taking.{FetchesSome_none, FetchesSome_then, fetches_err}
 use Rattle.mdmp_dump.proofs.Viewed.{records_are, rooms_all, rooms_none, rooms_step, row_seen}
@@ -81,6 +81,13 @@ module _ (Z : Type 0) (limit : ℕ) (old : WalkState) (k : ℕ) where
     };
   }
 
+  pub unbegun_paid : (fault : ReadFault) (now : WalkState) → Begins old k (Err fault) now → PaysUpTo k old now
+  unbegun_paid fault now begins = record {
+    reached = 0;
+    pays = subst (λ (b : ℕ). Pays (listed (entry_at old k).entry) b old now) (no_more (name_cost (entry_at old k).entry.stream_type)) begins.pays;
+    few = λ F known. omega arith;
+  }
+
   pub walking_unbegun : (fault : ReadFault) (now : WalkState) → Begins old k (Err fault) now → (F : List ℕ) → old.source.store.content ≡ Some F → HasWalked Z F limit old k (Err fault)
   walking_unbegun fault now begins F known = λ own.
       let told = begins.of_file F known own in
@@ -98,15 +105,20 @@ module _ (Z : Type 0) (limit : ℕ) (old : WalkState) (k : ℕ) where
         let same : found.0 ≡ index = omega (arith, whole, walking.left) in
         subst (λ (i : ℕ). FindsRow F limit (entry_at old k) i result) same (subst (λ (x : Numbered). FindsRow F limit x found.0 result) walking.current found.1.1)
 
-    pub walking_goes : (f : FoundRecord) (g : Fields) (met : ℕ) → GivesNext now limit (Ok f) next → index < count → g ≡ fields_of f → met ≡ told (told (room + fields_room g) + far_room g)
-        → IsWalking Z limit old k count next (index + 1) met
-    walking_goes f g met gives fewer same sum =
+    -- one record more was reached
+    row_paid : (result : Result FoundRecord ReadFault) → GivesNext now limit result next → Pays (listed (entry_at old k).entry) ((index + 1) * name_cost (entry_at old k).entry.stream_type) old next
+    row_paid result gives =
         let cost = name_cost (entry_at old k).entry.stream_type in
         let pays : Pays 0 cost now next = subst (λ (x : Numbered). Pays 0 (name_cost x.entry.stream_type) now next) walking.current gives.pays in
         let both : Pays (listed (entry_at old k).entry + 0) (index * cost + cost) old next = pays_then (listed (entry_at old k).entry) (index * cost) 0 cost old now next walking.pays pays in
         let bytes : listed (entry_at old k).entry + 0 ≡ listed (entry_at old k).entry = omega arith in
+        subst (λ (a : ℕ). Pays a ((index + 1) * cost) old next) bytes (subst (λ (b : ℕ). Pays (listed (entry_at old k).entry + 0) b old next) (sym (one_more index cost)) both)
+
+    pub walking_goes : (f : FoundRecord) (g : Fields) (met : ℕ) → GivesNext now limit (Ok f) next → index < count → g ≡ fields_of f → met ≡ told (told (room + fields_room g) + far_room g)
+        → IsWalking Z limit old k count next (index + 1) met
+    walking_goes f g met gives fewer same sum =
         record {
-          pays = subst (λ (a : ℕ). Pays a ((index + 1) * cost) old next) bytes (subst (λ (b : ℕ). Pays (listed (entry_at old k).entry + 0) b old next) (sym (one_more index cost)) both);
+          pays = row_paid (Ok f) gives;
           current = gives.goes.0 ∙ walking.current;
           left = omega (arith, walking.left, gives.goes.1);
           few = walking.few;
@@ -127,8 +139,12 @@ module _ (Z : Type 0) (limit : ℕ) (old : WalkState) (k : ℕ) where
         let of = walking.of_file F known in
         of.quiet ∙ row_refused F limit (entry_at old k) count of.counted index fault (row_next (Err fault) gives F known) own
 
-    pub walking_same : (fault : ReadFault) → GivesNext now limit (Err fault) next → IsSameWalk old next
-    walking_same fault gives = same_then old now next walking.pays.same gives.pays.same
+    pub walking_paid : (fault : ReadFault) → GivesNext now limit (Err fault) next → index < count → PaysUpTo k old next
+    walking_paid fault gives fewer = record {
+      reached = index + 1;
+      pays = row_paid (Err fault) gives;
+      few = λ F known. omega (arith, fewer, ap count_in (walking.of_file F known).counted);
+    }
 
     pub walking_fetches : {T : Type 0} (fault : ReadFault) → GivesNext now limit (Err fault) next → Fetches {T = T} (Err fault) old.source next.source
     walking_fetches {T = T} fault gives = fetches_err old.source now.source next.source walking.pays.same.fetches fault gives.fetches
@@ -167,15 +183,22 @@ each_push P ns n each last k inside = elim (cases_lt k (length ns)) [
       subst (λ (i : ℕ). P i (get_or (ns ++ n ∷ []) i 0)) (sym same) (subst (P (length ns)) (sym (get_or_push ns n 0 (length ns) refl)) last)
 ]
 
+-- none was walked over
+none_walked : (w : WalkState) → PaysAll [] w w
+none_walked w = record {
+  same = record { header = refl; choice = refl; chosen = refl; held = refl; start = refl; fetches = FetchesSome_none w.source };
+  aside = refl;
+  allowed = λ few. omega (arith, none_cost_sum w.chosen);
+  reached = omega (arith, none_cost_sum w.chosen);
+}
+
+pub none_paid : (w : WalkState) → PaysSome w w
+none_paid w = record { reached = []; pays = none_walked w; few = λ F known. omega (arith, none_cost_sum w.chosen) }
+
 module _ (Z : Type 0) (limit : ℕ) (old : WalkState) where
   pub all_begin : old.failed ≡ None → AreWalking Z limit old old [] [] 0
   all_begin going = record {
-    pays = record {
-      same = record { header = refl; choice = refl; chosen = refl; held = refl; start = refl; fetches = FetchesSome_none old.source };
-      aside = refl;
-      allowed = λ few. omega (arith, none_cost_sum old.chosen);
-      reached = omega (arith, none_cost_sum old.chosen);
-    };
+    pays = none_walked old;
     counted = refl;
     roomed = refl;
     going = going;
@@ -193,29 +216,38 @@ module _ (Z : Type 0) (limit : ℕ) (old : WalkState) where
     file_now : (F : List ℕ) → old.source.store.content ≡ Some F → now.source.store.content ≡ Some F
     file_now F known = walking.pays.same.fetches.fetches.same_content ∙ known
 
-    pub one_walked : (n r : ℕ) → Pays (listed (entry_at now k).entry) (n * name_cost (entry_at now k).entry.stream_type) now next → next.failed ≡ None
-        → ((F : List ℕ) → now.source.store.content ≡ Some F → HasWalked Z F limit now k (Ok (record { count = n; room = r }))) → (counts_new rooms_new : List ℕ) → counts_new ≡ counts ++ n ∷ [] → rooms_new ≡ rooms ++ r ∷ []
-        → AreWalking Z limit old next counts_new rooms_new (k + 1)
-    one_walked n r pays going of counts_new rooms_new pushed also =
+    -- one stream more was walked over, or a part of it
+    one_pays : (n : ℕ) → Pays (listed (entry_at now k).entry) (n * name_cost (entry_at now k).entry.stream_type) now next → (counts_new : List ℕ) → counts_new ≡ counts ++ n ∷ [] → PaysAll counts_new old next
+    one_pays n pays counts_new pushed =
         let e : Numbered → ℕ = λ (x : Numbered). listed x.entry + n * name_cost x.entry.stream_type in
         let cost : listed (entry_at now k).entry + n * name_cost (entry_at now k).entry.stream_type ≡ pass_cost (get_or old.chosen (length counts) no_entry).entry n =
         ap e entry_now ∙ ap (λ (i : ℕ). e (get_or old.chosen i no_entry)) (sym walking.counted) in
         let sums : sum (costs_in old.chosen counts_new) ≡ sum (costs_in old.chosen counts) + pass_cost (get_or old.chosen (length counts) no_entry).entry n =
         ap (λ (ns : List ℕ). sum (costs_in old.chosen ns)) pushed ∙ costs_push old.chosen counts n (omega (arith, inside, walking.counted)) in
         record {
-          pays = record {
-            same = same_then old now next walking.pays.same pays.same;
-            aside = pays.aside ∙ walking.pays.aside;
-            allowed = λ few. (let first = walking.pays.allowed (omega (arith, few, pays.more)) in let then = pays.allowed few in omega (arith, first, then, sums, cost));
-            reached = omega (arith, walking.pays.reached, pays.reached, sums, cost);
-          };
+          same = same_then old now next walking.pays.same pays.same;
+          aside = pays.aside ∙ walking.pays.aside;
+          allowed = λ few. (let first = walking.pays.allowed (omega (arith, few, pays.more)) in let then = pays.allowed few in omega (arith, first, then, sums, cost));
+          reached = omega (arith, walking.pays.reached, pays.reached, sums, cost);
+        }
+
+    -- the entry behind those that were counted
+    entry_here : entry_at now k ≡ entry_at old (length counts)
+    entry_here = entry_now ∙ ap (entry_at old) (sym walking.counted)
+
+    pub one_walked : (n r : ℕ) → Pays (listed (entry_at now k).entry) (n * name_cost (entry_at now k).entry.stream_type) now next → next.failed ≡ None
+        → ((F : List ℕ) → now.source.store.content ≡ Some F → HasWalked Z F limit now k (Ok (record { count = n; room = r }))) → (counts_new rooms_new : List ℕ) → counts_new ≡ counts ++ n ∷ [] → rooms_new ≡ rooms ++ r ∷ []
+        → AreWalking Z limit old next counts_new rooms_new (k + 1)
+    one_walked n r pays going of counts_new rooms_new pushed also =
+        record {
+          pays = one_pays n pays counts_new pushed;
           counted = ap (λ (ns : List ℕ). length ns) pushed ∙ length-append counts (n ∷ []) ∙ ap (λ (i : ℕ). i + 1) walking.counted;
           roomed = ap (λ (ns : List ℕ). length ns) also ∙ length-append rooms (r ∷ []) ∙ ap (λ (i : ℕ). i + 1) walking.roomed;
           going = going;
           of_file = λ F known.
               let before = walking.of_file F known in
               let one = of F (file_now F known) in
-              let here : entry_at now k ≡ entry_at old (length counts) = entry_now ∙ ap (entry_at old) (sym walking.counted) in
+              let here = entry_here in
               let rooms_same : length rooms ≡ length counts = walking.roomed ∙ sym walking.counted in
               rw (pushed, also) (record {
                 counted = each_push (λ i m. record_count F (entry_at old i).entry ≡ Ok m) counts n before.counted (subst (λ (x : Numbered). record_count F x.entry ≡ Ok n) here one.0);
@@ -235,8 +267,16 @@ module _ (Z : Type 0) (limit : ℕ) (old : WalkState) where
         (λ i before. (walking.of_file F known).quiet i (omega (arith, before, walking.counted))) inside
         (subst (λ (x : Numbered). entry_told F limit x ≡ Some fault) entry_now (of F (file_now F known) own))
 
-    pub one_same : IsSameWalk now next → IsSameWalk old next
-    one_same same = same_then old now next walking.pays.same same
+    pub one_paid : PaysUpTo k now next → PaysSome old next
+    one_paid up = record {
+      reached = counts ++ up.reached ∷ [];
+      pays = one_pays up.reached up.pays (counts ++ up.reached ∷ []) refl;
+      few = λ F known.
+          costs_most F old.chosen (counts ++ up.reached ∷ [])
+          (each_push (λ i m. m ≤ count_in (record_count F (entry_at old i).entry)) counts up.reached
+          (λ i before. omega (arith, ap count_in ((walking.of_file F known).counted i before)))
+          (subst (λ (x : Numbered). up.reached ≤ count_in (record_count F x.entry)) entry_here (up.few F (file_now F known))));
+    }
 
     pub one_fetches : {T U : Type 0} (fault : ReadFault) → Fetches {T = T} (Err fault) now.source next.source → Fetches {T = U} (Err fault) old.source next.source
     one_fetches fault fetches = fetches_err old.source now.source next.source walking.pays.same.fetches fault fetches

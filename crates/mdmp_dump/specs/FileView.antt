@@ -17,7 +17,7 @@ use Rattle.mdmp_dump.specs.declared.view.Kind.{Kind}
 use Rattle.mdmp_dump.specs.declared.view.Kind.TheVariants as kinds
 use Rattle.mdmp_dump.specs.declared.view.ViewFault.{ViewFault}
 use Rattle.mdmp_dump.specs.declared.view.ViewFault.TheVariants as view
-use Rattle.mdmp_dump.specs.EntryWalk.{IsSameWalk, WalkState, entry_at, kind_by, name_cost, pass_cost, raw_part}
+use Rattle.mdmp_dump.specs.EntryWalk.{IsSameWalk, Pays, WalkState, entry_at, kind_by, listed, name_cost, pass_cost, raw_part}
 use Rattle.mdmp_dump.specs.FileRefusal.{body_told, entry_told, view_refusal}
 use Rattle.mdmp_dump.specs.FoundRecord.{AreIn, no_part}
 use Rattle.mdmp_dump.specs.InFile.{dump_in, stream_named}
@@ -31,6 +31,15 @@ use Rattle.mdmp_dump.specs.View.{dump_seen, kind_in, records_seen}
 unfoldable pub costs_in : List Numbered → List ℕ → List ℕ
 costs_in (x ∷ xs) (n ∷ ns) = pass_cost x.entry n ∷ costs_in xs ns
 costs_in xs ns = []
+
+-- how many records were told
+abbrev pub count_in : {X : Type 0} → Result ℕ X → ℕ
+count_in (Ok n) = n
+count_in (Err fault) = 0
+
+-- a pass over a stream of F: its bytes, where its records are known, and the length of each name that they may have
+abbrev pub pass_cost_in : List ℕ → Numbered → ℕ
+pass_cost_in F x = pass_cost x.entry (count_in (record_count F x.entry))
 
 -- ---- of unknown content
 
@@ -195,6 +204,18 @@ pub record PaysAll (counts : List ℕ) (old new : WalkState) : Type 0 where
   pub aside : new.aside ≡ old.aside
   pub allowed : new.names + 1 < 2 ^ 128 → new.allowed ≤ old.allowed + sum (costs_in old.chosen counts)
   pub reached : 4 * new.names ≤ 4 * old.names + sum (costs_in old.chosen counts)
+
+-- a stream was walked over up to what is refused: so many records were reached, of a known file no more than it has
+pub record PaysUpTo (k : ℕ) (old new : WalkState) : Type 0 where
+  pub reached : ℕ
+  pub pays : Pays (listed (entry_at old k).entry) (reached * name_cost (entry_at old k).entry.stream_type) old new
+  pub few : (F : List ℕ) → old.source.store.content ≡ Some F → reached ≤ count_in (record_count F (entry_at old k).entry)
+
+-- the streams were, up to one of them
+pub record PaysSome (old new : WalkState) : Type 0 where
+  pub reached : List ℕ
+  pub pays : PaysAll reached old new
+  pub few : (F : List ℕ) → old.source.store.content ≡ Some F → sum (costs_in old.chosen reached) ≤ sum (map (pass_cost_in F) old.chosen)
 
 -- a stream of F was walked over: it has as many records as were counted, whose names and parts take what is told; or the
 -- first refusal among them is told

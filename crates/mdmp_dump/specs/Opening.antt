@@ -1,29 +1,31 @@
 -- A view of a file as those see it who open it.
-use Rattle.std.specs.Prelude.{◌≡◌, ◌+◌, ◌*◌, ℕ, List, None, Result, Ok, Err, map, sum}
+use Rattle.std.specs.Prelude.{◌≡◌, ◌≤◌, ◌+◌, ◌*◌, ℕ, List, None, Some, length, map, sum}
 use Rattle.mdmp_source.specs.Count.{raised}
 use Rattle.mdmp_source.specs.Source.{SourceState, FetchesSome}
 use Rattle.mdmp_source.specs.declared.store.Store.{Ghosts}
 use Rattle.mdmp_lister.specs.declared.choice.Choice.{Choice}
 use Rattle.mdmp_lister.specs.Format.Listing.{Numbered, chosen, entry_count}
-use Rattle.mdmp_lister.specs.Format.Shape.{record_count}
 use Rattle.mdmp_dump.specs.declared.file_view.FileView.{FileView}
-use Rattle.mdmp_dump.specs.EntryWalk.{pass_cost}
-use Rattle.mdmp_dump.specs.FileView.{opening_cost}
+use Rattle.mdmp_dump.specs.FileView.{costs_in, opening_cost, pass_cost_in}
 
 -- ---- what a known file costs
-
--- how many records were told
-abbrev pub count_in : {X : Type 0} → Result ℕ X → ℕ
-count_in (Ok n) = n
-count_in (Err fault) = 0
-
--- a pass over a stream of F: its bytes, where its records are known, and the length of each name that they may have
-abbrev pub pass_cost_in : List ℕ → Numbered → ℕ
-pass_cost_in F x = pass_cost x.entry (count_in (record_count F x.entry))
 
 -- what opening a view of F may fetch: the header, the directory, and one pass over each chosen stream
 abbrev pub opening_bound : List ℕ → Choice → ℕ
 opening_bound F choice = 32 + 12 * entry_count F + sum (map (pass_cost_in F) (chosen F choice))
+
+-- ---- what a file costs that gives no view
+
+-- the header was fetched, so many entries of the directory, and, of those that are chosen, a pass over each stream up to the
+-- one that is refused: so many records of each were reached
+pub record HasSpentOpening (choice : Choice) (old new : SourceState) : Type 0 where
+  pub entries : ℕ
+  pub chosen_are : List Numbered
+  pub reached : List ℕ
+  pub few : length chosen_are ≤ entries
+  pub fetched : new.fetched ≤ old.fetched + (32 + 12 * entries + sum (costs_in chosen_are reached))
+  -- of a known file that is no more than what opening it may fetch
+  pub of_file : (file : List ℕ) → old.store.content ≡ Some file → 32 + 12 * entries + sum (costs_in chosen_are reached) ≤ opening_bound file choice
 
 -- ---- what is seen of a view
 

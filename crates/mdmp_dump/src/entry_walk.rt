@@ -9,6 +9,7 @@ ghost use Rattle.mdmp_lister.specs.Format.Listing.{entry_of};
 ghost use Rattle.mdmp_lister.specs.Lister.{IsSameLister};
 ghost use Rattle.mdmp_dump.specs.Walking.{IsFar, IsKept, IsPlace, IsPlaceOf, chosen_of, left_of, state_of};
 ghost use Rattle.mdmp_dump.specs.FileRefusal.{IsViewRefusal, view_refusal};
+ghost use Rattle.mdmp_dump.specs.Opening.{HasSpentOpening};
 ghost use Rattle.mdmp_dump.specs.Reading.{Fetches, IsOwn};
 
 use crate::fault::ReadFault;
@@ -74,6 +75,7 @@ impl<S: Store + Drop, A: Allocator + Copy> EntryWalk<S, A> {
         ensures cause { IfErr result (λ refused. Fetches {T = Unit {0}} (Err refused.fault) source refused.source) }
         ensures refusal { IfErr result (λ refused. IsViewRefusal source.size refused.fault) }
         ensures short { source.size < 32 → MatchResult result (λ _. ⊥) (λ refused. refused.fault ≡ ReadFault.Opening (OpenFault.TooShort source.size)) }
+        ensures spends { IfErr result (λ refused. HasSpentOpening choice source refused.source) }
     {
         let nameless = Limits {
             window: limits.window,

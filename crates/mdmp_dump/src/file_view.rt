@@ -35,7 +35,7 @@ impl<S: Store + Drop, A: Allocator + Copy> FileView<S, A> {
     ghost use Rattle.mdmp_dump.specs.FileRefusal.{IsViewRefusal, view_refusal};
     ghost use Rattle.mdmp_dump.specs.InFile.{dump_in};
     ghost use Rattle.mdmp_dump.specs.LaysOut.{LaysOut};
-    ghost use Rattle.mdmp_dump.specs.Opening.{IsNewView, fetched_by, held_by, opened_by, opening_bound, source_in, started_by};
+    ghost use Rattle.mdmp_dump.specs.Opening.{HasSpentOpening, IsNewView, fetched_by, held_by, opened_by, opening_bound, source_in, started_by};
     ghost use Rattle.mdmp_dump.specs.Reading.{Settles};
     ghost use Rattle.mdmp_dump.specs.Shape.{IsViewOf};
 
@@ -79,6 +79,7 @@ impl<S: Store + Drop, A: Allocator + Copy> FileView<S, A> {
         ensures short { source.size < 32 → MatchResult result (λ _. ⊥) (λ refused. refused.fault ≡ ReadFault.Opening (OpenFault.TooShort source.size)) }
         ensures new { IfOk result (IsNewView source limits.window) }
         ensures cost { (file : List ℕ) → source.store.content ≡ Some file → IfOk result (λ view. opened_by view ≡ opening_bound file choice) }
+        ensures spends { IfErr result (λ refused. HasSpentOpening choice source refused.source) }
         ensures reliable { (file : List ℕ) → IsGood source.store file → IfOk result (λ view. IsTrue (⟦<FileView<S, A> as DumpView>⟧.shape view).is_reliable) }
     {
         let mut walk = match EntryWalk::open(alloc, source, limits, choice) {
@@ -100,10 +101,14 @@ impl<S: Store + Drop, A: Allocator + Copy> FileView<S, A> {
                 asked: 0,
                 last: None,
             }),
-            Err(fault) => Err(ViewRefused {
-                fault,
-                source: walk.into_source(),
-            }),
+            Err(fault) => {
+                // The proof learns here how much that is at most.
+                let _fetched = walk.fetched();
+                Err(ViewRefused {
+                    fault,
+                    source: walk.into_source(),
+                })
+            }
         }
     }
 

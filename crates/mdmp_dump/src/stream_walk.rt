@@ -1,7 +1,7 @@
 //! The walk over all streams of a file, as a view of it is opened.
 ghost use Rattle.std.specs.Prelude.{◌≡◌, ◌≤◌, ◌<◌, ◌*◌, ℕ, List, length, None, Some, Err, IfErr, IfOk, MatchResult, vec_len};
-ghost use Rattle.mdmp_dump.specs.EntryWalk.{IsSameWalk, Pays, entry_at, listed, name_cost};
-ghost use Rattle.mdmp_dump.specs.FileView.{AreWalked, HasWalked, PaysAll};
+ghost use Rattle.mdmp_dump.specs.EntryWalk.{Pays, entry_at, listed, name_cost};
+ghost use Rattle.mdmp_dump.specs.FileView.{AreWalked, HasWalked, PaysAll, PaysSome, PaysUpTo};
 ghost use Rattle.mdmp_dump.specs.FileRefusal.{IsOfWalk, run_told};
 ghost use Rattle.mdmp_dump.specs.Left.{run_of};
 ghost use Rattle.mdmp_dump.specs.Reading.{Fetches, IsOwn};
@@ -29,7 +29,7 @@ fn walk_stream<S: Store + Drop, A: Allocator + Copy>(
     requires going { walk.old.failed ≡ None }
     ensures pays { MatchResult result
         (λ walked. Pays (listed (entry_at walk.old stream).entry) (walked.count * name_cost (entry_at walk.old stream).entry.stream_type) walk.old walk.new)
-        (λ _. IsSameWalk walk.old walk.new) }
+        (λ _. PaysUpTo stream walk.old walk.new) }
     ensures goes { IfOk result (λ _. walk.new.failed ≡ None) }
     ensures told { IfErr result IsOfWalk }
     ensures of_file { (file : List ℕ) → walk.old.source.store.content ≡ Some file → HasWalked A file limit walk.old stream result }
@@ -64,7 +64,7 @@ pub(crate) fn walk_all<S: Store + Drop, A: Allocator + Copy>(
 ) -> Result<Kept<A>, ReadFault>
     requires going { walk.old.failed ≡ None }
     requires few { length walk.old.chosen ≤ walk.old.header.number_of_streams }
-    ensures pays { MatchResult result (λ kept. PaysAll kept.counts.items walk.old walk.new) (λ _. IsSameWalk walk.old walk.new) }
+    ensures pays { MatchResult result (λ kept. PaysAll kept.counts.items walk.old walk.new) (λ _. PaysSome walk.old walk.new) }
     ensures counts { IfOk result (λ kept. (length kept.counts.items ≡ length walk.old.chosen) × (length kept.rooms.items ≡ length walk.old.chosen)) }
     ensures goes { IfOk result (λ _. walk.new.failed ≡ None) }
     ensures told { IfErr result IsOfWalk }

@@ -1,5 +1,5 @@
 -- What a copy does, from its parts.
-use Rattle.std.proofs.Common.{◌≡◌, ◌⊎◌, ◌∙◌, ◌+◌, ◌<◌, ◌≤◌, ℕ, List, [], Option, Some, None, true, false, inl, inr, refl, ap, drop, length, slice_index_or, subst, sym}
+use Rattle.std.proofs.Common.{◌≡◌, ◌⊎◌, ◌∙◌, ◌+◌, ◌<◌, ◌≤◌, ℕ, List, [], Option, Some, None, true, false, inl, inr, refl, ap, arith, drop, length, slice_index_or, subst, sym}
 use Rattle.std.specs.Prelude.{Result, Ok, Err, IfSome, IsTrue}
 use Rattle.std.proofs.lemmas.List.{drop_more}
 use Rattle.std.proofs.lemmas.Option.{none-some}
@@ -9,6 +9,7 @@ use Rattle.mdmp_source.specs.Source.{SourceState, FetchesSome}
 use Rattle.mdmp_source.specs.SourceLaws.{told_later}
 use Rattle.mdmp_source.specs.declared.fault.SourceFault.{SourceFault}
 use Rattle.mdmp_source.specs.declared.fault.SourceFault.TheVariants.{Changed, Failed, ShortRead}
+use Rattle.mdmp_lister.specs.declared.choice.Choice.{Choice}
 use Rattle.mdmp_lister.specs.declared.choice.Choice.TheVariants.{Types}
 use Rattle.mdmp_lister.specs.declared.fault.FaultKind.{FaultKind}
 use Rattle.mdmp_lister.specs.declared.fault.FaultKind.TheVariants as kinds
@@ -23,9 +24,10 @@ use Rattle.mdmp_dump.specs.declared.view.ViewFault.{ViewFault}
 use Rattle.mdmp_dump.specs.declared.view.ViewFault.TheVariants as view
 use Rattle.mdmp_dump.specs.EntryWalk.{WalkState}
 use Rattle.mdmp_dump.specs.FileRefusal.{IsViewRefusal, view_refusal}
-use Rattle.mdmp_dump.specs.FileView.{HasMoved, source_fault}
+use Rattle.mdmp_dump.specs.FileView.{HasMoved, costs_in, source_fault}
 use Rattle.mdmp_dump.specs.InFile.{dump_in}
 use Rattle.mdmp_dump.specs.LaysOut.{LaysOut}
+use Rattle.mdmp_dump.specs.Opening.{HasSpentOpening}
 use Rattle.mdmp_dump.specs.Reading.{IsLastTold, IsOwn, store_fault, store_fault_in}
 use Rattle.mdmp_dump.specs.Shape.{Shape}
 use Rattle.mdmp_tool.specs.declared.fault.ToolFault.{ToolFault}
@@ -93,6 +95,11 @@ read_unopened size (reads.PartsTooLarge e k) refusal = absurd refusal
 read_unopened size reads.Memory refusal = tt
 read_unopened size (reads.Source fault) refusal = tt
 read_unopened size fault refusal = tt
+
+-- nothing was fetched of a source that is as it was
+pub unspent : (source : SourceState) (choice : Choice) → HasSpentOpening choice source source
+unfolding costs_in
+unspent source choice = record { entries = 0; chosen_are = []; reached = []; few = omega arith; fetched = omega arith; of_file = λ F known. omega arith }
 
 -- what was written fits the shape
 pub shape_copied : (shape : Shape) (before after : OutState) (r : Result ℕ ToolFault) → IsShapeCopied shape before r after → IsOfShape shape r

@@ -15,7 +15,7 @@ use Rattle.mdmp_dump.specs.declared.view.ViewFault.TheVariants as view
 use Rattle.mdmp_dump.specs.FileRefusal.{view_refusal}
 use Rattle.mdmp_dump.specs.InFile.{dump_in}
 use Rattle.mdmp_dump.specs.LaysOut.{LaysOut}
-use Rattle.mdmp_dump.specs.Opening.{opening_bound}
+use Rattle.mdmp_dump.specs.Opening.{HasSpentOpening, opening_bound}
 use Rattle.mdmp_dump.specs.Shape.{IsViewOf, Shape}
 use Rattle.mdmp_writer.specs.Layout.{layout_fault, shape_fault, size_answer, written_size}
 use Rattle.mdmp_writer.specs.Passes.{all_asks, all_costs}
@@ -125,8 +125,9 @@ pub record HasSpent (Z : Type 0) (types : List ℕ) (old : SourceState) (answer 
   pub costs : (file : List ℕ) → old.store.content ≡ Some file → 32 + 12 * entries + all_costs shape ≡ opening_bound file (Types types)
   pub asks : (file : List ℕ) → old.store.content ≡ Some file → IsViewOf (dump_in {Z = Z} file (Types types)) shape
 
+-- where none was opened, no more than for the opening of one
 pub data SpendsCopy (Z : Type 0) (types : List ℕ) (old : SourceState) (answer : Result ℕ ToolFault) (new : SourceState) : Type 0 where
-  unopened : IsUnopened answer → SpendsCopy Z types old answer new
+  unopened : IsUnopened answer → HasSpentOpening (Types types) old new → SpendsCopy Z types old answer new
   spent : HasSpent Z types old answer new → SpendsCopy Z types old answer new
 
 -- ---- of a file that is known

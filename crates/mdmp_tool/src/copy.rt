@@ -8,7 +8,7 @@ ghost use Rattle.mdmp_dump.specs.declared.fault.ReadFault.TheVariants.{Opening};
 ghost use Rattle.mdmp_dump.specs.FileRefusal.{IsViewRefusal, view_refusal};
 ghost use Rattle.mdmp_dump.specs.InFile.{dump_in};
 ghost use Rattle.mdmp_dump.specs.LaysOut.{LaysOut};
-ghost use Rattle.mdmp_dump.specs.Opening.{IsNewView, entries_in, held_by, opened_by, opening_bound};
+ghost use Rattle.mdmp_dump.specs.Opening.{HasSpentOpening, IsNewView, entries_in, held_by, opened_by, opening_bound};
 ghost use Rattle.mdmp_dump.specs.Reading.{Fetches, IsOwn};
 ghost use Rattle.mdmp_dump.specs.Shape.{IsViewOf};
 ghost use Rattle.mdmp_writer.specs.Passes.{all_asks, all_costs};
@@ -135,6 +135,7 @@ fn open_copy<S: Store + Drop, A: Allocator + Copy>(
     ensures reliable { (file : List ℕ) → IsGood source.store file → IfOk result (λ copying. IsTrue (⟦<FileView<S, A> as DumpView>⟧.shape copying.view).is_reliable) }
     ensures buffer { IfOk result (λ copying. length copying.buffer.items ≡ limits.window) }
     ensures cost { (file : List ℕ) → source.store.content ≡ Some file → IfOk result (λ copying. opened_by copying.view ≡ opening_bound file (Types types)) }
+    ensures spends { IfErr result (λ refused. HasSpentOpening (Types types) source refused.source) }
     ensures held { IfOk result (λ copying. held_by copying.view + length copying.buffer.items ≡ 2 * limits.window + 24 * entries_in copying.view) }
 {
     let choice = Choice::Types(types);

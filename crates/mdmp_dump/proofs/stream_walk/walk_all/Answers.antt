@@ -1,7 +1,13 @@
 use Rattle.std.proofs.Common.{◌≡◌, ◌<◌, length, ap, arith}
 use Rattle.mdmp_wire.specs.declared.header.Header.{Header}
-use Rattle.mdmp_dump.proofs.WalkedOver.{all_begin, one_fetches, one_refused, one_same, one_walked}
+use Rattle.mdmp_dump.proofs.WalkedOver.{all_begin, none_paid, one_fetches, one_paid, one_refused, one_walked}
 use Rattle.mdmp_dump.proofs.stream_walk.walk_all.Goals as goal
+
+pub returns-in_default-clause-pays : goal.returns-in_default-clause-pays
+returns-in_default-clause-pays g c = none_paid c.args.walk.now
+
+pub returns-in_default-with_capacity-clause-pays : goal.returns-in_default-with_capacity-clause-pays
+returns-in_default-with_capacity-clause-pays g c = none_paid c.args.walk.now
 
 pub loop-stream-init : goal.loop-stream-init
 loop-stream-init g c =
@@ -24,7 +30,7 @@ loop-stream-preserved g c =
 pub returns-in-Err-clause-pays : goal.returns-in-Err-clause-pays
 returns-in-Err-clause-pays g c =
     let inside : c.loop-stream.stream < length c.args.walk.now.chosen = omega (arith, c.loop-stream-test.true, c.streams-streams.ensures) in
-    one_same g.row.A.Denot c.args.limit c.args.walk.now c.loop-stream.walk c.loop-stream.counts.items c.loop-stream.rooms.items c.loop-stream.stream c.loop-stream.invariant.walking inside c.walk_stream.new.walk c.in-Err.ensures.pays
+    one_paid g.row.A.Denot c.args.limit c.args.walk.now c.loop-stream.walk c.loop-stream.counts.items c.loop-stream.rooms.items c.loop-stream.stream c.loop-stream.invariant.walking inside c.walk_stream.new.walk c.in-Err.ensures.pays
 
 pub returns-in-Err-clause-of_file : goal.returns-in-Err-clause-of_file
 returns-in-Err-clause-of_file g c =

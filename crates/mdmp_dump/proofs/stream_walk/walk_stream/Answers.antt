@@ -1,7 +1,7 @@
 use Rattle.std.proofs.Common.{◌≡◌, ◌*◌, arith, subst}
 use Rattle.mdmp_dump.specs.declared.stream_walk.Walked.{Walked}
 use Rattle.mdmp_dump.specs.EntryWalk.{Pays, entry_at, listed, name_cost}
-use Rattle.mdmp_dump.proofs.WalkedOver.{walking_begins, walking_ends, walking_fetches, walking_goes, walking_refused, walking_same, walking_unbegun}
+use Rattle.mdmp_dump.proofs.WalkedOver.{unbegun_paid, walking_begins, walking_ends, walking_fetches, walking_goes, walking_paid, walking_refused, walking_unbegun}
 use Rattle.mdmp_dump.proofs.stream_walk.walk_stream.Goals as goal
 
 pub loop-index-init : goal.loop-index-init
@@ -12,6 +12,9 @@ loop-index-preserved g c =
     walking_goes g.row.A.Denot c.args.limit c.args.walk.now c.args.stream c.in-Ok.count c.loop-index.walk c.loop-index.index c.loop-index.room c.loop-index.invariant c.next_record.new.self c.in-Ok-next_record.found c.fields.result c.met_room-room.result
     c.in-Ok-next_record.ensures c.loop-index-test.true c.fields.ensures c.met_room-room.ensures
 
+pub returns-in-Err-clause-pays : goal.returns-in-Err-clause-pays
+returns-in-Err-clause-pays g c = unbegun_paid g.row.A.Denot c.args.limit c.args.walk.now c.args.stream c.in-Err.fault c.begin.new.self c.in-Err.ensures
+
 pub returns-in-Err-clause-told : goal.returns-in-Err-clause-told
 returns-in-Err-clause-told g c = let told = c.in-Err.ensures.told in rw told.1 tt
 
@@ -19,7 +22,7 @@ pub returns-in-Err-clause-of_file : goal.returns-in-Err-clause-of_file
 returns-in-Err-clause-of_file g c = walking_unbegun g.row.A.Denot c.args.limit c.args.walk.now c.args.stream c.in-Err.fault c.begin.new.self c.in-Err.ensures
 
 pub returns-in-Err-next_record-clause-pays : goal.returns-in-Err-next_record-clause-pays
-returns-in-Err-next_record-clause-pays g c = walking_same g.row.A.Denot c.args.limit c.args.walk.now c.args.stream c.in-Ok.count c.loop-index.walk c.loop-index.index c.loop-index.room c.loop-index.invariant c.next_record.new.self c.in-Err-next_record.fault c.in-Err-next_record.ensures
+returns-in-Err-next_record-clause-pays g c = walking_paid g.row.A.Denot c.args.limit c.args.walk.now c.args.stream c.in-Ok.count c.loop-index.walk c.loop-index.index c.loop-index.room c.loop-index.invariant c.next_record.new.self c.in-Err-next_record.fault c.in-Err-next_record.ensures c.loop-index-test.true
 
 pub returns-in-Err-next_record-clause-of_file : goal.returns-in-Err-next_record-clause-of_file
 returns-in-Err-next_record-clause-of_file g c = walking_refused g.row.A.Denot c.args.limit c.args.walk.now c.args.stream c.in-Ok.count c.loop-index.walk c.loop-index.index c.loop-index.room c.loop-index.invariant c.next_record.new.self c.in-Err-next_record.fault c.in-Err-next_record.ensures

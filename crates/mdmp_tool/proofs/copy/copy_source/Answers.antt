@@ -1,11 +1,12 @@
 use Rattle.std.proofs.Common.{◌≡◌, ◌+◌, ◌*◌, ◌∙◌, ap, arith, sum, sym}
+use Rattle.mdmp_lister.specs.declared.choice.Choice.TheVariants.{Types}
 use Rattle.mdmp_dump.specs.FileView.{file_shape}
 use Rattle.mdmp_dump.specs.FileViewLaws.{opening_told}
 use Rattle.mdmp_dump.specs.Opening.{entries_in, opened_by}
 use Rattle.mdmp_dump.specs.Shape.{Shape}
 use Rattle.mdmp_dump.proofs.Taking.{FetchesSome_then}
 use Rattle.mdmp_tool.specs.Copying.{first_not_copied, spent, unopened}
-use Rattle.mdmp_tool.proofs.Copying.{Copies-not, Copies-refused, Copies-viewed, cause_copied, good_read, read_unopened, reliable_copied, shape_copied}
+use Rattle.mdmp_tool.proofs.Copying.{Copies-not, Copies-refused, Copies-viewed, cause_copied, good_read, read_unopened, reliable_copied, shape_copied, unspent}
 use Rattle.mdmp_tool.proofs.copy.copy_source.Goals as goal
 
 pub returns-in-Some-clause-copies : goal.returns-in-Some-clause-copies
@@ -45,10 +46,10 @@ returns-in-Err-clause-copies g c =
     (ap first_not_copied (sym c.types.ensures) ∙ sym c.in_default.ensures) c.in-Err.field-0.fault of.refuses of.refusal of.short)
 
 pub returns-in-Some-clause-spends : goal.returns-in-Some-clause-spends
-returns-in-Some-clause-spends g c = unopened tt
+returns-in-Some-clause-spends g c = unopened tt (unspent c.args.source (Types c.args.types))
 
 pub returns-in-Err-clause-spends : goal.returns-in-Err-clause-spends
-returns-in-Err-clause-spends g c = rw c.told_reading.ensures (unopened (read_unopened c.args.source.size c.in-Err.field-0.fault c.in-Err.ensures.refusal))
+returns-in-Err-clause-spends g c = rw c.told_reading.ensures (unopened (read_unopened c.args.source.size c.in-Err.field-0.fault c.in-Err.ensures.refusal) c.in-Err.ensures.spends)
 
 pub returns-in-Ok-clause-spends : goal.returns-in-Ok-clause-spends
 returns-in-Ok-clause-spends g c =

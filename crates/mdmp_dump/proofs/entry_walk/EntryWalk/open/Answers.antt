@@ -1,6 +1,7 @@
 use Rattle.std.proofs.Common.{refl}
 use Rattle.mdmp_dump.proofs.EntryWalks.{opened}
 use Rattle.mdmp_dump.proofs.Opened.{directory-settles}
+use Rattle.mdmp_dump.proofs.OpenedViews.{head_spent}
 use Rattle.mdmp_dump.proofs.Refusals.{bare_refusal}
 use Rattle.mdmp_dump.proofs.entry_walk.EntryWalk.open.Goals as goal
 
@@ -13,3 +14,6 @@ returns-in-Err-clause-refusal g c = rw c.refusal.ensures (bare_refusal c.args.so
 pub returns-in-Err-clause-of_file : goal.returns-in-Err-clause-of_file
 returns-in-Err-clause-of_file g c = λ file known names.
     rw c.refusal.ensures (directory-settles file c.args.choice names c.in-Err.refused.fault (c.in-Err.ensures.opens file known))
+
+pub returns-in-Err-clause-spends : goal.returns-in-Err-clause-spends
+returns-in-Err-clause-spends g c = head_spent c.args.source c.in-Err.refused.source c.args.choice c.in-Err.refused.fault c.in-Err.ensures.handed_back

@@ -2,7 +2,7 @@ use Rattle.mdmp_wire.specs.declared.header.Header.{Header}
 use Rattle.std.proofs.Common.{◌≡◌, ◌∙◌, ◌<◌, ◌^◌, ℕ, arith, ap, refl, subst}
 use Rattle.mdmp_source.specs.Store.{IsSizeOf}
 use Rattle.mdmp_dump.proofs.Laid.{viewed_lays}
-use Rattle.mdmp_dump.proofs.OpenedViews.{held_whole, is_view, run_refused, view_cost, view_fetches, view_of, view_quiet, view_reliable, view_start}
+use Rattle.mdmp_dump.proofs.OpenedViews.{held_whole, is_view, run_refused, view_cost, view_fetches, view_of, view_quiet, view_reliable, view_start, walk_spent}
 use Rattle.mdmp_dump.proofs.Refusals.{walk_refusal}
 use Rattle.mdmp_dump.proofs.Taking.{fetches_err}
 use Rattle.mdmp_dump.proofs.file_view.FileView.open_source.Goals as goal
@@ -78,3 +78,8 @@ pub returns-in-Err-walk_all-clause-cause : goal.returns-in-Err-walk_all-clause-c
 returns-in-Err-walk_all-clause-cause g c =
     rw c.into_source.ensures.value
     (fetches_err c.args.source c.in-Ok.walk.source c.walk_all.new.walk.source c.in-Ok.ensures.opened.fetches c.in-Err-walk_all.fault c.in-Err-walk_all.ensures.fetches)
+
+pub returns-in-Err-walk_all-clause-spends : goal.returns-in-Err-walk_all-clause-spends
+returns-in-Err-walk_all-clause-spends g c =
+    walk_spent c.args.source c.args.limits.window c.args.choice c.in-Ok.walk c.walk_all.new.walk c.in-Ok.ensures.opened c.in-Err-walk_all.ensures.pays
+    c.into_source.result c.into_source.ensures.booked c.fetched-fetched.ensures.allowed

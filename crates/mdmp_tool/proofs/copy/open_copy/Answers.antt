@@ -1,0 +1,16 @@
+use Rattle.mdmp_lister.specs.declared.choice.Choice.TheVariants.{Types}
+use Rattle.std.proofs.Common.{arith, ◌∙◌, sym}
+use Rattle.mdmp_tool.proofs.copy.open_copy.Goals as goal
+
+pub returns-in_default-clause-spends : goal.returns-in_default-clause-spends
+returns-in_default-clause-spends g c =
+    let view = c.in-Ok.view in
+    let new = c.in-Ok.ensures.new in
+    record {
+      entries = view.walk.header.number_of_streams;
+      chosen_are = view.walk.chosen;
+      reached = view.counts.items;
+      few = view.sound.few;
+      fetched = omega (arith, c.into_source.ensures.spent, new.start, new.passed, new.asked);
+      of_file = λ F known. omega (arith, c.in-Ok.ensures.cost F known);
+    }
