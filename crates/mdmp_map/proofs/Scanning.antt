@@ -22,7 +22,7 @@ scan limit address [] = None
 scan limit address (r ∷ ranges) =
     if holds address r then Some (place_in limit address r) else scan (limit_past limit address r) address ranges
 
-scan-holds : (limit address : ℕ) (r : Range) (ranges : List Range) → holds address r ≡ true
+pub scan-holds : (limit address : ℕ) (r : Range) (ranges : List Range) → holds address r ≡ true
     → scan limit address (r ∷ ranges) ≡ Some (place_in limit address r)
 unfolding scan
 scan-holds limit address r ranges here = rw here refl

@@ -24,6 +24,7 @@ mod map;
 mod place;
 mod range;
 mod scan;
+mod search;
 mod steps;
 
 pub use crate::finding::place_of;
@@ -31,4 +32,5 @@ pub use crate::found::Found;
 pub use crate::map::AddressMap;
 pub use crate::place::Place;
 pub use crate::range::Range;
+pub use crate::search::Search;
 pub use crate::steps::Steps;

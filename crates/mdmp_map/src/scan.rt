@@ -3,8 +3,9 @@ ghost use Rattle.std.specs.Prelude.{◌≡◌, ◌+◌, All};
 ghost use Rattle.mdmp_map.specs.Finding.{IsFound, scan_len};
 ghost use Rattle.mdmp_map.specs.Ranges.{IsPlaced};
 
-use crate::found::{ADDRESS_END, Found, place_in};
+use crate::found::Found;
 use crate::range::Range;
+use crate::search::Search;
 use crate::steps::Steps;
 use std::sync::ledger::Ledger;
 
@@ -14,17 +15,12 @@ pub(crate) fn scan<G: Ledger>(ranges: &[Range], address: u64, steps: &mut Steps<
     ensures found { IsFound ranges.now address result }
     ensures steps { steps.new ≡ steps.old + scan_len ranges.now address }
 {
-    // The lowest start behind the address among the ranges so far: from there on its range comes
-    // first.
-    let mut next_start = ADDRESS_END;
+    let mut search = Search::new(address);
     for range in ranges {
         steps.tick();
-        if range.holds(address) {
-            return Found::Held(place_in(range, address, next_start));
-        }
-        if address < range.start {
-            next_start = next_start.min(u128::from(range.start));
+        if let Some(place) = search.look(range) {
+            return Found::Held(place);
         }
     }
-    Found::Gap(next_start - u128::from(address))
+    Found::Gap(search.gap())
 }

@@ -3,7 +3,7 @@ ghost use Rattle.std.specs.Prelude.{All};
 ghost use Rattle.mdmp_map.specs.Ranges.{IsPlaced};
 
 use super::{Row, place};
-use mdmp_map::{Range, place_of};
+use mdmp_map::{Place, Range, Search, place_of};
 use std::process::Abort;
 
 /// These ranges place each address as its row says.
@@ -71,4 +71,32 @@ fn addresses_end_and_do_not_wrap(rt: HostRuntime) {
 #[test]
 fn no_range_holds_nothing(rt: HostRuntime) {
     assert_places(&rt, &[], &[(0, None)]);
+}
+
+#[test]
+fn search_that_is_shown_ranges_finds_the_first(rt: HostRuntime) {
+    let high = Range {
+        start: 0x2000,
+        length: 4,
+        offset: 80,
+    };
+    let low = Range {
+        start: 0x1000,
+        length: 16,
+        offset: 44,
+    };
+    let mut search = Search::new(0x1004);
+    assert_eq!(rt; search.look(&high), None);
+    assert_eq!(rt;
+        search.look(&low),
+        Some(Place {
+            offset: 48,
+            left: 12
+        })
+    );
+    let mut search = Search::new(0xff8);
+    assert_eq!(rt; search.look(&high), None);
+    assert_eq!(rt; search.gap(), 0x1008);
+    assert_eq!(rt; search.look(&low), None);
+    assert_eq!(rt; search.gap(), 8);
 }
