@@ -1,5 +1,4 @@
 pub mod AddressRows
-pub mod Addresses
 pub mod Advancing
 pub mod Asides
 pub mod Beginning
@@ -42,5 +41,6 @@ pub mod Sliding
 pub mod Soundness
 pub mod Summary
 pub mod Unchanged
+pub mod Unseen
 pub mod Verdicts
 pub mod Walked

@@ -1,6 +1,6 @@
 -- The first fault of a file's header and directory, from the bytes of its header.
 use Rattle.std.proofs.Common.{◌≡◌, ◌≤◌, ◌<◌, ◌+◌, ◌*◌, [], inl, inr, refl, subst, ℕ, List, length, Bool, Option, Some, None, Ok, Err, arith, sym, ◌∙◌, ap}
-use Rattle.std.specs.Prelude.{nat_lt, true, false, if◌then◌else◌}
+use Rattle.std.specs.Prelude.{MatchResult, Result, nat_lt, true, false, if◌then◌else◌}
 use Rattle.std.proofs.lemmas.Grind.{common_steps}
 use Rattle.mdmp_source.specs.Count.{raised}
 use Rattle.mdmp_source.specs.Range.{IsInside, bytes_at, is_inside}
@@ -22,7 +22,7 @@ use Rattle.mdmp_lister.specs.Meter.{Books, MeterState}
 use Rattle.mdmp_lister.specs.Fault.{IsCaused}
 use Rattle.mdmp_lister.proofs.Fetches.{FetchesAtMost-within, IsCaused_later, not_unread, unread_caused}
 use Rattle.mdmp_lister.proofs.Heads.{heads_few}
-use Rattle.mdmp_lister.specs.Opening.{Finds, FitsHeader, IsBareRefusal, IsDirectoryRefusal, IsHandedBack, IsHandedBackBare, IsOfHead, IsOpenRefusal, IsRefused, unread_of}
+use Rattle.mdmp_lister.specs.Opening.{Finds, FitsHeader, IsBareRefusal, IsDirectoryRefusal, IsHandedBack, IsHandedBackBare, IsOfHead, IsOpenRefusal, IsRefused, unread_fault, unread_of}
 use Rattle.mdmp_lister.specs.Format.Refusal.{directory_refusal, behind_header}
 
 -- the fault of the directory that a header places in a file of `size` bytes, or none
@@ -60,6 +60,21 @@ pub directory_refusal-outside : (F bytes : List ℕ) (h : Header) (size : ℕ) �
 directory_refusal-outside F bytes h size len room whole fetched good read outside =
     directory_refusal-placed F bytes h size len room whole fetched good read
     ∙ ap (λ b. if b then None else Some (DirectoryOutside h.stream_directory_rva (12 * h.number_of_streams))) outside
+
+-- what the first bytes of a file in memory are refused with, it is
+refused_head : (F : List ℕ) (fault : OpenFault) → Finds F (Err fault) → unread_of fault ≡ None → directory_refusal F ≡ Some fault
+refused_head F (Source fault) finds read = absurd (let some = read in cc)
+refused_head F Memory finds read = finds
+refused_head F (TooShort size) finds read = finds
+refused_head F BadSignature finds read = finds
+refused_head F (BadVersion low) finds read = finds
+refused_head F (DirectoryOutside offset size) finds read = finds
+refused_head F (TooManyRanges count) finds read = finds
+
+pub refused_found : (F : List ℕ) (result : Result Header OpenFault) → Finds F result → unread_fault result ≡ None
+    → MatchResult result (λ header. (directory_refusal F ≡ None) × (header ≡ header_at F 0)) (λ fault. directory_refusal F ≡ Some fault)
+refused_found F (Ok header) finds read = finds
+refused_found F (Err fault) finds read = refused_head F fault finds read
 
 -- ---- sources that are handed back
 

@@ -1,3 +1,4 @@
+pub mod AddressLaws
 pub mod Addressing
 pub mod Check
 pub mod CodeView

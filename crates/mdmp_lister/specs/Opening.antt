@@ -6,7 +6,7 @@ use Rattle.mdmp_source.specs.Store.{IsGood, IsSizeOf}
 use Rattle.mdmp_source.specs.declared.fault.SourceFault.{SourceFault}
 use Rattle.mdmp_wire.specs.declared.entry.Entry.{Entry}
 use Rattle.mdmp_wire.specs.declared.header.Header.{Header}
-use Rattle.mdmp_source.specs.Range.{IsInside, is_inside}
+use Rattle.mdmp_source.specs.Range.{IsInside, bytes_at, is_inside}
 use Rattle.mdmp_wire.specs.Header.{header_at}
 use Rattle.mdmp_lister.specs.declared.choice.Choice.{Choice}
 use Rattle.mdmp_lister.specs.declared.fault.OpenFault.{OpenFault}
@@ -107,6 +107,14 @@ IsOpenRefusal size fault = 32 ≤ size
 abbrev pub IsBareRefusal : ℕ → OpenFault → Type 0
 IsBareRefusal size (TooManyRanges count) = ⊥
 IsBareRefusal size fault = IsOpenRefusal size fault
+
+-- the header of a file of `size` bytes, at least 32, is that in its first bytes, or it or the place of the directory is refused
+pub record IsHeaderIn (bytes : List ℕ) (size : ℕ) (result : Result Header OpenFault) : Type 0 where
+  pub finds : (F : List ℕ) → size ≡ length F → bytes ≡ bytes_at F 0 (length bytes) → Finds F result
+  pub inside : IfOk result (λ header. IsInside header.stream_directory_rva (12 * header.number_of_streams) size)
+  pub refusal : IfErr result (IsBareRefusal size)
+  pub long : (told : ℕ) → result ≡ Err (TooShort told) → ⊥
+  pub read : unread_fault result ≡ None
 
 -- what is told of the header of a file fits its size, whatever its bytes
 pub record FitsHeader (old : SourceState) (result : Result Header OpenFault) (new : SourceState) : Type 0 where

@@ -74,7 +74,7 @@ pub use crate::laws::{listing_ends_at_the_first_bad_verdict, listing_of_a_choice
 pub use crate::limits::Limits;
 pub use crate::lister::Lister;
 pub use crate::name::{Name, name_at};
-pub use crate::opening::OpenRefused;
+pub use crate::opening::{OpenRefused, header_of};
 pub use crate::shape::{Shape, shape_of};
 pub use crate::sink::{RunFault, Sink, Stopped, VerdictSink};
 pub use crate::step::{RecordRead, Step};

@@ -10,10 +10,11 @@ ghost use Rattle.mdmp_lister.specs.Opening.{IsHandedBack, IsOpenRefusal, IsRefus
 ghost use Rattle.mdmp_lister.specs.Format.Refusal.{opening_fault};
 ghost use Rattle.mdmp_map.specs.Map.{free_of};
 ghost use Rattle.mdmp_map.specs.Ranges.{IsWithin};
-ghost use Rattle.mdmp_source.specs.Source.{FetchesAtMost};
+ghost use Rattle.mdmp_source.specs.Source.{FetchesAtMost, FetchesSome};
 ghost use Rattle.mdmp_lister.specs.Addressing.{ReadsCells};
 ghost use Rattle.mdmp_lister.specs.Meter.{IsBooked};
 ghost use Rattle.mdmp_lister.specs.Counts.{AreHeld, AreOfFile, AreSpent, numbers_of};
+ghost use Rattle.mdmp_lister.specs.Format.Listing.{Run};
 ghost use Rattle.mdmp_lister.specs.Format.Numbers.{range_count};
 ghost use Rattle.mdmp_lister.specs.Format.Ranges.{IsPlacedIn, ranges_of};
 ghost use Rattle.mdmp_lister.specs.Fault.{IsOfSource, IsToldIn};
@@ -29,7 +30,7 @@ use crate::item::Item;
 use crate::limits::Limits;
 use crate::opening::OpenRefused;
 use crate::ranging::advance;
-use crate::sink::{RunFault, Sink, Stopped, VerdictSink};
+use crate::sink::{RunFault, Sink, Stopped, Unseen, VerdictSink};
 use crate::stage::Stage;
 use crate::walk::{Walk, refused};
 use mdmp_map::AddressMap;
@@ -249,6 +250,25 @@ impl<S: Store + Drop, A: Allocator + Copy> Lister<S, A> {
                 Ok(None) => return Ok(()),
                 Err(fault) => return Err(RunFault::At(fault)),
             }
+        }
+    }
+
+    /// Lists all that is left for its ranges alone, which are put into the map, up to the first fault.
+    pub fn list_ranges(&mut self) -> Result<(), ListFault>
+        requires going { self.old.stop ≡ None }
+        ensures lists { (left : Run) → self.old.left ≡ Some left → MatchResult result
+            (λ _. (left.fault ≡ None) × (self.new.ranges ≡ self.old.ranges ++ ranges_of left.items))
+            (λ fault. (IsOfSource fault.kind → ⊥) → left.fault ≡ Some fault) }
+        ensures good { (file : List ℕ) → IsGood self.old.source.store file → IfErr result (λ fault. IsOfSource fault.kind → ⊥) }
+        ensures told { IfErr result (λ fault. IsToldIn self.new.current fault self.old.source self.new.source) }
+        ensures fetches { FetchesSome self.old.source self.new.source }
+        ensures same { IsSameLister self.old self.new }
+    {
+        match self.list_into(&mut Unseen) {
+            Ok(()) => Ok(()),
+            Err(RunFault::At(fault)) => Err(fault),
+            // This sink never stops.
+            Err(RunFault::Stopped) => Ok(()),
         }
     }
 

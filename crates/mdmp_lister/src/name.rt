@@ -42,20 +42,19 @@ pub(crate) fn check_units(at: u64, length: u32, size: u64) -> Result<(), Fault>
 /// an odd one, units outside. A name of more than `limit` bytes is told by its length. No zero unit
 /// is looked for behind the units.
 #[tactic(auto, unfolding(crate::specs::Format::Name::name_at, mdmp_wire::specs::Number::array_at))]
-pub fn name_at(file: &[u8], rva: u32, limit: u32) -> Result<Name<'_>, Fault>
+pub fn name_at(file: &[u8], rva: u64, limit: u32) -> Result<Name<'_>, Fault>
     ensures { result_map_both plain_name (λ f. f) result ≡ name_at file.now rva limit }
 {
     let size = file.len() as u64;
-    let at = u64::from(rva);
     if rva == 0 {
         return Ok(Name::None);
     }
-    if !inside(at, 4, size) {
-        return faulted(FaultKind::NameLengthOutside, at, 4);
+    if !inside(rva, 4, size) {
+        return faulted(FaultKind::NameLengthOutside, rva, 4);
     }
     let start = rva as usize;
     let length: u32 = get_at(file, start);
-    check_units(at, length, size)?;
+    check_units(rva, length, size)?;
     if limit < length {
         return Ok(Name::Long(length));
     }

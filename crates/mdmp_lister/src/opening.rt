@@ -1,12 +1,13 @@
 //! The header and the directory of a file, read through a source.
-ghost use Rattle.std.specs.Prelude.{◌≡◌, ◌≤◌, ◌-◌, ◌*◌, [], length, OnOk, vec_len, vec_capacity};
+ghost use Rattle.std.specs.Prelude.{◌≡◌, ◌≤◌, ◌-◌, ◌*◌, [], length, IfOk, MatchResult, None, OnOk, Some, vec_len, vec_capacity};
 ghost use Rattle.mdmp_source.specs.Range.{IsInside};
 ghost use Rattle.mdmp_wire.specs.Header.{header_at};
 ghost use Rattle.mdmp_lister.specs.Format.Directory.{IsDirectory};
+ghost use Rattle.mdmp_lister.specs.Format.Refusal.{directory_refusal};
 ghost use Rattle.mdmp_lister.specs.Fetching.{Reads};
 ghost use Rattle.mdmp_lister.specs.Holding.{fills_of};
 ghost use Rattle.mdmp_lister.specs.Meter.{Books};
-ghost use Rattle.mdmp_lister.specs.Opening.{IsNextChosen, ReadsHeader};
+ghost use Rattle.mdmp_lister.specs.Opening.{IsHeaderIn, IsNextChosen, ReadsHeader};
 
 use crate::choice::Choice;
 use crate::fault::OpenFault;
@@ -26,6 +27,41 @@ pub struct OpenRefused<S: Store + Drop> {
     pub source: Source<S>,
 }
 
+/// The header of a file of `size` bytes, of which these are the first 32, or the first fault of it and of
+/// the place of its directory.
+fn header_in(bytes: &[u8], size: u64) -> Result<Header, OpenFault>
+    requires whole { length bytes.now ≡ 32 }
+    requires room { 32 ≤ size }
+    ensures { IsHeaderIn bytes.now size result }
+{
+    let header = match Header::check(bytes) {
+        Ok(header) => header,
+        Err(HeaderFault::BadSignature) => return Err(OpenFault::BadSignature),
+        Err(HeaderFault::BadVersion { low }) => return Err(OpenFault::BadVersion { low }),
+    };
+    let offset = u64::from(header.stream_directory_rva);
+    let len = Entry::SIZE as u64 * u64::from(header.number_of_streams);
+    if !inside(offset, len, size) {
+        return Err(OpenFault::DirectoryOutside { offset, size: len });
+    }
+    Ok(header)
+}
+
+/// The header of a file that stands in memory, `MINIDUMP_HEADER`, or its first fault: too few bytes, the
+/// signature, the version, a directory outside the file. No other fault is told of it.
+pub fn header_of(file: &[u8]) -> Result<Header, OpenFault>
+    ensures header { MatchResult result
+        (λ header. (directory_refusal file.now ≡ None) × (header ≡ header_at file.now 0))
+        (λ fault. directory_refusal file.now ≡ Some fault) }
+    ensures inside { IfOk result (λ header. IsInside header.stream_directory_rva (12 * header.number_of_streams) (length file.now)) }
+{
+    let size = file.len() as u64;
+    if size < Header::SIZE as u64 {
+        return Err(OpenFault::TooShort { size });
+    }
+    header_in(&file[..Header::SIZE], size)
+}
+
 /// Fetches the header of a file whose directory lies inside it.
 pub(crate) fn read_header<S: Store>(meter: &mut Meter<S>) -> Result<Header, OpenFault>
     ensures { ReadsHeader meter.old result meter.new }
@@ -38,17 +74,7 @@ pub(crate) fn read_header<S: Store>(meter: &mut Meter<S>) -> Result<Header, Open
     if let Err(fault) = meter.fetch(0, &mut bytes) {
         return Err(OpenFault::Source(fault));
     }
-    let header = match Header::check(&bytes) {
-        Ok(header) => header,
-        Err(HeaderFault::BadSignature) => return Err(OpenFault::BadSignature),
-        Err(HeaderFault::BadVersion { low }) => return Err(OpenFault::BadVersion { low }),
-    };
-    let offset = u64::from(header.stream_directory_rva);
-    let len = Entry::SIZE as u64 * u64::from(header.number_of_streams);
-    if !inside(offset, len, size) {
-        return Err(OpenFault::DirectoryOutside { offset, size: len });
-    }
-    Ok(header)
+    header_in(&bytes, size)
 }
 
 /// Reads the entries of the directory, whose place lies inside the file, through a window into a list with

@@ -46,3 +46,17 @@ pub enum RunFault {
     /// The sink wanted no more: the item or verdict that it had last is the last that was given.
     Stopped,
 }
+
+/// A sink that takes each item and looks at none.
+#[derive(Drop)]
+pub(crate) struct Unseen;
+
+impl Sink for Unseen {
+    ghost use Rattle.std.specs.Prelude.{◌≡◌, Ok};
+
+    ghost step = { λ old item result new. result ≡ Ok tt };
+
+    fn take(&mut self, _item: &Item<'_>) -> Result<(), Stopped> {
+        Ok(())
+    }
+}

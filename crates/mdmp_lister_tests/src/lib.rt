@@ -29,6 +29,8 @@ mod fresh;
 #[cfg(test)]
 mod given;
 #[cfg(test)]
+mod heads;
+#[cfg(test)]
 mod listings;
 #[cfg(test)]
 mod memory;

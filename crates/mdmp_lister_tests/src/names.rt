@@ -16,7 +16,7 @@ fn bytes_of<const N: usize>(name: [u8; N]) -> [u8; 32] {
 }
 
 /// The name at an address, with a limit of so many bytes.
-fn name(rt: &HostRuntime, file: &[u8], at: u32, limit: u32) -> Result<Result<Named, Fault>, Fail> {
+fn name(rt: &HostRuntime, file: &[u8], at: u64, limit: u32) -> Result<Result<Named, Fault>, Fail> {
     match name_at(file, at, limit) {
         Ok(name) => Ok(Ok(plain_name(rt, &name)?)),
         Err(fault) => Ok(Err(fault)),
@@ -63,8 +63,14 @@ fn bad_names_are_told_in_order(rt: HostRuntime) -> Result<(), Fail> {
         (&outside[..7], 4, bad(FaultKind::NameLengthOutside, 4, 4)),
         (
             outside.as_slice(),
-            u32::MAX,
+            4294967295,
             bad(FaultKind::NameLengthOutside, 4294967295, 4),
+        ),
+        // The sum of the place and the length of its length is past 2^64.
+        (
+            outside.as_slice(),
+            18446744073709551612,
+            bad(FaultKind::NameLengthOutside, 18446744073709551612, 4),
         ),
     ] {
         assert_same(&rt, name(&rt, file, at, 8)?, expected);

@@ -2,8 +2,8 @@
 use mdmp_lister::{
     Choice, FaultKind, Limits, ListFault, Lister, OpenFault, OpenRefused, RunFault, StopAt, TypeSet,
 };
-use mdmp_source::{Source, Store};
-use std::alloc::Allocator;
+use mdmp_source::{MemoryStore, Source, Store};
+use std::alloc::{Allocator, Global};
 use std::test::Fail;
 
 /// All items and how many ranges of memory were mapped, or why there is no lister.
@@ -83,4 +83,16 @@ pub fn all(items: u64, mapped: usize) -> Outcome {
         items,
         mapped,
     }
+}
+
+/// Lists the ranges of a file in memory: what ended that, and how many were mapped.
+pub fn listed_ranges(alloc: Global, file: &[u8]) -> Result<(Result<(), ListFault>, usize), Fail> {
+    let source = Source::new(MemoryStore::new(file));
+    let limits = Limits::default();
+    let mut lister = match Lister::open(alloc, source, limits, Choice::memory_lists()) {
+        Ok(lister) => lister,
+        Err(_) => return Err(Fail::from("refused")),
+    };
+    let ended = lister.list_ranges();
+    Ok((ended, lister.map().len()))
 }

@@ -1,18 +1,14 @@
 -- A run of `hex`, from its parts.
-use Rattle.std.proofs.Common.{◌≡◌, ◌∙◌, ◌∷◌, [], ℕ, List, Some, None, sym, ap, inl, inr}
+use Rattle.std.proofs.Common.{◌≡◌, [], ℕ, List, Some, None, ap}
 use Rattle.std.specs.Prelude.{Result, Ok, Err}
-use Rattle.std.proofs.lemmas.List.{append-nil}
 use Rattle.mdmp_map.specs.declared.range.Range.{Range}
 use Rattle.mdmp_source.specs.Output.{OutState}
 use Rattle.mdmp_source.specs.OutputLaws.{PutsAll-nothing}
-use Rattle.mdmp_lister.specs.declared.item.Item.{Item}
-use Rattle.mdmp_lister.specs.declared.sink.Stopped.{Stopped}
-use Rattle.mdmp_lister.specs.Sink.{TakenToStop, give_all}
 use Rattle.mdmp_lister.specs.declared.fault.FaultKind.{FaultKind}
 use Rattle.mdmp_lister.specs.declared.fault.FaultKind.TheVariants as kinds
 use Rattle.mdmp_lister.specs.declared.fault.ListFault.{ListFault}
 use Rattle.mdmp_lister.specs.Fault.{IsOfSource}
-use Rattle.mdmp_lister.specs.Format.Listing.{Run, nothing}
+use Rattle.mdmp_lister.specs.Format.Listing.{Run}
 use Rattle.mdmp_lister.specs.Format.Ranges.{ranges_of}
 use Rattle.mdmp_tool.specs.declared.fault.ToolFault.{ToolFault}
 use Rattle.mdmp_tool.specs.declared.fault.ToolFault.TheVariants.{List as BadList, Source, Out, Memory}
@@ -20,19 +16,6 @@ use Rattle.mdmp_tool.proofs.Engining.{StopsShort-none, StopsShort-nothing}
 use Rattle.mdmp_tool.specs.HexRuns.{HexesMemory, HexesRun, run_hex_text}
 use Rattle.mdmp_tool.specs.HexText.{hex_text}
 use Rattle.mdmp_tool.specs.Telling.{list_told, told_by}
-
--- a sink that always takes its item never stops a run
-pub never_stopped : {K : Type 0} (xs : List Item) (k new : K) → TakenToStop (λ (old : K) (x : Item) (r : Result (Unit {0}) Stopped) (m : K). r ≡ Ok tt) k xs new → ⊥
-never_stopped [] k new stopped = stopped
-never_stopped (x ∷ xs) k new (inl last) = let wrong = last.1 in absurd (cc)
-never_stopped (x ∷ xs) k new (inr more) = never_stopped xs more.0 new more.1.1
-
--- all that was left was given
-pub ranges-all : (left : Run) (xs : List Item) → left ≡ give_all xs nothing → (left.fault ≡ None) × (ranges_of xs ≡ ranges_of left.items)
-ranges-all left xs all = (
-  ap (λ (run : Run). run.fault) all,
-  ap ranges_of (sym (ap (λ (run : Run). run.items) all ∙ append-nil xs)),
-)
 
 -- what was printed by the ranges of all items
 pub HexesRun-printed : (F : List ℕ) (ranges : List Range) (left : Run) (address count : ℕ) (before after : OutState) (r : Result (Unit {0}) ToolFault) → left.fault ≡ None → ranges ≡ ranges_of left.items

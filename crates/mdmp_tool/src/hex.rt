@@ -1,11 +1,7 @@
 //! The command `hex`.
-ghost use Rattle.std.specs.Prelude.{◌≡◌, ◌≤◌, ◌<◌, ◌+◌, ℕ, List, [], Some, None, Err, IfErr, MatchResult, length};
+ghost use Rattle.std.specs.Prelude.{◌≡◌, ◌≤◌, ◌<◌, ◌+◌, ℕ, List, [], Some, None, length};
 ghost use Rattle.mdmp_map.specs.Ranges.{address_end};
-ghost use Rattle.mdmp_source.specs.Store.{IsGood};
-ghost use Rattle.mdmp_source.specs.Source.{FetchesSome};
 ghost use Rattle.mdmp_lister.specs.Format.Listing.{Run};
-ghost use Rattle.mdmp_lister.specs.Format.Ranges.{ranges_of};
-ghost use Rattle.mdmp_lister.specs.Fault.{IsOfSource, IsToldIn};
 ghost use Rattle.mdmp_tool.specs.Engines.{IsSameRun, IsThrough, Leaves, Reads, Tells, at_the_end, directly};
 ghost use Rattle.mdmp_tool.specs.HexRuns.{Hexes, HexesMemory, HexesRun};
 ghost use Rattle.mdmp_words.specs.HexWords.{length_limit};
@@ -13,7 +9,7 @@ ghost use Rattle.mdmp_words.specs.HexWords.{length_limit};
 use crate::engine::{Answered, Engine, run, run_source};
 use crate::fault::{ToolFault, told_list};
 use crate::hex_lines::put_hex_lines;
-use mdmp_lister::{Choice, Item, Limits, ListFault, Lister, RunFault, Sink, Stopped};
+use mdmp_lister::{Choice, Limits, Lister};
 use mdmp_source::{Out, OutFailed, Source, Store};
 use std::alloc::Allocator;
 
@@ -114,7 +110,7 @@ fn hex_listed<S: Store + Drop, A: Allocator + Copy, O: Out>(
     ensures leaves { Leaves at_the_end (O.state out.new ≡ O.state out.old) lister.old.source (O.state out.old) result lister.new.source (O.state out.new) }
     ensures same { IsSameRun lister.old lister.new }
 {
-    match list_ranges(lister) {
+    match lister.list_ranges() {
         Ok(()) => {}
         Err(fault) => return Err(told_list(fault)),
     }
@@ -149,41 +145,5 @@ fn put_memory<S: Store + Drop, A: Allocator + Copy, O: Out>(
     match put_hex_lines(out, address, bytes, known) {
         Ok(()) => Ok(()),
         Err(OutFailed) => Err(ToolFault::Out),
-    }
-}
-
-/// Lists the ranges that are left, up to the first fault.
-fn list_ranges<S: Store + Drop, A: Allocator + Copy>(
-    lister: &mut Lister<S, A>,
-) -> Result<(), ListFault>
-    requires going { lister.old.stop ≡ None }
-    requires none { lister.old.ranges ≡ [] }
-    ensures lists { (left : Run) → lister.old.left ≡ Some left → MatchResult result
-        (λ _. (left.fault ≡ None) × (lister.new.ranges ≡ ranges_of left.items))
-        (λ fault. (IsOfSource fault.kind → ⊥) → left.fault ≡ Some fault) }
-    ensures good { (file : List ℕ) → IsGood lister.old.source.store file → IfErr result (λ fault. IsOfSource fault.kind → ⊥) }
-    ensures told { IfErr result (λ fault. IsToldIn lister.new.current fault lister.old.source lister.new.source) }
-    ensures fetches { FetchesSome lister.old.source lister.new.source }
-    ensures same { IsSameRun lister.old lister.new }
-{
-    match lister.list_into(&mut Unseen) {
-        Ok(()) => Ok(()),
-        Err(RunFault::At(fault)) => Err(fault),
-        // This sink never stops.
-        Err(RunFault::Stopped) => Ok(()),
-    }
-}
-
-/// A sink that takes each item and looks at none: the lister keeps the ranges.
-#[derive(Drop)]
-struct Unseen;
-
-impl Sink for Unseen {
-    ghost use Rattle.std.specs.Prelude.{Ok};
-
-    ghost step = { λ old item result new. result ≡ Ok tt };
-
-    fn take(&mut self, _item: &Item<'_>) -> Result<(), Stopped> {
-        Ok(())
     }
 }

@@ -6,7 +6,7 @@ use Rattle.mdmp_source.specs.SourceLaws.{fetches_then}
 use Rattle.mdmp_map.specs.Ranges.{IsWithin}
 use Rattle.mdmp_lister.specs.Addressing.{IsStretch}
 use Rattle.mdmp_lister.specs.Meter.{BooksAside}
-use Rattle.mdmp_lister.proofs.Addresses.{ReadsCells_next, ReadsCells_stretch}
+use Rattle.mdmp_lister.specs.AddressLaws.{ReadsCells_next, ReadsCells_stretch}
 use Rattle.mdmp_lister.proofs.Fetches.{IsCaused_later}
 use Rattle.mdmp_lister.proofs.addressing.read_addresses.Goals as goal
 

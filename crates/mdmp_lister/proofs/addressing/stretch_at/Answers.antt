@@ -1,6 +1,6 @@
 use Rattle.std.proofs.Common.{None, Some, arith, subst}
 use Rattle.mdmp_lister.specs.Addressing.{IsStretch}
-use Rattle.mdmp_lister.proofs.Addresses.{gap_some, stretch_in_gap, stretch_in_range, stretch_past}
+use Rattle.mdmp_lister.specs.AddressLaws.{gap_some, stretch_in_gap, stretch_in_range, stretch_past}
 use Rattle.mdmp_lister.proofs.addressing.stretch_at.Goals as goal
 
 pub returns-in_default-clause-stretch : goal.returns-in_default-clause-stretch

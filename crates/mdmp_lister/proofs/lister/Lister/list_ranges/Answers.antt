@@ -1,14 +1,13 @@
-use Rattle.std.proofs.Common.{◌∙◌}
-use Rattle.mdmp_tool.proofs.Hexing.{never_stopped, ranges-all}
-use Rattle.mdmp_tool.proofs.SameRuns.{run_list, run_none}
-use Rattle.mdmp_tool.proofs.hex.list_ranges.Goals as goal
+use Rattle.std.proofs.Common.{◌∙◌, ◌++◌, ap}
+use Rattle.mdmp_lister.proofs.Unseen.{never_stopped, ranges-all}
+use Rattle.mdmp_lister.proofs.lister.Lister.list_ranges.Goals as goal
 
 pub returns-in-Ok-clause-lists : goal.returns-in-Ok-clause-lists
 returns-in-Ok-clause-lists g c = λ left known.
     let run = c.in-Ok.ensures.runs in
     let rest = run.left left known in
     let all = ranges-all left run.items rest.1.1.0 in
-    (all.0, rw c.requires.none at run.ranges ∙ all.1)
+    (all.0, run.ranges ∙ ap (λ rs. c.args.self.now.ranges ++ rs) all.1)
 
 pub returns-in-Err-Stopped-clause-lists : goal.returns-in-Err-Stopped-clause-lists
 returns-in-Err-Stopped-clause-lists g c = let run = rw c.in-Err-Stopped.field-0-is at c.in-Err-Stopped.ensures.runs in absurd (never_stopped run.items _ _ run.handed)
@@ -21,12 +20,3 @@ returns-in-Err-At-clause-fetches g c = record { count = _; fetches = c.list_into
 
 pub returns-in-Err-Stopped-clause-fetches : goal.returns-in-Err-Stopped-clause-fetches
 returns-in-Err-Stopped-clause-fetches g c = record { count = _; fetches = c.list_into.ensures.runs.fetches }
-
-pub returns-in-Ok-clause-same : goal.returns-in-Ok-clause-same
-returns-in-Ok-clause-same g c = run_list _ _ _ (run_none _) c.list_into.ensures.same
-
-pub returns-in-Err-At-clause-same : goal.returns-in-Err-At-clause-same
-returns-in-Err-At-clause-same g c = run_list _ _ _ (run_none _) c.list_into.ensures.same
-
-pub returns-in-Err-Stopped-clause-same : goal.returns-in-Err-Stopped-clause-same
-returns-in-Err-Stopped-clause-same g c = run_list _ _ _ (run_none _) c.list_into.ensures.same
