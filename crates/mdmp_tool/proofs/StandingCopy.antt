@@ -1,5 +1,5 @@
 -- What stands under the name of a copy.
-use Rattle.std.proofs.Common.{◌≡◌, ◌∙◌, ◌⊎◌, inl, inr, ℕ, List, [], Option, Some, ap}
+use Rattle.std.proofs.Common.{◌≡◌, ◌∙◌, inl, inr, ℕ, List, [], Option, Some, ap}
 use Rattle.std.specs.Prelude.{Result, Ok, Err}
 use Rattle.std.proofs.lemmas.Option.{none-some}
 use Rattle.mdmp_source.specs.Output.{OutState, TakesPrefix}

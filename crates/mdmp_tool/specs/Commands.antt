@@ -60,4 +60,4 @@ pub record HasCopied (Z : Type 0) (types : List ℕ) (limits : Limits) (old : So
   pub good : (file : List ℕ) → IsGood old.store file → IsNoSourceFault answer
   pub reads : Reads old answer new
   pub unread : (t : ℕ) → first_not_copied types ≡ Some t → new ≡ old
-  pub spends : SpendsCopy Z types old answer new
+  pub spends : SpendsCopy Z types limits.window old answer new

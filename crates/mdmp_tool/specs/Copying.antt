@@ -12,6 +12,7 @@ use Rattle.mdmp_dump.specs.declared.fault.ReadFault.{ReadFault}
 use Rattle.mdmp_dump.specs.declared.fault.ReadFault.TheVariants as reads
 use Rattle.mdmp_dump.specs.declared.view.ViewFault.{ViewFault}
 use Rattle.mdmp_dump.specs.declared.view.ViewFault.TheVariants as view
+use Rattle.mdmp_dump.specs.EntryWalk.{WalkState}
 use Rattle.mdmp_dump.specs.FileRefusal.{view_refusal}
 use Rattle.mdmp_dump.specs.InFile.{dump_in}
 use Rattle.mdmp_dump.specs.LaysOut.{LaysOut}
@@ -115,20 +116,26 @@ IsUnopened answer = Unit {0}
 
 -- what was fetched for a copy: to open a view of this shape the header, the directory and what a pass over each stream costs;
 -- to write it two passes more at most, and the bytes of names, parts and raw streams
-pub record HasSpent (Z : Type 0) (types : List ℕ) (old : SourceState) (answer : Result ℕ ToolFault) (new : SourceState) : Type 0 where
+pub record HasSpent (Z : Type 0) (types : List ℕ) (window : ℕ) (old : SourceState) (answer : Result ℕ ToolFault) (new : SourceState) : Type 0 where
   pub shape : Shape
   pub size : IsOfShape shape answer
+  -- the walk under the view, which was opened over that source through a window of so many bytes
+  pub walk : WalkState
+  pub held : walk.held ≡ window + 12 * walk.header.number_of_streams
+  pub start : walk.start ≡ old.fetched
+  pub source : walk.source ≡ new
   -- how many entries the directory has
   pub entries : ℕ
+  pub entries_are : entries ≡ walk.header.number_of_streams
   pub fetched : new.fetched ≤ old.fetched + (32 + 12 * entries + 3 * all_costs shape + all_asks shape)
   -- of a known file they are its own
   pub costs : (file : List ℕ) → old.store.content ≡ Some file → 32 + 12 * entries + all_costs shape ≡ opening_bound file (Types types)
   pub asks : (file : List ℕ) → old.store.content ≡ Some file → IsViewOf (dump_in {Z = Z} file (Types types)) shape
 
 -- where none was opened, no more than for the opening of one
-pub data SpendsCopy (Z : Type 0) (types : List ℕ) (old : SourceState) (answer : Result ℕ ToolFault) (new : SourceState) : Type 0 where
-  unopened : IsUnopened answer → HasSpentOpening (Types types) old new → SpendsCopy Z types old answer new
-  spent : HasSpent Z types old answer new → SpendsCopy Z types old answer new
+pub data SpendsCopy (Z : Type 0) (types : List ℕ) (window : ℕ) (old : SourceState) (answer : Result ℕ ToolFault) (new : SourceState) : Type 0 where
+  unopened : IsUnopened answer → HasSpentOpening (Types types) old new → SpendsCopy Z types window old answer new
+  spent : HasSpent Z types window old answer new → SpendsCopy Z types window old answer new
 
 -- ---- of a file that is known
 

@@ -86,7 +86,7 @@ pub fn copy_source<S: Store + Drop, A: Allocator + Copy, O: Out>(
     ensures good { (file : List ℕ) → IsGood source.store file → IsNoSourceFault result.answer }
     ensures reads { Reads source result.answer result.source }
     ensures unread { (t : ℕ) → first_not_copied types ≡ Some t → result.source ≡ source }
-    ensures spends { SpendsCopy A types source result.answer result.source }
+    ensures spends { SpendsCopy A types limits.window source result.answer result.source }
 {
     if let Some(stream_type) = first_not_copied(types.types()) {
         return Answered {

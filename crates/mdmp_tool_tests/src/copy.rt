@@ -2,12 +2,14 @@
 use crate::copies::{ALL, assert_wrote, copy_calls, copy_store};
 use crate::runs::least;
 use crate::same::{assert_same, assert_same_at};
+use crate::watched::Watched;
 use linked_list_allocator::LocalHeap;
 use mdmp_source::{MemoryStore, PatchyStore, Source, SourceFault};
 use mdmp_test_support::{
     ABSENT_STACK, CRASH, Room, SIX, entry, file_of_numbers, file_of_parts, header_of, system_file,
 };
 use mdmp_tool::{LayoutFault, Limits, PartName, ReadFault, ToolFault, copied};
+use std::cell::Cell;
 use std::test::Fail;
 
 #[test]
@@ -91,6 +93,29 @@ fn type_that_is_not_copied_is_refused_before_the_store_is_read(
         assert_wrote(&rt, 0, &wrote, Err(ToolFault::NotCopied(first)), b"");
         assert_same(&rt, calls, 0);
     }
+    Ok(())
+}
+
+#[test]
+fn type_that_is_not_copied_is_refused_before_a_store_is_read_that_is_dropped(
+    rt: HostRuntime,
+) -> Result<(), Fail> {
+    let six = file_of_numbers(rt.alloc(), 6, &SIX)?;
+    let reads = Cell::new(0);
+    let store = Watched {
+        store: MemoryStore::new(&six),
+        reads: &reads,
+    };
+    let wrote = copy_store(rt.alloc(), rt.alloc(), store, least(0)?, &[3, 12], ALL)?;
+    assert_wrote(&rt, 0, &wrote, Err(ToolFault::NotCopied(12)), b"");
+    assert_same(&rt, reads.get(), 0);
+    let store = Watched {
+        store: MemoryStore::new(&six),
+        reads: &reads,
+    };
+    let wrote = copy_store(rt.alloc(), rt.alloc(), store, least(0)?, &[3], ALL)?;
+    assert!(rt; wrote.answer.is_ok());
+    assert!(rt; reads.get() > 0);
     Ok(())
 }
 

@@ -40,3 +40,5 @@ mod runs;
 mod same;
 #[cfg(test)]
 mod stores;
+#[cfg(test)]
+mod watched;

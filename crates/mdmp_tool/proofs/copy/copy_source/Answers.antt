@@ -65,7 +65,12 @@ returns-in-Ok-clause-spends g c =
     spent (record {
       shape = shape;
       size = shape_copied shape (g.O.Out.state c.args.out.now) (g.O.Out.state c.write_copy.new.out) c.write_copy.result written.ends;
+      walk = after.walk;
+      held = omega (arith, of.new.held, written.moves.held, entries);
+      start = written.moves.start ∙ of.new.start;
+      source = sym c.into_source.ensures.value;
       entries = entries_in view;
+      entries_are = sym entries;
       fetched = omega (arith, c.into_source.ensures.spent, later, costs, entries, written.moves.start, of.new.start, of.new.passed, of.new.asked, written.passed, written.asked);
       costs = λ F known. sym first ∙ of.cost F known;
       asks = λ F known. (of.views F known).1;

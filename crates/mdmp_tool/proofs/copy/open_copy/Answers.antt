@@ -1,5 +1,4 @@
-use Rattle.mdmp_lister.specs.declared.choice.Choice.TheVariants.{Types}
-use Rattle.std.proofs.Common.{arith, ◌∙◌, sym}
+use Rattle.std.proofs.Common.{arith}
 use Rattle.mdmp_tool.proofs.copy.open_copy.Goals as goal
 
 pub returns-in_default-clause-spends : goal.returns-in_default-clause-spends

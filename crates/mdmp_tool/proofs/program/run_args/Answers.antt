@@ -1,4 +1,4 @@
-use Rattle.std.proofs.Common.{◌∙◌, ap, map, sym}
+use Rattle.std.proofs.Common.{◌∙◌, ap, map}
 use Rattle.mdmp_tool.specs.Program.{EndsGiven, words_behind}
 use Rattle.mdmp_tool.proofs.program.run_args.Goals as goal
 
