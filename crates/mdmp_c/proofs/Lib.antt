@@ -1,0 +1,11 @@
+pub mod Ending
+pub mod Gathered
+pub mod Kept
+pub mod Told
+pub mod Directories
+pub mod Remembered
+pub mod Named
+pub mod Copied
+pub mod Sliced
+pub mod Judging
+pub mod Worded

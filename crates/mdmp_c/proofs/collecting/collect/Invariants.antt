@@ -1,0 +1,17 @@
+use Rattle.std.proofs.Common.{◌≡◌, ℕ, List, Some}
+use Rattle.mdmp_source.specs.Source.{FetchesSome}
+use Rattle.mdmp_source.specs.Store.{IsGood}
+use Rattle.mdmp_lister.specs.Format.Listing.{Run}
+use Rattle.mdmp_c.proofs.Gathered.{HasCollected}
+use Rattle.mdmp_c.proofs.collecting.collect.Given as goal
+
+-- the rows of some items stand in the array
+abbrev pub invariant-loop-item : goal.invariant-loop-item
+invariant-loop-item g l = record {
+  source : FetchesSome l.initial.lister.source l.lister.source;
+  collected : (file : List ℕ) → IsGood l.initial.lister.source.store file → (run : Run) → l.initial.lister.left ≡ Some run
+      → (left : Run) × ((l.lister.left ≡ Some left) × HasCollected g.T.Row.row_of run left l.count l.initial.out l.out);
+}
+
+abbrev pub decreases-loop-item : goal.decreases-loop-item
+decreases-loop-item g l = l.lister.work

@@ -1,0 +1,44 @@
+use Rattle.std.proofs.Common.{rules, ◌≡◌, ◌∙◌, ℕ, Bool, List, Some, ap, refl, sym, subst}
+use Rattle.std.specs.Option.{option_map}
+use Rattle.std.specs.Prelude.{IsTrue, nat_lt, if◌then◌else◌}
+use Rattle.mdmp_source.specs.Store.{IsGood}
+use Rattle.mdmp_lister.specs.Format.Listing.{listing}
+use Rattle.mdmp_c.specs.Fault.{list_told, status_of}
+use Rattle.mdmp_c.specs.Limits.{AreLimits}
+use Rattle.mdmp_c.specs.Table.{Collects, IsTable}
+use Rattle.mdmp_c.proofs.Ending.{Ends-collected, Ends-refused, no_rows}
+use Rattle.mdmp_c.proofs.table.give_rows.Goals as goal
+
+pub returns-in-Err : goal.returns-in-Err
+returns-in-Err g c =
+    let file = c.args.file.now in
+    let good : IsGood c.new-source.result.store file = search rules in
+    let valid : AreLimits c.args.limits.now = c.in-Some.ensures.0 in
+    Ends-refused (IsTable g.T.Row.row_of file c.args.choice c.args.limits.now.name) file c.args.choice (AreLimits c.args.limits.now)
+    (no_rows g.T.Row.row_of file c.args.choice c.args.limits.now.name (AreLimits c.args.limits.now)) c.in-Err.refused.fault _ _ _ _ _ valid
+    (c.in-Err.ensures.opens file good.known) (c.in-Err.ensures.good file good)
+    (c.refuse-in-Err.ensures.status ∙ ap status_of c.open_fault.ensures) c.refuse-in-Err.ensures.count
+    (c.refuse-in-Err.ensures.fault ∙ c.open_fault.ensures) refl
+
+pub returns : goal.returns
+returns g c =
+    let file = c.args.file.now in
+    let choice = c.args.choice in
+    let good : IsGood c.new-source.result.store file = search rules in
+    let valid : AreLimits c.args.limits.now = c.in-Some.ensures.0 in
+    let new = c.in-Ok.ensures.new in
+    let now : IsGood c.in-Ok.lister.source.store file = record {
+      known = new.fetches.same_content ∙ good.known;
+      reliable = subst (λ (b : Bool). IsTrue b) (sym new.fetches.same_reliable) good.reliable;
+    } in
+    let run = listing file choice c.in-Some.limits.name in
+    let left : c.in-Ok.lister.left ≡ Some run = new.list.left ∙ ap (option_map (λ (f : List ℕ). listing f choice c.in-Some.limits.name)) good.known in
+    let rows = c.collect-collected.ensures file now run left in
+    let name : c.in-Some.limits.name ≡ c.args.limits.now.name = c.in-Some.ensures.2 in
+    let told = subst
+    (λ (n : ℕ). Collects g.T.Row.row_of (listing file choice n) c.collect-collected.result.count c.collect-collected.result.fault c.args.out.now c.collect-collected.new.out)
+    name rows in
+    rw c.tell.ensures.count
+    (Ends-collected g.T.Row.row_of file choice c.args.limits.now.name (AreLimits c.args.limits.now) c.tell.result c.collect-collected.result.count
+    c.collect-collected.result.fault c.tell.new.fault c.args.out.now c.collect-collected.new.out valid (c.in-Ok.ensures.opens file good.known) told
+    (λ n is. subst (λ (m : ℕ). c.tell.result ≡ (if nat_lt m n then 4 else status_of (list_told c.collect-collected.result.fault))) c.collect-collected.auto.out (rw c.list_end.ensures at (c.tell.ensures.status n is))) (c.tell.ensures.fault ∙ c.list_end.ensures))

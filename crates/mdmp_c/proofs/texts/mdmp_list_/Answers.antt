@@ -1,0 +1,27 @@
+use Rattle.std.proofs.Common.{◌≡◌, ◌∙◌, ◌⊎◌, ℕ, Some, ap, sym, subst}
+use Rattle.mdmp_source.specs.Output.{OutState}
+use Rattle.mdmp_c.specs.declared.fault.PlainFault.{PlainFault}
+use Rattle.mdmp_c.specs.Fault.{no_memory}
+use Rattle.mdmp_c.specs.Giving.{bad_limits}
+use Rattle.mdmp_c.specs.Limits.{AreLimits}
+use Rattle.mdmp_c.specs.Texts.{IsList}
+use Rattle.mdmp_c.specs.ToolFault.{list_answer}
+use Rattle.mdmp_c.proofs.Told.{Ends-given, IsList-told}
+use Rattle.mdmp_c.proofs.texts.mdmp_list_.Goals as goal
+
+pub returns : goal.returns
+returns c =
+    let file = c.args.file.now in
+    let text = c.deref.result.now in
+    let answer = c.run_list-answer.result in
+    let known = c.new-2.ensures.same_content in
+    let none = ap (λ (o : OutState). o.taken) c.new-text.ensures ∙ ap Some c.new.ensures.items in
+    let is = sym c.into_inner-text.ensures ∙ ap Some (sym c.deref.ensures.value) in
+    let read = c.run_list-answer.ensures.tells.good file record { known = known; reliable = c.new-2.ensures.same_reliable } in
+    let runs = c.run_list-answer.ensures.lists file known in
+    let told = IsList-told c.args.pdb file c.in-Some.limits.name _ _ text answer none is read runs in
+    let named = subst (λ (n : ℕ). (list_answer answer ≡ no_memory) ⊎ IsList c.args.pdb file n (list_answer answer) text) c.in-Some.ensures.2 told in
+    let valid : AreLimits c.args.limits.now = c.in-Some.ensures.0 in
+    Ends-given (IsList c.args.pdb file c.args.limits.now.name) (AreLimits c.args.limits.now) bad_limits c.list_answer.result text c.give_or_want.result c.give_or_want.new.size c.give_or_want.new.fault
+    c.args.out.now c.give_or_want.new.out valid
+    (subst (λ (f : PlainFault). (f ≡ no_memory) ⊎ IsList c.args.pdb file c.args.limits.now.name f text) (sym c.list_answer.ensures) named) c.give_or_want.ensures

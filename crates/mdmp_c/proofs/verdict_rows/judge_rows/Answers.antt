@@ -1,0 +1,42 @@
+use Rattle.std.proofs.Common.{◌∙◌, [], List, ap, length, map, sym}
+use Rattle.std.proofs.lemmas.List.{length-map}
+use Rattle.mdmp_lister.specs.declared.verdict.Verdict.{Verdict}
+use Rattle.mdmp_tool.specs.CheckText.{bad_count}
+use Rattle.mdmp_c.specs.Giving.{put_front, told_count}
+use Rattle.mdmp_c.specs.Verdicts.{verdict_row}
+use Rattle.mdmp_c.proofs.Gathered.{put_front-nothing}
+use Rattle.mdmp_c.proofs.Judging.{bad-all, name-taken, never_stopped, rows-taken}
+use Rattle.mdmp_c.proofs.verdict_rows.judge_rows.Goals as goal
+
+pub returns-in-Ok-clause-same_output : goal.returns-in-Ok-clause-same_output
+returns-in-Ok-clause-same_output g c =
+    name-taken (λ rows. rows.out.now) (λ rows. rows.count) (λ rows. rows.bad) (λ rows. rows.out.ghost_name) c.in-Ok.ensures.checks.judged _ _ c.in-Ok.ensures.checks.handed
+
+pub returns-in-Ok-clause-judges : goal.returns-in-Ok-clause-judges
+returns-in-Ok-clause-judges g c = λ file good.
+    let checks = c.in-Ok.ensures.checks in
+    let old = c.args.rows.now in
+    let vs = checks.judged in
+    let all = checks.of_file file good.known in
+    let rows = rows-taken (λ rows. rows.out.now) (λ rows. rows.count) (λ rows. rows.bad) (λ rows. rows.out.ghost_name) vs _ _ checks.handed [] old.out.now (sym (put_front-nothing old.out.now)) c.requires.none.0 in
+    let bad = bad-all (λ rows. rows.out.now) (λ rows. rows.count) (λ rows. rows.bad) (λ rows. rows.out.ghost_name) vs _ _ checks.handed c.requires.none.1 in
+    record {
+      count_is = rows.1 ∙ ap told_count (length-map vs verdict_row) ∙ ap (λ (xs : List Verdict). told_count (length xs)) (sym all);
+      bad_is = bad ∙ ap (λ (xs : List Verdict). told_count (bad_count xs)) (sym all);
+      out = rows.0 ∙ ap (λ (xs : List Verdict). put_front (map verdict_row xs) old.out.now) (sym all);
+    }
+
+pub returns-in-Err-At-clause-same_output : goal.returns-in-Err-At-clause-same_output
+returns-in-Err-At-clause-same_output g c =
+    name-taken (λ rows. rows.out.now) (λ rows. rows.count) (λ rows. rows.bad) (λ rows. rows.out.ghost_name) c.in-Err-At.ensures.checks.judged _ _ (rw c.in-Err-At.field-0-is at c.in-Err-At.ensures.checks.handed)
+
+pub returns-in-Err-At-clause-judges : goal.returns-in-Err-At-clause-judges
+returns-in-Err-At-clause-judges g c = λ file good. c.in-Err-At.ensures.good file good c.in-Err-At.fault c.in-Err-At.field-0-is
+
+pub returns-in-Err-Stopped-clause-same_output : goal.returns-in-Err-Stopped-clause-same_output
+returns-in-Err-Stopped-clause-same_output g c =
+    absurd (never_stopped (λ rows. rows.out.now) (λ rows. rows.count) (λ rows. rows.bad) (λ rows. rows.out.ghost_name) c.in-Err-Stopped.ensures.checks.judged _ _ (rw c.in-Err-Stopped.field-0-is at c.in-Err-Stopped.ensures.checks.handed))
+
+pub returns-in-Err-Stopped-clause-judges : goal.returns-in-Err-Stopped-clause-judges
+returns-in-Err-Stopped-clause-judges g c = λ file good.
+    never_stopped (λ rows. rows.out.now) (λ rows. rows.count) (λ rows. rows.bad) (λ rows. rows.out.ghost_name) c.in-Err-Stopped.ensures.checks.judged _ _ (rw c.in-Err-Stopped.field-0-is at c.in-Err-Stopped.ensures.checks.handed)

@@ -1,0 +1,73 @@
+-- Faults as plain numbers.
+use Rattle.std.specs.Prelude.{ℕ, ◌/◌, ◌%◌, ◌^◌, ◌==◌, ◌||◌, Option, Some, None, unwrap_or, is_some, replicate, if◌then◌else◌}
+use Rattle.mdmp_c.specs.declared.fault.PlainFault.{PlainFault}
+use Rattle.mdmp_lister.specs.declared.fault.FaultKind.{FaultKind}
+use Rattle.mdmp_lister.specs.declared.fault.FaultKind.TheVariants as kinds
+use Rattle.mdmp_lister.specs.declared.fault.ListFault.{ListFault}
+use Rattle.mdmp_lister.specs.declared.fault.OpenFault.{OpenFault}
+use Rattle.mdmp_lister.specs.declared.fault.OpenFault.TheVariants as opening
+
+-- nothing is wrong
+abbrev pub no_fault : PlainFault
+no_fault = record { kind = 0; entry = 0; index = 0; offset = 0; size = 0; high = 0; part = 0; has_index = 0; reserved = replicate 4 0 }
+
+-- a fault that is told by its kind alone
+abbrev pub of_kind : ℕ → PlainFault
+of_kind kind = record no_fault { kind = kind }
+
+abbrev pub no_memory : PlainFault
+no_memory = of_kind 66
+
+-- a fault of the opening
+abbrev pub open_fault : OpenFault → PlainFault
+open_fault (opening.TooShort size) = record (of_kind 1) { size = size }
+open_fault opening.BadSignature = of_kind 2
+open_fault (opening.BadVersion low) = record (of_kind 3) { size = low }
+open_fault (opening.DirectoryOutside offset size) = record (of_kind 4) { offset = offset; size = size }
+open_fault (opening.TooManyRanges count) = record (of_kind 5) { size = count % 2 ^ 64; high = count / 2 ^ 64 }
+open_fault opening.Memory = no_memory
+open_fault (opening.Source fault) = of_kind 69
+
+-- what is wrong with an entry
+abbrev pub kind_number : FaultKind → ℕ
+kind_number kinds.StreamOutside = 16
+kind_number kinds.ShortStream = 17
+kind_number kinds.BadHeaderSize = 18
+kind_number kinds.BadEntrySize = 19
+kind_number kinds.BadCount = 20
+kind_number kinds.NameLengthOutside = 21
+kind_number kinds.NameOdd = 22
+kind_number kinds.NameUnitsOutside = 23
+kind_number (kinds.Source fault) = 69
+
+-- a fault of the listing
+abbrev pub list_fault : ListFault → PlainFault
+list_fault f = record {
+  kind = kind_number f.kind;
+  entry = f.entry;
+  index = unwrap_or f.index 0;
+  offset = f.offset;
+  size = f.size;
+  high = 0;
+  part = 0;
+  has_index = if is_some f.index then 1 else 0;
+  reserved = replicate 4 0;
+}
+
+-- 0 of no fault, 1 where the file is at fault, 2 where an argument is, 3 where memory was wanting
+abbrev pub status_of : PlainFault → ℕ
+status_of fault =
+    if fault.kind == 0 then 0
+    else if fault.kind == 65 || fault.kind == 67 || fault.kind == 68 || fault.kind == 70 then 2
+    else if fault.kind == 66 || fault.kind == 69 then 3
+    else 1
+
+-- what is told of a file that is refused, or else of one that can be opened
+abbrev pub told_unless : Option OpenFault → PlainFault → PlainFault
+told_unless (Some fault) told = open_fault fault
+told_unless None told = told
+
+-- what is told of a listing that ends with a fault, or with none
+abbrev pub list_told : Option ListFault → PlainFault
+list_told (Some fault) = list_fault fault
+list_told None = no_fault

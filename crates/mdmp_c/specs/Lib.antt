@@ -1,0 +1,15 @@
+pub mod Directory
+pub mod Fault
+pub mod FaultText
+pub mod Giving
+pub mod Limits
+pub mod Memory
+pub mod Places
+pub mod Rows
+pub mod Table
+pub mod Texts
+pub mod ToolFault
+pub mod Names
+pub mod Copies
+pub mod Symbols
+pub mod Verdicts

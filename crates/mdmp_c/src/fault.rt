@@ -1,0 +1,122 @@
+//! Faults as plain numbers, for callers in other languages.
+ghost use Rattle.std.specs.Prelude.{◌≡◌};
+ghost use Rattle.mdmp_c.specs.Fault.{kind_number, list_fault, no_fault, of_kind, open_fault, status_of};
+
+use mdmp_lister::{FaultKind, ListFault, OpenFault};
+
+/// What is wrong, and where. A number that its kind says nothing of is 0.
+#[repr(C)]
+#[derive(Clone, Copy, Debug, PartialEq, Eq)]
+pub struct PlainFault {
+    /// What is wrong: 0 for nothing, else one of the kinds of the header.
+    pub kind: u32,
+    /// The number of the entry in the directory, from 0.
+    pub entry: u32,
+    /// The index of the item in its stream, from 0, where `has_index` is 1.
+    pub index: u64,
+    /// An offset from the start of the file, in bytes: its low 64 bits.
+    pub offset: u64,
+    /// A number of bytes, or the number that the kind says: its low 64 bits.
+    pub size: u64,
+    /// The high 64 bits of the one number that may be so great.
+    pub high: u64,
+    /// Which part of the item, from 1: stack, context, CodeView, miscellaneous, memory.
+    pub part: u32,
+    /// 1 where the fault is of one item, 0 where it is of a whole entry.
+    pub has_index: u32,
+    /// Zeros.
+    pub reserved: [u32; 4],
+}
+
+/// Nothing is wrong.
+pub const NO_FAULT: PlainFault = PlainFault {
+    kind: 0,
+    entry: 0,
+    index: 0,
+    offset: 0,
+    size: 0,
+    high: 0,
+    part: 0,
+    has_index: 0,
+    reserved: [0; 4],
+};
+
+/// A fault that is told by its kind alone.
+pub(crate) fn of_kind(kind: u32) -> PlainFault
+    ensures { result ≡ of_kind kind }
+{
+    PlainFault { kind, ..NO_FAULT }
+}
+
+/// A fault of the opening.
+pub(crate) fn open_fault(fault: OpenFault) -> PlainFault
+    ensures { result ≡ open_fault fault }
+{
+    match fault {
+        OpenFault::TooShort { size } => PlainFault { size, ..of_kind(1) },
+        OpenFault::BadSignature => of_kind(2),
+        OpenFault::BadVersion { low } => PlainFault {
+            size: u64::from(low),
+            ..of_kind(3)
+        },
+        OpenFault::DirectoryOutside { offset, size } => PlainFault {
+            offset,
+            size,
+            ..of_kind(4)
+        },
+        OpenFault::TooManyRanges { count } => PlainFault {
+            size: (count % (1 << 64)) as u64,
+            high: (count / (1 << 64)) as u64,
+            ..of_kind(5)
+        },
+        OpenFault::Memory => of_kind(66),
+        OpenFault::Source(_) => of_kind(69),
+    }
+}
+
+/// The number of what is wrong with an entry.
+fn kind_of(kind: FaultKind) -> u32
+    ensures { result ≡ kind_number kind }
+{
+    match kind {
+        FaultKind::StreamOutside => 16,
+        FaultKind::ShortStream => 17,
+        FaultKind::BadHeaderSize => 18,
+        FaultKind::BadEntrySize => 19,
+        FaultKind::BadCount => 20,
+        FaultKind::NameLengthOutside => 21,
+        FaultKind::NameOdd => 22,
+        FaultKind::NameUnitsOutside => 23,
+        FaultKind::Source(_) => 69,
+    }
+}
+
+/// A fault of the listing.
+pub(crate) fn list_fault(fault: ListFault) -> PlainFault
+    ensures { result ≡ list_fault fault }
+{
+    PlainFault {
+        kind: kind_of(fault.kind),
+        entry: fault.entry,
+        index: fault.index.unwrap_or(0),
+        offset: fault.offset,
+        size: fault.size,
+        high: 0,
+        part: 0,
+        has_index: if fault.index.is_some() { 1 } else { 0 },
+        reserved: [0; 4],
+    }
+}
+
+/// The status of a call that tells this fault: 0 of none, 1 where the file is at fault, 2 where an
+/// argument is, 3 where memory was wanting.
+pub(crate) fn status_of(fault: &PlainFault) -> u32
+    ensures { result ≡ status_of fault.now }
+{
+    match fault.kind {
+        0 => 0,
+        65 | 67 | 68 | 70 => 2,
+        66 | 69 => 3,
+        _ => 1,
+    }
+}

@@ -1,0 +1,25 @@
+//! The call that gives the words of a fault.
+ghost use Rattle.std.specs.Prelude.{◌≡◌, Some, None};
+ghost use Rattle.mdmp_tool.specs.declared.fault.ToolFault.{ToolFault};
+ghost use Rattle.mdmp_tool.specs.Faults.{fault_text};
+ghost use Rattle.mdmp_c.specs.FaultText.{Fits, TellsWords, words_of};
+ghost use Rattle.mdmp_c.specs.ToolFault.{tool_fault};
+
+use crate::fault::PlainFault;
+use crate::wording::give_words;
+use std::alloc::Global;
+
+/// Gives the words of a fault, those that the command tells it by, without `mdmp: ` before them or a line
+/// feed behind: nothing of no fault. A fault that no call tells is a bad argument.
+#[unsafe(no_mangle)]
+pub extern "C" fn mdmp_fault_text_(
+    alloc: Global,
+    fault: &PlainFault,
+    out: &mut [u8],
+    size: &mut u64,
+) -> u32
+    ensures tells { TellsWords fault.now result size.new out.old out.new }
+    ensures words { (f : ToolFault) → Fits f → fault.now ≡ tool_fault f → words_of fault.now ≡ Some (fault_text f) }
+{
+    give_words(alloc, fault, out, size)
+}

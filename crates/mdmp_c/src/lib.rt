@@ -1,0 +1,84 @@
+//! The calls of `mdmp` for programs in other languages: `include/mdmp.h` declares them for C.
+//!
+//! Each call reads a file that stands wholly in the caller's memory, and writes what it has to say into
+//! memory of the caller's: a text, an array of plain structures, bytes. No call keeps anything, so any
+//! number of them may run at once over the same file. What a call takes from the allocator is given back
+//! before it returns.
+//!
+//! A call answers a status: 0 for good, 1 where the file is at fault, 2 where an argument is, 3 where
+//! memory was wanting, 4 where the buffer was too short; [`PlainFault`] says what is wrong, and where.
+//! [`PlainLimits`] bound what is read at a time.
+//! What a call gives is said by the definitions that the Rust calls have: of a text those of mdmp_tool,
+//! of a record the listing of mdmp_lister. `specs/Giving.antt` says how it reaches the caller.
+#![tactic(auto)]
+
+ghost use Rattle.std.specs.Prelude.{◌≡◌};
+
+mod addressing;
+mod collecting;
+mod copy;
+mod directory;
+mod fault;
+mod fault_text;
+mod giving;
+mod heading;
+mod limits;
+mod memory;
+mod name;
+mod naming;
+mod parts;
+mod records;
+mod rows;
+mod symbols;
+mod table;
+mod texts;
+mod told_fault;
+mod tool_fault;
+mod verdict_rows;
+mod verdicts;
+mod wording;
+
+pub use crate::copy::mdmp_copy_;
+pub use crate::directory::{mdmp_header_, mdmp_streams_};
+pub use crate::fault::{NO_FAULT, PlainFault};
+pub use crate::fault_text::mdmp_fault_text_;
+pub use crate::heading::{HeaderRow, StreamRow};
+pub use crate::limits::PlainLimits;
+pub use crate::memory::{mdmp_memory_, mdmp_read_};
+pub use crate::name::mdmp_name_;
+pub use crate::parts::{NamePlace, PartPlace};
+pub use crate::records::{
+    mdmp_exceptions_, mdmp_modules_, mdmp_ranges_, mdmp_regions_, mdmp_systems_, mdmp_threads_,
+    mdmp_unloaded_,
+};
+pub use crate::rows::{
+    ExceptionRow, ModuleRow, RangeRow, RegionRow, SystemRow, ThreadRow, UnloadedRow,
+};
+pub use crate::symbols::{Symbols, mdmp_symbols_};
+pub use crate::texts::{mdmp_check_, mdmp_list_};
+pub use crate::verdicts::mdmp_verdicts_;
+
+/// The number of these calls' form: it rises where a structure or the meaning of a call changes.
+pub const ABI: u32 = 1;
+
+/// The version of the library, 0.1.0: its three numbers, a byte each, the greatest first.
+pub const VERSION: u32 = 0x000100;
+
+/// Answers [`ABI`], which a caller compares with the header's.
+#[unsafe(no_mangle)]
+pub extern "C" fn mdmp_abi() -> u32
+    ensures { result ≡ 1 }
+{
+    ABI
+}
+
+/// Answers [`VERSION`].
+#[unsafe(no_mangle)]
+pub extern "C" fn mdmp_version() -> u32
+    ensures { result ≡ 256 }
+{
+    VERSION
+}
+
+#[cfg(test)]
+mod tests;

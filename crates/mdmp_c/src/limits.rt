@@ -1,0 +1,27 @@
+//! Limits as plain numbers.
+ghost use Rattle.std.specs.Prelude.{◌≡◌, ◌↔◌, IsSome};
+ghost use Rattle.mdmp_c.specs.Limits.{AreLimits, IsLimits};
+
+use mdmp_lister::Limits;
+
+/// How many bytes a call holds of the file's records at a time, and of a name.
+#[repr(C)]
+#[derive(Clone, Copy)]
+pub struct PlainLimits {
+    /// The window through which the file is read, in bytes: 168 to 2^30.
+    pub window: u32,
+    /// The longest name that is read, in bytes: at most 2^30.
+    pub name: u32,
+    /// How many bytes may be fetched: 0, since there is no such limit yet.
+    pub budget: u64,
+}
+
+/// The limits that these numbers are, if they are good.
+pub(crate) fn limits_of(plain: &PlainLimits) -> Option<Limits>
+    ensures { IsLimits plain.now result }
+{
+    if plain.budget != 0 {
+        return None;
+    }
+    Limits::new(plain.window, plain.name)
+}

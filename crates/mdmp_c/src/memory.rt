@@ -1,0 +1,75 @@
+//! Calls that give memory of the dumped process.
+ghost use Rattle.mdmp_c.specs.Memory.{ReadsKept, ReadsMemory};
+
+use crate::addressing::read_by;
+use crate::fault::{NO_FAULT, PlainFault, list_fault, of_kind, open_fault};
+use crate::giving::refuse;
+use crate::limits::{PlainLimits, limits_of};
+use crate::rows::RangeRow;
+use mdmp_lister::{Choice, Lister};
+use mdmp_source::{MemoryStore, Source};
+use std::alloc::Global;
+
+/// Gives the memory of the dumped process from an address on. Where a range of the file's memory lists
+/// holds an address, its byte is put into `out`, and `known` is true there; else they are 0 and false.
+#[unsafe(no_mangle)]
+pub extern "C" fn mdmp_memory_(
+    alloc: Global,
+    file: &[u8],
+    limits: &PlainLimits,
+    address: u64,
+    out: &mut [u8],
+    known: &mut [bool],
+    fault: &mut PlainFault,
+) -> u32
+    ensures { ReadsMemory file.now limits.now address result fault.new out.old out.new known.old known.new }
+{
+    let mut none = 0;
+    if out.len() != known.len() {
+        return refuse(of_kind(70), &mut none, fault);
+    }
+    let Some(limits) = limits_of(limits) else {
+        return refuse(of_kind(67), &mut none, fault);
+    };
+    let source = Source::new(MemoryStore::new(file));
+    let mut lister = match Lister::open(alloc, source, limits, Choice::memory_lists()) {
+        Ok(lister) => lister,
+        Err(refused) => return refuse(open_fault(refused.fault), &mut none, fault),
+    };
+    match lister.list_ranges() {
+        Ok(()) => {}
+        Err(found) => return refuse(list_fault(found), &mut none, fault),
+    }
+    match lister.read_address(address, out, known) {
+        Ok(()) => {
+            *fault = NO_FAULT;
+            0
+        }
+        // The store is memory, which does not fail.
+        Err(_) => refuse(of_kind(69), &mut none, fault),
+    }
+}
+
+/// Gives the memory of the dumped process from an address on, by ranges that [`mdmp_ranges_`](crate::mdmp_ranges_)
+/// gave. Those whose bytes do not lie inside the file are passed over.
+///
+/// Memory is not taken.
+#[unsafe(no_mangle)]
+pub extern "C" fn mdmp_read_(
+    file: &[u8],
+    ranges: &[RangeRow],
+    address: u64,
+    out: &mut [u8],
+    known: &mut [bool],
+    fault: &mut PlainFault,
+) -> u32
+    ensures { ReadsKept file.now ranges.now address result fault.new out.old out.new known.old known.new }
+{
+    let mut none = 0;
+    if out.len() != known.len() {
+        return refuse(of_kind(70), &mut none, fault);
+    }
+    read_by(file, ranges, address, out, known);
+    *fault = NO_FAULT;
+    0
+}

@@ -1,0 +1,82 @@
+//! Places in the file, as plain numbers.
+ghost use Rattle.std.specs.Prelude.{◌≡◌};
+ghost use Rattle.mdmp_c.specs.Places.{extent_number, name_place, part_place};
+ghost use Rattle.mdmp_lister.specs.Format.Item.{plain};
+ghost use Rattle.mdmp_lister.specs.Format.Name.{plain_name};
+
+use mdmp_lister::Name;
+use mdmp_source::{Extent, Location};
+
+/// Where a part of a record is said to stand, `MINIDUMP_LOCATION_DESCRIPTOR`, and what is there.
+#[repr(C)]
+#[derive(Clone, Copy)]
+pub struct PartPlace {
+    /// `DataSize`, in bytes.
+    pub size: u32,
+    /// `Rva`, an offset from the start of the file.
+    pub rva: u32,
+    /// What it names: 0 no bytes, 1 bytes that were not kept, 2 bytes of the file, 3 bytes of which one
+    /// lies behind its end.
+    pub extent: u32,
+    /// 0.
+    pub reserved: u32,
+}
+
+/// Where a name stands, a `MINIDUMP_STRING`.
+#[repr(C)]
+#[derive(Clone, Copy)]
+pub struct NamePlace {
+    /// Where its length stands, an offset from the start of the file: 0 where there is no name.
+    pub rva: u64,
+    /// How many bytes its units have, which stand 4 bytes behind that.
+    pub size: u32,
+    /// 0 where there is no name, 1 for one within the limit, 2 for a longer one.
+    pub state: u32,
+}
+
+/// The number of an extent.
+pub(crate) fn extent_number(extent: Extent) -> u32
+    ensures { result ≡ extent_number extent }
+{
+    match extent {
+        Extent::Empty => 0,
+        Extent::Absent => 1,
+        Extent::Inside => 2,
+        Extent::Outside => 3,
+    }
+}
+
+/// A part's place.
+pub(crate) fn part_place(location: Location, extent: Extent) -> PartPlace
+    ensures { result ≡ part_place location extent }
+{
+    PartPlace {
+        size: location.size,
+        rva: location.rva,
+        extent: extent_number(extent),
+        reserved: 0,
+    }
+}
+
+/// A name's place.
+pub(crate) fn name_place(rva: u64, name: &Name<'_>) -> NamePlace
+    ensures { result ≡ name_place rva (plain_name name.now) }
+{
+    match name {
+        Name::None => NamePlace {
+            rva,
+            size: 0,
+            state: 0,
+        },
+        Name::Units(units) => NamePlace {
+            rva,
+            size: (units.bytes().len() % (1 << 32)) as u32,
+            state: 1,
+        },
+        Name::Long(length) => NamePlace {
+            rva,
+            size: *length,
+            state: 2,
+        },
+    }
+}

@@ -1,0 +1,90 @@
+//! What a module tells of its symbol file.
+ghost use Rattle.mdmp_c.specs.Symbols.{GivesSymbols, IsPlace, RefusesPlace};
+
+use crate::fault::{NO_FAULT, PlainFault, of_kind};
+use crate::parts::PartPlace;
+use mdmp_source::inside;
+use mdmp_wire::CodeView;
+
+/// What the CodeView record of a module tells.
+#[repr(C)]
+#[derive(Clone, Copy)]
+pub struct Symbols {
+    /// Of the kind RSDS: where the name of the symbol file stands, an offset from the start of the file.
+    pub name_offset: u64,
+    /// 0 for a record of the kind RSDS, 1 for one of another kind, 2 for one that is too short.
+    pub kind: u32,
+    /// Of the kind RSDS: how often the symbol file was written since it got its identity.
+    pub age: u32,
+    /// How many bytes the name has, of no known encoding.
+    pub name_size: u32,
+    /// 1 where a zero byte ends the name, 0 where the record ends first.
+    pub name_ended: u32,
+    /// Of the kind RSDS: the symbol file's identity, in the order in which it is printed.
+    pub guid: [u8; 16],
+    /// Of another kind: the first four bytes.
+    pub signature: [u8; 4],
+    /// Zeros.
+    pub reserved: [u32; 3],
+}
+
+const NO_SYMBOLS: Symbols = Symbols {
+    name_offset: 0,
+    kind: 0,
+    age: 0,
+    name_size: 0,
+    name_ended: 0,
+    guid: [0; 16],
+    signature: [0; 4],
+    reserved: [0; 3],
+};
+
+/// Gives what the CodeView record at a place tells, as the `codeview` of a module.
+#[tactic(auto, unfolding(mdmp_wire::specs::Number::array_at))]
+#[unsafe(no_mangle)]
+pub extern "C" fn mdmp_symbols_(
+    file: &[u8],
+    place: &PartPlace,
+    out: &mut Symbols,
+    fault: &mut PlainFault,
+) -> u32
+    ensures inside { IsPlace file.now place.now → GivesSymbols file.now place.now result fault.new out.new }
+    ensures outside { (IsPlace file.now place.now → ⊥) → RefusesPlace place.now result fault.new out.new }
+{
+    *out = NO_SYMBOLS;
+    let at = u64::from(place.rva);
+    let size = u64::from(place.size);
+    if place.size == 0 || !inside(at, size, file.len() as u64) {
+        *fault = PlainFault {
+            offset: at,
+            size,
+            part: 3,
+            ..of_kind(32)
+        };
+        return 1;
+    }
+    let start = place.rva as usize;
+    let end = start + place.size as usize;
+    let middle = start + (place.size as usize).min(24);
+    match CodeView::read(&file[start..middle], &file[middle..end], place.size) {
+        CodeView::Rsds {
+            guid,
+            age,
+            name,
+            ended,
+        } => {
+            out.age = age;
+            out.guid = guid.into_bytes();
+            out.name_offset = middle as u64;
+            out.name_size = (name.len() % (1 << 32)) as u32;
+            out.name_ended = if ended { 1 } else { 0 };
+        }
+        CodeView::Other { signature, size: _ } => {
+            out.kind = 1;
+            out.signature = signature;
+        }
+        CodeView::Short { size: _ } => out.kind = 2,
+    }
+    *fault = NO_FAULT;
+    0
+}
