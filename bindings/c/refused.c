@@ -1,0 +1,161 @@
+/* Each allocation refused in turn: want of memory is told, the buffers are as they were, and nothing is kept. Linked
+ * with
+ * --wrap=malloc --wrap=realloc --wrap=free: refused DUMP.. */
+#include "fillers.h"
+
+void *__real_malloc(size_t size);
+void *__real_realloc(void *block, size_t size);
+void __real_free(void *block);
+void *__wrap_malloc(size_t size);
+void *__wrap_realloc(void *block, size_t size);
+void __wrap_free(void *block);
+
+static long allowed = -1; /* how many are still granted, or -1 for all */
+static long asked, live;
+
+static bool refuses(void) {
+    asked++;
+    if (allowed < 0) {
+        return false;
+    }
+    return allowed-- == 0 ? (allowed = 0, true) : false;
+}
+
+void *__wrap_malloc(size_t size) {
+    void *block = refuses() ? NULL : __real_malloc(size);
+    live += block != NULL;
+    return block;
+}
+
+void *__wrap_realloc(void *block, size_t size) {
+    void *grown = refuses() ? NULL : __real_realloc(block, size);
+    live += block == NULL && grown != NULL;
+    return grown;
+}
+
+void __wrap_free(void *block) {
+    live -= block != NULL;
+    __real_free(block);
+}
+
+static bool is_untouched(const uint8_t *out, size_t size) {
+    for (size_t i = 0; i < size; i++) {
+        if (out[i] != 0xaa) {
+            return false;
+        }
+    }
+    return true;
+}
+
+/* How many allocations the call asks for, each of which was refused once. */
+static long test_filler(const filler *tried, blob file, uint8_t *out, size_t room) {
+    for (long granted = 0;; granted++) {
+        uint64_t count = 1;
+        mdmp_fault fault;
+        long kept = live;
+        memset(out, 0xaa, room * tried->item);
+        allowed = granted;
+        asked = 0;
+        uint32_t status = tried->call(file, out, room, &count, &fault);
+        allowed = -1;
+        ASSERT(live == kept);
+        if (status != MDMP_NO_MEMORY) {
+            /* a part of the dump that was made lies outside, and so it is not copied */
+            ASSERT((status == MDMP_OK || fault.kind == MDMP_FAULT_PART_OUTSIDE) && asked == granted);
+            return granted;
+        }
+        ASSERT(fault.kind == MDMP_FAULT_NO_MEMORY && count == 0 && is_untouched(out, room * tried->item));
+    }
+}
+
+static long test_memory(blob file) {
+    for (long granted = 0;; granted++) {
+        uint8_t out[16];
+        bool known[16];
+        mdmp_fault fault;
+        long kept = live;
+        memset(out, 0xaa, sizeof out);
+        memset(known, 0, sizeof known);
+        allowed = granted;
+        uint32_t status = mdmp_memory(file.bytes, file.size, &LIMITS, 0x1000, out, 16, known, 16, &fault);
+        allowed = -1;
+        ASSERT(live == kept);
+        if (status != MDMP_NO_MEMORY) {
+            ASSERT(status == MDMP_OK);
+            return granted;
+        }
+        ASSERT(fault.kind == MDMP_FAULT_NO_MEMORY && is_untouched(out, sizeof out) && !known[0]);
+    }
+}
+
+static void test_fault_text(void) {
+    mdmp_fault fault = {.kind = MDMP_FAULT_PART_OUTSIDE, .part = MDMP_PART_STACK};
+    for (long granted = 0;; granted++) {
+        uint8_t out[200];
+        uint64_t size = 1;
+        long kept = live;
+        memset(out, 0xaa, sizeof out);
+        allowed = granted;
+        uint32_t status = mdmp_fault_text(&fault, out, sizeof out, &size);
+        allowed = -1;
+        ASSERT(live == kept);
+        if (status != MDMP_NO_MEMORY) {
+            ASSERT(status == MDMP_OK && size > 0);
+            return;
+        }
+        ASSERT(size == 0 && is_untouched(out, sizeof out));
+    }
+}
+
+/* The calls that take no memory ask for none. */
+static void test_none(blob file) {
+    mdmp_header_record header;
+    mdmp_fault fault;
+    mdmp_symbol_file symbols;
+    const mdmp_place place = {24, 0, MDMP_EXTENT_INSIDE, 0};
+    const mdmp_range range = {.start = 0, .size = 8, .offset = 0, .extent = MDMP_EXTENT_INSIDE};
+    uint8_t out[16];
+    bool known[16];
+    uint64_t count;
+    ASSERT(mdmp_ranges(file.bytes, file.size, &LIMITS, NULL, 0, &count, &fault) != MDMP_FAULT);
+    mdmp_range *ranges = malloc(((size_t)count + 1) * sizeof *ranges);
+    ASSERT(mdmp_ranges(file.bytes, file.size, &LIMITS, ranges, (size_t)count, &count, &fault) == MDMP_OK);
+    allowed = 0;
+    asked = 0;
+    ASSERT(mdmp_header(file.bytes, file.size, &header, &fault) == MDMP_OK);
+    ASSERT(mdmp_symbols(file.bytes, file.size, &place, &symbols, &fault) == MDMP_OK);
+    ASSERT(mdmp_read(file.bytes, file.size, &range, 1, 4, out, 16, known, 16, &fault) == MDMP_OK);
+    ASSERT(known[3] && !known[4]);
+    uint64_t start = count == 0 ? 0 : ranges[count / 2].start;
+    ASSERT(mdmp_read(file.bytes, file.size, ranges, (size_t)count, start, out, 16, known, 16, &fault) == MDMP_OK);
+    allowed = -1;
+    ASSERT(asked == 0);
+    free(ranges);
+}
+
+int main(int argc, char **argv) {
+    enum { ROOM = 1 << 20 };
+    uint8_t *out = malloc(ROOM);
+    ASSERT(out != NULL);
+    for (int i = 1; i < argc; i++) {
+        blob file = read_file(argv[i]);
+        mdmp_module module;
+        uint64_t count;
+        mdmp_fault fault;
+        uint32_t status = mdmp_modules(file.bytes, file.size, &LIMITS, &module, 1, &count, &fault);
+        name_rva = status != MDMP_FAULT && count > 0 ? module.name.rva : 0;
+        for (size_t k = 0; k < FILLERS_COUNT; k++) {
+            const filler *tried = &FILLERS[k];
+            long refused = test_filler(tried, file, out, ROOM / tried->item);
+            /* so that the test is seen to refuse something: a name may be of a file that has none */
+            ASSERT(tried->takes_memory ? refused > 0 || tried->item == 1 || file.size == 32 : refused == 0);
+        }
+        test_memory(file);
+        test_none(file);
+        free(file.bytes);
+    }
+    test_fault_text();
+    free(out);
+    ASSERT(live == 0);
+    return 0;
+}

@@ -1,0 +1,1 @@
+"""Makes the declarations of each language from interface.toml."""

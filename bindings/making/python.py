@@ -1,0 +1,141 @@
+"""Python's declarations: the plain structures and the types of the calls, and the records that programs see."""
+
+from __future__ import annotations
+
+import textwrap
+
+from .interface import Argument, Call, Enum, Field, Interface, Structure
+from .lines import wrapped
+
+MADE = "Made by bindings/generate from bindings/interface.toml."
+TYPES = {"bool": "c_bool", "u8": "c_uint8", "u32": "c_uint32", "u64": "c_uint64"}
+
+
+def type_of(interface: Interface, base: str) -> str:
+    return TYPES[base] if base in TYPES else interface.structures[base].face
+
+
+def raw_hint(interface: Interface, field: Field) -> str:
+    base = "int" if field.base in TYPES else interface.structures[field.base].face
+    return f"Array[{TYPES[field.base]}]" if field.count else base
+
+
+def structure_text(interface: Interface, structure: Structure) -> str:
+    lines = [f"class {structure.face}(Structure):", f'    """{structure.name}"""', ""]
+    lines += [f"    {field.name}: {raw_hint(interface, field)}" for field in structure.fields]
+    lines += ["", "    _fields_ = ["]
+    for field in structure.fields:
+        kind = type_of(interface, field.base) + (f" * {field.count}" if field.count else "")
+        lines.append(f'        ("{field.name}", {kind}),')
+    return "\n".join(lines + ["    ]"])
+
+
+def layout_text(structure: Structure) -> str:
+    offsets = ", ".join(f'"{field.name}": {field.offset}' for field in structure.fields)
+    words = textwrap.wrap(f"{{{offsets}}}", 100, subsequent_indent=" " * 12, break_long_words=False)
+    return f"    {structure.face}: (\n        {structure.size},\n        " + "\n".join(words) + ",\n    ),"
+
+
+def argument_types(interface: Interface, argument: Argument) -> list[str]:
+    if not argument.is_pointer:
+        return [TYPES[argument.base]]
+    if argument.base == "u8" and not argument.is_written:
+        return ["c_void_p", "c_size_t"]  # any bytes, by their address
+    pointer = f"POINTER({type_of(interface, argument.base)})"
+    return [pointer, "c_size_t"] if argument.length else [pointer]
+
+
+def declare_text(interface: Interface, call: Call) -> str:
+    words = [word for argument in call.arguments for word in argument_types(interface, argument)]
+    types = f"library.{call.symbol}.argtypes = [{', '.join(words)}]"
+    if len(types) > 106:
+        types = f"library.{call.symbol}.argtypes = [\n" + "".join(f"        {word},\n" for word in words) + "    ]"
+    return f"    {types}\n    library.{call.symbol}.restype = c_uint32"
+
+
+def structures_text(interface: Interface) -> str:
+    structures = interface.structures.values()
+    return (
+        f'"""The plain structures of mdmp.h, and the types of its calls. {MADE}"""\n\n'
+        "from __future__ import annotations\n\n"
+        "from ctypes import (\n    CDLL,\n    POINTER,\n    Array,\n    Structure,\n    c_bool,\n    c_size_t,\n    c_uint8,\n"
+        "    c_uint32,\n    c_uint64,\n    c_void_p,\n)\n\n"
+        f"ABI = {interface.abi}\n\n\n"
+        + "\n\n\n".join(structure_text(interface, structure) for structure in structures)
+        + "\n\n\n# Of each structure its size, and where each field stands.\n"
+        + "LAYOUT: dict[type[Structure], tuple[int, dict[str, int]]] = {\n"
+        + "\n".join(layout_text(structure) for structure in structures)
+        + "\n}\n\n\ndef declare(library: CDLL) -> None:\n"
+        + '    """Gives each call of a library the types of its arguments and its answer."""\n'
+        + "\n".join(declare_text(interface, call) for call in interface.calls)
+        + "\n"
+    )
+
+
+# ---- records
+
+
+def docstring(first: str, rows: list[tuple[str, str]]) -> list[str]:
+    """A class's docstring: what it is, and a line for each name, which help() shows."""
+    width = max(len(name) for name, _ in rows)
+    return [f'    """{first}', ""] + [f"    {name:<{width}}  {doc}" for name, doc in rows] + ['    """', ""]
+
+
+def enum_text(enum: Enum) -> str:
+    rows = [(enum.short(name), number, doc) for name, number, doc in enum.values]
+    lines = [f"class {enum.face}(Numbers):"] + docstring(enum.doc, [(name, doc) for name, _, doc in rows])
+    return "\n".join(lines + [f"    {name} = {number}" for name, number, _ in rows])
+
+
+def members(interface: Interface, structure: Structure) -> list[tuple[str, str, str, str]]:
+    """Of each member of a record: its name, its type, how it comes of the plain structure, and its doc."""
+    made = []
+    names = {field.name for field in structure.fields}
+    for field in structure.fields:
+        name, raw = field.name, f"raw.{field.name}"
+        if field.is_reserved or name.endswith("_high"):
+            continue
+        if field.base == "mdmp_name_place":
+            doc = field.doc + "; None where there is none, or a longer one than the limit"
+            made.append((name, "str | None", f"read._name_at({raw})", doc))
+            made.append((f"{name}_place", "NamePlace", f"NamePlace._of({raw}, read)", "where that stands"))
+        elif field.base in interface.structures:
+            face = interface.structures[field.base].face
+            made.append((name, face, f"{face}._of({raw}, read)", field.doc))
+        elif field.enum:
+            made.append((name, field.enum.face, f"{field.enum.face}({raw})", field.doc))
+        elif field.count:
+            kind = ("bytes", "bytes") if field.base == "u8" else ("tuple[int, ...]", "tuple")
+            made.append((name, kind[0], f"{kind[1]}({raw})", field.doc))
+        elif f"{name}_high" in names:
+            made.append((name, "int", f"{raw} | raw.{name}_high << 64", field.doc.split(":")[0]))
+        else:
+            made.append((name, "int", raw, field.doc))
+    return made + [(name, kind, value, doc) for name, kind, value, doc in structure.python_also]
+
+
+def record_text(interface: Interface, structure: Structure) -> str:
+    found = members(interface, structure)
+    lines = ["@dataclass(frozen=True, slots=True)", f"class {structure.face}:"]
+    lines += docstring(structure.doc, [(name, doc) for name, _, _, doc in found])
+    lines += [f"    {name}: {kind}" for name, kind, _, _ in found]
+    lines += ["", "    @classmethod"]
+    lines += [f"    def _of(cls, raw: _structures.{structure.face}, read: Reader) -> {structure.face}:"]
+    lines.append(wrapped("return cls", [value for _, _, value, _ in found], "", "        "))
+    return "\n".join(lines)
+
+
+def records_text(interface: Interface) -> str:
+    records = [structure for structure in interface.structures.values() if structure.has_record]
+    names = sorted([enum.face for enum in interface.enums.values()] + [structure.face for structure in records])
+    return (
+        f'"""Records and numbers as programs see them. {MADE}"""\n\n'
+        "from __future__ import annotations\n\n"
+        "from dataclasses import dataclass\n\n"
+        "from . import _structures\nfrom ._parts import Numbers, Reader, SymbolFile, Version, version\n\n"
+        + "__all__ = [\n" + "".join(f'    "{name}",\n' for name in names) + "]\n\n\n"
+        + "\n\n\n".join(enum_text(enum) for enum in interface.enums.values())
+        + "\n\n\n"
+        + "\n\n\n".join(record_text(interface, structure) for structure in records)
+        + "\n"
+    )

@@ -1,0 +1,77 @@
+"""Windows minidump files, read by a proved library.
+
+>>> import mdmp
+>>> with mdmp.open("crashpad-one.dmp") as dump:
+...     for exception in dump.exceptions:
+...         print(hex(exception.exception_code), "in thread", exception.thread_id)
+...     for module in dump.modules:
+...         print(hex(module.base_of_image), module.name)
+0xb in thread 22570
+0x55c6e269d000 /usr/sample/cpad
+0x7fcaa7954000 linux-vdso.so.1
+0x7fcaa775e000 libc.so.6
+0x7fcaa7956000 ld-linux-x86-64.so.2
+
+`open` maps a file, and `Dump` takes its bytes. A file that is at fault raises `Fault`, whose `partial` holds what stood
+before the fault; wrong limits or types raise ValueError, and want of memory MemoryError. `python -m mdmp FILE` prints
+what `mdmp list FILE` does.
+"""
+
+from ._buffer import Bytes
+from ._dump import Dump, Where, open
+from ._fault import Fault
+from ._library import library as _library
+from ._memory import Cells, Memory
+from ._parts import SymbolFile, Version
+from ._records import (
+    ExceptionRecord,
+    Extent,
+    FaultKind,
+    Header,
+    Module,
+    NamePlace,
+    NameState,
+    Part,
+    Place,
+    Range,
+    Region,
+    Status,
+    Stream,
+    SymbolKind,
+    System,
+    Thread,
+    UnloadedModule,
+)
+
+__all__ = [
+    "Bytes",
+    "Cells",
+    "Dump",
+    "ExceptionRecord",
+    "Extent",
+    "Fault",
+    "FaultKind",
+    "Header",
+    "Memory",
+    "Module",
+    "NamePlace",
+    "NameState",
+    "Part",
+    "Place",
+    "Range",
+    "Region",
+    "Status",
+    "Stream",
+    "SymbolFile",
+    "SymbolKind",
+    "System",
+    "Thread",
+    "UnloadedModule",
+    "Version",
+    "Where",
+    "__version__",
+    "open",
+]
+
+_number = int(_library.mdmp_version())
+__version__ = f"{_number >> 16}.{_number >> 8 & 0xFF}.{_number & 0xFF}"

@@ -1,0 +1,61 @@
+"""Prints what `mdmp list FILE` prints, or `mdmp check FILE`: python -m mdmp FILE [--pdb | --check]
+
+The exit status is the command's: 0 good, 1 the file is at fault, 2 the words of the command line are, 3 no memory, no
+room for the output, or a file that can't be opened.
+"""
+
+from __future__ import annotations
+
+import argparse
+import os
+import sys
+
+import mdmp
+
+
+def run(arguments: argparse.Namespace) -> None:
+    with mdmp.open(arguments.file, window=arguments.window, name=arguments.name) as dump:
+        try:
+            sys.stdout.write(dump.check() if arguments.check else dump.list(pdb=arguments.pdb))
+        except mdmp.Fault as fault:
+            sys.stdout.write(fault.partial or "")
+            raise
+
+
+def status_of(arguments: argparse.Namespace) -> int:
+    """Prints, tells what is wrong, and gives the exit status."""
+    try:
+        try:
+            run(arguments)
+        finally:
+            sys.stdout.flush()
+        return 0
+    except mdmp.Fault as fault:
+        told, status = str(fault), 1
+    except ValueError as error:
+        told, status = str(error), 2
+    except MemoryError:
+        told, status = "out of memory", 3
+    except OSError as error:
+        is_input = error.filename is not None
+        told, status = f"cannot open {arguments.file}" if is_input else "output failed", 3
+        if not is_input:
+            # What is still to be written can't be, and Python would try once more as it ends.
+            os.dup2(os.open(os.devnull, os.O_WRONLY), sys.stdout.fileno())
+    print(f"mdmp: {told}", file=sys.stderr)
+    return status
+
+
+def main() -> int:
+    words = argparse.ArgumentParser(prog="python -m mdmp", description="Prints what a minidump file has.")
+    words.add_argument("file", metavar="FILE")
+    which = words.add_mutually_exclusive_group()
+    which.add_argument("--check", action="store_true", help="tell of each entry whether it is good")
+    which.add_argument("--pdb", action="store_true", help="tell the symbol file of each module too")
+    words.add_argument("--window", type=int, default=65536, help="by how many bytes the file is read")
+    words.add_argument("--name", type=int, default=4096, help="the longest name that is read, in bytes")
+    return status_of(words.parse_args())
+
+
+if __name__ == "__main__":
+    sys.exit(main())

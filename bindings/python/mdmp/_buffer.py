@@ -1,0 +1,59 @@
+"""The bytes of a file, lent to the library without a copy.
+
+`ctypes` gives the address of a buffer only where it may be written to, which a read-only mapping is not. Python's own
+call for it, PyObject_GetBuffer, gives that of any buffer, and keeps the buffer in its place until PyBuffer_Release:
+meanwhile a mapping can't be closed and a bytearray can't change its length, whatever other threads do.
+"""
+
+from __future__ import annotations
+
+import mmap
+from array import array
+from ctypes import Structure, addressof, byref, c_char_p, c_int, c_ssize_t, c_uint8, c_void_p, py_object, pythonapi
+from typing import Union
+
+Bytes = Union[bytes, bytearray, memoryview, mmap.mmap, "array[int]"]
+
+
+class _PyBuffer(Structure):
+    """Py_buffer, as Python's limited API has it."""
+
+    _fields_ = [
+        ("buf", c_void_p),
+        ("obj", c_void_p),
+        ("len", c_ssize_t),
+        ("itemsize", c_ssize_t),
+        ("readonly", c_int),
+        ("ndim", c_int),
+        ("format", c_char_p),
+        ("shape", c_void_p),
+        ("strides", c_void_p),
+        ("suboffsets", c_void_p),
+        ("internal", c_void_p),
+    ]
+
+
+_get, _release = pythonapi.PyObject_GetBuffer, pythonapi.PyBuffer_Release
+_get.argtypes, _get.restype = [py_object, c_void_p, c_int], c_int
+_release.argtypes, _release.restype = [c_void_p], None
+_SIMPLE = 0
+_nothing = c_uint8()
+
+
+class Lent:
+    """A buffer's address and its length in bytes, while it is lent."""
+
+    __slots__ = ("_data", "_view")
+
+    def __init__(self, data: Bytes) -> None:
+        self._data = data
+
+    def __enter__(self) -> tuple[int, int]:
+        self._view = _PyBuffer()
+        # Raises BufferError of what does not lie in one piece, and ValueError of a mapping that was closed.
+        _get(self._data, byref(self._view), _SIMPLE)
+        # Some empty buffers have no address, and the library takes no NULL.
+        return self._view.buf or addressof(_nothing), int(self._view.len)
+
+    def __exit__(self, *_: object) -> None:
+        _release(byref(self._view))

@@ -1,0 +1,491 @@
+"""Records and numbers as programs see them. Made by bindings/generate from bindings/interface.toml."""
+
+from __future__ import annotations
+
+from dataclasses import dataclass
+
+from . import _structures
+from ._parts import Numbers, Reader, SymbolFile, Version, version
+
+__all__ = [
+    "ExceptionRecord",
+    "Extent",
+    "FaultKind",
+    "Header",
+    "Module",
+    "NamePlace",
+    "NameState",
+    "Part",
+    "Place",
+    "Range",
+    "Region",
+    "Status",
+    "Stream",
+    "SymbolKind",
+    "System",
+    "Thread",
+    "UnloadedModule",
+]
+
+
+class Status(Numbers):
+    """What a call answers. 0 to 3 are the exit statuses of the command.
+
+    OK                good
+    FAULT             the file is at fault
+    BAD_ARGUMENT      an argument is: limits, types of streams, lengths
+    NO_MEMORY         memory was wanting: malloc or realloc answered NULL
+    BUFFER_TOO_SHORT  the buffer was too short
+    """
+
+    OK = 0
+    FAULT = 1
+    BAD_ARGUMENT = 2
+    NO_MEMORY = 3
+    BUFFER_TOO_SHORT = 4
+
+
+class FaultKind(Numbers):
+    """What is wrong. Beside each stand the numbers of mdmp_fault that it uses.
+
+    NONE                 nothing
+    FILE_TOO_SHORT       the file can't be opened: it has size bytes
+    BAD_SIGNATURE        it does not begin with MDMP
+    BAD_VERSION          size: the low 16 bits of its version
+    DIRECTORY_OUTSIDE    offset and size of the directory, which is not inside the file
+    TOO_MANY_RANGES      size (high: its upper 64 bits): how many ranges of memory
+    STREAM_OUTSIDE       entry, offset, size: the stream is not inside the file
+    SHORT_STREAM         entry, offset, size: the stream is shorter than its head or its record
+    BAD_HEADER_SIZE      entry, offset, size: SizeOfHeader
+    BAD_ENTRY_SIZE       entry, offset, size: SizeOfEntry
+    BAD_COUNT            entry, offset, size: the count of records
+    NAME_LENGTH_OUTSIDE  entry, index, offset: a name's length is not inside the file
+    NAME_ODD             entry, index, offset, size: a name's length is odd
+    NAME_OUTSIDE         entry, index, offset, size: a name is not inside the file
+    PART_OUTSIDE         entry, index, part, offset (high: its upper 64 bits), size
+    NAME_TOO_LONG        entry, index, size: a name's length, which is over the limit
+    RAW_KNOWN_TYPE       no call over a file answers this
+    COPY_TOO_LARGE       the copy would be longer than the format can say
+    BAD_ENTRIES          size: how many entries of the directory have a fault
+    NOT_COPIED           size: a type of stream that is not copied
+    NO_MEMORY            memory was wanting: malloc or realloc answered NULL
+    BAD_LIMITS           the limits are
+    BAD_TYPES            the types to be copied are none, or over 16
+    STORE                no call over a file in memory answers this
+    LENGTHS_DIFFER       two buffers that must have one length differ
+    """
+
+    NONE = 0
+    FILE_TOO_SHORT = 1
+    BAD_SIGNATURE = 2
+    BAD_VERSION = 3
+    DIRECTORY_OUTSIDE = 4
+    TOO_MANY_RANGES = 5
+    STREAM_OUTSIDE = 16
+    SHORT_STREAM = 17
+    BAD_HEADER_SIZE = 18
+    BAD_ENTRY_SIZE = 19
+    BAD_COUNT = 20
+    NAME_LENGTH_OUTSIDE = 21
+    NAME_ODD = 22
+    NAME_OUTSIDE = 23
+    PART_OUTSIDE = 32
+    NAME_TOO_LONG = 33
+    RAW_KNOWN_TYPE = 48
+    COPY_TOO_LARGE = 49
+    BAD_ENTRIES = 64
+    NOT_COPIED = 65
+    NO_MEMORY = 66
+    BAD_LIMITS = 67
+    BAD_TYPES = 68
+    STORE = 69
+    LENGTHS_DIFFER = 70
+
+
+class Part(Numbers):
+    """Which part of a record a fault is of.
+
+    STACK     the stack of a thread
+    CONTEXT   the registers of a thread or an exception
+    CODEVIEW  the CodeView record of a module
+    MISC      the miscellaneous record of a module
+    MEMORY    the bytes of a range of memory
+    """
+
+    STACK = 1
+    CONTEXT = 2
+    CODEVIEW = 3
+    MISC = 4
+    MEMORY = 5
+
+
+class Extent(Numbers):
+    """What stands where a place says that something does.
+
+    EMPTY    no bytes
+    ABSENT   bytes that the producer did not keep
+    INSIDE   bytes of the file
+    OUTSIDE  bytes of which one lies behind the file's end
+    """
+
+    EMPTY = 0
+    ABSENT = 1
+    INSIDE = 2
+    OUTSIDE = 3
+
+
+class NameState(Numbers):
+    """Whether a record has a name.
+
+    NONE   there is none
+    GIVEN  a name within the limit
+    LONG   a name that is longer than the limit
+    """
+
+    NONE = 0
+    GIVEN = 1
+    LONG = 2
+
+
+class SymbolKind(Numbers):
+    """Which kind of CodeView record a module has.
+
+    RSDS   RSDS: identity, age and name of a PDB file
+    OTHER  another kind
+    SHORT  a record that is too short for its kind
+    """
+
+    RSDS = 0
+    OTHER = 1
+    SHORT = 2
+
+
+@dataclass(frozen=True, slots=True)
+class Place:
+    """Where a part of a record stands: MINIDUMP_LOCATION_DESCRIPTOR, and what is there.
+
+    size    DataSize, in bytes
+    rva     Rva, an offset from the start of the file
+    extent  what stands there
+    """
+
+    size: int
+    rva: int
+    extent: Extent
+
+    @classmethod
+    def _of(cls, raw: _structures.Place, read: Reader) -> Place:
+        return cls(raw.size, raw.rva, Extent(raw.extent))
+
+
+@dataclass(frozen=True, slots=True)
+class NamePlace:
+    """Where a name stands, a MINIDUMP_STRING: mdmp_name gives its text.
+
+    rva    where its Length stands, an offset from the start of the file; 0 for no name
+    size   bytes of its UTF-16 units, which stand 4 bytes behind that
+    state  whether there is one
+    """
+
+    rva: int
+    size: int
+    state: NameState
+
+    @classmethod
+    def _of(cls, raw: _structures.NamePlace, read: Reader) -> NamePlace:
+        return cls(raw.rva, raw.size, NameState(raw.state))
+
+
+@dataclass(frozen=True, slots=True)
+class Header:
+    """The header: MINIDUMP_HEADER.
+
+    flags                 Flags
+    signature             Signature
+    version               Version: 0xa793 in the lower half, the producer's own in the upper
+    number_of_streams     NumberOfStreams
+    stream_directory_rva  StreamDirectoryRva, an offset from the start of the file
+    checksum              CheckSum, which nothing checks
+    time_date_stamp       TimeDateStamp, in seconds since 1970
+    """
+
+    flags: int
+    signature: int
+    version: int
+    number_of_streams: int
+    stream_directory_rva: int
+    checksum: int
+    time_date_stamp: int
+
+    @classmethod
+    def _of(cls, raw: _structures.Header, read: Reader) -> Header:
+        return cls(raw.flags, raw.signature, raw.version, raw.number_of_streams, raw.stream_directory_rva,
+            raw.checksum, raw.time_date_stamp)
+
+
+@dataclass(frozen=True, slots=True)
+class Stream:
+    """An entry of the directory: MINIDUMP_DIRECTORY.
+
+    entry        its place in the directory, from 0
+    stream_type  StreamType
+    size         Location.DataSize, in bytes
+    rva          Location.Rva, an offset from the start of the file
+    """
+
+    entry: int
+    stream_type: int
+    size: int
+    rva: int
+
+    @classmethod
+    def _of(cls, raw: _structures.Stream, read: Reader) -> Stream:
+        return cls(raw.entry, raw.stream_type, raw.size, raw.rva)
+
+
+@dataclass(frozen=True, slots=True)
+class Thread:
+    """A thread: MINIDUMP_THREAD.
+
+    index           the record's place in its stream, from 0
+    teb             Teb, an address of the dumped process
+    stack_start     Stack.StartOfMemoryRange, an address of the dumped process
+    entry           the entry of the directory, from 0
+    thread_id       ThreadId
+    suspend_count   SuspendCount
+    priority_class  PriorityClass
+    priority        Priority
+    stack           Stack.Memory
+    context         ThreadContext, the registers
+    """
+
+    index: int
+    teb: int
+    stack_start: int
+    entry: int
+    thread_id: int
+    suspend_count: int
+    priority_class: int
+    priority: int
+    stack: Place
+    context: Place
+
+    @classmethod
+    def _of(cls, raw: _structures.Thread, read: Reader) -> Thread:
+        return cls(raw.index, raw.teb, raw.stack_start, raw.entry, raw.thread_id, raw.suspend_count,
+            raw.priority_class, raw.priority, Place._of(raw.stack, read), Place._of(raw.context, read))
+
+
+@dataclass(frozen=True, slots=True)
+class Module:
+    """A module: MINIDUMP_MODULE.
+
+    index               the record's place in its stream, from 0
+    base_of_image       BaseOfImage, an address of the dumped process
+    entry               the entry of the directory, from 0
+    size_of_image       SizeOfImage, in bytes
+    checksum            CheckSum
+    time_date_stamp     TimeDateStamp, in seconds since 1970
+    file_version_ms     VersionInfo.dwFileVersionMS: the first two of the version's four numbers
+    file_version_ls     VersionInfo.dwFileVersionLS: the last two
+    product_version_ms  VersionInfo.dwProductVersionMS
+    product_version_ls  VersionInfo.dwProductVersionLS
+    name                the name at ModuleNameRva; None where there is none, or a longer one than the limit
+    name_place          where that stands
+    codeview            CvRecord: mdmp_symbols tells what stands there
+    misc                MiscRecord
+    file_version        four numbers
+    product_version     four numbers
+    symbols             what its CodeView record tells, if it has one
+    """
+
+    index: int
+    base_of_image: int
+    entry: int
+    size_of_image: int
+    checksum: int
+    time_date_stamp: int
+    file_version_ms: int
+    file_version_ls: int
+    product_version_ms: int
+    product_version_ls: int
+    name: str | None
+    name_place: NamePlace
+    codeview: Place
+    misc: Place
+    file_version: Version
+    product_version: Version
+    symbols: SymbolFile | None
+
+    @classmethod
+    def _of(cls, raw: _structures.Module, read: Reader) -> Module:
+        return cls(raw.index, raw.base_of_image, raw.entry, raw.size_of_image, raw.checksum,
+            raw.time_date_stamp, raw.file_version_ms, raw.file_version_ls, raw.product_version_ms,
+            raw.product_version_ls, read._name_at(raw.name), NamePlace._of(raw.name, read),
+            Place._of(raw.codeview, read), Place._of(raw.misc, read),
+            version(raw.file_version_ms, raw.file_version_ls),
+            version(raw.product_version_ms, raw.product_version_ls), read._symbols_at(raw.codeview))
+
+
+@dataclass(frozen=True, slots=True)
+class ExceptionRecord:
+    """An exception: MINIDUMP_EXCEPTION_STREAM.
+
+    index              the record's place in its stream: 0
+    exception_record   ExceptionRecord, an address of the dumped process
+    exception_address  ExceptionAddress, an address of the dumped process
+    information        ExceptionInformation
+    entry              the entry of the directory, from 0
+    thread_id          ThreadId
+    exception_code     ExceptionCode
+    exception_flags    ExceptionFlags
+    number_parameters  NumberParameters: how many of information count; it may be over 15
+    context            ThreadContext, the registers
+    """
+
+    index: int
+    exception_record: int
+    exception_address: int
+    information: tuple[int, ...]
+    entry: int
+    thread_id: int
+    exception_code: int
+    exception_flags: int
+    number_parameters: int
+    context: Place
+
+    @classmethod
+    def _of(cls, raw: _structures.ExceptionRecord, read: Reader) -> ExceptionRecord:
+        return cls(raw.index, raw.exception_record, raw.exception_address, tuple(raw.information), raw.entry,
+            raw.thread_id, raw.exception_code, raw.exception_flags, raw.number_parameters,
+            Place._of(raw.context, read))
+
+
+@dataclass(frozen=True, slots=True)
+class System:
+    """The system: MINIDUMP_SYSTEM_INFO.
+
+    index                   the record's place in its stream: 0
+    csd_version             the name at CSDVersionRva, of the service pack; None where there is none, or a longer one than the limit
+    csd_version_place       where that stands
+    entry                   the entry of the directory, from 0
+    processor_architecture  ProcessorArchitecture: 0 is x86, 9 is x64, 12 is ARM64
+    processor_level         ProcessorLevel
+    processor_revision      ProcessorRevision
+    number_of_processors    NumberOfProcessors
+    product_type            ProductType
+    major_version           MajorVersion
+    minor_version           MinorVersion
+    build_number            BuildNumber
+    platform_id             PlatformId
+    suite_mask              SuiteMask
+    cpu                     Cpu
+    """
+
+    index: int
+    csd_version: str | None
+    csd_version_place: NamePlace
+    entry: int
+    processor_architecture: int
+    processor_level: int
+    processor_revision: int
+    number_of_processors: int
+    product_type: int
+    major_version: int
+    minor_version: int
+    build_number: int
+    platform_id: int
+    suite_mask: int
+    cpu: bytes
+
+    @classmethod
+    def _of(cls, raw: _structures.System, read: Reader) -> System:
+        return cls(raw.index, read._name_at(raw.csd_version), NamePlace._of(raw.csd_version, read), raw.entry,
+            raw.processor_architecture, raw.processor_level, raw.processor_revision, raw.number_of_processors,
+            raw.product_type, raw.major_version, raw.minor_version, raw.build_number, raw.platform_id,
+            raw.suite_mask, bytes(raw.cpu))
+
+
+@dataclass(frozen=True, slots=True)
+class UnloadedModule:
+    """A module that was unloaded: MINIDUMP_UNLOADED_MODULE.
+
+    index            the record's place in its stream, from 0
+    base_of_image    BaseOfImage, an address of the dumped process
+    entry            the entry of the directory, from 0
+    size_of_image    SizeOfImage, in bytes
+    checksum         CheckSum
+    time_date_stamp  TimeDateStamp, in seconds since 1970
+    name             the name at ModuleNameRva; None where there is none, or a longer one than the limit
+    name_place       where that stands
+    """
+
+    index: int
+    base_of_image: int
+    entry: int
+    size_of_image: int
+    checksum: int
+    time_date_stamp: int
+    name: str | None
+    name_place: NamePlace
+
+    @classmethod
+    def _of(cls, raw: _structures.UnloadedModule, read: Reader) -> UnloadedModule:
+        return cls(raw.index, raw.base_of_image, raw.entry, raw.size_of_image, raw.checksum,
+            raw.time_date_stamp, read._name_at(raw.name), NamePlace._of(raw.name, read))
+
+
+@dataclass(frozen=True, slots=True)
+class Region:
+    """A region of memory: MINIDUMP_MEMORY_INFO.
+
+    index               the record's place in its stream, from 0
+    base_address        BaseAddress, an address of the dumped process
+    allocation_base     AllocationBase, an address of the dumped process
+    region_size         RegionSize, in bytes
+    entry               the entry of the directory, from 0
+    allocation_protect  AllocationProtect
+    state               State
+    protect             Protect
+    memory_type         Type
+    """
+
+    index: int
+    base_address: int
+    allocation_base: int
+    region_size: int
+    entry: int
+    allocation_protect: int
+    state: int
+    protect: int
+    memory_type: int
+
+    @classmethod
+    def _of(cls, raw: _structures.Region, read: Reader) -> Region:
+        return cls(raw.index, raw.base_address, raw.allocation_base, raw.region_size, raw.entry,
+            raw.allocation_protect, raw.state, raw.protect, raw.memory_type)
+
+
+@dataclass(frozen=True, slots=True)
+class Range:
+    """A range of memory: MINIDUMP_MEMORY_DESCRIPTOR or MINIDUMP_MEMORY_DESCRIPTOR64.
+
+    index   the record's place in its stream, from 0
+    start   StartOfMemoryRange, an address of the dumped process
+    size    DataSize, in bytes
+    offset  where its bytes stand, an offset from the start of the file
+    entry   the entry of the directory, from 0
+    extent  what its bytes are in the file
+    """
+
+    index: int
+    start: int
+    size: int
+    offset: int
+    entry: int
+    extent: Extent
+
+    @classmethod
+    def _of(cls, raw: _structures.Range, read: Reader) -> Range:
+        return cls(raw.index, raw.start, raw.size, raw.offset | raw.offset_high << 64, raw.entry,
+            Extent(raw.extent))

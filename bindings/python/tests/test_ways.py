@@ -1,0 +1,216 @@
+"""What goes wrong, and how it is told; and what stands behind a dump that was closed."""
+
+from __future__ import annotations
+
+import array
+import ctypes
+import dataclasses
+import mmap
+import os
+import pathlib
+import pickle
+import subprocess
+import sys
+import tempfile
+import threading
+import unittest
+from typing import Callable
+
+import mdmp
+from mdmp import _buffer, _fault, _structures
+
+FOLDER = pathlib.Path(os.environ["MDMP_STORED"])
+KINDS = FOLDER / "llvm-all-kinds.dmp"
+CRASHPAD = FOLDER / "crashpad-one.dmp"
+
+
+class Layout(unittest.TestCase):
+    """The structures have the layout of mdmp.h."""
+
+    def test_sizes_and_offsets(self) -> None:
+        self.assertGreater(len(_structures.LAYOUT), 12)
+        for structure, (size, offsets) in _structures.LAYOUT.items():
+            self.assertEqual(ctypes.sizeof(structure), size, structure)
+            for field, offset in offsets.items():
+                self.assertEqual(getattr(structure, field).offset, offset, (structure, field))
+
+
+class Faults(unittest.TestCase):
+    """What a file that is at fault raises."""
+
+    def test_short_files(self) -> None:
+        data = KINDS.read_bytes()
+        for size in [0, 1, 31]:
+            with self.assertRaises(mdmp.Fault) as raised:
+                mdmp.Dump(data[:size]).header
+            fault = raised.exception
+            self.assertEqual((fault.kind, fault.size, fault.entry), (mdmp.FaultKind.FILE_TOO_SHORT, size, None))
+            self.assertEqual(str(fault), f"file of {size} bytes is too short")
+
+    def test_partial(self) -> None:
+        cut = mdmp.Dump(KINDS.read_bytes()[:1334])
+        with self.assertRaises(mdmp.Fault) as raised:
+            cut.check()
+        self.assertEqual((raised.exception.kind, raised.exception.size), (mdmp.FaultKind.BAD_ENTRIES, 4))
+        self.assertEqual(len(raised.exception.partial.splitlines()), 12)
+        with self.assertRaises(mdmp.Fault) as raised:
+            cut.list()
+        self.assertTrue(KINDS.with_suffix(".list").read_text("ascii").startswith(raised.exception.partial))
+        self.assertEqual(raised.exception.entry, 7)
+        bad = [entry for entry, fault in enumerate(cut.verdicts) if fault is not None]
+        self.assertEqual(bad, [7, 8, 9, 10])
+
+    def test_records_before_a_fault(self) -> None:
+        data = bytearray(KINDS.read_bytes())
+        name = mdmp.Dump(data).modules[1].name_place.rva
+        data[name] |= 1  # an odd length
+        with self.assertRaises(mdmp.Fault) as raised:
+            mdmp.Dump(data).modules
+        fault = raised.exception
+        self.assertEqual((fault.kind, fault.entry, fault.index, fault.offset), (mdmp.FaultKind.NAME_ODD, 2, 1, name))
+        self.assertEqual([module.index for module in fault.partial], [0])
+
+    def test_fault_is_sent_to_another_process(self) -> None:
+        with self.assertRaises(mdmp.Fault) as raised:
+            mdmp.Dump(b"").header
+        again = pickle.loads(pickle.dumps(raised.exception))
+        self.assertEqual((str(again), again.kind), ("file of 0 bytes is too short", mdmp.FaultKind.FILE_TOO_SHORT))
+
+    def test_kind_of_a_later_library(self) -> None:
+        fault = _fault.fault_of(_structures.Fault(kind=99))
+        self.assertEqual((fault.kind, fault.kind.name, str(fault)), (99, "NUMBER_99", "fault 99"))
+
+    def test_want_of_memory(self) -> None:
+        with self.assertRaisesRegex(MemoryError, "out of memory"):
+            _fault.expect_good(mdmp.Status.NO_MEMORY, _structures.Fault(kind=66))
+
+    def test_records_do_not_change(self) -> None:
+        with mdmp.open(KINDS) as dump, self.assertRaises(dataclasses.FrozenInstanceError):
+            dump.threads[0].teb = 0  # type: ignore[misc]
+
+    def test_arguments(self) -> None:
+        with mdmp.open(KINDS) as dump:
+            refused = [([], "between 1 and 16"), ([*range(17)], "between 1 and 16"), ([24], "type 24 is not copied")]
+            for types, words in refused:
+                with self.assertRaisesRegex(ValueError, words):
+                    dump.copy(*types)
+        with self.assertRaisesRegex(ValueError, "bad limits"):
+            mdmp.Dump(b"", window=167).threads
+        with self.assertRaisesRegex(FileNotFoundError, "none.dmp"):
+            mdmp.open("none.dmp")
+
+    def test_long_name(self) -> None:
+        with mdmp.open(KINDS, name=3) as dump:
+            first = dump.modules[0]
+            self.assertIsNone(first.name)
+            self.assertEqual(first.name_place.state, mdmp.NameState.LONG)
+
+
+class Buffers(unittest.TestCase):
+    """Whose bytes are read, and for how long."""
+
+    def test_any_buffer(self) -> None:
+        data = KINDS.read_bytes()
+        wanted = mdmp.Dump(data).list()
+        numbers = array.array("B", data)
+        buffers: list[mdmp.Bytes] = [bytearray(data), memoryview(data), numbers, memoryview(b"xx" + data)[2:]]
+        for buffer in buffers:
+            self.assertEqual(mdmp.Dump(buffer).list(), wanted)
+        with self.assertRaises(BufferError):
+            mdmp.Dump(memoryview(data)[::2]).header
+
+    def test_empty_buffers(self) -> None:
+        empty: list[mdmp.Bytes] = [b"", bytearray(), memoryview(b""), array.array("B")]
+        for buffer in empty:
+            with _buffer.Lent(buffer) as (address, size):
+                self.assertNotEqual(address, 0)  # the library takes no NULL
+                self.assertEqual(size, 0)
+            with self.assertRaisesRegex(mdmp.Fault, "file of 0 bytes is too short"):
+                mdmp.Dump(buffer).header
+
+    def test_nothing_is_copied(self) -> None:
+        data = bytearray(KINDS.read_bytes())
+        with _buffer.Lent(data) as (address, size):
+            self.assertEqual(size, len(data))
+            self.assertEqual(ctypes.string_at(address, 4), b"MDMP")
+            with self.assertRaises(BufferError):
+                data.append(0)  # it stays in its place while it is lent
+        data.append(0)
+
+    def test_closed(self) -> None:
+        dump = mdmp.open(CRASHPAD)
+        memory, modules = dump.memory, dump.modules
+        dump.close()
+        asked: list[Callable[[], object]] = [
+            lambda: dump.header, lambda: dump.streams, lambda: dump.modules, lambda: dump.verdicts, lambda: dump.memory,
+            dump.list, dump.check, lambda: dump.copy(3), lambda: dump.where(0), lambda: memory[0:1], lambda: 0 in memory,
+        ]
+        for ask in asked:
+            with self.assertRaisesRegex(ValueError, "closed"):
+                ask()
+        self.assertEqual(modules[0].name, "/usr/sample/cpad")  # values outlive the dump
+        dump.close()
+
+    def test_mapping_of_the_caller(self) -> None:
+        with open(CRASHPAD, "rb") as stream:
+            mapping = mmap.mmap(stream.fileno(), 0, access=mmap.ACCESS_READ)
+        dump = mdmp.Dump(mapping)
+        self.assertEqual(len(dump.threads), 1)
+        memory = dump.memory
+        mapping.close()
+        with self.assertRaises(ValueError):
+            memory[0:1]
+        with self.assertRaises(ValueError):
+            dump.check()
+
+    def test_close_while_it_is_read(self) -> None:
+        dump = mdmp.open(CRASHPAD)
+        with dump._lent():
+            with self.assertRaises(BufferError):
+                dump.close()
+            self.assertEqual(len(dump.threads), 1)  # it is still open
+        dump.close()
+
+    def test_file_that_shrinks_to_nothing(self) -> None:
+        with tempfile.NamedTemporaryFile() as stream, mdmp.open(stream.name) as dump:
+            with self.assertRaisesRegex(mdmp.Fault, "file of 0 bytes"):
+                dump.header
+
+    def test_threads(self) -> None:
+        wanted = (FOLDER / "wine8-child-normal.list").read_text("ascii")
+        told: list[bool] = []
+        with mdmp.open(FOLDER / "wine8-child-normal.dmp") as dump:
+            threads = [threading.Thread(target=lambda: told.append(dump.list() == wanted)) for _ in range(8)]
+            for thread in threads:
+                thread.start()
+            for thread in threads:
+                thread.join()
+        self.assertEqual(told, [True] * 8)
+
+
+class Command(unittest.TestCase):
+    """python -m mdmp"""
+
+    def run_command(self, *words: str) -> tuple[int, str, str]:
+        done = subprocess.run([sys.executable, "-m", "mdmp", *words], capture_output=True, text=True, encoding="utf-8")
+        return done.returncode, done.stdout, done.stderr
+
+    def test_output(self) -> None:
+        for option, suffix in [("--window=200", ".list"), ("--check", ".check"), ("--pdb", ".pdb")]:
+            wanted = CRASHPAD.with_suffix(suffix).read_text("ascii")
+            self.assertEqual(self.run_command(str(CRASHPAD), option), (0, wanted, ""))
+
+    def test_statuses(self) -> None:
+        self.assertEqual(self.run_command("/dev/null"), (1, "", "mdmp: file of 0 bytes is too short\n"))
+        self.assertEqual(self.run_command("none.dmp"), (3, "", "mdmp: cannot open none.dmp\n"))
+        self.assertEqual(self.run_command("--window", "167", str(CRASHPAD)), (2, "", "mdmp: bad limits\n"))
+        self.assertEqual(self.run_command("--no-such-word")[0], 2)
+        with tempfile.NamedTemporaryFile() as cut:
+            cut.write(KINDS.read_bytes()[:1334])
+            cut.flush()
+            status, out, err = self.run_command("--check", cut.name)
+            self.assertEqual((status, len(out.splitlines()), err), (1, 12, "mdmp: 4 bad entries\n"))
+        with open("/dev/full", "w", encoding="ascii") as full:
+            words = [sys.executable, "-m", "mdmp", str(CRASHPAD)]
+            done = subprocess.run(words, stdout=full, stderr=subprocess.PIPE, text=True)
+            self.assertEqual((done.returncode, done.stderr), (3, "mdmp: output failed\n"))

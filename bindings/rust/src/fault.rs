@@ -1,0 +1,71 @@
+//! What is wrong with a file.
+
+use crate::ffi;
+use crate::records::{FaultKind, Part};
+use std::fmt;
+
+/// What is wrong, and where. Its text is the command's.
+///
+/// ```
+/// let error = mdmp::Dump::new(b"MDMP").header().unwrap_err();
+/// let fault = error.fault().unwrap();
+/// assert_eq!(fault.to_string(), "file of 4 bytes is too short");
+/// assert_eq!(fault.kind(), mdmp::FaultKind::FileTooShort);
+/// ```
+#[derive(Clone, Copy, PartialEq, Eq)]
+pub struct Fault(pub(crate) ffi::Fault);
+
+impl Fault {
+    /// What is wrong.
+    pub fn kind(&self) -> FaultKind {
+        self.0.kind.into()
+    }
+
+    /// The entry of the directory, from 0, where the fault is of one.
+    pub fn entry(&self) -> Option<u32> {
+        (16..=33).contains(&self.0.kind).then_some(self.0.entry)
+    }
+
+    /// The record's place in its stream, from 0, where the fault is of one record.
+    pub fn index(&self) -> Option<u64> {
+        (self.0.has_index == 1).then_some(self.0.index)
+    }
+
+    /// An offset from the start of the file, where the kind has one.
+    pub fn offset(&self) -> u128 {
+        self.wide(FaultKind::PartOutside, self.0.offset)
+    }
+
+    /// Bytes, or the number that the kind says.
+    pub fn size(&self) -> u128 {
+        self.wide(FaultKind::TooManyRanges, self.0.size)
+    }
+
+    /// Which part of the record, where the fault is of one.
+    pub fn part(&self) -> Option<Part> {
+        (self.0.part != 0).then(|| self.0.part.into())
+    }
+
+    /// A number whose upper half is told where the fault is of this kind.
+    fn wide(&self, kind: FaultKind, lower: u64) -> u128 {
+        let upper = if self.kind() == kind { self.0.high } else { 0 };
+        u128::from(upper) << 64 | u128::from(lower)
+    }
+}
+
+impl fmt::Display for Fault {
+    fn fmt(&self, f: &mut fmt::Formatter<'_>) -> fmt::Result {
+        let (mut text, mut size) = ([0; 256], 0);
+        ffi::mdmp_fault_text(&self.0, &mut text, &mut size);
+        let length = text.len().min(size as usize);
+        f.write_str(std::str::from_utf8(&text[..length]).unwrap_or_default())
+    }
+}
+
+impl fmt::Debug for Fault {
+    fn fmt(&self, f: &mut fmt::Formatter<'_>) -> fmt::Result {
+        write!(f, "Fault({:?}, \"{self}\")", self.kind())
+    }
+}
+
+impl std::error::Error for Fault {}

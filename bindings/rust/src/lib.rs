@@ -1,0 +1,66 @@
+//! Windows minidump files, read by a proved library.
+//!
+//! A [`Dump`] stands over the bytes of a file, which are read or mapped by whoever has them. What it gives are values of
+//! their own. A file that is at fault is an [`Error::Fault`], which holds what stood before the fault.
+//!
+//! ```
+//! # fn main() -> Result<(), Box<dyn std::error::Error>> {
+//! # std::env::set_current_dir(concat!(env!("CARGO_MANIFEST_DIR"), "/../../crates/mdmp_samples/data"))?;
+//! let bytes = std::fs::read("crashpad-one.dmp")?;
+//! let dump = mdmp::Dump::new(&bytes);
+//! for module in dump.modules()? {
+//!     let name = dump.name(&module.name)?.unwrap_or_default();
+//!     println!("{:#x} {name}", module.base_of_image);
+//! }
+//! let thread = dump.threads()?[0];
+//! let stack = dump.memory()?.bytes(thread.stack_start, 64);
+//! assert_eq!(stack.map(|bytes| bytes.len()), Some(64));
+//! # Ok(())
+//! # }
+//! ```
+//!
+//! The library answers by the file's bytes alone, and shares nothing: a `Dump` may be used by any number of threads.
+#![deny(unsafe_code, unsafe_op_in_unsafe_fn)]
+#![warn(missing_docs)]
+
+mod dump;
+mod error;
+mod fault;
+#[allow(unsafe_code, dead_code)]
+// unsafe here alone; each call of the header is declared, used or not
+mod ffi;
+mod memory;
+mod records;
+
+pub use dump::SymbolFile;
+pub use dump::{Dump, Verdict};
+pub use error::Error;
+pub use fault::Fault;
+pub use memory::Memory;
+pub use records::{
+    ExceptionRecord, Extent, FaultKind, Header, Module, NamePlace, NameState, Part, Place, Range,
+    Region, Stream, SymbolKind, System, Thread, UnloadedModule,
+};
+
+/// The library's version: major, minor and patch.
+pub fn version() -> (u32, u32, u32) {
+    let number = ffi::mdmp_version();
+    (number >> 16, number >> 8 & 0xff, number & 0xff)
+}
+
+#[cfg(test)]
+mod tests {
+    #[test]
+    fn library_belongs_to_this_crate() {
+        assert_eq!(crate::ffi::mdmp_abi(), crate::ffi::ABI);
+        assert_eq!(crate::version(), (0, 1, 0));
+    }
+
+    #[test]
+    fn dump_is_shared_by_threads() {
+        fn is_shared<T: Send + Sync>() {}
+        is_shared::<crate::Dump<'_>>();
+        is_shared::<crate::Memory<'_>>();
+        is_shared::<crate::Error<Vec<crate::Module>>>();
+    }
+}

@@ -1,0 +1,47 @@
+//! Memory of the dumped process.
+
+use crate::ffi;
+
+/// Memory of the dumped process, by address. The file's lists were read once, and are kept.
+#[derive(Clone)]
+pub struct Memory<'a> {
+    file: &'a [u8],
+    ranges: Vec<ffi::Range>,
+}
+
+impl<'a> Memory<'a> {
+    pub(crate) fn new(file: &'a [u8], ranges: Vec<ffi::Range>) -> Self {
+        Memory { file, ranges }
+    }
+
+    /// Reads memory from an address on: where `known[i]` becomes true, `out[i]` is the byte at `address + i`; elsewhere
+    /// it is 0.
+    ///
+    /// # Panics
+    /// Where `out` and `known` differ in length.
+    pub fn read(&self, address: u64, out: &mut [u8], known: &mut [bool]) {
+        let mut fault = ffi::Fault::default();
+        let status = ffi::mdmp_read(self.file, &self.ranges, address, out, known, &mut fault);
+        assert_eq!(status, 0, "out and known have one length");
+    }
+
+    /// So many bytes from an address on, or none where the file lacks one of them.
+    pub fn bytes(&self, address: u64, size: usize) -> Option<Vec<u8>> {
+        let (mut out, mut known) = (vec![0; size], vec![false; size]);
+        self.read(address, &mut out, &mut known);
+        known.iter().all(|known| *known).then_some(out)
+    }
+
+    /// The byte at an address, where the file has it.
+    pub fn byte(&self, address: u64) -> Option<u8> {
+        let (mut out, mut known) = ([0], [false]);
+        self.read(address, &mut out, &mut known);
+        known[0].then_some(out[0])
+    }
+}
+
+impl std::fmt::Debug for Memory<'_> {
+    fn fmt(&self, f: &mut std::fmt::Formatter<'_>) -> std::fmt::Result {
+        write!(f, "Memory of {} ranges", self.ranges.len())
+    }
+}

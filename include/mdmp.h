@@ -1,0 +1,667 @@
+/* mdmp: reads Windows minidump files, for C and C++ and what calls C.
+ *
+ * Every call reads a file that stands wholly in memory (read it or map it), for as long as the call takes.
+ * There are no handles, no callbacks and no state: but for want of memory, what a call answers is a function of
+ * its arguments.
+ *
+ * Ownership. All that is written to is the caller's, and need not be set before. What a call takes by malloc
+ * it has given back when it returns, on every path. No pointer into the library or the file comes back: a name
+ * or a part is told as a place in the file, which the caller has. The file is never written to.
+ *
+ * Threads. Any number may call at once, also over one file. Do not call from a signal handler, nor in a
+ * forked child of a program with threads before it runs another program: both are what malloc asks.
+ *
+ * Errors. A call answers an mdmp_status. What stands in the caller's memory behind each:
+ *
+ *   MDMP_OK            all of it. `size` or `count` says how much; `fault` is MDMP_FAULT_NONE.
+ *   MDMP_FAULT         the file is at fault, and `fault` says what and where. Given is all up to the fault
+ *                      (a check and its verdicts go on behind it); of a file that can't be opened nothing,
+ *                      and `size` or `count` is 0.
+ *   MDMP_BAD_ARGUMENT  limits, types or lengths are wrong, and `fault` says which. The buffer is as it was,
+ *                      and `size` or `count` is 0.
+ *   MDMP_NO_MEMORY     malloc or realloc answered NULL. The buffer is as it was, `size` or `count` is 0.
+ *   MDMP_BUFFER_TOO_SHORT     the buffer holds as much as it has room for. `size` or `count` says how much there
+ *                      is, and `fault` what is wrong with the file, as if there had been room.
+ *
+ * So a caller guesses a size, and calls at most twice; a room of 0 asks for the size alone.
+ *
+ * Pointers. None is NULL, but beside a length of 0: there a pointer is not looked at. What is written to is
+ * disjoint from all else, and aligned as its type. Nothing checks this.
+ *
+ * Numbers. Structures have fixed-width fields and no padding; `reserved` is 0. Offsets and sizes are in
+ * bytes, offsets from the start of the file. A field that minidumpapiset.h has is named beside its own.
+ */
+
+/* Made by bindings/generate from bindings/interface.toml. */
+#ifndef MDMP_H
+#define MDMP_H
+
+#include <stdbool.h>
+#include <stddef.h>
+#include <stdint.h>
+
+#ifdef __cplusplus
+extern "C" {
+#endif
+
+/* What mdmp_abi() answers of the library that belongs to this header. */
+#define MDMP_ABI 1
+
+/* This header's version, as mdmp_version() answers it: major << 16 | minor << 8 | patch. */
+#define MDMP_VERSION 0x000100
+
+/* What a call answers. 0 to 3 are the exit statuses of the command. */
+typedef enum mdmp_status {
+    MDMP_OK = 0,              /* good */
+    MDMP_FAULT = 1,           /* the file is at fault */
+    MDMP_BAD_ARGUMENT = 2,    /* an argument is: limits, types of streams, lengths */
+    MDMP_NO_MEMORY = 3,       /* memory was wanting: malloc or realloc answered NULL */
+    MDMP_BUFFER_TOO_SHORT = 4 /* the buffer was too short */
+} mdmp_status;
+
+/* What is wrong. Beside each stand the numbers of mdmp_fault that it uses. */
+typedef enum mdmp_fault_kind {
+    MDMP_FAULT_NONE = 0,                 /* nothing */
+    MDMP_FAULT_FILE_TOO_SHORT = 1,       /* the file can't be opened: it has size bytes */
+    MDMP_FAULT_BAD_SIGNATURE = 2,        /* it does not begin with MDMP */
+    MDMP_FAULT_BAD_VERSION = 3,          /* size: the low 16 bits of its version */
+    MDMP_FAULT_DIRECTORY_OUTSIDE = 4,    /* offset and size of the directory, which is not inside the file */
+    MDMP_FAULT_TOO_MANY_RANGES = 5,      /* size (high: its upper 64 bits): how many ranges of memory */
+    MDMP_FAULT_STREAM_OUTSIDE = 16,      /* entry, offset, size: the stream is not inside the file */
+    MDMP_FAULT_SHORT_STREAM = 17,        /* entry, offset, size: the stream is shorter than its head or its record */
+    MDMP_FAULT_BAD_HEADER_SIZE = 18,     /* entry, offset, size: SizeOfHeader */
+    MDMP_FAULT_BAD_ENTRY_SIZE = 19,      /* entry, offset, size: SizeOfEntry */
+    MDMP_FAULT_BAD_COUNT = 20,           /* entry, offset, size: the count of records */
+    MDMP_FAULT_NAME_LENGTH_OUTSIDE = 21, /* entry, index, offset: a name's length is not inside the file */
+    MDMP_FAULT_NAME_ODD = 22,            /* entry, index, offset, size: a name's length is odd */
+    MDMP_FAULT_NAME_OUTSIDE = 23,        /* entry, index, offset, size: a name is not inside the file */
+    MDMP_FAULT_PART_OUTSIDE = 32,        /* entry, index, part, offset (high: its upper 64 bits), size */
+    MDMP_FAULT_NAME_TOO_LONG = 33,       /* entry, index, size: a name's length, which is over the limit */
+    MDMP_FAULT_RAW_KNOWN_TYPE = 48,      /* no call over a file answers this */
+    MDMP_FAULT_COPY_TOO_LARGE = 49,      /* the copy would be longer than the format can say */
+    MDMP_FAULT_BAD_ENTRIES = 64,         /* size: how many entries of the directory have a fault */
+    MDMP_FAULT_NOT_COPIED = 65,          /* size: a type of stream that is not copied */
+    MDMP_FAULT_NO_MEMORY = 66,           /* memory was wanting: malloc or realloc answered NULL */
+    MDMP_FAULT_BAD_LIMITS = 67,          /* the limits are */
+    MDMP_FAULT_BAD_TYPES = 68,           /* the types to be copied are none, or over 16 */
+    MDMP_FAULT_STORE = 69,               /* no call over a file in memory answers this */
+    MDMP_FAULT_LENGTHS_DIFFER = 70       /* two buffers that must have one length differ */
+} mdmp_fault_kind;
+
+/* Which part of a record a fault is of. */
+typedef enum mdmp_part {
+    MDMP_PART_STACK = 1,    /* the stack of a thread */
+    MDMP_PART_CONTEXT = 2,  /* the registers of a thread or an exception */
+    MDMP_PART_CODEVIEW = 3, /* the CodeView record of a module */
+    MDMP_PART_MISC = 4,     /* the miscellaneous record of a module */
+    MDMP_PART_MEMORY = 5    /* the bytes of a range of memory */
+} mdmp_part;
+
+/* What stands where a place says that something does. */
+typedef enum mdmp_extent {
+    MDMP_EXTENT_EMPTY = 0,  /* no bytes */
+    MDMP_EXTENT_ABSENT = 1, /* bytes that the producer did not keep */
+    MDMP_EXTENT_INSIDE = 2, /* bytes of the file */
+    MDMP_EXTENT_OUTSIDE = 3 /* bytes of which one lies behind the file's end */
+} mdmp_extent;
+
+/* Whether a record has a name. */
+typedef enum mdmp_name_state {
+    MDMP_NAME_NONE = 0,  /* there is none */
+    MDMP_NAME_GIVEN = 1, /* a name within the limit */
+    MDMP_NAME_LONG = 2   /* a name that is longer than the limit */
+} mdmp_name_state;
+
+/* Which kind of CodeView record a module has. */
+typedef enum mdmp_symbol_kind {
+    MDMP_SYMBOLS_RSDS = 0,  /* RSDS: identity, age and name of a PDB file */
+    MDMP_SYMBOLS_OTHER = 1, /* another kind */
+    MDMP_SYMBOLS_SHORT = 2  /* a record that is too short for its kind */
+} mdmp_symbol_kind;
+
+/* How much a call holds at a time. The command's own limits are MDMP_LIMITS_DEFAULT. */
+typedef struct mdmp_limits {
+    uint32_t window; /* bytes of the file's records: 168 to 2^30 */
+    uint32_t name;   /* bytes of a name: at most 2^30 */
+    uint64_t budget; /* 0; any other number is refused, and is room for what comes later */
+} mdmp_limits;
+
+/* What is wrong, and where. A number that the kind says nothing of is 0. */
+typedef struct mdmp_fault {
+    uint32_t kind;        /* mdmp_fault_kind: what is wrong */
+    uint32_t entry;       /* the entry of the directory, from 0 */
+    uint64_t index;       /* the record's place in its stream, from 0, where has_index is 1 */
+    uint64_t offset;      /* an offset from the start of the file */
+    uint64_t size;        /* bytes, or the number that the kind says */
+    uint64_t high;        /* the upper 64 bits of the one number that may be so great */
+    uint32_t part;        /* mdmp_part: which part of the record, 0 where the fault is of none */
+    uint32_t has_index;   /* 1 where the fault is of one record, 0 where it is of a whole entry */
+    uint32_t reserved[4]; /* 0 */
+} mdmp_fault;
+
+/* Where a part of a record stands: MINIDUMP_LOCATION_DESCRIPTOR, and what is there. */
+typedef struct mdmp_place {
+    uint32_t size;     /* DataSize, in bytes */
+    uint32_t rva;      /* Rva, an offset from the start of the file */
+    uint32_t extent;   /* mdmp_extent: what stands there */
+    uint32_t reserved; /* 0 */
+} mdmp_place;
+
+/* Where a name stands, a MINIDUMP_STRING: mdmp_name gives its text. */
+typedef struct mdmp_name_place {
+    uint64_t rva;   /* where its Length stands, an offset from the start of the file; 0 for no name */
+    uint32_t size;  /* bytes of its UTF-16 units, which stand 4 bytes behind that */
+    uint32_t state; /* mdmp_name_state: whether there is one */
+} mdmp_name_place;
+
+/* The header: MINIDUMP_HEADER. */
+typedef struct mdmp_header_record {
+    uint64_t flags;                /* Flags */
+    uint32_t signature;            /* Signature */
+    uint32_t version;              /* Version: 0xa793 in the lower half, the producer's own in the upper */
+    uint32_t number_of_streams;    /* NumberOfStreams */
+    uint32_t stream_directory_rva; /* StreamDirectoryRva, an offset from the start of the file */
+    uint32_t checksum;             /* CheckSum, which nothing checks */
+    uint32_t time_date_stamp;      /* TimeDateStamp, in seconds since 1970 */
+    uint32_t reserved[2];          /* 0 */
+} mdmp_header_record;
+
+/* An entry of the directory: MINIDUMP_DIRECTORY. */
+typedef struct mdmp_stream {
+    uint32_t entry;       /* its place in the directory, from 0 */
+    uint32_t stream_type; /* StreamType */
+    uint32_t size;        /* Location.DataSize, in bytes */
+    uint32_t rva;         /* Location.Rva, an offset from the start of the file */
+    uint32_t reserved[2]; /* 0 */
+} mdmp_stream;
+
+/* A thread: MINIDUMP_THREAD. */
+typedef struct mdmp_thread {
+    uint64_t index;          /* the record's place in its stream, from 0 */
+    uint64_t teb;            /* Teb, an address of the dumped process */
+    uint64_t stack_start;    /* Stack.StartOfMemoryRange, an address of the dumped process */
+    uint32_t entry;          /* the entry of the directory, from 0 */
+    uint32_t thread_id;      /* ThreadId */
+    uint32_t suspend_count;  /* SuspendCount */
+    uint32_t priority_class; /* PriorityClass */
+    uint32_t priority;       /* Priority */
+    mdmp_place stack;        /* Stack.Memory */
+    mdmp_place context;      /* ThreadContext, the registers */
+    uint32_t reserved[3];    /* 0 */
+} mdmp_thread;
+
+/* A module: MINIDUMP_MODULE. */
+typedef struct mdmp_module {
+    uint64_t index;              /* the record's place in its stream, from 0 */
+    uint64_t base_of_image;      /* BaseOfImage, an address of the dumped process */
+    uint32_t entry;              /* the entry of the directory, from 0 */
+    uint32_t size_of_image;      /* SizeOfImage, in bytes */
+    uint32_t checksum;           /* CheckSum */
+    uint32_t time_date_stamp;    /* TimeDateStamp, in seconds since 1970 */
+    uint32_t file_version_ms;    /* VersionInfo.dwFileVersionMS: the first two of the version's four numbers */
+    uint32_t file_version_ls;    /* VersionInfo.dwFileVersionLS: the last two */
+    uint32_t product_version_ms; /* VersionInfo.dwProductVersionMS */
+    uint32_t product_version_ls; /* VersionInfo.dwProductVersionLS */
+    mdmp_name_place name;        /* the name at ModuleNameRva */
+    mdmp_place codeview;         /* CvRecord: mdmp_symbols tells what stands there */
+    mdmp_place misc;             /* MiscRecord */
+    uint32_t reserved[2];        /* 0 */
+} mdmp_module;
+
+/* An exception: MINIDUMP_EXCEPTION_STREAM. */
+typedef struct mdmp_exception {
+    uint64_t index;             /* the record's place in its stream: 0 */
+    uint64_t exception_record;  /* ExceptionRecord, an address of the dumped process */
+    uint64_t exception_address; /* ExceptionAddress, an address of the dumped process */
+    uint64_t information[15];   /* ExceptionInformation */
+    uint32_t entry;             /* the entry of the directory, from 0 */
+    uint32_t thread_id;         /* ThreadId */
+    uint32_t exception_code;    /* ExceptionCode */
+    uint32_t exception_flags;   /* ExceptionFlags */
+    uint32_t number_parameters; /* NumberParameters: how many of information count; it may be over 15 */
+    mdmp_place context;         /* ThreadContext, the registers */
+    uint32_t reserved[3];       /* 0 */
+} mdmp_exception;
+
+/* The system: MINIDUMP_SYSTEM_INFO. */
+typedef struct mdmp_system {
+    uint64_t index;                  /* the record's place in its stream: 0 */
+    mdmp_name_place csd_version;     /* the name at CSDVersionRva, of the service pack */
+    uint32_t entry;                  /* the entry of the directory, from 0 */
+    uint32_t processor_architecture; /* ProcessorArchitecture: 0 is x86, 9 is x64, 12 is ARM64 */
+    uint32_t processor_level;        /* ProcessorLevel */
+    uint32_t processor_revision;     /* ProcessorRevision */
+    uint32_t number_of_processors;   /* NumberOfProcessors */
+    uint32_t product_type;           /* ProductType */
+    uint32_t major_version;          /* MajorVersion */
+    uint32_t minor_version;          /* MinorVersion */
+    uint32_t build_number;           /* BuildNumber */
+    uint32_t platform_id;            /* PlatformId */
+    uint32_t suite_mask;             /* SuiteMask */
+    uint8_t cpu[24];                 /* Cpu */
+    uint32_t reserved[3];            /* 0 */
+} mdmp_system;
+
+/* A module that was unloaded: MINIDUMP_UNLOADED_MODULE. */
+typedef struct mdmp_unloaded_module {
+    uint64_t index;           /* the record's place in its stream, from 0 */
+    uint64_t base_of_image;   /* BaseOfImage, an address of the dumped process */
+    uint32_t entry;           /* the entry of the directory, from 0 */
+    uint32_t size_of_image;   /* SizeOfImage, in bytes */
+    uint32_t checksum;        /* CheckSum */
+    uint32_t time_date_stamp; /* TimeDateStamp, in seconds since 1970 */
+    mdmp_name_place name;     /* the name at ModuleNameRva */
+    uint32_t reserved[2];     /* 0 */
+} mdmp_unloaded_module;
+
+/* A region of memory: MINIDUMP_MEMORY_INFO. */
+typedef struct mdmp_region {
+    uint64_t index;              /* the record's place in its stream, from 0 */
+    uint64_t base_address;       /* BaseAddress, an address of the dumped process */
+    uint64_t allocation_base;    /* AllocationBase, an address of the dumped process */
+    uint64_t region_size;        /* RegionSize, in bytes */
+    uint32_t entry;              /* the entry of the directory, from 0 */
+    uint32_t allocation_protect; /* AllocationProtect */
+    uint32_t state;              /* State */
+    uint32_t protect;            /* Protect */
+    uint32_t memory_type;        /* Type */
+    uint32_t reserved[3];        /* 0 */
+} mdmp_region;
+
+/* A range of memory: MINIDUMP_MEMORY_DESCRIPTOR or MINIDUMP_MEMORY_DESCRIPTOR64. */
+typedef struct mdmp_range {
+    uint64_t index;       /* the record's place in its stream, from 0 */
+    uint64_t start;       /* StartOfMemoryRange, an address of the dumped process */
+    uint64_t size;        /* DataSize, in bytes */
+    uint64_t offset;      /* where its bytes stand, an offset from the start of the file: the lower 64 bits */
+    uint64_t offset_high; /* the upper 64 bits of that, 0 where the bytes lie inside the file */
+    uint32_t entry;       /* the entry of the directory, from 0 */
+    uint32_t extent;      /* mdmp_extent: what its bytes are in the file */
+    uint32_t reserved[2]; /* 0 */
+} mdmp_range;
+
+/* What the CodeView record of a module tells. */
+typedef struct mdmp_symbol_file {
+    uint64_t name_offset; /* of RSDS: where the file's name stands, an offset from the start of the dump */
+    uint32_t kind;        /* mdmp_symbol_kind: which kind of record it is; what follows is 0 where the kind has none */
+    uint32_t age;         /* of RSDS: how often the symbol file was written */
+    uint32_t name_size;   /* of RSDS: bytes of its name, of no known encoding */
+    uint32_t name_ended;  /* of RSDS: 1 where a zero byte ends the name, 0 where the record ends first */
+    uint8_t guid[16];     /* of RSDS: its identity, in the order in which it is printed */
+    uint8_t signature[4]; /* of another kind: its first four bytes */
+    uint32_t reserved[3]; /* 0 */
+} mdmp_symbol_file;
+
+/* The limits of the command. */
+#define MDMP_LIMITS_DEFAULT { 65536, 4096, 0 }
+
+/* MDMP_ABI of the library: it rises where a structure or the meaning of a call changes. */
+uint32_t mdmp_abi(void);
+
+/* The library's version, major << 16 | minor << 8 | patch, as MDMP_VERSION. */
+uint32_t mdmp_version(void);
+
+/* What the library exports. These take no NULL, not even beside a length of 0: call those below. */
+uint32_t mdmp_header_(const uint8_t *file, size_t file_size, mdmp_header_record *out, mdmp_fault *fault);
+uint32_t mdmp_streams_(const uint8_t *file, size_t file_size, mdmp_stream *out, size_t room, uint64_t *count,
+    mdmp_fault *fault);
+uint32_t mdmp_check_(const uint8_t *file, size_t file_size, const mdmp_limits *limits, uint8_t *out,
+    size_t room, uint64_t *size, mdmp_fault *fault);
+uint32_t mdmp_verdicts_(const uint8_t *file, size_t file_size, const mdmp_limits *limits, mdmp_fault *out,
+    size_t room, uint64_t *count, mdmp_fault *fault);
+uint32_t mdmp_list_(const uint8_t *file, size_t file_size, const mdmp_limits *limits, bool pdb, uint8_t *out,
+    size_t room, uint64_t *size, mdmp_fault *fault);
+uint32_t mdmp_copy_(const uint8_t *file, size_t file_size, const mdmp_limits *limits, const uint32_t *types,
+    size_t types_count, uint8_t *out, size_t room, uint64_t *size, mdmp_fault *fault);
+uint32_t mdmp_threads_(const uint8_t *file, size_t file_size, const mdmp_limits *limits, mdmp_thread *out,
+    size_t room, uint64_t *count, mdmp_fault *fault);
+uint32_t mdmp_modules_(const uint8_t *file, size_t file_size, const mdmp_limits *limits, mdmp_module *out,
+    size_t room, uint64_t *count, mdmp_fault *fault);
+uint32_t mdmp_exceptions_(const uint8_t *file, size_t file_size, const mdmp_limits *limits,
+    mdmp_exception *out, size_t room, uint64_t *count, mdmp_fault *fault);
+uint32_t mdmp_systems_(const uint8_t *file, size_t file_size, const mdmp_limits *limits, mdmp_system *out,
+    size_t room, uint64_t *count, mdmp_fault *fault);
+uint32_t mdmp_unloaded_(const uint8_t *file, size_t file_size, const mdmp_limits *limits,
+    mdmp_unloaded_module *out, size_t room, uint64_t *count, mdmp_fault *fault);
+uint32_t mdmp_regions_(const uint8_t *file, size_t file_size, const mdmp_limits *limits, mdmp_region *out,
+    size_t room, uint64_t *count, mdmp_fault *fault);
+uint32_t mdmp_ranges_(const uint8_t *file, size_t file_size, const mdmp_limits *limits, mdmp_range *out,
+    size_t room, uint64_t *count, mdmp_fault *fault);
+uint32_t mdmp_memory_(const uint8_t *file, size_t file_size, const mdmp_limits *limits, uint64_t address,
+    uint8_t *out, size_t room, bool *known, size_t known_size, mdmp_fault *fault);
+uint32_t mdmp_read_(const uint8_t *file, size_t file_size, const mdmp_range *ranges, size_t ranges_count,
+    uint64_t address, uint8_t *out, size_t room, bool *known, size_t known_size, mdmp_fault *fault);
+uint32_t mdmp_name_(const uint8_t *file, size_t file_size, uint64_t rva, uint32_t limit, uint8_t *out,
+    size_t room, uint64_t *size, mdmp_fault *fault);
+uint32_t mdmp_symbols_(const uint8_t *file, size_t file_size, const mdmp_place *place, mdmp_symbol_file *out,
+    mdmp_fault *fault);
+uint32_t mdmp_fault_text_(const mdmp_fault *fault, uint8_t *out, size_t room, uint64_t *size);
+
+/* The header of a file. Its checksum is not checked, nor what its entries name. Takes no memory. Behind a
+ * status that is not MDMP_OK `out` is as it was. */
+static inline uint32_t mdmp_header(const uint8_t *file, size_t file_size, mdmp_header_record *out,
+    mdmp_fault *fault) {
+    static uint8_t no_file;
+    return mdmp_header_(file_size != 0 ? file : &no_file, file_size, out, fault);
+}
+
+/* The entries of the directory as they stand there, whether or not what they name is good. Takes no
+ * memory. */
+static inline uint32_t mdmp_streams(const uint8_t *file, size_t file_size, mdmp_stream *out, size_t room,
+    uint64_t *count, mdmp_fault *fault) {
+    static uint8_t no_file;
+    static mdmp_stream no_out;
+    return mdmp_streams_(file_size != 0 ? file : &no_file, file_size, room != 0 ? out : &no_out, room, count,
+        fault);
+}
+
+/* The text that `mdmp check` prints: a line for each entry of the directory, that it is good, or its first
+ * fault. MDMP_FAULT with MDMP_FAULT_BAD_ENTRIES, and the whole text, where an entry is bad. */
+static inline uint32_t mdmp_check(const uint8_t *file, size_t file_size, const mdmp_limits *limits,
+    uint8_t *out, size_t room, uint64_t *size, mdmp_fault *fault) {
+    static uint8_t no_file;
+    static uint8_t no_out;
+    return mdmp_check_(file_size != 0 ? file : &no_file, file_size, limits, room != 0 ? out : &no_out, room,
+        size, fault);
+}
+
+/* The same as numbers: a fault for each entry of the directory, in its order, whose kind is
+ * MDMP_FAULT_NONE and whose `entry` is the entry's number where it is good. Status and `fault` are those
+ * of mdmp_check, and all verdicts are given where an entry is bad. */
+static inline uint32_t mdmp_verdicts(const uint8_t *file, size_t file_size, const mdmp_limits *limits,
+    mdmp_fault *out, size_t room, uint64_t *count, mdmp_fault *fault) {
+    static uint8_t no_file;
+    static mdmp_fault no_out;
+    return mdmp_verdicts_(file_size != 0 ? file : &no_file, file_size, limits, room != 0 ? out : &no_out,
+        room, count, fault);
+}
+
+/* The text that `mdmp list` prints, up to the first fault: a line for the header, one for each entry and
+ * one for each record. With `pdb` that of `mdmp list --pdb`: what a CodeView record tells is one more
+ * line. */
+static inline uint32_t mdmp_list(const uint8_t *file, size_t file_size, const mdmp_limits *limits, bool pdb,
+    uint8_t *out, size_t room, uint64_t *size, mdmp_fault *fault) {
+    static uint8_t no_file;
+    static uint8_t no_out;
+    return mdmp_list_(file_size != 0 ? file : &no_file, file_size, limits, pdb, room != 0 ? out : &no_out,
+        room, size, fault);
+}
+
+/* The bytes of a new file with the streams of 1 to 16 types and all that their records name, as `mdmp
+ * copy` writes it. */
+static inline uint32_t mdmp_copy(const uint8_t *file, size_t file_size, const mdmp_limits *limits,
+    const uint32_t *types, size_t types_count, uint8_t *out, size_t room, uint64_t *size, mdmp_fault *fault) {
+    static uint8_t no_file;
+    static uint32_t no_types;
+    static uint8_t no_out;
+    return mdmp_copy_(file_size != 0 ? file : &no_file, file_size, limits,
+        types_count != 0 ? types : &no_types, types_count, room != 0 ? out : &no_out, room, size, fault);
+}
+
+/* The threads: ThreadListStream. The records of one kind, in the order of a listing of their streams
+ * alone, up to its first fault. */
+static inline uint32_t mdmp_threads(const uint8_t *file, size_t file_size, const mdmp_limits *limits,
+    mdmp_thread *out, size_t room, uint64_t *count, mdmp_fault *fault) {
+    static uint8_t no_file;
+    static mdmp_thread no_out;
+    return mdmp_threads_(file_size != 0 ? file : &no_file, file_size, limits, room != 0 ? out : &no_out, room,
+        count, fault);
+}
+
+/* The modules: ModuleListStream. The records of one kind, in the order of a listing of their streams
+ * alone, up to its first fault. */
+static inline uint32_t mdmp_modules(const uint8_t *file, size_t file_size, const mdmp_limits *limits,
+    mdmp_module *out, size_t room, uint64_t *count, mdmp_fault *fault) {
+    static uint8_t no_file;
+    static mdmp_module no_out;
+    return mdmp_modules_(file_size != 0 ? file : &no_file, file_size, limits, room != 0 ? out : &no_out, room,
+        count, fault);
+}
+
+/* The exceptions: ExceptionStream. Most files have one at most. The records of one kind, in the order of a
+ * listing of their streams alone, up to its first fault. */
+static inline uint32_t mdmp_exceptions(const uint8_t *file, size_t file_size, const mdmp_limits *limits,
+    mdmp_exception *out, size_t room, uint64_t *count, mdmp_fault *fault) {
+    static uint8_t no_file;
+    static mdmp_exception no_out;
+    return mdmp_exceptions_(file_size != 0 ? file : &no_file, file_size, limits, room != 0 ? out : &no_out,
+        room, count, fault);
+}
+
+/* The system: SystemInfoStream. Most files have one at most. The records of one kind, in the order of a
+ * listing of their streams alone, up to its first fault. */
+static inline uint32_t mdmp_systems(const uint8_t *file, size_t file_size, const mdmp_limits *limits,
+    mdmp_system *out, size_t room, uint64_t *count, mdmp_fault *fault) {
+    static uint8_t no_file;
+    static mdmp_system no_out;
+    return mdmp_systems_(file_size != 0 ? file : &no_file, file_size, limits, room != 0 ? out : &no_out, room,
+        count, fault);
+}
+
+/* The modules that were unloaded: UnloadedModuleListStream. The records of one kind, in the order of a
+ * listing of their streams alone, up to its first fault. */
+static inline uint32_t mdmp_unloaded(const uint8_t *file, size_t file_size, const mdmp_limits *limits,
+    mdmp_unloaded_module *out, size_t room, uint64_t *count, mdmp_fault *fault) {
+    static uint8_t no_file;
+    static mdmp_unloaded_module no_out;
+    return mdmp_unloaded_(file_size != 0 ? file : &no_file, file_size, limits, room != 0 ? out : &no_out,
+        room, count, fault);
+}
+
+/* The regions of memory: MemoryInfoListStream. The records of one kind, in the order of a listing of their
+ * streams alone, up to its first fault. */
+static inline uint32_t mdmp_regions(const uint8_t *file, size_t file_size, const mdmp_limits *limits,
+    mdmp_region *out, size_t room, uint64_t *count, mdmp_fault *fault) {
+    static uint8_t no_file;
+    static mdmp_region no_out;
+    return mdmp_regions_(file_size != 0 ? file : &no_file, file_size, limits, room != 0 ? out : &no_out, room,
+        count, fault);
+}
+
+/* The ranges of memory whose bytes a file may have: MemoryListStream and Memory64ListStream. The records
+ * of one kind, in the order of a listing of their streams alone, up to its first fault. */
+static inline uint32_t mdmp_ranges(const uint8_t *file, size_t file_size, const mdmp_limits *limits,
+    mdmp_range *out, size_t room, uint64_t *count, mdmp_fault *fault) {
+    static uint8_t no_file;
+    static mdmp_range no_out;
+    return mdmp_ranges_(file_size != 0 ? file : &no_file, file_size, limits, room != 0 ? out : &no_out, room,
+        count, fault);
+}
+
+/* Memory of the dumped process from an address on: out[i] is the byte at address + i where known[i] is
+ * true; else both are 0. `room` and `known_size` are the same. No address wraps: behind 2^64 - 1 nothing
+ * is known. Where a memory list has a fault, both buffers are as they were. */
+static inline uint32_t mdmp_memory(const uint8_t *file, size_t file_size, const mdmp_limits *limits,
+    uint64_t address, uint8_t *out, size_t room, bool *known, size_t known_size, mdmp_fault *fault) {
+    static uint8_t no_file;
+    static uint8_t no_out;
+    static bool no_known;
+    return mdmp_memory_(file_size != 0 ? file : &no_file, file_size, limits, address,
+        room != 0 ? out : &no_out, room, known_size != 0 ? known : &no_known, known_size, fault);
+}
+
+/* The same by ranges that mdmp_ranges gave and the caller keeps: no list is read again, and no memory
+ * taken. Ranges that are not MDMP_EXTENT_INSIDE, or do not lie inside the file whatever they say, are
+ * passed over. */
+static inline uint32_t mdmp_read(const uint8_t *file, size_t file_size, const mdmp_range *ranges,
+    size_t ranges_count, uint64_t address, uint8_t *out, size_t room, bool *known, size_t known_size,
+    mdmp_fault *fault) {
+    static uint8_t no_file;
+    static mdmp_range no_ranges;
+    static uint8_t no_out;
+    static bool no_known;
+    return mdmp_read_(file_size != 0 ? file : &no_file, file_size, ranges_count != 0 ? ranges : &no_ranges,
+        ranges_count, address, room != 0 ? out : &no_out, room, known_size != 0 ? known : &no_known,
+        known_size, fault);
+}
+
+/* The name at `rva`, of at most `limit` bytes of units, as UTF-8 with no zero behind it: a surrogate
+ * without its other half becomes U+FFFD. An rva of 0 is no name, and the text is empty. */
+static inline uint32_t mdmp_name(const uint8_t *file, size_t file_size, uint64_t rva, uint32_t limit,
+    uint8_t *out, size_t room, uint64_t *size, mdmp_fault *fault) {
+    static uint8_t no_file;
+    static uint8_t no_out;
+    return mdmp_name_(file_size != 0 ? file : &no_file, file_size, rva, limit, room != 0 ? out : &no_out,
+        room, size, fault);
+}
+
+/* What the CodeView record at a place tells, as the `codeview` of a module. Its extent is not looked at: a
+ * place that is empty or not inside the file is MDMP_FAULT, and `out` all zero. Takes no memory. */
+static inline uint32_t mdmp_symbols(const uint8_t *file, size_t file_size, const mdmp_place *place,
+    mdmp_symbol_file *out, mdmp_fault *fault) {
+    static uint8_t no_file;
+    return mdmp_symbols_(file_size != 0 ? file : &no_file, file_size, place, out, fault);
+}
+
+/* The command's words of a fault, without `mdmp: ` and a line's end; empty for MDMP_FAULT_NONE.
+ * MDMP_BAD_ARGUMENT and a size of 0 for a kind or a part that this library does not know. */
+static inline uint32_t mdmp_fault_text(const mdmp_fault *fault, uint8_t *out, size_t room, uint64_t *size) {
+    static uint8_t no_out;
+    return mdmp_fault_text_(fault, room != 0 ? out : &no_out, room, size);
+}
+
+/* The layout that the library has: no padding, nothing moved. */
+#ifdef __cplusplus
+#define MDMP_ASSERT_(condition, words) static_assert(condition, words)
+#else
+#define MDMP_ASSERT_(condition, words) _Static_assert(condition, words)
+#endif
+MDMP_ASSERT_(sizeof(bool) == 1, "bool");
+MDMP_ASSERT_(sizeof(mdmp_limits) == 16, "mdmp_limits");
+MDMP_ASSERT_(offsetof(mdmp_limits, window) == 0, "mdmp_limits.window");
+MDMP_ASSERT_(offsetof(mdmp_limits, name) == 4, "mdmp_limits.name");
+MDMP_ASSERT_(offsetof(mdmp_limits, budget) == 8, "mdmp_limits.budget");
+MDMP_ASSERT_(sizeof(mdmp_fault) == 64, "mdmp_fault");
+MDMP_ASSERT_(offsetof(mdmp_fault, kind) == 0, "mdmp_fault.kind");
+MDMP_ASSERT_(offsetof(mdmp_fault, entry) == 4, "mdmp_fault.entry");
+MDMP_ASSERT_(offsetof(mdmp_fault, index) == 8, "mdmp_fault.index");
+MDMP_ASSERT_(offsetof(mdmp_fault, offset) == 16, "mdmp_fault.offset");
+MDMP_ASSERT_(offsetof(mdmp_fault, size) == 24, "mdmp_fault.size");
+MDMP_ASSERT_(offsetof(mdmp_fault, high) == 32, "mdmp_fault.high");
+MDMP_ASSERT_(offsetof(mdmp_fault, part) == 40, "mdmp_fault.part");
+MDMP_ASSERT_(offsetof(mdmp_fault, has_index) == 44, "mdmp_fault.has_index");
+MDMP_ASSERT_(offsetof(mdmp_fault, reserved) == 48, "mdmp_fault.reserved");
+MDMP_ASSERT_(sizeof(mdmp_place) == 16, "mdmp_place");
+MDMP_ASSERT_(offsetof(mdmp_place, size) == 0, "mdmp_place.size");
+MDMP_ASSERT_(offsetof(mdmp_place, rva) == 4, "mdmp_place.rva");
+MDMP_ASSERT_(offsetof(mdmp_place, extent) == 8, "mdmp_place.extent");
+MDMP_ASSERT_(offsetof(mdmp_place, reserved) == 12, "mdmp_place.reserved");
+MDMP_ASSERT_(sizeof(mdmp_name_place) == 16, "mdmp_name_place");
+MDMP_ASSERT_(offsetof(mdmp_name_place, rva) == 0, "mdmp_name_place.rva");
+MDMP_ASSERT_(offsetof(mdmp_name_place, size) == 8, "mdmp_name_place.size");
+MDMP_ASSERT_(offsetof(mdmp_name_place, state) == 12, "mdmp_name_place.state");
+MDMP_ASSERT_(sizeof(mdmp_header_record) == 40, "mdmp_header_record");
+MDMP_ASSERT_(offsetof(mdmp_header_record, flags) == 0, "mdmp_header_record.flags");
+MDMP_ASSERT_(offsetof(mdmp_header_record, signature) == 8, "mdmp_header_record.signature");
+MDMP_ASSERT_(offsetof(mdmp_header_record, version) == 12, "mdmp_header_record.version");
+MDMP_ASSERT_(offsetof(mdmp_header_record, number_of_streams) == 16, "mdmp_header_record.number_of_streams");
+MDMP_ASSERT_(offsetof(mdmp_header_record, stream_directory_rva) == 20, "mdmp_header_record.stream_directory_rva");
+MDMP_ASSERT_(offsetof(mdmp_header_record, checksum) == 24, "mdmp_header_record.checksum");
+MDMP_ASSERT_(offsetof(mdmp_header_record, time_date_stamp) == 28, "mdmp_header_record.time_date_stamp");
+MDMP_ASSERT_(offsetof(mdmp_header_record, reserved) == 32, "mdmp_header_record.reserved");
+MDMP_ASSERT_(sizeof(mdmp_stream) == 24, "mdmp_stream");
+MDMP_ASSERT_(offsetof(mdmp_stream, entry) == 0, "mdmp_stream.entry");
+MDMP_ASSERT_(offsetof(mdmp_stream, stream_type) == 4, "mdmp_stream.stream_type");
+MDMP_ASSERT_(offsetof(mdmp_stream, size) == 8, "mdmp_stream.size");
+MDMP_ASSERT_(offsetof(mdmp_stream, rva) == 12, "mdmp_stream.rva");
+MDMP_ASSERT_(offsetof(mdmp_stream, reserved) == 16, "mdmp_stream.reserved");
+MDMP_ASSERT_(sizeof(mdmp_thread) == 88, "mdmp_thread");
+MDMP_ASSERT_(offsetof(mdmp_thread, index) == 0, "mdmp_thread.index");
+MDMP_ASSERT_(offsetof(mdmp_thread, teb) == 8, "mdmp_thread.teb");
+MDMP_ASSERT_(offsetof(mdmp_thread, stack_start) == 16, "mdmp_thread.stack_start");
+MDMP_ASSERT_(offsetof(mdmp_thread, entry) == 24, "mdmp_thread.entry");
+MDMP_ASSERT_(offsetof(mdmp_thread, thread_id) == 28, "mdmp_thread.thread_id");
+MDMP_ASSERT_(offsetof(mdmp_thread, suspend_count) == 32, "mdmp_thread.suspend_count");
+MDMP_ASSERT_(offsetof(mdmp_thread, priority_class) == 36, "mdmp_thread.priority_class");
+MDMP_ASSERT_(offsetof(mdmp_thread, priority) == 40, "mdmp_thread.priority");
+MDMP_ASSERT_(offsetof(mdmp_thread, stack) == 44, "mdmp_thread.stack");
+MDMP_ASSERT_(offsetof(mdmp_thread, context) == 60, "mdmp_thread.context");
+MDMP_ASSERT_(offsetof(mdmp_thread, reserved) == 76, "mdmp_thread.reserved");
+MDMP_ASSERT_(sizeof(mdmp_module) == 104, "mdmp_module");
+MDMP_ASSERT_(offsetof(mdmp_module, index) == 0, "mdmp_module.index");
+MDMP_ASSERT_(offsetof(mdmp_module, base_of_image) == 8, "mdmp_module.base_of_image");
+MDMP_ASSERT_(offsetof(mdmp_module, entry) == 16, "mdmp_module.entry");
+MDMP_ASSERT_(offsetof(mdmp_module, size_of_image) == 20, "mdmp_module.size_of_image");
+MDMP_ASSERT_(offsetof(mdmp_module, checksum) == 24, "mdmp_module.checksum");
+MDMP_ASSERT_(offsetof(mdmp_module, time_date_stamp) == 28, "mdmp_module.time_date_stamp");
+MDMP_ASSERT_(offsetof(mdmp_module, file_version_ms) == 32, "mdmp_module.file_version_ms");
+MDMP_ASSERT_(offsetof(mdmp_module, file_version_ls) == 36, "mdmp_module.file_version_ls");
+MDMP_ASSERT_(offsetof(mdmp_module, product_version_ms) == 40, "mdmp_module.product_version_ms");
+MDMP_ASSERT_(offsetof(mdmp_module, product_version_ls) == 44, "mdmp_module.product_version_ls");
+MDMP_ASSERT_(offsetof(mdmp_module, name) == 48, "mdmp_module.name");
+MDMP_ASSERT_(offsetof(mdmp_module, codeview) == 64, "mdmp_module.codeview");
+MDMP_ASSERT_(offsetof(mdmp_module, misc) == 80, "mdmp_module.misc");
+MDMP_ASSERT_(offsetof(mdmp_module, reserved) == 96, "mdmp_module.reserved");
+MDMP_ASSERT_(sizeof(mdmp_exception) == 192, "mdmp_exception");
+MDMP_ASSERT_(offsetof(mdmp_exception, index) == 0, "mdmp_exception.index");
+MDMP_ASSERT_(offsetof(mdmp_exception, exception_record) == 8, "mdmp_exception.exception_record");
+MDMP_ASSERT_(offsetof(mdmp_exception, exception_address) == 16, "mdmp_exception.exception_address");
+MDMP_ASSERT_(offsetof(mdmp_exception, information) == 24, "mdmp_exception.information");
+MDMP_ASSERT_(offsetof(mdmp_exception, entry) == 144, "mdmp_exception.entry");
+MDMP_ASSERT_(offsetof(mdmp_exception, thread_id) == 148, "mdmp_exception.thread_id");
+MDMP_ASSERT_(offsetof(mdmp_exception, exception_code) == 152, "mdmp_exception.exception_code");
+MDMP_ASSERT_(offsetof(mdmp_exception, exception_flags) == 156, "mdmp_exception.exception_flags");
+MDMP_ASSERT_(offsetof(mdmp_exception, number_parameters) == 160, "mdmp_exception.number_parameters");
+MDMP_ASSERT_(offsetof(mdmp_exception, context) == 164, "mdmp_exception.context");
+MDMP_ASSERT_(offsetof(mdmp_exception, reserved) == 180, "mdmp_exception.reserved");
+MDMP_ASSERT_(sizeof(mdmp_system) == 104, "mdmp_system");
+MDMP_ASSERT_(offsetof(mdmp_system, index) == 0, "mdmp_system.index");
+MDMP_ASSERT_(offsetof(mdmp_system, csd_version) == 8, "mdmp_system.csd_version");
+MDMP_ASSERT_(offsetof(mdmp_system, entry) == 24, "mdmp_system.entry");
+MDMP_ASSERT_(offsetof(mdmp_system, processor_architecture) == 28, "mdmp_system.processor_architecture");
+MDMP_ASSERT_(offsetof(mdmp_system, processor_level) == 32, "mdmp_system.processor_level");
+MDMP_ASSERT_(offsetof(mdmp_system, processor_revision) == 36, "mdmp_system.processor_revision");
+MDMP_ASSERT_(offsetof(mdmp_system, number_of_processors) == 40, "mdmp_system.number_of_processors");
+MDMP_ASSERT_(offsetof(mdmp_system, product_type) == 44, "mdmp_system.product_type");
+MDMP_ASSERT_(offsetof(mdmp_system, major_version) == 48, "mdmp_system.major_version");
+MDMP_ASSERT_(offsetof(mdmp_system, minor_version) == 52, "mdmp_system.minor_version");
+MDMP_ASSERT_(offsetof(mdmp_system, build_number) == 56, "mdmp_system.build_number");
+MDMP_ASSERT_(offsetof(mdmp_system, platform_id) == 60, "mdmp_system.platform_id");
+MDMP_ASSERT_(offsetof(mdmp_system, suite_mask) == 64, "mdmp_system.suite_mask");
+MDMP_ASSERT_(offsetof(mdmp_system, cpu) == 68, "mdmp_system.cpu");
+MDMP_ASSERT_(offsetof(mdmp_system, reserved) == 92, "mdmp_system.reserved");
+MDMP_ASSERT_(sizeof(mdmp_unloaded_module) == 56, "mdmp_unloaded_module");
+MDMP_ASSERT_(offsetof(mdmp_unloaded_module, index) == 0, "mdmp_unloaded_module.index");
+MDMP_ASSERT_(offsetof(mdmp_unloaded_module, base_of_image) == 8, "mdmp_unloaded_module.base_of_image");
+MDMP_ASSERT_(offsetof(mdmp_unloaded_module, entry) == 16, "mdmp_unloaded_module.entry");
+MDMP_ASSERT_(offsetof(mdmp_unloaded_module, size_of_image) == 20, "mdmp_unloaded_module.size_of_image");
+MDMP_ASSERT_(offsetof(mdmp_unloaded_module, checksum) == 24, "mdmp_unloaded_module.checksum");
+MDMP_ASSERT_(offsetof(mdmp_unloaded_module, time_date_stamp) == 28, "mdmp_unloaded_module.time_date_stamp");
+MDMP_ASSERT_(offsetof(mdmp_unloaded_module, name) == 32, "mdmp_unloaded_module.name");
+MDMP_ASSERT_(offsetof(mdmp_unloaded_module, reserved) == 48, "mdmp_unloaded_module.reserved");
+MDMP_ASSERT_(sizeof(mdmp_region) == 64, "mdmp_region");
+MDMP_ASSERT_(offsetof(mdmp_region, index) == 0, "mdmp_region.index");
+MDMP_ASSERT_(offsetof(mdmp_region, base_address) == 8, "mdmp_region.base_address");
+MDMP_ASSERT_(offsetof(mdmp_region, allocation_base) == 16, "mdmp_region.allocation_base");
+MDMP_ASSERT_(offsetof(mdmp_region, region_size) == 24, "mdmp_region.region_size");
+MDMP_ASSERT_(offsetof(mdmp_region, entry) == 32, "mdmp_region.entry");
+MDMP_ASSERT_(offsetof(mdmp_region, allocation_protect) == 36, "mdmp_region.allocation_protect");
+MDMP_ASSERT_(offsetof(mdmp_region, state) == 40, "mdmp_region.state");
+MDMP_ASSERT_(offsetof(mdmp_region, protect) == 44, "mdmp_region.protect");
+MDMP_ASSERT_(offsetof(mdmp_region, memory_type) == 48, "mdmp_region.memory_type");
+MDMP_ASSERT_(offsetof(mdmp_region, reserved) == 52, "mdmp_region.reserved");
+MDMP_ASSERT_(sizeof(mdmp_range) == 56, "mdmp_range");
+MDMP_ASSERT_(offsetof(mdmp_range, index) == 0, "mdmp_range.index");
+MDMP_ASSERT_(offsetof(mdmp_range, start) == 8, "mdmp_range.start");
+MDMP_ASSERT_(offsetof(mdmp_range, size) == 16, "mdmp_range.size");
+MDMP_ASSERT_(offsetof(mdmp_range, offset) == 24, "mdmp_range.offset");
+MDMP_ASSERT_(offsetof(mdmp_range, offset_high) == 32, "mdmp_range.offset_high");
+MDMP_ASSERT_(offsetof(mdmp_range, entry) == 40, "mdmp_range.entry");
+MDMP_ASSERT_(offsetof(mdmp_range, extent) == 44, "mdmp_range.extent");
+MDMP_ASSERT_(offsetof(mdmp_range, reserved) == 48, "mdmp_range.reserved");
+MDMP_ASSERT_(sizeof(mdmp_symbol_file) == 56, "mdmp_symbol_file");
+MDMP_ASSERT_(offsetof(mdmp_symbol_file, name_offset) == 0, "mdmp_symbol_file.name_offset");
+MDMP_ASSERT_(offsetof(mdmp_symbol_file, kind) == 8, "mdmp_symbol_file.kind");
+MDMP_ASSERT_(offsetof(mdmp_symbol_file, age) == 12, "mdmp_symbol_file.age");
+MDMP_ASSERT_(offsetof(mdmp_symbol_file, name_size) == 16, "mdmp_symbol_file.name_size");
+MDMP_ASSERT_(offsetof(mdmp_symbol_file, name_ended) == 20, "mdmp_symbol_file.name_ended");
+MDMP_ASSERT_(offsetof(mdmp_symbol_file, guid) == 24, "mdmp_symbol_file.guid");
+MDMP_ASSERT_(offsetof(mdmp_symbol_file, signature) == 40, "mdmp_symbol_file.signature");
+MDMP_ASSERT_(offsetof(mdmp_symbol_file, reserved) == 44, "mdmp_symbol_file.reserved");
+#undef MDMP_ASSERT_
+
+#ifdef __cplusplus
+}
+#endif
+
+#endif
