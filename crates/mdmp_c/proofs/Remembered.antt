@@ -7,7 +7,8 @@ use Rattle.mdmp_lister.specs.declared.fault.ListFault.{ListFault}
 use Rattle.mdmp_lister.specs.Fault.{IsOfSource}
 use Rattle.mdmp_lister.specs.Format.Listing.{listing, memory_lists}
 use Rattle.mdmp_lister.specs.Format.Refusal.{opening_fault}
-use Rattle.mdmp_c.specs.Fault.{kind_number, list_fault, of_kind, status_of}
+use Rattle.mdmp_c.specs.declared.fault.PlainFault.{PlainFault}
+use Rattle.mdmp_c.specs.Fault.{kind_number, list_fault, no_fault, of_kind, status_of}
 use Rattle.mdmp_c.specs.Memory.{memory_told}
 
 -- a fault of a listing that is not the store's has status 1
@@ -30,3 +31,7 @@ memory_told-fault F limit n choice f is same opened fault =
     let first : (listing F memory_lists n).fault ≡ Some f = subst (λ (c : Choice). (listing F c n).fault ≡ Some f) is fault in
     let last : (listing F memory_lists limit).fault ≡ Some f = subst (λ m. (listing F memory_lists m).fault ≡ Some f) same first in
     rw (opened_too, last) refl
+
+-- what has status 1 is a fault
+pub some_fault : (told : PlainFault) → status_of told ≡ 1 → told ≡ no_fault → ⊥
+some_fault told status none = let wrong : status_of no_fault ≡ 1 = subst (λ (f : PlainFault). status_of f ≡ 1) none status in absurd (cc)

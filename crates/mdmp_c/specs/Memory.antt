@@ -55,11 +55,11 @@ pub data ReadsMemory (F : List ℕ) (limits : PlainLimits) (address status : ℕ
   reads : AreLimits limits → length out_before ≡ length known_before → memory_told F limits.name ≡ no_fault
       → GivesCells F (ranges_of (listing F memory_lists limits.name).items) address status fault out_after known_after
       → ReadsMemory F limits address status fault out_before out_after known_before known_after
-  faulty : AreLimits limits → length out_before ≡ length known_before → GivesNone status 1 (memory_told F limits.name) fault out_before out_after known_before known_after
+  faulty : AreLimits limits → length out_before ≡ length known_before → (memory_told F limits.name ≡ no_fault → ⊥) → GivesNone status 1 (memory_told F limits.name) fault out_before out_after known_before known_after
       → ReadsMemory F limits address status fault out_before out_after known_before known_after
   wants : AreLimits limits → length out_before ≡ length known_before → GivesNone status 3 no_memory fault out_before out_after known_before known_after
       → ReadsMemory F limits address status fault out_before out_after known_before known_after
   differ : (length out_before ≡ length known_before → ⊥) → GivesNone status 2 lengths_differ fault out_before out_after known_before known_after
       → ReadsMemory F limits address status fault out_before out_after known_before known_after
-  refuses : (AreLimits limits → ⊥) → GivesNone status 2 bad_limits fault out_before out_after known_before known_after
+  refuses : (AreLimits limits → ⊥) → length out_before ≡ length known_before → GivesNone status 2 bad_limits fault out_before out_after known_before known_after
       → ReadsMemory F limits address status fault out_before out_after known_before known_after

@@ -3,6 +3,7 @@ ghost use Rattle.std.specs.Prelude.{◌≡◌};
 ghost use Rattle.mdmp_c.specs.Fault.{kind_number, list_fault, no_fault, of_kind, open_fault, status_of};
 
 use mdmp_lister::{FaultKind, ListFault, OpenFault};
+use std::mem::size_of;
 
 /// What is wrong, and where. A number that its kind says nothing of is 0.
 #[repr(C)]
@@ -27,6 +28,8 @@ pub struct PlainFault {
     /// Zeros.
     pub reserved: [u32; 4],
 }
+
+const _: () = prove!(size_of::<PlainFault>() == 64);
 
 /// Nothing is wrong.
 pub const NO_FAULT: PlainFault = PlainFault {

@@ -8,6 +8,7 @@ ghost use Rattle.mdmp_wire.specs.Entry.{entry_at};
 
 use crate::collecting::put;
 use mdmp_wire::{Entry, Header, get_at};
+use std::mem::size_of;
 
 /// The header of a file, `MINIDUMP_HEADER`.
 #[repr(C)]
@@ -31,6 +32,8 @@ pub struct HeaderRow {
     pub reserved: [u32; 2],
 }
 
+const _: () = prove!(size_of::<HeaderRow>() == 40);
+
 /// An entry of the directory, `MINIDUMP_DIRECTORY`.
 #[repr(C)]
 #[derive(Clone, Copy)]
@@ -46,6 +49,8 @@ pub struct StreamRow {
     /// Zeros.
     pub reserved: [u32; 2],
 }
+
+const _: () = prove!(size_of::<StreamRow>() == 24);
 
 /// A header as a plain structure.
 pub(crate) fn header_row(header: &Header) -> HeaderRow

@@ -3,6 +3,7 @@ ghost use Rattle.std.specs.Prelude.{◌≡◌, ◌↔◌, IsSome};
 ghost use Rattle.mdmp_c.specs.Limits.{AreLimits, IsLimits};
 
 use mdmp_lister::Limits;
+use std::mem::size_of;
 
 /// How many bytes a call holds of the file's records at a time, and of a name.
 #[repr(C)]
@@ -15,6 +16,8 @@ pub struct PlainLimits {
     /// How many bytes may be fetched: 0, since there is no such limit yet.
     pub budget: u64,
 }
+
+const _: () = prove!(size_of::<PlainLimits>() == 16);
 
 /// The limits that these numbers are, if they are good.
 pub(crate) fn limits_of(plain: &PlainLimits) -> Option<Limits>

@@ -6,6 +6,7 @@ ghost use Rattle.mdmp_lister.specs.Format.Name.{plain_name};
 
 use mdmp_lister::Name;
 use mdmp_source::{Extent, Location};
+use std::mem::size_of;
 
 /// Where a part of a record is said to stand, `MINIDUMP_LOCATION_DESCRIPTOR`, and what is there.
 #[repr(C)]
@@ -22,6 +23,8 @@ pub struct PartPlace {
     pub reserved: u32,
 }
 
+const _: () = prove!(size_of::<PartPlace>() == 16);
+
 /// Where a name stands, a `MINIDUMP_STRING`.
 #[repr(C)]
 #[derive(Clone, Copy)]
@@ -33,6 +36,8 @@ pub struct NamePlace {
     /// 0 where there is no name, 1 for one within the limit, 2 for a longer one.
     pub state: u32,
 }
+
+const _: () = prove!(size_of::<NamePlace>() == 16);
 
 /// The number of an extent.
 pub(crate) fn extent_number(extent: Extent) -> u32

@@ -5,6 +5,7 @@ use crate::fault::{NO_FAULT, PlainFault, of_kind};
 use crate::parts::PartPlace;
 use mdmp_source::inside;
 use mdmp_wire::CodeView;
+use std::mem::size_of;
 
 /// What the CodeView record of a module tells.
 #[repr(C)]
@@ -27,6 +28,8 @@ pub struct Symbols {
     /// Zeros.
     pub reserved: [u32; 3],
 }
+
+const _: () = prove!(size_of::<Symbols>() == 56);
 
 const NO_SYMBOLS: Symbols = Symbols {
     name_offset: 0,

@@ -175,7 +175,7 @@ fn a_budget_is_a_bad_limit(rt: HostRuntime) -> Result<(), Fail> {
 }
 
 #[test]
-fn each_entry_has_a_verdict_and_its_words(rt: HostRuntime) -> Result<(), Fail> {
+fn each_entry_has_a_verdict(rt: HostRuntime) -> Result<(), Fail> {
     let mut verdicts = [NO_FAULT; 2];
     let mut count = 0;
     let mut fault = NO_FAULT;
@@ -190,21 +190,49 @@ fn each_entry_has_a_verdict_and_its_words(rt: HostRuntime) -> Result<(), Fail> {
     );
     assert_eq!(rt; (status, count), (1, 1));
     assert_eq!(rt; (fault.kind, fault.size), (64, 1));
-    let mut out = [0; 64];
+    let PlainFault {
+        kind,
+        entry,
+        index,
+        offset,
+        size,
+        ..
+    } = verdicts[0];
+    assert_eq!(rt; (kind, entry, index), (23, 0, 0));
+    assert_eq!(rt; (offset, size), (104, 28));
+    Ok(())
+}
+
+#[test]
+fn a_fault_has_its_words(rt: HostRuntime) -> Result<(), Fail> {
+    let outside = PlainFault {
+        kind: 23,
+        has_index: 1,
+        offset: 104,
+        size: 28,
+        ..NO_FAULT
+    };
+    let mut out = [0; 57];
     let mut size = 0;
-    let status = mdmp_fault_text_(rt.alloc(), &verdicts[0], &mut out, &mut size);
+    let status = mdmp_fault_text_(rt.alloc(), &outside, &mut out, &mut size);
     assert_eq!(rt; (status, size), (0, 57));
     assert_eq!(rt;
-        &out[..57],
-        b"entry 0 item 0: name outside the file: offset 104 size 28".as_slice()
+        &out,
+        b"entry 0 item 0: name outside the file: offset 104 size 28"
     );
+    Ok(())
+}
+
+#[test]
+fn a_kind_that_is_not_known_has_no_words(rt: HostRuntime) -> Result<(), Fail> {
     let unknown = PlainFault {
         kind: 1000,
         ..NO_FAULT
     };
-    assert_eq!(rt;
-        mdmp_fault_text_(rt.alloc(), &unknown, &mut out, &mut size),
-        2
-    );
+    let mut out = [7; 4];
+    let mut size = 1;
+    let status = mdmp_fault_text_(rt.alloc(), &unknown, &mut out, &mut size);
+    assert_eq!(rt; (status, size), (2, 0));
+    assert_eq!(rt; out, [7; 4]);
     Ok(())
 }

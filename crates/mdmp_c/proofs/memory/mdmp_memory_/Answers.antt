@@ -7,7 +7,7 @@ use Rattle.mdmp_lister.specs.Format.Listing.{listing}
 use Rattle.mdmp_c.specs.Fault.{status_of}
 use Rattle.mdmp_c.specs.Limits.{AreLimits}
 use Rattle.mdmp_c.specs.Memory.{faulty}
-use Rattle.mdmp_c.proofs.Remembered.{memory_told-fault, status-file}
+use Rattle.mdmp_c.proofs.Remembered.{memory_told-fault, some_fault, status-file}
 use Rattle.mdmp_c.proofs.memory.mdmp_memory_.Goals as goal
 
 pub returns-in-Err-list_ranges : goal.returns-in-Err-list_ranges
@@ -27,7 +27,8 @@ returns-in-Err-list_ranges c =
     let of_file : IsOfSource f.kind → ⊥ = c.in-Err-list_ranges.ensures.good file now in
     let fault = c.in-Err-list_ranges.ensures.lists (listing file choice name) left of_file in
     let told = memory_told-fault file c.args.limits.now.name name choice f c.memory_lists.ensures c.in-Some.ensures.2 (c.in-Ok.ensures.opens file good.known) fault in
-    faulty valid c.if-out-known.false record {
+    let status = ap status_of told ∙ status-file f.kind of_file in
+    faulty valid c.if-out-known.false (some_fault _ status) record {
       status_is = c.refuse-in-Err-list_ranges.ensures.status ∙ ap status_of c.list_fault.ensures ∙ status-file f.kind of_file;
       fault_is = c.refuse-in-Err-list_ranges.ensures.fault ∙ c.list_fault.ensures ∙ sym told;
       out = refl;
