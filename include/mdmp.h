@@ -15,8 +15,9 @@
  *
  *   MDMP_OK            all of it. `size` or `count` says how much; `fault` is MDMP_FAULT_NONE.
  *   MDMP_FAULT         the file is at fault, and `fault` says what and where. Given is all up to the fault
- *                      (a check and its verdicts go on behind it); of a file that can't be opened nothing,
- *                      and `size` or `count` is 0.
+ *                      (a check and its verdicts go on behind it; mdmp_copy, mdmp_memory and mdmp_header give
+ *                      nothing, and mdmp_symbols zeros); of a file that can't be opened nothing, and `size` or
+ *                      `count` is 0.
  *   MDMP_BAD_ARGUMENT  limits, types or lengths are wrong, and `fault` says which. The buffer is as it was,
  *                      and `size` or `count` is 0.
  *   MDMP_NO_MEMORY     malloc or realloc answered NULL. The buffer is as it was, `size` or `count` is 0.
@@ -72,7 +73,7 @@ typedef enum mdmp_fault_kind {
     MDMP_FAULT_BAD_HEADER_SIZE = 18,     /* entry, offset, size: SizeOfHeader */
     MDMP_FAULT_BAD_ENTRY_SIZE = 19,      /* entry, offset, size: SizeOfEntry */
     MDMP_FAULT_BAD_COUNT = 20,           /* entry, offset, size: the count of records */
-    MDMP_FAULT_NAME_LENGTH_OUTSIDE = 21, /* entry, index, offset: a name's length is not inside the file */
+    MDMP_FAULT_NAME_LENGTH_OUTSIDE = 21, /* entry, index, offset, size (4): a name's length is not inside the file */
     MDMP_FAULT_NAME_ODD = 22,            /* entry, index, offset, size: a name's length is odd */
     MDMP_FAULT_NAME_OUTSIDE = 23,        /* entry, index, offset, size: a name is not inside the file */
     MDMP_FAULT_PART_OUTSIDE = 32,        /* entry, index, part, offset (high: its upper 64 bits), size */
@@ -82,7 +83,7 @@ typedef enum mdmp_fault_kind {
     MDMP_FAULT_BAD_ENTRIES = 64,         /* size: how many entries of the directory have a fault */
     MDMP_FAULT_NOT_COPIED = 65,          /* size: a type of stream that is not copied */
     MDMP_FAULT_NO_MEMORY = 66,           /* memory was wanting: malloc or realloc answered NULL */
-    MDMP_FAULT_BAD_LIMITS = 67,          /* the limits are */
+    MDMP_FAULT_BAD_LIMITS = 67,          /* a limit is out of its bounds, or the budget is not 0 */
     MDMP_FAULT_BAD_TYPES = 68,           /* the types to be copied are none, or over 16 */
     MDMP_FAULT_STORE = 69,               /* no call over a file in memory answers this */
     MDMP_FAULT_LENGTHS_DIFFER = 70       /* two buffers that must have one length differ */
@@ -337,8 +338,9 @@ uint32_t mdmp_symbols_(const uint8_t *file, size_t file_size, const mdmp_place *
     mdmp_fault *fault);
 uint32_t mdmp_fault_text_(const mdmp_fault *fault, uint8_t *out, size_t room, uint64_t *size);
 
-/* The header of a file. Its checksum is not checked, nor what its entries name. Takes no memory. Behind a
- * status that is not MDMP_OK `out` is as it was. */
+/* The header of a file. Its checksum is not checked, nor what its entries name. Takes no memory. A
+ * directory that is not inside the file is MDMP_FAULT. Behind a status that is not MDMP_OK `out` is as it
+ * was. */
 static inline uint32_t mdmp_header(const uint8_t *file, size_t file_size, mdmp_header_record *out,
     mdmp_fault *fault) {
     static uint8_t no_file;
@@ -388,7 +390,7 @@ static inline uint32_t mdmp_list(const uint8_t *file, size_t file_size, const md
 }
 
 /* The bytes of a new file with the streams of 1 to 16 types and all that their records name, as `mdmp
- * copy` writes it. */
+ * copy` writes it. Nothing is given of a file with a fault. */
 static inline uint32_t mdmp_copy(const uint8_t *file, size_t file_size, const mdmp_limits *limits,
     const uint32_t *types, size_t types_count, uint8_t *out, size_t room, uint64_t *size, mdmp_fault *fault) {
     static uint8_t no_file;
@@ -513,8 +515,10 @@ static inline uint32_t mdmp_symbols(const uint8_t *file, size_t file_size, const
     return mdmp_symbols_(file_size != 0 ? file : &no_file, file_size, place, out, fault);
 }
 
-/* The command's words of a fault, without `mdmp: ` and a line's end; empty for MDMP_FAULT_NONE.
- * MDMP_BAD_ARGUMENT and a size of 0 for a kind or a part that this library does not know. */
+/* The command's words of a fault, without `mdmp: ` and a line's end; empty for MDMP_FAULT_NONE. Of a fault
+ * of mdmp_name and mdmp_symbols, which know no entry, they say entry 0; for MDMP_FAULT_BAD_LIMITS and
+ * above they are the library's own. MDMP_BAD_ARGUMENT and a size of 0 for a kind or a part that this
+ * library does not know. */
 static inline uint32_t mdmp_fault_text(const mdmp_fault *fault, uint8_t *out, size_t room, uint64_t *size) {
     static uint8_t no_out;
     return mdmp_fault_text_(fault, room != 0 ? out : &no_out, room, size);

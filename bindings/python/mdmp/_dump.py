@@ -34,6 +34,13 @@ from ._records import (
 _T = TypeVar("_T")
 
 
+# A number for a u32 of the library. ctypes would drop what is above its 32 bits.
+def _u32(name: str, number: int) -> int:
+    if not 0 <= number < 1 << 32:
+        raise ValueError(f"{name} is not between 0 and 4294967295")
+    return number
+
+
 # Guesses of how many items a file of some size has: powers of two, so that there are few types of arrays.
 def _some_records(size: int) -> int:
     return 1 << min(size // 24, 8191).bit_length()
@@ -76,7 +83,7 @@ class Dump:
     def __init__(self, data: Bytes, *, window: int = 65536, name: int = 4096) -> None:
         self._data: Bytes | None = data
         self._mapping: mmap.mmap | None = None
-        self._limits = _structures.Limits(window, name, 0)
+        self._limits = _structures.Limits(_u32("window", window), _u32("name", name), 0)
         self._kept: dict[str, Any] = {}
 
     def close(self) -> None:
@@ -311,7 +318,7 @@ class Dump:
         >>> [stream.stream_type for stream in small.streams]
         [7, 3]
         """
-        chosen = (c_uint32 * max(len(types), 1))(*types)
+        chosen = (c_uint32 * max(len(types), 1))(*(_u32("type", number) for number in types))
         filled = self._fill(library.mdmp_copy_, c_uint8, _some_text, byref(self._limits), chosen, len(types))
         expect_good(filled.status, filled.fault)
         return filled.bytes()

@@ -59,7 +59,7 @@ class FaultKind(Numbers):
     BAD_HEADER_SIZE      entry, offset, size: SizeOfHeader
     BAD_ENTRY_SIZE       entry, offset, size: SizeOfEntry
     BAD_COUNT            entry, offset, size: the count of records
-    NAME_LENGTH_OUTSIDE  entry, index, offset: a name's length is not inside the file
+    NAME_LENGTH_OUTSIDE  entry, index, offset, size (4): a name's length is not inside the file
     NAME_ODD             entry, index, offset, size: a name's length is odd
     NAME_OUTSIDE         entry, index, offset, size: a name is not inside the file
     PART_OUTSIDE         entry, index, part, offset (high: its upper 64 bits), size
@@ -69,7 +69,7 @@ class FaultKind(Numbers):
     BAD_ENTRIES          size: how many entries of the directory have a fault
     NOT_COPIED           size: a type of stream that is not copied
     NO_MEMORY            memory was wanting: malloc or realloc answered NULL
-    BAD_LIMITS           the limits are
+    BAD_LIMITS           a limit is out of its bounds, or the budget is not 0
     BAD_TYPES            the types to be copied are none, or over 16
     STORE                no call over a file in memory answers this
     LENGTHS_DIFFER       two buffers that must have one length differ

@@ -90,12 +90,22 @@ class Faults(unittest.TestCase):
 
     def test_arguments(self) -> None:
         with mdmp.open(KINDS) as dump:
-            refused = [([], "between 1 and 16"), ([*range(17)], "between 1 and 16"), ([24], "type 24 is not copied")]
+            refused = [
+                ([], "between 1 and 16"),
+                ([*range(17)], "between 1 and 16"),
+                ([24], "type 24 is not copied"),
+                ([-1], "type is not between"),
+                ([3 + (1 << 32)], "type is not between"),
+            ]
             for types, words in refused:
                 with self.assertRaisesRegex(ValueError, words):
                     dump.copy(*types)
         with self.assertRaisesRegex(ValueError, "bad limits"):
             mdmp.Dump(b"", window=167).threads
+        with self.assertRaisesRegex(ValueError, "window is not between"):
+            mdmp.Dump(b"", window=65536 + (1 << 32))
+        with self.assertRaisesRegex(ValueError, "name is not between"):
+            mdmp.Dump(b"", name=-1)
         with self.assertRaisesRegex(FileNotFoundError, "none.dmp"):
             mdmp.open("none.dmp")
 

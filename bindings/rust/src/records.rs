@@ -59,7 +59,7 @@ pub enum FaultKind {
     BadEntrySize,
     /// Entry, offset, size: the count of records.
     BadCount,
-    /// Entry, index, offset: a name's length is not inside the file.
+    /// Entry, index, offset, size (4): a name's length is not inside the file.
     NameLengthOutside,
     /// Entry, index, offset, size: a name's length is odd.
     NameOdd,
@@ -79,7 +79,7 @@ pub enum FaultKind {
     NotCopied,
     /// Memory was wanting: malloc or realloc answered NULL.
     NoMemory,
-    /// The limits are.
+    /// A limit is out of its bounds, or the budget is not 0.
     BadLimits,
     /// The types to be copied are none, or over 16.
     BadTypes,
