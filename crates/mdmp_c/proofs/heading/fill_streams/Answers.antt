@@ -18,12 +18,12 @@ loop-number-init c = record { within = omega arith; rows = sym (put_front-nothin
 pub loop-number-preserved : goal.loop-number-preserved
 loop-number-preserved c =
     let n : ℕ = c.loop-number.number in
-    let row : ℕ → StreamRow = λ e. stream_row e (entry_at c.args.file.now (c.args.at + 12 * e)) in
-    let rows : List StreamRow = map row (range_with_len 0 n) in
-    let long : length rows ≡ n = length-map-range_with_len row 0 n in
+    let entry_row : ℕ → StreamRow = λ e. stream_row e (entry_at c.args.file.now (c.args.at + 12 * e)) in
+    let rows : List StreamRow = map entry_row (range_with_len 0 n) in
+    let long : length rows ≡ n = length-map-range_with_len entry_row 0 n in
     let index : c.from.result ≡ told_count (length rows) = omega (arith, long, c.from.ensures, c.loop-number-test.true, c.ranges.count.fits) in
-    let is : c.stream_row.result ≡ row n = c.stream_row.ensures ∙ ap (stream_row n) c.get_at-entry.ensures in
-    let more : map row (range_with_len 0 (n + 1)) ≡ rows ++ row n ∷ [] = map-range_with_len_more row 0 n n (omega arith) in
+    let is : c.stream_row.result ≡ entry_row n = c.stream_row.ensures ∙ ap (stream_row n) c.get_at-entry.ensures in
+    let more : map entry_row (range_with_len 0 (n + 1)) ≡ rows ++ entry_row n ∷ [] = map-range_with_len_more entry_row 0 n n (omega arith) in
     record {
       within = omega (arith, c.loop-number-test.true);
       rows =
