@@ -1,27 +1,29 @@
 -- Items printed one by one.
-use Rattle.std.proofs.Common.{◌≡◌, ◌∙◌, ◌++◌, ℕ, List, ◌∷◌, [], Bool, Option, Some, None, refl, ap, sym, append_assoc, append-nil}
-use Rattle.std.specs.Prelude.{Ok, Err, drop, slice_get}
+use Rattle.std.proofs.Common.{◌≡◌, ◌∙◌, ◌++◌, ℕ, List, [], Bool, false, Option, Some, None, refl, ap, subst, sym, append_assoc, append-nil}
+use Rattle.std.specs.Prelude.{Ok, Err, Result, drop, take}
 use Rattle.std.specs.List.{flat_map}
+use Rattle.std.proofs.lemmas.List.{take-append-drop}
 use Rattle.std.proofs.lemmas.List.Concat.{flat_map-append}
-use Rattle.mdmp_source.specs.Output.{OutState, PutsAll, PutsPrefix}
-use Rattle.mdmp_source.specs.OutputLaws.{PutsAll-nothing, PutsAll-PutsAll, PutsPrefix-last, PutsPrefix-front, TakesPrefix-behind}
-use Rattle.mdmp_lister.specs.declared.fault.FaultKind.{FaultKind}
-use Rattle.mdmp_lister.specs.declared.fault.FaultKind.TheVariants.{Source}
+use Rattle.mdmp_source.specs.Output.{OutState, PutsAll}
+use Rattle.mdmp_source.specs.OutputLaws.{PutsAll-nothing, PutsAll-PutsAll, PutsPrefix-behind, TakesPrefix-behind}
 use Rattle.mdmp_lister.specs.declared.fault.ListFault.{ListFault}
 use Rattle.mdmp_lister.specs.declared.item.Item.{Item}
-use Rattle.mdmp_lister.specs.Format.Item.{plain}
-use Rattle.mdmp_lister.specs.Fault.{IsOfSource}
-use Rattle.mdmp_lister.specs.Lister.{Gives, tail}
-use Rattle.mdmp_lister.specs.Format.Listing.{Run, nothing, only_fault}
-use Rattle.mdmp_tool.specs.Engines.{StopsShort}
-use Rattle.mdmp_tool.specs.Runs.{ListsRun}
-use Rattle.mdmp_tool.specs.Telling.{list_told, told_by}
-use Rattle.mdmp_tool.specs.Text.{item_lines, run_text}
-use Rattle.mdmp_tool.proofs.PlainLines.{item_lines-plain}
+use Rattle.mdmp_lister.specs.Lister.{tail}
+use Rattle.mdmp_lister.specs.Format.Listing.{Run}
+use Rattle.mdmp_tool.specs.declared.fault.ToolFault.{ToolFault}
+use Rattle.mdmp_tool.specs.declared.fault.ToolFault.TheVariants.{List as BadList, Source, Out}
+use Rattle.mdmp_tool.specs.Runs.{ListsNext, ListsRun}
+use Rattle.mdmp_tool.specs.Text.{item_lines, next_lines, run_text}
 
-first_then : (x : Item) (xs : List Item) → slice_get xs 0 ≡ Some x → xs ≡ x ∷ drop 1 xs
-first_then x [] none = absurd (cc)
-first_then x (y ∷ ys) first = let same : y ≡ x = cc in ap (λ (z : Item). z ∷ ys) same
+-- what is printed next with names up to the limit of a run
+pub next_within : (pdb : Bool) (F : List ℕ) (a b : ℕ) (left : Run) (before : OutState) (r : Result Bool ToolFault) (after : OutState) → a ≡ b
+    → ListsNext pdb F a left before r after → ListsNext pdb F b left before r after
+next_within pdb F a b left before r after same next = subst (λ n. ListsNext pdb F n left before r after) same next
+
+pub next_told : (pdb : Bool) (F : List ℕ) (a b : ℕ) (left : Run) (before : OutState) (is more : Bool) (after : OutState) → a ≡ b → is ≡ more
+    → ListsNext pdb F a left before (Ok is) after → ListsNext pdb F b left before (Ok more) after
+next_told pdb F a b left before is more after same told next =
+    next_within pdb F a b left before (Ok more) after same (subst (λ (m : Bool). ListsNext pdb F a left before (Ok m) after) told next)
 
 module _ (pdb : Bool) (F : List ℕ) (limit : ℕ) where
   abbrev lines : Item → List ℕ
@@ -37,91 +39,59 @@ module _ (pdb : Bool) (F : List ℕ) (limit : ℕ) where
   pub HasPrinted-none : (run : Run) (before : OutState) → HasPrinted run before run before
   HasPrinted-none run before = record { given = []; items = refl; fault = refl; text = PutsAll-nothing before }
 
-  lines_of : (given : List Item) (x : Item) → flat_map lines (given ++ plain x ∷ []) ≡ flat_map lines given ++ lines x
-  lines_of given x =
-      flat_map-append lines given (plain x ∷ [])
-      ∙ ap (λ (text : List ℕ). flat_map lines given ++ text) (append-nil (lines (plain x)) ∙ item_lines-plain pdb F limit x)
-
-  -- one more
-  pub HasPrinted-more : (run left : Run) (before now after : OutState) (x : Item) → HasPrinted run before left now → slice_get left.items 0 ≡ Some (plain x)
-      → PutsAll now (item_lines pdb F limit x) after → HasPrinted run before (tail left) after
-  HasPrinted-more run left before now after x printed first put = record {
-    given = printed.given ++ plain x ∷ [];
+  -- the next one was printed too
+  pub HasPrinted-next : (run left : Run) (before now after : OutState) → HasPrinted run before left now → PutsAll now (next_lines pdb F limit left) after
+      → HasPrinted run before (tail left) after
+  HasPrinted-next run left before now after printed put = record {
+    given = printed.given ++ take 1 left.items;
     items =
         printed.items
-        ∙ ap (λ (xs : List Item). printed.given ++ xs) (first_then (plain x) left.items first)
-        ∙ sym (append_assoc printed.given (plain x ∷ []) (drop 1 left.items));
+        ∙ ap (λ (xs : List Item). printed.given ++ xs) (sym (take-append-drop 1 left.items))
+        ∙ sym (append_assoc printed.given (take 1 left.items) (drop 1 left.items));
     fault = printed.fault;
-    text = rw (lines_of printed.given x) (PutsAll-PutsAll before now after (flat_map lines printed.given) (lines x) printed.text put);
-  }
-
-  -- the text of a run is that of the items given, and of those left
-  text_split : (run left : Run) (before now : OutState) (printed : HasPrinted run before left now)
-      → run_text pdb F limit run ≡ flat_map lines printed.given ++ run_text pdb F limit left
-  text_split run left before now printed = ap (flat_map lines) printed.items ∙ flat_map-append lines printed.given left.items
-
-  -- the text was written, and the run ends with this fault or none
-  pub record IsListed (run : Run) (fault : Option ListFault) (before : OutState) (after : OutState) : Type 0 where
-    pub ends : run.fault ≡ fault
-    pub text : PutsAll before (run_text pdb F limit run) after
-
-  -- no item is left
-  pub IsListed-end : (run left : Run) (before now : OutState) (fault : Option ListFault) → HasPrinted run before left now → left ≡ record { items = []; fault = fault } → IsListed run fault before now
-  IsListed-end run left before now fault printed end = record {
-    ends = printed.fault ∙ ap (λ (r : Run). r.fault) end;
     text =
-        rw (text_split run left before now printed, ap (run_text pdb F limit) end, append-nil (flat_map lines printed.given)) printed.text;
+        rw (flat_map-append lines printed.given (take 1 left.items))
+        (PutsAll-PutsAll before now after (flat_map lines printed.given) (next_lines pdb F limit left) printed.text put);
   }
 
-  -- the rest is not printed
-  pub StopsShort-printed : (run left : Run) (before now : OutState) → HasPrinted run before left now → StopsShort before (run_text pdb F limit run) now
-  StopsShort-printed run left before now printed = record {
-    took = record {
-      sent = flat_map lines printed.given;
-      rest = run_text pdb F limit left;
-      whole = text_split run left before now printed;
-      took = printed.text.took;
+  -- the text of a run is that of the items given, of the next one, and of the rest
+  text_split : (run left : Run) (before now : OutState) (printed : HasPrinted run before left now)
+      → run_text pdb F limit run ≡ flat_map lines printed.given ++ (next_lines pdb F limit left ++ run_text pdb F limit (tail left))
+  text_split run left before now printed =
+      ap (flat_map lines) printed.items
+      ∙ flat_map-append lines printed.given left.items
+      ∙ ap (λ (text : List ℕ). flat_map lines printed.given ++ text)
+      (ap (flat_map lines) (sym (take-append-drop 1 left.items)) ∙ flat_map-append lines (take 1 left.items) (drop 1 left.items))
+
+  -- all was printed, where no item is left
+  whole : (run left : Run) (before now : OutState) (fault : Option ListFault) → HasPrinted run before left now → left ≡ record { items = []; fault = fault }
+      → PutsAll before (run_text pdb F limit run) now
+  whole run left before now fault printed end =
+      rw (ap (flat_map lines) (printed.items ∙ ap (λ (r : Run). printed.given ++ r.items) end ∙ append-nil printed.given)) printed.text
+
+  pub ListsRun-end : (run left : Run) (before now after : OutState) → HasPrinted run before left now → ListsNext pdb F limit left now (Ok false) after
+      → ListsRun pdb F limit run before (Ok tt) after
+  ListsRun-end run left before now after printed (end, same) =
+      rw same (record { ends = printed.fault ∙ ap (λ (r : Run). r.fault) end; writes = whole run left before now None printed end })
+
+  -- the next one was not printed, or not all of it
+  pub ListsRun-fault : (run left : Run) (before now after : OutState) (f : ToolFault) → HasPrinted run before left now → ListsNext pdb F limit left now (Err f) after
+      → ListsRun pdb F limit run before (Err f) after
+  ListsRun-fault run left before now after (BadList fault) printed (end, same) =
+      rw same (record { ends = printed.fault ∙ ap (λ (r : Run). r.fault) end; writes = whole run left before now (Some fault) printed end })
+  ListsRun-fault run left before now after (Source fault) printed short = record {
+    ends = tt;
+    writes = record {
+      took =
+          rw (text_split run left before now printed)
+          (TakesPrefix-behind before.taken now.taken after.taken (flat_map lines printed.given) (next_lines pdb F limit left) (run_text pdb F limit (tail left)) printed.text.took short.took);
+      steady = short.steady ∙ printed.text.steady;
     };
-    steady = printed.text.steady;
   }
-
-  -- the lines of what is left are those of the next item and of the rest
-  next_split : (left : Run) (x : Item) → slice_get left.items 0 ≡ Some (plain x)
-      → run_text pdb F limit left ≡ lines x ++ flat_map lines (drop 1 left.items)
-  next_split left x first =
-      ap (flat_map lines) (first_then (plain x) left.items first)
-      ∙ ap (λ (text : List ℕ). text ++ flat_map lines (drop 1 left.items)) (item_lines-plain pdb F limit x)
-
-  -- the output refused in the next one
-  pub PutsPrefix-printed : (run left : Run) (before now after : OutState) (x : Item) → HasPrinted run before left now → slice_get left.items 0 ≡ Some (plain x)
-      → PutsPrefix now (item_lines pdb F limit x) after → PutsPrefix before (run_text pdb F limit run) after
-  PutsPrefix-printed run left before now after x printed first cut =
-      rw (text_split run left before now printed, next_split left x first)
-      (PutsPrefix-last before now after (flat_map lines printed.given) (lines x ++ flat_map lines (drop 1 left.items)) printed.text
-      (PutsPrefix-front now after (lines x) (flat_map lines (drop 1 left.items)) cut))
-
-  -- a first part of the next one was printed
-  pub StopsShort-next : (run left : Run) (before now after : OutState) (x : Item) → HasPrinted run before left now → slice_get left.items 0 ≡ Some (plain x)
-      → StopsShort now (item_lines pdb F limit x) after → StopsShort before (run_text pdb F limit run) after
-  StopsShort-next run left before now after x printed first short = record {
-    took =
-        rw (text_split run left before now printed, next_split left x first)
-        (TakesPrefix-behind before.taken now.taken after.taken (flat_map lines printed.given) (lines x) (flat_map lines (drop 1 left.items)) printed.text.took short.took);
-    steady = short.steady ∙ printed.text.steady;
+  ListsRun-fault run left before now after Out printed cut = record {
+    ends = tt;
+    writes =
+        rw (text_split run left before now printed)
+        (PutsPrefix-behind before now after (flat_map lines printed.given) (next_lines pdb F limit left) (run_text pdb F limit (tail left)) printed.text cut);
   }
-
-  -- nothing was left
-  pub ListsRun-end : (run left : Run) (before now : OutState) → HasPrinted run before left now → left ≡ nothing → ListsRun pdb F limit run before (Ok tt) now
-  ListsRun-end run left before now printed end =
-      let listed = IsListed-end run left before now None printed end in
-      record { ends = listed.ends; writes = listed.text }
-
-  -- a fault stood there
-  pub ListsRun-fault : (run left : Run) (before now : OutState) (f : ListFault) → HasPrinted run before left now → Gives left (Err f)
-      → ListsRun pdb F limit run before (Err (list_told f)) now
-  ListsRun-fault run left before now f printed gives = by f.kind gives where
-    by : (kind : FaultKind) → ((IsOfSource kind → ⊥) → left ≡ only_fault f) → ListsRun pdb F limit run before (Err (told_by kind f)) now
-    by (Source fault) gives = record { ends = tt; writes = StopsShort-printed run left before now printed }
-    by _ gives =
-        let listed = IsListed-end run left before now (Some f) printed (gives (λ x. x)) in
-        record { ends = listed.ends; writes = listed.text }
+  ListsRun-fault run left before now after _ printed none = absurd none

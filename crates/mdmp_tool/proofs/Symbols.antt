@@ -1,6 +1,7 @@
 -- CodeView records that are told behind the lines of modules.
-use Rattle.std.proofs.Common.{◌≡◌, ◌∙◌, ◌+◌, ℕ, List, Bool, true, false, Option, Some, inl, inr, refl, subst, sym, arith}
-use Rattle.std.specs.Prelude.{IfSome, Result, Ok, Err, slice_get}
+use Rattle.std.proofs.Common.{◌≡◌, ◌∙◌, ◌<◌, ◌+◌, ◌++◌, ◌∷◌, ℕ, List, [], Bool, true, false, Option, Some, inl, inr, refl, ap, subst, sym, arith, append-nil, length}
+use Rattle.std.specs.Prelude.{IfSome, Result, Ok, Err, slice_get, take}
+use Rattle.std.specs.List.{flat_map}
 use Rattle.std.proofs.lemmas.Grind.{common_steps}
 use Rattle.mdmp_source.specs.Extent.{extent_of}
 use Rattle.mdmp_source.specs.Output.{OutState, PutsAll, PutsPrefix}
@@ -13,24 +14,28 @@ use Rattle.mdmp_source.specs.declared.location.Location.{Location}
 use Rattle.mdmp_wire.specs.declared.any_record.AnyRecord.{AnyRecord}
 use Rattle.mdmp_wire.specs.declared.any_record.AnyRecord.TheVariants as any
 use Rattle.mdmp_wire.specs.declared.entry.Entry.{Entry}
+use Rattle.mdmp_lister.specs.declared.fault.FaultKind.{FaultKind}
+use Rattle.mdmp_lister.specs.declared.fault.FaultKind.TheVariants as kinds
+use Rattle.mdmp_lister.specs.declared.fault.ListFault.{ListFault}
 use Rattle.mdmp_lister.specs.declared.item.Item.{Item}
 use Rattle.mdmp_lister.specs.declared.item.StreamItem.{StreamItem}
 use Rattle.mdmp_lister.specs.declared.item.Item.TheVariants as items
 use Rattle.mdmp_lister.specs.declared.name.Name.{Name}
 use Rattle.mdmp_lister.specs.Format.Classes.{IsClassed}
 use Rattle.mdmp_lister.specs.Format.Item.{item_of, plain}
-use Rattle.mdmp_lister.specs.Format.Listing.{Run}
-use Rattle.mdmp_lister.specs.Lister.{tail}
+use Rattle.mdmp_lister.specs.Fault.{IsOfSource}
+use Rattle.mdmp_lister.specs.Format.Listing.{Run, only_fault}
+use Rattle.mdmp_lister.specs.Lister.{Gives}
 use Rattle.mdmp_tool.specs.declared.fault.ToolFault.{ToolFault}
-use Rattle.mdmp_tool.specs.declared.fault.ToolFault.TheVariants.{Source, Out}
+use Rattle.mdmp_tool.specs.declared.fault.ToolFault.TheVariants.{List as BadList, Source, Out}
 use Rattle.mdmp_tool.specs.Causes.{HasSourceCause}
-use Rattle.mdmp_tool.specs.Engines.{Leaves, StopsShort, up_to_a_fault}
+use Rattle.mdmp_tool.specs.Engines.{Leaves, up_to_a_fault}
 use Rattle.mdmp_tool.specs.ItemLines.{item_line}
-use Rattle.mdmp_tool.specs.Runs.{ListsRun, PutsSymbols}
-use Rattle.mdmp_tool.specs.Text.{inside_only, item_lines, symbols_of, symbols_text}
-use Rattle.mdmp_tool.proofs.Engining.{cause_from}
-use Rattle.mdmp_tool.proofs.PlainLines.{symbols_of-plain}
-use Rattle.mdmp_tool.proofs.Printing.{HasPrinted, HasPrinted-more, PutsPrefix-printed, StopsShort-next}
+use Rattle.mdmp_tool.specs.Runs.{ListsNext, PutsSymbols}
+use Rattle.mdmp_tool.specs.Telling.{list_told, told_by}
+use Rattle.mdmp_tool.specs.Text.{inside_only, item_lines, next_lines, symbols_of, symbols_text}
+use Rattle.mdmp_tool.proofs.Engining.{StopsShort-nothing, cause_from}
+use Rattle.mdmp_tool.proofs.PlainLines.{item_lines-plain, symbols_of-plain}
 
 -- it lies inside a file of z bytes, if there is one
 abbrev pub IsTellable : ℕ → Option Location → Type 0
@@ -61,50 +66,62 @@ symbols-inside pdb z e x classed = subst (IsTellable z) (symbols_of-plain pdb x)
 pub symbols_text-is : (F : List ℕ) (a b : ℕ) (s t : Option Location) → a ≡ b → s ≡ t → symbols_text F a s ≡ symbols_text F b t
 symbols_text-is F a b s t limit symbols = rw (limit, symbols) refl
 
-module _ (pdb : Bool) (F : List ℕ) (limit : ℕ) (run left : Run) (before now mid after : OutState) (x : Item)
-    (printed : HasPrinted pdb F limit run before left now) (first : slice_get left.items 0 ≡ Some (plain x)) (line : PutsAll now (item_line x) mid) where
-  -- it follows the line of its item
-  pub HasPrinted-symbols : PutsAll mid (symbols_text F limit (symbols_of pdb x)) after → HasPrinted pdb F limit run before (tail left) after
-  HasPrinted-symbols told =
-      HasPrinted-more pdb F limit run left before now after x printed first (PutsAll-PutsAll now mid after (item_line x) (symbols_text F limit (symbols_of pdb x)) line told)
+first_then : (x : Item) (xs : List Item) → slice_get xs 0 ≡ Some x → take 1 xs ≡ x ∷ []
+first_then x [] none = absurd (cc)
+first_then x (y ∷ ys) first = let same : y ≡ x = cc in ap (λ (z : Item). z ∷ []) same
 
-  -- the listing ends in it
-  pub ListsRun-symbols : (f : ToolFault) → PutsSymbols (symbols_text F limit (symbols_of pdb x)) mid (Err f) after → ListsRun pdb F limit run before (Err f) after
-  ListsRun-symbols (Source fault) same =
-      let whole : PutsAll now (item_line x) after = subst (PutsAll now (item_line x)) (sym same) line in
-      let short : StopsShort now (item_lines pdb F limit x) after = record {
-        took = TakesPrefix-front now.taken after.taken (item_line x) (symbols_text F limit (symbols_of pdb x)) whole.took;
-        steady = whole.steady;
-      } in
-      record { ends = tt; writes = StopsShort-next pdb F limit run left before now after x printed first short }
-  ListsRun-symbols Out cut = record {
-    ends = tt;
-    writes =
-        PutsPrefix-printed pdb F limit run left before now after x printed first
-        (PutsPrefix-last now mid after (item_line x) (symbols_text F limit (symbols_of pdb x)) line cut);
-  }
-  ListsRun-symbols _ told = absurd told
+some_first : (x : Item) (xs : List Item) → slice_get xs 0 ≡ Some x → 0 < length xs
+some_first x [] none = absurd (cc)
+some_first x (y ∷ ys) first = omega (arith)
 
--- the output refused in the line of the item itself
-pub ListsRun-line : (pdb : Bool) (F : List ℕ) (limit : ℕ) (run left : Run) (before now after : OutState) (x : Item) → HasPrinted pdb F limit run before left now
-    → slice_get left.items 0 ≡ Some (plain x) → PutsPrefix now (item_line x) after → ListsRun pdb F limit run before (Err Out) after
-ListsRun-line pdb F limit run left before now after x printed first cut = record {
-  ends = tt;
-  writes =
-      PutsPrefix-printed pdb F limit run left before now after x printed first
-      (PutsPrefix-front now after (item_line x) (symbols_text F limit (symbols_of pdb x)) cut);
-}
+module _ (pdb : Bool) (F : List ℕ) (limit : ℕ) (left : Run) (x : Item) (first : slice_get left.items 0 ≡ Some (plain x)) where
+  -- the lines of what is given next
+  next_is : next_lines pdb F limit left ≡ item_line x ++ symbols_text F limit (symbols_of pdb x)
+  next_is =
+      ap (flat_map (item_lines pdb F limit)) (first_then (plain x) left.items first)
+      ∙ append-nil (item_lines pdb F limit (plain x)) ∙ item_lines-plain pdb F limit x
+
+  module _ (before mid after : OutState) (line : PutsAll before (item_line x) mid) where
+    -- a CodeView record's line follows that of its item
+    pub ListsNext-symbols : PutsAll mid (symbols_text F limit (symbols_of pdb x)) after → ListsNext pdb F limit left before (Ok true) after
+    ListsNext-symbols told = (
+      some_first (plain x) left.items first,
+      rw next_is (PutsAll-PutsAll before mid after (item_line x) (symbols_text F limit (symbols_of pdb x)) line told),
+    )
+
+    -- the listing ends in it
+    pub ListsNext-cut : (f : ToolFault) → PutsSymbols (symbols_text F limit (symbols_of pdb x)) mid (Err f) after → ListsNext pdb F limit left before (Err f) after
+    ListsNext-cut (Source fault) same =
+        let whole : PutsAll before (item_line x) after = subst (PutsAll before (item_line x)) (sym same) line in
+        rw next_is (record {
+          took = TakesPrefix-front before.taken after.taken (item_line x) (symbols_text F limit (symbols_of pdb x)) whole.took;
+          steady = whole.steady;
+        })
+    ListsNext-cut Out cut = rw next_is (PutsPrefix-last before mid after (item_line x) (symbols_text F limit (symbols_of pdb x)) line cut)
+    ListsNext-cut _ told = absurd told
+
+  -- the output refused in the line of the item itself
+  pub ListsNext-line : (before after : OutState) → PutsPrefix before (item_line x) after → ListsNext pdb F limit left before (Err Out) after
+  ListsNext-line before after cut = rw next_is (PutsPrefix-front before after (item_line x) (symbols_text F limit (symbols_of pdb x)) cut)
+
+-- no item stood before the fault, or the store failed
+pub ListsNext-fault : (pdb : Bool) (F : List ℕ) (limit : ℕ) (left : Run) (now : OutState) (f : ListFault) → Gives left (Err f)
+    → ListsNext pdb F limit left now (Err (list_told f)) now
+ListsNext-fault pdb F limit left now f gives = by f.kind gives where
+  by : (kind : FaultKind) → ((IsOfSource kind → ⊥) → left ≡ only_fault f) → ListsNext pdb F limit left now (Err (told_by kind f)) now
+  by (kinds.Source fault) gives = StopsShort-nothing now (next_lines pdb F limit left)
+  by _ gives = (gives (λ x. x), refl)
 
 -- ---- behind some fetches
 
-cause_then : (n : ℕ) (a b c : SourceState) (r : Result (Unit {0}) ToolFault) → FetchesAtMost n a b → HasSourceCause b r c → HasSourceCause a r c
+cause_then : {T : Type 0} (n : ℕ) (a b c : SourceState) (r : Result T ToolFault) → FetchesAtMost n a b → HasSourceCause b r c → HasSourceCause a r c
 cause_then n a b c (Ok x) fetches cause = tt
 cause_then n a b c (Err (Source (Changed at))) fetches cause = sym fetches.same_content ∙ cause
 cause_then n a b c (Err (Source (Failed at))) fetches cause = told_later (Failed at) n a b c fetches cause
 cause_then n a b c (Err (Source (ShortRead at))) fetches cause = told_later (ShortRead at) n a b c fetches cause
 cause_then n a b c (Err _) fetches cause = tt
 
-pub Leaves-later : (n : ℕ) (a b c : SourceState) (before now after : OutState) (r : Result (Unit {0}) ToolFault) → FetchesAtMost n a b
+pub Leaves-later : {T : Type 0} (n : ℕ) (a b c : SourceState) (before now after : OutState) (r : Result T ToolFault) → FetchesAtMost n a b
     → now.failures ≡ before.failures → Leaves up_to_a_fault ⊥ b now r c after → Leaves up_to_a_fault ⊥ a before r c after
 Leaves-later n a b c before now after r fetches same left = record {
   good = λ file good. left.good file (record { known = fetches.same_content ∙ good.known; reliable = rw fetches.same_reliable good.reliable });
@@ -115,3 +132,14 @@ Leaves-later n a b c before now after r fetches same left = record {
   };
   out_cause = cause_from now after before after r (sym same) refl left.out_cause;
 }
+
+-- a fault ends a run as it ended the printing of an item
+pub Leaves-fault : {T U : Type 0} (f : ToolFault) (old new : SourceState) (before after : OutState) → Leaves {T = T} up_to_a_fault ⊥ old before (Err f) new after
+    → Leaves {T = U} up_to_a_fault ⊥ old before (Err f) new after
+Leaves-fault (BadList fault) old new before after left =
+    record { good = λ file good. tt; behind = left.behind; reads = record { cause = tt; fetches = left.reads.fetches }; out_cause = left.out_cause }
+Leaves-fault (Source fault) old new before after left =
+    record { good = left.good; behind = tt; reads = record { cause = left.reads.cause; fetches = left.reads.fetches }; out_cause = left.out_cause }
+Leaves-fault Out old new before after left =
+    record { good = λ file good. tt; behind = tt; reads = record { cause = tt; fetches = left.reads.fetches }; out_cause = left.out_cause }
+Leaves-fault _ old new before after left = absurd left.behind

@@ -1,14 +1,16 @@
 -- What a run of `list` answers, and what it leaves written.
-use Rattle.std.specs.Prelude.{◌≡◌, ◌++◌, ℕ, Bool, List, None, Some, Result, Ok, Err}
+use Rattle.std.specs.Prelude.{◌≡◌, ◌<◌, ◌++◌, ℕ, Bool, true, false, List, None, Some, Result, Ok, Err, length}
+use Rattle.std.specs.Option.{option_map}
 use Rattle.mdmp_source.specs.Output.{OutState, PutsAll, PutsPrefix}
 use Rattle.mdmp_lister.specs.declared.choice.Choice.TheVariants.{All}
-use Rattle.mdmp_lister.specs.Format.Listing.{Run, listing}
+use Rattle.mdmp_lister.specs.Format.Listing.{Run, listing, nothing, only_fault}
+use Rattle.mdmp_lister.specs.Lister.{ListerState, tail}
 use Rattle.mdmp_tool.specs.declared.fault.ToolFault.{ToolFault}
 use Rattle.mdmp_tool.specs.declared.fault.ToolFault.TheVariants.{List as BadList, Source, Out}
 use Rattle.mdmp_wire.specs.declared.header.Header.{Header}
-use Rattle.mdmp_tool.specs.Engines.{Runs, RunsThrough, Writes, up_to_a_fault}
+use Rattle.mdmp_tool.specs.Engines.{Runs, RunsThrough, StopsShort, Writes, up_to_a_fault}
 use Rattle.mdmp_tool.specs.Lines.{dump_line}
-use Rattle.mdmp_tool.specs.Text.{run_text, list_text}
+use Rattle.mdmp_tool.specs.Text.{run_text, list_text, next_lines}
 
 -- what may end the printing of a run: its fault, or none; the store's or the output's
 abbrev pub ListEnds : Run → Result (Unit {0}) ToolFault → Type 0
@@ -35,6 +37,22 @@ PutsSymbols text before (Ok x) after = PutsAll before text after
 PutsSymbols text before (Err (Source fault)) after = after ≡ before
 PutsSymbols text before (Err Out) after = PutsPrefix before text after
 PutsSymbols text before (Err fault) after = ⊥
+
+-- of what is left of a run over F the lines of its next item were printed; or nothing was, since no item is left, or the fault
+-- stands there; or the store failed or the output refused in these lines
+abbrev pub ListsNext : Bool → List ℕ → ℕ → Run → OutState → Result Bool ToolFault → OutState → Type 0
+ListsNext pdb F limit left before (Ok true) after = (0 < length left.items) × PutsAll before (next_lines pdb F limit left) after
+ListsNext pdb F limit left before (Ok false) after = (left ≡ nothing) × (after ≡ before)
+ListsNext pdb F limit left before (Err (BadList fault)) after = (left ≡ only_fault fault) × (after ≡ before)
+ListsNext pdb F limit left before (Err (Source fault)) after = StopsShort before (next_lines pdb F limit left) after
+ListsNext pdb F limit left before (Err Out) after = PutsPrefix before (next_lines pdb F limit left) after
+ListsNext pdb F limit left before (Err fault) after = ⊥
+
+-- and one item fewer is left
+pub record IsBehindNext (old new : ListerState) : Type 0 where
+  pub left : new.left ≡ option_map tail old.left
+  pub going : new.stop ≡ None
+  pub falls : new.work < old.work
 
 -- a run of `list` over F, of which the text is printed while it is read: with `pdb` the CodeView records of modules are told
 abbrev pub Lists : Bool → List ℕ → ℕ → OutState → Result (Unit {0}) ToolFault → OutState → Type 0

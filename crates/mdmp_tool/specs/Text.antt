@@ -1,5 +1,5 @@
 -- What `list` prints.
-use Rattle.std.specs.Prelude.{ℕ, List, [], ◌++◌, Bool, true, Option, Some, None}
+use Rattle.std.specs.Prelude.{ℕ, List, [], ◌++◌, Bool, true, Option, Some, None, take}
 use Rattle.std.specs.List.{flat_map}
 use Rattle.mdmp_source.specs.declared.location.Location.{Location}
 use Rattle.mdmp_source.specs.declared.location.Extent.{Extent}
@@ -38,6 +38,10 @@ item_lines pdb F limit item = item_line item ++ symbols_text F limit (symbols_of
 -- those of each item
 abbrev pub run_text : Bool → List ℕ → ℕ → Run → List ℕ
 run_text pdb F limit run = flat_map (item_lines pdb F limit) run.items
+
+-- those of the first item that is left, if there is one
+abbrev pub next_lines : Bool → List ℕ → ℕ → Run → List ℕ
+next_lines pdb F limit left = flat_map (item_lines pdb F limit) (take 1 left.items)
 
 -- the dump line, and the lines of each item of the listing, whose names of more than `limit` bytes are told by their length
 abbrev pub list_text : Bool → List ℕ → ℕ → List ℕ

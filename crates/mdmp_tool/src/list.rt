@@ -1,9 +1,9 @@
 //! The command `list`.
-ghost use Rattle.std.specs.Prelude.{◌≡◌, ◌<◌, ℕ, List, None, Some, IfSome};
+ghost use Rattle.std.specs.Prelude.{◌≡◌, ℕ, List, None, Some, Ok, true, IfSome};
 ghost use Rattle.mdmp_source.specs.Range.{IsInside};
 ghost use Rattle.mdmp_lister.specs.Format.Listing.{Run};
 ghost use Rattle.mdmp_tool.specs.Engines.{IsSameRun, IsThrough, Leaves, Reads, Tells, directly, up_to_a_fault};
-ghost use Rattle.mdmp_tool.specs.Runs.{Lists, ListsFile, ListsRun, PutsSymbols};
+ghost use Rattle.mdmp_tool.specs.Runs.{IsBehindNext, Lists, ListsFile, ListsNext, ListsRun, PutsSymbols};
 ghost use Rattle.mdmp_tool.specs.Text.{symbols_of, symbols_text};
 
 use crate::engine::{Answered, Engine, run, run_source};
@@ -125,17 +125,37 @@ fn list_items<S: Store + Drop, A: Allocator + Copy, O: Out>(
     ensures leaves { Leaves up_to_a_fault ⊥ lister.old.source (O.state out.old) result lister.new.source (O.state out.new) }
     ensures same { IsSameRun lister.old lister.new }
 {
-    loop {
-        let symbols = match lister.next() {
-            Ok(None) => return Ok(()),
-            Ok(Some(item)) => match put_item_line(&item, out) {
-                Ok(()) => symbols_of(pdb, &item),
-                Err(OutFailed) => return Err(ToolFault::Out),
-            },
-            Err(fault) => return Err(told_list(fault)),
-        };
-        put_symbols(lister, symbols, out)?;
-    }
+    while list_next(lister, pdb, out)? {}
+    Ok(())
+}
+
+/// Prints the lines of the next item that is left, and tells whether there was one. Behind the line of a
+/// module stands with `pdb` that of its CodeView record.
+///
+/// A fault of the listing ends it with nothing printed, one of the store or the output may stand behind a
+/// first part of the lines.
+pub fn list_next<S: Store + Drop, A: Allocator + Copy, O: Out>(
+    lister: &mut Lister<S, A>,
+    pdb: bool,
+    out: &mut O,
+) -> Result<bool, ToolFault>
+    requires { lister.old.stop ≡ None }
+    ensures lists { (file : List ℕ) → lister.old.source.store.content ≡ Some file → (left : Run) → lister.old.left ≡ Some left
+        → ListsNext pdb file lister.old.limit left (O.state out.old) result (O.state out.new) }
+    ensures rest { result ≡ Ok true → IsBehindNext lister.old lister.new }
+    ensures leaves { Leaves up_to_a_fault ⊥ lister.old.source (O.state out.old) result lister.new.source (O.state out.new) }
+    ensures same { IsSameRun lister.old lister.new }
+{
+    let symbols = match lister.next() {
+        Ok(None) => return Ok(false),
+        Ok(Some(item)) => match put_item_line(&item, out) {
+            Ok(()) => symbols_of(pdb, &item),
+            Err(OutFailed) => return Err(ToolFault::Out),
+        },
+        Err(fault) => return Err(told_list(fault)),
+    };
+    put_symbols(lister, symbols, out)?;
+    Ok(true)
 }
 
 /// Where the CodeView record of an item stands that is told: a module's, if it lies inside the file

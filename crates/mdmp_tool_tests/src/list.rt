@@ -1,5 +1,7 @@
 //! `list` over headers, directories and outputs.
-use crate::runs::{assert_ends, assert_printed, bad_name, least, list, list_counted, list_store};
+use crate::runs::{
+    assert_ends, assert_printed, bad_name, least, list, list_by_items, list_counted, list_store,
+};
 use crate::same::assert_same;
 use linked_list_allocator::LocalHeap;
 use mdmp_source::MemoryStore;
@@ -104,6 +106,27 @@ fn list_ends_at_the_first_fault(rt: HostRuntime) -> Result<(), Fail> {
     let bytes = faulty_file(rt.alloc())?;
     let listed = list(rt.alloc(), &bytes, 0)?;
     assert_printed(&rt, &listed, Some(ToolFault::List(bad_name())), FAULTY_TEXT);
+    Ok(())
+}
+
+#[test]
+fn items_are_printed_one_at_a_time(rt: HostRuntime) -> Result<(), Fail> {
+    let bytes = system_file(rt.alloc())?;
+    let listed = list_by_items(rt.alloc(), &bytes, 4096, false)?;
+    let text =
+        "dump version 0x0000 streams 1 directory 32 checksum 0 time 0 flags 0x0000000000000000
+|stream 0 type 7 size 56 rva 44
+|system architecture 9 level 6 revision 3 processors 4 product 1 version 6.1.7601 platform 2 suite 256 csd \"Service Pack 1\"
+|";
+    assert_printed(&rt, &listed, None, text);
+    let bytes = faulty_file(rt.alloc())?;
+    let listed = list_by_items(rt.alloc(), &bytes, 0, false)?;
+    assert_ends(
+        &rt,
+        &listed,
+        Some(ToolFault::List(bad_name())),
+        "\n|stream 1 type 4 size 112 rva 124\n|",
+    );
     Ok(())
 }
 

@@ -5,11 +5,12 @@
 ghost use Rattle.std.specs.Prelude.{◌+◌, ◌^◌, ◌≤◌, IfOk};
 
 use crate::same::{assert_same, assert_same_at};
-use mdmp_source::{BlockOut, MemoryStore, PatchyOut, Source, Store};
+use mdmp_lister::{Choice, Lister};
+use mdmp_source::{BlockOut, MemoryStore, PatchyOut, Source, Store, write_all};
 use mdmp_test_support::{BY_SEVEN, Room, empty_out, text_in};
 use mdmp_tool::{
     Answered, FaultKind, Limits, ListFault, ToolFault, fault_line, hex_in_blocks, hex_source,
-    list_in_blocks, list_source, run_hex, run_list,
+    list_in_blocks, list_next, list_source, put_dump_line, run_hex, run_list,
 };
 use std::alloc::{Allocator, Global};
 use std::process::Abort;
@@ -122,6 +123,24 @@ pub fn list(alloc: Global, bytes: &[u8], name: u32) -> Result<Printed, Fail> {
         least(name)?,
         BY_SEVEN,
     )
+}
+
+/// Prints the header of a file and then each item that is left by a call of its own, with a bar behind each
+/// call that printed something.
+pub fn list_by_items(alloc: Global, bytes: &[u8], name: u32, pdb: bool) -> Result<Printed, Fail> {
+    let source = Source::new(MemoryStore::new(bytes));
+    let opened = Lister::open(alloc, source, least(name)?, Choice::All);
+    let mut lister = opened.ok().ok_or("refused")?;
+    let mut out = empty_out(alloc, BY_SEVEN)?;
+    put_dump_line(&lister.header(), &mut out).ok().ok_or("out")?;
+    loop {
+        write_all(&mut out, b"|").ok().ok_or("out")?;
+        match list_next(&mut lister, pdb, &mut out) {
+            Ok(true) => {}
+            Ok(false) => return printed_in(alloc, Ok(()), &out),
+            Err(fault) => return printed_in(alloc, Err(fault), &out),
+        }
+    }
 }
 
 /// Lists a store with a line for each CodeView record of a module.

@@ -6,11 +6,10 @@ use Rattle.mdmp_tool.proofs.Printing.{HasPrinted}
 use Rattle.mdmp_tool.proofs.list.list_items.Given as goal
 
 -- some items were printed
-abbrev pub invariant-loop-item : goal.invariant-loop-item
-invariant-loop-item g l = record {
+abbrev pub invariant-loop : goal.invariant-loop
+invariant-loop g l = record {
   going : l.lister.stop ≡ None;
   source : FetchesSome l.initial.lister.source l.lister.source;
-  limit : l.lister.limit ≡ l.initial.lister.limit;
   run : IsSameRun l.initial.lister l.lister;
   steady : (g.O.Out.state l.out).failures ≡ (g.O.Out.state l.initial.out).failures;
   printed : (file : List ℕ) → l.initial.lister.source.store.content ≡ Some file → (run : Run) → l.initial.lister.left ≡ Some run
@@ -18,5 +17,5 @@ invariant-loop-item g l = record {
       × HasPrinted l.pdb file l.initial.lister.limit run (g.O.Out.state l.initial.out) left (g.O.Out.state l.out));
 }
 
-abbrev pub decreases-loop-item : goal.decreases-loop-item
-decreases-loop-item g l = l.lister.work
+abbrev pub decreases-loop : goal.decreases-loop
+decreases-loop g l = l.lister.work

@@ -1,0 +1,52 @@
+use Rattle.std.proofs.Common.{rules, ◌≡◌, ◌∙◌, ◌+◌, ℕ, List, Some, Err, subst}
+use Rattle.std.specs.Prelude.{slice_get}
+use Rattle.mdmp_source.specs.SourceLaws.{fetches_then}
+use Rattle.mdmp_lister.specs.Format.Item.{plain}
+use Rattle.mdmp_tool.specs.Runs.{PutsSymbols}
+use Rattle.mdmp_tool.proofs.Symbols.{Leaves-fault, Leaves-later, ListsNext-cut, ListsNext-line, ListsNext-symbols, symbols_text-is}
+use Rattle.mdmp_tool.proofs.list.list_next.Goals as goal
+
+pub returns-in-Err-put_item_line-clause-lists : goal.returns-in-Err-put_item_line-clause-lists
+returns-in-Err-put_item_line-clause-lists g c = λ file content left known.
+    let x = c.in-Ok-Some.item in
+    let first : slice_get left.items 0 ≡ Some (plain x) = rw c.in-Ok-Some.field-0-is at (c.in-Ok-Some.ensures.gives left known) in
+    ListsNext-line c.args.pdb file c.args.lister.now.limit left x first _ _ c.in-Err-put_item_line.ensures
+
+pub returns-in_err-put_symbols-clause-lists : goal.returns-in_err-put_symbols-clause-lists
+returns-in_err-put_symbols-clause-lists g c = λ file content left known.
+    let x = c.in-Ok-Some.item in
+    let holds = c.next.follows.holds-at-none.list in
+    let f = c.in_err-put_symbols.field-0.0 in
+    let is : c.from_residual.result ≡ Err f = search rules in
+    let first : slice_get left.items 0 ≡ Some (plain x) = rw c.in-Ok-Some.field-0-is at (c.in-Ok-Some.ensures.gives left known) in
+    let line = symbols_text-is file _ _ _ _ holds.same.limit c.symbols_of.ensures in
+    let end = λ (text : List ℕ). PutsSymbols text (g.O.Out.state c.put_item_line.new.out) (Err f) (g.O.Out.state c.put_symbols.new.out) in
+    let cut = subst end line (c.in_err-put_symbols.ensures.puts file (holds.fetches.same_content ∙ content)) in
+    rw is (ListsNext-cut c.args.pdb file c.args.lister.now.limit left x first _ _ _ c.in-Ok.ensures f cut)
+
+pub returns-in_err-put_symbols-clause-leaves : goal.returns-in_err-put_symbols-clause-leaves
+returns-in_err-put_symbols-clause-leaves g c =
+    let holds = c.next.follows.holds-at-none.list in
+    let f = c.in_err-put_symbols.field-0.0 in
+    let is : c.from_residual.result ≡ Err f = search rules in
+    rw is (Leaves-fault f _ _ _ _ (Leaves-later _ _ _ _ _ _ _ (Err f) holds.fetches c.in-Ok.ensures.steady c.in_err-put_symbols.ensures.leaves))
+
+pub returns-clause-lists : goal.returns-clause-lists
+returns-clause-lists g c = λ file content left known.
+    let x = c.in-Ok-Some.item in
+    let holds = c.next.follows.holds-at-none.list in
+    let first : slice_get left.items 0 ≡ Some (plain x) = rw c.in-Ok-Some.field-0-is at (c.in-Ok-Some.ensures.gives left known) in
+    let line = symbols_text-is file _ _ _ _ holds.same.limit c.symbols_of.ensures in
+    let told = rw line at (c.in_ok-put_symbols.ensures.puts file (holds.fetches.same_content ∙ content)) in
+    ListsNext-symbols c.args.pdb file c.args.lister.now.limit left x first _ _ _ c.in-Ok.ensures told
+
+pub returns-clause-leaves : goal.returns-clause-leaves
+returns-clause-leaves g c =
+    let holds = c.next.follows.holds-at-none.list in
+    let told = c.in_ok-put_symbols.ensures.leaves in
+    record {
+      good = λ file good. tt;
+      behind = tt;
+      reads = record { cause = tt; fetches = record { count = _ + told.reads.fetches.count; fetches = fetches_then _ _ _ _ _ holds.fetches told.reads.fetches.fetches } };
+      out_cause = told.out_cause ∙ c.in-Ok.ensures.steady;
+    }
