@@ -312,6 +312,8 @@ uint32_t mdmp_verdicts_(const uint8_t *file, size_t file_size, const mdmp_limits
     size_t room, uint64_t *count, mdmp_fault *fault);
 uint32_t mdmp_list_(const uint8_t *file, size_t file_size, const mdmp_limits *limits, bool pdb, uint8_t *out,
     size_t room, uint64_t *size, mdmp_fault *fault);
+uint32_t mdmp_list_part_(const uint8_t *file, size_t file_size, const mdmp_limits *limits, bool pdb,
+    uint64_t skip, uint8_t *out, size_t room, uint64_t *size, mdmp_fault *fault);
 uint32_t mdmp_copy_(const uint8_t *file, size_t file_size, const mdmp_limits *limits, const uint32_t *types,
     size_t types_count, uint8_t *out, size_t room, uint64_t *size, mdmp_fault *fault);
 uint32_t mdmp_threads_(const uint8_t *file, size_t file_size, const mdmp_limits *limits, mdmp_thread *out,
@@ -387,6 +389,18 @@ static inline uint32_t mdmp_list(const uint8_t *file, size_t file_size, const md
     static uint8_t no_out;
     return mdmp_list_(file_size != 0 ? file : &no_file, file_size, limits, pdb, room != 0 ? out : &no_out,
         room, size, fault);
+}
+
+/* What stands behind the first `skip` bytes of the text of mdmp_list; `size` is how long that is, and
+ * status and `fault` are those of the whole. It holds what it gives and the lines of one record, not the
+ * text. Behind MDMP_BUFFER_TOO_SHORT more stands there: call again with skip + room. Each call lists the
+ * file anew. */
+static inline uint32_t mdmp_list_part(const uint8_t *file, size_t file_size, const mdmp_limits *limits,
+    bool pdb, uint64_t skip, uint8_t *out, size_t room, uint64_t *size, mdmp_fault *fault) {
+    static uint8_t no_file;
+    static uint8_t no_out;
+    return mdmp_list_part_(file_size != 0 ? file : &no_file, file_size, limits, pdb, skip,
+        room != 0 ? out : &no_out, room, size, fault);
 }
 
 /* The bytes of a new file with the streams of 1 to 16 types and all that their records name, as `mdmp

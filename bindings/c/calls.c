@@ -86,6 +86,8 @@ static void test_limits(void) {
         count = 1;
         REFUSED(mdmp_list(FILE_OF(SYSTEM), limits, false, out, sizeof out, &count, &fault));
         count = 1;
+        REFUSED(mdmp_list_part(FILE_OF(SYSTEM), limits, false, 0, out, sizeof out, &count, &fault));
+        count = 1;
         REFUSED(mdmp_copy(FILE_OF(SYSTEM), limits, &type, 1, out, sizeof out, &count, &fault));
         TABLE(mdmp_verdicts, mdmp_fault)
         TABLE(mdmp_threads, mdmp_thread)
@@ -122,6 +124,9 @@ static void test_arguments(void) {
     ASSERT(fault.kind == MDMP_FAULT_LENGTHS_DIFFER && out[0] == 0xaa);
     ASSERT(mdmp_read(FILE_OF(SYSTEM), NULL, 0, 0, out, 8, known, 7, &fault) == MDMP_BAD_ARGUMENT);
     ASSERT(fault.kind == MDMP_FAULT_LENGTHS_DIFFER && out[0] == 0xaa);
+    /* a part of a text that begins behind its end is none */
+    ASSERT(
+        mdmp_list_part(FILE_OF(SYSTEM), &LIMITS, false, UINT64_MAX, NULL, 0, &size, &fault) == MDMP_OK && size == 0);
 }
 
 /* The first range that holds an address gives its byte; no address wraps; ranges that nobody gave are passed over. */

@@ -1,4 +1,4 @@
-/* A small command over the calls: command (check | list | pdb | fields | copy TYPE..) DUMP */
+/* A small command over the calls: command (check | list | pdb | parts | fields | copy TYPE..) DUMP */
 #include "texts.h"
 
 /* What a call that gives bytes was asked for, so that each is called again in one place. */
@@ -29,6 +29,21 @@ static void print_whole(const request *asked, blob file) {
     free(out);
 }
 
+/* The list in parts of 4,096 bytes. */
+static void print_parts(blob file) {
+    uint8_t out[4096];
+    uint64_t skip = 0, left;
+    mdmp_fault fault;
+    uint32_t status;
+    do {
+        status = mdmp_list_part(file.bytes, file.size, &LIMITS, false, skip, out, sizeof out, &left, &fault);
+        size_t given = left < sizeof out ? (size_t)left : sizeof out;
+        ASSERT(fwrite(out, 1, given, stdout) == given);
+        skip += given;
+    } while (status == MDMP_BUFFER_TOO_SHORT);
+    ASSERT(status == MDMP_OK && fault.kind == MDMP_FAULT_NONE);
+}
+
 int main(int argc, char **argv) {
     ASSERT(argc >= 3 && argc < 3 + 16);
     blob file = read_file(argv[argc - 1]);
@@ -39,6 +54,8 @@ int main(int argc, char **argv) {
     const request asked = {argv[1], types, (size_t)(argc - 3)};
     if (strcmp(asked.word, "fields") == 0) {
         print_fields(file);
+    } else if (strcmp(asked.word, "parts") == 0) {
+        print_parts(file);
     } else {
         print_whole(&asked, file);
     }

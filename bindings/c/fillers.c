@@ -14,6 +14,7 @@ FILLER(streams, mdmp_stream, )
 FILLER(check, uint8_t, WITH_LIMITS)
 FILLER(verdicts, mdmp_fault, WITH_LIMITS)
 FILLER(list, uint8_t, WITH_LIMITS true, )
+FILLER(list_part, uint8_t, WITH_LIMITS false, 40, )
 FILLER(copy, uint8_t, WITH_LIMITS TYPES, sizeof TYPES / sizeof *TYPES, )
 FILLER(threads, mdmp_thread, WITH_LIMITS)
 FILLER(modules, mdmp_module, WITH_LIMITS)
@@ -32,6 +33,7 @@ const filler FILLERS[] = {
     ROW(check, uint8_t, true),
     ROW(verdicts, mdmp_fault, true),
     ROW(list, uint8_t, true),
+    ROW(list_part, uint8_t, true),
     ROW(copy, uint8_t, true),
     ROW(threads, mdmp_thread, true),
     ROW(modules, mdmp_module, true),

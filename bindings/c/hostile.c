@@ -101,6 +101,23 @@ static void test_verdicts(blob file) {
     free(text);
 }
 
+/* A part of the list is that of the whole list, and says the same of the file. */
+static void test_part(blob file) {
+    uint64_t size, left;
+    mdmp_fault fault, same;
+    uint32_t status = mdmp_list(file.bytes, file.size, &LIMITS, false, NULL, 0, &size, &fault);
+    uint8_t *text = malloc((size_t)size + 1);
+    mdmp_list(file.bytes, file.size, &LIMITS, false, text, (size_t)size, &size, &fault);
+    uint64_t skip = below(size + 8);
+    size_t room = (size_t)below(1 + below(size + 8));
+    uint8_t *out = fenced_last(&out_pages, room);
+    status = mdmp_list_part(file.bytes, file.size, &LIMITS, false, skip, out, room, &left, &same);
+    ASSERT(left == (skip < size ? size - skip : 0) && memcmp(&fault, &same, sizeof fault) == 0);
+    ASSERT(status == (left > room ? (uint32_t)MDMP_BUFFER_TOO_SHORT : status_of(&fault)));
+    ASSERT(left == 0 || memcmp(out, text + skip, left < room ? (size_t)left : room) == 0);
+    free(text);
+}
+
 static void test_address(
     blob file, const mdmp_range *ranges, size_t count, bool is_good, uint64_t address, size_t room) {
     uint8_t *out = fenced_last(&out_pages, room);
@@ -169,6 +186,7 @@ static void test_file(blob file) {
         test_filler(&FILLERS[i], file);
     }
     test_verdicts(file);
+    test_part(file);
     test_memory(file);
     test_places(file);
 }

@@ -12,9 +12,11 @@ void __wrap_free(void *block);
 
 static long allowed = -1; /* how many are still granted, or -1 for all */
 static long asked, live;
+static size_t largest; /* the greatest block that was asked for */
 
-static bool refuses(void) {
+static bool refuses(size_t size) {
     asked++;
+    largest = size > largest ? size : largest;
     if (allowed < 0) {
         return false;
     }
@@ -22,13 +24,13 @@ static bool refuses(void) {
 }
 
 void *__wrap_malloc(size_t size) {
-    void *block = refuses() ? NULL : __real_malloc(size);
+    void *block = refuses(size) ? NULL : __real_malloc(size);
     live += block != NULL;
     return block;
 }
 
 void *__wrap_realloc(void *block, size_t size) {
-    void *grown = refuses() ? NULL : __real_realloc(block, size);
+    void *grown = refuses(size) ? NULL : __real_realloc(block, size);
     live += block == NULL && grown != NULL;
     return grown;
 }
@@ -133,6 +135,18 @@ static void test_none(blob file) {
     free(ranges);
 }
 
+/* A part of a list takes no memory for the text: what is held is the same, however long the text is. */
+static void test_part(blob file) {
+    uint8_t out[64];
+    uint64_t size, left;
+    mdmp_fault fault;
+    ASSERT(mdmp_list(file.bytes, file.size, &LIMITS, false, NULL, 0, &size, &fault) == MDMP_BUFFER_TOO_SHORT);
+    largest = 0;
+    ASSERT(
+        mdmp_list_part(file.bytes, file.size, &LIMITS, false, 0, out, sizeof out, &left, &fault) == MDMP_BUFFER_TOO_SHORT);
+    ASSERT(left == size && (size < 1 << 18 || largest < size));
+}
+
 int main(int argc, char **argv) {
     enum { ROOM = 1 << 20 };
     uint8_t *out = malloc(ROOM);
@@ -151,6 +165,7 @@ int main(int argc, char **argv) {
             ASSERT(tried->takes_memory ? refused > 0 || tried->item == 1 || file.size == 32 : refused == 0);
         }
         test_memory(file);
+        test_part(file);
         test_none(file);
         free(file.bytes);
     }

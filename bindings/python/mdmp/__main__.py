@@ -15,11 +15,14 @@ import mdmp
 
 def run(arguments: argparse.Namespace) -> None:
     with mdmp.open(arguments.file, window=arguments.window, name=arguments.name) as dump:
-        try:
-            sys.stdout.write(dump.check() if arguments.check else dump.list(pdb=arguments.pdb))
-        except mdmp.Fault as fault:
-            sys.stdout.write(fault.partial or "")
-            raise
+        if arguments.check:
+            try:
+                sys.stdout.write(dump.check())
+            except mdmp.Fault as fault:
+                sys.stdout.write(fault.partial or "")
+                raise
+        else:
+            dump.write_list(sys.stdout, pdb=arguments.pdb)
 
 
 def status_of(arguments: argparse.Namespace) -> int:

@@ -5,8 +5,8 @@ from __future__ import annotations
 import io
 import mmap
 import os
-from ctypes import byref, c_uint8, c_uint32, string_at
-from typing import Any, Callable, NamedTuple, TypeVar
+from ctypes import byref, c_uint8, c_uint32, c_uint64, string_at
+from typing import IO, Any, Callable, NamedTuple, TypeVar
 from uuid import UUID
 
 from . import _structures
@@ -24,6 +24,7 @@ from ._records import (
     NameState,
     Range,
     Region,
+    Status,
     Stream,
     SymbolKind,
     System,
@@ -32,6 +33,7 @@ from ._records import (
 )
 
 _T = TypeVar("_T")
+_PART = 16 << 20
 
 
 # A number for a u32 of the library. ctypes would drop what is above its 32 bits.
@@ -308,6 +310,21 @@ class Dump:
     def list(self, *, pdb: bool = False) -> str:
         """The text of `mdmp list`, or `mdmp list --pdb`. Behind a fault its `partial` is the text before it."""
         return self._text(library.mdmp_list_, pdb)
+
+    def write_list(self, stream: IO[str], *, pdb: bool = False) -> None:
+        """Writes the text of `list` in parts of 16 MiB: of a long one no more is held at a time."""
+        skip = 0
+        with self._lent() as (file, size):
+            out, left, fault = (c_uint8 * _PART)(), c_uint64(), _structures.Fault()
+            status = int(Status.BUFFER_TOO_SHORT)
+            while status == Status.BUFFER_TOO_SHORT:
+                status = library.mdmp_list_part_(
+                    file, size, byref(self._limits), pdb, skip, out, _PART, byref(left), byref(fault)
+                )
+                given = min(left.value, _PART)
+                stream.write(string_at(out, given).decode("ascii"))
+                skip += given
+        expect_good(status, fault)
 
     def copy(self, *types: int) -> bytes:
         """The bytes of a new file with the streams of 1 to 16 types, and all that their records name.

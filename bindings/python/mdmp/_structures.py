@@ -488,6 +488,18 @@ def declare(library: CDLL) -> None:
         POINTER(Fault),
     ]
     library.mdmp_list_.restype = c_uint32
+    library.mdmp_list_part_.argtypes = [
+        c_void_p,
+        c_size_t,
+        POINTER(Limits),
+        c_bool,
+        c_uint64,
+        POINTER(c_uint8),
+        c_size_t,
+        POINTER(c_uint64),
+        POINTER(Fault),
+    ]
+    library.mdmp_list_part_.restype = c_uint32
     library.mdmp_copy_.argtypes = [
         c_void_p,
         c_size_t,

@@ -4,6 +4,7 @@ from __future__ import annotations
 
 import dataclasses
 import hashlib
+import io
 import json
 import os
 import pathlib
@@ -37,6 +38,9 @@ class Stored(unittest.TestCase):
                 self.assertTrue(dump.list() == stored(path, ".list"))
                 self.assertTrue(dump.list(pdb=True) == stored(path, ".pdb"))
                 self.assertTrue(dump.check() == stored(path, ".check"))
+                written = io.StringIO()
+                dump.write_list(written, pdb=True)
+                self.assertTrue(written.getvalue() == stored(path, ".pdb"))
 
     def test_fields(self) -> None:
         for path in dumps():

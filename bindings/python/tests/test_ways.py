@@ -5,6 +5,7 @@ from __future__ import annotations
 import array
 import ctypes
 import dataclasses
+import io
 import mmap
 import os
 import pathlib
@@ -59,6 +60,10 @@ class Faults(unittest.TestCase):
         self.assertEqual(raised.exception.entry, 7)
         bad = [entry for entry, fault in enumerate(cut.verdicts) if fault is not None]
         self.assertEqual(bad, [7, 8, 9, 10])
+        written = io.StringIO()
+        with self.assertRaises(mdmp.Fault):
+            cut.write_list(written)
+        self.assertEqual(written.getvalue(), raised.exception.partial)
 
     def test_records_before_a_fault(self) -> None:
         data = bytearray(KINDS.read_bytes())
@@ -154,6 +159,7 @@ class Buffers(unittest.TestCase):
         asked: list[Callable[[], object]] = [
             lambda: dump.header, lambda: dump.streams, lambda: dump.modules, lambda: dump.verdicts, lambda: dump.memory,
             dump.list, dump.check, lambda: dump.copy(3), lambda: dump.where(0), lambda: memory[0:1], lambda: 0 in memory,
+            lambda: dump.write_list(io.StringIO()),
         ]
         for ask in asked:
             with self.assertRaisesRegex(ValueError, "closed"):

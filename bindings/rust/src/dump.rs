@@ -8,8 +8,10 @@ use crate::records::{
     ExceptionRecord, Extent, FaultKind, Header, Module, NamePlace, NameState, Place, Range, Region,
     Stream, SymbolKind, System, Thread, UnloadedModule,
 };
+use std::io;
 
 const BUFFER_TOO_SHORT: u32 = 4;
+const PART: usize = 16 << 20;
 
 /// A minidump over the bytes of a file.
 #[derive(Clone, Copy)]
@@ -206,6 +208,31 @@ impl<'a> Dump<'a> {
             ffi::mdmp_list(self.file, &self.limits, pdb, out, size, fault)
         })
         .ended(text)
+    }
+
+    /// Writes the text of `mdmp list` in parts: of a long one no more than 16 MiB are held at a time. A fault is told
+    /// behind what stands before it, as an [`Error`] in the `io::Error`.
+    pub fn write_list(&self, out: &mut impl io::Write) -> io::Result<()> {
+        let mut part = vec![0; PART];
+        let mut skip = 0;
+        loop {
+            let (mut left, mut fault) = (0, ffi::Fault::default());
+            let status = ffi::mdmp_list_part(
+                self.file,
+                &self.limits,
+                false,
+                skip,
+                &mut part,
+                &mut left,
+                &mut fault,
+            );
+            let given = part.len().min(left as usize);
+            out.write_all(&part[..given])?;
+            if status != BUFFER_TOO_SHORT {
+                return ended(status, fault, ()).map_err(io::Error::other);
+            }
+            skip += given as u64;
+        }
     }
 
     /// The bytes of a new file with the streams of 1 to 16 types, and all that their records name.

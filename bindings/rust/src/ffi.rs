@@ -393,6 +393,17 @@ mod symbols {
             size: *mut u64,
             fault: *mut Fault,
         ) -> u32;
+        pub fn mdmp_list_part_(
+            file: *const u8,
+            file_size: usize,
+            limits: *const Limits,
+            pdb: bool,
+            skip: u64,
+            out: *mut u8,
+            room: usize,
+            size: *mut u64,
+            fault: *mut Fault,
+        ) -> u32;
         pub fn mdmp_copy_(
             file: *const u8,
             file_size: usize,
@@ -609,6 +620,32 @@ pub fn mdmp_list(
             file.len(),
             limits,
             pdb,
+            out.as_mut_ptr(),
+            out.len(),
+            size,
+            fault,
+        )
+    }
+}
+
+/// `mdmp_list_part` of mdmp.h
+pub fn mdmp_list_part(
+    file: &[u8],
+    limits: &Limits,
+    pdb: bool,
+    skip: u64,
+    out: &mut [u8],
+    size: &mut u64,
+    fault: &mut Fault,
+) -> u32 {
+    // SAFETY: as `symbols` says.
+    unsafe {
+        symbols::mdmp_list_part_(
+            file.as_ptr(),
+            file.len(),
+            limits,
+            pdb,
+            skip,
             out.as_mut_ptr(),
             out.len(),
             size,

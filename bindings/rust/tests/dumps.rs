@@ -214,6 +214,9 @@ fn texts_are_as_stored() {
             "{path:?}"
         );
         assert!(dump.check().unwrap() == stored(path, "check"), "{path:?}");
+        let mut written = Vec::new();
+        dump.write_list(&mut written).unwrap();
+        assert!(written == stored(path, "list").into_bytes(), "{path:?}");
     });
 }
 
@@ -335,6 +338,12 @@ fn faults_are_told() {
     assert_eq!(error.to_string(), bad[0]);
     let text = error.into_partial().unwrap();
     assert!(Dump::new(&bytes).list().unwrap().starts_with(&text));
+    let mut written = Vec::new();
+    assert_eq!(
+        cut.write_list(&mut written).unwrap_err().to_string(),
+        bad[0]
+    );
+    assert_eq!(written, text.into_bytes());
     assert!(matches!(
         Dump::new(&bytes).with_window(167).threads(),
         Err(Error::BadArgument(_))

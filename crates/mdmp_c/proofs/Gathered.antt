@@ -1,6 +1,7 @@
 -- Rows that are put into an array, one behind the other.
-use Rattle.std.proofs.Common.{◌≡◌, ◌∙◌, ◌≤◌, ◌<◌, ◌+◌, ◌-◌, ◌^◌, ◌++◌, ℕ, zero, suc, List, [], ◌∷◌, Option, Some, None, ap, refl, sym, length, take, drop, arith, set, append_assoc, append-nil}
+use Rattle.std.proofs.Common.{◌≡◌, ◌∙◌, ◌≤◌, ◌<◌, ◌+◌, ◌-◌, ◌^◌, ◌++◌, ℕ, suc, List, [], ◌∷◌, Option, Some, None, ap, refl, sym, length, drop, arith, set, append_assoc, append-nil}
 use Rattle.std.specs.Prelude.{filter_map, min, slice_get}
+use Rattle.std.proofs.Math.Seq.{take-nil}
 use Rattle.std.proofs.lemmas.List.Elements.{filter_map-append}
 use Rattle.mdmp_c.specs.Giving.{put_front, told_count}
 use Rattle.mdmp_lister.specs.declared.fault.ListFault.{ListFault}
@@ -8,10 +9,6 @@ use Rattle.mdmp_lister.specs.declared.item.Item.{Item}
 use Rattle.mdmp_lister.specs.Format.Listing.{Run}
 use Rattle.mdmp_lister.specs.Lister.{tail}
 use Rattle.mdmp_c.specs.Table.{Collects}
-
-take-nil : {X : Type 0} (n : ℕ) → take {A = X} n [] ≡ []
-take-nil zero = refl
-take-nil (suc n) = refl
 
 pub put_front-nothing : {X : Type 0} (before : List X) → put_front [] before ≡ before
 put_front-nothing before = ap (λ xs. xs ++ before) (take-nil (length before))

@@ -9,3 +9,5 @@ pub mod Copied
 pub mod Sliced
 pub mod Judging
 pub mod Worded
+pub mod Parted
+pub mod Listed

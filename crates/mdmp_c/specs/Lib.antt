@@ -13,3 +13,4 @@ pub mod Names
 pub mod Copies
 pub mod Symbols
 pub mod Verdicts
+pub mod TextPart

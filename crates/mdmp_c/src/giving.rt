@@ -1,7 +1,7 @@
 //! What a call gives, put into the caller's memory.
 ghost use Rattle.std.specs.Prelude.{◌≡◌};
 ghost use Rattle.mdmp_c.specs.Fault.{no_memory, status_of};
-ghost use Rattle.mdmp_c.specs.Giving.{Fails, Gives, GivesOrWants};
+ghost use Rattle.mdmp_c.specs.Giving.{Fails, Gives, GivesOrWants, put_front};
 
 use crate::fault::{PlainFault, of_kind, status_of};
 
@@ -10,6 +10,14 @@ pub(crate) const TOO_SHORT: u32 = 4;
 
 /// The kind of fault that is want of memory.
 pub(crate) const NO_MEMORY: u32 = 66;
+
+/// Puts a text at the front of a buffer, as much as it holds.
+pub(crate) fn put_text(text: &[u8], out: &mut [u8])
+    ensures { out.new ≡ put_front text.now out.old }
+{
+    let fitting = text.len().min(out.len());
+    out[..fitting].copy_from_slice(&text[..fitting]);
+}
 
 /// Puts a text into a buffer, as much as it holds, and tells how long it is and what is wrong with the
 /// file.
@@ -24,8 +32,7 @@ pub(crate) fn give(
 {
     *fault = told;
     *size = text.len() as u64;
-    let fitting = text.len().min(out.len());
-    out[..fitting].copy_from_slice(&text[..fitting]);
+    put_text(text, out);
     if out.len() < text.len() {
         TOO_SHORT
     } else {

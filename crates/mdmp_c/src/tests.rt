@@ -5,6 +5,7 @@ use crate::fault::{NO_FAULT, PlainFault};
 use crate::fault_text::mdmp_fault_text_;
 use crate::heading::HeaderRow;
 use crate::limits::PlainLimits;
+use crate::list_part::mdmp_list_part_;
 use crate::memory::{mdmp_memory_, mdmp_read_};
 use crate::records::mdmp_ranges_;
 use crate::rows::RangeRow;
@@ -66,6 +67,39 @@ fn a_short_buffer_is_told(rt: HostRuntime) -> Result<(), Fail> {
     );
     assert_eq!(rt; (status, size), (4, 240));
     assert_eq!(rt; out.as_slice(), b"dump ".as_slice());
+    Ok(())
+}
+
+#[test]
+fn a_part_of_a_list_is_given(rt: HostRuntime) -> Result<(), Fail> {
+    let mut out = [0; 7];
+    let mut size = 0;
+    let mut fault = NO_FAULT;
+    let status = mdmp_list_part_(
+        rt.alloc(),
+        &SYSTEM,
+        &LIMITS,
+        false,
+        5,
+        &mut out,
+        &mut size,
+        &mut fault,
+    );
+    assert_eq!(rt; (status, size), (4, 235));
+    assert_eq!(rt; out.as_slice(), b"version".as_slice());
+    // The last of its lines ends it.
+    let status = mdmp_list_part_(
+        rt.alloc(),
+        &SYSTEM,
+        &LIMITS,
+        false,
+        233,
+        &mut out,
+        &mut size,
+        &mut fault,
+    );
+    assert_eq!(rt; (status, size), (0, 7));
+    assert_eq!(rt; out.as_slice(), b"ack 1\"\n".as_slice());
     Ok(())
 }
 

@@ -1,7 +1,8 @@
-use Rattle.std.proofs.Common.{rules, ◌≡◌, ◌∙◌, ◌+◌, Some, None, Bool, sym, subst}
-use Rattle.std.specs.Prelude.{slice_get, IsTrue}
+use Rattle.std.proofs.Common.{rules, ◌≡◌, ◌∙◌, ◌+◌, Some, None, sym}
+use Rattle.std.specs.Prelude.{slice_get}
 use Rattle.mdmp_source.specs.SourceLaws.{fetches_then}
 use Rattle.mdmp_source.specs.Store.{IsGood}
+use Rattle.mdmp_lister.proofs.Fetches.{IsGood-later}
 use Rattle.mdmp_lister.specs.Format.Item.{plain}
 use Rattle.mdmp_lister.specs.Format.Listing.{nothing, only_fault}
 use Rattle.mdmp_lister.specs.Lister.{tail}
@@ -59,9 +60,6 @@ pub returns-in-Err : goal.returns-in-Err
 returns-in-Err g c = λ file good run known.
     let so_far = c.loop-item.invariant.collected file good run known in
     let fetched = c.loop-item.invariant.source.fetches in
-    let now : IsGood c.loop-item.lister.source.store file = record {
-      known = fetched.same_content ∙ good.known;
-      reliable = subst (λ (b : Bool). IsTrue b) (sym fetched.same_reliable) good.reliable;
-    } in
+    let now : IsGood c.loop-item.lister.source.store file = IsGood-later file _ _ _ fetched good in
     let end : so_far.0 ≡ only_fault c.in-Err.fault = c.in-Err.ensures.gives so_far.0 so_far.1.0 (c.in-Err.ensures.good file now) in
     Collects-end g.T.Row.row_of run so_far.0 _ (Some c.in-Err.fault) _ _ so_far.1.1 end

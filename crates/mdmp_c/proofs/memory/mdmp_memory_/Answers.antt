@@ -2,6 +2,7 @@ use Rattle.std.proofs.Common.{rules, ◌≡◌, ◌∙◌, ℕ, Bool, List, Some
 use Rattle.std.specs.Option.{option_map}
 use Rattle.std.specs.Prelude.{IsTrue}
 use Rattle.mdmp_source.specs.Store.{IsGood}
+use Rattle.mdmp_lister.proofs.Fetches.{IsGood-later}
 use Rattle.mdmp_lister.specs.Fault.{IsOfSource}
 use Rattle.mdmp_lister.specs.Format.Listing.{listing}
 use Rattle.mdmp_c.specs.Fault.{status_of}
@@ -16,10 +17,7 @@ returns-in-Err-list_ranges c =
     let good : IsGood c.new-source.result.store file = search rules in
     let valid : AreLimits c.args.limits.now = c.in-Some.ensures.0 in
     let new = c.in-Ok.ensures.new in
-    let now : IsGood c.in-Ok.lister.source.store file = record {
-      known = new.fetches.same_content ∙ good.known;
-      reliable = subst (λ (b : Bool). IsTrue b) (sym new.fetches.same_reliable) good.reliable;
-    } in
+    let now : IsGood c.in-Ok.lister.source.store file = IsGood-later file _ _ _ new.fetches good in
     let choice = c.memory_lists.result in
     let name = c.in-Some.limits.name in
     let left : c.in-Ok.lister.left ≡ Some (listing file choice name) = new.list.left ∙ ap (option_map (λ (f : List ℕ). listing f choice name)) good.known in

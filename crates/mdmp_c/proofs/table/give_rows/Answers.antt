@@ -1,7 +1,8 @@
-use Rattle.std.proofs.Common.{rules, ◌≡◌, ◌∙◌, ℕ, Bool, List, Some, ap, refl, sym, subst}
+use Rattle.std.proofs.Common.{rules, ◌≡◌, ◌∙◌, ℕ, List, Some, ap, refl, subst}
 use Rattle.std.specs.Option.{option_map}
-use Rattle.std.specs.Prelude.{IsTrue, nat_lt, if◌then◌else◌}
+use Rattle.std.specs.Prelude.{nat_lt, if◌then◌else◌}
 use Rattle.mdmp_source.specs.Store.{IsGood}
+use Rattle.mdmp_lister.proofs.Fetches.{IsGood-later}
 use Rattle.mdmp_lister.specs.Format.Listing.{listing}
 use Rattle.mdmp_c.specs.Fault.{list_told, status_of}
 use Rattle.mdmp_c.specs.Limits.{AreLimits}
@@ -27,10 +28,7 @@ returns g c =
     let good : IsGood c.new-source.result.store file = search rules in
     let valid : AreLimits c.args.limits.now = c.in-Some.ensures.0 in
     let new = c.in-Ok.ensures.new in
-    let now : IsGood c.in-Ok.lister.source.store file = record {
-      known = new.fetches.same_content ∙ good.known;
-      reliable = subst (λ (b : Bool). IsTrue b) (sym new.fetches.same_reliable) good.reliable;
-    } in
+    let now : IsGood c.in-Ok.lister.source.store file = IsGood-later file _ _ _ new.fetches good in
     let run = listing file choice c.in-Some.limits.name in
     let left : c.in-Ok.lister.left ≡ Some run = new.list.left ∙ ap (option_map (λ (f : List ℕ). listing f choice c.in-Some.limits.name)) good.known in
     let rows = c.collect-collected.ensures file now run left in

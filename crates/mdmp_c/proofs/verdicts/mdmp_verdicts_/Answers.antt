@@ -1,6 +1,7 @@
-use Rattle.std.proofs.Common.{rules, ◌≡◌, ◌∙◌, ◌<◌, ◌^◌, ℕ, Bool, arith, ap, refl, subst, sym}
-use Rattle.std.specs.Prelude.{IsTrue, nat_lt, if◌then◌else◌}
+use Rattle.std.proofs.Common.{rules, ◌≡◌, ◌∙◌, ◌<◌, ◌^◌, ℕ, arith, ap, refl, subst}
+use Rattle.std.specs.Prelude.{nat_lt, if◌then◌else◌}
 use Rattle.mdmp_source.specs.Store.{IsGood}
+use Rattle.mdmp_lister.proofs.Fetches.{IsGood-later}
 use Rattle.mdmp_wire.specs.declared.header.Header.{Header}
 use Rattle.mdmp_lister.specs.declared.choice.Choice.{Choice}
 use Rattle.mdmp_lister.specs.declared.choice.Choice.TheVariants.{All}
@@ -28,10 +29,7 @@ returns-in-Ok-judge c =
     let good : IsGood c.new-source.result.store file = search rules in
     let valid : AreLimits c.args.limits.now = c.in-Some.ensures.0 in
     let new = c.in-Ok.ensures.new in
-    let now : IsGood c.in-Ok.lister.source.store file = record {
-      known = new.fetches.same_content ∙ good.known;
-      reliable = subst (λ (b : Bool). IsTrue b) (sym new.fetches.same_reliable) good.reliable;
-    } in
+    let now : IsGood c.in-Ok.lister.source.store file = IsGood-later file _ _ _ new.fetches good in
     let found = c.in-Ok-judge.ensures file now in
     let chosen = subst (λ (choice : Choice). HasJudged file choice c.in-Ok.lister.limit c.in-Ok-judge.judged c.args.out.now c.judge.new.out) new.list.choice_is found in
     let limit : c.in-Ok.lister.limit ≡ c.args.limits.now.name = new.list.limit_is ∙ c.in-Some.ensures.2 in
@@ -47,8 +45,5 @@ returns c =
     let file = c.args.file.now in
     let good : IsGood c.new-source.result.store file = search rules in
     let new = c.in-Ok.ensures.new in
-    let now : IsGood c.in-Ok.lister.source.store file = record {
-      known = new.fetches.same_content ∙ good.known;
-      reliable = subst (λ (b : Bool). IsTrue b) (sym new.fetches.same_reliable) good.reliable;
-    } in
+    let now : IsGood c.in-Ok.lister.source.store file = IsGood-later file _ _ _ new.fetches good in
     absurd (c.in-Err-judge.ensures file now)

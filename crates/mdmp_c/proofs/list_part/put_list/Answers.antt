@@ -1,0 +1,20 @@
+use Rattle.std.proofs.Common.{◌≡◌, ◌∙◌, ◌++◌, ℕ, List, Some, ap, subst, sym, append_assoc}
+use Rattle.mdmp_source.specs.Output.{OutState}
+use Rattle.mdmp_wire.specs.declared.header.Header.{Header}
+use Rattle.mdmp_tool.specs.Lines.{dump_line}
+use Rattle.mdmp_tool.specs.Text.{run_text}
+use Rattle.mdmp_c.specs.TextPart.{IsPartOf, PutsRun}
+use Rattle.mdmp_c.proofs.Listed.{lines_taken}
+use Rattle.mdmp_c.proofs.list_part.put_list.Goals as goal
+
+pub returns : goal.returns
+returns g c = λ file good run known skip room before part.
+    let line = c.deref.result.now in
+    let first = dump_line c.args.lister.now.header in
+    let items = run_text c.args.pdb file c.args.lister.now.limit run in
+    let is : line ≡ first =
+    lines_taken _ _ line c.new.result.items (dump_line c.header.result) (ap (λ (o : OutState). o.taken) c.new-line.ensures) c.new.ensures.items c.in_default.ensures
+    (sym c.into_inner-line.ensures ∙ ap Some (sym c.deref.ensures.value)) ∙ ap (λ (h : Header). dump_line h) c.header.ensures in
+    let all : (before ++ line) ++ items ≡ before ++ (first ++ items) = append_assoc before line items ∙ ap (λ xs. before ++ (xs ++ items)) is in
+    let end = λ (text : List ℕ). PutsRun (IsPartOf skip room text c.put_items.new.part.skip c.put_items.new.part.room c.put_items.new.part.size c.put_items.new.part.kept.items) run c.put_items.result in
+    subst end all (c.put_items.ensures file good run known skip room (before ++ line) (c.in_default-take.ensures skip room before part))

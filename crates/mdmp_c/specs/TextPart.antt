@@ -1,0 +1,32 @@
+-- Parts of a text.
+use Rattle.std.specs.Prelude.{◌≡◌, ◌-◌, ℕ, Bool, List, Some, None, Result, Ok, Err, drop, length, take}
+use Rattle.mdmp_c.specs.declared.fault.PlainFault.{PlainFault}
+use Rattle.mdmp_c.specs.Fault.{list_told, told_unless}
+use Rattle.mdmp_c.specs.Giving.{told_count}
+use Rattle.mdmp_lister.specs.declared.choice.Choice.TheVariants.{All}
+use Rattle.mdmp_lister.specs.Format.Listing.{Run, listing}
+use Rattle.mdmp_lister.specs.Format.Refusal.{opening_fault}
+use Rattle.mdmp_tool.specs.declared.fault.ToolFault.{ToolFault}
+use Rattle.mdmp_tool.specs.declared.fault.ToolFault.TheVariants.{List as BadList, Memory, Out}
+use Rattle.mdmp_tool.specs.Text.{list_text}
+
+-- what is told of F by a list, and what stands behind the first `skip` bytes of its text
+pub record IsListPart (skip : ℕ) (pdb : Bool) (F : List ℕ) (limit : ℕ) (told : PlainFault) (part : List ℕ) : Type 0 where
+  pub told_is : told ≡ told_unless (opening_fault F All) (list_told (listing F All limit).fault)
+  pub part_is : part ≡ drop skip (list_text pdb F limit)
+
+-- of a text that is made piece by piece, what stands behind its first `skip` bytes was counted and, as much as there is room for,
+-- kept; so many of the bytes that come next are passed over
+pub record IsPartOf (skip room : ℕ) (text : List ℕ) (left space size : ℕ) (kept : List ℕ) : Type 0 where
+  pub left_is : left ≡ skip - length text
+  pub space_is : space ≡ room
+  pub size_is : size ≡ told_count (length (drop skip text))
+  pub kept_is : kept ≡ take room (drop skip text)
+
+-- the whole text of a run was put somewhere, up to its fault or none; or memory was wanting
+abbrev pub PutsRun : Type 0 → Run → Result (Unit {0}) ToolFault → Type 0
+PutsRun whole run (Ok x) = (run.fault ≡ None) × whole
+PutsRun whole run (Err (BadList fault)) = (run.fault ≡ Some fault) × whole
+PutsRun whole run (Err Out) = Unit {0}
+PutsRun whole run (Err Memory) = Unit {0}
+PutsRun whole run (Err fault) = ⊥
