@@ -9,7 +9,7 @@ use crate::halves::halve;
 use crate::place::Place;
 use crate::range::Range;
 use crate::scan::scan;
-use crate::steps::Steps;
+use crate::steps::{CountedRanges, Steps};
 use std::marker::Brand;
 use std::sync::ledger::{Blank, Ledger};
 
@@ -24,33 +24,24 @@ pub fn place_of(ranges: &[Range], address: u64) -> Option<Place>
     ensures left { IfSome result (λ place. (r : Range) → first_range ranges.now address ≡ Some r
         → IsLeft ranges.now address r place.left) }
 {
-    look_up(ranges, false, address).place()
+    scan_under::<Brand>(ranges, address, Blank::new(1)).place()
 }
 
-/// Finds an address among ranges, under a ledger that nothing reads.
-pub(crate) fn look_up(ranges: &[Range], is_sorted: bool, address: u64) -> Found
+/// Scans ranges for an address under the ledger that the blank opens.
+fn scan_under<G: Ledger>(ranges: &[Range], address: u64, blank: Blank) -> Found
     requires placed { All IsPlaced ranges.now }
-    requires sorted { IsTrue is_sorted → AreSorted ranges.now }
-    ensures { IsFound ranges.now address result }
-{
-    search_from::<Brand>(ranges, is_sorted, address, Blank::new(1))
-}
-
-/// Finds an address under the ledger that the blank opens.
-fn search_from<G: Ledger>(ranges: &[Range], is_sorted: bool, address: u64, blank: Blank) -> Found
-    requires placed { All IsPlaced ranges.now }
-    requires sorted { IsTrue is_sorted → AreSorted ranges.now }
     requires name { blank.name ≡ G.name }
     requires parts { blank.parts ≡ G.parts }
     requires some { 0 < blank.parts }
     ensures { IsFound ranges.now address result }
 {
-    search(ranges, is_sorted, address, &mut Steps::<G>::new(blank))
+    let mut steps = Steps::<G>::new(blank);
+    scan(&CountedRanges::over(ranges), address, &mut steps)
 }
 
 /// Finds an address among ranges: by halves where they are known to be sorted.
 pub(crate) fn search<G: Ledger>(
-    ranges: &[Range],
+    ranges: &CountedRanges<'_, G>,
     is_sorted: bool,
     address: u64,
     steps: &mut Steps<G>,

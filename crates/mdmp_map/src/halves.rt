@@ -5,11 +5,15 @@ ghost use Rattle.mdmp_map.specs.Ranges.{AreSorted, IsPlaced};
 
 use crate::found::{ADDRESS_END, Found, place_in};
 use crate::range::Range;
-use crate::steps::Steps;
+use crate::steps::{CountedRanges, Steps};
 use std::sync::ledger::Ledger;
 
 /// Finds an address among sorted ranges, by halves.
-pub(crate) fn halve<G: Ledger>(ranges: &[Range], address: u64, steps: &mut Steps<G>) -> Found
+pub(crate) fn halve<G: Ledger>(
+    ranges: &CountedRanges<'_, G>,
+    address: u64,
+    steps: &mut Steps<G>,
+) -> Found
     requires placed { All IsPlaced ranges.now }
     requires sorted { AreSorted ranges.now }
     ensures found { IsFound ranges.now address result }
@@ -25,7 +29,11 @@ pub(crate) fn halve<G: Ledger>(ranges: &[Range], address: u64, steps: &mut Steps
 }
 
 /// The first range that ends past an address, or none where none does.
-fn first_past<G: Ledger>(ranges: &[Range], address: u64, steps: &mut Steps<G>) -> Option<Range>
+fn first_past<G: Ledger>(
+    ranges: &CountedRanges<'_, G>,
+    address: u64,
+    steps: &mut Steps<G>,
+) -> Option<Range>
     requires { AreSorted ranges.now }
     ensures first { (i : ℕ) × IsFirstPast ranges.now address i × (result ≡ slice_get ranges.now i) }
     ensures steps { IsHalved (length ranges.now) steps.old steps.new }
@@ -35,8 +43,7 @@ fn first_past<G: Ledger>(ranges: &[Range], address: u64, steps: &mut Steps<G>) -
     let mut high = ranges.len();
     while low < high {
         let middle = low + (high - low) / 2;
-        let range = ranges[middle];
-        steps.tick();
+        let range = ranges.look(middle, steps);
         if range.end() <= u128::from(address) {
             low = middle + 1;
         } else {

@@ -5,9 +5,10 @@
 //! and how far one can read on from there. [`place_of`] finds it among ranges, and an [`AddressMap`]
 //! holds ranges and finds it among them: by halves while each begins at or past the end of the one
 //! before, else by a look at one after another. Where no range holds an address, it tells how far none
-//! does; [`AddressMap::look_up`] tells both by one search. Addresses end at 2^64 - 1 and do not wrap.
-//! The definitions in `specs/Ranges.antt` say it exactly, `specs/Finding.antt` tells in how many
-//! [`Steps`], and `specs/RangeLaws.antt` has what follows from them.
+//! does; [`AddressMap::look_up`] tells both by one search, and [`AddressMap::look_up_counted`] counts
+//! its [`Steps`]. Addresses end at 2^64 - 1 and do not wrap. The definitions in `specs/Ranges.antt` say
+//! it exactly, `specs/Finding.antt` tells in how many steps, and `specs/RangeLaws.antt` has what follows
+//! from them.
 //!
 //! ```text
 //! let mut map = AddressMap::with_room(alloc, 1)?;

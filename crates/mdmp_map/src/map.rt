@@ -5,14 +5,14 @@ ghost use Rattle.mdmp_map.specs.Map.{MapState, free_of};
 ghost use Rattle.mdmp_map.specs.Finding.{HasReach, IfHeld, IsFound, LooksAt};
 ghost use Rattle.mdmp_map.specs.Ranges.{AreSorted, IsGap, IsLeft, IsPlaced, IsWithin, first_range, place_of, range_end};
 
-use crate::finding::{look_up, search};
+use crate::finding::search;
 use crate::found::Found;
 use crate::place::Place;
 use crate::range::Range;
-use crate::steps::Steps;
+use crate::steps::{CountedRanges, Steps};
 use std::alloc::{AllocError, Allocator};
-use std::marker::Model;
-use std::sync::ledger::Ledger;
+use std::marker::{Brand, Model};
+use std::sync::ledger::{Blank, Ledger};
 
 /// Ranges of the dumped process's memory in listing order, with room for so many of them.
 ///
@@ -92,7 +92,7 @@ impl<A: Allocator> AddressMap<A> {
     }
 
     /// Where the byte of an address of the dumped process stands, by the first range that holds it,
-    /// or none where no range does.
+    /// or none where no range does. The search is that of `find_counted`.
     #[tactic(auto, using(crate::proofs::Places::left_greatest, crate::proofs::Places::some_left, crate::proofs::Places::left_within))]
     pub fn find(&self, address: u64) -> Option<Place>
         ensures place { result ≡ place_of self.now.ranges address }
@@ -111,32 +111,64 @@ impl<A: Allocator> AddressMap<A> {
     }
 
     /// Looks an address up, by one search: where its byte stands, which is what `find` tells, or how far
-    /// no range holds one, which is what `gap` tells.
-    #[tactic(auto, using(crate::proofs::Places::held_reaches))]
+    /// no range holds one, which is what `gap` tells. The search is that of `look_up_counted`.
     pub fn look_up(&self, address: u64) -> Found
         ensures found { IsFound self.now.ranges address result }
         ensures reach { IfHeld result (HasReach self.now.ranges address) }
         ensures placed { All IsPlaced self.now.ranges }
     {
-        look_up(&self.ranges, self.is_sorted, address)
+        self.look_up_under::<Brand>(address, Blank::new(1))
     }
 
-    /// Finds what `find` does, and counts a step for each range that it looks at: while the ranges are
-    /// sorted as many as their number has binary digits, or one fewer; else one for each up to the
-    /// first that holds the address.
+    /// Looks an address up as `look_up` does, and counts a step for each range that it looks at: while
+    /// the ranges are sorted as many as their number has binary digits, or one fewer; else one for each
+    /// up to the first that holds the address.
+    #[tactic(auto, using(crate::proofs::Places::held_reaches))]
+    pub fn look_up_counted<G: Ledger>(&self, address: u64, steps: &mut Steps<G>) -> Found
+        ensures found { IsFound self.now.ranges address result }
+        ensures reach { IfHeld result (HasReach self.now.ranges address) }
+        ensures placed { All IsPlaced self.now.ranges }
+        ensures steps { LooksAt self.now.ranges address steps.old steps.new }
+    {
+        let ranges = CountedRanges::over(&self.ranges);
+        search(&ranges, self.is_sorted, address, steps)
+    }
+
+    /// Finds what `find` does, and counts the steps of `look_up_counted`.
     pub fn find_counted<G: Ledger>(&self, address: u64, steps: &mut Steps<G>) -> Option<Place>
         ensures place { result ≡ place_of self.now.ranges address }
         ensures steps { LooksAt self.now.ranges address steps.old steps.new }
     {
-        search(&self.ranges, self.is_sorted, address, steps).place()
+        self.look_up_counted(address, steps).place()
     }
 
     /// How many addresses from this one on no range holds, up to the last address: 0 where one holds
-    /// this address, and 2^64 for the address 0 where there are no ranges.
+    /// this address, and 2^64 for the address 0 where there are no ranges. The search is that of
+    /// `gap_counted`.
     pub fn gap(&self, address: u64) -> u128
         ensures { IsGap self.now.ranges address result }
     {
         self.look_up(address).gap()
+    }
+
+    /// Tells what `gap` does, and counts the steps of `look_up_counted`.
+    pub fn gap_counted<G: Ledger>(&self, address: u64, steps: &mut Steps<G>) -> u128
+        ensures gap { IsGap self.now.ranges address result }
+        ensures steps { LooksAt self.now.ranges address steps.old steps.new }
+    {
+        self.look_up_counted(address, steps).gap()
+    }
+
+    /// Looks an address up under the ledger that the blank opens.
+    fn look_up_under<G: Ledger>(&self, address: u64, blank: Blank) -> Found
+        requires name { blank.name ≡ G.name }
+        requires parts { blank.parts ≡ G.parts }
+        requires some { 0 < blank.parts }
+        ensures found { IsFound self.now.ranges address result }
+        ensures reach { IfHeld result (HasReach self.now.ranges address) }
+        ensures placed { All IsPlaced self.now.ranges }
+    {
+        self.look_up_counted(address, &mut Steps::<G>::new(blank))
     }
 }
 

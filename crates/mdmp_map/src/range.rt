@@ -1,4 +1,5 @@
 //! A range of memory.
+use std::mem::size_of;
 
 /// A range of memory of the dumped process, and where its bytes stand in the file.
 #[derive(Clone, Copy, Debug, PartialEq, Eq)]
@@ -10,6 +11,9 @@ pub struct Range {
     /// Where the byte of its first address stands, an offset from the start of the file.
     pub offset: u64,
 }
+
+// What a map takes for each range.
+const _: () = prove!(size_of::<Range>() == 24);
 
 impl Range {
     ghost use Rattle.std.specs.Prelude.{◌≡◌};

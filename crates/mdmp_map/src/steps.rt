@@ -1,6 +1,9 @@
 //! A count of steps, which no code keeps.
 ghost use Rattle.std.specs.Prelude.{◌≡◌, ◌<◌, ◌+◌};
 
+mod counted_ranges;
+
+pub(crate) use self::counted_ranges::CountedRanges;
 use std::marker::Model;
 use std::sync::ledger::{Blank, Book, Ledger, Share};
 
@@ -34,8 +37,8 @@ impl<G: Ledger> Steps<G> {
         Steps { book, share }
     }
 
-    /// Counts a step.
-    pub(crate) fn tick(&mut self)
+    /// Counts a step, of the one look that goes with it.
+    fn tick(&mut self)
         ensures { self.new ≡ self.old + 1 }
     {
         self.book.add(&mut self.share, 1);

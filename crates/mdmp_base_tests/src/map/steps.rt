@@ -4,7 +4,7 @@ ghost use Rattle.mdmp_map.specs.Ranges.{AreSorted};
 
 use super::{assert_places, place, push_all, with_room};
 use crate::same::assert_same;
-use mdmp_map::{AddressMap, Place, Steps};
+use mdmp_map::{AddressMap, Found, Place, Steps};
 use std::alloc::Allocator;
 use std::marker::Brand;
 use std::process::Abort;
@@ -25,30 +25,64 @@ fn find_among_five<G: Ledger, A: Allocator>(
     map.find_counted(address, steps)
 }
 
-/// The same under a ledger that nothing reads.
-fn find_under<G: Ledger, A: Allocator>(
+/// Looks an address up among five sorted ranges, in at most four steps.
+#[tactic(auto, using(crate::proofs::Steps::at_most_four))]
+fn look_up_among_five<G: Ledger, A: Allocator>(
+    map: &AddressMap<A>,
+    address: u64,
+    steps: &mut Steps<G>,
+) -> Found
+    requires five { length map.now.ranges ≡ 5 }
+    requires sorted { AreSorted map.now.ranges }
+    ensures { steps.new ≤ steps.old + 4 }
+{
+    map.look_up_counted(address, steps)
+}
+
+/// Tells how far five sorted ranges hold no address from one on, in at most four steps.
+#[tactic(auto, using(crate::proofs::Steps::at_most_four))]
+fn gap_among_five<G: Ledger, A: Allocator>(
+    map: &AddressMap<A>,
+    address: u64,
+    steps: &mut Steps<G>,
+) -> u128
+    requires five { length map.now.ranges ≡ 5 }
+    requires sorted { AreSorted map.now.ranges }
+    ensures { steps.new ≤ steps.old + 4 }
+{
+    map.gap_counted(address, steps)
+}
+
+/// What is answered of an address: where it stands, the same or how far nothing is held, and this alone.
+type Answers = (Option<Place>, Found, u128);
+
+/// The answers under a ledger that nothing reads.
+fn answers_under<G: Ledger, A: Allocator>(
     map: &AddressMap<A>,
     address: u64,
     blank: Blank,
-) -> Option<Place>
+) -> Answers
     requires five { length map.now.ranges ≡ 5 }
     requires sorted { AreSorted map.now.ranges }
     requires name { blank.name ≡ G.name }
     requires parts { blank.parts ≡ G.parts }
     requires some { 0 < blank.parts }
 {
-    find_among_five(map, address, &mut Steps::<G>::new(blank))
+    let mut steps = Steps::<G>::new(blank);
+    let place = find_among_five(map, address, &mut steps);
+    let looked_up = look_up_among_five(map, address, &mut steps);
+    (place, looked_up, gap_among_five(map, address, &mut steps))
 }
 
-/// Finds an address in a map that has to have five ranges, sorted.
-fn find_in_four_steps<A: Allocator>(
+/// The answers of a map that has to have five ranges, sorted, each in four steps.
+fn answers_in_four_steps<A: Allocator>(
     rt: &impl Abort,
     map: &AddressMap<A>,
     address: u64,
-) -> Option<Place> {
+) -> Answers {
     assert!(rt; map.len() == 5);
     assert!(rt; map.is_sorted());
-    find_under::<Brand, A>(map, address, Blank::new(1))
+    answers_under::<Brand, A>(map, address, Blank::new(1))
 }
 
 #[test]
@@ -62,8 +96,18 @@ fn range_that_begins_before_the_last_one_ends_the_order(rt: HostRuntime) -> Resu
         (0x4000, 1, 121),
     ];
     push_all(&rt, &mut map, &ranges);
-    assert_same(&rt, find_in_four_steps(&rt, &map, 0x1006), place(86, 2));
-    assert_same(&rt, find_in_four_steps(&rt, &map, 0x1fff), None);
+    let held = Place {
+        offset: 86,
+        left: 2,
+    };
+    let rows = [
+        (0x1006, (Some(held), Found::Held(held), 0)),
+        (0x1fff, (None, Found::Gap(1), 1)),
+        (0xff8, (None, Found::Gap(8), 8)),
+    ];
+    for (address, expected) in rows {
+        assert_same(&rt, answers_in_four_steps(&rt, &map, address), expected);
+    }
     assert_places(&rt, &map, &[(0x1fff, None)]);
 
     push_all(&rt, &mut map, &[(0x1002, 4, 200)]);

@@ -1,9 +1,7 @@
 use Rattle.std.proofs.Common.{◌≡◌, ◌≤◌, ◌+◌, ◌-◌, ◌/◌, ℕ, ap, arith, slice_index_or, sym}
-use Rattle.std.proofs.lemmas.List.{get_or_default}
-use Rattle.std.proofs.lemmas.Option.{slice_get-get_or}
+use Rattle.std.proofs.lemmas.Option.{get_or_from_slice_get}
 use Rattle.mdmp_map.specs.Ranges.{range_end}
 use Rattle.mdmp_map.proofs.Halving.{all_halved, one_step}
-use Rattle.mdmp_map.proofs.Scanning.{no_range}
 use Rattle.mdmp_map.proofs.Sorted.{ends_rise}
 use Rattle.mdmp_map.proofs.halves.first_past.Goals as goal
 
@@ -17,12 +15,12 @@ loop-low-preserved-then-end-from g c =
       behind = λ k d lt.
           let rise : range_end (slice_index_or c.args.ranges.now k d) ≤ range_end (slice_index_or c.args.ranges.now middle d) =
           ends_rise c.args.ranges.now c.requires k middle d (omega (arith, lt)) (omega (arith, before.within, c.loop-low-test.true)) in
-          let same = ap range_end (get_or_default c.args.ranges.now middle d no_range (omega (arith, before.within, c.loop-low-test.true))) in
+          let same = ap range_end (get_or_from_slice_get c.args.ranges.now middle c.look-range.result d c.look-range.ensures.range) in
           omega (arith, rise, same, c.if-end-from.true, c.end.ensures, c.from.ensures);
       past = before.past;
       next = before.next;
       count = one_step _ (c.loop-low.high - c.loop-low.low) _ _ c.loop-low.steps _ (omega (arith, c.loop-low-test.true)) (omega arith)
-          (omega (arith, c.loop-low-test.true)) c.tick.ensures before.count;
+          (omega (arith, c.loop-low-test.true)) c.look-range.ensures.steps before.count;
     }
 
 pub loop-low-preserved : goal.loop-low-preserved
@@ -34,11 +32,11 @@ loop-low-preserved g c =
       within = omega (arith, before.order, before.within);
       behind = before.behind;
       past = λ lt d.
-          let same = ap range_end (get_or_default c.args.ranges.now middle d no_range lt) in
+          let same = ap range_end (get_or_from_slice_get c.args.ranges.now middle c.look-range.result d c.look-range.ensures.range) in
           omega (arith, same, c.if-end-from.false, c.end.ensures, c.from.ensures);
-      next = sym (slice_get-get_or c.args.ranges.now middle no_range (omega (arith, c.loop-low-test.true, before.within)));
+      next = sym c.look-range.ensures.range;
       count = one_step _ (c.loop-low.high - c.loop-low.low) _ _ c.loop-low.steps _ (omega (arith, c.loop-low-test.true)) (omega arith)
-          (omega (arith, c.loop-low-test.true)) c.tick.ensures before.count;
+          (omega (arith, c.loop-low-test.true)) c.look-range.ensures.steps before.count;
     }
 
 pub returns-clause-first : goal.returns-clause-first

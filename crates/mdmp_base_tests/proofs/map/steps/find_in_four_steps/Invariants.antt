@@ -1,5 +1,0 @@
-use Rattle.mdmp_base_tests.proofs.map.steps.find_in_four_steps.Given as goal
-
--- nothing reads the count
-abbrev pub ghosts-find_under : goal.ghosts-find_under
-ghosts-find_under g a = record { name = a.blank.name; parts = a.blank.parts }
