@@ -20,6 +20,7 @@ pub mod Judging
 pub mod LawsLemmas
 pub mod Leaving
 pub mod Listed
+pub mod Looks
 pub mod Mapping
 pub mod Metering
 pub mod NameRows

@@ -11,7 +11,7 @@ ghost use Rattle.mdmp_lister.specs.Format.Refusal.{opening_fault};
 ghost use Rattle.mdmp_map.specs.Map.{free_of};
 ghost use Rattle.mdmp_map.specs.Ranges.{IsWithin};
 ghost use Rattle.mdmp_source.specs.Source.{FetchesAtMost, FetchesSome};
-ghost use Rattle.mdmp_lister.specs.Addressing.{ReadsCells};
+ghost use Rattle.mdmp_lister.specs.Addressing.{LooksUpAtMost, ReadsCells};
 ghost use Rattle.mdmp_lister.specs.Meter.{IsBooked};
 ghost use Rattle.mdmp_lister.specs.Counts.{AreHeld, AreOfFile, AreSpent, numbers_of};
 ghost use Rattle.mdmp_lister.specs.Format.Listing.{Run};
@@ -33,11 +33,12 @@ use crate::ranging::advance;
 use crate::sink::{RunFault, Sink, Stopped, Unseen, VerdictSink};
 use crate::stage::Stage;
 use crate::walk::{Walk, refused};
-use mdmp_map::AddressMap;
+use mdmp_map::{AddressMap, Steps};
 use mdmp_source::{Extent, Location, Source, SourceFault, Store};
 use mdmp_wire::Header;
 use std::alloc::{AllocError, Allocator};
-use std::marker::Model;
+use std::marker::{Brand, Model};
+use std::sync::ledger::{Blank, Ledger};
 
 /// Lists a file, one item at a time.
 ///
@@ -302,8 +303,7 @@ impl<S: Store + Drop, A: Allocator + Copy> Lister<S, A> {
     /// Reads the memory of the dumped process from an address on, as far as the ranges that were given
     /// so far hold it. Where one holds an address, its byte is put into `out`, and `known` is true
     /// there; else both are 0 and false. After a fault of the store they may hold anything, and what
-    /// is listed stays as it was.
-    #[tactic(auto, using(crate::proofs::Fetches::told_caused, crate::proofs::Fetches::good_caused))]
+    /// is listed stays as it was. The searches are those of `read_address_counted`.
     pub fn read_address(
         &mut self,
         address: u64,
@@ -314,7 +314,44 @@ impl<S: Store + Drop, A: Allocator + Copy> Lister<S, A> {
         ensures cells { OnOk result (ReadsCells self.old.source.store.content self.old.ranges address out.new known.new) }
         ensures reads { ReadsAside (length out.new) result self.old self.new }
     {
-        read_addresses(&mut self.walk.meter, &self.map, address, out, known)
+        self.read_address_under::<Brand>(address, out, known, Blank::new(1))
+    }
+
+    /// Reads what `read_address` does, and counts a step for each range that it looks at: one search
+    /// finds the addresses that stand together from one on, so there are at most as many searches as
+    /// `out` has bytes.
+    #[tactic(auto, using(crate::proofs::Fetches::told_caused, crate::proofs::Fetches::good_caused))]
+    pub fn read_address_counted<G: Ledger>(
+        &mut self,
+        address: u64,
+        out: &mut [u8],
+        known: &mut [bool],
+        steps: &mut Steps<G>,
+    ) -> Result<(), SourceFault>
+        requires { length out.old ≡ length known.old }
+        ensures cells { OnOk result (ReadsCells self.old.source.store.content self.old.ranges address out.new known.new) }
+        ensures reads { ReadsAside (length out.new) result self.old self.new }
+        ensures looks { LooksUpAtMost self.old.ranges (length out.new) steps.old steps.new }
+    {
+        read_addresses(&mut self.walk.meter, &self.map, address, out, known, steps)
+    }
+
+    /// Reads memory under the ledger that the blank opens.
+    fn read_address_under<G: Ledger>(
+        &mut self,
+        address: u64,
+        out: &mut [u8],
+        known: &mut [bool],
+        blank: Blank,
+    ) -> Result<(), SourceFault>
+        requires same { length out.old ≡ length known.old }
+        requires name { blank.name ≡ G.name }
+        requires parts { blank.parts ≡ G.parts }
+        requires some { 0 < blank.parts }
+        ensures cells { OnOk result (ReadsCells self.old.source.store.content self.old.ranges address out.new known.new) }
+        ensures reads { ReadsAside (length out.new) result self.old self.new }
+    {
+        self.read_address_counted(address, out, known, &mut Steps::<G>::new(blank))
     }
 
     /// Fills `out` with the bytes of the file from the offset `at` on, which lie inside it (see

@@ -1,4 +1,7 @@
 //! What is read of the dumped process's memory.
+ghost use Rattle.std.specs.Prelude.{◌≡◌, ◌≤◌, ◌<◌, ◌+◌, ◌*◌, length};
+ghost use Rattle.mdmp_map.specs.Ranges.{AreSorted};
+
 use crate::given::{range, stream};
 use crate::same::assert_same;
 use crate::script::{
@@ -6,9 +9,21 @@ use crate::script::{
     reads, runs,
 };
 use mdmp_lister::{Choice, Limits, Lister, StopAt};
-use mdmp_source::{Extent, MemoryStore, PatchyStore, Source, SourceFault};
+use mdmp_map::Steps;
+use mdmp_source::{Extent, MemoryStore, PatchyStore, Source, SourceFault, Store};
 use mdmp_test_support::{MEMORY64, OVERLAPPING, file_of_numbers};
+use std::alloc::Global;
+use std::marker::Brand;
+use std::process::Abort;
+use std::sync::ledger::{Blank, Ledger};
 use std::test::Fail;
+
+/// Three sorted ranges, of which the second begins where the first one ends: ABCD, EFGH, IJ.
+const TOUCHING: [u32; 19] = [
+    5, 52, 44, 3, 0x1000, 0, 4, 96, 0x1004, 0, 4, 100, 0x100c, 0, 2, 104,
+    // and then their bytes
+    0x44434241, 0x48474645, 0x4a49,
+];
 
 #[test]
 fn nothing_is_known_before_a_range_is_given(rt: HostRuntime) -> Result<(), Fail> {
@@ -108,12 +123,18 @@ fn store_fault_of_a_read_changes_no_item(rt: HostRuntime) -> Result<(), Fail> {
 /// fetches.
 type Read<const N: usize> = ([u8; N], [bool; N], u128);
 
-/// Reads memory at an address of a file.
-fn read<const N: usize>(rt: &HostRuntime, file: &[u8], address: u64) -> Result<Read<N>, Fail> {
+/// A lister that has given all items of a file.
+fn listed<'a>(rt: &HostRuntime, file: &'a [u8]) -> Result<Lister<MemoryStore<'a>, Global>, Fail> {
     let source = Source::new(MemoryStore::new(file));
     let opened = Lister::open(rt.alloc(), source, Limits::default(), Choice::All);
     let mut lister = opened.map_err(|_| "open")?;
     let _ = lister.list_into(&mut StopAt::new(u64::MAX));
+    Ok(lister)
+}
+
+/// Reads memory at an address of a file.
+fn read<const N: usize>(rt: &HostRuntime, file: &[u8], address: u64) -> Result<Read<N>, Fail> {
+    let mut lister = listed(rt, file)?;
     let before = lister.counts().calls;
     let mut out = [0xee; N];
     let mut known = [address % 2 == 0; N];
@@ -140,13 +161,7 @@ fn each_stretch_of_bytes_is_one_fetch(rt: HostRuntime) -> Result<(), Fail> {
 
 #[test]
 fn touching_ranges_are_a_fetch_each_and_a_gap_is_none(rt: HostRuntime) -> Result<(), Fail> {
-    // Three sorted ranges, of which the second begins where the first one ends: ABCD, EFGH, IJ.
-    let numbers = [
-        5, 52, 44, 3, 0x1000, 0, 4, 96, 0x1004, 0, 4, 100, 0x100c, 0, 2, 104,
-        // and then their bytes
-        0x44434241, 0x48474645, 0x4a49,
-    ];
-    let file = file_of_numbers(rt.alloc(), 1, &numbers)?;
+    let file = file_of_numbers(rt.alloc(), 1, &TOUCHING)?;
     let known = [
         false, true, true, true, true, true, true, true, true, false, false, false, false, true,
         true, false,
@@ -165,6 +180,69 @@ fn touching_ranges_are_a_fetch_each_and_a_gap_is_none(rt: HostRuntime) -> Result
             2,
         ),
     );
+    Ok(())
+}
+
+/// Reads memory by three sorted ranges, at most two of which are looked at for each byte.
+fn read_among_three<S: Store + Drop, G: Ledger>(
+    lister: &mut Lister<S, Global>,
+    address: u64,
+    out: &mut [u8],
+    known: &mut [bool],
+    steps: &mut Steps<G>,
+) -> Result<(), SourceFault>
+    requires same { length out.old ≡ length known.old }
+    requires three { length lister.old.ranges ≡ 3 }
+    requires sorted { AreSorted lister.old.ranges }
+    ensures { steps.new ≤ steps.old + 2 * length out.new }
+{
+    lister.read_address_counted(address, out, known, steps)
+}
+
+/// The same under a ledger that nothing reads.
+fn read_under<S: Store + Drop, G: Ledger>(
+    lister: &mut Lister<S, Global>,
+    address: u64,
+    out: &mut [u8],
+    known: &mut [bool],
+    blank: Blank,
+) -> Result<(), SourceFault>
+    requires same { length out.old ≡ length known.old }
+    requires three { length lister.old.ranges ≡ 3 }
+    requires sorted { AreSorted lister.old.ranges }
+    requires name { blank.name ≡ G.name }
+    requires parts { blank.parts ≡ G.parts }
+    requires some { 0 < blank.parts }
+{
+    read_among_three(lister, address, out, known, &mut Steps::<G>::new(blank))
+}
+
+/// Reads memory at an address by a lister that has to have three ranges, sorted.
+fn read_counted<S: Store + Drop, const N: usize>(
+    rt: &impl Abort,
+    lister: &mut Lister<S, Global>,
+    address: u64,
+) -> Result<([u8; N], [bool; N]), SourceFault> {
+    assert!(rt; lister.map().len() == 3);
+    assert!(rt; lister.map().is_sorted());
+    let mut out = [0xee; N];
+    let mut known = [address % 2 == 0; N];
+    read_under::<S, Brand>(lister, address, &mut out, &mut known, Blank::new(1))?;
+    Ok((out, known))
+}
+
+#[test]
+fn counted_read_is_the_same(rt: HostRuntime) -> Result<(), Fail> {
+    let file = file_of_numbers(rt.alloc(), 1, &TOUCHING)?;
+    let mut lister = listed(&rt, &file)?;
+    let rows = [
+        (0xfff, (*b"\0ABC", [false, true, true, true])),
+        (0x1003, (*b"DEFG", [true; 4])),
+        (0x100b, (*b"\0IJ\0", [false, true, true, false])),
+    ];
+    for (address, expected) in rows {
+        assert_same(&rt, read_counted(&rt, &mut lister, address), Ok(expected));
+    }
     Ok(())
 }
 

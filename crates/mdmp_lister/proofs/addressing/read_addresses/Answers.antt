@@ -1,5 +1,6 @@
 use Rattle.std.proofs.Common.{◌≡◌, ◌+◌, ◌-◌, ◌∙◌, ℕ, None, arith, drop, inr, length, rules, subst, sym, take}
 use Rattle.std.specs.Prelude.{All}
+use borrow.Rule.Slice.PartMut.{put_mid}
 use Rattle.std.proofs.lemmas.List.{length-drop, length-take-le}
 use Rattle.std.proofs.lemmas.Option.{IfSome_then}
 use Rattle.mdmp_source.specs.SourceLaws.{fetches_then}
@@ -8,6 +9,7 @@ use Rattle.mdmp_lister.specs.Addressing.{IsStretch}
 use Rattle.mdmp_lister.specs.Meter.{BooksAside}
 use Rattle.mdmp_lister.specs.AddressLaws.{ReadsCells_next, ReadsCells_stretch}
 use Rattle.mdmp_lister.proofs.Fetches.{IsCaused_later}
+use Rattle.mdmp_lister.proofs.Looks.{looks_up_more, looks_up_then}
 use Rattle.mdmp_lister.proofs.addressing.read_addresses.Goals as goal
 
 pub read_stretch-requires-clause-inside : goal.read_stretch-requires-clause-inside
@@ -53,4 +55,15 @@ loop-done-preserved g c =
       };
       caused = IsCaused_later None done c.args.meter.now.source c.loop-done.meter.source c.read_stretch.new.meter.source before.books.fetches before.caused
           c.in_ok-read_stretch.ensures.reads.caused;
+      looks = looks_up_more c.args.map.now.ranges (done + 1) end c.args.steps.now c.stretch_at-stretch.new.steps (omega (arith, c.stretch_at-stretch.ensures.some))
+          (looks_up_then c.args.map.now.ranges done 1 c.args.steps.now c.loop-done.steps c.stretch_at-stretch.new.steps before.looks c.stretch_at-stretch.ensures.looks);
     }
+
+pub returns-in_err-read_stretch-clause-looks : goal.returns-in_err-read_stretch-clause-looks
+returns-in_err-read_stretch-clause-looks g c =
+    let done : ℕ = c.loop-done.done in
+    let count : ℕ = done + c.stretch_at-stretch.result.count - done in
+    let same : length (put_mid done count c.loop-done.out c.read_stretch.new.out) ≡ length c.loop-done.out =
+    search rules in
+    looks_up_more c.args.map.now.ranges (done + 1) _ c.args.steps.now c.stretch_at-stretch.new.steps (omega (arith, same, c.loop-done-test.true))
+    (looks_up_then c.args.map.now.ranges done 1 c.args.steps.now c.loop-done.steps c.stretch_at-stretch.new.steps c.loop-done.invariant.looks c.stretch_at-stretch.ensures.looks)

@@ -1,5 +1,5 @@
 use Rattle.std.proofs.Common.{◌≤◌, ◌-◌, None, length, take}
-use Rattle.mdmp_lister.specs.Addressing.{ReadsCells}
+use Rattle.mdmp_lister.specs.Addressing.{LooksUpAtMost, ReadsCells}
 use Rattle.mdmp_lister.specs.Meter.{BooksAside}
 use Rattle.mdmp_lister.specs.Fault.{IsCaused}
 use Rattle.mdmp_lister.proofs.addressing.read_addresses.Given as goal
@@ -11,6 +11,7 @@ invariant-loop-done g l = record {
   read : ReadsCells l.initial.meter.source.store.content l.map.ranges l.address (take l.done l.out) (take l.done l.known);
   books : BooksAside l.done l.initial.meter l.meter;
   caused : IsCaused None l.initial.meter.source l.meter.source;
+  looks : LooksUpAtMost l.map.ranges l.done l.initial.steps l.steps;
 }
 
 abbrev pub decreases-loop-done : goal.decreases-loop-done
