@@ -3,6 +3,8 @@
  * --wrap=malloc --wrap=realloc --wrap=free: refused DUMP.. */
 #include "fillers.h"
 
+#include <sys/resource.h>
+
 void *__real_malloc(size_t size);
 void *__real_realloc(void *block, size_t size);
 void __real_free(void *block);
@@ -13,10 +15,12 @@ void __wrap_free(void *block);
 static long allowed = -1; /* how many are still granted, or -1 for all */
 static long asked, live;
 static size_t largest; /* the greatest block that was asked for */
+static uint64_t total; /* and all of them together */
 
 static bool refuses(size_t size) {
     asked++;
     largest = size > largest ? size : largest;
+    total += size;
     if (allowed < 0) {
         return false;
     }
@@ -135,6 +139,39 @@ static void test_none(blob file) {
     free(ranges);
 }
 
+/* What a call that gives records takes it takes as the file is opened: a window, the directory, the ranges of memory and a
+ * name, each once, and no byte more than these are said to hold. */
+static void test_held(const filler *tried, blob file, uint8_t *out, size_t room) {
+    mdmp_header_record header;
+    mdmp_fault fault;
+    uint64_t ranges, count;
+    if (mdmp_header(file.bytes, file.size, &header, &fault) != MDMP_OK ||
+        mdmp_ranges(file.bytes, file.size, &LIMITS, NULL, 0, &ranges, &fault) == MDMP_FAULT) {
+        return;
+    }
+    asked = 0;
+    total = 0;
+    tried->call(file, out, room, &count, &fault);
+    ASSERT(asked <= 4);
+    ASSERT(total <= LIMITS.window + 12 * (uint64_t)header.number_of_streams + 24 * ranges + LIMITS.name);
+}
+
+/* A window that is far larger than the file is taken whole, and touched no further than it is filled. */
+static void test_touched(blob file) {
+    mdmp_limits wide = LIMITS;
+    struct rusage before, after;
+    mdmp_fault fault;
+    uint64_t count;
+    wide.window = 1 << 30;
+    largest = 0;
+    ASSERT(getrusage(RUSAGE_SELF, &before) == 0);
+    ASSERT(mdmp_modules(file.bytes, file.size, &wide, NULL, 0, &count, &fault) != MDMP_BAD_ARGUMENT);
+    ASSERT(getrusage(RUSAGE_SELF, &after) == 0);
+    ASSERT(file.size == 32 || largest == 1 << 30);
+    /* of 1,048,576 KiB, an eighth of which may be touched by a sanitizer */
+    ASSERT(after.ru_maxrss - before.ru_maxrss < 256 * 1024);
+}
+
 /* A part of a list takes no memory for the text: what is held is the same, however long the text is. */
 static void test_part(blob file) {
     uint8_t out[64];
@@ -163,8 +200,12 @@ int main(int argc, char **argv) {
             long refused = test_filler(tried, file, out, ROOM / tried->item);
             /* so that the test is seen to refuse something: a name may be of a file that has none */
             ASSERT(tried->takes_memory ? refused > 0 || tried->item == 1 || file.size == 32 : refused == 0);
+            if (tried->takes_memory && tried->item > 1) {
+                test_held(tried, file, out, ROOM / tried->item);
+            }
         }
         test_memory(file);
+        test_touched(file);
         test_part(file);
         test_none(file);
         free(file.bytes);
