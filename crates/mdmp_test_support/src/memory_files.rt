@@ -9,6 +9,17 @@ pub fn wide_file(alloc: Global) -> Result<Vec<u8>, AllocError> {
     MEMORY64.to_vec(alloc)
 }
 
+/// A file of 2,097,216 bytes with a memory list of one range of 2 MiB at 0x1000, whose bytes are the
+/// numbers from 0 on, four bytes each. It stands as it would be written.
+pub fn large_file(alloc: Global) -> Result<Vec<u8>, AllocError> {
+    let head = [5, 20, 44, 1, 0x1000, 0, 2_097_152, 64];
+    let mut bytes = file_of_numbers(alloc, 1, &head)?;
+    for number in 0..524_288u32 {
+        bytes.extend_from_slice(&number.to_le_bytes())?;
+    }
+    Ok(bytes)
+}
+
 /// A range of four bytes in a memory list: where it begins, and where they stand.
 #[derive(Clone, Copy)]
 pub struct FourByteRange {

@@ -6,7 +6,8 @@ use crate::watched::Watched;
 use linked_list_allocator::LocalHeap;
 use mdmp_source::{MemoryStore, PatchyStore, Source, SourceFault};
 use mdmp_test_support::{
-    ABSENT_STACK, CRASH, Room, SIX, entry, file_of_numbers, file_of_parts, header_of, system_file,
+    ABSENT_STACK, CRASH, Room, SIX, entry, file_of_numbers, file_of_parts, header_of, large_file,
+    system_file,
 };
 use mdmp_tool::{LayoutFault, Limits, PartName, ReadFault, ToolFault, copied};
 use std::cell::Cell;
@@ -65,6 +66,20 @@ fn stream_of_a_user_is_copied_as_its_bytes(rt: HostRuntime) -> Result<(), Fail> 
     let store = MemoryStore::new(&bytes);
     let wrote = copy_store(rt.alloc(), rt.alloc(), store, least(0)?, &[65536, 0], ALL)?;
     assert_wrote(&rt, 0, &wrote, Ok(60), &copy);
+    Ok(())
+}
+
+#[test]
+fn part_of_two_mebibytes_is_copied(rt: HostRuntime) -> Result<(), Fail> {
+    let large = large_file(rt.alloc())?;
+    let store = MemoryStore::new(&large);
+    let room = Room {
+        all: 3 << 20,
+        call: 65536,
+    };
+    let wrote = copy_store(rt.alloc(), rt.alloc(), store, least(0)?, &[5], room)?;
+    assert_same(&rt, wrote.answer, Ok(2_097_216));
+    assert!(rt; wrote.bytes == large);
     Ok(())
 }
 

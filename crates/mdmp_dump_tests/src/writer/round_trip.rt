@@ -5,7 +5,7 @@ use crate::same::assert_same;
 use linked_list_allocator::LocalHeap;
 use mdmp_dump::{Dump, ReadFault, Stream};
 use mdmp_lister::Limits;
-use mdmp_test_support::{CRASH, SIX, SYSTEM, file_of_numbers};
+use mdmp_test_support::{CRASH, SIX, SYSTEM, file_of_numbers, large_file};
 use mdmp_writer::{LayoutFault, RoundTripFault, ToMemoryFault, to_memory, write_and_read};
 use std::alloc::Allocator;
 use std::test::Fail;
@@ -44,6 +44,17 @@ fn dump_is_read_back(rt: HostRuntime) -> Result<(), Fail> {
     let stored = stored(rt.alloc(), &six)?;
     assert_same(&rt, stored.as_slice(), file.as_slice());
     assert_same(&rt, read_back(rt.alloc(), &six, NAMED, 18), Ok(six));
+    Ok(())
+}
+
+#[test]
+fn part_of_two_mebibytes_is_written_and_read_back(rt: HostRuntime) -> Result<(), Fail> {
+    let file = large_file(rt.alloc())?;
+    let large = read(rt.alloc(), &file, LEAST, 2_097_152)?;
+    let stored = stored(rt.alloc(), &large)?;
+    assert!(rt; stored.as_slice() == file.as_slice());
+    let back = read_back(rt.alloc(), &large, LEAST, 2_097_152)?;
+    assert!(rt; back == large);
     Ok(())
 }
 
