@@ -24,10 +24,13 @@ use Rattle.mdmp_lister.specs.Format.Item.{plain}
 use Rattle.mdmp_lister.specs.Format.Kind.{is_known}
 use Rattle.mdmp_lister.specs.Format.Listing.{Numbered, Run, chosen_from, count_listed, entry_of, listing_sought, only_chosen, records_told, stream_item}
 use Rattle.mdmp_lister.specs.Format.Shape.{record_count}
-use Rattle.mdmp_lister.specs.Lister.{IsSameLister, ListerState, is_of_source, tail}
+use Rattle.mdmp_lister.specs.FaultLaws.{follows_fits}
+use Rattle.mdmp_lister.specs.Lister.{IsSameLister, ListerState, cursor_in, is_of_source, tail}
 use Rattle.mdmp_lister.specs.Stage.{stop_after}
 use Rattle.mdmp_lister.specs.Walk.Paying.{entry_cost, entry_cost_by}
-use Rattle.mdmp_lister.specs.Walker.{CountsRecords, GivesEntry, IsSought, IsSoughtAt, StepLeaves, TellsAnswer, WalkerLeaves, WalkerState, is_failed, records_answer}
+use Rattle.mdmp_lister.specs.Following.{Standing}
+use Rattle.mdmp_lister.specs.Step.{TellsAnswer}
+use Rattle.mdmp_lister.specs.Walker.{CountsRecords, GivesEntry, IsSought, IsSoughtAt, StepLeaves, WalkerLeaves, WalkerState, is_failed, records_answer, seeks}
 use Rattle.mdmp_dump.specs.declared.fault.ReadFault.TheVariants as faults
 use Rattle.mdmp_dump.specs.EntryWalk.{Begins, IsSameWalk, Pays, WalkState, entry_at, listed, numbered}
 use Rattle.mdmp_dump.specs.Left.{left_from, run_of}
@@ -118,15 +121,15 @@ pub record IsAtEntry (x : Numbered) (old new : WalkerState) : Type 0 where
       → new.list.left ≡ Some (left_from F 0 x 0 (chosen_from F old.list.choice (x.number + 1)))
 
 -- a walker for which an entry is sought
-abbrev sought_state : WalkerState → ℕ → Option Run → Option (Option ListFault) → ℕ → ℕ → ℕ → WalkerState
-sought_state old number left stop unread records work = record {
-  list = record old.list { left = left; stop = stop; unread = unread; records = records; work = work };
+abbrev sought_state : WalkerState → ℕ → Option Run → Option (Option ListFault) → ℕ → Standing → ℕ → ℕ → WalkerState
+sought_state old number left stop unread standing records work = record {
+  list = record old.list { left = left; stop = stop; unread = unread; standing = standing; records = records; work = work };
   position = Sought number;
   mark = old.mark;
 }
 
 sought_is : (old mid : WalkerState) (number : ℕ) → IsSought number old mid → mid.position ≡ Sought number
-    → mid ≡ sought_state old number mid.list.left mid.list.stop mid.list.unread mid.list.records mid.list.work
+    → mid ≡ sought_state old number mid.list.left mid.list.stop mid.list.unread mid.list.standing mid.list.records mid.list.work
 sought_is old mid number is at = λ i. record { list = is.same i; position = at i; mark = is.mark i }
 
 -- all that the entry gives begins with its Stream item
@@ -136,10 +139,10 @@ sought_tail F x xs is =
     ap (λ (e : Entry). tail (run_of F 0 (record { number = x.number; entry = e } ∷ xs))) (sym is) ∙ ap tail (begun F 0 x xs)
 
 module _ (x : Numbered) (old : WalkerState) (kept : IsKept old) (new : WalkerState) where
-  given_at : (left : Option Run) (stop : Option (Option ListFault)) (unread records work : ℕ)
+  given_at : (left : Option Run) (stop : Option (Option ListFault)) (unread : ℕ) (standing : Standing) (records work : ℕ)
       → left ≡ option_map (λ file. listing_sought file old.list.choice old.list.limit x.number) old.list.source.store.content
-      → WalkerLeaves (sought_state old x.number left stop unread records work) (Ok (Some (stream_item x))) new → IsAtEntry x old new
-  given_at left stop unread records work sought leaves =
+      → WalkerLeaves (sought_state old x.number left stop unread standing records work) (Ok (Some (stream_item x))) new → IsAtEntry x old new
+  given_at left stop unread standing records work sought leaves =
       let l = leaves.list in
       let names : new.list.counts.names ≡ old.list.counts.names = omega (arith, l.names) in
       record {
@@ -188,7 +191,7 @@ module _ (number : ℕ) (e : Entry) (old mid new : WalkerState) (at : slice_get 
         let other : gives.0 ≡ e = let there : slice_get old.list.entries number ≡ Some gives.0 = ap (λ (es : List Entry). slice_get es number) (sym entries_same) ∙ gives.1.0 in cc (at, there) in
         let is : item ≡ stream_item x = plain_stream item _ (gives.1.1 ∙ ap (λ (d : Entry). stream_item (record { number = number; entry = d })) other) in
         let state = sought_is old mid number sought goes.position in
-        given_at x old kept new mid.list.left mid.list.stop mid.list.unread mid.list.records mid.list.work goes.left
+        given_at x old kept new mid.list.left mid.list.stop mid.list.unread mid.list.standing mid.list.records mid.list.work goes.left
         (subst (λ (m : WalkerState). WalkerLeaves m (Ok (Some (stream_item x))) new) state (subst (λ (i : Item). WalkerLeaves mid (Ok (Some i)) new) is leaves))
     given_by (Ok None) leaves gives = absurd gives
     given_by (Err f) leaves gives = absurd gives
@@ -390,6 +393,7 @@ module _ (x : Numbered) (old mid new : WalkerState) (kept : IsKept old) (at : Is
               ap (record_count F) (counts.current ∙ at.current) ∙ count_is F before ∙ ap Ok (sym all),
             ),
           );
+      unsought = λ some. ap seeks (counts.position ∙ at.position);
     }
 
   module _ (f : ListFault) (counts : CountsRecords mid (Err f) new) (answered : (file : List ℕ) → mid.list.source.store.content ≡ Some file → IsAnsweredFor (records_answer file mid) (Err f)) where
@@ -404,7 +408,7 @@ module _ (x : Numbered) (old mid new : WalkerState) (kept : IsKept old) (at : Is
         fetches = record { count = _; fetches = counts.fetches };
         told = last_told mid.list.current f.kind mid.list.source new.list.source (counts.told at.stop).0.by counts.unchanged;
         good = λ file good. no_store_fault f.kind (counts.good file good);
-        refusal = tt;
+        refusal = follows_fits mid.list.choice mid.list.entries mid.list.source.size mid.list.limit (cursor_in mid.list) f (cursor_in new.list) (counts.follows at.stop);
       });
       told = (f, refl);
       failed = ap ended_with counts.stop;

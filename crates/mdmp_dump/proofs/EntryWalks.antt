@@ -48,6 +48,7 @@ module _ (old : WalkerState) (source : SourceState) (counts : MeterCounts) (n : 
     within = rw spends.same_names is.kept.within;
     spent = rw (spends.same_names, spends.same_fetched, fetches.same_size) is.kept.spent;
     of_file = λ F known. is.kept.of_file F (sym fetches.same_content ∙ known);
+    unsought = is.kept.unsought;
   }
 
   stands_aside : IsStanding aside_state place far

@@ -162,6 +162,7 @@ module _ (Z : Type 0) (limit : ℕ) (w : WalkState) (counts rooms : List ℕ) (p
       light = light_then;
       passing = λ p none. absurd (let some = none in cc);
       paid = paid;
+      bare = is.bare;
       of_file = viewed_then;
       pass_of = λ F p known none. absurd (let some = none in cc);
       ended = λ told ended. (ended_then told ended, refl);
@@ -182,6 +183,7 @@ module _ (Z : Type 0) (limit : ℕ) (w : WalkState) (counts rooms : List ℕ) (p
       light = light_then;
       passing = λ p some. subst (λ (r : Pass). IsPass v r) (let h = some in cc) passing;
       paid = paid;
+      bare = is.bare;
       of_file = viewed_then;
       pass_of = λ F p known some. subst (λ (r : Pass). IsPassOf Z F limit v r) (let h = some in cc) (of_file F known);
       ended = λ told ended. absurd (let none = going_then in cc);
@@ -411,6 +413,7 @@ module _ (Z : Type 0) (limit : ℕ) (w : WalkState) (counts rooms : List ℕ) (p
       light = light_then Z limit w counts rooms pass passed asked last is v read_same;
       passing = read_passing;
       paid = read_paid;
+      bare = is.bare;
       of_file = viewed_then Z limit w counts rooms pass passed asked last is v read_same;
       pass_of = λ F q known some. read_pass_of F q (content_before w v read_same F known) some;
       ended = λ told ended. absurd (let none = still_going in cc);

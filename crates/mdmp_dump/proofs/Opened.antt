@@ -1,7 +1,7 @@
 -- What the opening of a file tells of the dump that it lays out.
-use Rattle.std.proofs.Common.{◌≡◌, ◌≤◌, ◌*◌, ℕ, List, length, Option, Some, None, Err, Bool, true, false, nat_lt, if◌then◌else◌, arith, ltb-false, refl}
+use Rattle.std.proofs.Common.{◌≡◌, ◌≤◌, ◌*◌, ℕ, List, length, Option, Some, None, Err, Bool, true, false, nat_lt, if◌then◌else◌, arith, ltb-false, refl, subst}
 use Rattle.std.proofs.lemmas.Grind.{common_steps}
-use Rattle.std.specs.Prelude.{IsTrue}
+use Rattle.std.specs.Prelude.{IfSome, IsTrue, Ok, Result}
 use Rattle.mdmp_source.specs.Range.{is_inside}
 use Rattle.mdmp_source.specs.Source.{SourceState, FetchesAtMost}
 use Rattle.mdmp_source.specs.Store.{IsGood}
@@ -16,7 +16,11 @@ use Rattle.mdmp_lister.specs.Format.Listing.{entry_count}
 use Rattle.mdmp_lister.specs.Format.Refusal.{behind_directory, behind_header, directory_fault, directory_refusal, opening_fault}
 use Rattle.mdmp_lister.specs.Opening.{IsDirectoryRefusal, IsOpenRefusal, IsRefusalOf, IsUnread, IsUnreadFor}
 use Rattle.mdmp_dump.specs.FileRefusal.{view_refusal}
-use Rattle.mdmp_dump.specs.Reading.{Fetches, IsOwn, refusal_of}
+use Rattle.mdmp_dump.specs.declared.fault.ReadFault.{ReadFault}
+use Rattle.mdmp_dump.specs.declared.fault.ReadFault.TheVariants as faults
+use Rattle.mdmp_dump.specs.Reading.{Fetches, IsLastTold, IsOwn, MayBeTold, TellsOf, refusal_of, store_fault}
+use Rattle.mdmp_source.specs.declared.fault.SourceFault.{SourceFault}
+use Rattle.mdmp_source.specs.declared.fault.SourceFault.TheVariants.{Changed}
 use Rattle.mdmp_dump.specs.Refusal.{read_refusal}
 use Rattle.mdmp_dump.proofs.Budget.{Fetches-read}
 use Rattle.mdmp_dump.proofs.Taking.{Fetches_memory}
@@ -81,3 +85,37 @@ opening-fetches {T = T} n (opening.Source fault) old new fetches cause good refu
     record { fetches = read.fetches; told = read.told; good = read.good; refusal = refusal }
 opening-fetches n opening.Memory old new fetches cause good refusal = Fetches_memory old new (record { count = n; fetches = fetches })
 opening-fetches n fault old new fetches cause good refusal = record { fetches = record { count = n; fetches = fetches }; told = tt; good = λ file is. refl; refusal = refusal }
+
+-- ---- what is told of whatever file
+
+last_may : (fault : SourceFault) (old new : SourceState) → IsLastTold fault old new → MayBeTold old.store.content (Some fault)
+last_may (Changed at) old new told = told
+last_may _ old new told = tt
+
+changed_may : (fault : Option SourceFault) (old new : SourceState) → IfSome fault (λ told. IsLastTold told old new) → MayBeTold old.store.content fault
+changed_may None old new told = tt
+changed_may (Some fault) old new told = last_may fault old new told
+
+-- where no file that is refused so is told as wanting memory
+pub tells_of : {T : Type 0} (fault : ReadFault) (old new : SourceState) → Fetches {T = T} (Err fault) old new
+    → (fault ≡ faults.Memory → (file : List ℕ) → old.store.content ≡ Some file → directory_refusal file ≡ None) → TellsOf old.store.content fault
+tells_of fault old new fetches memory = record { memory = memory; changed = changed_may (store_fault fault) old new fetches.told }
+
+wants_memory : (fault : OpenFault) → refusal_of fault ≡ faults.Memory → fault ≡ opening.Memory
+wants_memory opening.Memory is = refl
+wants_memory (opening.Source fault) is = absurd (cc)
+wants_memory (opening.TooShort size) is = absurd (cc)
+wants_memory opening.BadSignature is = absurd (cc)
+wants_memory (opening.BadVersion low) is = absurd (cc)
+wants_memory (opening.DirectoryOutside offset size) is = absurd (cc)
+wants_memory (opening.TooManyRanges count) is = absurd (cc)
+
+pub wants_behind : (F : List ℕ) (choice : Choice) (fault : OpenFault) → IsRefusalOf F choice fault → refusal_of fault ≡ faults.Memory → directory_refusal F ≡ None
+wants_behind F choice fault of is = subst (λ (f : OpenFault). IsRefusalOf F choice f) (wants_memory fault is) of
+
+-- and so where no ranges are counted
+pub wants_bare : (F : List ℕ) (fault : OpenFault) → IsDirectoryRefusal F fault → refusal_of fault ≡ faults.Memory → directory_refusal F ≡ None
+wants_bare F fault of is = subst (λ (f : OpenFault). IsDirectoryRefusal F f) (wants_memory fault is) of
+
+pub opened_behind : (F : List ℕ) (choice : Choice) → opening_fault F choice ≡ None → directory_refusal F ≡ None
+opened_behind F choice none = directory-opens F choice (directory_refusal F) none

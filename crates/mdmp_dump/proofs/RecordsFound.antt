@@ -34,11 +34,12 @@ use Rattle.mdmp_lister.specs.Format.Listing.{Numbered, Run, items_from, joined, 
 use Rattle.mdmp_lister.specs.Format.Ranges.{IsPlacedIn, IsRangeIn}
 use Rattle.mdmp_lister.specs.Format.Shape.{known_count, location_fault, record_count, records_in, shape_of}
 use Rattle.mdmp_lister.specs.Format.Summary.{Summary, number_behind, entry_begun, summary_of}
+use Rattle.mdmp_lister.specs.FaultLaws.{next_fits}
 use Rattle.mdmp_lister.specs.Lister.{IsSameLister, tail}
 use Rattle.mdmp_lister.specs.Meter.{Moves}
 use Rattle.mdmp_lister.specs.Walk.Paying.{entry_cost}
-use Rattle.mdmp_lister.specs.Walk.Positions.{mark_by}
-use Rattle.mdmp_lister.specs.Walker.{IsSpentSince, WalkerLeaves, WalkerState}
+use Rattle.mdmp_lister.specs.Walk.Positions.{mark_by, position_by}
+use Rattle.mdmp_lister.specs.Walker.{IsSpentSince, WalkerLeaves, WalkerState, is_sought, seeks}
 use Rattle.mdmp_dump.specs.declared.fault.ReadFault.{ReadFault}
 use Rattle.mdmp_dump.specs.declared.fault.ReadFault.TheVariants as faults
 use Rattle.mdmp_dump.specs.declared.found_record.FoundRecord.{FoundRecord}
@@ -260,6 +261,7 @@ pub record Stays (old new : WalkerState) : Type 0 where
   pub counts : Moves 1 old.list.counts new.list.counts
   pub spent : IsSpentSince old new.list.counts
   pub nameless : HasNoNames (kind_of old.list.current.stream_type) → new.list.counts.names ≡ old.list.counts.names
+  pub unsought : is_sought new ≡ false
 
 pub stays_record : (old new : WalkerState) (item : Item) → (summary_of item).stream ≡ None → WalkerLeaves old (Ok (Some item)) new → Stays old new
 stays_record old new item none leaves = record {
@@ -271,6 +273,7 @@ stays_record old new item none leaves = record {
   counts = leaves.list.counts;
   spent = leaves.spent;
   nameless = leaves.nameless;
+  unsought = ap seeks (leaves.position ∙ ap position_by none);
 }
 
 pub stays_fault : (old new : WalkerState) (f : ListFault) → WalkerLeaves old (Err f) new → Stays old new
@@ -283,6 +286,7 @@ stays_fault old new f leaves = record {
   counts = leaves.list.counts;
   spent = leaves.spent;
   nameless = leaves.nameless;
+  unsought = ap seeks leaves.position;
 }
 
 module _ (old new : WalkerState) (kept : IsKept old) (stays : Stays old new) where
@@ -323,6 +327,7 @@ module _ (old new : WalkerState) (kept : IsKept old) (stays : Stays old new) whe
         let most = paid_by old.list.limit new.list.counts.fetched (old.mark.fetched + entry_cost old.list.source.size old.list.current) old.mark.names new.list.counts.names kept.limit (stays.spent few) within in
         omega (arith, most, cost_same, mark_fetched, mark_names);
     of_file = left;
+    unsought = λ some. stays.unsought;
   }
 
 -- ---- a record
@@ -356,6 +361,7 @@ places_of_walk fault is = tt
 
 places_refused : (size : ℕ) (fault : ReadFault) → IsOfPlaces fault → IsReadRefusal size fault
 places_refused size (faults.Opening f) is = absurd is
+places_refused size (faults.List f) is = absurd is
 places_refused size fault is = tt
 
 module _ (old new : WalkerState) (kept : IsKept old) (left : 0 < left_of old.list) (item : Item) (leaves : WalkerLeaves old (Ok (Some item)) new) where
@@ -518,7 +524,7 @@ module _ (old new : WalkerState) (kept : IsKept old) (left : 0 < left_of old.lis
           fetches = stays.fetches;
           told = last_told old.list.current f.kind old.list.source new.list.source (leaves.list.told going).by leaves.unchanged;
           good = λ F is. no_store_fault f.kind (good F is);
-          refusal = tt;
+          refusal = next_fits old.list f new.list (leaves.follows going (kept.unsought left));
         };
         failed = ap ended_with leaves.list.stop;
       }

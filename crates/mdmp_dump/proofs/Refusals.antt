@@ -22,7 +22,7 @@ use Rattle.mdmp_dump.specs.declared.found_record.FoundRecord.{FoundRecord}
 use Rattle.mdmp_dump.specs.EntryWalk.{FindsRow, IsRowFound, no_entry}
 use Rattle.mdmp_dump.specs.FileRefusal.{IsOfWalk, IsViewRefusal, body_told, entry_told, first_told, opened_told, run_told, view_refusal}
 use Rattle.mdmp_dump.specs.Left.{body_from, records_from, run_of, shaped_from}
-use Rattle.mdmp_dump.specs.Reading.{IsOwn, refusal_of}
+use Rattle.mdmp_dump.specs.Reading.{IsOwn, IsReadRefusal, refusal_of}
 use Rattle.mdmp_dump.specs.Refusal.{Step, Refuse, Take, item_steps}
 use Rattle.mdmp_dump.specs.Seen.{Seen, nothing_seen}
 use Rattle.mdmp_dump.proofs.Left.{body_from-all, body_from-shaped}
@@ -253,6 +253,7 @@ bare_refusal size opening.Memory is = tt
 bare_refusal size fault is = is
 
 -- and one that was refused
-pub walk_refusal : (size : ℕ) (fault : ReadFault) → IsOfWalk fault → IsViewRefusal size fault
-walk_refusal size (faults.Opening f) is = absurd is
-walk_refusal size fault is = is
+pub walk_refusal : (size : ℕ) (fault : ReadFault) → IsOfWalk fault → IsReadRefusal size fault → IsViewRefusal size fault
+walk_refusal size (faults.Opening f) is fits = absurd is
+walk_refusal size (faults.List f) is fits = fits
+walk_refusal size fault is fits = is

@@ -1,8 +1,15 @@
 -- Steps that are taken one after another.
-use Rattle.std.proofs.Common.{◌≡◌, ◌∙◌, ◌+◌, ℕ, List, [], ◌++◌, Option, Some, None, Result, Ok, Err, ap, append_assoc, refl, subst, sym}
+use Rattle.std.proofs.Common.{◌≡◌, ◌∙◌, ◌+◌, ℕ, List, [], ◌∷◌, ◌++◌, Option, Some, None, Result, Ok, Err, ap, append_assoc, refl, subst, sym}
 use Rattle.std.specs.Prelude.{IfSome}
 use Rattle.mdmp_source.specs.Source.{SourceState, FetchesSome}
 use Rattle.mdmp_source.specs.SourceLaws.{fetches_then, told_later}
+use Rattle.mdmp_source.specs.Store.{IsGood}
+use Rattle.mdmp_wire.specs.declared.entry.Entry.{Entry}
+use Rattle.mdmp_lister.specs.declared.fault.FaultKind.{FaultKind}
+use Rattle.mdmp_lister.specs.declared.fault.FaultKind.TheVariants as kinds
+use Rattle.mdmp_lister.specs.declared.fault.ListFault.{ListFault}
+use Rattle.mdmp_lister.specs.Fault.{IsOfSource, IsToldBy, IsToldIn}
+use Rattle.mdmp_lister.specs.Following.{FitsFile}
 use Rattle.mdmp_source.specs.declared.fault.SourceFault.{SourceFault}
 use Rattle.mdmp_source.specs.declared.fault.SourceFault.TheVariants.{Failed, ShortRead, Changed}
 use Rattle.mdmp_lister.proofs.Fetches.{FetchesAtMost-none, IsGood-later}
@@ -12,8 +19,12 @@ use Rattle.mdmp_lister.specs.declared.item.Item.{Item}
 use Rattle.mdmp_lister.specs.declared.kind.Kind.{Kind}
 use Rattle.mdmp_dump.specs.declared.reader.Reader.{Reader}
 use Rattle.mdmp_dump.specs.declared.row.Found.{Found}
-use Rattle.mdmp_dump.specs.Reading.{Fetches, IsLastTold, IsReadRefusal, IsRowRead, Settles, Takes, store_fault}
-use Rattle.mdmp_dump.specs.Refusal.{Step, first_refusal}
+use Rattle.mdmp_dump.specs.Reading.{Fetches, IsLastTold, IsReadRefusal, IsRowRead, IsToldOf, Settles, Takes, name_steps_of, store_fault, store_fault_in}
+use Rattle.mdmp_dump.specs.Refusal.{Refuse, Step, first_refusal, name_steps}
+use Rattle.mdmp_dump.specs.declared.reader.Told.{Told}
+use Rattle.mdmp_lister.specs.declared.item.Item.TheVariants as items
+use Rattle.mdmp_lister.specs.declared.name.Name.{Name}
+use Rattle.mdmp_lister.specs.declared.name.Name.TheVariants.{Long}
 
 -- ---- fetches
 
@@ -44,6 +55,49 @@ Fetches_memory a b some = record { fetches = some; told = tt; good = λ file goo
 -- a fault where another type of answer was asked for
 pub Fetches_as : {T U : Type 0} (fault : ReadFault) (a b : SourceState) → Fetches {T = T} (Err fault) a b → Fetches {T = U} (Err fault) a b
 Fetches_as fault a b told = record { fetches = told.fetches; told = told.told; good = told.good; refusal = told.refusal }
+
+-- the fault of a listing
+told_last : (e : Entry) (kind : FaultKind) (a b : SourceState) → IsToldBy e kind a b → IfSome (store_fault_in kind) (λ of_store. IsLastTold of_store a b)
+told_last e (kinds.Source (Changed at)) a b told = told.0
+told_last e (kinds.Source (Failed at)) a b told = told
+told_last e (kinds.Source (ShortRead at)) a b told = told
+told_last e kind a b told = tt
+
+none_of_store : (kind : FaultKind) → (IsOfSource kind → ⊥) → store_fault_in kind ≡ None
+none_of_store (kinds.Source fault) never = absurd (never tt)
+none_of_store kind never = refl
+
+pub Fetches_listed : {T : Type 0} (e : Entry) (f : ListFault) (a b : SourceState) → FetchesSome a b → IsToldIn e f a b
+    → ((file : List ℕ) → IsGood a.store file → IsOfSource f.kind → ⊥) → FitsFile a.size f → Fetches {T = T} (Err (faults.List f)) a b
+Fetches_listed e f a b some told good fits = record {
+  fetches = some;
+  told = told_last e f.kind a b told.by;
+  good = λ file is. none_of_store f.kind (good file is);
+  refusal = fits;
+}
+
+-- an item is refused for the length of its name alone
+long_only : (size e k : ℕ) (name : Name) (fault : ReadFault) → name_steps e k name ≡ Refuse fault ∷ [] → (store_fault fault ≡ None) × IsReadRefusal size fault
+long_only size e k (Long bytes) fault is =
+    let same : faults.NameTooLong e k bytes ≡ fault = cc in subst (λ (f : ReadFault). (store_fault f ≡ None) × IsReadRefusal size f) same (refl, tt)
+long_only size e k _ fault is = absurd (cc)
+
+name_only : (size : ℕ) (item : Item) (fault : ReadFault) → name_steps_of item ≡ Refuse fault ∷ [] → (store_fault fault ≡ None) × IsReadRefusal size fault
+name_only size (items.Module x) fault is = long_only size x.entry x.index x.name fault is
+name_only size (items.Unloaded x) fault is = long_only size x.entry x.index x.name fault is
+name_only size (items.System x) fault is = long_only size x.entry x.index x.name fault is
+name_only size _ fault is = absurd (cc)
+
+module _ {X Z : Type 0} (told : Item → Option (Found X)) (item : Item) (a b : SourceState) (some : FetchesSome a b) where
+  refused : (fault : ReadFault) → name_steps_of item ≡ Refuse fault ∷ [] → Fetches {T = Told X Z} (Err fault) a b
+  refused fault is =
+      let of = name_only a.size item fault is in
+      record { fetches = some; told = rw (of.0) tt; good = λ file good. of.0; refusal = of.1 }
+
+  pub Fetches_told : (result : Result (Told X Z) ReadFault) → IsToldOf told item result → Fetches result a b
+  Fetches_told (Ok x) of = Fetches_only x a b some
+  Fetches_told (Err faults.Memory) of = Fetches_memory a b some
+  Fetches_told (Err fault) of = refused fault of.1
 
 -- fetches without a fault, and then more
 module _ {T : Type 0} (a b c : SourceState) (first : FetchesSome a b) where

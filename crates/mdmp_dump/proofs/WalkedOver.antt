@@ -1,5 +1,5 @@
 -- A file that is walked over as a view of it is opened.
-use Rattle.std.proofs.Common.{◌≡◌, ◌∙◌, ◌<◌, ◌≤◌, ◌+◌, ◌*◌, ◌^◌, ℕ, List, [], ◌∷◌, ◌++◌, length, get_or, take, Some, None, Result, Ok, Err, ap, arith, inl, inr, refl, subst, sym, sum, length-append}
+use Rattle.std.proofs.Common.{◌≡◌, ◌∙◌, ◌<◌, ◌≤◌, ◌+◌, ◌*◌, ◌^◌, ℕ, zero, suc, List, [], ◌∷◌, ◌++◌, length, get_or, take, Some, None, Result, Ok, Err, ap, arith, inl, inr, refl, subst, sym, sum, length-append}
 use Rattle.std.proofs.lemmas.Bool.{cases_lt}
 use Rattle.std.proofs.lemmas.List.{get_or_append_left, get_or_push}
 use Rattle.mdmp_lister.specs.Format.Listing.{Numbered}
@@ -10,7 +10,7 @@ use Rattle.mdmp_dump.specs.declared.view.Fields.{Fields}
 use Rattle.mdmp_dump.specs.EntryWalk.{Begins, FindsRow, GivesNext, IsSameWalk, Pays, WalkState, entry_at, listed, name_cost, no_entry, pass_cost}
 use Rattle.mdmp_dump.specs.FileRefusal.{body_told, entry_told, run_told}
 use Rattle.mdmp_dump.specs.Left.{run_of}
-use Rattle.mdmp_dump.specs.FileView.{AreWalked, HasWalked, PaysAll, PaysSome, PaysUpTo, costs_in, count_in, room_told, stream_of}
+use Rattle.mdmp_dump.specs.FileView.{AreBare, AreWalked, HasWalked, PaysAll, PaysSome, PaysUpTo, costs_in, count_in, room_told, stream_of}
 use Rattle.mdmp_dump.specs.FoundRecord.{fields_of}
 use Rattle.mdmp_dump.specs.InFile.{stream_named}
 use Rattle.mdmp_dump.specs.Placed.{far_room, fields_room}
@@ -58,6 +58,7 @@ pub record IsWalking (Z : Type 0) (limit : ℕ) (old : WalkState) (k count : ℕ
   pub left : index + now.left ≡ count
   pub few : count < 2 ^ 32
   pub going : now.failed ≡ None
+  pub bare : index ≡ 0 → room ≡ 0
   pub of_file : (F : List ℕ) → old.source.store.content ≡ Some F → IsWalkedTo Z F limit (entry_at old k) count index room
 
 no_more : (cost : ℕ) → 0 ≡ 0 * cost
@@ -74,6 +75,7 @@ module _ (Z : Type 0) (limit : ℕ) (old : WalkState) (k : ℕ) where
     left = omega (arith, begins.begun.1);
     few = begins.begun.2;
     going = begins.failed;
+    bare = λ none. refl;
     of_file = λ F known. record {
       counted = begins.of_file F known;
       quiet = entry_begins F limit (entry_at old k);
@@ -123,6 +125,7 @@ module _ (Z : Type 0) (limit : ℕ) (old : WalkState) (k : ℕ) where
           left = omega (arith, walking.left, gives.goes.1);
           few = walking.few;
           going = gives.failed;
+          bare = λ none. absurd (omega (arith, none));
           of_file = λ F known.
               let of = walking.of_file F known in
               let row = row_next (Ok f) gives F known in
@@ -167,7 +170,16 @@ pub record AreWalking (Z : Type 0) (limit : ℕ) (old now : WalkState) (counts r
   pub counted : length counts ≡ k
   pub roomed : length rooms ≡ k
   pub going : now.failed ≡ None
+  pub bare : AreBare counts rooms
   pub of_file : (F : List ℕ) → old.source.store.content ≡ Some F → AreWalked Z F limit old counts rooms
+
+bare_push : (ns rs : List ℕ) (n r : ℕ) → length rs ≡ length ns → AreBare ns rs → (n ≡ 0 → r ≡ 0) → AreBare (ns ++ n ∷ []) (rs ++ r ∷ [])
+bare_push [] [] n r same each last zero = last
+bare_push [] [] n r same each last (suc k) = λ none. refl
+bare_push [] (s ∷ rs) n r same each last k = absurd (omega (arith, same))
+bare_push (m ∷ ns) [] n r same each last k = absurd (omega (arith, same))
+bare_push (m ∷ ns) (s ∷ rs) n r same each last zero = each zero
+bare_push (m ∷ ns) (s ∷ rs) n r same each last (suc k) = bare_push ns rs n r (omega (arith, same)) (λ i. each (suc i)) last k
 
 none_cost_sum : (xs : List Numbered) → sum (costs_in xs []) ≡ 0
 unfolding costs_in
@@ -202,6 +214,7 @@ module _ (Z : Type 0) (limit : ℕ) (old : WalkState) where
     counted = refl;
     roomed = refl;
     going = going;
+    bare = λ k none. refl;
     of_file = λ F known. record {
       counted = λ k inside. absurd (let h : k < 0 = inside in omega (arith, h));
       roomed = λ k inside. absurd (let h : k < 0 = inside in omega (arith, h));
@@ -235,15 +248,16 @@ module _ (Z : Type 0) (limit : ℕ) (old : WalkState) where
     entry_here : entry_at now k ≡ entry_at old (length counts)
     entry_here = entry_now ∙ ap (entry_at old) (sym walking.counted)
 
-    pub one_walked : (n r : ℕ) → Pays (listed (entry_at now k).entry) (n * name_cost (entry_at now k).entry.stream_type) now next → next.failed ≡ None
+    pub one_walked : (n r : ℕ) → Pays (listed (entry_at now k).entry) (n * name_cost (entry_at now k).entry.stream_type) now next → next.failed ≡ None → (n ≡ 0 → r ≡ 0)
         → ((F : List ℕ) → now.source.store.content ≡ Some F → HasWalked Z F limit now k (Ok (record { count = n; room = r }))) → (counts_new rooms_new : List ℕ) → counts_new ≡ counts ++ n ∷ [] → rooms_new ≡ rooms ++ r ∷ []
         → AreWalking Z limit old next counts_new rooms_new (k + 1)
-    one_walked n r pays going of counts_new rooms_new pushed also =
+    one_walked n r pays going bare of counts_new rooms_new pushed also =
         record {
           pays = one_pays n pays counts_new pushed;
           counted = ap (λ (ns : List ℕ). length ns) pushed ∙ length-append counts (n ∷ []) ∙ ap (λ (i : ℕ). i + 1) walking.counted;
           roomed = ap (λ (ns : List ℕ). length ns) also ∙ length-append rooms (r ∷ []) ∙ ap (λ (i : ℕ). i + 1) walking.roomed;
           going = going;
+          bare = rw (pushed, also) (bare_push counts rooms n r (walking.roomed ∙ sym walking.counted) walking.bare bare);
           of_file = λ F known.
               let before = walking.of_file F known in
               let one = of F (file_now F known) in

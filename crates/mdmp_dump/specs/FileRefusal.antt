@@ -3,6 +3,8 @@
 use Rattle.std.specs.Prelude.{ℕ, ◌+◌, List, [], ◌∷◌, length, Option, Some, None, option_map, flat_map}
 use Rattle.mdmp_lister.specs.declared.choice.Choice.{Choice}
 use Rattle.mdmp_lister.specs.declared.fault.OpenFault.{OpenFault}
+use Rattle.mdmp_lister.specs.declared.fault.OpenFault.TheVariants as opening
+use Rattle.mdmp_lister.specs.Following.{FitsFile}
 use Rattle.mdmp_lister.specs.Format.Listing.{Numbered, Run, entry_listing, listing}
 use Rattle.mdmp_lister.specs.Format.Refusal.{directory_refusal}
 use Rattle.mdmp_lister.specs.Opening.{IsBareRefusal}
@@ -49,9 +51,11 @@ IsOfWalk (faults.Opening fault) = ⊥
 IsOfWalk (faults.PartsTooLarge e k) = ⊥
 IsOfWalk fault = Unit {0}
 
--- a file of `size` bytes may be refused so: of its opening no number of ranges is told
+-- a file of `size` bytes may be refused so, whatever they are: of its opening no number of ranges is told
 abbrev pub IsViewRefusal : ℕ → ReadFault → Type 0
+IsViewRefusal size (faults.Opening opening.Memory) = ⊥
 IsViewRefusal size (faults.Opening fault) = IsBareRefusal size fault
+IsViewRefusal size (faults.List fault) = FitsFile size fault
 IsViewRefusal size fault = IsOfWalk fault
 
 -- the bytes of all parts inside F, and of the streams whose records are not known

@@ -231,6 +231,10 @@ module _ (Z : Type 0) where
     pub roomed : (k : ℕ) → k < length counts → get_or rooms k 0 ≡ room_told (stream_of {Z = Z} F w k)
     pub quiet : (k : ℕ) → k < length counts → entry_told F limit (entry_at w k) ≡ None
 
+-- of streams with so many records each those with none have no names and parts
+abbrev pub AreBare : List ℕ → List ℕ → Type 0
+AreBare counts rooms = (k : ℕ) → get_or counts k 0 ≡ 0 → get_or rooms k 0 ≡ 0
+
 -- ---- faults
 
 abbrev pub source_fault : ViewFault → SourceFault
@@ -269,6 +273,7 @@ pub record IsView (Z : Type 0) (limit : ℕ) (w : WalkState) (counts rooms : Lis
   pub light : w.held < 2 ^ 64
   pub passing : (p : Pass) → pass ≡ Some p → IsPass w p
   pub paid : IsPaid w counts pass passed asked
+  pub bare : AreBare counts rooms
   pub of_file : (F : List ℕ) → w.source.store.content ≡ Some F → IsViewed Z F limit w counts rooms
   pub pass_of : (F : List ℕ) (p : Pass) → w.source.store.content ≡ Some F → pass ≡ Some p → IsPassOf Z F limit w p
   -- a walk that has ended is begun no more

@@ -54,8 +54,9 @@ module _ {S A : Type 0} {G : Ghosts S} where
   abbrev pub started_by : FileView S A G → ℕ
   started_by v = v.walk.start
 
-  -- it was opened over a source through a window of so many bytes, and nothing was asked of it yet
-  pub record IsNewView (source : SourceState) (window : ℕ) (v : FileView S A G) : Type 0 where
+  -- it was opened over a source through a window of so many bytes, for this choice of the entries, and nothing was asked of it yet
+  pub record IsNewView (source : SourceState) (window : ℕ) (choice : Choice) (v : FileView S A G) : Type 0 where
+    pub choice_is : v.walk.choice ≡ choice
     pub fetches : FetchesSome source (source_in v)
     pub start : started_by v ≡ source.fetched
     pub held : held_by v ≡ window + 24 * entries_in v

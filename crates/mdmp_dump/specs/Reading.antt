@@ -15,7 +15,9 @@ use Rattle.mdmp_lister.specs.Format.Classes.{IsStream as IsStreamItem}
 use Rattle.mdmp_lister.specs.Format.Item.{item_at}
 use Rattle.mdmp_lister.specs.Format.Listing.{Numbered, Run, nothing}
 use Rattle.mdmp_lister.specs.Format.Summary.{summary_of}
+use Rattle.mdmp_lister.specs.Format.Refusal.{directory_refusal}
 use Rattle.mdmp_lister.specs.Opening.{IsOpenRefusal}
+use Rattle.mdmp_lister.specs.Following.{FitsFile}
 use Rattle.mdmp_lister.specs.Lister.{ListerState, tail}
 use Rattle.mdmp_lister.specs.declared.name.Name.{Name}
 use Rattle.mdmp_lister.specs.declared.kind.Kind.{Kind}
@@ -57,9 +59,12 @@ abbrev pub refusal_of : OpenFault → ReadFault
 refusal_of opening.Memory = faults.Memory
 refusal_of fault = faults.Opening fault
 
--- a refusal of the opening is one of a file of `size` bytes, whatever they are; of another fault nothing is said
+-- a file of `size` bytes may be refused so, whatever they are: a fault of the opening or of the listing fits it, and want of
+-- memory is told as such
 abbrev pub IsReadRefusal : ℕ → ReadFault → Type 0
+IsReadRefusal size (faults.Opening opening.Memory) = ⊥
 IsReadRefusal size (faults.Opening fault) = IsOpenRefusal size fault
+IsReadRefusal size (faults.List fault) = FitsFile size fault
 IsReadRefusal size fault = Unit {0}
 
 -- want of memory, or a fault of the store: none of the file
@@ -78,12 +83,23 @@ abbrev pub Settles : {T : Type 0} → Option ReadFault → Result T ReadFault �
 Settles old (Ok x) new = old ≡ new x
 Settles old (Err fault) new = (IsOwn fault → ⊥) → old ≡ Some fault
 
--- some fetches, of which a fault of the store is told as such, and one of the opening is that of a file of this size
+-- some fetches, of which a fault of the store is told as such, and one of the file may be told of one of this size
 pub record Fetches {T : Type 0} (result : Result T ReadFault) (old new : SourceState) : Type 0 where
   pub fetches : FetchesSome old new
   pub told : IfErr result (λ fault. IfSome (store_fault fault) (λ of_store. IsLastTold of_store old new))
   pub good : (file : List ℕ) → IsGood old.store file → IfErr result (λ fault. store_fault fault ≡ None)
   pub refusal : IfErr result (IsReadRefusal old.size)
+
+-- a store of known content is not told as changed
+abbrev pub MayBeTold : Option (List ℕ) → Option SourceFault → Type 0
+MayBeTold content (Some (Changed at)) = content ≡ None
+MayBeTold content told = Unit {0}
+
+-- what is told of whatever file, whose store may be gone: want of memory only of one whose header and place of the directory
+-- are good, and a change only of one whose content is not known
+pub record TellsOf (content : Option (List ℕ)) (fault : ReadFault) : Type 0 where
+  pub memory : fault ≡ faults.Memory → (file : List ℕ) → content ≡ Some file → directory_refusal file ≡ None
+  pub changed : MayBeTold content (store_fault fault)
 
 -- what some steps ask was done, or the first of them that can't be is told
 pub record Takes {S A T : Type 0} (steps : List Step) (old : Reader S A) (result : Result T ReadFault) (new : Reader S A) : Type 0 where

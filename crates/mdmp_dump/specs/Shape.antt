@@ -119,6 +119,10 @@ cost_at s k = get_or s.costs k 0
 abbrev pub seen_at : DumpSeen → ℕ → StreamSeen
 seen_at x k = get_or x.streams k unused_seen
 
+-- streams of no records have no names and parts
+abbrev pub HaveNoStrayParts : Shape → Type 0
+HaveNoStrayParts s = (k : ℕ) → (stream_at s k).records ≡ 0 → (stream_at s k).parts ≡ 0
+
 -- a size as it is told: it stops at the greatest
 abbrev pub told : ℕ → ℕ
 told n = min n (2 ^ 64 - 1)

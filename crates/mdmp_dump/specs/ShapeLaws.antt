@@ -1,5 +1,5 @@
 -- A value has the shape of its view, and its records are of their streams' kinds.
-use Rattle.std.proofs.Common.{◌≡◌, ℕ, zero, suc, List, [], ◌∷◌, length, map, get_or, ap, subst, refl, Option, Some, None}
+use Rattle.std.proofs.Common.{◌≡◌, ℕ, zero, suc, List, [], ◌∷◌, length, map, get_or, ap, arith, subst, refl, Bool, true, false, Option, Some, None, if◌then◌else◌}
 use Rattle.mdmp_wire.specs.NumberLaws.{length-les}
 use Rattle.mdmp_wire.specs.declared.any_record.AnyRecord.{AnyRecord}
 use Rattle.mdmp_dump.specs.declared.dump.Dump.{Dump}
@@ -17,11 +17,11 @@ use Rattle.mdmp_dump.specs.MemoryInfo.{memory_info_seen}
 use Rattle.mdmp_dump.specs.Module.{module_seen}
 use Rattle.mdmp_dump.specs.Placed.{size_in}
 use Rattle.mdmp_dump.specs.Seen.{Seen, seen, size_of, bytes_of, name_size, unit_bytes}
-use Rattle.mdmp_dump.specs.Shape.{AreOf, AreOfTheirKinds, IsOf, IsSized, IsSound, seen_at, shape_of, type_told, unused_seen, value_shape}
+use Rattle.mdmp_dump.specs.Shape.{AreOf, AreOfTheirKinds, HaveNoStrayParts, IsOf, IsSized, IsSound, fars, is_far, parts_in, rooms, seen_at, shape_of, type_told, unused_seen, unused_shape, value_shape}
 use Rattle.mdmp_dump.specs.System.{system_seen}
 use Rattle.mdmp_dump.specs.Thread.{thread_seen}
 use Rattle.mdmp_dump.specs.Unloaded.{unloaded_seen}
-use Rattle.mdmp_dump.specs.View.{DumpSeen, kind_in, records_seen, stream_seen}
+use Rattle.mdmp_dump.specs.View.{DumpSeen, StreamSeen, dump_seen, kind_in, records_seen, stream_seen}
 
 -- what an option holds, or else x
 abbrev pub held : {X : Type 0} → X → Option X → X
@@ -76,3 +76,22 @@ module _ {Z : Type 0} where
 
   pub value_kinds : (d : Dump Z) → AreOfTheirKinds (value_shape d)
   value_kinds d x k known = subst (λ (y : DumpSeen). AreOf (seen_at y k).kind (seen_at y k).records) (ap (held x) known) (streams_kinds d.streams k)
+
+-- ---- streams of no records
+
+no_parts_by : (far : Bool) → (if far then fars [] else rooms []) ≡ 0
+unfolding fars rooms
+no_parts_by true = refl
+no_parts_by false = refl
+
+no_parts : (kind : Kind) (xs : List Seen) → length xs ≡ 0 → parts_in kind xs ≡ 0
+no_parts kind [] none = no_parts_by (is_far kind)
+no_parts kind (x ∷ xs) none = absurd (omega (arith, none))
+
+shapes_stray : (xs : List StreamSeen) (k : ℕ) → (get_or (map shape_of xs) k unused_shape).records ≡ 0 → (get_or (map shape_of xs) k unused_shape).parts ≡ 0
+shapes_stray [] k none = refl
+shapes_stray (x ∷ xs) zero none = no_parts x.kind x.records none
+shapes_stray (x ∷ xs) (suc k) none = shapes_stray xs k none
+
+pub value_stray : {Z : Type 0} (d : Dump Z) → HaveNoStrayParts (value_shape d)
+value_stray d k none = shapes_stray (dump_seen d).streams k none

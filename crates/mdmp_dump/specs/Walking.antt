@@ -1,5 +1,5 @@
 -- How a walk over the entries of a file stands, by the walker under it.
-use Rattle.std.specs.Prelude.{◌≡◌, ◌≤◌, ◌<◌, ◌+◌, ◌-◌, ◌*◌, ◌^◌, ◌==◌, ℕ, Bool, List, Option, Some, None, Ok, drop, get_or, length, slice_get, if◌then◌else◌}
+use Rattle.std.specs.Prelude.{◌≡◌, ◌≤◌, ◌<◌, ◌+◌, ◌-◌, ◌*◌, ◌^◌, ◌==◌, ℕ, Bool, false, List, Option, Some, None, Ok, drop, get_or, length, slice_get, if◌then◌else◌}
 use Rattle.mdmp_source.specs.declared.fault.SourceFault.{SourceFault}
 use Rattle.mdmp_wire.specs.declared.entry.Entry.{Entry}
 use Rattle.mdmp_lister.specs.Counts.{numbers_of}
@@ -9,7 +9,7 @@ use Rattle.mdmp_lister.specs.Format.Listing.{Numbered, only_chosen}
 use Rattle.mdmp_lister.specs.Format.Shape.{record_count}
 use Rattle.mdmp_lister.specs.Lister.{ListerState}
 use Rattle.mdmp_lister.specs.Walk.Paying.{entry_cost}
-use Rattle.mdmp_lister.specs.Walker.{WalkerState}
+use Rattle.mdmp_lister.specs.Walker.{WalkerState, is_sought}
 use Rattle.mdmp_dump.specs.declared.entry_walk.EntryPlace.{EntryPlace}
 use Rattle.mdmp_dump.specs.EntryWalk.{WalkState, no_entry, numbered}
 use Rattle.mdmp_dump.specs.Left.{left_from}
@@ -73,6 +73,8 @@ pub record IsKept (w : WalkerState) : Type 0 where
   pub within : w.mark.names ≤ w.list.counts.names
   pub spent : w.list.counts.names + 1 < 2 ^ 128 → w.list.counts.fetched ≤ allowed_of w
   pub of_file : (file : List ℕ) → w.list.source.store.content ≡ Some file → 0 < left_of w.list → HasLeft file w.list
+  -- while records are left no entry is sought
+  pub unsought : 0 < left_of w.list → is_sought w ≡ false
 
 -- before this entry stand so many chosen ones
 pub record IsPlace (v : ListerState) (place : EntryPlace) : Type 0 where

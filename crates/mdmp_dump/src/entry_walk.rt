@@ -10,7 +10,7 @@ ghost use Rattle.mdmp_lister.specs.Lister.{IsSameLister};
 ghost use Rattle.mdmp_dump.specs.Walking.{IsFar, IsKept, IsPlace, IsPlaceOf, chosen_of, left_of, state_of};
 ghost use Rattle.mdmp_dump.specs.FileRefusal.{IsViewRefusal, view_refusal};
 ghost use Rattle.mdmp_dump.specs.Opening.{HasSpentOpening};
-ghost use Rattle.mdmp_dump.specs.Reading.{Fetches, IsOwn};
+ghost use Rattle.mdmp_dump.specs.Reading.{Fetches, IsOwn, TellsOf};
 
 use crate::fault::ReadFault;
 use crate::found_record::{FoundRecord, found_item};
@@ -76,6 +76,7 @@ impl<S: Store + Drop, A: Allocator + Copy> EntryWalk<S, A> {
         ensures refusal { IfErr result (λ refused. IsViewRefusal source.size refused.fault) }
         ensures short { source.size < 32 → MatchResult result (λ _. ⊥) (λ refused. refused.fault ≡ ReadFault.Opening (OpenFault.TooShort source.size)) }
         ensures spends { IfErr result (λ refused. HasSpentOpening choice source refused.source) }
+        ensures tells { IfErr result (λ refused. TellsOf source.store.content refused.fault) }
     {
         let nameless = Limits {
             window: limits.window,

@@ -2,7 +2,7 @@
 ghost use Rattle.std.specs.Prelude.{◌≡◌, ◌≤◌, ◌<◌, ◌+◌, ◌*◌, ℕ, List, length, None, Some, Err, IfErr, IfOk, IsTrue, OnOk, MatchResult, vec_len};
 ghost use Rattle.mdmp_source.specs.Store.{IsGood};
 ghost use Rattle.mdmp_dump.specs.FileView.{HasMoved, IsView, file_cursor, file_shape};
-ghost use Rattle.mdmp_dump.specs.Reading.{Fetches, IsOwn, store_fault};
+ghost use Rattle.mdmp_dump.specs.Reading.{Fetches, IsOwn, TellsOf, store_fault};
 
 use crate::entry_walk::{EntryWalk, ViewRefused};
 use crate::fault::ReadFault;
@@ -53,9 +53,10 @@ impl<S: Store + Drop, A: Allocator + Copy> FileView<S, A> {
         ensures good { (file : List ℕ) → IsGood source.store file → IfErr result (λ fault. store_fault fault ≡ None) }
         ensures refusal { IfErr result (IsViewRefusal source.size) }
         ensures short { source.size < 32 → MatchResult result (λ _. ⊥) (λ fault. fault ≡ ReadFault.Opening (OpenFault.TooShort source.size)) }
-        ensures new { IfOk result (IsNewView source limits.window) }
+        ensures new { IfOk result (IsNewView source limits.window choice) }
         ensures cost { (file : List ℕ) → source.store.content ≡ Some file → IfOk result (λ view. opened_by view ≡ opening_bound file choice) }
         ensures reliable { (file : List ℕ) → IsGood source.store file → IfOk result (λ view. IsTrue (⟦<FileView<S, A> as DumpView>⟧.shape view).is_reliable) }
+        ensures tells { IfErr result (TellsOf source.store.content) }
     {
         match FileView::open_source(alloc, source, limits, choice) {
             Ok(view) => Ok(view),
@@ -77,10 +78,11 @@ impl<S: Store + Drop, A: Allocator + Copy> FileView<S, A> {
         ensures cause { IfErr result (λ refused. Fetches {T = Unit {0}} (Err refused.fault) source refused.source) }
         ensures refusal { IfErr result (λ refused. IsViewRefusal source.size refused.fault) }
         ensures short { source.size < 32 → MatchResult result (λ _. ⊥) (λ refused. refused.fault ≡ ReadFault.Opening (OpenFault.TooShort source.size)) }
-        ensures new { IfOk result (IsNewView source limits.window) }
+        ensures new { IfOk result (IsNewView source limits.window choice) }
         ensures cost { (file : List ℕ) → source.store.content ≡ Some file → IfOk result (λ view. opened_by view ≡ opening_bound file choice) }
         ensures spends { IfErr result (λ refused. HasSpentOpening choice source refused.source) }
         ensures reliable { (file : List ℕ) → IsGood source.store file → IfOk result (λ view. IsTrue (⟦<FileView<S, A> as DumpView>⟧.shape view).is_reliable) }
+        ensures tells { IfErr result (λ refused. TellsOf source.store.content refused.fault) }
     {
         let mut walk = match EntryWalk::open(alloc, source, limits, choice) {
             Ok(walk) => walk,
@@ -141,7 +143,7 @@ impl<S: Store + Drop, A: Allocator + Copy> FileView<S, A> {
 }
 
 impl<S: Store + Drop, A: Allocator + Copy> DumpView for FileView<S, A> {
-    ghost use Rattle.mdmp_dump.specs.FileViewLaws.{view_follows, view_kinds, view_sound, view_stays};
+    ghost use Rattle.mdmp_dump.specs.FileViewLaws.{view_follows, view_kinds, view_sound, view_stays, view_stray};
 
     type Memory = A;
 
@@ -156,6 +158,8 @@ impl<S: Store + Drop, A: Allocator + Copy> DumpView for FileView<S, A> {
     ghost sound = { λ v. view_sound A v.walk v.counts.items v.rooms.items };
 
     ghost kinds = { λ v. view_kinds A v.walk v.counts.items v.rooms.items };
+
+    ghost stray = { λ v. view_stray A v.walk v.counts.items v.rooms.items v.sound.bare };
 
     ghost stays = { λ v. view_stays v.walk v.last };
 

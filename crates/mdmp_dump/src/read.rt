@@ -4,7 +4,7 @@ ghost use Rattle.mdmp_source.specs.Store.{IsGood};
 ghost use Rattle.mdmp_lister.specs.Format.Listing.{Numbered};
 ghost use Rattle.mdmp_dump.specs.LaysOut.{AreStreams, LaysOut};
 ghost use Rattle.mdmp_dump.specs.Left.{is_item_of, left_from, run_of};
-ghost use Rattle.mdmp_dump.specs.Reading.{Fetches, IsEntryRead, IsGoing, IsOneStream, IsRaw, IsReadRefusal, Settles, owed, refusal_of, store_fault};
+ghost use Rattle.mdmp_dump.specs.Reading.{Fetches, IsEntryRead, IsGoing, IsOneStream, IsRaw, IsReadRefusal, Settles, TellsOf, owed, refusal_of, store_fault};
 ghost use Rattle.mdmp_dump.specs.Refusal.{read_refusal};
 
 use crate::dump::{Dump, Stream};
@@ -38,7 +38,8 @@ pub struct Answered<S: Store + Drop, A: Allocator> {
 /// limits say.
 ///
 /// It answers the first reason in the order of the listing why the file gives no dump, or want of
-/// memory, which is told as [`ReadFault::Memory`] wherever it comes, or the fault of the store.
+/// memory, which is told as [`ReadFault::Memory`] wherever it comes behind the header and the place of
+/// the directory, or the fault of the store.
 pub fn read_dump<S: Store + Drop, A: Allocator + Copy>(
     alloc: A,
     source: Source<S>,
@@ -51,6 +52,7 @@ pub fn read_dump<S: Store + Drop, A: Allocator + Copy>(
     ensures good { (file : List ℕ) → IsGood source.store file → IfErr result (λ fault. store_fault fault ≡ None) }
     ensures refusal { IfErr result (IsReadRefusal source.size) }
     ensures short { source.size < 32 → result ≡ Err (ReadFault.Opening (OpenFault.TooShort source.size)) }
+    ensures tells { IfErr result (TellsOf source.store.content) }
 {
     read_source(alloc, source, limits, choice, parts).answer
 }
@@ -67,6 +69,7 @@ pub fn read_source<S: Store + Drop, A: Allocator + Copy>(
     ensures refuses { (file : List ℕ) → source.store.content ≡ Some file → Settles (read_refusal file choice limits.name parts) result.answer (λ _. None) }
     ensures cause { Fetches result.answer source result.source }
     ensures short { source.size < 32 → result.answer ≡ Err (ReadFault.Opening (OpenFault.TooShort source.size)) }
+    ensures tells { IfErr result.answer (TellsOf source.store.content) }
 {
     let all = matches!(&choice, Choice::All);
     let lister = match Lister::open(alloc, source, limits, choice) {

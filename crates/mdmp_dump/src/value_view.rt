@@ -3,7 +3,7 @@ ghost use Rattle.std.specs.Prelude.{◌≡◌, ◌<◌, ◌≤◌, ◌+◌, ◌*
 ghost use Rattle.mdmp_dump.specs.declared.dump.Stream.TheVariants.{Unused};
 ghost use Rattle.mdmp_dump.specs.View.{kind_in, raw_in, records_seen, stream_seen};
 ghost use Rattle.mdmp_dump.specs.Shape.{body_of, parts_at, parts_in, record_at, shape_of, told, unspent, value_cursor, value_shape};
-ghost use Rattle.mdmp_dump.specs.ShapeLaws.{value_kinds, value_sound};
+ghost use Rattle.mdmp_dump.specs.ShapeLaws.{value_kinds, value_sound, value_stray};
 
 use crate::dump::{Dump, Stream};
 use crate::given::{Given, far_of_all, fields_at, part_at, room_of_all, room_of_one};
@@ -240,6 +240,8 @@ impl<'a, A: Allocator> DumpView for ValueView<'a, A> {
     ghost sound = { λ v. value_sound v.dump.now };
 
     ghost kinds = { λ v. value_kinds v.dump.now };
+
+    ghost stray = { λ v. value_stray v.dump.now };
 
     ghost stays = { λ v. tt };
 

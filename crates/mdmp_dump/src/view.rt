@@ -66,7 +66,7 @@ pub enum Kind {
 // No condition of a call is stated by what the view gives: of a view of a file that may be unknown.
 pub trait DumpView {
     ghost use Rattle.std.specs.Prelude.{◌≡◌, ◌<◌, ◌≤◌, ◌+◌, ℕ, List, [], Some, length, take, drop, get_or, IfErr, IfOk, IsTrue, OnOk};
-    ghost use Rattle.mdmp_dump.specs.Shape.{AreOfTheirKinds, begun, body_of, cost_at, Cursor, GivesRecord, IsSound, Shape, Spent, stream_at, told};
+    ghost use Rattle.mdmp_dump.specs.Shape.{AreOfTheirKinds, begun, body_of, cost_at, Cursor, GivesRecord, HaveNoStrayParts, IsSound, Shape, Spent, stream_at, told};
     ghost use Rattle.mdmp_dump.specs.View.{DumpSeen};
 
     /// The memory of a value that this may be a view of.
@@ -191,6 +191,9 @@ pub trait DumpView {
     // Its records, where they are known, are of their streams' kinds, and their parts have the sizes
     // that they tell.
     ghost kinds: { (v : Self) → AreOfTheirKinds (shape v) };
+
+    // A stream of no records has no names and parts.
+    ghost stray: { (v : Self) → HaveNoStrayParts (shape v) };
 
     // It is moved so by no call, and by calls one behind the other.
     ghost stays: { (v : Self) → Moves v v };

@@ -1,5 +1,5 @@
 -- What the Stream item of an entry leaves of a walk.
-use Rattle.std.proofs.Common.{◌≡◌, ◌+◌, ◌∙◌, ◌∷◌, ℕ, List, Some, Ok, arith, ap, get_or, refl, subst, sym, vec_len}
+use Rattle.std.proofs.Common.{◌≡◌, ◌+◌, ◌∙◌, ◌∷◌, ℕ, List, Some, Ok, arith, ap, get_or, refl, slice_get, subst, sym, vec_len}
 use Rattle.std.proofs.Math.Nat.{add-sub_cancel}
 use Rattle.std.proofs.lemmas.Option.{slice_get_read}
 use Rattle.mdmp_wire.specs.declared.entry.Entry.{Entry}
@@ -7,16 +7,17 @@ use Rattle.mdmp_lister.specs.declared.stage.Stage.TheVariants.{Head}
 use Rattle.mdmp_lister.specs.declared.step.Step.{Step}
 use Rattle.mdmp_lister.specs.declared.step.Step.TheVariants as step
 use Rattle.mdmp_lister.specs.declared.walk.Walk.{Walk}
+use Rattle.mdmp_lister.specs.Following.{goes_on}
 use Rattle.mdmp_lister.specs.Format.Listing.{chosen_from, entry_of}
 use Rattle.mdmp_lister.specs.Opening.{IsNextChosen}
-use Rattle.mdmp_lister.specs.Walk.{IsSound, IsThrough}
+use Rattle.mdmp_lister.specs.Walk.{IsSound, IsThrough, cursor_of}
 use Rattle.mdmp_lister.specs.Walk.Checking.{EntryBegun}
 use Rattle.mdmp_lister.specs.Walk.Paying.{stream_calls}
 use Rattle.mdmp_lister.specs.Walk.Requests.{Answered, EntryTaken, StepTaken}
 use Rattle.mdmp_lister.proofs.Bodies.{listing_from-first}
 use Rattle.mdmp_lister.proofs.Entries.{ranges-first}
 use Rattle.mdmp_lister.proofs.Fetches.{FetchesAtMost-none, FetchesAtMost-within}
-use Rattle.mdmp_lister.proofs.Requests.{Moves-none, through-going, through-left, through-none}
+use Rattle.mdmp_lister.proofs.Requests.{Moves-none, goes_through, through-going, through-left, through-none}
 
 module _ {S A : Type 0} (w : Walk S A) (at : ℕ) (e : Entry) where
   abbrev pub began : Walk S A
@@ -30,6 +31,9 @@ module _ {S A : Type 0} (w : Walk S A) (at : ℕ) (e : Entry) where
       (read : (d : Entry) → get_or w.entries.items at d ≡ e) where
     is_entry : (file : List ℕ) → w.meter.source.store.content ≡ Some file → e ≡ entry_of file at
     is_entry file known = sym (read e) ∙ (sound.directory file known).each at e next.within.1
+
+    is_read : slice_get w.entries.items at ≡ Some e
+    is_read = slice_get_read w.entries.items _ at e refl next.within.1 (sym (read e))
 
     stream_answered : Answered w (Ok (Some stream)) began
     stream_answered =
@@ -47,6 +51,9 @@ module _ {S A : Type 0} (w : Walk S A) (at : ℕ) (e : Entry) where
           passed = refl;
           current = refl;
           records = λ some. absurd (omega (arith, some, through-none w.stage through));
+          follows = λ _.
+              goes_on (goes_through w.choice w.entries.items w.meter.source.size (vec_len w.name) (cursor_of w) w.stage (Ok (Some stream)) (cursor_of began) through
+              (record { number = at; entry = e; first = next.stands e is_read; step_is = refl; stands = refl }));
           rests = omega (arith, ok, next.within);
           fetches = FetchesAtMost-within 0 _ w.meter.source w.meter.source (omega arith) (FetchesAtMost-none w.meter.source);
           counts = Moves-none 1 w.meter;
@@ -77,7 +84,8 @@ module _ {S A : Type 0} (w : Walk S A) (at : ℕ) (e : Entry) where
     entry_begun = record {
       stage = refl;
       meter = refl;
-      entry = rw (add-sub_cancel at 1) (slice_get_read w.entries.items _ at e refl next.within.1 (sym (read e)));
+      entry = rw (add-sub_cancel at 1) is_read;
+      chosen = rw (add-sub_cancel at 1) (next.stands e is_read);
       first = λ file known.
           rw (add-sub_cancel at 1)
           (next.first file (sound.directory file known)

@@ -1,8 +1,11 @@
 -- The room for ranges behind a head that was read, and a list that has changed.
-use Rattle.std.proofs.Common.{◌≡◌, ◌≤◌, ◌<◌, ◌+◌, ◌-◌, ◌∙◌, ℕ, List, Bool, true, false, None, Some, Err, if◌then◌else◌, arith, inl, inr, length, refl, subst, sym}
+use Rattle.std.proofs.Common.{◌≡◌, ◌≤◌, ◌<◌, ◌+◌, ◌-◌, ◌∙◌, ℕ, List, Bool, true, false, None, Some, Ok, Err, Result, if◌then◌else◌, arith, inl, inr, length, refl, subst, sym}
 use Rattle.std.proofs.lemmas.Grind.{common_steps}
 use Rattle.mdmp_source.specs.Range.{IsInside}
 use Rattle.mdmp_source.specs.declared.fault.SourceFault.TheVariants.{Changed}
+use Rattle.mdmp_source.specs.declared.location.Location.{Location}
+use Rattle.mdmp_lister.specs.declared.fault.Fault.{Fault}
+use Rattle.mdmp_lister.specs.declared.shape.Shape.{Shape}
 use Rattle.mdmp_wire.specs.declared.entry.Entry.{Entry}
 use Rattle.mdmp_lister.specs.declared.fault.FaultKind.{FaultKind}
 use Rattle.mdmp_lister.specs.declared.fault.FaultKind.TheVariants.{Source}
@@ -12,10 +15,12 @@ use Rattle.mdmp_lister.specs.declared.stage.Stage.{Stage}
 use Rattle.mdmp_lister.specs.declared.stage.Stage.TheVariants.{Between, Head, Records}
 use Rattle.mdmp_lister.specs.declared.walk.Walk.{Walk}
 use Rattle.mdmp_lister.specs.Fault.{IsRanged}
-use Rattle.mdmp_lister.specs.Format.Kind.{kind_of, lists_ranges}
+use Rattle.mdmp_lister.specs.Following.{IsBegun, IsSomeShape, Standing, mapped, standing_by}
+use Rattle.mdmp_lister.specs.Following as following
+use Rattle.mdmp_lister.specs.Format.Kind.{form_of, kind_of, lists_ranges, record_size}
 use Rattle.mdmp_lister.specs.Format.Numbers.{ranges_in}
-use Rattle.mdmp_lister.specs.Format.Shape.{location_fault}
-use Rattle.mdmp_lister.specs.Stage.{fault_stage, stage_by}
+use Rattle.mdmp_lister.specs.Format.Shape.{head_size, location_fault}
+use Rattle.mdmp_lister.specs.Stage.{fault_stage, stage_by, standing_of}
 use Rattle.mdmp_lister.specs.Walk.{IsHeaded, IsListing, IsSound, IsStaged, SameEntry}
 use Rattle.mdmp_lister.specs.Walk.Owing.{HasRoom, ranges_ahead, ranges_owed}
 use Rattle.mdmp_lister.specs.Walk.Requests.{Answered, HeadRead}
@@ -110,6 +115,21 @@ module _ {S A : Type 0} (room : ℕ) (old new : Walk S A) where
 
 -- ---- a list that has changed
 
+-- a stream whose head was read has room for it
+shape_room : (at : Location) (kind : Kind) (r : Result Shape Fault) (offset : ℕ) (s : Standing) → IsSomeShape at kind r → Ok s ≡ mapped (standing_by offset) r
+    → head_size (form_of kind) (record_size kind) ≤ at.size
+shape_room at kind r offset s (following.short less is) ok = absurd (cc)
+shape_room at kind r offset s (following.headed room some) ok = room
+shape_room at kind r offset s (following.failed room fault is of) ok = room
+
+begun_room : (z : ℕ) (e : Entry) (kind : Kind) → kind_of e.stream_type ≡ Some kind → (s : Standing) → IsBegun z e (Ok s)
+    → head_size (form_of kind) (record_size kind) ≤ e.location.size
+begun_room z e kind known s (following.outside fault is bad) = absurd (cc)
+begun_room z e kind known s (following.opaque whole none is) = absurd (cc)
+begun_room z e kind known s (following.shaped whole other of shape some offset is) =
+    let same : other ≡ kind = cc in
+    subst (λ (k : Kind). head_size (form_of k) (record_size k) ≤ e.location.size) same (shape_room e.location other shape offset s some is)
+
 module _ {S A : Type 0} (room : ℕ) (old mid : Walk S A) (f : ListFault) (head : HeadRead old mid) (at : old.stage ≡ Head) (sound : IsSound old)
     (has : HasRoom room 0 old) (more : room < ranges_ahead mid.stage) where
   abbrev stopped : Walk S A
@@ -138,6 +158,15 @@ module _ {S A : Type 0} (room : ℕ) (old mid : Walk S A) (f : ListFault) (head 
       (rw (at, entry_cost-listed (λ d. d) z e of.kind of.known of.inside) (omega arith))
       (λ file content. absurd (never file content))
       (λ file good is. never file good.known)
+      (record { kind = f.kind; offset = f.offset; size = f.size })
+      (record {
+        of_file = λ other. absurd (other (rw kind tt));
+        kind = refl;
+        entry = omega (arith, entry, head.same.next);
+        place = (refl, refl);
+        of_store = λ _. index;
+      })
+      (following.failed (begun_room z e of.kind of.known (standing_of mid.stage) head.begins) _ refl (rw kind tt))
 
 module _ {S A : Type 0} (room : ℕ) (old mid new : Walk S A) (head : HeadRead old mid) (at : old.stage ≡ Head) (sound : IsSound old)
     (has : HasRoom room 0 old) (more : room < ranges_ahead mid.stage) where

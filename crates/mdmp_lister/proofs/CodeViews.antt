@@ -1,10 +1,14 @@
 -- What is fetched of a CodeView record.
-use Rattle.std.proofs.Common.{◌≡◌, ◌≤◌, ◌+◌, ◌-◌, ◌++◌, ◌∙◌, ℕ, List, ap, arith, drop, length, min, subst, take}
-use Rattle.std.proofs.Math.Seq.{take-append_seam}
+use Rattle.std.proofs.Common.{◌≡◌, ◌≤◌, ◌+◌, ◌-◌, ◌++◌, ◌∙◌, ℕ, List, ap, arith, drop, length, min, refl, subst, sym, take}
+use Rattle.std.proofs.Math.Seq.{drop-append_seam, take-append_seam}
 use Rattle.mdmp_source.specs.SourceLaws.{fetches_then}
 use Rattle.mdmp_source.specs.declared.location.Location.{Location}
 use Rattle.mdmp_wire.specs.CodeView.{codeview_in, codeview_of}
 use Rattle.mdmp_wire.specs.Number.{array_at}
+use Rattle.std.proofs.lemmas.Grind.{common_steps}
+use Rattle.mdmp_lister.specs.declared.codeview.CodeViewBytes.{CodeViewBytes}
+use Rattle.mdmp_lister.specs.declared.codeview.CodeViewRead.{CodeViewRead}
+use Rattle.mdmp_lister.specs.CodeView.{AreFetched, codeview_read, codeview_told, fetched_behind}
 use Rattle.mdmp_lister.specs.Meter.{MeterState, BooksAside}
 use Rattle.mdmp_lister.proofs.Fetches.{FetchesAtMost-within}
 
@@ -25,6 +29,13 @@ BooksAside-then m n k a b c le first then = record {
 pub front-kept : (front past : List ℕ) (count : ℕ) → length front ≡ count → take count (front ++ past) ≡ front
 front-kept front past count long = subst (λ n. take n (front ++ past) ≡ front) long (take-append_seam front past)
 
+pub front-past : (front past : List ℕ) (count : ℕ) → length front ≡ count → drop count (front ++ past) ≡ past
+front-past front past count long = subst (λ n. drop n (front ++ past) ≡ past) long (drop-append_seam front past)
+
+-- no more is fetched behind the first bytes than there is room for
+pub fetched_within : (head : List ℕ) (size room : ℕ) → fetched_behind head size room ≤ room
+fetched_within head size room = grind (arith, common_steps)
+
 -- what a record tells by its first bytes and the fetched ones behind them
 pub codeview-fetched : (F head name past : List ℕ) (at : Location) (limit count : ℕ) → head ≡ take (length head) (drop at.rva F) → length head ≡ min at.size 24
     → name ≡ take (length name) (drop (at.rva + 24) F) → length name ≡ count → count ≡ min (at.size - 24) limit → codeview_in head (take count (name ++ past)) at.size ≡ codeview_of F at limit
@@ -33,3 +44,16 @@ codeview-fetched F head name past at limit count first size behind long fits =
     let front : head ≡ array_at F at.rva (min at.size 24) = subst (λ n. head ≡ take n (drop at.rva F)) size first in
     let rest : name ≡ array_at F (at.rva + 24) (min (at.size - 24) limit) = subst (λ n. name ≡ take n (drop (at.rva + 24) F)) (long ∙ fits) behind in
     ap (λ bytes. codeview_in bytes (take count (name ++ past)) at.size) front ∙ ap (λ bytes. codeview_in (array_at F at.rva (min at.size 24)) bytes at.size) (front-kept name past count long ∙ rest)
+
+-- bytes that are lent tell what was read
+module _ (bytes : CodeViewBytes) (read : CodeViewRead) (head : bytes.head ≡ read.head) (size : bytes.size ≡ read.size) where
+  pub lent_told : (buffer : List ℕ) → bytes.rest.now ≡ take read.rest buffer → codeview_told bytes ≡ codeview_read buffer read
+  lent_told buffer rest = rw (head, size, rest) refl
+
+  pub lent_fetched : (at : Location) (room : ℕ) → length bytes.rest.now ≡ read.rest → AreFetched at room read.head read.rest read.size
+      → AreFetched at room bytes.head (length bytes.rest.now) bytes.size
+  lent_fetched at room long fetched = record {
+    size_is = size ∙ fetched.size_is;
+    zeros = ap (λ (xs : List ℕ). drop (min at.size 24) xs) head ∙ fetched.zeros;
+    rest_is = long ∙ fetched.rest_is ∙ ap (λ (xs : List ℕ). fetched_behind (take (min at.size 24) xs) at.size room) (sym head);
+  }

@@ -1,7 +1,8 @@
 -- What requests leave of a walk within an entry: behind its head, behind each record, and at their faults.
-use Rattle.std.proofs.Common.{◌≡◌, ◌≤◌, ◌<◌, ◌+◌, ◌-◌, ◌*◌, ◌/◌, ◌^◌, ◌∙◌, ℕ, List, None, Some, Ok, Err, false, arith, ap, min, refl, sym, vec_len}
+use Rattle.std.proofs.Common.{◌≡◌, ◌≤◌, ◌<◌, ◌+◌, ◌-◌, ◌*◌, ◌/◌, ◌^◌, ◌∙◌, ℕ, List, None, Some, Ok, Err, false, arith, ap, length, min, refl, subst, sym, vec_len}
 use Rattle.mdmp_source.specs.Store.{IsGood}
 use Rattle.mdmp_lister.specs.declared.fault.Fault.{Fault}
+use Rattle.mdmp_lister.specs.declared.fault.FaultKind.TheVariants.{StreamOutside}
 use Rattle.mdmp_lister.specs.declared.fault.ListFault.{ListFault}
 use Rattle.mdmp_lister.specs.declared.heading.Head.{Head}
 use Rattle.mdmp_lister.specs.declared.kind.Kind.{Kind}
@@ -12,6 +13,8 @@ use Rattle.mdmp_lister.specs.declared.step.Step.{Step}
 use Rattle.mdmp_lister.specs.declared.walk.Walk.{Walk}
 use Rattle.mdmp_lister.specs.Fault.{IsListFaultOf, IsOfSource, source_of}
 use Rattle.mdmp_lister.specs.Fetching.{IsHeadOf, ReadsRecord, TellsRecord}
+use Rattle.mdmp_lister.specs.Following.{IsRecordFault, IsSomeRecord, IsSomeShape}
+use Rattle.mdmp_lister.specs.Following as following
 use Rattle.mdmp_lister.specs.Format.Item.{item_at, range_offset}
 use Rattle.mdmp_lister.specs.Format.Kind.{HasNoNames, greatest_record, has_names, kind_of}
 use Rattle.mdmp_lister.specs.Format.Listing.{body_of, only_fault}
@@ -25,12 +28,12 @@ use Rattle.mdmp_lister.specs.Walk.Checking.{RecordGiven}
 use Rattle.mdmp_lister.specs.Walk.Paying.{calls_owed, owed_of, stream_calls, unread_bytes}
 use Rattle.mdmp_lister.specs.Walk.Requests.{Answered, FaultMet, HeadRead}
 use Rattle.mdmp_lister.proofs.Bodies.{body-shaped, records-faulted, records-given}
-use Rattle.mdmp_lister.proofs.Fetches.{not_of_source, told_in_caused}
+use Rattle.mdmp_lister.proofs.Fetches.{FetchesAtMost-none, not_of_source, told_in_caused}
 use Rattle.mdmp_lister.proofs.Heads.{listed-inside}
-use Rattle.mdmp_lister.proofs.Metering.{Books-within}
+use Rattle.mdmp_lister.proofs.Metering.{Books-within, Books_none}
 use Rattle.mdmp_lister.proofs.Offsets.{range-next}
 use Rattle.mdmp_lister.proofs.Paying.{entry_cost-listed, paid_headed}
-use Rattle.mdmp_lister.proofs.Requests.{Spends-booked, answered_fault, answered_step}
+use Rattle.mdmp_lister.proofs.Requests.{Spends-booked, answered_fault, answered_step, fault_meets}
 use Rattle.mdmp_lister.proofs.Soundness.{IsSound-after}
 
 -- ---- the head of the current entry, which is of a known kind and lies inside
@@ -44,9 +47,10 @@ module _ {S A : Type 0} (old new : Walk S A) (kind : Kind) (at : old.stage ≡ s
       → fills greatest_record new.window ≤ 1 + old.current.location.size / (old.window.room - 167)
       → ((file : List ℕ) → old.meter.source.store.content ≡ Some file → kind ≡ Memory64 → offset ≡ range_offset file old.current.location.rva 0)
       → ((file : List ℕ) → old.meter.source.store.content ≡ Some file → shape_of file old.current.location.rva old.current.location.size kind ≡ Ok head.shape)
+      → IsSomeShape old.current.location kind (Ok head.shape)
       → HeadRead old new
   unfolding stream_calls
-  head_read head offset next of small comes bytes fills_left base shape =
+  head_read head offset next of small comes bytes fills_left base shape some =
       let z = old.meter.source.size in
       let e = old.current in
       let begun : 0 < old.next = rw at at sound.staged in
@@ -67,6 +71,9 @@ module _ {S A : Type 0} (old new : Walk S A) (kind : Kind) (at : old.stage ≡ s
             let size = rw content at sound.sized in
             rw (next, at, same.room.name, same.next, same.current) (sym (body-shaped file (vec_len old.name) (old.next - 1) e kind (rw size at whole) known head.shape (shape file content)));
         stage = rw next tt;
+        begins =
+            let whole_count : head.shape.count ≡ head.shape.count - 0 = omega arith in
+            rw next (following.shaped whole kind known (Ok head.shape) some offset (ap (λ n. Ok (following.within 0 n offset)) (sym whole_count)));
         falls = rw (same.room.entries, same.next, next, at) (omega (arith, of.few));
         owes = omega (arith, less);
         books = Books-within 1 1 _ _ old.meter new.meter (omega arith) (omega (arith, less)) books;
@@ -77,9 +84,10 @@ module _ {S A : Type 0} (old new : Walk S A) (kind : Kind) (at : old.stage ≡ s
 
   pub answered_head : (f : ListFault) → new.stage ≡ fault_stage f → FaultMet old f new → spent ≤ old.current.location.size
       → ((file : List ℕ) → old.meter.source.store.content ≡ Some file → (IsOfSource f.kind → ⊥) → body_of file (vec_len old.name) (record { number = old.next - 1; entry = old.current }) ≡ only_fault f)
-      → ((file : List ℕ) → IsGood old.meter.source.store file → IsOfSource f.kind → ⊥) → Answered old (Err f) new
+      → ((file : List ℕ) → IsGood old.meter.source.store file → IsOfSource f.kind → ⊥)
+      → (fault : Fault) → IsListFaultOf (old.next - 1) None fault f → IsSomeShape old.current.location kind (Err fault) → Answered old (Err f) new
   unfolding stream_calls
-  answered_head f next met bytes left good =
+  answered_head f next met bytes left good fault told some =
       let z = old.meter.source.size in
       let e = old.current in
       let inside = listed-inside z e kind whole known in
@@ -89,6 +97,44 @@ module _ {S A : Type 0} (old new : Walk S A) (kind : Kind) (at : old.stage ≡ s
       (rw (at, entry_cost-listed (λ d. d) z e kind known inside) bytes)
       (rw (at, entry_cost-listed (stream_calls old.window.room) z e kind known inside) (omega arith))
       (λ file content not. rw at (left file content not)) good
+      (following.refuses (rw at refl) fault (following.shaped whole kind known (Err fault) some 0 refl) (fault_meets old new f same next None fault told))
+
+-- an entry that lies outside the file, of which nothing is fetched
+
+outside_kind : (f : ListFault) (fault : Fault) → f.kind ≡ fault.kind → fault.kind ≡ StreamOutside → f.kind ≡ StreamOutside
+outside_kind f fault told is = told ∙ is
+
+module _ {S A : Type 0} (old new : Walk S A) (f : ListFault) (at : old.stage ≡ stage.Head) (sound : IsSound old) (stops : new ≡ record old { stage = fault_stage f }) where
+  abbrev stopped : Walk S A
+  stopped = record old { stage = fault_stage f }
+
+  same : SameEntry old stopped
+  same = record { room = record { header_is = refl; entries = refl; choice = refl; window = refl; name = refl }; next = refl; current = refl }
+
+  outside_answered : (fault : Fault) → IsListFaultOf (old.next - 1) None fault f → location_fault old.meter.source.size old.current ≡ Some fault → fault.kind ≡ StreamOutside
+      → Answered old (Err f) stopped
+  outside_answered fault told located kind =
+      let begun : 0 < old.next = rw at at sound.staged in
+      let is : f.kind ≡ StreamOutside = outside_kind f fault told.kind kind in
+      let other : IsOfSource fault.kind → ⊥ = rw kind (λ x. x) in
+      answered_fault 0 0 0 old stopped f sound begun (rw at refl) (rw at (omega arith)) same refl
+      (record {
+        told = record { by = rw is tt; placed = rw is tt };
+        number = omega (arith, told.entry, begun);
+        named = rw is (omega arith, omega arith);
+      })
+      (FetchesAtMost-none old.meter.source) (omega arith)
+      (Spends-booked 0 0 (vec_len old.name) old.meter old.meter (Books_none 0 0 old.meter))
+      (omega arith) (omega arith)
+      (λ file content not.
+      let here : location_fault (length file) old.current ≡ Some fault = rw (rw content at sound.sized) at located in
+      rw (at, here, told.of_file other) refl)
+      (λ file good. rw is (λ x. x))
+      (following.refuses (rw at refl) fault (following.outside fault located refl) (fault_meets old stopped f same refl None fault told))
+
+  pub answered_outside : (fault : Fault) → IsListFaultOf (old.next - 1) None fault f → location_fault old.meter.source.size old.current ≡ Some fault → fault.kind ≡ StreamOutside
+      → Answered old (Err f) new
+  answered_outside fault told located kind = subst (λ (n : Walk S A). Answered old (Err f) n) (sym stops) (outside_answered fault told located kind)
 
 -- ---- a record of the current entry
 
@@ -120,8 +166,9 @@ module _ {S A : Type 0} (old new : Walk S A) (kind : Kind) (shape : Shape) (k of
       → min 1 spent + fills greatest_record new.window ≤ fills greatest_record old.window
       → ((file : List ℕ) → old.meter.source.store.content ≡ Some file → (kind ≡ Memory64 → offset ≡ range_offset file old.current.location.rva k)
       → item_at file (vec_len old.name) (old.next - 1) k old.current.location.rva place kind ≡ Ok (step_item old.meter.source.size new.name.items step))
+      → IsSomeRecord old.meter.source.size (vec_len old.name) kind (old.next - 1) k offset step
       → Answered old (Ok (Some step)) new
-  answered_record spent step next on behind bound reads tells comes bytes called item =
+  answered_record spent step next on behind bound reads tells comes bytes called item some =
       let z = old.meter.source.size in
       let e = old.current in
       answered_step _ (min 1 spent) spent old new step
@@ -144,14 +191,26 @@ module _ {S A : Type 0} (old new : Walk S A) (kind : Kind) (shape : Shape) (k of
       reads.spends (rw (on, at) (omega (arith, bytes))) (rw (on, at) (omega (arith, called)))
       reads.named
       (given_record step next on item).left
+      (following.goes_on (rw at (
+        λ none. absurd (omega (arith, none, left)),
+        λ more. record {
+          kind = kind;
+          kind_is = reading.known;
+          is = some;
+          stands =
+              let less : shape.count - (k + 1) ≡ shape.count - k - 1 = omega arith in
+              rw (same.next, same.current, on, less, behind) refl;
+        },
+      )))
 
   pub answered_record_fault : (spent : ℕ) (fault : Fault) (f : ListFault) → new.stage ≡ fault_stage f → ReadsRecord spent (vec_len old.name) (Err fault) old.meter new.meter
       → spent ≤ unfetched old.window → min 1 spent ≤ fills greatest_record old.window
       → IsListFaultOf (old.next - 1) (Some k) fault f
       → ((file : List ℕ) → old.meter.source.store.content ≡ Some file → (kind ≡ Memory64 → offset ≡ range_offset file old.current.location.rva k) → (IsOfSource fault.kind → ⊥)
       → item_at file (vec_len old.name) (old.next - 1) k old.current.location.rva place kind ≡ Err fault)
+      → IsRecordFault old.meter.source.size (vec_len old.name) kind fault
       → Answered old (Err f) new
-  answered_record_fault spent fault f next reads bytes called told item =
+  answered_record_fault spent fault f next reads bytes called told item some =
       let e = old.current in
       answered_fault _ (min 1 spent) spent old new f sound reading.begun (rw at refl) (rw at (omega (arith, left))) same next
       (record {
@@ -166,6 +225,16 @@ module _ {S A : Type 0} (old new : Walk S A) (kind : Kind) (shape : Shape) (k of
       let other : IsOfSource fault.kind → ⊥ = λ is. not (rw (sym told.kind) at is) in
       rw (at, told.of_file other) (records-faulted file (vec_len old.name) (old.next - 1) e.location.rva kind shape k left fault (rw stands at (item file known here other))))
       (λ file good. not_of_source f.kind (ap source_of told.kind ∙ reads.caused.caused.good file good))
+      (following.goes_on (rw at (
+        λ none. absurd (omega (arith, none, left)),
+        λ more. record {
+          kind = kind;
+          kind_is = reading.known;
+          fault = fault;
+          is = some;
+          meets = rw at at (fault_meets old new f same next (Some k) fault told);
+        },
+      )))
 
 -- ---- an entry whose records have no names
 

@@ -1,27 +1,27 @@
 -- A run, one item longer.
-use Rattle.std.proofs.Common.{◌≡◌, ◌≤◌, ◌<◌, ◌+◌, ◌-◌, ◌^◌, List, [], ◌∷◌, ◌++◌, ℕ, Some, ap, arith, Result, Ok, Err, inl, inr, refl, subst, sym, ◌∙◌, append_assoc}
+use Rattle.std.proofs.Common.{◌≡◌, ◌<◌, ◌+◌, ◌^◌, List, [], ◌∷◌, ◌++◌, ℕ, Option, None, Some, ap, arith, Result, Ok, Err, inl, inr, refl, subst, sym, ◌∙◌, append_assoc}
 use Rattle.std.proofs.lemmas.List.Sums.{sum_by-append, sum_by-cons}
 use Rattle.mdmp_source.specs.Count.{raised}
-use Rattle.mdmp_source.specs.Source.{SourceState, FetchesAtMost}
-use Rattle.mdmp_source.specs.SourceLaws.{fetches_then}
 use Rattle.mdmp_wire.specs.declared.entry.Entry.{Entry}
+use Rattle.mdmp_lister.specs.declared.choice.Choice.{Choice}
+use Rattle.mdmp_lister.specs.declared.fault.ListFault.{ListFault}
 use Rattle.mdmp_lister.specs.declared.item.Item.{Item}
+use Rattle.mdmp_lister.specs.declared.step.Step.{Step}
+use Rattle.mdmp_lister.specs.Following.{Follows}
+use Rattle.mdmp_lister.specs.Step.{TellsAnswer, TellsItem}
 use Rattle.mdmp_lister.specs.declared.sink.Stopped.{Stopped}
-use Rattle.mdmp_lister.specs.Sink.{AllClassed, Taken, TakenToStop, current_behind, give_all, names_of_all, passed_behind}
+use Rattle.mdmp_lister.specs.Sink.{AllClassed, ComeNext, ComesNext, Taken, TakenToStop, current_behind, give_all, names_of_all, passed_behind}
 use Rattle.std.specs.Prelude.{drop, slice_get}
 use Rattle.mdmp_lister.specs.Format.Classes.{IsClassed}
-use Rattle.mdmp_lister.specs.Costs.{IsUnreadBy, item_cost, items_cost, stream_begun}
+use Rattle.mdmp_lister.specs.Costs.{HasCost}
 use Rattle.mdmp_lister.specs.Format.Numbers.{names_of}
 use Rattle.mdmp_lister.specs.Format.Item.{plain}
 use Rattle.mdmp_lister.proofs.Naming.{names_of-plain}
 use Rattle.mdmp_lister.proofs.Advancing.{current_after-plain}
 use Rattle.mdmp_lister.proofs.Classes.{classed-plain}
-use Rattle.mdmp_lister.proofs.Costs.{item_cost-plain, stream_begun-plain, unread-within}
-use Rattle.mdmp_lister.proofs.Fetches.{FetchesAtMost-none, FetchesAtMost-within}
-use Rattle.mdmp_lister.specs.Lister.{IsSameLister, ListerState, current_after, passed_after, tail}
+use Rattle.mdmp_lister.specs.Lister.{AnswersNext, IsSameLister, ListerState, current_after, cursor_in, passed_after, tail}
 use Rattle.mdmp_lister.specs.Format.Listing.{Run, with_item}
 use Rattle.mdmp_lister.specs.Format.Ranges.{ranges_of}
-use Rattle.mdmp_lister.specs.Format.Summary.{summary_of}
 
 pub give_all-more : (old : Run) (xs : List Item) (x : Item) (rest new : Run) → old ≡ give_all xs rest → rest ≡ with_item x new → old ≡ give_all (xs ++ x ∷ []) new
 give_all-more old xs x rest new given next = given ∙ rw (next, append_assoc) refl
@@ -80,46 +80,49 @@ names_of_all-more xs x old mid new so_far next =
     let one = sum_by-cons names_of (plain x) [] in
     omega (arith, so_far, next, all, one, names_of-plain x)
 
--- ---- what a run fetches
+-- ---- what comes next, whatever the file holds
 
--- what was fetched for some items, where `left` bytes of a stream are unread
-pub record HasCost (unread : ℕ) (old : SourceState) (xs : List Item) (left : ℕ) (new : SourceState) : Type 0 where
-  pub fetches : FetchesAtMost (unread + items_cost old.size xs - left) old new
-  pub within : left ≤ unread + items_cost old.size xs
+-- an answer of a lister may come next in the listing that was begun
+module _ (old now new : ListerState) (same : IsSameLister old now) (size : now.source.size ≡ old.source.size) where
+  follows_begun : (read : Result (Option Step) ListFault) → Follows now.choice now.entries now.source.size now.limit (cursor_in now) read (cursor_in new)
+      → Follows old.choice old.entries old.source.size old.limit (cursor_in now) read (cursor_in new)
+  follows_begun read follows =
+      subst (λ n. Follows old.choice old.entries old.source.size n (cursor_in now) read (cursor_in new)) same.limit
+      (subst (λ z. Follows old.choice old.entries z now.limit (cursor_in now) read (cursor_in new)) size
+      (subst (λ (es : List Entry). Follows old.choice es now.source.size now.limit (cursor_in now) read (cursor_in new)) same.entries
+      (subst (λ (c : Choice). Follows c now.entries now.source.size now.limit (cursor_in now) read (cursor_in new)) same.choice follows)))
 
-pub HasCost-none : (unread : ℕ) (a : SourceState) → HasCost unread a [] unread a
-HasCost-none unread a = record {
-  fetches = FetchesAtMost-within 0 (unread + items_cost a.size [] - unread) a a (omega arith) (FetchesAtMost-none a);
-  within = omega arith;
-}
+  pub item_comes : (x : Item) → AnswersNext now (Ok (Some x)) new → ComesNext old.choice old.entries old.source.size old.limit (cursor_in now) (plain x) (cursor_in new)
+  item_comes x next = behind next.read next.told next.follows where
+    behind : (read : Result (Option Step) ListFault) → TellsAnswer now.source.size read (Ok (Some (plain x))) → Follows now.choice now.entries now.source.size now.limit (cursor_in now) read (cursor_in new)
+        → ComesNext old.choice old.entries old.source.size old.limit (cursor_in now) (plain x) (cursor_in new)
+    behind (Ok None) told follows = absurd (cc)
+    behind (Err f) told follows = absurd (cc)
+    behind (Ok (Some s)) told follows =
+        let is : told.0 ≡ plain x = let e = told.1.0 in cc in
+        record {
+          read = s;
+          told = subst (λ z. TellsItem z s (plain x)) size (subst (λ (y : Item). TellsItem now.source.size s y) is told.1.1);
+          follows = follows_begun (Ok (Some s)) follows;
+        }
 
-items_cost-more : (z : ℕ) (xs : List Item) (x : Item) → items_cost z (xs ++ plain x ∷ []) ≡ items_cost z xs + (item_cost x + stream_begun z (summary_of x).stream)
-items_cost-more z xs x =
-    let f : Item → ℕ = λ y. item_cost y + stream_begun z (summary_of y).stream in
-    sum_by-append f xs (plain x ∷ []) ∙ rw (sum_by-cons f (plain x) [], item_cost-plain x, stream_begun-plain z x) (omega arith)
+  pub end_comes : AnswersNext now (Ok None) new → Follows old.choice old.entries old.source.size old.limit (cursor_in now) (Ok None) (cursor_in new)
+  end_comes next = behind next.read next.told next.follows where
+    behind : (read : Result (Option Step) ListFault) → TellsAnswer now.source.size read (Ok None) → Follows now.choice now.entries now.source.size now.limit (cursor_in now) read (cursor_in new)
+        → Follows old.choice old.entries old.source.size old.limit (cursor_in now) (Ok None) (cursor_in new)
+    behind (Ok None) told follows = follows_begun (Ok None) follows
+    behind (Err f) told follows = absurd (cc)
+    behind (Ok (Some s)) told follows = absurd (let e = told.1.0 in cc)
 
-module _ (unread : ℕ) (old mid new : SourceState) (xs : List Item) (left more : ℕ) (so_far : HasCost unread old xs left mid) where
-  pub HasCost-more : (x : Item) → FetchesAtMost (left + stream_begun mid.size (summary_of x).stream + item_cost x - more) mid new
-      → IsUnreadBy mid.size (summary_of x).stream left more → HasCost unread old (xs ++ plain x ∷ []) more new
-  HasCost-more x next is =
-      let z = old.size in
-      let all = items_cost-more z xs x in
-      let begun : stream_begun mid.size (summary_of x).stream ≡ stream_begun z (summary_of x).stream = rw so_far.fetches.same_size refl in
-      let within = unread-within mid.size left more (summary_of x).stream is in
-      record {
-        fetches = FetchesAtMost-within _ (unread + items_cost z (xs ++ plain x ∷ []) - more) old new (omega (arith, all, begun, so_far.within, within))
-            (fetches_then (unread + items_cost z xs - left) (left + stream_begun mid.size (summary_of x).stream + item_cost x - more) old mid new so_far.fetches next);
-        within = omega (arith, all, begun, so_far.within, within);
-      }
-
-  -- and for the last answer, behind which nothing is unread
-  pub HasCost-end : (n cost : ℕ) → FetchesAtMost (left + 0 + n - more) mid new → n ≡ cost → more ≡ 0 → FetchesAtMost (unread + items_cost old.size xs + cost - more) old new
-  HasCost-end n cost last same none =
-      FetchesAtMost-within _ (unread + items_cost old.size xs + cost - more) old new (omega (arith, so_far.within, same, none))
-      (fetches_then (unread + items_cost old.size xs - left) (left + 0 + n - more) old mid new so_far.fetches last)
-
-pub HasCost-most : (unread : ℕ) (old new : SourceState) (xs : List Item) (left : ℕ) → HasCost unread old xs left new → FetchesAtMost (unread + items_cost old.size xs + 0 - left) old new
-HasCost-most unread old new xs left cost = FetchesAtMost-within _ _ old new (omega (arith, cost.within)) cost.fetches
+  pub fault_comes : (f : ListFault) → AnswersNext now (Err f) new → Follows old.choice old.entries old.source.size old.limit (cursor_in now) (Err f) (cursor_in new)
+  fault_comes f next = behind next.read next.told next.follows where
+    behind : (read : Result (Option Step) ListFault) → TellsAnswer now.source.size read (Err f) → Follows now.choice now.entries now.source.size now.limit (cursor_in now) read (cursor_in new)
+        → Follows old.choice old.entries old.source.size old.limit (cursor_in now) (Err f) (cursor_in new)
+    behind (Ok None) told follows = absurd (cc)
+    behind (Err g) told follows =
+        let is : g ≡ f = cc in
+        subst (λ (h : ListFault). Follows old.choice old.entries old.source.size old.limit (cursor_in now) (Err h) (cursor_in new)) is (follows_begun (Err g) follows)
+    behind (Ok (Some s)) told follows = absurd (let e = told.1.0 in cc)
 
 -- ---- a run so far
 
@@ -134,3 +137,4 @@ pub record HasGiven {K : Type 0} (step : K → Item → Result (Unit {0}) Stoppe
   pub left : (left : Run) → old.left ≡ Some left → (rest : Run) × ((new.left ≡ Some rest) × (left ≡ give_all items rest))
   pub names : new.counts.names ≡ old.counts.names + names_of_all items
   pub cost : HasCost old.unread old.source items new.unread new.source
+  pub come : old.stop ≡ None → ComeNext old.choice old.entries old.source.size old.limit (cursor_in old) items (cursor_in new)

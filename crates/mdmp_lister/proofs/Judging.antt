@@ -1,9 +1,10 @@
 -- What a check reads of an entry: items one behind the other, and the fault or the end behind them.
-use Rattle.std.proofs.Common.{◌≡◌, ◌≤◌, ◌+◌, ◌-◌, ◌++◌, ◌∷◌, [], ◌∙◌, ℕ, List, false, Option, Some, None, Ok, Err, arith, ap, append_assoc, append-nil, refl, sym, vec_len}
+use Rattle.std.proofs.Common.{◌≡◌, ◌≤◌, ◌+◌, ◌-◌, ◌++◌, ◌∷◌, [], ◌∙◌, ℕ, List, false, Option, Some, None, Ok, Err, arith, ap, append_assoc, append-nil, refl, subst, sym, vec_len}
 use Rattle.std.proofs.lemmas.List.Elements.{filter_map-append}
 use Rattle.std.proofs.lemmas.List.Sums.{sum_by-append, sum_by-cons}
 use Rattle.std.specs.Prelude.{map}
-use Rattle.mdmp_source.specs.Source.{SourceState, FetchesSome}
+use Rattle.mdmp_wire.specs.declared.entry.Entry.{Entry}
+use Rattle.mdmp_source.specs.Source.{FetchesAtMost}
 use Rattle.mdmp_source.specs.SourceLaws.{fetches_then}
 use Rattle.mdmp_map.specs.Map.{MapState, free_of}
 use Rattle.mdmp_lister.specs.declared.fault.FaultKind.{FaultKind}
@@ -11,37 +12,43 @@ use Rattle.mdmp_lister.specs.declared.fault.FaultKind.TheVariants.{Source}
 use Rattle.mdmp_lister.specs.declared.fault.ListFault.{ListFault}
 use Rattle.mdmp_lister.specs.declared.item.Item.{Item}
 use Rattle.mdmp_lister.specs.declared.stage.Stage.{Stage}
-use Rattle.mdmp_lister.specs.declared.stage.Stage.TheVariants.{Between, Records}
+use Rattle.mdmp_lister.specs.declared.stage.Stage.TheVariants.{Between, Head, Records}
 use Rattle.mdmp_lister.specs.declared.step.Step.{Step}
 use Rattle.mdmp_lister.specs.declared.walk.Walk.{Walk}
+use Rattle.mdmp_lister.specs.Check.{IsAtEnd, IsSpent}
+use Rattle.mdmp_lister.specs.Check as spent
+use Rattle.mdmp_lister.specs.declared.choice.Choice.{Choice}
+use Rattle.mdmp_lister.specs.Costs.{IsUnreadBy, bad_name_cost, item_cost, items_cost, step_cost, stream_begun}
+use Rattle.mdmp_lister.specs.Format.Summary.{summary_of}
 use Rattle.mdmp_lister.specs.Fault.{IsOfSource}
+use Rattle.mdmp_lister.specs.Following.{Cursor, Follows, IsReadOn, headed, stays}
 use Rattle.mdmp_lister.specs.Format.Item.{plain}
 use Rattle.mdmp_lister.specs.Format.Listing.{Numbered, Run, all_joined, chosen_from, entry_listing, joined, only_fault}
 use Rattle.mdmp_lister.specs.Format.Numbers.{faulty_name, maybe_name, names_of}
 use Rattle.mdmp_lister.specs.Format.Ranges.{range_of, ranges_of}
 use Rattle.mdmp_lister.specs.Meter.{MeterState, Moves, counts_of}
 use Rattle.mdmp_lister.specs.Sink.{give_all, names_of_all}
-use Rattle.mdmp_lister.specs.Stage.{ends, stage_by, stop_of}
-use Rattle.mdmp_lister.specs.Step.{IsItemOf}
-use Rattle.mdmp_lister.specs.Walk.{IsThrough, SameEntry, SameRoom, current_of, rest_of}
-use Rattle.mdmp_lister.specs.Walk.Checking.{EntryJudged, FaultRead, ItemsRead, OneRead, RecordGiven, judged_by}
+use Rattle.mdmp_lister.specs.Stage.{ends, stage_by, standing_of, stop_of}
+use Rattle.mdmp_lister.specs.Step.{IsItemOf, stream_told}
+use Rattle.mdmp_lister.specs.Walk.{IsThrough, SameEntry, SameRoom, current_of, cursor_of, rest_of}
+use Rattle.mdmp_lister.specs.Walk.Checking.{EntryJudged, FaultRead, ItemsRead, MayCome, OneRead, RecordGiven, judged_by}
 use Rattle.mdmp_lister.specs.Walk.Mapping.{IsMapped}
 use Rattle.mdmp_lister.specs.Walk.Owing.{HasRoom}
+use Rattle.mdmp_lister.specs.Walk.Paying.{unread_bytes}
 use Rattle.mdmp_lister.specs.Walk.Requests.{Answered, HeadRead, StepTaken}
-use Rattle.mdmp_lister.proofs.Fetches.{FetchesAtMost-none, told_in_later}
+use Rattle.mdmp_lister.proofs.Classes.{step-told}
+use Rattle.mdmp_lister.proofs.Cursors.{follows_read, may_none, may_then}
+use Rattle.mdmp_lister.proofs.Fetches.{FetchesAtMost-within, told_in_later}
 use Rattle.mdmp_lister.proofs.Mapping.{kept, mapped, ranges-given, ranges_of-plain, ranges_of-within, same_file}
 use Rattle.mdmp_lister.proofs.Naming.{faulty_most, names_given, names_of-plain}
 use Rattle.mdmp_lister.proofs.Paying.{bounded_then}
 use Rattle.mdmp_lister.proofs.Requests.{Moves-none, stage-through}
 use Rattle.mdmp_lister.proofs.Soundness.{IsGood-after}
+use Rattle.mdmp_lister.proofs.Costs.{item_cost-step}
+use Rattle.mdmp_lister.proofs.Summary.{begins_as}
+use Rattle.mdmp_lister.proofs.Spending.{HasCost-none, HasCost-one, HasCost-then}
 
 -- ---- fetches, counts and ranges of more than one step
-
-pub fetched_none : (a : SourceState) → FetchesSome a a
-fetched_none a = record { count = 0; fetches = FetchesAtMost-none a }
-
-pub fetched_then : (a b c : SourceState) → FetchesSome a b → FetchesSome b c → FetchesSome a c
-fetched_then a b c first then = record { count = _; fetches = fetches_then first.count then.count a b c first.fetches then.fetches }
 
 pub moves_then : (m n k : ℕ) (a b c : MeterState) → m + n ≤ k → Moves m (counts_of a) (counts_of b) → Moves n (counts_of b) (counts_of c) → Moves k (counts_of a) (counts_of c)
 moves_then m n k a b c le first then = record {
@@ -85,6 +92,16 @@ module _ {S A : Type 0} where
 
   -- ---- items
 
+  -- what comes next is said by the choice, the directory and the sizes of an earlier walk too
+  may_before : (xs : List Item) (a b c : Walk S A) → SameRoom a b → b.meter.source.size ≡ a.meter.source.size
+      → MayCome b.choice b.entries.items b.meter.source.size (vec_len b.name) (cursor_of b) xs (cursor_of c)
+      → MayCome a.choice a.entries.items a.meter.source.size (vec_len a.name) (cursor_of b) xs (cursor_of c)
+  may_before xs a b c same size may =
+      subst (λ z. MayCome a.choice a.entries.items z (vec_len a.name) (cursor_of b) xs (cursor_of c)) size
+      (subst (λ n. MayCome a.choice a.entries.items b.meter.source.size n (cursor_of b) xs (cursor_of c)) same.name
+      (subst (λ (es : List Entry). MayCome a.choice es b.meter.source.size (vec_len b.name) (cursor_of b) xs (cursor_of c)) (ap (λ es. es.items) same.entries)
+      (subst (λ (o : Choice). MayCome o b.entries.items b.meter.source.size (vec_len b.name) (cursor_of b) xs (cursor_of c)) same.choice may)))
+
   pub items_then : (xs ys : List Item) (a b c : Walk S A) (m n o : MapState) → ItemsRead xs a m b n → ItemsRead ys b n c o → ItemsRead (xs ++ ys) a m c o
   items_then xs ys a b c m n o first then =
       let all = names_of_all-append xs ys in
@@ -94,12 +111,14 @@ module _ {S A : Type 0} where
         ranges = ranges_then xs ys m n o first.ranges then.ranges;
         left = λ file known.
             first.left file known
-            ∙ ap (give_all xs) (then.left file (first.fetches.fetches.same_content ∙ known))
+            ∙ ap (give_all xs) (then.left file (first.cost.fetches.same_content ∙ known))
             ∙ ap (λ (zs : List Item). record { items = zs; fault = (current_of c file).fault }) (sym (append_assoc xs ys (current_of c file).items));
         counts = moves_then (names_of_all xs) (names_of_all ys) (names_of_all (xs ++ ys)) a.meter b.meter c.meter (omega (arith, all)) first.counts then.counts;
         names = omega (arith, all, first.names, then.names);
-        fetches = fetched_then a.meter.source b.meter.source c.meter.source first.fetches then.fetches;
+        cost = HasCost-then (unread_bytes a) (unread_bytes b) (unread_bytes c) a.meter.source b.meter.source c.meter.source xs ys first.cost then.cost;
         rests = omega (arith, first.rests, then.rests);
+        may = may_then a.choice a.entries.items a.meter.source.size (vec_len a.name) (cursor_of a) (cursor_of b) (cursor_of c) xs ys first.may
+            (may_before ys a b c first.same.room first.cost.fetches.same_size then.may);
       }
 
   -- none was read
@@ -111,13 +130,14 @@ module _ {S A : Type 0} where
     left = λ file known. refl;
     counts = Moves-none 0 a.meter;
     names = omega arith;
-    fetches = fetched_none a.meter.source;
+    cost = HasCost-none (unread_bytes a) a.meter.source;
     rests = omega arith;
+    may = may_none a.choice a.entries.items a.meter.source.size (vec_len a.name) (cursor_of a);
   }
 
   -- the head was read, and no item
-  pub head_items : (a b : Walk S A) (m : MapState) → IsMapped a m → HeadRead a b → HasRoom (free_of m) 0 b → ItemsRead [] a m b m
-  head_items a b m old head room =
+  pub head_items : (a b : Walk S A) (m : MapState) → IsMapped a m → a.stage ≡ Head → HeadRead a b → HasRoom (free_of m) 0 b → ItemsRead [] a m b m
+  head_items a b m old at head room =
       let books = head.books in
       record {
         mapped = kept a b m old head.sound (same_file _ a b books.fetches head.same.room) room (bounded_then a b old.bounded head.paid head.same.room books.fetches.same_size);
@@ -133,14 +153,18 @@ module _ {S A : Type 0} where
           same_start = books.same_start;
         };
         names = omega (arith, books.same_names);
-        fetches = record { count = _; fetches = books.fetches };
+        cost = record {
+          fetches = FetchesAtMost-within _ (unread_bytes a + items_cost a.meter.source.size [] - unread_bytes b) a.meter.source b.meter.source (omega arith) books.fetches;
+          within = omega (arith, head.owes);
+        };
         rests = omega (arith, head.falls);
+        may = record { behind = cursor_of a; come = refl; reads = headed (rw at refl) head.begins head.same.next head.same.current };
       }
 
   -- one record was read
-  pub one_item : (a b : Walk S A) (m n : MapState) (step : Step) (x : Item) → IsMapped a m → StepTaken a (Ok (Some step)) b → RecordGiven a step b
+  pub one_item : (a b : Walk S A) (m n : MapState) (step : Step) (x : Item) → IsMapped a m → stop_of a.stage ≡ None → StepTaken a (Ok (Some step)) b → RecordGiven a step b
       → IsItemOf b.meter.source.size b.name.items step x → n ≡ record m { ranges = m.ranges ++ ranges_of (x ∷ []) } → OneRead a m b n
-  one_item a b m n step x old taken given item pushed =
+  one_item a b m n step x old going taken given item pushed =
       let e = taken.answered in
       let size = e.fetches.same_size in
       let held = e.given.held in
@@ -169,8 +193,30 @@ module _ {S A : Type 0} where
             same_start = e.counts.same_start;
           };
           names = omega (arith, names, one, same);
-          fetches = record { count = _; fetches = e.fetches };
+          cost =
+              let z = a.meter.source.size in
+              let fits = rw b.name.ok.0 at held.0 in
+              let begins : (summary_of x).stream ≡ stream_told step = begins_as b.meter.source.size b.name.items step x item.item in
+              let spent : item_cost x ≡ step_cost step = item_cost-step b.meter.source.size b.name.items _ step x fits held.1 item.item in
+              HasCost-one (unread_bytes a) (unread_bytes b) a.meter.source b.meter.source x
+              (FetchesAtMost-within _ (unread_bytes a + stream_begun z (summary_of x).stream + item_cost x - unread_bytes b) a.meter.source b.meter.source (omega (arith, spent, ap (stream_begun z) begins)) e.fetches)
+              (subst (λ o. IsUnreadBy z o (unread_bytes a) (unread_bytes b)) (sym begins) e.given.begins);
           rests = e.rests;
+          may = record {
+            behind = cursor_of b;
+            come = (
+              cursor_of b,
+              (
+                record {
+                  read = step;
+                  told = rw (item.item, size) (step-told a.meter.source.size b.name.items step (rw b.name.ok.0 at held.0));
+                  follows = e.follows going;
+                },
+                refl,
+              ),
+            );
+            reads = stays refl;
+          };
         };
         stage = given.stage;
         falls = e.given.falls;
@@ -214,6 +260,16 @@ through-ends Between through = refl
 through-ends (Records kind shape index offset) through = refl
 through-ends _ through = absurd through
 
+-- no record is left there
+through-end : (stage : Stage) → IsThrough stage → IsAtEnd (standing_of stage)
+through-end Between through = tt
+through-end (Records kind shape index offset) through = omega (arith, through)
+through-end _ through = absurd through
+
+spent_by : (z : ℕ) (c d : Cursor) → IsReadOn z c d → IsAtEnd d.standing → IsSpent z c
+spent_by z c d (stays same) end = spent.read (subst (λ (n : Cursor). IsAtEnd n.standing) same end)
+spent_by z c d (headed at is passed current) end = spent.empty at d.standing is end
+
 maybe_bad : (kind : FaultKind) → (IsOfSource kind → ⊥) → maybe_name kind ≡ faulty_name kind
 maybe_bad (Source fault) not = absurd (not tt)
 maybe_bad _ not = refl
@@ -241,17 +297,25 @@ module _ {S A : Type 0} (items : List Item) (a b : Walk S A) (m n : MapState) (r
         ∙ ap (λ (xs : List Item). record { items = xs; fault = None }) (append-nil items);
     counts = moves_then (names_of_all items) 0 (names_of_all items + 0) a.meter b.meter b.meter (omega arith) read.counts (Moves-none 0 b.meter);
     names = omega (arith, read.names);
-    fetches = read.fetches;
+    fetches = FetchesAtMost-within _ (unread_bytes a + items_cost a.meter.source.size items + 0) a.meter.source b.meter.source (omega arith) read.cost.fetches;
     at_end = (through-ends b.stage through, tt);
     rests = read.rests;
+    may = record { items = items; behind = read.may.behind; come = read.may.come; ends = spent_by _ read.may.behind (cursor_of b) read.may.reads (through-end b.stage through) };
   }
 
   module _ (c : Walk S A) (o : MapState) (f : ListFault) (going : stop_of b.stage ≡ None) (met : FaultRead b n f c o) where
-    fetched : FetchesSome a.meter.source c.meter.source
-    fetched = fetched_then a.meter.source b.meter.source c.meter.source read.fetches (record { count = _; fetches = met.answered.fetches })
+    fetched : FetchesAtMost (unread_bytes a + items_cost a.meter.source.size items + bad_name_cost (vec_len a.name) f.kind) a.meter.source c.meter.source
+    fetched =
+        let limit : bad_name_cost (vec_len b.name) f.kind ≡ bad_name_cost (vec_len a.name) f.kind = ap (λ n. bad_name_cost n f.kind) read.same.room.name in
+        FetchesAtMost-within _ (unread_bytes a + items_cost a.meter.source.size items + bad_name_cost (vec_len a.name) f.kind) a.meter.source c.meter.source (omega (arith, limit, read.cost.within))
+        (fetches_then _ _ a.meter.source b.meter.source c.meter.source read.cost.fetches met.answered.fetches)
 
     here : SameEntry b c
     here = record { room = met.answered.same; next = met.answered.passed; current = met.answered.current }
+
+    follows : Follows a.choice a.entries.items a.meter.source.size (vec_len a.name) (cursor_of b) (Err f) (cursor_of c)
+    follows =
+        rw (sym read.same.room.choice, sym (ap (λ es. es.items) read.same.room.entries), sym read.cost.fetches.same_size, sym read.same.room.name) (met.answered.follows going)
 
     -- a fault of the file stands behind the items
     bad_judged : (IsOfSource f.kind → ⊥) → EntryJudged a m (Ok (Some f)) c o
@@ -267,7 +331,7 @@ module _ {S A : Type 0} (items : List Item) (a b : Walk S A) (m n : MapState) (r
           ranges = met.same ∙ read.ranges;
           left = λ file known.
               read.left file known
-              ∙ ap (give_all items) (fault_left b c f file e (read.fetches.fetches.same_content ∙ known) not)
+              ∙ ap (give_all items) (fault_left b c f file e (read.cost.fetches.same_content ∙ known) not)
               ∙ ap (λ (xs : List Item). record { items = xs; fault = Some f }) (append-nil items);
           counts = moves_then (names_of_all items) (faulty_name f.kind) (names_of_all items + faulty_name f.kind) a.meter b.meter c.meter (omega arith) read.counts (record {
             more = e.counts.more;
@@ -281,6 +345,12 @@ module _ {S A : Type 0} (items : List Item) (a b : Walk S A) (m n : MapState) (r
           fetches = fetched;
           at_end = (rw e.stage (stage_by-ends f f.kind not), (omega (arith, (e.met going).number, e.passed), not));
           rests = omega (arith, read.rests, e.rests);
+          may = record {
+            items = items;
+            behind = read.may.behind;
+            come = read.may.come;
+            ends = (cursor_of c, follows_read a.choice a.entries.items a.meter.source.size (vec_len a.name) read.may.behind (cursor_of b) (Err f) (cursor_of c) read.may.reads follows);
+          };
         }
 
     -- or the store failed
@@ -288,7 +358,7 @@ module _ {S A : Type 0} (items : List Item) (a b : Walk S A) (m n : MapState) (r
     failed_judged of =
         let e = met.answered in
         let told = e.met going in
-        let k = read.fetches.fetches in
+        let k = read.cost.fetches in
         record {
           items = items;
           mapped = rw met.same met.mapped;
@@ -308,11 +378,12 @@ module _ {S A : Type 0} (items : List Item) (a b : Walk S A) (m n : MapState) (r
           at_end = record {
             of = of;
             stage = e.stage;
-            told = rw here.current (told_in_later b.current f read.fetches.count a.meter.source b.meter.source c.meter.source k told.told);
+            told = rw here.current (told_in_later b.current f _ a.meter.source b.meter.source c.meter.source k told.told);
             number = told.number ∙ sym here.next;
-            unreliable = λ file good. e.good file (IsGood-after read.fetches.count a.meter.source b.meter.source file k good) of;
+            unreliable = λ file good. e.good file (IsGood-after _ a.meter.source b.meter.source file k good) of;
           };
           rests = omega (arith, read.rests, e.rests);
+          may = tt;
         }
 
     judged_at : (kind : FaultKind) → f.kind ≡ kind → EntryJudged a m (judged_by kind f) c o

@@ -1,5 +1,5 @@
 -- What a request for the next item leaves, as those who list see it.
-use Rattle.std.proofs.Common.{◌≡◌, ◌<◌, ◌∙◌, arith, ℕ, List, Option, None, Some, Result, Ok, Err, ap, refl, slice_get, sym, vec_capacity, vec_len}
+use Rattle.std.proofs.Common.{◌≡◌, ◌<◌, ◌∙◌, arith, ℕ, List, Option, None, Some, Result, Ok, Err, ap, length, refl, slice_get, sym, vec_capacity, vec_len}
 use Rattle.std.specs.Option.{option_map}
 use Rattle.mdmp_map.specs.declared.range.Range.{Range}
 use Rattle.mdmp_lister.specs.declared.fault.ListFault.{ListFault}
@@ -11,15 +11,16 @@ use Rattle.mdmp_lister.specs.declared.walk.Walk.{Walk}
 use Rattle.mdmp_lister.specs.Fault.{IsOfSource}
 use Rattle.mdmp_lister.specs.Format.Item.{plain}
 use Rattle.mdmp_lister.specs.Format.Listing.{Run, nothing, only_fault, with_item}
-use Rattle.mdmp_lister.specs.Lister.{Gives, HasRecordsLeft, IsSameLister, Leaves, ListerState, tail}
+use Rattle.mdmp_lister.specs.Lister.{AnswersNext, Gives, HasRecordsLeft, IsSameLister, Leaves, ListerState, tail}
 use Rattle.mdmp_lister.specs.Meter.{counts_of}
-use Rattle.mdmp_lister.specs.Stage.{records_left_in, stop_of}
-use Rattle.mdmp_lister.specs.Step.{step_item}
+use Rattle.mdmp_lister.specs.Following.{records_by}
+use Rattle.mdmp_lister.specs.Stage.{records_left_in, standing_of, stop_of}
+use Rattle.mdmp_lister.specs.Step.{IsNameHeld, step_item}
 use Rattle.mdmp_lister.specs.Walk.{IsReading, IsSound, left_of, work_of}
 use Rattle.mdmp_lister.specs.Walk.Paying.{unread_bytes}
 use Rattle.mdmp_lister.specs.Walk.Requests.{Answered}
 use Rattle.mdmp_lister.proofs.Advancing.{becomes, of_run, option_map-then, passes, same_entries, same_rooms}
-use Rattle.mdmp_lister.proofs.Classes.{classed-given}
+use Rattle.mdmp_lister.proofs.Classes.{classed-given, step-told}
 use Rattle.mdmp_lister.proofs.Costs.{item_cost-step, stopped-unread}
 use Rattle.mdmp_lister.proofs.Ending.{left_of-fault}
 use Rattle.mdmp_lister.proofs.Naming.{names_raised}
@@ -43,9 +44,14 @@ module _ {S A : Type 0} where
     left = option_map (left_of w) w.meter.source.store.content;
     stop = stop_of w.stage;
     unread = unread_bytes w;
+    standing = standing_of w.stage;
     records = records_left_in w.stage;
     work = work_of w;
   }
+
+pub records_stand : (stage : Stage) → records_left_in stage ≡ records_by (standing_of stage)
+records_stand (Records kind shape index offset) = refl
+records_stand _ = refl
 
 -- the records that are left of the current entry are its own
 module _ {S A : Type 0} (w : Walk S A) (rs : List Range) (room : ℕ) (sound : IsSound w) (file : List ℕ) (known : w.meter.source.store.content ≡ Some file) where
@@ -81,6 +87,24 @@ module _ {S A : Type 0} (w n : Walk S A) (room : ℕ) where
     entries = same_entries w n e.same;
     rooms = same_rooms w n room e.same;
   }
+
+  -- ---- what comes next, whatever the file holds
+
+  pub follows_none : (rs rest : List Range) → Answered w (Ok None) n → stop_of w.stage ≡ None → AnswersNext (listed_by rs room w) (Ok None) (listed_by rest room n)
+  follows_none rs rest e going = record { read = Ok None; told = refl; follows = e.follows going }
+
+  pub follows_fault : (rs rest : List Range) (f : ListFault) → Answered w (Err f) n → stop_of w.stage ≡ None → AnswersNext (listed_by rs room w) (Err f) (listed_by rest room n)
+  follows_fault rs rest f e going = record { read = Err f; told = refl; follows = e.follows going }
+
+  pub follows_item : (rs rest : List Range) (s : Step) (x : Item) → Answered w (Ok (Some s)) n → plain x ≡ step_item n.meter.source.size n.name.items s → stop_of w.stage ≡ None
+      → AnswersNext (listed_by rs room w) (Ok (Some x)) (listed_by rest room n)
+  follows_item rs rest s x e told going =
+      let held : IsNameHeld (length n.name.items) s = rw n.name.ok.0 at e.given.held.0 in
+      record {
+        read = Ok (Some s);
+        told = (plain x, (refl, rw (told, e.fetches.same_size) (step-told w.meter.source.size n.name.items s held)));
+        follows = e.follows going;
+      }
 
   -- ---- at the end
 

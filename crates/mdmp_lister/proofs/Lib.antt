@@ -7,6 +7,7 @@ pub mod Changing
 pub mod Classes
 pub mod CodeViews
 pub mod Costs
+pub mod Cursors
 pub mod Counted
 pub mod Directory
 pub mod Ending
@@ -37,9 +38,11 @@ pub mod Room
 pub mod RowWords
 pub mod Rows
 pub mod Runs
+pub mod SomeNames
 pub mod Sizes
 pub mod Sliding
 pub mod Soundness
+pub mod Spending
 pub mod Summary
 pub mod Unchanged
 pub mod Unseen

@@ -17,13 +17,18 @@ use Rattle.mdmp_lister.specs.Format.Listing.{Run, joined, nothing, only_fault, w
 use Rattle.mdmp_lister.specs.Meter.{Books, MeterState, Moves, Spends, counts_of}
 use Rattle.mdmp_lister.specs.Walk.Paying.{calls_owed, owed_of, unread_bytes}
 use Rattle.mdmp_lister.specs.Walk.Reaching.{Reaches, given_once, told_once}
-use Rattle.mdmp_lister.specs.Fault.{IsOfSource}
-use Rattle.mdmp_lister.specs.Walk.Requests.{Answered, FaultMet, HeadRead, StepGiven}
+use Rattle.mdmp_lister.specs.Fault.{IsListFaultOf, IsOfSource}
+use Rattle.mdmp_lister.specs.Following.{Cursor, Follows, GivesNextEntry, GivesNextRecord, GoesOn, IsBegun, MeetsFault, Standing}
+use Rattle.mdmp_lister.specs.Following as following
+use Rattle.mdmp_lister.specs.declared.choice.Choice.{Choice}
+use Rattle.mdmp_lister.specs.declared.fault.Fault.{Fault}
+use Rattle.mdmp_lister.specs.Walk.Requests.{Answered, Counted, FaultMet, HeadRead, RecordsCounted, StepGiven}
 use Rattle.mdmp_lister.specs.Format.Kind.{kind_of}
-use Rattle.mdmp_lister.specs.Stage.{IsStageAfter, failure_of, fault_stage, records_left_in, stage_by, stop_of}
+use Rattle.mdmp_lister.specs.Stage.{IsStageAfter, failure_of, fault_stage, records_left_in, stage_by, standing_of, stop_of}
 use Rattle.mdmp_lister.specs.Step.{CurrentAfter, IsStepHeld, TakesRecord, current_by, passed_by, step_item, stream_told}
-use Rattle.mdmp_lister.specs.Walk.{Advances, IsListing, IsSound, IsThrough, PassesTo, SameEntry, SameRoom, current_of, left_of, left_of_entry, rest_of, stage_work, work_of}
+use Rattle.mdmp_lister.specs.Walk.{Advances, IsListing, IsSound, IsThrough, PassesTo, SameEntry, SameRoom, current_of, cursor_of, left_of, left_of_entry, rest_of, stage_work, work_of}
 use Rattle.mdmp_lister.proofs.Bodies.{joined-with_item}
+use Rattle.mdmp_lister.proofs.Cursors.{follows_read}
 use Rattle.mdmp_lister.proofs.Costs.{stopped-unread, unread-within}
 use Rattle.mdmp_lister.proofs.Ending.{left_of-ended, left_of-fault}
 use Rattle.mdmp_lister.proofs.Fetches.{FetchesAtMost-none, FetchesAtMost-within, told_in_later}
@@ -39,6 +44,10 @@ stage_by-stop f _ = refl
 -- a fault is what is answered from then on
 pub fault_stage-stop : (f : ListFault) → stop_of (fault_stage f) ≡ Some (Some f)
 fault_stage-stop f = stage_by-stop f f.kind
+
+stage_by-standing : (f : ListFault) (kind : FaultKind) → standing_of (stage_by kind f) ≡ following.through
+stage_by-standing f (Source fault) = refl
+stage_by-standing f _ = refl
 
 stage_by-bad : (f : ListFault) (kind : FaultKind) → (IsOfSource kind → ⊥) → Bad f ≡ stage_by kind f
 stage_by-bad f (Source fault) not = absurd (not tt)
@@ -77,6 +86,22 @@ stage-through F limit number e _ through = absurd through
 pub through-left : {S A : Type 0} (w : Walk S A) (file : List ℕ) → IsThrough w.stage → left_of w file ≡ rest_of w file
 through-left w file through = ap (λ (run : Run). joined run (rest_of w file)) (stage-through file (vec_len w.name) (w.next - 1) w.current w.stage through)
 
+-- ---- where a walk stands
+
+-- no record is left, so the next chosen entry comes
+pub goes_through : (choice : Choice) (entries : List Entry) (z limit : ℕ) (c : Cursor) (stage : Stage) (answer : Result (Option Step) ListFault) (d : Cursor) → IsThrough stage
+    → GivesNextEntry choice entries z limit c answer d → GoesOn choice entries z limit c (standing_of stage) answer d
+goes_through choice entries z limit c Between answer d is gives = gives
+goes_through choice entries z limit c (Records kind shape index offset) answer d is gives = (λ _. gives, λ some. absurd (omega (arith, is, some)))
+goes_through choice entries z limit c _ answer d is gives = absurd is
+
+module _ {S A : Type 0} (old new : Walk S A) (f : ListFault) (same : SameEntry old new) (at : new.stage ≡ fault_stage f) where
+  pub fault_stands : cursor_of new ≡ record (cursor_of old) { standing = following.through }
+  fault_stands = rw (same.next, same.current, at, stage_by-standing f f.kind) refl
+
+  pub fault_meets : (index : Option ℕ) (fault : Fault) → IsListFaultOf (old.next - 1) index fault f → MeetsFault (cursor_of old) index fault (Err f) (cursor_of new)
+  fault_meets index fault is = record { f = f; answer_is = refl; is = is; stands = fault_stands }
+
 -- ---- a fault that is met
 
 Moves-spent : (calls n limit : ℕ) (old new : MeterState) → Spends calls n limit old new → Moves 1 (counts_of old) (counts_of new)
@@ -111,8 +136,9 @@ module _ {S A : Type 0} (n calls spent : ℕ) (old new : Walk S A) (f : ListFaul
       → calls ≤ calls_owed old.meter.source.size old.current old.window old.stage
       → ((file : List ℕ) → old.meter.source.store.content ≡ Some file → (IsOfSource f.kind → ⊥) → current_of old file ≡ only_fault f)
       → ((file : List ℕ) → IsGood old.meter.source.store file → IsOfSource f.kind → ⊥)
+      → Follows old.choice old.entries.items old.meter.source.size (vec_len old.name) (cursor_of old) (Err f) (cursor_of new)
       → Answered old (Err f) new
-  answered_fault sound begun going some same at met fetches within spends owed called left good =
+  answered_fault sound begun going some same at met fetches within spends owed called left good follows =
       let none : unread_bytes new ≡ 0 = rw at (fault_stage-owed new.meter.source.size new.current new.window f) in
       record {
         sound = IsSound-after n old new sound fetches same
@@ -129,6 +155,7 @@ module _ {S A : Type 0} (n calls spent : ℕ) (old new : Walk S A) (f : ListFaul
         passed = same.next;
         current = same.current;
         records = tt;
+        follows = λ _. follows;
         rests = rw (same.room.entries, same.next, at, fault_stage-work f) (omega arith);
         fetches = FetchesAtMost-within n _ old.meter.source new.meter.source (omega (arith, within, owed, none)) fetches;
         counts = Moves-spent calls spent (vec_len old.name) old.meter new.meter spends;
@@ -157,8 +184,9 @@ module _ {S A : Type 0} (n calls spent : ℕ) (old new : Walk S A) (step : Step)
       → calls_owed old.meter.source.size old.current new.window new.stage + calls ≤ calls_owed old.meter.source.size old.current old.window old.stage
       → Reaches (told_once step) old.meter new.meter
       → ((file : List ℕ) → old.meter.source.store.content ≡ Some file → current_of old file ≡ with_item (step_item old.meter.source.size new.name.items step) (current_of new file))
+      → Follows old.choice old.entries.items old.meter.source.size (vec_len old.name) (cursor_of old) (Ok (Some step)) (cursor_of new)
       → Answered old (Ok (Some step)) new
-  answered_step sound going on falls counted same passed stays held begins fetches within spends owed called named left =
+  answered_step sound going on falls counted same passed stays held begins fetches within spends owed called named left follows =
       let less : work_of new < work_of old = rw (same.room.entries, same.next) (omega (arith, falls)) in
       let owes : unread_bytes new + spent ≤ unread_bytes old = rw (fetches.same_size, same.current) owed in
       let none : stream_begun old.meter.source.size (stream_told step) ≡ 0 = rw begins refl in
@@ -176,6 +204,7 @@ module _ {S A : Type 0} (n calls spent : ℕ) (old new : Walk S A) (step : Step)
         passed = same.next ∙ sym passed;
         current = same.current ∙ sym stays;
         records = λ some. (begins, counted);
+        follows = λ _. follows;
         rests = omega (arith, less);
         fetches = FetchesAtMost-within n _ old.meter.source new.meter.source (omega (arith, within, owes, none)) fetches;
         counts = Moves-spent calls spent (vec_len old.name) old.meter new.meter spends;
@@ -208,6 +237,7 @@ module _ {S A : Type 0} (w : Walk S A) (sound : IsSound w) where
         passed = refl;
         current = refl;
         records = tt;
+        follows = λ going. absurd (cc);
         rests = omega arith;
         fetches = FetchesAtMost-within 0 _ w.meter.source w.meter.source (omega arith) (FetchesAtMost-none w.meter.source);
         counts = Moves-none 1 w.meter;
@@ -237,6 +267,7 @@ module _ {S A : Type 0} (w : Walk S A) (sound : IsSound w) where
         passed = tt;
         current = refl;
         records = rw at refl;
+        follows = λ going. absurd (cc);
         rests = omega arith;
         fetches = FetchesAtMost-within 0 _ w.meter.source w.meter.source (omega arith) (FetchesAtMost-none w.meter.source);
         counts = Moves-none 1 w.meter;
@@ -332,6 +363,11 @@ module _ {S A : Type 0} (old mid new : Walk S A) (head : HeadRead old mid) where
         passed = subst (λ next. PassesTo result next new.next) head.same.next then.passed;
         current = subst (λ current. CurrentAfter result current new.current) head.same.current then.current;
         records = rw at (none_taken result (records_left_in new.stage));
+        follows = λ _.
+            let next = then.follows (listing-going mid.stage head.stage) in
+            let known = rw (head.same.room.choice, head.same.room.entries, head.books.fetches.same_size, head.same.room.name) at next in
+            follows_read old.choice old.entries.items z (vec_len old.name) (cursor_of old) (cursor_of mid) result (cursor_of new)
+            (following.headed (rw at refl) head.begins head.same.next head.same.current) known;
         rests = omega (arith, then.rests, head.falls);
         fetches = FetchesAtMost-within _ _ old.meter.source new.meter.source (omega (arith, begun, spent, within, head.owes))
             (fetches_then _ _ old.meter.source mid.meter.source new.meter.source head.books.fetches then.fetches);
@@ -341,4 +377,47 @@ module _ {S A : Type 0} (old mid new : Walk S A) (head : HeadRead old mid) where
         paid = λ allowed before paid. then.paid allowed before (head.paid allowed before paid);
         repeats = λ stop stopped. let going : stop_of old.stage ≡ None = rw at refl in absurd (cc);
         good = λ file good. then.good file (IsGood-after _ old.meter.source mid.meter.source file head.books.fetches good);
+      }
+
+-- ---- records that are counted
+
+module _ {S A : Type 0} (old new : Walk S A) (count : ℕ) (at : old.stage ≡ Head) (head : HeadRead old new) (counted : Counted old new) (is : count ≡ records_left_in new.stage) where
+  pub counted_head : RecordsCounted old (Ok count) new
+  counted_head = record {
+    sound = head.sound;
+    same = head.same;
+    stage = (sym is, head.stage);
+    left = λ file known ok. left_then old new new head file known;
+    books = counted.books;
+    owes = head.owes;
+    of_file = λ file known was. counted.of_file file known;
+    met = λ going. tt;
+    good = λ file good. tt;
+    repeats = λ past. absurd (rw at at past);
+    unchanged = λ _. counted.unchanged;
+    rests = omega (arith, head.falls);
+    begins = λ _. head.begins;
+    follows = tt;
+  }
+
+-- a fault of the head stands in the place of a count
+module _ {S A : Type 0} (old new : Walk S A) (f : ListFault) (at : old.stage ≡ Head) (answered : Answered old (Err f) new) (counted : Counted old new) where
+  pub counted_refused : RecordsCounted old (Err f) new
+  counted_refused =
+      let none : unread_bytes new ≡ 0 = rw answered.stage (fault_stage-owed new.meter.source.size new.current new.window f) in
+      record {
+        sound = answered.sound;
+        same = record { room = answered.same; next = answered.passed; current = answered.current };
+        stage = answered.stage;
+        left = λ file known ok. absurd (cc);
+        books = counted.books;
+        owes = omega (arith, none);
+        of_file = λ file known was. counted.of_file file known;
+        met = λ going. ((answered.met going).told, (answered.met going).number);
+        good = answered.good;
+        repeats = λ past. absurd (rw at at past);
+        unchanged = λ _. counted.unchanged;
+        rests = answered.rests;
+        begins = tt;
+        follows = answered.follows;
       }

@@ -5,8 +5,9 @@ use Rattle.std.proofs.lemmas.List.Concat.{flat_map-append}
 use Rattle.std.proofs.lemmas.List.Elements.{All-append, All-cons, All-nil}
 use Rattle.std.proofs.lemmas.List.Sums.{sum_by-append, sum_by-cons}
 use Rattle.std.specs.Option.{option_map}
-use Rattle.std.specs.Prelude.{All, length, map, slice_get}
-use Rattle.mdmp_source.specs.Source.{FetchesSome}
+use Rattle.std.specs.Prelude.{All, length, map, slice_get, sum_by}
+use Rattle.mdmp_source.specs.Source.{FetchesAtMost}
+use Rattle.mdmp_source.specs.SourceLaws.{fetches_then}
 use Rattle.mdmp_source.specs.Store.{IsGood}
 use Rattle.mdmp_map.specs.Map.{MapState}
 use Rattle.mdmp_lister.specs.declared.choice.Choice.{Choice}
@@ -19,24 +20,30 @@ use Rattle.mdmp_lister.specs.declared.stage.Stage.TheVariants.{Between}
 use Rattle.mdmp_lister.specs.declared.step.Step.{Step}
 use Rattle.mdmp_lister.specs.declared.verdict.Verdict.{Verdict}
 use Rattle.mdmp_lister.specs.declared.walk.Walk.{Walk}
-use Rattle.mdmp_lister.specs.Check.{AreFirst, IsVerdict, ReadsFirst, behind_judged, items_of, left_checked, names_at, names_judged}
+use Rattle.mdmp_lister.specs.Check.{AreFirst, AreNextVerdicts, IsNextVerdict, IsVerdict, MayBeJudged, check_cost, fault_cost, ReadsFirst, behind_judged, items_of, left_checked, names_at, names_judged}
+use Rattle.mdmp_wire.specs.declared.entry.Entry.{Entry}
+use Rattle.mdmp_lister.specs.Following.{Cursor, IsChosenBehind, NoneChosenBehind, Standing}
+use Rattle.mdmp_lister.specs.Following as following
 use Rattle.mdmp_lister.specs.Format.Listing.{Numbered, Run, body_of, chosen, chosen_from, entries_from, entry_count, entry_listing, listing_from, nothing, only_chosen, only_fault, stream_item, verdicts}
 use Rattle.mdmp_lister.specs.Format.Numbers.{maybe_name, names_of}
 use Rattle.mdmp_lister.specs.Format.Ranges.{ranges_of}
 use Rattle.mdmp_lister.specs.Lister.{ListerState}
-use Rattle.mdmp_lister.specs.Meter.{Moves, counts_of}
+use Rattle.mdmp_lister.specs.Costs.{bad_name_cost, item_cost, items_cost, stream_begun}
+use Rattle.mdmp_lister.specs.Format.Summary.{summary_of}
+use Rattle.mdmp_lister.specs.Meter.{MeterState, Moves, counts_of}
 use Rattle.mdmp_lister.specs.Sink.{Taken, TakenToStop, names_of_all}
-use Rattle.mdmp_lister.specs.Stage.{stop_after_run, stop_of}
-use Rattle.mdmp_lister.specs.Walk.{IsSound, IsStaged, left_of, SameRoom, current_of, left_of_entry, work_of}
-use Rattle.mdmp_lister.specs.Walk.Checking.{EntriesChecked, EntryBegun, EntryJudged, FailedIn, IsStageChecked, JudgesFirst, NoneLeft, verdict_on}
+use Rattle.mdmp_lister.specs.Stage.{standing_of, stop_after_run, stop_of}
+use Rattle.mdmp_lister.specs.Walk.{IsSound, IsStaged, left_of, SameRoom, current_of, cursor_of, left_of_entry, work_of}
+use Rattle.mdmp_lister.specs.Walk.Checking.{EntriesChecked, EntryBegun, EntryJudged, FailedIn, IsStageChecked, JudgesFirst, NoneLeft, judged_cost, verdict_on}
 use Rattle.mdmp_lister.specs.Walk.Mapping.{IsMapped}
 use Rattle.mdmp_lister.specs.Walk.Owing.{HasRoom, count_told}
-use Rattle.mdmp_lister.specs.Walk.Paying.{owed_of}
+use Rattle.mdmp_lister.specs.Walk.Paying.{entry_cost, owed_of, unread_bytes}
 use Rattle.mdmp_lister.specs.Walk.Requests.{EntrySkipped, StepTaken}
 use Rattle.mdmp_lister.proofs.Costs.{stopped-unread}
 use Rattle.mdmp_lister.proofs.Ending.{left_of-ended, left_of-fault}
-use Rattle.mdmp_lister.proofs.Fetches.{told_in_later}
-use Rattle.mdmp_lister.proofs.Judging.{fetched_none, fetched_then, moves_then, names_of_all-append, ranges_none, ranges_then, same_room_then}
+use Rattle.mdmp_lister.proofs.Fetches.{FetchesAtMost-none, FetchesAtMost-within, told_in_later}
+use Rattle.mdmp_lister.proofs.Spending.{items_cost-append}
+use Rattle.mdmp_lister.proofs.Judging.{moves_then, names_of_all-append, ranges_none, ranges_then, same_room_then}
 use Rattle.mdmp_lister.proofs.Mapping.{kept, same_file}
 use Rattle.mdmp_lister.proofs.Paying.{bounded_then}
 use Rattle.mdmp_lister.proofs.Requests.{Moves-none, fault_stage-stop, through-left}
@@ -47,6 +54,13 @@ use Rattle.mdmp_lister.proofs.Soundness.{IsGood-after}
 pub behind_judged-more : (vs : List Verdict) (v : Verdict) (next : ℕ) → behind_judged (vs ++ v ∷ []) next ≡ v.entry + 1
 behind_judged-more [] v next = refl
 behind_judged-more (x ∷ xs) v next = behind_judged-more xs v (x.entry + 1)
+
+-- and a verdict more may be that on the next chosen entry
+module _ (choice : Choice) (entries : List Entry) (z limit : ℕ) where
+  AreNextVerdicts-more : (vs : List Verdict) (v : Verdict) (next : ℕ) → AreNextVerdicts choice entries z limit next vs
+      → IsNextVerdict choice entries z limit (behind_judged vs next) v → AreNextVerdicts choice entries z limit next (vs ++ v ∷ [])
+  AreNextVerdicts-more [] v next follow is = (is, tt)
+  AreNextVerdicts-more (x ∷ xs) v next follow is = (follow.0, AreNextVerdicts-more xs v (x.entry + 1) follow.1 is)
 
 -- an entry has no name of its own
 names_begun : (x : Numbered) (ys : List Item) → names_of_all (stream_item x ∷ ys) ≡ names_of_all ys
@@ -101,8 +115,9 @@ module _ {S A : Type 0} where
     pub passed : new.next ≡ behind_judged verdicts old.next
     pub counts : Moves (names_judged items verdicts) (counts_of old.meter) (counts_of new.meter)
     pub names : old.meter.names + names_judged items verdicts ≤ new.meter.names
-    pub fetches : FetchesSome old.meter.source new.meter.source
+    pub fetches : FetchesAtMost (check_cost old.meter.source.size (vec_len old.name) items verdicts) old.meter.source new.meter.source
     pub rests : work_of new ≤ work_of old
+    pub follow : AreNextVerdicts old.choice old.entries.items old.meter.source.size (vec_len old.name) old.next verdicts
 
   pub none_judged : (w : Walk S A) (m : MapState) → IsMapped w m → w.stage ≡ Between → SoFar [] [] w m w m
   none_judged w m old between = record {
@@ -115,8 +130,9 @@ module _ {S A : Type 0} where
     passed = refl;
     counts = Moves-none 0 w.meter;
     names = omega arith;
-    fetches = fetched_none w.meter.source;
+    fetches = FetchesAtMost-none w.meter.source;
     rests = omega arith;
+    follow = tt;
   }
 
   less_room : (room given : ℕ) (w : Walk S A) → HasRoom room given w → HasRoom room 0 w
@@ -145,12 +161,12 @@ entry_in w = record { number = w.next - 1; entry = w.current }
 module _ {S A : Type 0} (verdicts : List Verdict) (items : List Item) (old w ns j : Walk S A) (m p q : MapState) (so_far : SoFar verdicts items old m w p)
     (step : Step) (taken : StepTaken w (Ok (Some step)) ns) (begun : EntryBegun w ns) where
   known_now : (file : List ℕ) → old.meter.source.store.content ≡ Some file → ns.meter.source.store.content ≡ Some file
-  known_now file known = taken.answered.fetches.same_content ∙ so_far.fetches.fetches.same_content ∙ known
+  known_now file known = taken.answered.fetches.same_content ∙ so_far.fetches.same_content ∙ known
 
   next_is : (file : List ℕ) → old.meter.source.store.content ≡ Some file → chosen_from file old.choice w.next ≡ entry_in ns ∷ chosen_from file old.choice ns.next
   next_is file known =
       subst (λ choice. chosen_from file choice w.next ≡ entry_in ns ∷ chosen_from file choice ns.next) so_far.same.choice
-      (begun.first file (so_far.fetches.fetches.same_content ∙ known))
+      (begun.first file (so_far.fetches.same_content ∙ known))
 
   -- what is left of the entry is its body
   body_is : (file : List ℕ) → current_of ns file ≡ body_of file (vec_len old.name) (entry_in ns)
@@ -162,8 +178,38 @@ module _ {S A : Type 0} (verdicts : List Verdict) (items : List Item) (old w ns 
   current_begun : slice_get old.entries.items (ns.next - 1) ≡ Some ns.current
   current_begun = subst (λ es. slice_get es (ns.next - 1) ≡ Some ns.current) (ap (λ es. es.items) (taken.answered.same.entries ∙ so_far.same.entries)) begun.entry
 
+  -- and is the next one that was chosen, whatever the file holds
+  chosen_begun : IsChosenBehind old.choice old.entries.items (behind_judged verdicts old.next) (ns.next - 1) ns.current
+  chosen_begun =
+      subst (λ n. IsChosenBehind old.choice old.entries.items n (ns.next - 1) ns.current) so_far.passed
+      (subst (λ (es : List Entry). IsChosenBehind old.choice es w.next (ns.next - 1) ns.current) (ap (λ es. es.items) so_far.same.entries)
+      (subst (λ (o : Choice). IsChosenBehind o w.entries.items w.next (ns.next - 1) ns.current) so_far.same.choice begun.chosen))
+
   current_kept : (v : Walk S A) → v.next ≡ ns.next → v.current ≡ ns.current → slice_get old.entries.items (v.next - 1) ≡ Some v.current
   current_kept v next current = ap (λ i. slice_get old.entries.items (i - 1)) next ∙ current_begun ∙ ap Some (sym current)
+
+  -- what was fetched of it, beside what was before
+  fetched_judged : (result : Result (Option ListFault) ListFault) (judged : EntryJudged ns p result j q) (vs : List Verdict) (end : ℕ)
+      → judged_cost (vec_len old.name) result ≡ sum_by (λ v. fault_cost (vec_len old.name) v.fault) vs + end
+      → FetchesAtMost (check_cost old.meter.source.size (vec_len old.name) (items ++ stream_item (entry_in ns) ∷ judged.items) (verdicts ++ vs) + end) old.meter.source j.meter.source
+  fetched_judged result judged vs end is =
+      let z = old.meter.source.size in
+      let limit = vec_len old.name in
+      let size : ns.meter.source.size ≡ z = ap (λ (m : MeterState). m.source.size) begun.meter ∙ so_far.fetches.same_size in
+      let name : vec_len ns.name ≡ limit = taken.answered.same.name ∙ so_far.same.name in
+      let js = judged.items in
+      let x = stream_item (entry_in ns) in
+      let first : items_cost z (x ∷ js) ≡ entry_cost z ns.current + items_cost z js = omega (arith, sum_by-cons (λ y. item_cost y + stream_begun z (summary_of y).stream) x js) in
+      let unread : unread_bytes ns ≡ entry_cost z ns.current =
+      ap (owed_of ns.meter.source.size ns.current ns.window) begun.stage ∙ ap (λ n. entry_cost n ns.current) size in
+      let same : items_cost ns.meter.source.size js ≡ items_cost z js = ap (λ n. items_cost n js) size in
+      let cost : judged_cost (vec_len ns.name) result ≡ judged_cost limit result = ap (λ n. judged_cost n result) name in
+      let more = sum_by-append (λ v. fault_cost limit v.fault) verdicts vs in
+      let then : FetchesAtMost (unread_bytes ns + items_cost ns.meter.source.size js + judged_cost (vec_len ns.name) result) w.meter.source j.meter.source =
+      subst (λ (m : MeterState). FetchesAtMost (unread_bytes ns + items_cost ns.meter.source.size js + judged_cost (vec_len ns.name) result) m.source j.meter.source) begun.meter judged.fetches in
+      FetchesAtMost-within _ (check_cost z limit (items ++ x ∷ js) (verdicts ++ vs) + end) old.meter.source j.meter.source
+      (omega (arith, items_cost-append z items (x ∷ js), first, unread, same, cost, more, is))
+      (fetches_then _ _ old.meter.source w.meter.source j.meter.source so_far.fetches then)
 
   pub current_judged : (fault : Option ListFault) (judged : EntryJudged ns p (Ok fault) j q) (sk : Walk S A) → EntrySkipped j sk
       → slice_get old.entries.items (sk.next - 1) ≡ Some sk.current
@@ -174,6 +220,26 @@ module _ {S A : Type 0} (verdicts : List Verdict) (items : List Item) (old w ns 
   taken_begun : 0 < ns.next
   taken_begun = subst (λ stage. IsStaged ns.meter.source.size ns.next ns.current stage) begun.stage taken.answered.sound.staged
 
+  -- it may be judged so in any file
+  may_begun : (fault : Option ListFault) → EntryJudged ns p (Ok fault) j q
+      → IsNextVerdict old.choice old.entries.items old.meter.source.size (vec_len old.name) (behind_judged verdicts old.next) (record { entry = ns.next - 1; fault = fault })
+  may_begun fault judged =
+      let same : SameRoom old ns = same_room_then old w ns so_far.same taken.answered.same in
+      let size : ns.meter.source.size ≡ old.meter.source.size = taken.answered.fetches.same_size ∙ so_far.fetches.same_size in
+      let number : ns.next ≡ ns.next - 1 + 1 = omega (arith, taken_begun) in
+      let here : cursor_of ns ≡ record { passed = ns.next - 1 + 1; current = ns.current; standing = following.begun } =
+      ap (λ stage. record { passed = ns.next; current = ns.current; standing = standing_of stage }) begun.stage
+      ∙ ap (λ n. record { passed = n; current = ns.current; standing = following.begun }) number in
+      record {
+        entry = ns.current;
+        first = chosen_begun;
+        judged = subst (λ (c : Cursor). MayBeJudged old.choice old.entries.items old.meter.source.size (vec_len old.name) c fault) here
+            (subst (λ z. MayBeJudged old.choice old.entries.items z (vec_len old.name) (cursor_of ns) fault) size
+            (subst (λ n. MayBeJudged old.choice old.entries.items ns.meter.source.size n (cursor_of ns) fault) same.name
+            (subst (λ (es : List Entry). MayBeJudged old.choice es ns.meter.source.size (vec_len ns.name) (cursor_of ns) fault) (ap (λ es. es.items) same.entries)
+            (subst (λ (o : Choice). MayBeJudged o ns.entries.items ns.meter.source.size (vec_len ns.name) (cursor_of ns) fault) same.choice judged.may))));
+      }
+
   pub more_judged : (fault : Option ListFault) (judged : EntryJudged ns p (Ok fault) j q) (sk : Walk S A) → EntrySkipped j sk
       → SoFar (verdicts ++ record { entry = ns.next - 1; fault = fault } ∷ []) (items ++ stream_item (entry_in ns) ∷ judged.items) old m sk q
   more_judged fault judged sk skipped =
@@ -181,8 +247,10 @@ module _ {S A : Type 0} (verdicts : List Verdict) (items : List Item) (old w ns 
       let next : sk.next ≡ ns.next = ap (λ (v : Walk S A). v.next) moved ∙ judged.same.next in
       let names = names_judged-more items judged.items (entry_in ns) verdicts (record { entry = ns.next - 1; fault = fault }) in
       let same : SameRoom old j = same_room_then old w j so_far.same (same_room_then w ns j taken.answered.same judged.same.room) in
-      let fetched : FetchesSome old.meter.source j.meter.source =
-      fetched_then old.meter.source w.meter.source j.meter.source so_far.fetches (rw begun.meter at judged.fetches) in
+      let v : Verdict = record { entry = ns.next - 1; fault = fault } in
+      let one = sum_by-cons (λ (x : Verdict). fault_cost (vec_len old.name) x.fault) v [] in
+      let fetched : FetchesAtMost (check_cost old.meter.source.size (vec_len old.name) (items ++ stream_item (entry_in ns) ∷ judged.items) (verdicts ++ v ∷ [])) old.meter.source j.meter.source =
+      FetchesAtMost-within _ _ old.meter.source j.meter.source (omega arith) (fetched_judged (Ok fault) judged (v ∷ []) 0 (omega (arith, one))) in
       record {
         each = All-append IsVerdict verdicts (record { entry = ns.next - 1; fault = fault } ∷ []) so_far.each
             (All-cons IsVerdict (record { entry = ns.next - 1; fault = fault }) [] (rw judged.same.next at judged.at_end.1) (All-nil IsVerdict));
@@ -200,6 +268,7 @@ module _ {S A : Type 0} (verdicts : List Verdict) (items : List Item) (old w ns 
         names = rw moved (omega (arith, names, so_far.names, rw begun.meter at judged.names));
         fetches = rw moved fetched;
         rests = omega (arith, so_far.rests, taken.answered.rests, judged.rests, skipped.rests);
+        follow = AreNextVerdicts-more old.choice old.entries.items old.meter.source.size (vec_len old.name) verdicts (record { entry = ns.next - 1; fault = fault }) old.next so_far.follow (may_begun fault judged);
       }
 
   -- the store failed in the next entry
@@ -208,7 +277,7 @@ module _ {S A : Type 0} (verdicts : List Verdict) (items : List Item) (old w ns 
   failed_judged sink k l f judged handed =
       let failed = judged.at_end in
       let names = names_judged-begun items judged.items (entry_in ns) verdicts in
-      let fetches = so_far.fetches.fetches in
+      let fetches = so_far.fetches in
       let same : SameRoom old j = same_room_then old w j so_far.same (same_room_then w ns j taken.answered.same judged.same.room) in
       record {
         verdicts = verdicts;
@@ -242,17 +311,21 @@ module _ {S A : Type 0} (verdicts : List Verdict) (items : List Item) (old w ns 
         current = current_kept j judged.same.next judged.same.current;
         counts = moves_then (names_judged items verdicts) (names_of_all judged.items + maybe_name f.kind) _ old.meter w.meter j.meter (omega (arith, names)) so_far.counts (rw begun.meter at judged.counts);
         names = omega (arith, names, so_far.names, rw begun.meter at judged.names);
-        fetches = fetched_then old.meter.source w.meter.source j.meter.source so_far.fetches (rw begun.meter at judged.fetches);
+        fetches = rw append-nil at (fetched_judged (Err f) judged [] (bad_name_cost (vec_len old.name) f.kind) (omega arith));
         failed = λ x is.
             let same : f ≡ x = cc in
             subst (λ y. FailedIn old y j) same (record {
               of = failed.of;
               stage = failed.stage;
-              told = told_in_later j.current f so_far.fetches.count old.meter.source w.meter.source j.meter.source fetches (rw begun.meter at failed.told);
+              told = told_in_later j.current f _ old.meter.source w.meter.source j.meter.source fetches (rw begun.meter at failed.told);
               number = failed.number;
-              unreliable = λ file good. (rw begun.meter at failed.unreliable) file (IsGood-after so_far.fetches.count old.meter.source w.meter.source file fetches good);
+              unreliable = λ file good. (rw begun.meter at failed.unreliable) file (IsGood-after _ old.meter.source w.meter.source file fetches good);
             });
         rests = omega (arith, so_far.rests, taken.answered.rests, judged.rests);
+        follow = so_far.follow;
+        ends =
+            let number : ns.next - 1 ≡ f.entry = omega (arith, failed.number, judged.same.next) in
+            (ns.current, subst (λ i. IsChosenBehind old.choice old.entries.items (behind_judged verdicts old.next) i ns.current) number chosen_begun);
       }
 
 -- ---- how a check ends
@@ -285,9 +358,11 @@ module _ {S A : Type 0} (verdicts : List Verdict) (items : List Item) (old w : W
     current = current;
     counts = moves_then (names_judged items verdicts) 0 _ old.meter w.meter w.meter (omega arith) so_far.counts (Moves-none 0 w.meter);
     names = so_far.names;
-    fetches = so_far.fetches;
+    fetches = FetchesAtMost-within _ _ old.meter.source w.meter.source (omega arith) so_far.fetches;
     failed = λ f is. absurd (cc);
     rests = so_far.rests;
+    follow = so_far.follow;
+    ends = tt;
   }
 
   -- no entry is left
@@ -306,7 +381,7 @@ module _ {S A : Type 0} (verdicts : List Verdict) (items : List Item) (old w : W
               left = [];
               in_order = first.in_order
                   ∙ ap (λ (xs : List Numbered). first.judged ++ xs)
-                  (subst (λ choice. chosen_from file choice w.next ≡ []) so_far.same.choice (end.none file (so_far.fetches.fetches.same_content ∙ known)));
+                  (subst (λ choice. chosen_from file choice w.next ≡ []) so_far.same.choice (end.none file (so_far.fetches.same_content ∙ known)));
               verdicts_are = first.verdicts_are;
               begun = [];
               items_are = first.items_are ∙ sym (append-nil _);
@@ -320,9 +395,14 @@ module _ {S A : Type 0} (verdicts : List Verdict) (items : List Item) (old w : W
         current = tt;
         counts = rw end.meter (moves_then (names_judged items verdicts) 0 _ old.meter w.meter w.meter (omega arith) so_far.counts (Moves-none 0 w.meter));
         names = rw end.meter so_far.names;
-        fetches = rw end.meter so_far.fetches;
+        fetches = rw end.meter (FetchesAtMost-within _ _ old.meter.source w.meter.source (omega arith) so_far.fetches);
         failed = tt;
         rests = omega (arith, so_far.rests, a.rests);
+        follow = so_far.follow;
+        ends =
+            subst (NoneChosenBehind old.choice old.entries.items) so_far.passed
+            (subst (λ (es : List Entry). NoneChosenBehind old.choice es w.next) (ap (λ es. es.items) so_far.same.entries)
+            (subst (λ (o : Choice). NoneChosenBehind o w.entries.items w.next) so_far.same.choice end.none_chosen));
       }
 
 -- ---- what a check leaves of a lister
@@ -382,6 +462,11 @@ module _ {S A : Type 0} (w : Walk S A) where
   stop_checked (Ok done) at = ap stop_of at
   stop_checked (Err run.Stopped) at = ap stop_of at
   stop_checked (Err (run.At f)) at = ap stop_of at ∙ fault_stage-stop f
+
+  pub standing_checked : (result : Result (Unit {0}) RunFault) → IsStageChecked result w.stage → result ≡ Err run.Stopped → standing_of w.stage ≡ following.through
+  standing_checked (Ok done) at is = absurd (cc)
+  standing_checked (Err run.Stopped) at is = ap standing_of at
+  standing_checked (Err (run.At f)) at is = absurd (cc)
 
   pub unread_checked : (z : ℕ) (result : Result (Unit {0}) RunFault) → IsStageChecked result w.stage → owed_of z w.current w.window w.stage ≡ 0
   unread_checked z (Ok done) at = ap (owed_of z w.current w.window) at

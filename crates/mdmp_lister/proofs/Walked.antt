@@ -1,6 +1,6 @@
 -- What the calls of a walker leave.
-use Rattle.std.proofs.Common.{◌≡◌, ◌≤◌, ◌<◌, ◌+◌, ◌-◌, ◌*◌, ◌^◌, ◌∙◌, ℕ, List, [], Option, None, Some, Result, Ok, Err, ap, arith, get_or, length, length-take, refl, slice_get, subst, sym, take, vec_len}
-use Rattle.std.specs.Prelude.{IfErr, IfOk, IsTrue}
+use Rattle.std.proofs.Common.{false, ◌≡◌, ◌≤◌, ◌<◌, ◌+◌, ◌-◌, ◌*◌, ◌^◌, ◌∙◌, ℕ, List, [], Option, None, Some, Result, Ok, Err, ap, arith, get_or, length, refl, slice_get, subst, sym, vec_len}
+use Rattle.std.specs.Prelude.{IfErr, IfOk, IfSome, IsTrue}
 use Rattle.std.proofs.Math.Nat.{add-sub_cancel}
 use Rattle.std.proofs.lemmas.Option.{slice_get_read}
 use Rattle.std.specs.Option.{option_map}
@@ -12,11 +12,6 @@ use Rattle.mdmp_lister.specs.declared.choice.Choice.{Choice}
 use Rattle.mdmp_lister.specs.declared.fault.FaultKind.{FaultKind}
 use Rattle.mdmp_lister.specs.declared.fault.FaultKind.TheVariants.{Source}
 use Rattle.mdmp_lister.specs.declared.fault.ListFault.{ListFault}
-use Rattle.mdmp_wire.specs.declared.any_record.AnyRecord.{AnyRecord}
-use Rattle.mdmp_wire.specs.declared.any_record.AnyRecord.TheVariants as any
-use Rattle.mdmp_lister.specs.declared.fetching.NameRead.{NameRead}
-use Rattle.mdmp_lister.specs.declared.fetching.NameRead.TheVariants as read
-use Rattle.mdmp_lister.specs.declared.name.Name.{Name}
 use Rattle.mdmp_lister.specs.declared.item.Item.{Item}
 use Rattle.mdmp_lister.specs.declared.item.StreamItem.{StreamItem}
 use Rattle.mdmp_lister.specs.declared.meter.MeterCounts.{MeterCounts}
@@ -25,32 +20,31 @@ use Rattle.mdmp_lister.specs.declared.position.Position.TheVariants.{Begun, Soug
 use Rattle.mdmp_lister.specs.declared.stage.Stage.{Stage}
 use Rattle.mdmp_lister.specs.declared.stage.Stage.TheVariants as stage
 use Rattle.mdmp_lister.specs.declared.step.Step.{Step}
-use Rattle.mdmp_lister.specs.declared.step.Step.TheVariants as step
 use Rattle.mdmp_lister.specs.declared.walk.Walk.{Walk}
 use Rattle.mdmp_lister.specs.Costs.{IsUnreadBy, begun_at, stream_begun}
 use Rattle.mdmp_lister.specs.Fault.{IsAnsweredFor, IsCaused, IsOfSource, TellsNoChange}
-use Rattle.mdmp_lister.specs.Format.Item.{item_of, plain}
-use Rattle.mdmp_lister.specs.Format.Name.{plain_name}
+use Rattle.mdmp_lister.specs.Following.{begun, records_by}
+use Rattle.mdmp_lister.specs.Format.Item.{plain}
 use Rattle.mdmp_lister.specs.Format.Kind.{HasNoNames, kind_of}
 use Rattle.mdmp_lister.specs.Format.Listing.{Run, body_of, entry_of, joined, listing_from, listing_sought, records_told, stream_item, with_item}
 use Rattle.mdmp_lister.specs.Format.Summary.{entry_begun}
-use Rattle.mdmp_lister.specs.Lister.{Gives, Leaves, ListerState, ReadsAside, tail}
+use Rattle.mdmp_lister.specs.Lister.{AnswersNext, Gives, Leaves, ListerState, ReadsAside, tail}
 use Rattle.mdmp_lister.specs.Meter.{BooksAside, MeterState, counts_of}
-use Rattle.mdmp_lister.specs.Stage.{IsCounted, IsUnended, StaysUnchanged, records_left_in, stage_by, stop_after, stop_of}
-use Rattle.mdmp_lister.specs.Step.{CurrentAfter, IsHeld, IsNameHeld, name_read, step_item, stream_told}
+use Rattle.mdmp_lister.specs.Stage.{IsCounted, IsUnended, StaysUnchanged, records_left_in, stage_by, standing_of, stop_after, stop_of}
+use Rattle.mdmp_lister.specs.Step.{CurrentAfter, IsNameHeld, step_item, stream_told}
 use Rattle.mdmp_lister.specs.Walk.{IsListing, IsPastHead, IsSound, IsStageCounted, IsStaged, left_of}
 use Rattle.mdmp_lister.specs.Walk.Paying.{IsWithinSince, entry_cost, entry_cost_by, unread_bytes}
-use Rattle.mdmp_lister.specs.Walk.Positions.{AnsweredFrom, GivesSought, IsPositioned, IsWalked, left_in, mark_by, position_by, records_in, stop_in, unread_in, work_in}
+use Rattle.mdmp_lister.specs.Walk.Positions.{AnsweredFrom, GivesSought, IsPositioned, IsWalked, left_in, mark_by, position_by, records_in, standing_in, stop_in, unread_in, work_in}
 use Rattle.mdmp_lister.specs.Walk.Requests.{Answered, EntryTaken, RecordsCounted}
-use Rattle.mdmp_lister.specs.Walker.{CountsRecords, GivesEntry, IsNameTold, StepLeaves, TellsItem, WalkerState, begins, left_counted, stop_counted}
+use Rattle.mdmp_lister.specs.Walker.{CountsRecords, GivesEntry, StepLeaves, WalkerState, begins, left_counted, seeks, stop_counted}
 use Rattle.mdmp_lister.proofs.Advancing.{becomes, of_run, option_map-then, passes, same_entries, same_rooms}
 use Rattle.mdmp_lister.proofs.Asides.{aside_sound}
 use Rattle.mdmp_lister.proofs.Beginning.{began, stream}
 use Rattle.mdmp_lister.proofs.Bodies.{joined-with_item}
-use Rattle.mdmp_lister.proofs.Classes.{classed-given}
+use Rattle.mdmp_lister.proofs.Classes.{classed-given, plain-step, step-told}
 use Rattle.mdmp_lister.proofs.Ending.{left_of-fault}
 use Rattle.mdmp_lister.proofs.Fetches.{FetchesAtMost-none, FetchesAtMost-within, good_caused, told_caused}
-use Rattle.mdmp_lister.proofs.Leaving.{gives_fault, gives_item, gives_none, leaves_fault, leaves_item, leaves_none, listed_by}
+use Rattle.mdmp_lister.proofs.Leaving.{follows_fault, follows_item, follows_none, gives_fault, gives_item, gives_none, leaves_fault, leaves_item, leaves_none, listed_by, records_stand}
 use Rattle.mdmp_lister.proofs.Naming.{names_raised}
 use Rattle.mdmp_lister.proofs.Requests.{Moves-none, fault_stage-stop, listing-going}
 use Rattle.mdmp_lister.proofs.Summary.{begins_as}
@@ -63,6 +57,7 @@ module _ {S A : Type 0} where
     left = option_map (left_in p w) w.meter.source.store.content;
     stop = stop_in p w.stage;
     unread = unread_in p w;
+    standing = standing_in p w.stage;
     records = records_in p w.stage;
     work = work_in p w;
   }
@@ -145,6 +140,23 @@ module _ {S A : Type 0} (w n : Walk S A) (at : ℕ) (s : Step) (taken : EntryTak
 -- ---- a request for the next item
 
 module _ {S A : Type 0} (w n : Walk S A) where
+  -- where no entry is sought its answer may come next, whatever the file holds
+  pub none_follows : (p : Position) → AnsweredFrom p w (Ok None) n → stop_in p w.stage ≡ None → seeks p ≡ false → AnswersNext (walked_by p w) (Ok None) (listed_by [] 0 n)
+  none_follows (Sought at) e going unsought = absurd (cc)
+  none_follows Begun e going unsought = follows_none w n 0 [] [] e going
+  none_follows Within e going unsought = follows_none w n 0 [] [] e going
+
+  pub fault_follows : (p : Position) (f : ListFault) → AnsweredFrom p w (Err f) n → stop_in p w.stage ≡ None → seeks p ≡ false → AnswersNext (walked_by p w) (Err f) (listed_by [] 0 n)
+  fault_follows (Sought at) f e going unsought = absurd (cc)
+  fault_follows Begun f e going unsought = follows_fault w n 0 [] [] f e going
+  fault_follows Within f e going unsought = follows_fault w n 0 [] [] f e going
+
+  pub item_follows : (p : Position) (s : Step) (x : Item) → plain x ≡ step_item n.meter.source.size n.name.items s → AnsweredFrom p w (Ok (Some s)) n
+      → stop_in p w.stage ≡ None → seeks p ≡ false → AnswersNext (walked_by p w) (Ok (Some x)) (listed_by [] 0 n)
+  item_follows (Sought at) s x told e going unsought = absurd (cc)
+  item_follows Begun s x told e going unsought = follows_item w n 0 [] [] s x e told going
+  item_follows Within s x told e going unsought = follows_item w n 0 [] [] s x e told going
+
   pub none_leaves : (p : Position) → AnsweredFrom p w (Ok None) n → Leaves (walked_by p w) (Ok None) (listed_by [] 0 n)
   none_leaves (Sought at) e = let never = e.answer in absurd (cc)
   none_leaves Begun e = leaves_none w n 0 [] e
@@ -337,6 +349,14 @@ stopped-past : (at : Stage) (stop : Option ListFault) → stop_of at ≡ Some st
 stopped-past stage.Head stop stopped = absurd (cc)
 stopped-past _ stop stopped = tt
 
+begun-past : (at : Stage) → (standing_of at ≡ begun → ⊥) → IsPastHead at
+begun-past stage.Head past = past refl
+begun-past _ past = tt
+
+stands_counted : (r : Result ℕ ListFault) (at : Stage) → IfOk r (λ count. records_left_in at ≡ count) → IfOk r (λ count. count ≡ records_by (standing_of at))
+stands_counted (Ok count) at is = sym is ∙ records_stand at
+stands_counted (Err f) at is = tt
+
 pub begun_position : (p : Position) → IsTrue (begins p) → p ≡ Begun
 begun_position Begun is = refl
 begun_position _ is = absurd (cc)
@@ -384,9 +404,13 @@ module _ {S A : Type 0} (w n : Walk S A) (mark : MeterCounts) (walked : IsWalked
     good = e.good;
     unchanged = count-unchanged r n.stage e.stage (e.unchanged walked.unchanged);
     repeats = λ stop stopped. rw (e.repeats (stopped-past w.stage stop stopped)) refl;
+    stands = stands_counted r n.stage (count_left r n.stage e.stage);
+    again = λ past. rw (e.repeats (begun-past w.stage past)) refl;
     mark = refl;
     position = refl;
     rests = e.rests;
+    begins = e.begins;
+    follows = e.follows;
   }
 
   pub records_answered : (file : List ℕ) → w.meter.source.store.content ≡ Some file → IsAnsweredFor (records_told file (record { number = w.next - 1; entry = w.current })) r
@@ -455,31 +479,26 @@ module _ {S A : Type 0} (n : ℕ) (p : Position) (mark : MeterCounts) (w new : W
     good = λ file good. good_caused w.meter.source new.meter.source r file caused good;
   }
 
+-- ---- an entry that has begun
+
+at_head : {S A : Type 0} (w n : Walk S A) (at : ℕ) (s : Step) (o : Option StreamItem) → EntryTaken at w s n → IfSome o (λ _. n.stage ≡ stage.Head)
+at_head w n at s (Some x) taken = ap (λ m. m.stage) taken.is
+at_head w n at s None taken = tt
+
+module _ {S A : Type 0} (w n : Walk S A) where
+  head_behind : (p : Position) (s : Step) → AnsweredFrom p w (Ok (Some s)) n → IfSome (stream_told s) (λ _. n.stage ≡ stage.Head)
+  head_behind (Sought at) s e = at_head w n at e.step (stream_told s) e.taken
+  head_behind Begun s e = e.given.head
+  head_behind Within s e = e.given.head
+
+  begun_by_head : (o : Option StreamItem) → IfSome o (λ _. n.stage ≡ stage.Head) → IfSome o (λ _. standing_in (position_by o) n.stage ≡ begun)
+  begun_by_head (Some x) is = ap standing_of is
+  begun_by_head None is = tt
+
+  pub begun_behind : (p : Position) (s : Step) → AnsweredFrom p w (Ok (Some s)) n → IfSome (stream_told s) (λ _. standing_in (position_by (stream_told s)) n.stage ≡ begun)
+  begun_behind p s e = begun_by_head (stream_told s) (head_behind p s e)
+
 -- ---- an item as it was read
-
-name_told : (buffer : List ℕ) (name : NameRead) → IsHeld (length buffer) name → IsNameTold name (name_read buffer name)
-name_told buffer read.None held = refl
-name_told buffer (read.Long bytes) held = refl
-name_told buffer (read.Units bytes) held = let room : bytes ≤ length buffer = held.0 in (take bytes buffer, (rw length-take (omega (arith, room)), refl))
-
-plain_name-read : (buffer : List ℕ) (name : NameRead) → plain_name (name_read buffer name) ≡ name_read buffer name
-plain_name-read buffer read.None = refl
-plain_name-read buffer (read.Units bytes) = refl
-plain_name-read buffer (read.Long bytes) = refl
-
-plain-item_of : (z e k offset : ℕ) (fields : AnyRecord) (name : Name) → plain_name name ≡ name → plain (item_of z e k offset fields name) ≡ item_of z e k offset fields name
-plain-item_of z e k offset (any.Module fields) name same = rw same refl
-plain-item_of z e k offset (any.Unloaded fields) name same = rw same refl
-plain-item_of z e k offset (any.System fields) name same = rw same refl
-plain-item_of z e k offset _ name same = refl
-
-plain-step : (z : ℕ) (buffer : List ℕ) (s : Step) → plain (step_item z buffer s) ≡ step_item z buffer s
-plain-step z buffer (step.Stream x) = refl
-plain-step z buffer (step.Record r) = plain-item_of z r.entry r.index r.offset r.fields (name_read buffer r.name) (plain_name-read buffer r.name)
-
-step-told : (z : ℕ) (buffer : List ℕ) (s : Step) → IsNameHeld (length buffer) s → TellsItem z s (step_item z buffer s)
-step-told z buffer (step.Stream x) held = refl
-step-told z buffer (step.Record r) held = (name_read buffer r.name, (name_told buffer r.name held, refl))
 
 module _ {S A : Type 0} (w n : Walk S A) (mark : MeterCounts) where
   held_from : (p : Position) (s : Step) → AnsweredFrom p w (Ok (Some s)) n → IsNameHeld (vec_len n.name) s
@@ -499,14 +518,14 @@ module _ {S A : Type 0} (w n : Walk S A) (mark : MeterCounts) where
   step_leaves p (Ok None) walked e unchanged nameless = record {
     answer = Ok None;
     told = refl;
-    leaves = record { list = none_leaves w n p e; position = refl; mark = refl; spent = request_spent w n mark walked.within p (Ok None) e; unchanged = tt; nameless = nameless };
+    leaves = record { list = none_leaves w n p e; position = refl; mark = refl; spent = request_spent w n mark walked.within p (Ok None) e; unchanged = tt; nameless = nameless; follows = none_follows w n p e; begins = tt };
     gives = none_gives w n p e;
     sought = λ number is. none_unsought w n p e number is;
   }
   step_leaves p (Err f) walked e unchanged nameless = record {
     answer = Err f;
     told = refl;
-    leaves = record { list = fault_leaves w n p f e; position = refl; mark = refl; spent = request_spent w n mark walked.within p (Err f) e; unchanged = unchanged; nameless = nameless };
+    leaves = record { list = fault_leaves w n p f e; position = refl; mark = refl; spent = request_spent w n mark walked.within p (Err f) e; unchanged = unchanged; nameless = nameless; follows = fault_follows w n p f e; begins = tt };
     gives = fault_gives w n p f e;
     sought = λ number is. fault_unsought w n p f e number is;
   }
@@ -527,6 +546,8 @@ module _ {S A : Type 0} (w n : Walk S A) (mark : MeterCounts) where
           spent = request_spent w n mark walked.within p (Ok (Some s)) e;
           unchanged = tt;
           nameless = nameless;
+          follows = λ going unsought. subst (λ (v : ListerState). AnswersNext (walked_by p w) (Ok (Some x)) v) (sym (walked_by-behind (stream_told s) n)) (item_follows w n p s x same e going unsought);
+          begins = rw begins (begun_behind w n p s e);
         };
         gives = item_gives w n s x same walked.sound p walked.placed e;
         sought = given_sought w n s x same p walked.placed e;

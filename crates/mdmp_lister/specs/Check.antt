@@ -1,20 +1,24 @@
 -- What a check hands to a sink: the verdicts on the entries, one behind the other.
 use Rattle.std.specs.Prelude.{◌≡◌, ◌≤◌, ◌+◌, ◌-◌, sum_by, ℕ, List, [], ◌∷◌, ◌++◌, flat_map, length, Option, None, Some, Result, Ok, Err, All, IfErr, IfSome, slice_get}
 use Rattle.std.specs.Option.{option_map}
-use Rattle.mdmp_source.specs.Source.{FetchesSome}
+use Rattle.mdmp_source.specs.Source.{FetchesAtMost}
+use Rattle.mdmp_wire.specs.declared.entry.Entry.{Entry}
+use Rattle.mdmp_lister.specs.declared.choice.Choice.{Choice}
 use Rattle.mdmp_lister.specs.declared.fault.ListFault.{ListFault}
 use Rattle.mdmp_lister.specs.declared.item.Item.{Item}
 use Rattle.mdmp_lister.specs.declared.sink.RunFault.{RunFault}
 use Rattle.mdmp_lister.specs.declared.sink.RunFault.TheVariants as run
 use Rattle.mdmp_lister.specs.declared.sink.Stopped.{Stopped}
 use Rattle.mdmp_lister.specs.declared.verdict.Verdict.{Verdict}
+use Rattle.mdmp_lister.specs.Costs.{bad_name_cost, end_cost, items_cost}
 use Rattle.mdmp_lister.specs.Fault.{IsOfSource}
+use Rattle.mdmp_lister.specs.Following.{Cursor, Follows, IsBegun, IsChosenBehind, NoneChosenBehind, Standing, begun, through, within}
 use Rattle.mdmp_lister.specs.Format.Listing.{Numbered, Run, chosen, entry_listing, nothing, only_fault, verdicts}
 use Rattle.mdmp_lister.specs.Format.Numbers.{faulty_name, maybe_name}
 use Rattle.mdmp_lister.specs.Format.Ranges.{ranges_of}
 use Rattle.mdmp_lister.specs.Lister.{IsSameLister, ListerState, listing_behind}
 use Rattle.mdmp_lister.specs.Meter.{Moves}
-use Rattle.mdmp_lister.specs.Sink.{Handed, names_of_all}
+use Rattle.mdmp_lister.specs.Sink.{ComeNext, Handed, names_of_all}
 use Rattle.mdmp_lister.specs.Stage.{stop_after_run}
 
 -- the items of some entries, of each those before its fault
@@ -57,6 +61,49 @@ abbrev pub AreFirst : List Verdict → List Verdict → Result (Unit {0}) RunFau
 AreFirst all vs (Ok done) = all ≡ vs
 AreFirst all vs (Err fault) = (rest : List Verdict) × (all ≡ vs ++ rest)
 
+-- ---- what was judged of any file
+
+-- no record of the current entry is left
+abbrev pub IsAtEnd : Standing → Type 0
+IsAtEnd through = Unit {0}
+IsAtEnd begun = ⊥
+IsAtEnd (within given left offset) = left ≡ 0
+
+-- the same where the head of its stream may not be read yet
+pub data IsSpent (z : ℕ) (c : Cursor) : Type 0 where
+  read : IsAtEnd c.standing → IsSpent z c
+  empty : c.standing ≡ begun → (s : Standing) → IsBegun z c.current (Ok s) → IsAtEnd s → IsSpent z c
+
+module _ (choice : Choice) (entries : List Entry) (z limit : ℕ) where
+  -- this fault of an entry may stand there, or none where nothing is left of it
+  abbrev pub MayEnd : Cursor → Option ListFault → Type 0
+  MayEnd c None = IsSpent z c
+  MayEnd c (Some f) = (d : Cursor) × Follows choice entries z limit c (Err f) d
+
+  -- what is left of the current entry may be judged so: some items come next, and then its fault or none
+  pub record MayBeJudged (c : Cursor) (fault : Option ListFault) : Type 0 where
+    pub items : List Item
+    pub behind : Cursor
+    pub come : ComeNext choice entries z limit c items behind
+    pub ends : MayEnd behind fault
+
+  -- a verdict on the next chosen entry behind number `from`
+  pub record IsNextVerdict (from : ℕ) (v : Verdict) : Type 0 where
+    pub entry : Entry
+    pub first : IsChosenBehind choice entries from v.entry entry
+    pub judged : MayBeJudged (record { passed = v.entry + 1; current = entry; standing = begun }) v.fault
+
+  -- verdicts on the chosen entries behind number `from`, one behind the other
+  abbrev pub AreNextVerdicts : ℕ → List Verdict → Type 0
+  AreNextVerdicts from [] = Unit {0}
+  AreNextVerdicts from (v ∷ vs) = IsNextVerdict from v × AreNextVerdicts (v.entry + 1) vs
+
+  -- and then a check ends so: with none left, or where the store failed in the next one
+  abbrev pub EndsBehind : ℕ → Result (Unit {0}) RunFault → Type 0
+  EndsBehind from (Ok done) = NoneChosenBehind choice entries from
+  EndsBehind from (Err run.Stopped) = Unit {0}
+  EndsBehind from (Err (run.At f)) = (e : Entry) × IsChosenBehind choice entries from f.entry e
+
 -- ---- what is left
 
 -- nothing behind the last entry, and a fault of the store for good; behind a sink that wanted no more, what the entries give
@@ -92,6 +139,17 @@ names_at_end result = 0
 abbrev pub names_judged : List Item → List Verdict → ℕ
 names_judged items vs = names_of_all items + sum_by (λ v. names_at v.fault) vs
 
+-- ---- what is fetched
+
+-- at most the bytes of a name with the fault of an entry
+abbrev pub fault_cost : ℕ → Option ListFault → ℕ
+fault_cost limit (Some f) = bad_name_cost limit f.kind
+fault_cost limit None = 0
+
+-- and those of some items and verdicts
+abbrev pub check_cost : ℕ → ℕ → List Item → List Verdict → ℕ
+check_cost z limit items vs = items_cost z items + sum_by (λ v. fault_cost limit v.fault) vs
+
 -- ---- a check
 
 -- what a check leaves: a sink was handed some verdicts, and some items were read
@@ -112,4 +170,10 @@ pub record CheckLeaves {K : Type 0} (step : K → Verdict → Result (Unit {0}) 
   pub same : IsSameLister old new
   pub counts : Moves (names_judged items judged + names_at_end result) old.counts new.counts
   pub names : old.counts.names + names_judged items judged ≤ new.counts.names
-  pub fetches : FetchesSome old.source new.source
+  -- the streams of the entries that were judged, and of the one in which the store failed, and names
+  pub fetches : FetchesAtMost (check_cost old.source.size old.limit items judged + end_cost old.limit result) old.source new.source
+  -- of every file: the verdicts are on the chosen entries in their order, and may be those of a file
+  pub follow : AreNextVerdicts old.choice old.entries old.source.size old.limit old.passed judged
+  pub ends : EndsBehind old.choice old.entries old.source.size old.limit (behind_judged judged old.passed) result
+  -- behind a sink that wanted no more nothing is left of the entry that was judged last
+  pub standing : result ≡ Err run.Stopped → new.standing ≡ through

@@ -1,8 +1,9 @@
 -- What is read of a CodeView record.
-use Rattle.std.specs.Prelude.{◌≡◌, ◌≤◌, ◌+◌, ℕ, List, Result, IfOk, min, take}
+use Rattle.std.specs.Prelude.{◌≡◌, ◌≤◌, ◌+◌, ◌-◌, ◌==◌, ℕ, List, Result, Ok, Err, IfOk, drop, length, min, replicate, take, if◌then◌else◌}
 use Rattle.mdmp_source.specs.declared.fault.SourceFault.{SourceFault}
 use Rattle.mdmp_source.specs.declared.location.Location.{Location}
-use Rattle.mdmp_wire.specs.CodeView.{CodeViewValue, codeview_in, codeview_of}
+use Rattle.mdmp_wire.specs.CodeView.{CodeViewValue, codeview_in, codeview_of, rsds_signature}
+use Rattle.mdmp_wire.specs.Number.{number_at}
 use Rattle.mdmp_lister.specs.declared.codeview.CodeViewBytes.{CodeViewBytes}
 use Rattle.mdmp_lister.specs.declared.codeview.CodeViewRead.{CodeViewRead}
 use Rattle.mdmp_lister.specs.Fetching.{Reads}
@@ -16,7 +17,29 @@ codeview_told bytes = codeview_in (take (min bytes.size 24) bytes.head) bytes.re
 abbrev pub codeview_read : List ℕ → CodeViewRead → CodeViewValue
 codeview_read buffer read = codeview_in (take (min read.size 24) read.head) (take read.rest buffer) read.size
 
+-- how many bytes behind the first 24 of a record of so many are fetched: of one that begins with `RSDS` as many as there are,
+-- and as there is room for; of another none
+abbrev pub fetched_behind : List ℕ → ℕ → ℕ → ℕ
+fetched_behind head size room = if number_at head 0 4 == rsds_signature then min (size - 24) room else 0
+
+-- the first 24 bytes of a record of so many, behind whose end zeros stand, and how many were fetched behind them
+pub record AreFetched (at : Location) (room : ℕ) (head : List ℕ) (rest size : ℕ) : Type 0 where
+  pub size_is : size ≡ at.size
+  pub zeros : drop (min at.size 24) head ≡ replicate (24 - at.size) 0
+  pub rest_is : rest ≡ fetched_behind (take (min at.size 24) head) at.size room
+
+-- those bytes were fetched, whatever they are, and nothing else
+pub record FetchesCodeView (at : Location) (room : ℕ) (read : CodeViewRead) (old new : MeterState) : Type 0 where
+  pub fetched : AreFetched at room read.head read.rest read.size
+  pub books : BooksAside (min at.size 24 + read.rest) old new
+
+-- how many bytes of one are fetched; where the store fails at most the first 24 and so many as there is room for
+abbrev pub codeview_cost : Location → ℕ → Result CodeViewBytes SourceFault → ℕ
+codeview_cost at room (Ok bytes) = min at.size 24 + length bytes.rest.now
+codeview_cost at room (Err fault) = 24 + room
+
 -- the record at a location was read, its end into a buffer of so many bytes
 pub record ReadsCodeView (at : Location) (room : ℕ) (buffer : List ℕ) (result : Result CodeViewRead SourceFault) (old new : MeterState) : Type 0 where
   pub reads : Reads (BooksAside (24 + room)) (λ file read. codeview_read buffer read ≡ codeview_of file at room) result old new
   pub held : IfOk result (λ read. read.rest ≤ room)
+  pub fetches : IfOk result (λ read. FetchesCodeView at room read old new)

@@ -1,5 +1,6 @@
 -- What a listing fetches for what it gives.
-use Rattle.std.specs.Prelude.{◌≡◌, ◌≤◌, ◌+◌, ℕ, List, length, sum_by, Option, Some, None, Result, Ok, Err}
+use Rattle.std.specs.Prelude.{◌≡◌, ◌≤◌, ◌+◌, ◌-◌, ℕ, List, length, sum_by, Option, Some, None, Result, Ok, Err}
+use Rattle.mdmp_source.specs.Source.{FetchesAtMost, SourceState}
 use Rattle.mdmp_lister.specs.declared.fault.Fault.{Fault}
 use Rattle.mdmp_lister.specs.declared.fault.FaultKind.{FaultKind}
 use Rattle.mdmp_lister.specs.declared.fault.FaultKind.TheVariants.{NameOdd, NameUnitsOutside, Source}
@@ -110,3 +111,8 @@ items_cost z xs = sum_by (λ x. item_cost x + stream_begun z (summary_of x).stre
 abbrev pub end_cost : ℕ → Result (Unit {0}) RunFault → ℕ
 end_cost limit (Err (run.At f)) = bad_name_cost limit f.kind
 end_cost limit result = 0
+
+-- for these items at most so much was fetched, where before them `unread` bytes of a stream were not read, and behind them `left` are not
+pub record HasCost (unread : ℕ) (old : SourceState) (xs : List Item) (left : ℕ) (new : SourceState) : Type 0 where
+  pub fetches : FetchesAtMost (unread + items_cost old.size xs - left) old new
+  pub within : left ≤ unread + items_cost old.size xs

@@ -11,8 +11,10 @@ use Rattle.mdmp_lister.specs.declared.fetching.NameRead.{NameRead}
 use Rattle.mdmp_lister.specs.declared.heading.Head.{Head}
 use Rattle.mdmp_lister.specs.declared.kind.Kind.{Kind}
 use Rattle.mdmp_lister.specs.declared.kind.Kind.TheVariants.{Memory64}
+use Rattle.mdmp_lister.specs.declared.shape.Shape.{Shape}
 use Rattle.mdmp_lister.specs.declared.step.Step.{Step}
 use Rattle.mdmp_lister.specs.Costs.{name_spent, read_cost, step_spent}
+use Rattle.mdmp_lister.specs.Following.{mapped}
 use Rattle.mdmp_lister.specs.Heading.{head_spent}
 use Rattle.mdmp_lister.specs.Holding.{ComesTo, fills, left_behind, started, unfetched}
 use Rattle.mdmp_lister.specs.Meter.{Books, MeterState, Spends}
@@ -37,6 +39,10 @@ pub record IsHeadOf (size : ℕ) (kind : Kind) (head : Head) : Type 0 where
   pub ranges : kind ≡ Memory64 → (head.shape.first ≡ 16) × (head.shape.stride ≡ 16)
   -- the records stand behind it
   pub behind : head_cost (form_of kind) ≤ head.shape.first
+
+-- where the records of a stream stand whose head was read so
+abbrev pub shape_told : Result Head Fault → Result Shape Fault
+shape_told r = mapped (λ head. head.shape) r
 
 -- the head of a stream of so many bytes and of this kind was read, or is too short
 pub record ReadsHead (size : ℕ) (kind : Kind) (result : Result Head Fault) (old new : MeterState) : Type 0 where

@@ -5,7 +5,9 @@ pub mod CodeView
 pub mod Costs
 pub mod Counts
 pub mod Fault
+pub mod FaultLaws
 pub mod Fetching
+pub mod Following
 pub mod Format
 pub mod Heading
 pub mod Holding

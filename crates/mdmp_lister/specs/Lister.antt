@@ -7,7 +7,10 @@ use Rattle.mdmp_source.specs.Store.{IsGood}
 use Rattle.mdmp_source.specs.declared.fault.SourceFault.{SourceFault}
 use Rattle.mdmp_wire.specs.declared.entry.Entry.{Entry}
 use Rattle.mdmp_wire.specs.declared.header.Header.{Header}
+use Rattle.mdmp_source.specs.Range.{IsInside}
 use Rattle.mdmp_wire.specs.Header.{header_at}
+use Rattle.mdmp_wire.specs.HeaderFault.{fault_of}
+use Rattle.mdmp_lister.specs.Format.Refusal.{most_ranges}
 use Rattle.mdmp_lister.specs.declared.choice.Choice.{Choice}
 use Rattle.mdmp_lister.specs.declared.fault.FaultKind.{FaultKind}
 use Rattle.mdmp_lister.specs.declared.fault.FaultKind.TheVariants.{Source}
@@ -19,6 +22,8 @@ use Rattle.mdmp_lister.specs.declared.limits.Limits.{Limits}
 use Rattle.mdmp_lister.specs.declared.shape.Shape.{Shape}
 use Rattle.mdmp_lister.specs.Format.Classes.{IsClassed}
 use Rattle.mdmp_lister.specs.Costs.{LeavesUnread, answer_cost, begun_by, stream_begun}
+use Rattle.mdmp_lister.specs.declared.step.Step.{Step}
+use Rattle.mdmp_lister.specs.Following.{Cursor, Follows, Standing, records_by, through}
 use Rattle.mdmp_lister.specs.Format.Numbers.{most_names_in, names_in, range_count}
 use Rattle.mdmp_lister.specs.Format.Directory.{IsDirectory}
 use Rattle.mdmp_lister.specs.Heading.{heads_ahead}
@@ -31,6 +36,7 @@ use Rattle.mdmp_lister.specs.declared.meter.MeterCounts.{MeterCounts}
 use Rattle.mdmp_lister.specs.Format.Ranges.{ranges_of}
 use Rattle.mdmp_lister.specs.Fault.{IsOfSource, IsSteady, IsToldIn}
 use Rattle.mdmp_lister.specs.Stage.{stop_after}
+use Rattle.mdmp_lister.specs.Step.{TellsAnswer}
 use Rattle.mdmp_lister.specs.Format.Summary.{entry_begun, number_behind, summary_of}
 
 -- what a lister has room for: entries of the directory, bytes of its window, and ranges
@@ -63,6 +69,8 @@ pub record ListerState : Type 0 where
   pub stop : Option (Option ListFault)
   -- the bytes of the current entry's stream that may still be fetched
   pub unread : ℕ
+  -- how far the current entry was given
+  pub standing : Standing
   -- how many records of the current entry are left, once its head was read
   pub records : ℕ
   -- a number that falls with each item
@@ -86,6 +94,7 @@ pub record HasRecordsLeft (file : List ℕ) (v : ListerState) (n : ℕ) : Type 0
 -- so many are left, and where the file is known they are records of it
 pub record IsRecordsLeft (v : ListerState) (n : ℕ) : Type 0 where
   pub value : n ≡ v.records
+  pub stands : n ≡ records_by v.standing
   pub of_file : (file : List ℕ) → v.source.store.content ≡ Some file → 0 < n → HasRecordsLeft file v n
 
 -- a run without its first item
@@ -128,6 +137,21 @@ GivesRecord old (Ok None) new = old ≡ 0
 GivesRecord old (Ok (Some item)) new = 0 < old → ((summary_of item).stream ≡ None) × (old ≡ new + 1)
 GivesRecord old (Err f) new = Unit {0}
 
+-- where it stands in its directory
+abbrev pub cursor_in : ListerState → Cursor
+cursor_in v = record { passed = v.passed; current = v.current; standing = v.standing }
+
+-- an answer, whatever place the name of its item is lent from
+abbrev pub plain_answer : Result (Option Item) ListFault → Result (Option Item) ListFault
+plain_answer (Ok (Some item)) = Ok (Some (plain item))
+plain_answer answer = answer
+
+-- a request was answered with what may come next, whatever the file holds, as it was read
+pub record AnswersNext (old : ListerState) (result : Result (Option Item) ListFault) (new : ListerState) : Type 0 where
+  pub read : Result (Option Step) ListFault
+  pub told : TellsAnswer old.source.size read (plain_answer result)
+  pub follows : Follows old.choice old.entries old.source.size old.limit (cursor_in old) read (cursor_in new)
+
 -- the ranges inside the file of an answer
 abbrev pub ranges_answered : Result (Option Item) ListFault → List Range
 ranges_answered (Ok (Some item)) = ranges_of (item ∷ [])
@@ -153,6 +177,9 @@ pub record IsNewList (source : SourceState) (choice : Choice) (limits : Limits) 
   pub steady : IsSteady source new.source
   pub header_is : (file : List ℕ) → source.store.content ≡ Some file → new.header ≡ header_at file 0
   pub directory : (file : List ℕ) → source.store.content ≡ Some file → IsDirectory file new.entries
+  -- of every file: the header is one of a minidump, and the directory lies inside
+  pub checked : fault_of new.header ≡ None
+  pub inside : IsInside new.header.stream_directory_rva (12 * new.header.number_of_streams) source.size
   pub count : length new.entries ≡ new.header.number_of_streams
   pub choice_is : new.choice ≡ choice
   pub limit_is : new.limit ≡ limits.name
@@ -164,6 +191,7 @@ pub record IsNewList (source : SourceState) (choice : Choice) (limits : Limits) 
   pub left : new.left ≡ option_map (λ file. listing file choice limits.name) source.store.content
   pub unread : new.unread ≡ 0
   pub stop : new.stop ≡ None
+  pub standing : new.standing ≡ through
 
 -- a lister that was opened over a source, and has given nothing
 pub record IsNewLister (source : SourceState) (choice : Choice) (limits : Limits) (new : ListerState) : Type 0 where
@@ -172,6 +200,7 @@ pub record IsNewLister (source : SourceState) (choice : Choice) (limits : Limits
   pub fetches : FetchesAtMost (32 + 12 * new.header.number_of_streams + heads_ahead choice source.size new.entries) source new.source
   pub calls : new.source.calls ≤ raised source.calls (1 + 2 * new.header.number_of_streams)
   pub range_room : (file : List ℕ) → source.store.content ≡ Some file → new.rooms.ranges ≡ range_count file choice
+  pub few : new.rooms.ranges ≤ most_ranges
 
 -- what no listing changes
 pub record IsSameLister (old new : ListerState) : Type 0 where
@@ -214,6 +243,8 @@ pub record Leaves (old : ListerState) (result : Result (Option Item) ListFault) 
 -- and of a lister, which keeps the ranges that it gives, and whose count of names is never at its greatest
 pub record ListerLeaves (old : ListerState) (result : Result (Option Item) ListFault) (new : ListerState) : Type 0 where
   pub list : Leaves old result new
+  -- what comes next, whatever the file holds
+  pub follows : old.stop ≡ None → AnswersNext old result new
   pub ranges : new.ranges ≡ old.ranges ++ ranges_answered result
   pub few_names : new.counts.names + 1 < 2 ^ 128
 

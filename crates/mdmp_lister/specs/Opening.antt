@@ -1,5 +1,5 @@
 -- What an opening answers.
-use Rattle.std.specs.Prelude.{◌≡◌, ◌≤◌, ◌<◌, false, ℕ, ◌+◌, ◌*◌, List, length, Option, Some, None, Result, Ok, Err, IfErr, IfOk, IfSome}
+use Rattle.std.specs.Prelude.{◌≡◌, ◌≤◌, ◌<◌, false, ℕ, ◌+◌, ◌*◌, List, length, Option, Some, None, Result, Ok, Err, IfErr, IfOk, IfSome, slice_get}
 use Rattle.mdmp_source.specs.Count.{raised}
 use Rattle.mdmp_source.specs.Source.{SourceState, FailsOnce, FetchesAtMost, IsTold}
 use Rattle.mdmp_source.specs.Store.{IsGood, IsSizeOf}
@@ -8,10 +8,12 @@ use Rattle.mdmp_wire.specs.declared.entry.Entry.{Entry}
 use Rattle.mdmp_wire.specs.declared.header.Header.{Header}
 use Rattle.mdmp_source.specs.Range.{IsInside, bytes_at, is_inside}
 use Rattle.mdmp_wire.specs.Header.{header_at}
+use Rattle.mdmp_wire.specs.HeaderFault.{fault_of, minidump_version}
 use Rattle.mdmp_lister.specs.declared.choice.Choice.{Choice}
 use Rattle.mdmp_lister.specs.declared.fault.OpenFault.{OpenFault}
 use Rattle.mdmp_lister.specs.declared.fault.OpenFault.TheVariants.{TooShort, BadSignature, BadVersion, DirectoryOutside, TooManyRanges, Source, Memory}
 use Rattle.mdmp_lister.specs.Format.Directory.{AreFirst, IsDirectory, IsFirstChosen}
+use Rattle.mdmp_lister.specs.Following.{IsChosenBehind, NoneChosenBehind}
 use Rattle.mdmp_lister.specs.Heading.{heads_ahead}
 use Rattle.mdmp_lister.specs.Format.Listing.{entry_count}
 use Rattle.mdmp_lister.specs.Fault.{IsCaused, IsSteady}
@@ -99,6 +101,7 @@ pub record IsHandedBackBare (old : SourceState) (fault : OpenFault) (new : Sourc
 -- a file of `size` bytes may be refused so, whatever its bytes
 abbrev pub IsOpenRefusal : ℕ → OpenFault → Type 0
 IsOpenRefusal size (TooShort told) = (told ≡ size) × (size < 32)
+IsOpenRefusal size (BadVersion low) = (32 ≤ size) × (low ≡ minidump_version → ⊥)
 IsOpenRefusal size (DirectoryOutside offset len) = is_inside offset len size ≡ false
 IsOpenRefusal size (TooManyRanges count) = (32 ≤ size) × (most_ranges < count)
 IsOpenRefusal size fault = 32 ≤ size
@@ -115,6 +118,7 @@ pub record IsHeaderIn (bytes : List ℕ) (size : ℕ) (result : Result Header Op
   pub refusal : IfErr result (IsBareRefusal size)
   pub long : (told : ℕ) → result ≡ Err (TooShort told) → ⊥
   pub read : unread_fault result ≡ None
+  pub checked : IfOk result (λ header. fault_of header ≡ None)
 
 -- what is told of the header of a file fits its size, whatever its bytes
 pub record FitsHeader (old : SourceState) (result : Result Header OpenFault) (new : SourceState) : Type 0 where
@@ -122,6 +126,7 @@ pub record FitsHeader (old : SourceState) (result : Result Header OpenFault) (ne
   pub inside : IfOk result (λ header. IsInside header.stream_directory_rva (12 * header.number_of_streams) old.size)
   pub refusal : IfErr result (IsBareRefusal old.size)
   pub short : old.size < 32 → result ≡ Err (TooShort old.size)
+  pub checked : IfOk result (λ header. fault_of header ≡ None)
   -- a file that is too short is not touched
   pub untouched : (size : ℕ) → result ≡ Err (TooShort size) → new ≡ old
 
@@ -145,9 +150,15 @@ pub record IsRefused (old : SourceState) (fault : OpenFault) (new : SourceState)
 
 -- ---- the next chosen entry
 
+-- it is the first one behind number `from`, or there is none
+abbrev pub StandsBehind : Choice → List Entry → ℕ → Option ℕ → Type 0
+StandsBehind choice entries from None = NoneChosenBehind choice entries from
+StandsBehind choice entries from (Some at) = (e : Entry) → slice_get entries at ≡ Some e → IsChosenBehind choice entries from at e
+
 -- this is the number of the first chosen entry from number `from` on, or there is none
 pub record IsNextChosen (choice : Choice) (from : ℕ) (entries : List Entry) (result : Option ℕ) : Type 0 where
   pub within : IfSome result (λ at. (from ≤ at) × (at < length entries))
   pub first : (file : List ℕ) → IsDirectory file entries → IsFirstChosen file choice from result
+  pub stands : StandsBehind choice entries from result
   -- what it and those behind it cost is no more than what the entries from there on do
   pub costs : (f : ℕ → ℕ) (size : ℕ) → CostsFrom f choice size from result entries

@@ -2,17 +2,22 @@
 use Rattle.std.specs.Prelude.{◌≡◌, ◌≤◌, ◌+◌, ◌-◌, ◌⊎◌, sum_by, ℕ, List, [], ◌∷◌, ◌++◌, None, Some, Result, Ok, Err}
 use Rattle.mdmp_source.specs.Source.{FetchesAtMost}
 use Rattle.mdmp_wire.specs.declared.entry.Entry.{Entry}
+use Rattle.mdmp_lister.specs.declared.choice.Choice.{Choice}
+use Rattle.mdmp_lister.specs.declared.fault.ListFault.{ListFault}
 use Rattle.mdmp_lister.specs.declared.item.Item.{Item}
+use Rattle.mdmp_lister.specs.declared.step.Step.{Step}
 use Rattle.mdmp_lister.specs.declared.sink.RunFault.{RunFault}
 use Rattle.mdmp_lister.specs.declared.sink.RunFault.TheVariants as run
 use Rattle.mdmp_lister.specs.declared.sink.Stopped.{Stopped}
 use Rattle.mdmp_lister.specs.Format.Classes.{IsClassed}
 use Rattle.mdmp_lister.specs.Costs.{end_cost, items_cost}
 use Rattle.mdmp_lister.specs.Format.Numbers.{faulty_name, maybe_name, names_of}
-use Rattle.mdmp_lister.specs.Lister.{ListerState, current_after, passed_after}
+use Rattle.mdmp_lister.specs.Lister.{ListerState, current_after, cursor_in, passed_after}
 use Rattle.mdmp_lister.specs.Format.Listing.{Run, nothing, only_fault}
 use Rattle.mdmp_lister.specs.Format.Ranges.{ranges_of}
 use Rattle.mdmp_lister.specs.Fault.{IsOfSource}
+use Rattle.mdmp_lister.specs.Following.{Cursor, Follows}
+use Rattle.mdmp_lister.specs.Step.{TellsItem}
 
 -- these items, and then a run
 abbrev pub give_all : List Item → Run → Run
@@ -60,6 +65,30 @@ abbrev pub NamesAtEnd : List Item → Result (Unit {0}) RunFault → ℕ → ℕ
 NamesAtEnd xs (Err (run.At f)) old new = (old + names_of_all xs + faulty_name f.kind ≤ new) × (new ≤ old + names_of_all xs + maybe_name f.kind)
 NamesAtEnd xs result old new = Unit {0}
 
+module _ (choice : Choice) (entries : List Entry) (z limit : ℕ) where
+  -- an item may come next, as it was read, whatever the file holds
+  pub record ComesNext (c : Cursor) (x : Item) (d : Cursor) : Type 0 where
+    pub read : Step
+    pub told : TellsItem z read x
+    pub follows : Follows choice entries z limit c (Ok (Some read)) d
+
+  -- these items may come one after the other
+  abbrev pub ComeNext : Cursor → List Item → Cursor → Type 0
+  ComeNext c [] d = d ≡ c
+  ComeNext c (x ∷ xs) d = (m : Cursor) × (ComesNext c x m × ComeNext m xs d)
+
+  -- a run may end so
+  abbrev pub EndsNext : Cursor → Result (Unit {0}) RunFault → Cursor → Type 0
+  EndsNext c (Ok done) d = Follows choice entries z limit c (Ok None) d
+  EndsNext c (Err (run.At f)) d = Follows choice entries z limit c (Err f) d
+  EndsNext c (Err run.Stopped) d = d ≡ c
+
+  -- these items may be given, and then a run end so, whatever the file holds
+  pub record RunFollows (c : Cursor) (xs : List Item) (result : Result (Unit {0}) RunFault) (d : Cursor) : Type 0 where
+    pub behind : Cursor
+    pub come : ComeNext c xs behind
+    pub ends : EndsNext behind result d
+
 module _ {K X : Type 0} (step : K → X → Result (Unit {0}) Stopped → K → Type 0) where
   -- the sink took all of xs
   abbrev pub Taken : K → List X → K → Type 0
@@ -91,3 +120,16 @@ pub record RunLeaves {K : Type 0} (step : K → Item → Result (Unit {0}) Stopp
   -- what came off the unread bytes of streams, and names
   pub fetches : FetchesAtMost (old.unread + items_cost old.source.size items + end_cost old.limit result - new.unread) old.source new.source
   pub unread : new.unread ≤ old.unread + items_cost old.source.size items
+  pub follows : old.stop ≡ None → RunFollows old.choice old.entries old.source.size old.limit (cursor_in old) items result (cursor_in new)
+
+-- ---- a run for the ranges alone
+
+abbrev pub run_answer : Result (Unit {0}) ListFault → Result (Unit {0}) RunFault
+run_answer (Ok done) = Ok done
+run_answer (Err f) = Err (run.At f)
+
+-- some items may be given, whatever the file holds, and then the run end so; their ranges inside the file were kept
+pub record RangesFollow (old : ListerState) (result : Result (Unit {0}) ListFault) (new : ListerState) : Type 0 where
+  pub items : List Item
+  pub ranges : new.ranges ≡ old.ranges ++ ranges_of items
+  pub follows : RunFollows old.choice old.entries old.source.size old.limit (cursor_in old) items (run_answer result) (cursor_in new)

@@ -1,13 +1,14 @@
 -- How far a walk has listed the current entry, and what it answers from then on.
 use Rattle.std.specs.Prelude.{◌≡◌, ◌-◌, ℕ, Bool, true, false, Option, None, Some, Result, Ok, Err}
 use Rattle.mdmp_lister.specs.Fault.{TellsNoChange}
+use Rattle.mdmp_lister.specs.Following.{Standing, begun, through, within}
 use Rattle.mdmp_lister.specs.declared.fault.FaultKind.{FaultKind}
 use Rattle.mdmp_lister.specs.declared.fault.FaultKind.TheVariants.{Source}
 use Rattle.mdmp_lister.specs.declared.fault.ListFault.{ListFault}
 use Rattle.mdmp_lister.specs.declared.sink.RunFault.{RunFault}
 use Rattle.mdmp_lister.specs.declared.sink.RunFault.TheVariants as run
 use Rattle.mdmp_lister.specs.declared.stage.Stage.{Stage}
-use Rattle.mdmp_lister.specs.declared.stage.Stage.TheVariants.{Between, Records, Bad, Failed, Ended}
+use Rattle.mdmp_lister.specs.declared.stage.Stage.TheVariants.{Between, Head, Records, Bad, Failed, Ended}
 
 -- the stage behind a fault: one of the store stays for good
 abbrev pub stage_by : FaultKind → ListFault → Stage
@@ -54,6 +55,12 @@ ends stage = false
 abbrev pub records_left_in : Stage → ℕ
 records_left_in (Records kind shape index offset) = shape.count - index
 records_left_in stage = 0
+
+-- how far the current entry was given
+abbrev pub standing_of : Stage → Standing
+standing_of Head = begun
+standing_of (Records kind shape index offset) = within index (shape.count - index) offset
+standing_of stage = through
 
 -- the stage tells what a request was answered
 abbrev pub IsStageAfter : {X : Type 0} → Result (Option X) ListFault → Stage → Type 0

@@ -1,5 +1,5 @@
 -- Items whose names stand in a buffer.
-use Rattle.std.specs.Prelude.{◌≡◌, ℕ, List, Option, Some, None, Result, Ok, Err, ◌≤◌, ◌<◌, ◌+◌, ◌%◌, take}
+use Rattle.std.specs.Prelude.{◌≡◌, ℕ, List, Option, Some, None, Result, Ok, Err, ◌≤◌, ◌<◌, ◌+◌, ◌%◌, length, take}
 use Rattle.mdmp_wire.specs.AnyRecord.{name_rva}
 use Rattle.mdmp_wire.specs.declared.any_record.AnyRecord.{AnyRecord}
 use Rattle.mdmp_wire.specs.declared.any_record.AnyRecord.TheVariants as any
@@ -94,3 +94,21 @@ current_by s e = entry_begun (stream_told s) e
 abbrev pub CurrentAfter : Result (Option Step) ListFault → Entry → Entry → Type 0
 CurrentAfter (Ok (Some s)) old new = new ≡ current_by s old
 CurrentAfter answer old new = new ≡ old
+
+-- ---- an item that is told of a step
+
+-- the name is told, of units their bytes
+abbrev pub IsNameTold : NameRead → Name → Type 0
+IsNameTold read.None name = name ≡ names.None
+IsNameTold (read.Long bytes) name = name ≡ Long bytes
+IsNameTold (read.Units bytes) name = (units : List ℕ) × ((length units ≡ bytes) × (name ≡ Units (units_over units)))
+
+-- what was read tells this item, in a file of z bytes
+abbrev pub TellsItem : ℕ → Step → Item → Type 0
+TellsItem z (step.Stream x) item = item ≡ items.Stream x
+TellsItem z (step.Record r) item = (name : Name) × (IsNameTold r.name name × (item ≡ item_of z r.entry r.index r.offset r.fields name))
+
+abbrev pub TellsAnswer : ℕ → Result (Option Step) ListFault → Result (Option Item) ListFault → Type 0
+TellsAnswer z (Ok None) answer = answer ≡ Ok None
+TellsAnswer z (Ok (Some s)) answer = (item : Item) × ((answer ≡ Ok (Some item)) × TellsItem z s item)
+TellsAnswer z (Err f) answer = answer ≡ Err f

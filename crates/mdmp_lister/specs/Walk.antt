@@ -16,6 +16,7 @@ use Rattle.mdmp_source.specs.declared.fault.SourceFault.{SourceFault}
 use Rattle.mdmp_source.specs.Window.{WindowState}
 use Rattle.mdmp_wire.specs.declared.entry.Entry.{Entry}
 use Rattle.mdmp_wire.specs.Header.{header_at}
+use Rattle.mdmp_wire.specs.HeaderFault.{fault_of as header_fault_of}
 use Rattle.mdmp_lister.specs.declared.choice.Choice.{Choice}
 use Rattle.mdmp_lister.specs.declared.fault.ListFault.{ListFault}
 use Rattle.mdmp_lister.specs.declared.kind.Kind.{Kind}
@@ -35,9 +36,10 @@ use Rattle.mdmp_lister.specs.Format.Listing.{Run, nothing, only_fault, with_item
 use Rattle.mdmp_lister.specs.Meter.{Books}
 use Rattle.mdmp_lister.specs.Format.Refusal.{directory_refusal}
 use Rattle.mdmp_lister.specs.Fault.{IsCaused, IsOfSource, IsSteady}
+use Rattle.mdmp_lister.specs.Following.{Cursor}
 use Rattle.mdmp_lister.specs.Format.Shape.{FitsIn, shape_of}
 use Rattle.mdmp_lister.specs.Format.Kind.{greatest_record, kind_of}
-use Rattle.mdmp_lister.specs.Stage.{failure_of, fault_stage, records_left_in}
+use Rattle.mdmp_lister.specs.Stage.{failure_of, fault_stage, records_left_in, standing_of}
 use Rattle.mdmp_lister.specs.Step.{passed_by, step_item}
 
 -- what is left of an entry with this number
@@ -139,6 +141,9 @@ module _ {S A : Type 0} where
     pub entries : vec_len w.entries ≡ w.header.number_of_streams
     pub room : vec_capacity w.entries ≡ w.header.number_of_streams
     pub inside : 12 * w.header.number_of_streams ≤ source.size
+    -- its header is one of a minidump, and its directory lies inside the file
+    pub checked : header_fault_of w.header ≡ None
+    pub placed : IsInside w.header.stream_directory_rva (12 * w.header.number_of_streams) source.size
     pub choice_is : w.choice ≡ choice
     pub window : w.window.room ≡ limits.window
     pub name : vec_len w.name ≡ limits.name
@@ -159,6 +164,10 @@ module _ {S A : Type 0} where
     pub count : (file : List ℕ) → old.meter.source.store.content ≡ Some file → IfOk result (λ count. count ≡ range_count file old.choice)
     pub books : Books (vec_len old.entries) (heads_ahead old.choice old.meter.source.size old.entries.items) old.meter new.meter
     pub caused : IsCaused (fault_of result) old.meter.source new.meter.source
+
+  -- where it stands in its directory
+  abbrev pub cursor_of : Walk S A → Cursor
+  cursor_of w = record { passed = w.next; current = w.current; standing = standing_of w.stage }
 
   -- what is left of the current entry
   abbrev pub current_of : Walk S A → List ℕ → Run

@@ -1,33 +1,27 @@
 -- What a contract sees of a walker.
-use Rattle.std.specs.Prelude.{◌≡◌, ◌≤◌, ◌<◌, ◌+◌, ◌-◌, ◌*◌, ◌^◌, ℕ, List, Bool, true, false, Option, None, Some, Result, Ok, Err, IfErr, IfOk, IsTrue, length, slice_get}
+use Rattle.std.specs.Prelude.{◌≡◌, ◌≤◌, ◌<◌, ◌+◌, ◌-◌, ◌*◌, ◌^◌, ℕ, List, Bool, true, false, Option, None, Some, Result, Ok, Err, IfErr, IfOk, IfSome, IsTrue, slice_get}
 use Rattle.std.specs.Option.{option_map}
 use Rattle.mdmp_source.specs.Count.{raised}
 use Rattle.mdmp_source.specs.Source.{SourceState, FetchesAtMost}
 use Rattle.mdmp_source.specs.Store.{IsGood}
 use Rattle.mdmp_wire.specs.declared.entry.Entry.{Entry}
-use Rattle.mdmp_wire.specs.Units.{units_over}
 use Rattle.mdmp_lister.specs.declared.choice.Choice.{Choice}
 use Rattle.mdmp_lister.specs.declared.fault.ListFault.{ListFault}
-use Rattle.mdmp_lister.specs.declared.fetching.NameRead.{NameRead}
-use Rattle.mdmp_lister.specs.declared.fetching.NameRead.TheVariants as read
 use Rattle.mdmp_lister.specs.declared.item.Item.{Item}
-use Rattle.mdmp_lister.specs.declared.item.Item.TheVariants as items
-use Rattle.mdmp_lister.specs.declared.name.Name.{Name}
-use Rattle.mdmp_lister.specs.declared.name.Name.TheVariants.{Units, Long}
-use Rattle.mdmp_lister.specs.declared.name.Name.TheVariants as names
 use Rattle.mdmp_lister.specs.declared.step.Step.{Step}
-use Rattle.mdmp_lister.specs.declared.step.Step.TheVariants as step
 use Rattle.mdmp_lister.specs.declared.limits.Limits.{Limits}
 use Rattle.mdmp_lister.specs.declared.meter.MeterCounts.{MeterCounts}
 use Rattle.mdmp_lister.specs.declared.position.Position.{Position}
 use Rattle.mdmp_lister.specs.declared.position.Position.TheVariants.{Begun, Sought, Within}
 use Rattle.mdmp_lister.specs.Costs.{begun_by}
 use Rattle.mdmp_lister.specs.Fault.{IsOfSource, IsToldIn, TellsNoChange}
-use Rattle.mdmp_lister.specs.Format.Item.{item_of, plain}
+use Rattle.mdmp_lister.specs.Following.{Follows, IsBegun, begun, records_by}
+use Rattle.mdmp_lister.specs.Format.Item.{plain}
 use Rattle.mdmp_lister.specs.Format.Kind.{HasNoNames, kind_of}
 use Rattle.mdmp_lister.specs.Format.Listing.{Run, listing_sought, only_fault, records_told, stream_item}
-use Rattle.mdmp_lister.specs.Lister.{Gives, IsNewList, IsSameLister, Leaves, ListerState, is_of_source}
+use Rattle.mdmp_lister.specs.Lister.{AnswersNext, Gives, cursor_in, IsNewList, IsSameLister, Leaves, ListerState, is_of_source}
 use Rattle.mdmp_lister.specs.Meter.{Moves}
+use Rattle.mdmp_lister.specs.Step.{TellsAnswer}
 use Rattle.mdmp_lister.specs.Walk.Paying.{entry_cost}
 use Rattle.mdmp_lister.specs.Walk.Positions.{mark_by, position_by}
 
@@ -89,6 +83,10 @@ pub record WalkerLeaves (old : WalkerState) (result : Result (Option Item) ListF
   pub unchanged : IfErr result (λ f. TellsNoChange f.kind)
   -- no name is reached in an entry whose records have none
   pub nameless : HasNoNames (kind_of old.list.current.stream_type) → new.list.counts.names ≡ old.list.counts.names
+  -- what comes next, whatever the file holds, where no entry is sought
+  pub follows : old.list.stop ≡ None → is_sought old ≡ false → AnswersNext old.list result new.list
+  -- behind a Stream item, of an entry that was sought too, the entry has begun
+  pub begins : IfSome (begun_by result) (λ _. new.list.standing ≡ begun)
 
 -- ---- entries that are sought
 
@@ -108,26 +106,10 @@ pub record IsSought (number : ℕ) (old new : WalkerState) : Type 0 where
   pub goes : is_failed old.list.stop ≡ false → IsSoughtAt number old new
   pub stays : IsTrue (is_failed old.list.stop) → new ≡ old
   -- nothing is fetched or counted, and all else stays
-  pub same : new.list ≡ record old.list { left = new.list.left; stop = new.list.stop; unread = new.list.unread; records = new.list.records; work = new.list.work }
+  pub same : new.list ≡ record old.list { left = new.list.left; stop = new.list.stop; unread = new.list.unread; standing = new.list.standing; records = new.list.records; work = new.list.work }
   pub mark : new.mark ≡ old.mark
 
 -- ---- an item as it was read
-
--- the name is told, of units their bytes
-abbrev pub IsNameTold : NameRead → Name → Type 0
-IsNameTold read.None name = name ≡ names.None
-IsNameTold (read.Long bytes) name = name ≡ Long bytes
-IsNameTold (read.Units bytes) name = (units : List ℕ) × ((length units ≡ bytes) × (name ≡ Units (units_over units)))
-
--- what was read tells this item, in a file of z bytes
-abbrev pub TellsItem : ℕ → Step → Item → Type 0
-TellsItem z (step.Stream x) item = item ≡ items.Stream x
-TellsItem z (step.Record r) item = (name : Name) × (IsNameTold r.name name × (item ≡ item_of z r.entry r.index r.offset r.fields name))
-
-abbrev pub TellsAnswer : ℕ → Result (Option Step) ListFault → Result (Option Item) ListFault → Type 0
-TellsAnswer z (Ok None) answer = answer ≡ Ok None
-TellsAnswer z (Ok (Some s)) answer = (item : Item) × ((answer ≡ Ok (Some item)) × TellsItem z s item)
-TellsAnswer z (Err f) answer = answer ≡ Err f
 
 -- a request for the next item as it was read leaves what `next` does, whose answer it tells
 pub record StepLeaves (old : WalkerState) (result : Result (Option Step) ListFault) (new : WalkerState) : Type 0 where
@@ -175,3 +157,9 @@ pub record CountsRecords (old : WalkerState) (result : Result ℕ ListFault) (ne
   pub mark : new.mark ≡ old.mark
   pub position : new.position ≡ old.position
   pub rests : new.list.work ≤ old.list.work
+  -- whatever the file holds, that many records of it are left: how far it was given once its head was read, or a fault that
+  -- may come next. The head is read once.
+  pub stands : IfOk result (λ count. count ≡ records_by new.list.standing)
+  pub again : (old.list.standing ≡ begun → ⊥) → new ≡ old
+  pub begins : IfOk result (λ _. old.list.standing ≡ begun → IsBegun old.list.source.size old.list.current (Ok new.list.standing))
+  pub follows : IfErr result (λ f. old.list.stop ≡ None → Follows old.list.choice old.list.entries old.list.source.size old.list.limit (cursor_in old.list) (Err f) (cursor_in new.list))

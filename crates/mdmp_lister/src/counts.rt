@@ -6,6 +6,10 @@ use crate::choice::Choice;
 use crate::kind::Kind;
 use mdmp_source::inside;
 use mdmp_wire::Entry;
+use std::mem::size_of;
+
+// What the directory takes for each entry.
+const _: () = prove!(size_of::<Entry>() == 12);
 
 /// What a lister has room for, what it has fetched and in how many calls, and the numbers that bound
 /// them. An entry, a stream or a name that stands in a file more than once counts each time.

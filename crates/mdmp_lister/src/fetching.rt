@@ -3,6 +3,7 @@ ghost use Rattle.std.specs.Prelude.{◌≡◌, ◌≤◌, ◌<◌, ◌+◌, ◌^
 ghost use Rattle.mdmp_source.specs.Range.{IsInside, bytes_at};
 ghost use Rattle.mdmp_wire.specs.Number.{u32_at};
 ghost use Rattle.mdmp_lister.specs.Fetching.{Reads, ReadsName};
+ghost use Rattle.mdmp_lister.specs.Following.{IsSomeName};
 ghost use Rattle.mdmp_lister.specs.Meter.{Books};
 ghost use Rattle.mdmp_lister.specs.Format.Name.{name_at};
 ghost use Rattle.mdmp_lister.specs.Fault.{Answers};
@@ -69,6 +70,7 @@ pub(crate) fn read_name<S: Store>(
     ensures name { (file : List ℕ) → meter.old.source.store.content ≡ Some file
         → Answers (name_at file rva (length buffer.new)) (name_read buffer.new) result }
     ensures held { IfOk result (IsHeld (length buffer.new)) }
+    ensures some { IsSomeName meter.old.source.size (length buffer.new) rva result }
     ensures reads { ReadsName (length buffer.new) rva result meter.old meter.new }
 {
     let size = meter.size();

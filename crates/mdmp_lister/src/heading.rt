@@ -2,7 +2,8 @@
 ghost use Rattle.std.specs.Prelude.{◌≡◌, ◌≤◌, ◌+◌, ℕ, List, Some, length, IfErr, IfOk};
 ghost use Rattle.mdmp_source.specs.Range.{IsInside, bytes_at};
 ghost use Rattle.mdmp_wire.specs.Number.{number_at};
-ghost use Rattle.mdmp_lister.specs.Fetching.{BeginsStream, IsHeadOf, ReadsHead};
+ghost use Rattle.mdmp_lister.specs.Fetching.{BeginsStream, IsHeadOf, ReadsHead, shape_told};
+ghost use Rattle.mdmp_lister.specs.Following.{IsSomeHead, IsSomeShape};
 ghost use Rattle.mdmp_lister.specs.Format.Kind.{form_of, greatest_record, record_size};
 ghost use Rattle.mdmp_lister.specs.Format.Numbers.{maybe_name};
 ghost use Rattle.mdmp_lister.specs.Heading.{IsShort};
@@ -47,7 +48,7 @@ fn check_head(at: Location, kind: Kind) -> Result<(), Fault>
 
 /// What the head of a stream says, by its bytes, or the fault that it shows: a bad header size, a bad
 /// entry size, a bad count.
-#[tactic(auto, using(crate::proofs::Paying::few_records), unfolding(crate::specs::Format::Shape::shape_of))]
+#[tactic(auto, using(crate::proofs::Paying::few_records), unfolding(crate::specs::Format::Shape::shape_of, crate::specs::Following::IsSomeHead))]
 fn head_of(bytes: &[u8], at: Location, kind: Kind) -> Result<Head, Fault>
     requires bytes { length bytes.now ≡ head_cost (form_of kind) }
     requires room { head_size (form_of kind) (record_size kind) ≤ at.size }
@@ -58,6 +59,7 @@ fn head_of(bytes: &[u8], at: Location, kind: Kind) -> Result<Head, Fault>
     ensures head { IfOk result (IsHeadOf at.size kind) }
     // A fault is neither one of the store nor one of a name.
     ensures fault { IfErr result (λ fault. maybe_name fault.kind ≡ 0) }
+    ensures some { IsSomeHead at.rva at.size (record_size kind) (form_of kind) (shape_told result) }
 {
     let form = kind.form();
     let size = kind.record_size();
@@ -132,6 +134,7 @@ pub(crate) fn begin_stream<S: Store, A: Allocator>(
         → kind ≡ Kind.Memory64 → IfOk result (λ head. head.base ≡ number_at file (at.rva + 8) 8) }
     ensures head { IfOk result (IsHeadOf at.size kind) }
     ensures begins { BeginsStream at result meter.old meter.new window.old window.new }
+    ensures some { IsSomeShape at kind (shape_told result) }
 {
     check_head(at, kind)?;
     let start = u64::from(at.rva);

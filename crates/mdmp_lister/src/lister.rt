@@ -5,7 +5,7 @@ ghost use Rattle.std.specs.Io.BufRead.{Rests};
 ghost use Rattle.mdmp_source.specs.Range.{IsInside, bytes_at};
 ghost use Rattle.mdmp_source.specs.Store.{IsGood, IsSizeOf};
 ghost use Rattle.mdmp_wire.specs.CodeView.{codeview_of};
-ghost use Rattle.mdmp_lister.specs.CodeView.{codeview_told};
+ghost use Rattle.mdmp_lister.specs.CodeView.{AreFetched, codeview_cost, codeview_told};
 ghost use Rattle.mdmp_lister.specs.Opening.{IsHandedBack, IsOpenRefusal, IsRefusalOf, IsUnread, IsUnreadFor};
 ghost use Rattle.mdmp_lister.specs.Format.Refusal.{opening_fault};
 ghost use Rattle.mdmp_map.specs.Map.{free_of};
@@ -14,6 +14,7 @@ ghost use Rattle.mdmp_source.specs.Source.{FetchesAtMost, FetchesSome};
 ghost use Rattle.mdmp_lister.specs.Addressing.{LooksUpAtMost, ReadsCells};
 ghost use Rattle.mdmp_lister.specs.Meter.{IsBooked};
 ghost use Rattle.mdmp_lister.specs.Counts.{AreHeld, AreOfFile, AreSpent, numbers_of};
+ghost use Rattle.mdmp_lister.specs.Following.{through};
 ghost use Rattle.mdmp_lister.specs.Format.Listing.{Run};
 ghost use Rattle.mdmp_lister.specs.Format.Numbers.{range_count};
 ghost use Rattle.mdmp_lister.specs.Format.Ranges.{IsPlacedIn, ranges_of};
@@ -59,7 +60,7 @@ impl<S: Store + Drop, A: Allocator + Copy> Model for Lister<S, A> {
     ghost use Rattle.mdmp_lister.specs.Walk.Paying.{unread_bytes};
     ghost use Rattle.mdmp_lister.specs.Lister.{ListerState};
     ghost use Rattle.mdmp_lister.specs.Meter.{counts_of};
-    ghost use Rattle.mdmp_lister.specs.Stage.{records_left_in, stop_of};
+    ghost use Rattle.mdmp_lister.specs.Stage.{records_left_in, standing_of, stop_of};
     ghost use Rattle.mdmp_lister.specs.Walk.Mapping.{IsMapped};
     ghost use Rattle.mdmp_lister.specs.Walk.{left_of, work_of};
 
@@ -79,6 +80,7 @@ impl<S: Store + Drop, A: Allocator + Copy> Model for Lister<S, A> {
       left = option_map (left_of l.walk) l.walk.meter.source.store.content;
       stop = stop_of l.walk.stage;
       unread = unread_bytes l.walk;
+      standing = standing_of l.walk.stage;
       records = records_left_in l.walk.stage;
       work = work_of l.walk;
     } };
@@ -89,7 +91,7 @@ impl<S: Store + Drop, A: Allocator + Copy> Model for Lister<S, A> {
 impl<S: Store + Drop, A: Allocator + Copy> Lister<S, A> {
     ghost use Rattle.mdmp_lister.specs.contracts.lister.Lister.{the_row};
     ghost use Rattle.mdmp_lister.specs.Check.{CheckLeaves};
-    ghost use Rattle.mdmp_lister.specs.Sink.{RunLeaves};
+    ghost use Rattle.mdmp_lister.specs.Sink.{RangesFollow, RunLeaves};
     ghost use Rattle.mdmp_lister.specs.Lister.{Gives, IsNewLister, IsRecordsLeft, IsSameLister, ListerLeaves, ReadsAside, is_for_good, is_fresh, listing_behind};
 
     /// Opens a file. Its header is read; memory is taken for the directory, the window and a name; the
@@ -212,7 +214,7 @@ impl<S: Store + Drop, A: Allocator + Copy> Lister<S, A> {
     /// the end and after a fault of the store it changes nothing.
     pub fn skip_entry(&mut self)
         ensures skips { is_for_good self.old.stop ≡ false
-            → (self.new.left ≡ listing_behind self.old self.old.passed) × (self.new.stop ≡ None) × (self.new.unread ≡ 0) }
+            → (self.new.left ≡ listing_behind self.old self.old.passed) × (self.new.stop ≡ None) × (self.new.unread ≡ 0) × (self.new.standing ≡ through) }
         ensures stays { IsTrue (is_for_good self.old.stop) → self.new ≡ self.old }
         ensures unbegun { self.old.passed ≡ 0 → self.new ≡ self.old }
         ensures source { (self.new.source ≡ self.old.source) × (self.new.counts ≡ self.old.counts) }
@@ -262,6 +264,7 @@ impl<S: Store + Drop, A: Allocator + Copy> Lister<S, A> {
             (λ fault. (IsOfSource fault.kind → ⊥) → left.fault ≡ Some fault) }
         ensures good { (file : List ℕ) → IsGood self.old.source.store file → IfErr result (λ fault. IsOfSource fault.kind → ⊥) }
         ensures told { IfErr result (λ fault. IsToldIn self.new.current fault self.old.source self.new.source) }
+        ensures follows { RangesFollow self.old result self.new }
         ensures fetches { FetchesSome self.old.source self.new.source }
         ensures same { IsSameLister self.old self.new }
     {
@@ -373,7 +376,8 @@ impl<S: Store + Drop, A: Allocator + Copy> Lister<S, A> {
     pub fn codeview(&mut self, location: Location) -> Result<CodeViewBytes<'_>, SourceFault>
         requires { IsInside location.rva location.size self.old.source.size }
         ensures value { (file : List ℕ) → self.old.source.store.content ≡ Some file → IfOk result (λ bytes. codeview_told bytes ≡ codeview_of file location self.old.limit) }
-        ensures* reads { sem 𝓛 (Rests (the_row S.row A.row S.Store A.Allocator) self.entry (ReadsAside (24 + self.old.limit) result self.old)) }
+        ensures fetched { IfOk result (λ bytes. AreFetched location self.old.limit bytes.head (length bytes.rest.now) bytes.size) }
+        ensures* reads { sem 𝓛 (Rests (the_row S.row A.row S.Store A.Allocator) self.entry (ReadsAside (codeview_cost location self.old.limit result) result self.old)) }
         ensures good { (file : List ℕ) → IsGood self.old.source.store file → IsOk result }
     {
         let read = self.walk.fetch_codeview(location)?;

@@ -1,7 +1,8 @@
 //! A record of any kind and its name, read through a source.
-ghost use Rattle.std.specs.Prelude.{◌≡◌, ◌≤◌, ◌<◌, ◌+◌, ◌^◌, ℕ, List, Some, false, length, min, take, IfOk, OnOk};
+ghost use Rattle.std.specs.Prelude.{◌≡◌, ◌≤◌, ◌<◌, ◌+◌, ◌^◌, ℕ, List, Some, false, length, min, take, IfOk, MatchResult, OnOk};
 ghost use Rattle.mdmp_source.specs.Range.{bytes_at};
 ghost use Rattle.mdmp_lister.specs.Fetching.{Reads, ReadsRecord, TellsRecord};
+ghost use Rattle.mdmp_lister.specs.Following.{IsRecordFault, IsSomeRecord};
 ghost use Rattle.mdmp_lister.specs.Format.Item.{item_at, kind_told, range_offset, record_at};
 ghost use Rattle.mdmp_lister.specs.Holding.{ComesTo, IsAhead, Slides, needed};
 ghost use Rattle.mdmp_lister.specs.Meter.{Books};
@@ -81,6 +82,7 @@ pub(crate) fn read_item<S: Store, A: Allocator>(
     ensures slides { Slides at (record_size kind) window.old result window.new }
     ensures reads { ReadsRecord (needed at (record_size kind) window.old) (length buffer.new) result meter.old meter.new }
     ensures nameless { has_names kind ≡ false → meter.new.names ≡ meter.old.names }
+    ensures some { MatchResult result (IsSomeRecord meter.old.source.size (length buffer.new) kind entry index offset) (IsRecordFault meter.old.source.size (length buffer.new) kind) }
 {
     // The proof learns here that the size is that of the content.
     let _size = meter.size();

@@ -1,8 +1,7 @@
 //! The walk over the entries of a file, without its public face.
-ghost use Rattle.std.specs.Prelude.{◌≡◌, ◌+◌, ◌*◌, ◌^◌, ◌≤◌, ◌<◌, ◌-◌, ℕ, List, Some, IfOk, IfErr, MatchOption, MatchResult, OnOk, length, vec_len};
+ghost use Rattle.std.specs.Prelude.{◌≡◌, ◌+◌, ◌*◌, ◌^◌, ◌≤◌, ◌<◌, ◌-◌, ℕ, List, Some, IfOk, IfErr, MatchOption, MatchResult, OnOk, length, take, vec_len};
 ghost use Rattle.mdmp_source.specs.Range.{IsInside, bytes_at};
 ghost use Rattle.mdmp_source.specs.Store.{IsSizeOf};
-ghost use Rattle.mdmp_lister.specs.CodeView.{codeview_read, codeview_told};
 ghost use Rattle.mdmp_lister.specs.Fetching.{Reads};
 ghost use Rattle.mdmp_lister.specs.Format.Kind.{HasNoNames, kind_of};
 ghost use Rattle.mdmp_lister.specs.Meter.{BooksAside, IsBooked, IsSourceOf, counts_of};
@@ -160,7 +159,9 @@ impl<S: Store + Drop, A: Allocator + Copy> Walk<S, A> {
     /// The bytes of a CodeView record that were fetched, those behind the first 24 lent.
     pub(crate) fn codeview(&self, read: CodeViewRead) -> CodeViewBytes<'_>
         requires { read.rest ≤ vec_len self.now.name }
-        ensures { codeview_told result ≡ codeview_read self.now.name.items read }
+        ensures head { result.head ≡ read.head }
+        ensures rest { result.rest.now ≡ take read.rest self.now.name.items }
+        ensures size { result.size ≡ read.size }
     {
         let CodeViewRead { head, rest, size } = read;
         CodeViewBytes {

@@ -14,6 +14,7 @@ ghost use Rattle.mdmp_lister.specs.Format.Listing.{entry_of, is_chosen};
 ghost use Rattle.mdmp_lister.specs.Format.Refusal.{directory_refusal};
 ghost use Rattle.mdmp_lister.specs.Meter.{IsBooked, counts_of};
 ghost use Rattle.mdmp_lister.specs.Opening.{IsBareRefusal, IsDirectoryRefusal, IsHandedBackBare, IsUnread, IsUnreadFor};
+ghost use Rattle.mdmp_lister.specs.Following.{through};
 ghost use Rattle.mdmp_lister.specs.Stage.{StaysUnchanged, stop_after};
 ghost use Rattle.mdmp_lister.specs.Walk.{IsSound};
 ghost use Rattle.mdmp_lister.specs.Walk.Positions.{AnsweredFrom, IsPositioned, IsWalked, mark_by, position_by};
@@ -53,7 +54,7 @@ impl<S: Store + Drop, A: Allocator + Copy> Model for Walker<S, A> {
     ghost use Rattle.std.specs.Prelude.{[], vec_capacity, vec_len};
     ghost use Rattle.mdmp_lister.specs.Meter.{counts_of};
     ghost use Rattle.mdmp_lister.specs.Walker.{WalkerState};
-    ghost use Rattle.mdmp_lister.specs.Walk.Positions.{IsWalked, left_in, records_in, stop_in, unread_in, work_in};
+    ghost use Rattle.mdmp_lister.specs.Walk.Positions.{IsWalked, left_in, records_in, standing_in, stop_in, unread_in, work_in};
 
     ghost Value = { WalkerState };
 
@@ -72,6 +73,7 @@ impl<S: Store + Drop, A: Allocator + Copy> Model for Walker<S, A> {
         left = option_map (left_in w.position w.walk) w.walk.meter.source.store.content;
         stop = stop_in w.position w.walk.stage;
         unread = unread_in w.position w.walk;
+        standing = standing_in w.position w.walk.stage;
         records = records_in w.position w.walk.stage;
         work = work_in w.position w.walk;
       };
@@ -223,7 +225,7 @@ impl<S: Store + Drop, A: Allocator + Copy> Walker<S, A> {
     /// given.
     pub fn skip_entry(&mut self)
         ensures skips { is_for_good self.old.list.stop ≡ false → is_sought self.old ≡ false
-            → (self.new.list.left ≡ listing_behind self.old.list self.old.list.passed) × (self.new.list.stop ≡ None) × (self.new.list.unread ≡ 0) }
+            → (self.new.list.left ≡ listing_behind self.old.list self.old.list.passed) × (self.new.list.stop ≡ None) × (self.new.list.unread ≡ 0) × (self.new.list.standing ≡ through) }
         ensures stays { IsTrue (is_for_good self.old.list.stop) → self.new.list ≡ self.old.list }
         ensures sought { IsTrue (is_sought self.old) → self.new ≡ self.old }
         ensures position { (is_sought self.new ≡ is_sought self.old) × (is_begun self.new ≡ false) }

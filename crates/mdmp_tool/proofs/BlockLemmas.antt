@@ -235,6 +235,7 @@ Tells-flushed {T = T} pace store size a b c old pending left r s none moved flus
         short = λ few. inl (tells.short few);
         quiet = quiet_from pace r left _ _ done (λ empty is. all_out a b c old pending left [] flush empty steady (put_none _ _ is)) tells.quiet;
         out_cause = cause_from (with_pending a old) (with_pending b pending) a c r refl steady tells.out_cause;
+        changed = tells.changed;
       })
   by (refused out more) =
       subst (λ (x : Result T ToolFault). Tells in_blocks pace store size a x c) (sym out) (record {
@@ -243,4 +244,5 @@ Tells-flushed {T = T} pace store size a b c old pending left r s none moved flus
         short = λ few. inr refl;
         quiet = tt;
         out_cause = more_refused a.failures b.failures c.failures since more;
+        changed = tt;
       })

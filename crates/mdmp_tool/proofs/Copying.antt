@@ -17,7 +17,8 @@ use Rattle.mdmp_lister.specs.declared.fault.ListFault.{ListFault}
 use Rattle.mdmp_lister.specs.declared.fault.OpenFault.{OpenFault}
 use Rattle.mdmp_lister.specs.declared.fault.OpenFault.TheVariants as opening
 use Rattle.mdmp_lister.specs.Fault.{IsOfSource}
-use Rattle.mdmp_lister.specs.Opening.{IsBareRefusal}
+use Rattle.mdmp_lister.specs.Following.{FitsFile}
+use Rattle.mdmp_lister.specs.Format.Refusal.{directory_refusal}
 use Rattle.mdmp_dump.specs.declared.fault.ReadFault.{ReadFault}
 use Rattle.mdmp_dump.specs.declared.fault.ReadFault.TheVariants as reads
 use Rattle.mdmp_dump.specs.declared.view.ViewFault.{ViewFault}
@@ -28,11 +29,11 @@ use Rattle.mdmp_dump.specs.FileView.{HasMoved, costs_in, source_fault}
 use Rattle.mdmp_dump.specs.InFile.{dump_in}
 use Rattle.mdmp_dump.specs.LaysOut.{LaysOut}
 use Rattle.mdmp_dump.specs.Opening.{HasSpentOpening}
-use Rattle.mdmp_dump.specs.Reading.{IsLastTold, IsOwn, store_fault, store_fault_in}
+use Rattle.mdmp_dump.specs.Reading.{IsLastTold, IsOwn, MayBeTold, TellsOf, store_fault, store_fault_in}
 use Rattle.mdmp_dump.specs.Shape.{Shape}
 use Rattle.mdmp_tool.specs.declared.fault.ToolFault.{ToolFault}
 use Rattle.mdmp_tool.specs.declared.fault.ToolFault.TheVariants as tool
-use Rattle.mdmp_tool.specs.Causes.{HasOutCause, HasSourceCause, IsNoSourceFault}
+use Rattle.mdmp_tool.specs.Causes.{HasOutCause, HasSourceCause, IsNoSourceFault, MayChange}
 use Rattle.mdmp_tool.specs.Copying.{Copies, EndsOf, IsCopy, IsCopyRefusal, IsDumpCopied, IsOfShape, IsQuietCopy, IsShapeCopied, IsToldByView, IsUnopened, first_not_copied, is_copied, refused_type}
 use Rattle.mdmp_tool.specs.Telling.{opening_told, reading_told, told_by}
 
@@ -145,6 +146,7 @@ Copies-not Z content file_size types limit before t is = record {
   refusal = tt;
   quiet = refl;
   out_cause = refl;
+  changed = tt;
   of_shape = record { shape = no_shape; size = tt };
   of_file = λ F known. tt;
 }
@@ -156,85 +158,126 @@ module _ (Z : Type 0) (content : Option (List ℕ)) (file_size : ℕ) (types : L
     copy : (r : Result ℕ ToolFault) (F : List ℕ) → content ≡ Some F → IsDumpCopied (dump_in {Z = Z} F (Types types)) before r after → IsCopy Z F types limit before r after
     copy r F known copied = record { within = within F known; laid_out = laid_out F known; copied = copied }
 
-    pub Copies-viewed : (r : Result ℕ ToolFault) → IsShapeCopied shape before r after
+    pub Copies-viewed : (r : Result ℕ ToolFault) → IsShapeCopied shape before r after → MayChange content r
         → ((F : List ℕ) → content ≡ Some F → IsDumpCopied (dump_in {Z = Z} F (Types types)) before r after) → Copies Z content file_size types limit before r after
-    Copies-viewed (Ok size) ends copied = record {
+    Copies-viewed (Ok size) ends may copied = record {
       refuses = all;
       short = λ few _. absurd (long few);
       refusal = tt;
       quiet = tt;
       out_cause = ends.1;
+      changed = tt;
       of_shape = record { shape = shape; size = ends.0 };
       of_file = λ F known. copy (Ok size) F known (copied F known);
     }
-    Copies-viewed (Err (tool.Layout fault)) ends copied = record {
+    Copies-viewed (Err (tool.Layout fault)) ends may copied = record {
       refuses = all;
       short = λ few _. absurd (long few);
       refusal = tt;
       quiet = ends.1;
       out_cause = ap (λ (o : OutState). o.failures) ends.1;
+      changed = tt;
       of_shape = record { shape = shape; size = ends.0 };
       of_file = λ F known. copy (Err (tool.Layout fault)) F known (copied F known);
     }
-    Copies-viewed (Err tool.Out) ends copied = record {
+    Copies-viewed (Err tool.Out) ends may copied = record {
       refuses = all;
       short = λ few _. absurd (long few);
       refusal = tt;
       quiet = tt;
       out_cause = ends.1;
+      changed = tt;
       of_shape = record { shape = shape; size = ends.0 };
       of_file = λ F known. copy (Err tool.Out) F known (copied F known);
     }
-    Copies-viewed (Err (tool.Source fault)) ends copied = record {
+    Copies-viewed (Err (tool.Source fault)) ends may copied = record {
       refuses = all;
       short = λ few _. absurd (long few);
       refusal = tt;
       quiet = tt;
       out_cause = ends.2;
+      changed = may;
       of_shape = record { shape = shape; size = tt };
       of_file = λ F known. inr (copy (Err (tool.Source fault)) F known (copied F known));
     }
-    Copies-viewed (Err fault) ends copied = absurd ends
+    Copies-viewed (Err fault) ends may copied = absurd ends
 
   -- nothing was written, and no type is refused
-  abbrev Answers : Result ℕ ToolFault → Type 0
-  Answers r = (refused_type r ≡ None) × (IsCopyRefusal file_size r × (IsQuietCopy r (before ≡ before) × (HasOutCause before r before
-      × (IsOfShape no_shape r × ((F : List ℕ) → content ≡ Some F → EndsOf Z F types limit before r before)))))
+  record Answers (r : Result ℕ ToolFault) : Type 0 where
+    all_copied : refused_type r ≡ None
+    refusal : IsCopyRefusal file_size r
+    quiet : IsQuietCopy r (before ≡ before)
+    out_cause : HasOutCause before r before
+    changed : MayChange content r
+    of_shape : IsOfShape no_shape r
+    of_file : (F : List ℕ) → content ≡ Some F → EndsOf Z F types limit before r before
 
   -- where the content is known, the fault is the reason, unless memory or the store was wanting
   abbrev IsTold : ReadFault → Type 0
   IsTold fault = (F : List ℕ) → content ≡ Some F → (IsOwn fault → ⊥) → view_refusal F (Types types) limit ≡ Some fault
 
-  opened : (fault : OpenFault) → IsTold (reads.Opening fault) → IsBareRefusal file_size fault → Answers (Err (opening_told fault))
-  opened (opening.Source f) told refusal = (refl, (tt, (tt, (refl, (tt, λ F known. inl refl)))))
-  opened opening.Memory told refusal = (refl, (tt, (refl, (refl, (tt, λ F known. tt)))))
-  opened fault told refusal = (refl, ((tt, refusal), (refl, (refl, (tt, λ F known. told F known (λ own. none-some own.0 own.1))))))
+  -- a fault of the store is told, or want of memory
+  of_source : (fault : SourceFault) → MayBeTold content (Some fault) → Answers (Err (tool.Source fault))
+  of_source fault may = record { all_copied = refl; refusal = tt; quiet = tt; out_cause = refl; changed = may; of_shape = tt; of_file = λ F known. inl refl }
 
-  listed : (kind : FaultKind) (fault : ListFault) → fault.kind ≡ kind → IsTold (reads.List fault) → Answers (Err (told_by kind fault))
-  listed (kinds.Source f) fault is told = (refl, (tt, (tt, (refl, (tt, λ F known. inl refl)))))
-  listed kind fault is told =
+  of_memory : ((F : List ℕ) → content ≡ Some F → directory_refusal F ≡ None) → Answers (Err tool.Memory)
+  of_memory good = record { all_copied = refl; refusal = tt; quiet = refl; out_cause = refl; changed = tt; of_shape = tt; of_file = good }
+
+  opened : (fault : OpenFault) → IsTold (reads.Opening fault) → IsViewRefusal file_size (reads.Opening fault) → TellsOf content (reads.Opening fault) → Answers (Err (opening_told fault))
+  opened (opening.Source f) told refusal tells = of_source f tells.changed
+  opened opening.Memory told refusal tells = absurd refusal
+  opened fault told refusal tells = record {
+    all_copied = refl;
+    refusal = (tt, refusal);
+    quiet = refl;
+    out_cause = refl;
+    changed = tt;
+    of_shape = tt;
+    of_file = λ F known. told F known (λ own. none-some own.0 own.1);
+  }
+
+  listed : (kind : FaultKind) (fault : ListFault) → fault.kind ≡ kind → IsTold (reads.List fault) → FitsFile file_size fault → TellsOf content (reads.List fault) → Answers (Err (told_by kind fault))
+  listed (kinds.Source f) fault is told fits tells = of_source f (subst (λ (k : FaultKind). MayBeTold content (store_fault_in k)) is tells.changed)
+  listed kind fault is told fits tells =
       let own : IsOfSource fault.kind → ⊥ = subst (λ (k : FaultKind). IsOfSource k → ⊥) (sym is) (λ x. x) in
-      (refl, (own, (refl, (refl, (tt, λ F known. told F known (λ x. own (of_store fault.kind x.0 x.1)))))))
+      record {
+        all_copied = refl;
+        refusal = (own, fits);
+        quiet = refl;
+        out_cause = refl;
+        changed = tt;
+        of_shape = tt;
+        of_file = λ F known. told F known (λ x. own (of_store fault.kind x.0 x.1));
+      }
 
-  refused : (fault : ReadFault) → IsTold fault → IsViewRefusal file_size fault → Answers (Err (reading_told fault))
-  refused (reads.Opening fault) told refusal = opened fault told refusal
-  refused (reads.List fault) told refusal = listed fault.kind fault refl told
-  refused (reads.PartsTooLarge e k) told refusal = absurd refusal
-  refused reads.Memory told refusal = (refl, (tt, (refl, (refl, (tt, λ F known. tt)))))
-  refused (reads.Source fault) told refusal = (refl, (tt, (tt, (refl, (tt, λ F known. inl refl)))))
-  refused fault told refusal = (refl, (tt, (refl, (refl, (tt, λ F known. told F known (λ own. none-some own.0 own.1))))))
+  refused : (fault : ReadFault) → IsTold fault → IsViewRefusal file_size fault → TellsOf content fault → Answers (Err (reading_told fault))
+  refused (reads.Opening fault) told refusal tells = opened fault told refusal tells
+  refused (reads.List fault) told refusal tells = listed fault.kind fault refl told refusal tells
+  refused (reads.PartsTooLarge e k) told refusal tells = absurd refusal
+  refused reads.Memory told refusal tells = of_memory (tells.memory refl)
+  refused (reads.Source fault) told refusal tells = of_source fault tells.changed
+  refused fault told refusal tells = record {
+    all_copied = refl;
+    refusal = tt;
+    quiet = refl;
+    out_cause = refl;
+    changed = tt;
+    of_shape = tt;
+    of_file = λ F known. told F known (λ own. none-some own.0 own.1);
+  }
 
   -- the file gives no view
-  pub Copies-refused : (fault : ReadFault) → IsTold fault → IsViewRefusal file_size fault → (file_size < 32 → fault ≡ reads.Opening (opening.TooShort file_size))
+  pub Copies-refused : (fault : ReadFault) → IsTold fault → IsViewRefusal file_size fault → (file_size < 32 → fault ≡ reads.Opening (opening.TooShort file_size)) → TellsOf content fault
       → Copies Z content file_size types limit before (Err (reading_told fault)) before
-  Copies-refused fault told refusal short =
-      let answers = refused fault told refusal in
+  Copies-refused fault told refusal short tells =
+      let answers = refused fault told refusal tells in
       record {
-        refuses = all ∙ sym answers.0;
+        refuses = all ∙ sym answers.all_copied;
         short = λ few _. ap (λ (f : ReadFault). Err (reading_told f)) (short few);
-        refusal = answers.1.0;
-        quiet = answers.1.1.0;
-        out_cause = answers.1.1.1.0;
-        of_shape = record { shape = no_shape; size = answers.1.1.1.1.0 };
-        of_file = answers.1.1.1.1.1;
+        refusal = answers.refusal;
+        quiet = answers.quiet;
+        out_cause = answers.out_cause;
+        changed = answers.changed;
+        of_shape = record { shape = no_shape; size = answers.of_shape };
+        of_file = answers.of_file;
       }

@@ -8,13 +8,16 @@ use Rattle.mdmp_lister.specs.declared.fault.OpenFault.{OpenFault}
 use Rattle.mdmp_lister.specs.declared.fault.OpenFault.TheVariants as opening
 use Rattle.std.specs.Option.{option_map}
 use Rattle.mdmp_source.specs.Source.{SourceState}
+use Rattle.mdmp_source.specs.declared.fault.SourceFault.{SourceFault}
+use Rattle.mdmp_source.specs.declared.fault.SourceFault.TheVariants.{Changed}
 use Rattle.mdmp_lister.specs.declared.limits.Limits.{Limits}
 use Rattle.mdmp_lister.specs.Format.Listing.{listing}
 use Rattle.mdmp_lister.specs.Lister.{IsNewLister, ListerState}
 use Rattle.mdmp_lister.specs.Opening.{IsRefusalOf}
+use Rattle.mdmp_dump.specs.Reading.{IsLastTold, MayBeTold}
 use Rattle.mdmp_tool.specs.declared.fault.ToolFault.{ToolFault}
 use Rattle.mdmp_tool.specs.declared.fault.ToolFault.TheVariants.{List as BadList, Source, Out, Memory}
-use Rattle.mdmp_tool.specs.Causes.{HasOutCause, IsRefusal}
+use Rattle.mdmp_tool.specs.Causes.{HasOutCause, HasSourceCause, IsRefusal, MayChange}
 use Rattle.mdmp_tool.specs.Engines.{IsBehind, IsOpened, IsQuiet, Pace, Runs, StopsShort}
 use Rattle.mdmp_tool.specs.Telling.{opening_told}
 
@@ -43,7 +46,7 @@ Runs-unopened F choice Ends pace text before (opening.DirectoryOutside offset si
 Runs-unopened F choice Ends pace text before (opening.TooManyRanges count) refused = record { says = refused; writes = PutsAll-nothing before }
 
 -- what ends a command behind the opening
-pub IsRefusal-behind : {T : Type 0} (pace : Pace) (untouched : Type 0) (size : ℕ) (r : Result T ToolFault) → IsBehind pace r untouched → IsRefusal size r
+pub IsRefusal-behind : {T : Type 0} (pace : Pace) (untouched : Type 0) (size : ℕ) (r : Result T ToolFault) → IsBehind pace size r untouched → IsRefusal size r
 IsRefusal-behind pace untouched size (Ok x) behind = tt
 IsRefusal-behind pace untouched size (Err (BadList fault)) behind = behind.0
 IsRefusal-behind pace untouched size (Err Memory) behind = tt
@@ -51,13 +54,23 @@ IsRefusal-behind pace untouched size (Err (Source fault)) behind = tt
 IsRefusal-behind pace untouched size (Err Out) behind = tt
 IsRefusal-behind pace untouched size (Err fault) behind = absurd behind
 
-pub IsQuiet-behind : {T : Type 0} (pace : Pace) (untouched : Type 0) (r : Result T ToolFault) → IsBehind pace r untouched → IsQuiet pace r untouched
-IsQuiet-behind pace untouched (Ok x) behind = tt
-IsQuiet-behind pace untouched (Err (BadList fault)) behind = behind.1
-IsQuiet-behind pace untouched (Err Memory) behind = behind
-IsQuiet-behind pace untouched (Err (Source fault)) behind = behind
-IsQuiet-behind pace untouched (Err Out) behind = tt
-IsQuiet-behind pace untouched (Err fault) behind = absurd behind
+pub IsQuiet-behind : {T : Type 0} (pace : Pace) (untouched : Type 0) (size : ℕ) (r : Result T ToolFault) → IsBehind pace size r untouched → IsQuiet pace r untouched
+IsQuiet-behind pace untouched size (Ok x) behind = tt
+IsQuiet-behind pace untouched size (Err (BadList fault)) behind = behind.1
+IsQuiet-behind pace untouched size (Err Memory) behind = behind
+IsQuiet-behind pace untouched size (Err (Source fault)) behind = behind
+IsQuiet-behind pace untouched size (Err Out) behind = tt
+IsQuiet-behind pace untouched size (Err fault) behind = absurd behind
+
+-- what a fault's cause says of a change
+last_may : (fault : SourceFault) (old new : SourceState) → IsLastTold fault old new → MayBeTold old.store.content (Some fault)
+last_may (Changed at) old new told = told
+last_may _ old new told = tt
+
+pub may_change : {T : Type 0} (r : Result T ToolFault) (old new : SourceState) → HasSourceCause old r new → MayChange old.store.content r
+may_change (Ok x) old new cause = tt
+may_change (Err (Source fault)) old new cause = last_may fault old new cause
+may_change (Err fault) old new cause = tt
 
 -- the refusals are the same elsewhere
 pub cause_from : {T : Type 0} (a b start c : OutState) (r : Result T ToolFault) → start.failures ≡ a.failures → c.failures ≡ b.failures → HasOutCause a r b → HasOutCause start r c

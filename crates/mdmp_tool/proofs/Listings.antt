@@ -34,18 +34,18 @@ ListsFile-behind pdb F limit h run before now after r head listed = record {
 }
 
 -- the end of the items is that of all that is printed
-IsBehind-touched : (r : Result (Unit {0}) ToolFault) (untouched : Type 0) → IsBehind up_to_a_fault r ⊥ → IsBehind up_to_a_fault r untouched
-IsBehind-touched (Ok x) untouched behind = tt
-IsBehind-touched (Err (BadList f)) untouched behind = behind
-IsBehind-touched (Err (Source f)) untouched behind = tt
-IsBehind-touched (Err Out) untouched behind = tt
-IsBehind-touched (Err f) untouched behind = absurd behind
+IsBehind-touched : (size : ℕ) (r : Result (Unit {0}) ToolFault) (untouched : Type 0) → IsBehind up_to_a_fault size r ⊥ → IsBehind up_to_a_fault size r untouched
+IsBehind-touched size (Ok x) untouched behind = tt
+IsBehind-touched size (Err (BadList f)) untouched behind = behind
+IsBehind-touched size (Err (Source f)) untouched behind = tt
+IsBehind-touched size (Err Out) untouched behind = tt
+IsBehind-touched size (Err f) untouched behind = absurd behind
 
 pub Leaves-behind : (old new : SourceState) (before now after : OutState) (r : Result (Unit {0}) ToolFault) (untouched : Type 0) → now.failures ≡ before.failures
     → Leaves up_to_a_fault ⊥ old now r new after → Leaves up_to_a_fault untouched old before r new after
 Leaves-behind old new before now after r untouched same left = record {
   good = left.good;
-  behind = IsBehind-touched r untouched left.behind;
+  behind = IsBehind-touched old.size r untouched left.behind;
   reads = left.reads;
   out_cause = cause_from now after before after r (sym same) refl left.out_cause;
 }

@@ -79,6 +79,7 @@ module _ (name : ℕ) (a b : OutState) where
       short = tells.short;
       quiet = quiet_from pace r [] _ _ (flushed_none r) (λ _. puts_all []) tells.quiet;
       out_cause = cause_lent r tells.out_cause;
+      changed = tells.changed;
     }
 
     run_lent : (limits : Limits) (End : Result T ToolFault → ℕ → OutState → OutState → Type 0) (Through : List ℕ → OutState → Result T ToolFault → OutState → Type 0)

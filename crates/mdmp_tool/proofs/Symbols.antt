@@ -7,7 +7,8 @@ use Rattle.mdmp_source.specs.Extent.{extent_of}
 use Rattle.mdmp_source.specs.Output.{OutState, PutsAll, PutsPrefix}
 use Rattle.mdmp_source.specs.OutputLaws.{PutsAll-PutsAll, PutsPrefix-front, PutsPrefix-last, TakesPrefix-front}
 use Rattle.mdmp_source.specs.Range.{IsInside}
-use Rattle.mdmp_source.specs.Source.{SourceState, FetchesAtMost}
+use Rattle.mdmp_source.specs.Source.{SourceState, FetchesAtMost, FetchesSome}
+use Rattle.mdmp_source.specs.Store.{IsGood}
 use Rattle.mdmp_source.specs.SourceLaws.{fetches_then, told_later}
 use Rattle.mdmp_source.specs.declared.fault.SourceFault.TheVariants.{Failed, ShortRead, Changed}
 use Rattle.mdmp_source.specs.declared.location.Location.{Location}
@@ -23,17 +24,19 @@ use Rattle.mdmp_lister.specs.declared.item.Item.TheVariants as items
 use Rattle.mdmp_lister.specs.declared.name.Name.{Name}
 use Rattle.mdmp_lister.specs.Format.Classes.{IsClassed}
 use Rattle.mdmp_lister.specs.Format.Item.{item_of, plain}
-use Rattle.mdmp_lister.specs.Fault.{IsOfSource}
+use Rattle.mdmp_lister.specs.Fault.{IsOfSource, IsToldIn}
 use Rattle.mdmp_lister.specs.Format.Listing.{Run, only_fault}
+use Rattle.mdmp_lister.specs.Following.{FitsFile}
 use Rattle.mdmp_lister.specs.Lister.{Gives}
 use Rattle.mdmp_tool.specs.declared.fault.ToolFault.{ToolFault}
 use Rattle.mdmp_tool.specs.declared.fault.ToolFault.TheVariants.{List as BadList, Source, Out}
 use Rattle.mdmp_tool.specs.Causes.{HasSourceCause}
-use Rattle.mdmp_tool.specs.Engines.{Leaves, up_to_a_fault}
+use Rattle.mdmp_tool.specs.Engines.{EndsAtFault, IsBehind, Leaves, Pace, UnlessEarly, up_to_a_fault}
 use Rattle.mdmp_tool.specs.ItemLines.{item_line}
 use Rattle.mdmp_tool.specs.Runs.{ListsNext, PutsSymbols}
 use Rattle.mdmp_tool.specs.Telling.{list_told, told_by}
 use Rattle.mdmp_tool.specs.Text.{inside_only, item_lines, next_lines, symbols_of, symbols_text}
+use Rattle.mdmp_tool.proofs.Checking.{told-cause}
 use Rattle.mdmp_tool.proofs.Engining.{StopsShort-nothing, cause_from}
 use Rattle.mdmp_tool.proofs.PlainLines.{item_lines-plain, symbols_of-plain}
 
@@ -112,6 +115,20 @@ ListsNext-fault pdb F limit left now f gives = by f.kind gives where
   by (kinds.Source fault) gives = StopsShort-nothing now (next_lines pdb F limit left)
   by _ gives = (gives (λ x. x), refl)
 
+-- and no byte went out before it
+pub Leaves-listed : {T : Type 0} (pace : Pace) (untouched : Type 0) (e : Entry) (f : ListFault) (old new : SourceState) (out : OutState) → FetchesSome old new → IsToldIn e f old new
+    → ((file : List ℕ) → IsGood old.store file → IsOfSource f.kind → ⊥) → FitsFile old.size f → UnlessEarly pace untouched → EndsAtFault pace (UnlessEarly pace untouched)
+    → Leaves {T = T} pace untouched old out (Err (list_told f)) new out
+Leaves-listed {T} pace untouched e f old new out some told good fits quiet ends = by f.kind refl where
+  by : (kind : FaultKind) → f.kind ≡ kind → Leaves {T = T} pace untouched old out (Err (told_by kind f)) new out
+  by (kinds.Source fault) is = record {
+    good = λ file reliable. absurd (good file reliable (rw is tt));
+    behind = quiet;
+    reads = record { cause = told-cause e f fault old new is told; fetches = some };
+    out_cause = refl;
+  }
+  by _ is = record { good = λ file reliable. tt; behind = (((λ of. rw is at of), fits), ends); reads = record { cause = tt; fetches = some }; out_cause = refl }
+
 -- ---- behind some fetches
 
 cause_then : {T : Type 0} (n : ℕ) (a b c : SourceState) (r : Result T ToolFault) → FetchesAtMost n a b → HasSourceCause b r c → HasSourceCause a r c
@@ -125,7 +142,7 @@ pub Leaves-later : {T : Type 0} (n : ℕ) (a b c : SourceState) (before now afte
     → now.failures ≡ before.failures → Leaves up_to_a_fault ⊥ b now r c after → Leaves up_to_a_fault ⊥ a before r c after
 Leaves-later n a b c before now after r fetches same left = record {
   good = λ file good. left.good file (record { known = fetches.same_content ∙ good.known; reliable = rw fetches.same_reliable good.reliable });
-  behind = left.behind;
+  behind = subst (λ (size : ℕ). IsBehind up_to_a_fault size r ⊥) fetches.same_size left.behind;
   reads = record {
     cause = cause_then n a b c r fetches left.reads.cause;
     fetches = record { count = n + left.reads.fetches.count; fetches = fetches_then _ _ _ _ _ fetches left.reads.fetches.fetches };

@@ -1,14 +1,16 @@
 -- Why a call ended with a fault, of whatever file.
-use Rattle.std.specs.Prelude.{◌≡◌, ℕ, Result, Err}
+use Rattle.std.specs.Prelude.{◌≡◌, ℕ, List, Option, Some, Result, Err}
 use Rattle.mdmp_source.specs.Output.{HasRefused, OutState}
 use Rattle.mdmp_source.specs.Source.{SourceState}
 use Rattle.mdmp_lister.specs.declared.fault.OpenFault.{OpenFault}
 use Rattle.mdmp_lister.specs.declared.fault.OpenFault.TheVariants as opening
+use Rattle.mdmp_lister.specs.declared.fault.ListFault.{ListFault}
 use Rattle.mdmp_lister.specs.Opening.{IsOpenRefusal}
 use Rattle.mdmp_lister.specs.Fault.{IsOfSource}
-use Rattle.mdmp_dump.specs.Reading.{IsLastTold}
+use Rattle.mdmp_lister.specs.Following.{FitsFile}
+use Rattle.mdmp_dump.specs.Reading.{IsLastTold, MayBeTold}
 use Rattle.mdmp_tool.specs.declared.fault.ToolFault.{ToolFault}
-use Rattle.mdmp_tool.specs.declared.fault.ToolFault.TheVariants.{Opening, List, Reading, Layout, Source, Out, NotCopied}
+use Rattle.mdmp_tool.specs.declared.fault.ToolFault.TheVariants.{Opening, List as BadList, Reading, Layout, Source, Out, NotCopied}
 
 -- all bytes that were asked for were obtained
 abbrev pub IsNoSourceFault : {T : Type 0} → Result T ToolFault → Type 0
@@ -35,10 +37,19 @@ IsOfFile fault = Unit {0}
 abbrev pub IsOpeningTold : ℕ → OpenFault → Type 0
 IsOpeningTold size fault = IsOfFile fault × IsOpenRefusal size fault
 
+-- a fault of the listing is the file's own, and such a file may have it
+abbrev pub IsListTold : ℕ → ListFault → Type 0
+IsListTold size fault = (IsOfSource fault.kind → ⊥) × FitsFile size fault
+
+-- that the store has changed is told only where its content is not known
+abbrev pub MayChange : {T : Type 0} → Option (List ℕ) → Result T ToolFault → Type 0
+MayChange content (Err (Source fault)) = MayBeTold content (Some fault)
+MayChange content answer = Unit {0}
+
 -- a listing of a file of size bytes that is refused may be, and what is told of the file is its own; no listing is a copy
 abbrev pub IsRefusal : {T : Type 0} → ℕ → Result T ToolFault → Type 0
 IsRefusal size (Err (Opening fault)) = IsOpeningTold size fault
-IsRefusal size (Err (List fault)) = IsOfSource fault.kind → ⊥
+IsRefusal size (Err (BadList fault)) = IsListTold size fault
 IsRefusal size (Err (Reading fault)) = ⊥
 IsRefusal size (Err (Layout fault)) = ⊥
 IsRefusal size (Err (NotCopied t)) = ⊥

@@ -4,8 +4,8 @@ use Rattle.mdmp_source.specs.Source.{SourceState}
 use Rattle.mdmp_source.specs.Output.{HasRefused, OutState, PutsAll, PutsPrefix}
 use Rattle.mdmp_lister.specs.declared.choice.Choice.TheVariants.{Types}
 use Rattle.mdmp_lister.specs.declared.fault.OpenFault.TheVariants.{TooShort}
-use Rattle.mdmp_lister.specs.Fault.{IsOfSource}
 use Rattle.mdmp_lister.specs.Format.Kind.{is_known}
+use Rattle.mdmp_lister.specs.Format.Refusal.{directory_refusal}
 use Rattle.mdmp_lister.specs.Opening.{IsBareRefusal}
 use Rattle.mdmp_dump.specs.declared.dump.Dump.{Dump}
 use Rattle.mdmp_dump.specs.declared.fault.ReadFault.{ReadFault}
@@ -23,7 +23,7 @@ use Rattle.mdmp_writer.specs.Passes.{all_asks, all_costs}
 use Rattle.mdmp_writer.specs.Written.{written}
 use Rattle.mdmp_tool.specs.declared.fault.ToolFault.{ToolFault}
 use Rattle.mdmp_tool.specs.declared.fault.ToolFault.TheVariants as tool
-use Rattle.mdmp_tool.specs.Causes.{HasOutCause, IsOfFile}
+use Rattle.mdmp_tool.specs.Causes.{HasOutCause, IsListTold, IsOfFile, MayChange}
 use Rattle.mdmp_tool.specs.Engines.{StopsShort}
 
 -- ---- types
@@ -85,7 +85,7 @@ IsOfRecord fault = ⊥
 -- listing no fault of the store, of a record its part or its name
 abbrev pub IsCopyRefusal : ℕ → Result ℕ ToolFault → Type 0
 IsCopyRefusal size (Err (tool.Opening fault)) = IsOfFile fault × IsBareRefusal size fault
-IsCopyRefusal size (Err (tool.List fault)) = IsOfSource fault.kind → ⊥
+IsCopyRefusal size (Err (tool.List fault)) = IsListTold size fault
 IsCopyRefusal size (Err (tool.Reading fault)) = IsOfRecord fault
 IsCopyRefusal size answer = Unit {0}
 
@@ -147,7 +147,8 @@ module _ (Z : Type 0) where
     pub copied : IsDumpCopied (dump_in {Z = Z} F (Types types)) before answer after
 
   -- what an answer says of F: its dump was copied, all of it or up to a refusal of the output; or it can't be written; or there
-  -- is no view of F, for the first reason. Behind a fault of the store nothing went out, or a first part of the dump.
+  -- is no view of F, for the first reason. Behind a fault of the store nothing went out, or a first part of the dump. Memory
+  -- was wanting only where the header and the place of the directory are good.
   abbrev pub EndsOf : List ℕ → List ℕ → ℕ → OutState → Result ℕ ToolFault → OutState → Type 0
   EndsOf F types limit before (Ok size) after = IsCopy F types limit before (Ok size) after
   EndsOf F types limit before (Err tool.Out) after = IsCopy F types limit before (Err tool.Out) after
@@ -156,7 +157,7 @@ module _ (Z : Type 0) where
   EndsOf F types limit before (Err (tool.Opening fault)) after = view_refusal F (Types types) limit ≡ Some (reads.Opening fault)
   EndsOf F types limit before (Err (tool.List fault)) after = view_refusal F (Types types) limit ≡ Some (reads.List fault)
   EndsOf F types limit before (Err (tool.Reading fault)) after = view_refusal F (Types types) limit ≡ Some fault
-  EndsOf F types limit before (Err tool.Memory) after = Unit {0}
+  EndsOf F types limit before (Err tool.Memory) after = directory_refusal F ≡ None
   EndsOf F types limit before (Err (tool.NotCopied t)) after = Unit {0}
 
   -- a copy of the streams of these types out of a store of `file_size` bytes, whose content may be known
@@ -169,5 +170,6 @@ module _ (Z : Type 0) where
     pub refusal : IsCopyRefusal file_size answer
     pub quiet : IsQuietCopy answer (after ≡ before)
     pub out_cause : HasOutCause before answer after
+    pub changed : MayChange content answer
     pub of_shape : HasShape answer
     pub of_file : (file : List ℕ) → content ≡ Some file → EndsOf file types limit before answer after

@@ -15,7 +15,7 @@ use Rattle.mdmp_wire.specs.Header.{header_at}
 use Rattle.mdmp_lister.specs.Format.Refusal.{directory_refusal, opening_fault}
 use Rattle.mdmp_tool.specs.declared.fault.ToolFault.{ToolFault}
 use Rattle.mdmp_tool.specs.declared.fault.ToolFault.TheVariants.{Opening, List as BadList, Source, Out, Memory}
-use Rattle.mdmp_tool.specs.Causes.{HasOutCause, HasSourceCause, IsNoSourceFault, IsRefusal}
+use Rattle.mdmp_tool.specs.Causes.{HasOutCause, HasSourceCause, IsListTold, IsNoSourceFault, IsRefusal, MayChange}
 
 -- ---- what is written, by the class of the answer
 
@@ -160,6 +160,7 @@ pub record Tells {T : Type 0} (way : Way) (pace : Pace) (store : StoreState) (si
   pub short : size < 32 → IsShort way size answer
   pub quiet : IsQuiet pace answer (IsUntouched way before after)
   pub out_cause : HasOutCause before answer after
+  pub changed : MayChange store.content answer
 
 -- and how it leaves its source
 pub record Reads {T : Type 0} (old : SourceState) (answer : Result T ToolFault) (new : SourceState) : Type 0 where
@@ -197,20 +198,21 @@ pub data IsThrough {T : Type 0} (limits : Limits) (old : SourceState) (answer : 
   listed : HasListed limits old new → IsThrough limits old answer new
   refused : (asked : ℕ) → IsEarly answer → FetchesAtMost (32 + 28 * asked) old new → 12 * asked ≤ old.size → IsThrough limits old answer new
 
--- what ends the part of a command behind the opening: no fault of the opening, and of the listing only the file's own, if its
--- pace lets one end it; where nothing was written the output is untouched, which is ⊥ where some text is out already
-abbrev pub IsBehind : {T : Type 0} → Pace → Result T ToolFault → Type 0 → Type 0
-IsBehind pace (Ok x) untouched = Unit {0}
-IsBehind pace (Err Out) untouched = Unit {0}
-IsBehind pace (Err Memory) untouched = untouched
-IsBehind pace (Err (BadList fault)) untouched = (IsOfSource fault.kind → ⊥) × EndsAtFault pace (UnlessEarly pace untouched)
-IsBehind pace (Err (Source fault)) untouched = UnlessEarly pace untouched
-IsBehind pace (Err fault) untouched = ⊥
+-- what ends the part of a command behind the opening, over a file of `size` bytes: no fault of the opening, and of the listing
+-- only the file's own, if its pace lets one end it; where nothing was written the output is untouched, which is ⊥ where some
+-- text is out already
+abbrev pub IsBehind : {T : Type 0} → Pace → ℕ → Result T ToolFault → Type 0 → Type 0
+IsBehind pace size (Ok x) untouched = Unit {0}
+IsBehind pace size (Err Out) untouched = Unit {0}
+IsBehind pace size (Err Memory) untouched = untouched
+IsBehind pace size (Err (BadList fault)) untouched = IsListTold size fault × EndsAtFault pace (UnlessEarly pace untouched)
+IsBehind pace size (Err (Source fault)) untouched = UnlessEarly pace untouched
+IsBehind pace size (Err fault) untouched = ⊥
 
 -- and how that part leaves its source and its output
 pub record Leaves {T : Type 0} (pace : Pace) (untouched : Type 0) (old : SourceState) (before : OutState) (answer : Result T ToolFault) (new : SourceState)
     (after : OutState) : Type 0 where
   pub good : (file : List ℕ) → IsGood old.store file → IsNoSourceFault answer
-  pub behind : IsBehind pace answer untouched
+  pub behind : IsBehind pace old.size answer untouched
   pub reads : Reads old answer new
   pub out_cause : HasOutCause before answer after

@@ -9,7 +9,7 @@ ghost use Rattle.mdmp_dump.specs.FileRefusal.{IsViewRefusal, view_refusal};
 ghost use Rattle.mdmp_dump.specs.InFile.{dump_in};
 ghost use Rattle.mdmp_dump.specs.LaysOut.{LaysOut};
 ghost use Rattle.mdmp_dump.specs.Opening.{HasSpentOpening, IsNewView, entries_in, held_by, opened_by, opening_bound};
-ghost use Rattle.mdmp_dump.specs.Reading.{Fetches, IsOwn};
+ghost use Rattle.mdmp_dump.specs.Reading.{Fetches, IsOwn, TellsOf};
 ghost use Rattle.mdmp_dump.specs.Shape.{IsViewOf};
 ghost use Rattle.mdmp_writer.specs.Passes.{all_asks, all_costs};
 ghost use Rattle.mdmp_tool.specs.Causes.{IsNoSourceFault};
@@ -131,12 +131,13 @@ fn open_copy<S: Store + Drop, A: Allocator + Copy>(
     ensures cause { IfErr result (λ refused. Fetches {T = Unit {0}} (Err refused.fault) source refused.source) }
     ensures refusal { IfErr result (λ refused. IsViewRefusal source.size refused.fault) }
     ensures short { source.size < 32 → MatchResult result (λ _. ⊥) (λ refused. refused.fault ≡ Opening (TooShort source.size)) }
-    ensures new { IfOk result (λ copying. IsNewView source limits.window copying.view) }
+    ensures new { IfOk result (λ copying. IsNewView source limits.window (Types types) copying.view) }
     ensures reliable { (file : List ℕ) → IsGood source.store file → IfOk result (λ copying. IsTrue (⟦<FileView<S, A> as DumpView>⟧.shape copying.view).is_reliable) }
     ensures buffer { IfOk result (λ copying. length copying.buffer.items ≡ limits.window) }
     ensures cost { (file : List ℕ) → source.store.content ≡ Some file → IfOk result (λ copying. opened_by copying.view ≡ opening_bound file (Types types)) }
     ensures spends { IfErr result (λ refused. HasSpentOpening (Types types) source refused.source) }
     ensures held { IfOk result (λ copying. held_by copying.view + length copying.buffer.items ≡ 2 * limits.window + 24 * entries_in copying.view) }
+    ensures tells { IfErr result (λ refused. TellsOf source.store.content refused.fault) }
 {
     let choice = Choice::Types(types);
     let view = match FileView::open_source(alloc, source, limits, choice) {

@@ -4,6 +4,7 @@ ghost use Rattle.mdmp_source.specs.declared.fault.SourceFault.TheVariants.{Faile
 ghost use Rattle.mdmp_dump.specs.declared.view.ViewFault.TheVariants.{Source};
 ghost use Rattle.mdmp_dump.specs.declared.view.Kind.TheVariants as kinds;
 ghost use Rattle.std.proofs.lemmas.Option.{none-some};
+ghost use Rattle.mdmp_dump_tests.proofs.Sizes.{no_stray_parts};
 
 use super::{open_out, size_of, write_value, write_view};
 use crate::dump::built::{bytes, dump_of, of_one, two};
@@ -14,7 +15,7 @@ use mdmp_writer::{LayoutFault, WriteFault, written_size};
 use std::alloc::Global;
 use std::test::Fail;
 
-/// A view that only tells sizes: of a stream of raw bytes, and of one of 64-bit memory in no range.
+/// A view that only tells sizes: of a stream of raw bytes, and of one of 64-bit memory in one range.
 #[derive(Drop)]
 struct Sizes {
     stream_type: u32,
@@ -27,7 +28,7 @@ impl DumpView for Sizes {
 
     ghost shape = { λ v. record {
       streams = record { kind = kinds.Raw v.stream_type; records = 0; raw = v.raw; parts = 0; bytes = 0 }
-          ∷ record { kind = kinds.Known 9; records = 0; raw = 0; parts = v.far; bytes = 0 } ∷ [];
+          ∷ record { kind = kinds.Known 9; records = 1; raw = 0; parts = v.far; bytes = 0 } ∷ [];
       costs = [];
       is_reliable = false;
       seen = None;
@@ -62,7 +63,7 @@ impl DumpView for Sizes {
 
     fn body_size(&mut self, stream: u64) -> u64 {
         let raw = self.raw;
-        if stream == 0 { raw } else { 16 }
+        if stream == 0 { raw } else { 32 }
     }
 
     fn parts_size(&mut self, stream: u64) -> u64 {
@@ -94,6 +95,8 @@ impl DumpView for Sizes {
 
     ghost kinds = { λ v x k known. absurd (none-some x known) };
 
+    ghost stray = { λ v. no_stray_parts v.stream_type v.raw v.far };
+
     ghost stays = { λ v. tt };
 
     ghost follows = { λ u v w p q. tt };
@@ -107,7 +110,7 @@ fn no_bytes() -> ViewFault
 }
 
 /// How large a dump of a raw stream of so many bytes and of so much 64-bit memory is. Its streams end
-/// 72 bytes behind the raw ones, up to a multiple of 4.
+/// 88 bytes behind the raw ones, up to a multiple of 4.
 fn size_by(stream_type: u32, raw: u64, far: u64) -> Result<u64, LayoutFault> {
     written_size(&mut Sizes {
         stream_type,
@@ -143,21 +146,21 @@ fn first_such_stream_is_told(rt: HostRuntime) -> Result<(), Fail> {
 #[test]
 fn streams_end_below_2_to_the_32(rt: HostRuntime) {
     let end: u64 = 1 << 32;
-    for raw in [end - 72, end - 75, end, u64::MAX] {
+    for raw in [end - 88, end - 91, end, u64::MAX] {
         assert_eq!(rt; size_by(10, raw, 0), Err(LayoutFault::TooLarge), "{raw}");
     }
-    for raw in [end - 76, end - 79] {
+    for raw in [end - 92, end - 95] {
         assert_eq!(rt; size_by(10, raw, 0), Ok(end - 4), "{raw}");
     }
-    assert_same(&rt, size_by(10, end - 76, end), Ok(2 * end - 4));
+    assert_same(&rt, size_by(10, end - 92, end), Ok(2 * end - 4));
 }
 
 #[test]
 fn file_ends_below_2_to_the_64(rt: HostRuntime) {
-    for far in [u64::MAX - 71, u64::MAX - 74, u64::MAX] {
+    for far in [u64::MAX - 87, u64::MAX - 90, u64::MAX] {
         assert_eq!(rt; size_by(10, 0, far), Err(LayoutFault::TooLarge), "{far}");
     }
-    for far in [u64::MAX - 75, u64::MAX - 78] {
+    for far in [u64::MAX - 91, u64::MAX - 94] {
         assert_eq!(rt; size_by(10, 0, far), Ok(u64::MAX - 3), "{far}");
     }
 }

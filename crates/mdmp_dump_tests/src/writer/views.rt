@@ -75,6 +75,8 @@ impl<V: DumpView> DumpView for Watched<V> {
 
     ghost kinds = { λ v x k known. absurd (none-some x known) };
 
+    ghost stray = { λ v. V.stray v.inner };
+
     ghost stays = { λ v. V.stays v.inner };
 
     ghost follows = { λ u v w. V.follows u.inner v.inner w.inner };

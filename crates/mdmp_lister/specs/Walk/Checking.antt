@@ -1,6 +1,6 @@
 -- What a check reads of a walk, entry by entry.
-use Rattle.std.specs.Prelude.{◌≡◌, ◌≤◌, ◌<◌, ◌+◌, ◌-◌, ℕ, List, [], ◌∷◌, ◌++◌, map, Bool, true, false, Option, None, Some, Result, Ok, Err, All, IfErr, slice_get, vec_len}
-use Rattle.mdmp_source.specs.Source.{FetchesSome}
+use Rattle.std.specs.Prelude.{◌≡◌, ◌≤◌, ◌<◌, ◌+◌, ◌-◌, ℕ, List, [], ◌∷◌, ◌++◌, map, Bool, true, false, Option, None, Some, Result, Ok, Err, All, IfErr, IfOk, slice_get, vec_len}
+use Rattle.mdmp_source.specs.Source.{FetchesAtMost}
 use Rattle.mdmp_source.specs.Store.{IsGood}
 use Rattle.mdmp_map.specs.Map.{MapState}
 use Rattle.mdmp_lister.specs.declared.fault.FaultKind.{FaultKind}
@@ -15,18 +15,29 @@ use Rattle.mdmp_lister.specs.declared.stage.Stage.TheVariants.{Between, Ended, H
 use Rattle.mdmp_lister.specs.declared.step.Step.{Step}
 use Rattle.mdmp_lister.specs.declared.verdict.Verdict.{Verdict}
 use Rattle.mdmp_lister.specs.declared.walk.Walk.{Walk}
-use Rattle.mdmp_lister.specs.Check.{EndsBefore, IsVerdict, PassesJudged, items_of, names_at, names_at_end, names_judged}
+use Rattle.mdmp_lister.specs.Check.{AreNextVerdicts, EndsBefore, EndsBehind, IsVerdict, MayBeJudged, PassesJudged, behind_judged, check_cost, fault_cost, items_of, names_at, names_at_end, names_judged}
+use Rattle.mdmp_wire.specs.declared.entry.Entry.{Entry}
+use Rattle.mdmp_lister.specs.declared.choice.Choice.{Choice}
+use Rattle.mdmp_lister.specs.Costs.{HasCost, bad_name_cost, end_cost, items_cost}
 use Rattle.mdmp_lister.specs.Fault.{IsOfSource, IsToldIn}
+use Rattle.mdmp_lister.specs.Following.{Cursor, IsChosenBehind, IsReadOn, NoneChosenBehind}
 use Rattle.mdmp_lister.specs.Format.Listing.{Numbered, Run, chosen_from, entry_listing, with_item}
 use Rattle.mdmp_lister.specs.Format.Numbers.{maybe_name}
 use Rattle.mdmp_lister.specs.Format.Ranges.{ranges_of}
 use Rattle.mdmp_lister.specs.Meter.{Moves, counts_of}
-use Rattle.mdmp_lister.specs.Sink.{Handed, give_all, names_of_all}
+use Rattle.mdmp_lister.specs.Sink.{ComeNext, Handed, give_all, names_of_all}
 use Rattle.mdmp_lister.specs.Stage.{ends, fault_stage}
 use Rattle.mdmp_lister.specs.Step.{step_item}
-use Rattle.mdmp_lister.specs.Walk.{IsListing, IsThrough, SameEntry, SameRoom, current_of, work_of}
+use Rattle.mdmp_lister.specs.Walk.{IsListing, IsThrough, SameEntry, SameRoom, current_of, cursor_of, work_of}
 use Rattle.mdmp_lister.specs.Walk.Mapping.{IsMapped}
+use Rattle.mdmp_lister.specs.Walk.Paying.{unread_bytes}
 use Rattle.mdmp_lister.specs.Walk.Requests.{Answered, StepTaken}
+
+-- these items may come next, and then the head of the stream is read, or nothing is
+pub record MayCome (choice : Choice) (entries : List Entry) (z limit : ℕ) (c : Cursor) (xs : List Item) (d : Cursor) : Type 0 where
+  pub behind : Cursor
+  pub come : ComeNext choice entries z limit c xs behind
+  pub reads : IsReadOn z behind d
 
 -- the verdict on an entry
 abbrev pub verdict_on : List ℕ → ℕ → Numbered → Verdict
@@ -50,6 +61,11 @@ least_names (Err f) = 0
 abbrev pub most_names : Result (Option ListFault) ListFault → ℕ
 most_names (Ok fault) = names_at fault
 most_names (Err f) = maybe_name f.kind
+
+-- and at most the bytes of its name
+abbrev pub judged_cost : ℕ → Result (Option ListFault) ListFault → ℕ
+judged_cost limit (Ok fault) = fault_cost limit fault
+judged_cost limit (Err f) = bad_name_cost limit f.kind
 
 -- the stage behind a check
 abbrev pub IsStageChecked : Result (Unit {0}) RunFault → Stage → Type 0
@@ -75,6 +91,7 @@ module _ {S A : Type 0} where
     pub stage : new.stage ≡ Head
     pub meter : new.meter ≡ old.meter
     pub entry : slice_get new.entries.items (new.next - 1) ≡ Some new.current
+    pub chosen : IsChosenBehind old.choice old.entries.items old.next (new.next - 1) new.current
     pub first : (file : List ℕ) → old.meter.source.store.content ≡ Some file
         → chosen_from file old.choice old.next ≡ record { number = new.next - 1; entry = new.current } ∷ chosen_from file old.choice new.next
 
@@ -82,6 +99,7 @@ module _ {S A : Type 0} where
   pub record NoneLeft (old new : Walk S A) : Type 0 where
     pub stage : new.stage ≡ Ended
     pub meter : new.meter ≡ old.meter
+    pub none_chosen : NoneChosenBehind old.choice old.entries.items old.next
     pub none : (file : List ℕ) → old.meter.source.store.content ≡ Some file → chosen_from file old.choice old.next ≡ []
 
   -- a record of the current entry was given, and the rest of the entry is left
@@ -112,8 +130,9 @@ module _ {S A : Type 0} where
     pub left : (file : List ℕ) → old.meter.source.store.content ≡ Some file → current_of old file ≡ give_all items (current_of new file)
     pub counts : Moves (names_of_all items) (counts_of old.meter) (counts_of new.meter)
     pub names : old.meter.names + names_of_all items ≤ new.meter.names
-    pub fetches : FetchesSome old.meter.source new.meter.source
+    pub cost : HasCost (unread_bytes old) old.meter.source items (unread_bytes new) new.meter.source
     pub rests : work_of new ≤ work_of old
+    pub may : MayCome old.choice old.entries.items old.meter.source.size (vec_len old.name) (cursor_of old) items (cursor_of new)
 
   -- a fault was met, and nothing was read
   pub record FaultRead (old : Walk S A) (m : MapState) (f : ListFault) (new : Walk S A) (n : MapState) : Type 0 where
@@ -156,9 +175,11 @@ module _ {S A : Type 0} where
     pub left : (file : List ℕ) → old.meter.source.store.content ≡ Some file → IsJudged (current_of old file) items result
     pub counts : Moves (names_of_all items + most_names result) (counts_of old.meter) (counts_of new.meter)
     pub names : old.meter.names + (names_of_all items + least_names result) ≤ new.meter.names
-    pub fetches : FetchesSome old.meter.source new.meter.source
+    pub fetches : FetchesAtMost (unread_bytes old + items_cost old.meter.source.size items + judged_cost (vec_len old.name) result) old.meter.source new.meter.source
     pub at_end : JudgeEnds old result new
     pub rests : work_of new ≤ work_of old
+    -- so it may be judged, whatever the file holds
+    pub may : IfOk result (MayBeJudged old.choice old.entries.items old.meter.source.size (vec_len old.name) (cursor_of old))
 
   -- the entries behind the current one were judged, and the sink was handed the verdicts on them
   pub record EntriesChecked {K : Type 0} (step : K → Verdict → Result (Unit {0}) Stopped → K → Type 0) (old : Walk S A) (m : MapState) (k : K)
@@ -177,6 +198,8 @@ module _ {S A : Type 0} where
     pub current : IfErr result (λ _. slice_get old.entries.items (new.next - 1) ≡ Some new.current)
     pub counts : Moves (names_judged items verdicts + names_at_end result) (counts_of old.meter) (counts_of new.meter)
     pub names : old.meter.names + names_judged items verdicts ≤ new.meter.names
-    pub fetches : FetchesSome old.meter.source new.meter.source
+    pub fetches : FetchesAtMost (check_cost old.meter.source.size (vec_len old.name) items verdicts + end_cost (vec_len old.name) result) old.meter.source new.meter.source
     pub failed : IfErr result (λ r. (f : ListFault) → r ≡ run.At f → FailedIn old f new)
     pub rests : work_of new ≤ work_of old
+    pub follow : AreNextVerdicts old.choice old.entries.items old.meter.source.size (vec_len old.name) old.next verdicts
+    pub ends : EndsBehind old.choice old.entries.items old.meter.source.size (vec_len old.name) (behind_judged verdicts old.next) result

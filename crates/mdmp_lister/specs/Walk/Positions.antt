@@ -8,8 +8,9 @@ use Rattle.mdmp_lister.specs.declared.position.Position.TheVariants.{Begun, Soug
 use Rattle.mdmp_lister.specs.declared.stage.Stage.{Stage}
 use Rattle.mdmp_lister.specs.declared.step.Step.{Step}
 use Rattle.mdmp_lister.specs.declared.walk.Walk.{Walk}
+use Rattle.mdmp_lister.specs.Following.{Standing, through}
 use Rattle.mdmp_lister.specs.Format.Listing.{Run, listing_sought, records_told}
-use Rattle.mdmp_lister.specs.Stage.{IsCounted, IsUnended, StaysUnchanged, failure_of, records_left_in, stop_of}
+use Rattle.mdmp_lister.specs.Stage.{IsCounted, IsUnended, StaysUnchanged, failure_of, records_left_in, standing_of, stop_of}
 use Rattle.mdmp_lister.specs.Walk.{IsSound, left_of, work_of}
 use Rattle.mdmp_lister.specs.Walk.Paying.{IsWithinSince, entry_cost, unread_bytes}
 use Rattle.mdmp_lister.specs.Walk.Requests.{Answered, EntryTaken}
@@ -23,6 +24,11 @@ stop_in _ stage = stop_of stage
 abbrev pub records_in : Position → Stage → ℕ
 records_in (Sought at) stage = 0
 records_in _ stage = records_left_in stage
+
+-- how far the current entry was given; nothing is left of it where another is sought
+abbrev pub standing_in : Position → Stage → Standing
+standing_in (Sought at) stage = through
+standing_in _ stage = standing_of stage
 
 -- ---- answers
 

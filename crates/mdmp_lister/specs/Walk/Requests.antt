@@ -1,5 +1,5 @@
 -- What a request for the next item leaves of a walk.
-use Rattle.std.specs.Prelude.{◌≡◌, ◌≤◌, ◌<◌, ◌+◌, ◌-◌, ℕ, List, Option, Some, None, Result, Err, IfOk, IfErr, IfSome, IsOk, IsTrue, false, get_or, vec_len}
+use Rattle.std.specs.Prelude.{◌≡◌, ◌≤◌, ◌<◌, ◌+◌, ◌-◌, ℕ, List, Option, Some, None, Result, Ok, Err, IfOk, IfErr, IfSome, IsOk, IsTrue, false, get_or, vec_len}
 use Rattle.mdmp_source.specs.Source.{FetchesAtMost}
 use Rattle.mdmp_source.specs.Store.{IsGood}
 use Rattle.mdmp_source.specs.declared.fault.SourceFault.{SourceFault}
@@ -19,13 +19,14 @@ use Rattle.mdmp_lister.specs.Meter.{Books, Moves, counts_of}
 use Rattle.mdmp_lister.specs.Walk.Paying.{IsPaid, IsWithinSince, unread_bytes}
 use Rattle.mdmp_lister.specs.Walk.Reaching.{Reaches, ReachesAtFault, given_once}
 use Rattle.mdmp_lister.specs.Fault.{IsOfSource, IsToldIn}
+use Rattle.mdmp_lister.specs.Following.{Follows, IsBegun, begun}
 use Rattle.mdmp_lister.specs.Format.Kind.{HasNoNames, kind_of}
 use Rattle.mdmp_lister.specs.Format.Listing.{records_told}
-use Rattle.mdmp_lister.specs.Stage.{IsCounted, IsStageAfter, StaysUnchanged, ends, fault_stage, records_left_in, stop_after, stop_of}
+use Rattle.mdmp_lister.specs.Stage.{IsCounted, IsStageAfter, StaysUnchanged, ends, fault_stage, records_left_in, standing_of, stop_after, stop_of}
 use Rattle.mdmp_lister.specs.declared.stage.Stage.TheVariants.{Between, Head}
 use Rattle.mdmp_lister.specs.Walk.Owing.{HasRoom, count_answered}
 use Rattle.mdmp_lister.specs.Step.{CurrentAfter, IsStepHeld, TakesRecord, stream_told}
-use Rattle.mdmp_lister.specs.Walk.{Advances, IsListing, IsPastHead, IsSound, IsStageCounted, PassesTo, SameEntry, SameRoom, current_of, left_of, work_of}
+use Rattle.mdmp_lister.specs.Walk.{Advances, IsListing, IsPastHead, IsSound, IsStageCounted, PassesTo, SameEntry, SameRoom, current_of, cursor_of, left_of, work_of}
 
 module _ {S A : Type 0} where
   -- a step that was given
@@ -56,6 +57,8 @@ module _ {S A : Type 0} where
     pub passed : PassesTo result old.next new.next
     pub current : CurrentAfter result old.current new.current
     pub records : TakesRecord (records_left_in old.stage) result (records_left_in new.stage)
+    -- what may be answered next, whatever the file holds
+    pub follows : stop_of old.stage ≡ None → Follows old.choice old.entries.items old.meter.source.size (vec_len old.name) (cursor_of old) result (cursor_of new)
     pub rests : work_of new ≤ work_of old
     -- what came off the unread bytes of the current entry's stream was fetched, and the name of the step
     pub fetches : FetchesAtMost (unread_bytes old + stream_begun old.meter.source.size (begun_at result) + given_spent (vec_len old.name) result - unread_bytes new)
@@ -76,6 +79,8 @@ module _ {S A : Type 0} where
     pub same : SameEntry old new
     pub left : (file : List ℕ) → old.meter.source.store.content ≡ Some file → current_of new file ≡ current_of old file
     pub stage : IsListing new.stage
+    -- how far the entry was given then, whatever the file holds
+    pub begins : IsBegun old.meter.source.size old.current (Ok (standing_of new.stage))
     pub falls : work_of new < work_of old
     pub owes : unread_bytes new ≤ unread_bytes old
     pub books : Books 1 (unread_bytes old - unread_bytes new) old.meter new.meter
@@ -120,6 +125,9 @@ module _ {S A : Type 0} where
     pub repeats : IsPastHead old.stage → new ≡ old
     pub unchanged : StaysUnchanged old.stage → StaysUnchanged new.stage
     pub rests : work_of new ≤ work_of old
+    -- how far the entry was given then, whatever the file holds, or a fault that may come next
+    pub begins : IfOk result (λ _. standing_of old.stage ≡ begun → IsBegun old.meter.source.size old.current (Ok (standing_of new.stage)))
+    pub follows : IfErr result (λ f. stop_of old.stage ≡ None → Follows old.choice old.entries.items old.meter.source.size (vec_len old.name) (cursor_of old) (Err f) (cursor_of new))
 
   -- a request was answered so, and as much room is left as the ranges that may still be given need
   pub record StepTaken (old : Walk S A) (result : Result (Option Step) ListFault) (new : Walk S A) : Type 0 where

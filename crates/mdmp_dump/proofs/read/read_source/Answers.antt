@@ -2,10 +2,11 @@ use Rattle.std.proofs.Common.{◌≡◌, ◌∙◌, ap, refl, sym, Some, None, E
 use Rattle.mdmp_lister.specs.declared.fault.OpenFault.{OpenFault}
 use Rattle.mdmp_lister.specs.Format.Listing.{chosen}
 use Rattle.mdmp_lister.specs.Format.Refusal.{opening_fault}
+use Rattle.mdmp_dump.specs.declared.fault.ReadFault.TheVariants as faults
 use Rattle.mdmp_dump.specs.Left.{run_of}
 use Rattle.mdmp_dump.specs.Reading.{owed, refusal_of}
 use Rattle.mdmp_dump.specs.Refusal.{read_refusal}
-use Rattle.mdmp_dump.proofs.Opened.{opened-head, opening-fetches, opening-settles}
+use Rattle.mdmp_dump.proofs.Opened.{opened-head, opened_behind, opening-fetches, opening-settles, tells_of, wants_behind}
 use Rattle.mdmp_dump.proofs.Taking.{fetches_err, fetches_ok}
 use Rattle.mdmp_dump.proofs.read.read_source.Goals as goal
 
@@ -62,3 +63,17 @@ returns-in-Err-read_streams-clause-short g c = λ few. absurd (c.in-Ok.ensures.s
 
 pub returns-in-Ok-read_streams-clause-short : goal.returns-in-Ok-read_streams-clause-short
 returns-in-Ok-read_streams-clause-short g c = λ few. absurd (c.in-Ok.ensures.short few)
+
+pub returns-in-Err-clause-tells : goal.returns-in-Err-clause-tells
+returns-in-Err-clause-tells g c =
+    let fault = c.in-Err.refused.fault in
+    rw c.refusal.ensures
+    (tells_of {T = Unit {0}} (refusal_of fault) c.args.source c.in-Err.refused.source
+    (opening-fetches _ fault c.args.source c.in-Err.refused.source c.in-Err.ensures.handed_back.fetches c.in-Err.ensures.cause c.in-Err.ensures.good c.in-Err.ensures.refusal)
+    (λ is file known. wants_behind file c.args.choice fault (c.in-Err.ensures.opens file known) is))
+
+pub returns-in-Err-read_streams-clause-tells : goal.returns-in-Err-read_streams-clause-tells
+returns-in-Err-read_streams-clause-tells g c =
+    tells_of {T = Unit {0}} c.in-Err-read_streams.fault c.args.source c.read_streams.new.reader.lister.source
+    (fetches_err c.args.source c.in-Ok.lister.source c.read_streams.new.reader.lister.source (record { count = _; fetches = c.in-Ok.ensures.new.fetches }) c.in-Err-read_streams.fault c.in-Err-read_streams.ensures.fetches)
+    (λ is file known. opened_behind file c.args.choice (c.in-Ok.ensures.opens file known))

@@ -41,3 +41,8 @@ pub returns-clause-of_file : goal.returns-clause-of_file
 returns-clause-of_file g c =
     let all : c.loop-index.index ≡ c.in-Ok.count = omega (arith, c.loop-index-test.false, c.loop-index.auto.index-end) in
     walking_ends g.row.A.Denot c.args.limit c.args.walk.now c.args.stream c.in-Ok.count c.loop-index.walk c.loop-index.index c.loop-index.room c.loop-index.invariant all
+
+pub returns-clause-bare : goal.returns-clause-bare
+returns-clause-bare g c =
+    let all : c.loop-index.index ≡ c.in-Ok.count = omega (arith, c.loop-index-test.false, c.loop-index.auto.index-end) in
+    λ none. c.loop-index.invariant.bare (omega (arith, all, none))

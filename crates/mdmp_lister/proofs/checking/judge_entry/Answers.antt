@@ -1,5 +1,5 @@
 use Rattle.std.proofs.Common.{◌∷◌, ◌++◌, [], refl}
-use Rattle.mdmp_lister.proofs.Judging.{fault_judged, fault_read, head_items, items_then, no_items}
+use Rattle.mdmp_lister.proofs.Judging.{end_judged, fault_judged, fault_read, head_items, items_then, no_items}
 use Rattle.mdmp_lister.proofs.Requests.{listing-going}
 use Rattle.mdmp_lister.proofs.checking.judge_entry.Goals as goal
 
@@ -19,7 +19,7 @@ loop-fault-init g c =
     let of = c.in_default.ensures in
     record {
       items = [];
-      read = head_items c.args.walk.now c.read_head.new.walk c.args.map.now c.requires.mapped of.read (rw c.free.ensures.value at of.room);
+      read = head_items c.args.walk.now c.read_head.new.walk c.args.map.now c.requires.mapped c.requires.head of.read (rw c.free.ensures.value at of.room);
       stage = of.read.stage;
     }
 
@@ -39,3 +39,9 @@ returns-in-Err-read_next g c =
     rw c.judged-in-Err-read_next.ensures
     (fault_judged l.invariant.items c.args.walk.now l.walk c.args.map.now l.map l.invariant.read c.read_next.new.walk c.read_next.new.map c.in-Err-read_next.fault
     (listing-going l.walk.stage l.invariant.stage) c.in-Err-read_next.ensures)
+
+pub returns-in-Ok-false : goal.returns-in-Ok-false
+returns-in-Ok-false g c =
+    let l = c.loop-fault in
+    let end = rw c.in-Ok-false.field-0-test at c.in-Ok-false.ensures in
+    rw (end.0, end.1.0) (end_judged l.invariant.items c.args.walk.now l.walk c.args.map.now l.map l.invariant.read end.1.1)

@@ -1,4 +1,5 @@
-use Rattle.std.proofs.Common.{◌≡◌, ◌∙◌, ◌*◌, true, false, sym, rules}
+use Rattle.std.proofs.Common.{◌≡◌, ◌∙◌, ◌*◌, true, false, ap, sym, rules}
+use Rattle.mdmp_wire.specs.HeaderFault.{fault_of}
 use Rattle.mdmp_source.specs.Range.{is_inside}
 use Rattle.mdmp_lister.proofs.Refusals.{header_at-fetched, directory_refusal-fetched, directory_refusal-inside, directory_refusal-outside}
 use Rattle.mdmp_lister.proofs.opening.header_in.Goals as goal
@@ -10,6 +11,7 @@ returns-in-Err-BadSignature c = record {
   refusal = search rules;
   long = λ told same. cc;
   read = search rules;
+  checked = tt;
 }
 
 pub returns-in-Err-BadVersion : goal.returns-in-Err-BadVersion
@@ -19,6 +21,7 @@ returns-in-Err-BadVersion c = record {
   refusal = search rules;
   long = λ told same. cc;
   read = search rules;
+  checked = tt;
 }
 
 pub returns-then-not-inside : goal.returns-then-not-inside
@@ -33,6 +36,7 @@ returns-then-not-inside c =
       refusal = rw (c.from-offset.ensures, c.from.ensures) outside;
       long = λ told same. cc;
       read = search rules;
+      checked = tt;
     }
 
 pub returns : goal.returns
@@ -48,4 +52,5 @@ returns c =
       refusal = search rules;
       long = λ told same. cc;
       read = search rules;
+      checked = ap fault_of c.in-Ok.ensures.1.fields ∙ c.in-Ok.ensures.0;
     }

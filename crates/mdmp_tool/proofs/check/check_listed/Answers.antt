@@ -50,7 +50,7 @@ pub returns-in-Ok-clause-leaves : goal.returns-in-Ok-clause-leaves
 returns-in-Ok-clause-leaves g c =
     let checks = c.in-Ok.ensures.checks in
     let put = lines-taken (λ lines. g.O.Out.state lines.out.now) (λ lines. lines.bad) (λ lines. lines.out.ghost_name) checks.judged _ _ checks.handed in
-    record { good = λ file good. tt; behind = tt; reads = record { cause = tt; fetches = checks.fetches }; out_cause = put.steady }
+    record { good = λ file good. tt; behind = tt; reads = record { cause = tt; fetches = record { count = _; fetches = checks.fetches } }; out_cause = put.steady }
 
 pub returns-in-Err-At-clause-ends : goal.returns-in-Err-At-clause-ends
 returns-in-Err-At-clause-ends g c = λ file known.
@@ -82,7 +82,7 @@ returns-in-Err-At-clause-leaves g c =
     rw c.told_list.ensures (told-source (λ (r : Result ℕ ToolFault). Leaves past_faults (after ≡ before) old before r new after) fault fault.kind told.0 (λ s is. record {
       good = λ file good. absurd (c.in-Err-At.ensures.good file good fault c.in-Err-At.field-0-is);
       behind = tt;
-      reads = record { cause = told-cause c.check_into.new.self.current fault s old new is told.1; fetches = checks.fetches };
+      reads = record { cause = told-cause c.check_into.new.self.current fault s old new is told.1; fetches = record { count = _; fetches = checks.fetches } };
       out_cause = put.steady;
     }))
 
@@ -98,7 +98,7 @@ pub returns-in-Err-Stopped-clause-leaves : goal.returns-in-Err-Stopped-clause-le
 returns-in-Err-Stopped-clause-leaves g c =
     let checks = c.in-Err-Stopped.ensures.checks in
     let cut = lines-stopped (λ lines. g.O.Out.state lines.out.now) (λ lines. lines.bad) (λ lines. lines.out.ghost_name) checks.judged _ _ (rw c.in-Err-Stopped.field-0-is at checks.handed) in
-    record { good = λ file good. tt; behind = tt; reads = record { cause = tt; fetches = checks.fetches }; out_cause = cut.refused }
+    record { good = λ file good. tt; behind = tt; reads = record { cause = tt; fetches = record { count = _; fetches = checks.fetches } }; out_cause = cut.refused }
 
 pub returns-in-Ok-clause-same : goal.returns-in-Ok-clause-same
 returns-in-Ok-clause-same g c = run_list _ _ _ (run_none _) c.in-Ok.ensures.checks.same

@@ -6,6 +6,7 @@ use Rattle.mdmp_dump.specs.Opening.{entries_in, opened_by}
 use Rattle.mdmp_dump.specs.Shape.{Shape}
 use Rattle.mdmp_dump.proofs.Taking.{FetchesSome_then}
 use Rattle.mdmp_tool.specs.Copying.{first_not_copied, spent, unopened}
+use Rattle.mdmp_tool.proofs.Engining.{may_change}
 use Rattle.mdmp_tool.proofs.Copying.{Copies-not, Copies-refused, Copies-viewed, cause_copied, good_read, read_unopened, reliable_copied, shape_copied, unspent}
 use Rattle.mdmp_tool.proofs.copy.copy_source.Goals as goal
 
@@ -20,6 +21,8 @@ returns-in-Ok-clause-copies g c =
     Copies-viewed g.row.A.Denot c.args.source.store.content c.args.source.size c.args.types c.args.limits.name (g.O.Out.state c.args.out.now)
     (ap first_not_copied (sym c.types.ensures) ∙ sym c.in_default.ensures) (file_shape g.row.A.Denot c.in-Ok.field-0.view.walk c.in-Ok.field-0.view.counts.items c.in-Ok.field-0.view.rooms.items) (g.O.Out.state c.write_copy.new.out)
     (λ file known. (of.views file known).0) of.refuses of.short c.write_copy.result c.write_copy.ensures.ends
+    (may_change c.write_copy.result c.args.source c.write_copy.new.view.walk.source
+    (cause_copied c.args.source c.in-Ok.field-0.view.walk c.write_copy.new.view.walk c.in-Ok.field-0.view.last c.write_copy.new.view.last c.write_copy.result of.new.fetches of.new.last c.write_copy.ensures.moves c.write_copy.ensures.told))
     (λ file known. c.write_copy.ensures.copies _ (of.views file known).1)
 
 pub returns-in-Ok-clause-good : goal.returns-in-Ok-clause-good
@@ -43,7 +46,7 @@ returns-in-Err-clause-copies g c =
     let of = c.in-Err.ensures in
     rw c.told_reading.ensures
     (Copies-refused g.row.A.Denot c.args.source.store.content c.args.source.size c.args.types c.args.limits.name (g.O.Out.state c.args.out.now)
-    (ap first_not_copied (sym c.types.ensures) ∙ sym c.in_default.ensures) c.in-Err.field-0.fault of.refuses of.refusal of.short)
+    (ap first_not_copied (sym c.types.ensures) ∙ sym c.in_default.ensures) c.in-Err.field-0.fault of.refuses of.refusal of.short of.tells)
 
 pub returns-in-Some-clause-spends : goal.returns-in-Some-clause-spends
 returns-in-Some-clause-spends g c = unopened tt (unspent c.args.source (Types c.args.types))

@@ -1,4 +1,6 @@
 use Rattle.std.proofs.Common.{arith}
+use Rattle.mdmp_lister.specs.declared.choice.Choice.TheVariants.{Types}
+use Rattle.mdmp_dump.proofs.Refusals.{view_opens}
 use Rattle.mdmp_tool.proofs.copy.open_copy.Goals as goal
 
 pub returns-in_default-clause-spends : goal.returns-in_default-clause-spends
@@ -13,3 +15,9 @@ returns-in_default-clause-spends g c =
       fetched = omega (arith, c.into_source.ensures.spent, new.start, new.passed, new.asked);
       of_file = λ F known. omega (arith, c.in-Ok.ensures.cost F known);
     }
+
+pub returns-in_default-clause-tells : goal.returns-in_default-clause-tells
+returns-in_default-clause-tells g c = record {
+  memory = λ is file known. view_opens file (Types c.args.types) c.args.limits.name (c.in-Ok.ensures.refuses file known);
+  changed = tt;
+}

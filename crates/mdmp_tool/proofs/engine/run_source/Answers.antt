@@ -1,10 +1,11 @@
-use Rattle.std.proofs.Common.{rules, ◌≡◌, ◌∙◌, ◌+◌, ap, refl, subst}
+use Rattle.std.proofs.Common.{rules, ◌≡◌, ◌∙◌, ◌+◌, ℕ, ap, refl, subst}
 use Rattle.mdmp_source.specs.SourceLaws.{fetches_then}
-use Rattle.mdmp_tool.proofs.Engining.{IsQuiet-behind, IsRefusal-behind, Runs-unopened}
+use Rattle.mdmp_tool.proofs.Engining.{IsQuiet-behind, IsRefusal-behind, Runs-unopened, may_change}
 use Rattle.mdmp_lister.specs.Counts.{AreHeld, AreSpent}
 use Rattle.mdmp_lister.specs.declared.counts.Counts.{Counts}
 use Rattle.mdmp_lister.specs.Lister.{Rooms}
-use Rattle.mdmp_tool.specs.Engines.{IsThrough}
+use Rattle.mdmp_tool.specs.Causes.{MayChange}
+use Rattle.mdmp_tool.specs.Engines.{IsBehind, IsThrough}
 use Rattle.mdmp_tool.proofs.SameRuns.{early_opening}
 use Rattle.mdmp_tool.proofs.engine.run_source.Goals as goal
 
@@ -17,12 +18,15 @@ returns-clause-tells g c =
     let new = c.in-Ok.ensures.new in
     let put = c.put-answer.ensures.leaves in
     let untouched : Type 0 = g.O.Out.state c.put-answer.new.out ≡ g.O.Out.state c.args.out.now in
+    let result = c.put-answer.result in
+    let behind = subst (λ (size : ℕ). IsBehind g.E.Engine.pace size result untouched) new.fetches.same_size put.behind in
     record {
       good = λ file good. put.good file (record { known = new.fetches.same_content ∙ good.known; reliable = rw new.fetches.same_reliable good.reliable });
-      refusal = IsRefusal-behind g.E.Engine.pace untouched c.args.source.size c.put-answer.result put.behind;
+      refusal = IsRefusal-behind g.E.Engine.pace untouched c.args.source.size result behind;
       short = λ few. absurd (c.in-Ok.ensures.short few);
-      quiet = IsQuiet-behind g.E.Engine.pace untouched c.put-answer.result put.behind;
+      quiet = IsQuiet-behind g.E.Engine.pace untouched c.args.source.size result behind;
       out_cause = put.out_cause;
+      changed = subst (λ content. MayChange content result) new.fetches.same_content (may_change result _ _ put.reads.cause);
     }
 
 pub returns-clause-reads : goal.returns-clause-reads

@@ -1,7 +1,10 @@
-use Rattle.std.proofs.Common.{rules, ◌≡◌, ◌∙◌, ◌+◌, length, arith}
+use Rattle.std.proofs.Common.{rules, ◌≡◌, ◌∙◌, ◌+◌, ℕ, length, arith, refl, subst}
 use Rattle.mdmp_source.specs.SourceLaws.{fetches_then}
+use Rattle.mdmp_lister.specs.FaultLaws.{ranges_fit}
+use Rattle.mdmp_tool.specs.Engines.{IsBehind, at_the_end}
 use Rattle.mdmp_tool.proofs.Hexing.{HexesRun-printed}
 use Rattle.mdmp_tool.proofs.SameRuns.{run_list, run_none, run_then}
+use Rattle.mdmp_tool.proofs.Symbols.{Leaves-listed}
 use Rattle.mdmp_tool.proofs.hex.hex_listed.Goals as goal
 
 pub returns-clause-hexes : goal.returns-clause-hexes
@@ -15,9 +18,10 @@ pub returns-clause-leaves : goal.returns-clause-leaves
 returns-clause-leaves g c =
     let first = c.list_ranges.ensures.fetches in
     let more = c.put_memory.ensures.leaves in
+    let untouched : Type 0 = g.O.Out.state c.put_memory.new.out ≡ g.O.Out.state c.args.out.now in
     record {
       good = search rules;
-      behind = search rules;
+      behind = subst (λ (size : ℕ). IsBehind at_the_end size c.put_memory.result untouched) first.fetches.same_size more.behind;
       reads = record {
         cause = search rules;
         fetches = record { count = first.count + more.reads.fetches.count; fetches = fetches_then _ _ _ _ _ first.fetches more.reads.fetches.fetches };
@@ -27,3 +31,9 @@ returns-clause-leaves g c =
 
 pub returns-clause-same : goal.returns-clause-same
 returns-clause-same g c = run_then _ _ _ (run_list _ _ _ (run_none _) c.list_ranges.ensures.same) c.put_memory.ensures.same
+
+pub returns-in-Err-clause-leaves : goal.returns-in-Err-clause-leaves
+returns-in-Err-clause-leaves g c =
+    let of = c.in-Err.ensures in
+    let fits = ranges_fit c.args.lister.now c.in-Err.fault c.list_ranges.new.self of.follows in
+    rw c.told_list.ensures (Leaves-listed at_the_end _ c.list_ranges.new.self.current c.in-Err.fault _ _ _ of.fetches of.told of.good fits refl refl)

@@ -1,9 +1,11 @@
 use Rattle.std.proofs.Common.{rules, ◌≡◌, ◌∙◌, ◌+◌, ℕ, List, Some, Err, subst}
 use Rattle.std.specs.Prelude.{slice_get}
 use Rattle.mdmp_source.specs.SourceLaws.{fetches_then}
+use Rattle.mdmp_lister.specs.FaultLaws.{next_fits}
 use Rattle.mdmp_lister.specs.Format.Item.{plain}
+use Rattle.mdmp_tool.specs.Engines.{up_to_a_fault}
 use Rattle.mdmp_tool.specs.Runs.{PutsSymbols}
-use Rattle.mdmp_tool.proofs.Symbols.{Leaves-fault, Leaves-later, ListsNext-cut, ListsNext-line, ListsNext-symbols, symbols_text-is}
+use Rattle.mdmp_tool.proofs.Symbols.{Leaves-fault, Leaves-later, Leaves-listed, ListsNext-cut, ListsNext-fault, ListsNext-line, ListsNext-symbols, symbols-inside, symbols_text-is}
 use Rattle.mdmp_tool.proofs.list.list_next.Goals as goal
 
 pub returns-in-Err-put_item_line-clause-lists : goal.returns-in-Err-put_item_line-clause-lists
@@ -50,3 +52,20 @@ returns-clause-leaves g c =
       reads = record { cause = tt; fetches = record { count = _ + told.reads.fetches.count; fetches = fetches_then _ _ _ _ _ holds.fetches told.reads.fetches.fetches } };
       out_cause = told.out_cause ∙ c.in-Ok.ensures.steady;
     }
+
+pub returns-in-Err-clause-lists : goal.returns-in-Err-clause-lists
+returns-in-Err-clause-lists g c = λ file content left known.
+    rw c.told_list.ensures (ListsNext-fault c.args.pdb file c.args.lister.now.limit left _ c.in-Err.fault (c.in-Err.ensures.gives left known))
+
+pub returns-in-Err-clause-leaves : goal.returns-in-Err-clause-leaves
+returns-in-Err-clause-leaves g c =
+    let holds = c.next.follows.holds-at-none in
+    let fits = next_fits c.args.lister.now c.in-Err.fault c.next.follows.lender-at-none (rw c.in-Err.is at (holds.follows c.requires)) in
+    rw c.told_list.ensures
+    (Leaves-listed up_to_a_fault ⊥ c.args.lister.now.current c.in-Err.fault _ _ _ (record { count = _; fetches = holds.list.fetches }) (rw c.in-Err.is at (holds.list.told c.requires)) c.in-Err.ensures.good fits tt tt)
+
+pub put_symbols-requires : goal.put_symbols-requires
+put_symbols-requires g c =
+    let holds = c.next.follows.holds-at-none.list in
+    let inside = symbols-inside c.args.pdb _ c.next.follows.lender-at-none.current c.in-Ok-Some.item (rw (c.in-Ok-Some.is, c.in-Ok-Some.field-0-is) at holds.classed) in
+    rw (c.symbols_of.ensures, holds.fetches.same_size) inside

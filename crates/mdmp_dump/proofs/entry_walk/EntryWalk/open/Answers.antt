@@ -1,6 +1,8 @@
 use Rattle.std.proofs.Common.{refl}
 use Rattle.mdmp_dump.proofs.EntryWalks.{opened}
-use Rattle.mdmp_dump.proofs.Opened.{directory-settles}
+use Rattle.mdmp_lister.proofs.Refusals.{open_refusal}
+use Rattle.mdmp_dump.specs.Reading.{refusal_of}
+use Rattle.mdmp_dump.proofs.Opened.{directory-settles, opening-fetches, tells_of, wants_bare}
 use Rattle.mdmp_dump.proofs.OpenedViews.{head_spent}
 use Rattle.mdmp_dump.proofs.Refusals.{bare_refusal}
 use Rattle.mdmp_dump.proofs.entry_walk.EntryWalk.open.Goals as goal
@@ -17,3 +19,12 @@ returns-in-Err-clause-of_file g c = λ file known names.
 
 pub returns-in-Err-clause-spends : goal.returns-in-Err-clause-spends
 returns-in-Err-clause-spends g c = head_spent c.args.source c.in-Err.refused.source c.args.choice c.in-Err.refused.fault c.in-Err.ensures.handed_back
+
+pub returns-in-Err-clause-tells : goal.returns-in-Err-clause-tells
+returns-in-Err-clause-tells g c =
+    let fault = c.in-Err.refused.fault in
+    let of = c.in-Err.ensures in
+    rw c.refusal.ensures
+    (tells_of (refusal_of fault) c.args.source c.in-Err.refused.source
+    (opening-fetches {T = Unit {0}} _ fault c.args.source c.in-Err.refused.source of.handed_back.fetches of.cause of.good (open_refusal c.args.source.size fault of.refusal))
+    (λ is file known. wants_bare file fault (of.opens file known) is))

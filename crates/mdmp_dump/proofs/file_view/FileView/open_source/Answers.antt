@@ -2,6 +2,7 @@ use Rattle.mdmp_wire.specs.declared.header.Header.{Header}
 use Rattle.std.proofs.Common.{◌≡◌, ◌∙◌, ◌<◌, ◌^◌, ℕ, arith, ap, refl, subst}
 use Rattle.mdmp_source.specs.Store.{IsSizeOf}
 use Rattle.mdmp_dump.proofs.Laid.{viewed_lays}
+use Rattle.mdmp_dump.proofs.Opened.{tells_of}
 use Rattle.mdmp_dump.proofs.OpenedViews.{held_whole, is_view, run_refused, view_cost, view_fetches, view_of, view_quiet, view_reliable, view_start, walk_spent}
 use Rattle.mdmp_dump.proofs.Refusals.{walk_refusal}
 use Rattle.mdmp_dump.proofs.Taking.{fetches_err}
@@ -13,7 +14,7 @@ invariant_of-result g c =
     let sized = subst (λ (n : ℕ). IsSizeOf c.in-Ok.walk.source.store.content n) c.size-size.ensures.value c.size-size.ensures.content in
     let entries : c.header-entries.result.number_of_streams ≡ c.in-Ok.walk.header.number_of_streams = ap (λ (h : Header). h.number_of_streams) c.header-entries.ensures in
     let light : c.in-Ok.walk.held < 2 ^ 64 = omega (arith, c.in-Ok.ensures.opened.held, entries, c.args.limits.window_most) in
-    record { sound = is_view g.row.A.Denot c.args.source c.args.limits.window c.args.limits.name c.args.choice c.in-Ok.walk c.walk_all.new.walk c.in-Ok-walk_all.field-0.counts.items c.in-Ok-walk_all.field-0.rooms.items c.in-Ok.ensures.opened c.in-Ok.ensures.of_file sized c.size-size.ensures.bytes of.pays of.counts.0 of.counts.1 of.goes light of.of_file }
+    record { sound = is_view g.row.A.Denot c.args.source c.args.limits.window c.args.limits.name c.args.choice c.in-Ok.walk c.walk_all.new.walk c.in-Ok-walk_all.field-0.counts.items c.in-Ok-walk_all.field-0.rooms.items c.in-Ok.ensures.opened c.in-Ok.ensures.of_file sized c.size-size.ensures.bytes of.pays of.counts.0 of.counts.1 of.goes light of.of_file of.bare }
 
 pub returns-in-Ok-walk_all-clause-views : goal.returns-in-Ok-walk_all-clause-views
 returns-in-Ok-walk_all-clause-views g c =
@@ -22,8 +23,8 @@ returns-in-Ok-walk_all-clause-views g c =
     let entries : c.header-entries.result.number_of_streams ≡ c.in-Ok.walk.header.number_of_streams = ap (λ (h : Header). h.number_of_streams) c.header-entries.ensures in
     let light : c.in-Ok.walk.held < 2 ^ 64 = omega (arith, c.in-Ok.ensures.opened.held, entries, c.args.limits.window_most) in
     λ F known. (
-      viewed_lays g.row.A.Denot F c.args.limits.name c.args.choice (view_quiet g.row.A.Denot c.args.source c.args.limits.window c.args.limits.name c.args.choice c.in-Ok.walk c.walk_all.new.walk c.in-Ok-walk_all.field-0.counts.items c.in-Ok-walk_all.field-0.rooms.items c.in-Ok.ensures.opened c.in-Ok.ensures.of_file sized c.size-size.ensures.bytes of.pays of.counts.0 of.counts.1 of.goes light of.of_file F known),
-      view_of g.row.A.Denot c.args.source c.args.limits.window c.args.limits.name c.args.choice c.in-Ok.walk c.walk_all.new.walk c.in-Ok-walk_all.field-0.counts.items c.in-Ok-walk_all.field-0.rooms.items c.in-Ok.ensures.opened c.in-Ok.ensures.of_file sized c.size-size.ensures.bytes of.pays of.counts.0 of.counts.1 of.goes light of.of_file F known,
+      viewed_lays g.row.A.Denot F c.args.limits.name c.args.choice (view_quiet g.row.A.Denot c.args.source c.args.limits.window c.args.limits.name c.args.choice c.in-Ok.walk c.walk_all.new.walk c.in-Ok-walk_all.field-0.counts.items c.in-Ok-walk_all.field-0.rooms.items c.in-Ok.ensures.opened c.in-Ok.ensures.of_file sized c.size-size.ensures.bytes of.pays of.counts.0 of.counts.1 of.goes light of.of_file of.bare F known),
+      view_of g.row.A.Denot c.args.source c.args.limits.window c.args.limits.name c.args.choice c.in-Ok.walk c.walk_all.new.walk c.in-Ok-walk_all.field-0.counts.items c.in-Ok-walk_all.field-0.rooms.items c.in-Ok.ensures.opened c.in-Ok.ensures.of_file sized c.size-size.ensures.bytes of.pays of.counts.0 of.counts.1 of.goes light of.of_file of.bare F known,
     )
 
 pub returns-in-Ok-walk_all-clause-refuses : goal.returns-in-Ok-walk_all-clause-refuses
@@ -32,7 +33,7 @@ returns-in-Ok-walk_all-clause-refuses g c =
     let sized = subst (λ (n : ℕ). IsSizeOf c.in-Ok.walk.source.store.content n) c.size-size.ensures.value c.size-size.ensures.content in
     let entries : c.header-entries.result.number_of_streams ≡ c.in-Ok.walk.header.number_of_streams = ap (λ (h : Header). h.number_of_streams) c.header-entries.ensures in
     let light : c.in-Ok.walk.held < 2 ^ 64 = omega (arith, c.in-Ok.ensures.opened.held, entries, c.args.limits.window_most) in
-    view_quiet g.row.A.Denot c.args.source c.args.limits.window c.args.limits.name c.args.choice c.in-Ok.walk c.walk_all.new.walk c.in-Ok-walk_all.field-0.counts.items c.in-Ok-walk_all.field-0.rooms.items c.in-Ok.ensures.opened c.in-Ok.ensures.of_file sized c.size-size.ensures.bytes of.pays of.counts.0 of.counts.1 of.goes light of.of_file
+    view_quiet g.row.A.Denot c.args.source c.args.limits.window c.args.limits.name c.args.choice c.in-Ok.walk c.walk_all.new.walk c.in-Ok-walk_all.field-0.counts.items c.in-Ok-walk_all.field-0.rooms.items c.in-Ok.ensures.opened c.in-Ok.ensures.of_file sized c.size-size.ensures.bytes of.pays of.counts.0 of.counts.1 of.goes light of.of_file of.bare
 
 pub returns-in-Ok-walk_all-clause-new : goal.returns-in-Ok-walk_all-clause-new
 returns-in-Ok-walk_all-clause-new g c =
@@ -41,9 +42,10 @@ returns-in-Ok-walk_all-clause-new g c =
     let entries : c.header-entries.result.number_of_streams ≡ c.in-Ok.walk.header.number_of_streams = ap (λ (h : Header). h.number_of_streams) c.header-entries.ensures in
     let light : c.in-Ok.walk.held < 2 ^ 64 = omega (arith, c.in-Ok.ensures.opened.held, entries, c.args.limits.window_most) in
     record {
-      fetches = view_fetches g.row.A.Denot c.args.source c.args.limits.window c.args.limits.name c.args.choice c.in-Ok.walk c.walk_all.new.walk c.in-Ok-walk_all.field-0.counts.items c.in-Ok-walk_all.field-0.rooms.items c.in-Ok.ensures.opened c.in-Ok.ensures.of_file sized c.size-size.ensures.bytes of.pays of.counts.0 of.counts.1 of.goes light of.of_file;
-      start = view_start g.row.A.Denot c.args.source c.args.limits.window c.args.limits.name c.args.choice c.in-Ok.walk c.walk_all.new.walk c.in-Ok-walk_all.field-0.counts.items c.in-Ok-walk_all.field-0.rooms.items c.in-Ok.ensures.opened c.in-Ok.ensures.of_file sized c.size-size.ensures.bytes of.pays of.counts.0 of.counts.1 of.goes light of.of_file;
-      held = held_whole g.row.A.Denot c.args.source c.args.limits.window c.args.limits.name c.args.choice c.in-Ok.walk c.walk_all.new.walk c.in-Ok-walk_all.field-0.counts.items c.in-Ok-walk_all.field-0.rooms.items c.in-Ok.ensures.opened c.in-Ok.ensures.of_file sized c.size-size.ensures.bytes of.pays of.counts.0 of.counts.1 of.goes light of.of_file;
+      choice_is = of.pays.same.choice ∙ c.in-Ok.ensures.opened.choice_is;
+      fetches = view_fetches g.row.A.Denot c.args.source c.args.limits.window c.args.limits.name c.args.choice c.in-Ok.walk c.walk_all.new.walk c.in-Ok-walk_all.field-0.counts.items c.in-Ok-walk_all.field-0.rooms.items c.in-Ok.ensures.opened c.in-Ok.ensures.of_file sized c.size-size.ensures.bytes of.pays of.counts.0 of.counts.1 of.goes light of.of_file of.bare;
+      start = view_start g.row.A.Denot c.args.source c.args.limits.window c.args.limits.name c.args.choice c.in-Ok.walk c.walk_all.new.walk c.in-Ok-walk_all.field-0.counts.items c.in-Ok-walk_all.field-0.rooms.items c.in-Ok.ensures.opened c.in-Ok.ensures.of_file sized c.size-size.ensures.bytes of.pays of.counts.0 of.counts.1 of.goes light of.of_file of.bare;
+      held = held_whole g.row.A.Denot c.args.source c.args.limits.window c.args.limits.name c.args.choice c.in-Ok.walk c.walk_all.new.walk c.in-Ok-walk_all.field-0.counts.items c.in-Ok-walk_all.field-0.rooms.items c.in-Ok.ensures.opened c.in-Ok.ensures.of_file sized c.size-size.ensures.bytes of.pays of.counts.0 of.counts.1 of.goes light of.of_file of.bare;
       passed = refl;
       asked = refl;
       last = refl;
@@ -55,7 +57,7 @@ returns-in-Ok-walk_all-clause-cost g c =
     let sized = subst (λ (n : ℕ). IsSizeOf c.in-Ok.walk.source.store.content n) c.size-size.ensures.value c.size-size.ensures.content in
     let entries : c.header-entries.result.number_of_streams ≡ c.in-Ok.walk.header.number_of_streams = ap (λ (h : Header). h.number_of_streams) c.header-entries.ensures in
     let light : c.in-Ok.walk.held < 2 ^ 64 = omega (arith, c.in-Ok.ensures.opened.held, entries, c.args.limits.window_most) in
-    view_cost g.row.A.Denot c.args.source c.args.limits.window c.args.limits.name c.args.choice c.in-Ok.walk c.walk_all.new.walk c.in-Ok-walk_all.field-0.counts.items c.in-Ok-walk_all.field-0.rooms.items c.in-Ok.ensures.opened c.in-Ok.ensures.of_file sized c.size-size.ensures.bytes of.pays of.counts.0 of.counts.1 of.goes light of.of_file
+    view_cost g.row.A.Denot c.args.source c.args.limits.window c.args.limits.name c.args.choice c.in-Ok.walk c.walk_all.new.walk c.in-Ok-walk_all.field-0.counts.items c.in-Ok-walk_all.field-0.rooms.items c.in-Ok.ensures.opened c.in-Ok.ensures.of_file sized c.size-size.ensures.bytes of.pays of.counts.0 of.counts.1 of.goes light of.of_file of.bare
 
 pub returns-in-Ok-walk_all-clause-reliable : goal.returns-in-Ok-walk_all-clause-reliable
 returns-in-Ok-walk_all-clause-reliable g c =
@@ -63,7 +65,7 @@ returns-in-Ok-walk_all-clause-reliable g c =
     let sized = subst (λ (n : ℕ). IsSizeOf c.in-Ok.walk.source.store.content n) c.size-size.ensures.value c.size-size.ensures.content in
     let entries : c.header-entries.result.number_of_streams ≡ c.in-Ok.walk.header.number_of_streams = ap (λ (h : Header). h.number_of_streams) c.header-entries.ensures in
     let light : c.in-Ok.walk.held < 2 ^ 64 = omega (arith, c.in-Ok.ensures.opened.held, entries, c.args.limits.window_most) in
-    view_reliable g.row.A.Denot c.args.source c.args.limits.window c.args.limits.name c.args.choice c.in-Ok.walk c.walk_all.new.walk c.in-Ok-walk_all.field-0.counts.items c.in-Ok-walk_all.field-0.rooms.items c.in-Ok.ensures.opened c.in-Ok.ensures.of_file sized c.size-size.ensures.bytes of.pays of.counts.0 of.counts.1 of.goes light of.of_file
+    view_reliable g.row.A.Denot c.args.source c.args.limits.window c.args.limits.name c.args.choice c.in-Ok.walk c.walk_all.new.walk c.in-Ok-walk_all.field-0.counts.items c.in-Ok-walk_all.field-0.rooms.items c.in-Ok.ensures.opened c.in-Ok.ensures.of_file sized c.size-size.ensures.bytes of.pays of.counts.0 of.counts.1 of.goes light of.of_file of.bare
 
 pub returns-in-Err-walk_all-clause-refuses : goal.returns-in-Err-walk_all-clause-refuses
 returns-in-Err-walk_all-clause-refuses g c = λ F known own.
@@ -72,7 +74,17 @@ returns-in-Err-walk_all-clause-refuses g c = λ F known own.
     (c.in-Err-walk_all.ensures.of_file F (first.opened.fetches.fetches.same_content ∙ known) own)
 
 pub returns-in-Err-walk_all-clause-refusal : goal.returns-in-Err-walk_all-clause-refusal
-returns-in-Err-walk_all-clause-refusal g c = walk_refusal c.args.source.size c.in-Err-walk_all.fault c.in-Err-walk_all.ensures.told
+returns-in-Err-walk_all-clause-refusal g c =
+    let of = c.in-Err-walk_all in
+    let cause = fetches_err {T = Unit {0}} c.args.source c.in-Ok.walk.source c.walk_all.new.walk.source c.in-Ok.ensures.opened.fetches of.fault of.ensures.fetches in
+    walk_refusal c.args.source.size of.fault of.ensures.told cause.refusal
+
+pub returns-in-Err-walk_all-clause-tells : goal.returns-in-Err-walk_all-clause-tells
+returns-in-Err-walk_all-clause-tells g c =
+    let of = c.in-Err-walk_all in
+    tells_of {T = Unit {0}} of.fault c.args.source c.walk_all.new.walk.source
+    (fetches_err c.args.source c.in-Ok.walk.source c.walk_all.new.walk.source c.in-Ok.ensures.opened.fetches of.fault of.ensures.fetches)
+    (λ is file known. c.in-Ok.ensures.of_file file known)
 
 pub returns-in-Err-walk_all-clause-cause : goal.returns-in-Err-walk_all-clause-cause
 returns-in-Err-walk_all-clause-cause g c =

@@ -1,5 +1,13 @@
+use Rattle.mdmp_lister.specs.FaultLaws.{next_fits}
 use Rattle.mdmp_dump.proofs.Settled.{fault-owed}
+use Rattle.mdmp_dump.proofs.Taking.{Fetches_listed}
 use Rattle.mdmp_dump.proofs.reader.Reader.behind.Goals as goal
 
 pub returns-in-Err-clause-gives : goal.returns-in-Err-clause-gives
 returns-in-Err-clause-gives g c = λ file run known left first. (tt, λ own. rw left (fault-owed file c.args.self.now.left run c.in-Err.fault (c.in-Err.ensures.gives run left) own))
+
+pub returns-in-Err-clause-fetches : goal.returns-in-Err-clause-fetches
+returns-in-Err-clause-fetches g c =
+    let holds = c.next.follows.holds-at-none in
+    Fetches_listed c.args.self.now.lister.current c.in-Err.fault _ _ (record { count = _; fetches = holds.list.fetches }) (rw c.in-Err.is at (holds.list.told c.requires)) c.in-Err.ensures.good
+    (next_fits c.args.self.now.lister c.in-Err.fault c.next.follows.lender-at-none (rw c.in-Err.is at (holds.follows c.requires)))

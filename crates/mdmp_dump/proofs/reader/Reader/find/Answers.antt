@@ -1,7 +1,9 @@
 use Rattle.std.proofs.Common.{◌≡◌, refl, Some}
 use Rattle.mdmp_lister.specs.Lister.{tail}
+use Rattle.mdmp_lister.specs.FaultLaws.{next_fits}
 use Rattle.mdmp_dump.specs.Left.{left_from}
 use Rattle.mdmp_dump.proofs.Settled.{end-given, fault-owed, found-given}
+use Rattle.mdmp_dump.proofs.Taking.{Fetches_listed, Fetches_told}
 use Rattle.mdmp_dump.proofs.reader.Reader.find.Goals as goal
 
 pub returns-in-Err-clause-of_file : goal.returns-in-Err-clause-of_file
@@ -19,3 +21,13 @@ returns-in-Ok-Some-clause-of_file g c = λ file limit x k xs known left kind.
     let first = rw c.in-Ok-Some.field-0-is at (c.in-Ok-Some.ensures.gives _ left) in
     let new : c.next.follows.lender-at-none.left ≡ Some (tail (left_from file limit x k xs)) = rw (c.in-Ok-Some.is, c.in-Ok-Some.field-0-is, left) at c.next.follows.holds-at-none.list.left in
     rw (new, left) (found-given file limit x k xs g.T.Row.kind g.T.Row.told g.T.Row.steps g.met.T.Row.tells kind c.args.self.now.left _ first c.told_of.result c.told_of.ensures)
+
+pub returns-in-Err-clause-fetches : goal.returns-in-Err-clause-fetches
+returns-in-Err-clause-fetches g c =
+    let holds = c.next.follows.holds-at-none in
+    Fetches_listed c.args.self.now.lister.current c.in-Err.fault _ _ (record { count = _; fetches = holds.list.fetches }) (rw c.in-Err.is at (holds.list.told c.requires)) c.in-Err.ensures.good
+    (next_fits c.args.self.now.lister c.in-Err.fault c.next.follows.lender-at-none (rw c.in-Err.is at (holds.follows c.requires)))
+
+pub returns-in-Ok-Some-clause-fetches : goal.returns-in-Ok-Some-clause-fetches
+returns-in-Ok-Some-clause-fetches g c =
+    Fetches_told g.T.Row.told _ _ _ (record { count = _; fetches = c.next.follows.holds-at-none.list.fetches }) c.told_of.result c.told_of.ensures

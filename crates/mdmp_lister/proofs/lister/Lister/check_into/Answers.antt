@@ -1,7 +1,7 @@
 use Rattle.std.proofs.Common.{◌≡◌, ap, refl, rules}
 use Rattle.mdmp_map.specs.Map.{MapState}
 use Rattle.mdmp_lister.proofs.Advancing.{same_entries, same_rooms}
-use Rattle.mdmp_lister.proofs.Verdicts.{good_checked, items_of_file, left_told, stop_checked, unread_checked, verdicts_of_file}
+use Rattle.mdmp_lister.proofs.Verdicts.{good_checked, items_of_file, left_told, standing_checked, stop_checked, unread_checked, verdicts_of_file}
 use Rattle.mdmp_lister.proofs.lister.Lister.check_into.Goals as goal
 
 pub returns-clause-checks : goal.returns-clause-checks
@@ -31,6 +31,9 @@ returns-clause-checks g c =
       counts = e.counts;
       names = e.names;
       fetches = e.fetches;
+      follow = e.follow;
+      ends = e.ends;
+      standing = standing_checked n result e.stage;
     })
 
 pub returns-clause-good : goal.returns-clause-good

@@ -1,4 +1,7 @@
-use Rattle.std.proofs.Common.{◌≡◌, ◌∙◌, Err, refl, rules}
+use Rattle.std.proofs.Common.{◌≡◌, ◌+◌, ◌∙◌, Err, ap, arith, length, min, refl, rules, subst, sym, vec_len}
+use Rattle.std.proofs.lemmas.List.{length-take-le}
+use Rattle.mdmp_lister.specs.Meter.{BooksAside}
+use Rattle.mdmp_lister.proofs.CodeViews.{lent_fetched, lent_told}
 use Rattle.mdmp_lister.proofs.Asides.{codeview_unread, codeview_left, codeview_mapped, state_aside, viewed}
 use Rattle.mdmp_lister.proofs.Fetches.{good_caused}
 use Rattle.mdmp_lister.proofs.lister.Lister.codeview.Goals as goal
@@ -25,6 +28,7 @@ returns-in_err-read g c =
       ),
       record {
         value = λ file known. tt;
+        fetched = tt;
         reads = tt;
         good = λ file good. good_caused {T = Unit {0}} w.meter.source n.meter.source (Err f) file e.read.reads.caused good;
       },
@@ -35,7 +39,11 @@ returns g c =
     let w = c.self.inside.walk in
     let n = c.fetch_codeview.new.self in
     let e = c.in_ok-read.ensures in
-    let books = e.read.reads.books in
+    let read = c.in_ok-read.read in
+    let bytes = c.codeview.result in
+    let of = c.codeview.ensures in
+    let long : length bytes.rest.now ≡ read.rest = ap length of.rest ∙ length-take-le read.rest n.name.items (omega (arith, e.read.held, e.room, n.name.ok.0)) in
+    let books = subst (λ count. BooksAside (min c.args.location.size 24 + count) w.meter n.meter) (sym long) e.read.fetches.books in
     rw (← c.self.view_is) (
       (
         refl,
@@ -49,7 +57,8 @@ returns g c =
         },
       ),
       record {
-        value = λ file known. c.codeview.ensures ∙ e.read.reads.of_file file known;
+        value = λ file known. lent_told bytes read of.head of.size n.name.items of.rest ∙ e.read.reads.of_file file known;
+        fetched = lent_fetched bytes read of.head of.size c.args.location (vec_len w.name) long e.read.fetches.fetched;
         reads = tt;
         good = λ file good. refl;
       },

@@ -1,13 +1,18 @@
-use Rattle.std.proofs.Common.{◌≡◌, ◌∷◌, [], ◌++◌, ◌∙◌, Some, None, sym, ap, arith, refl}
+use Rattle.std.proofs.Common.{◌≡◌, ◌∷◌, [], ◌++◌, ◌∙◌, Some, None, sym, ap, arith, refl, subst}
 use Rattle.std.proofs.lemmas.List.{append-nil}
 use Rattle.std.specs.Prelude.{slice_get}
+use Rattle.mdmp_source.specs.Store.{IsGood}
+use Rattle.mdmp_lister.specs.declared.fault.ListFault.{ListFault}
 use Rattle.mdmp_lister.specs.Costs.{bad_name_cost}
+use Rattle.mdmp_lister.specs.Fault.{IsOfSource}
 use Rattle.mdmp_lister.specs.Format.Item.{plain}
 use Rattle.mdmp_lister.specs.Sink.{give_all}
 use Rattle.mdmp_lister.specs.Lister.{ListerState, tail}
 use Rattle.mdmp_lister.specs.Format.Listing.{nothing, only_fault}
 use Rattle.mdmp_lister.proofs.Advancing.{current_after-plain, passed_after-plain}
-use Rattle.mdmp_lister.proofs.Handing.{AllClassed-more, HasCost-end, HasCost-more, HasCost-most, HasCost-none, current_behind-more, give_all-next, names_of_all-more, passed_behind-more, rose_exactly, same_lister-then, Taken-more, TakenToStop-end}
+use Rattle.mdmp_lister.proofs.Cursors.{ComeNext-more}
+use Rattle.mdmp_lister.proofs.Spending.{HasCost-end, HasCost-more, HasCost-most, HasCost-none}
+use Rattle.mdmp_lister.proofs.Handing.{AllClassed-more, current_behind-more, end_comes, fault_comes, give_all-next, item_comes, names_of_all-more, passed_behind-more, rose_exactly, same_lister-then, Taken-more, TakenToStop-end}
 use Rattle.mdmp_lister.proofs.Mapping.{ranges_of-more}
 use Rattle.mdmp_lister.proofs.lister.Lister.list_into.Goals as goal
 
@@ -27,6 +32,7 @@ loop-item-init g c = record {
     left = λ left known. (left, (known, refl));
     names = omega arith;
     cost = HasCost-none c.args.self.now.unread c.args.self.now.source;
+    come = λ _. refl;
   };
 }
 
@@ -64,6 +70,13 @@ returns-in-Err-take-clause-runs g c =
       names_at_end = λ _. tt;
       fetches = HasCost-most _ _ _ _ _ cost;
       unread = cost.within;
+      follows = λ going.
+          let next = rw (c.in-Ok-Some.is, c.in-Ok-Some.field-0-is) at (leaves.follows (c.loop-item.invariant.going going)) in
+          record {
+            behind = _;
+            come = ComeNext-more _ _ _ _ _ _ _ run.items (plain x) (run.come going) (item_comes c.args.self.now c.loop-item.self _ c.loop-item.invariant.same run.cost.fetches.same_size x next);
+            ends = refl;
+          };
     }
 
 pub loop-item-preserved : goal.loop-item-preserved
@@ -97,6 +110,9 @@ loop-item-preserved g c =
         names = names_of_all-more run.items x _ _ _ run.names (rose_exactly _ _ _ leaves.few_names (rw (c.in-Ok-Some.is, c.in-Ok-Some.field-0-is) at holds.names));
         cost = HasCost-more _ _ _ _ run.items _ _ run.cost x (rw (c.in-Ok-Some.is, c.in-Ok-Some.field-0-is) at holds.fetches)
             (rw (c.in-Ok-Some.is, c.in-Ok-Some.field-0-is) at holds.unread);
+        come = λ going.
+            let next = rw (c.in-Ok-Some.is, c.in-Ok-Some.field-0-is) at (leaves.follows (so_far.going going)) in
+            ComeNext-more _ _ _ _ _ _ _ run.items (plain x) (run.come going) (item_comes c.args.self.now c.loop-item.self _ so_far.same run.cost.fetches.same_size x next);
       };
     }
 
@@ -122,6 +138,9 @@ returns-in-Err-clause-runs g c =
       names_at_end = λ going. let at = rw c.in-Err.is at (holds.names_at_fault (so_far.going going)) in (omega (arith, run.names, at.0, leaves.few_names), omega (arith, run.names, at.1));
       fetches = HasCost-end _ _ _ _ run.items _ _ run.cost _ _ (rw c.in-Err.is at holds.fetches) (ap (λ n. bad_name_cost n f.kind) so_far.same.limit) none;
       unread = omega (arith, none);
+      follows = λ going.
+          let next = rw c.in-Err.is at (leaves.follows (so_far.going going)) in
+          record { behind = _; come = run.come going; ends = fault_comes c.args.self.now c.loop-item.self _ so_far.same run.cost.fetches.same_size f next };
     }
 
 pub returns-in-Ok-None-clause-runs : goal.returns-in-Ok-None-clause-runs
@@ -145,4 +164,14 @@ returns-in-Ok-None-clause-runs g c =
       names_at_end = λ _. tt;
       fetches = HasCost-end _ _ _ _ run.items _ _ run.cost 0 0 (rw (c.in-Ok-None.is, c.in-Ok-None.field-0-is) at holds.fetches) refl none;
       unread = omega (arith, none);
+      follows = λ going.
+          let next = rw (c.in-Ok-None.is, c.in-Ok-None.field-0-is) at (leaves.follows (c.loop-item.invariant.going going)) in
+          record { behind = _; come = run.come going; ends = end_comes c.args.self.now c.loop-item.self _ c.loop-item.invariant.same run.cost.fetches.same_size next };
     }
+
+pub returns-in-Err-clause-good : goal.returns-in-Err-clause-good
+returns-in-Err-clause-good g c = λ file good fault is of.
+    let fetched = c.loop-item.invariant.given.cost.fetches in
+    let now : IsGood c.loop-item.self.source.store file = record { known = fetched.same_content ∙ good.known; reliable = rw fetched.same_reliable good.reliable } in
+    let same : c.in-Err.fault ≡ fault = cc in
+    c.in-Err.ensures.good file now (subst (λ (f : ListFault). IsOfSource f.kind) (sym same) of)

@@ -1,7 +1,7 @@
 use Rattle.std.proofs.Common.{arith, ◌≡◌, ◌∷◌, [], Some, None, refl, sym}
 use Rattle.std.proofs.lemmas.List.{append-nil}
 use Rattle.mdmp_lister.specs.Format.Ranges.{ranges_of}
-use Rattle.mdmp_lister.proofs.Leaving.{gives_fault, gives_item, gives_none, leaves_fault, leaves_item, leaves_none}
+use Rattle.mdmp_lister.proofs.Leaving.{follows_fault, follows_item, follows_none, gives_fault, gives_item, gives_none, leaves_fault, leaves_item, leaves_none}
 use Rattle.mdmp_lister.proofs.Mapping.{kept, mapped, placed-fits, ranges-given, ranges_of-within, same_file}
 use Rattle.mdmp_lister.proofs.Paying.{bounded_then, few_names}
 use Rattle.mdmp_lister.proofs.lister.Lister.next.Goals as goal
@@ -18,6 +18,7 @@ returns-in-Ok-None g c =
         λ _. tt,
         record {
           list = leaves_none w n m.room m.ranges e;
+          follows = follows_none w n m.room m.ranges m.ranges e;
           ranges = sym (append-nil m.ranges);
           few_names = few_names n (bounded_then w n c.self.invariant.bounded e.paid e.same e.fetches.same_size);
         },
@@ -43,6 +44,7 @@ returns-in-Ok-Some g c =
         λ _. tt,
         record {
           list = rw c.push_range.ensures (leaves_item w n m.room m.ranges _ c.in-Ok-Some.step x e c.item-item.ensures.item);
+          follows = rw c.push_range.ensures (follows_item w n m.room m.ranges _ c.in-Ok-Some.step x e c.item-item.ensures.item);
           ranges = rw c.push_range.ensures refl;
           few_names = few_names n (bounded_then w n c.self.invariant.bounded e.paid e.same e.fetches.same_size);
         },
@@ -68,6 +70,7 @@ returns-in-Err g c =
         λ _. tt,
         record {
           list = leaves_fault w n m.room m.ranges f e;
+          follows = follows_fault w n m.room m.ranges m.ranges f e;
           ranges = sym (append-nil m.ranges);
           few_names = few_names n (bounded_then w n c.self.invariant.bounded e.paid e.same e.fetches.same_size);
         },

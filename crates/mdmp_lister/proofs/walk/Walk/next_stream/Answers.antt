@@ -1,13 +1,14 @@
-use Rattle.std.proofs.Common.{◌≡◌, ◌≤◌, ◌∙◌, [], length, arith, ap, refl, rules, vec_len}
+use Rattle.std.proofs.Common.{◌≡◌, ◌≤◌, ◌∙◌, [], None, Ok, length, arith, ap, refl, rules, vec_len}
 use Rattle.std.specs.Prelude.{map}
 use Rattle.mdmp_lister.specs.Format.Listing.{all_joined, chosen_from, entry_count, entry_listing, nothing}
-use Rattle.mdmp_lister.specs.Walk.{rest_of}
+use Rattle.mdmp_lister.specs.Following.{goes_on}
+use Rattle.mdmp_lister.specs.Walk.{cursor_of, rest_of}
 use Rattle.mdmp_lister.specs.Walk.Paying.{stream_calls}
 use Rattle.mdmp_lister.proofs.Beginning.{chosen_begun, chosen_taken}
 use Rattle.mdmp_lister.proofs.Entries.{chosen_from-end, listing_from-end}
 use Rattle.mdmp_lister.proofs.Fetches.{FetchesAtMost-none, FetchesAtMost-within}
 use Rattle.mdmp_lister.proofs.Listed.{cost_by-end}
-use Rattle.mdmp_lister.proofs.Requests.{Moves-none, through-going, through-left, through-none}
+use Rattle.mdmp_lister.proofs.Requests.{Moves-none, goes_through, through-going, through-left, through-none}
 use Rattle.mdmp_lister.proofs.walk.Walk.next_stream.Goals as goal
 
 pub returns-in_default : goal.returns-in_default
@@ -32,6 +33,9 @@ returns-in_default g c =
               passed = tt;
               current = refl;
               records = through-none w.stage c.requires.through;
+              follows = λ _.
+                  let none = rw c.deref.ensures.value at c.in_default.ensures.stands in
+                  goes_on (goes_through w.choice w.entries.items w.meter.source.size (vec_len w.name) (cursor_of w) w.stage (Ok None) _ c.requires.through (none, refl));
               rests = omega (arith, c.len-self.ensures);
               fetches = FetchesAtMost-within 0 _ w.meter.source w.meter.source (omega arith) (FetchesAtMost-none w.meter.source);
               counts = Moves-none 1 w.meter;
@@ -58,6 +62,7 @@ returns-in_default g c =
       begins = record {
         stage = refl;
         meter = refl;
+        none_chosen = rw c.deref.ensures.value at c.in_default.ensures.stands;
         none = λ file known. c.in_default.ensures.first file (rw c.deref.ensures.value (c.requires.sound.directory file known));
       };
     }

@@ -4,7 +4,7 @@ use Rattle.mdmp_lister.specs.Format.Item.{sizes_before}
 use Rattle.mdmp_lister.specs.Format.Kind.{kind_of}
 use Rattle.mdmp_lister.specs.Format.Shape.{location_fault}
 use Rattle.mdmp_lister.proofs.Bodies.{body-faulted}
-use Rattle.mdmp_lister.proofs.EntrySteps.{answered_head, head_read}
+use Rattle.mdmp_lister.proofs.EntrySteps.{answered_head, answered_outside, head_read}
 use Rattle.mdmp_lister.proofs.Counted.{counted_bad, counted_none, counted_outside, counted_shaped}
 use Rattle.mdmp_lister.proofs.Fetches.{not_of_source, told_in_caused, unchanged_caused}
 use Rattle.mdmp_lister.proofs.Heads.{listed-inside}
@@ -20,7 +20,7 @@ returns-in-Ok-clause-read g c =
     let of = c.in-Ok.ensures in
     let base = c.from.ensures in
     head_read w _ c.in-Some-of_type.kind c.requires.head c.requires.sound (search rules) (search rules) (search rules) _ of.begins.books
-    c.in-Ok.head c.from.result refl of.head (omega (arith, base, c.from.type_inv)) of.begins.comes of.begins.bytes of.begins.fills_left (λ file content memory. omega (arith, base, of.base file content memory)) of.shape
+    c.in-Ok.head c.from.result refl of.head (omega (arith, base, c.from.type_inv)) of.begins.comes of.begins.bytes of.begins.fills_left (λ file content memory. omega (arith, base, of.base file content memory)) of.shape of.some
 
 pub returns-in-Ok-clause-counted : goal.returns-in-Ok-clause-counted
 returns-in-Ok-clause-counted g c =
@@ -93,4 +93,12 @@ returns-in-Err-clause-read g c =
     (λ file content not.
     let other : IsOfSource c.in-Err.fault.kind → ⊥ = λ is. not (rw (sym told.kind) at is) in
     rw (told.of_file other) (body-faulted file _ _ w.current kind (rw (rw content at c.requires.sound.sized) at whole) known c.in-Err.fault (of.shape file content other)))
-    (λ file good. not_of_source f.kind (ap source_of told.kind ∙ of.begins.caused.caused.good file good)))
+    (λ file good. not_of_source f.kind (ap source_of told.kind ∙ of.begins.caused.caused.good file good))
+    c.in-Err.fault told of.some)
+
+pub returns-in-Some-clause-read : goal.returns-in-Some-clause-read
+returns-in-Some-clause-read g c =
+    let w = c.args.self.now in
+    let f = c.of_entry.result in
+    rw c.stop_at.ensures.0
+    (answered_outside w c.stop_at.new.self f c.requires.head c.requires.sound c.stop_at.ensures.1 c.in-Some.fault c.of_entry.ensures (search rules) c.in-Some.ensures.kind)

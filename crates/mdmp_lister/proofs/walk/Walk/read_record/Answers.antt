@@ -19,7 +19,8 @@ returns-in-Ok g c =
             answered_record w _ a.kind a.shape a.index a.offset c.record_at-at.result c.requires.stage c.requires.left c.requires.sound (search rules) c.record_at-at.ensures.place
             _ c.in-Ok.step c.offset_behind.result refl c.offset_behind.ensures.range c.offset_behind.ensures.bound (rw room at of.reads) (rw room at of.tells)
             of.comes (omega (arith, of.slides.bytes)) (of.slides.calls greatest_record (most_record a.kind) c.requires.sound.window)
-            (λ file known here. rw (take-lent (vec_len w.name) c.read_item.new.buffer _ room) (rw room at (of.item file known w.current.location.rva here)));
+            (λ file known here. rw (take-lent (vec_len w.name) c.read_item.new.buffer _ room) (rw room at (of.item file known w.current.location.rva here)))
+            (rw room at of.some);
         room = search rules;
         unchanged = λ stays. tt;
         nameless = λ none. of.nameless (nameless_reading w a.kind a.shape a.index a.offset c.requires.stage c.requires.sound none);
@@ -38,7 +39,8 @@ returns-in-Err g c =
     rw (c.stop_at.ensures.1, c.stop_at.ensures.0) (record {
       answered =
           answered_record_fault w _ a.kind a.shape a.index a.offset c.record_at-at.result c.requires.stage c.requires.left c.requires.sound (search rules) c.record_at-at.ensures.place
-          _ c.in-Err.fault c.of_entry.result refl (rw room at of.reads) (omega (arith, of.slides.bytes)) (omega (arith, of.slides.calls greatest_record (most_record a.kind) c.requires.sound.window)) c.of_entry.ensures (λ file known here other. rw room at (of.item file known w.current.location.rva here other));
+          _ c.in-Err.fault c.of_entry.result refl (rw room at of.reads) (omega (arith, of.slides.bytes)) (omega (arith, of.slides.calls greatest_record (most_record a.kind) c.requires.sound.window)) c.of_entry.ensures (λ file known here other. rw room at (of.item file known w.current.location.rva here other))
+          (rw room at of.some);
       room = search rules;
       unchanged = λ stays. fault_stage-unchanged c.of_entry.result (unchanged_caused c.in-Err.fault c.of_entry.result w.meter.source c.read_item.new.meter.source of.reads.caused c.of_entry.ensures.kind);
       nameless = λ none. of.nameless (nameless_reading w a.kind a.shape a.index a.offset c.requires.stage c.requires.sound none);

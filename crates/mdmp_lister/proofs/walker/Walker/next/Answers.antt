@@ -1,11 +1,11 @@
 use Rattle.std.proofs.Common.{◌≡◌, None, Some, Ok, Err, refl, subst, sym}
 use Rattle.mdmp_lister.specs.declared.position.Position.TheVariants.{Within}
-use Rattle.mdmp_lister.specs.Lister.{Leaves, ListerState}
+use Rattle.mdmp_lister.specs.Lister.{AnswersNext, Leaves, ListerState}
 use Rattle.mdmp_lister.specs.Meter.{counts_of}
 use Rattle.mdmp_lister.specs.Step.{stream_told}
 use Rattle.mdmp_lister.specs.Walk.Positions.{AnsweredFrom, mark_by, position_by}
 use Rattle.mdmp_lister.proofs.Summary.{begins_as}
-use Rattle.mdmp_lister.proofs.Walked.{fault_gives, fault_good, fault_leaves, fault_unsought, given_sought, item_gives, item_leaves, none_gives, none_leaves, none_unsought, request_spent, stop_again, walked_by, walked_by-behind}
+use Rattle.mdmp_lister.proofs.Walked.{begun_behind, fault_follows, fault_gives, fault_good, fault_leaves, fault_unsought, given_sought, item_follows, item_gives, item_leaves, none_follows, none_gives, none_leaves, none_unsought, request_spent, stop_again, walked_by, walked_by-behind}
 use Rattle.mdmp_lister.proofs.walker.Walker.next.Goals as goal
 
 pub returns-in-Ok-None : goal.returns-in-Ok-None
@@ -22,7 +22,7 @@ returns-in-Ok-None g c =
       (
         refl,
         λ _. tt,
-        record { list = none_leaves w n p e; position = refl; mark = refl; spent = request_spent w n c.self.inside.mark c.self.invariant.within p (Ok None) e; unchanged = tt; nameless = of.nameless },
+        record { list = none_leaves w n p e; position = refl; mark = refl; spent = request_spent w n c.self.inside.mark c.self.invariant.within p (Ok None) e; unchanged = tt; nameless = of.nameless; follows = none_follows w n p e; begins = tt },
       ),
       record { gives = none_gives w n p e; leaves = tt; sought = λ number is. none_unsought w n p e number is; repeats = λ stop same. stop_again w n p (Ok None) e stop same; good = λ _ _. tt },
     )
@@ -54,6 +54,8 @@ returns-in-Ok-Some g c =
           spent = request_spent w n c.self.inside.mark c.self.invariant.within p (Ok (Some s)) e;
           unchanged = tt;
           nameless = of.nameless;
+          follows = λ going unsought. subst (λ (v : ListerState). AnswersNext (walked_by p w) (Ok (Some x)) v) (sym (walked_by-behind (stream_told s) n)) (item_follows w n p s x told e going unsought);
+          begins = rw begins (begun_behind w n p s e);
         },
       ),
       record { gives = item_gives w n s x told sound p placed e; leaves = tt; sought = given_sought w n s x told p placed e; repeats = λ stop same. let again : None ≡ Some stop = stop_again w n p (Ok (Some s)) e stop same in absurd (cc); good = λ _ _. tt },
@@ -70,7 +72,7 @@ returns-in-Err g c =
       (
         refl,
         λ _. tt,
-        record { list = fault_leaves w n p f of.answered; position = refl; mark = refl; spent = request_spent w n c.self.inside.mark c.self.invariant.within p (Err f) of.answered; unchanged = of.unchanged; nameless = of.nameless },
+        record { list = fault_leaves w n p f of.answered; position = refl; mark = refl; spent = request_spent w n c.self.inside.mark c.self.invariant.within p (Err f) of.answered; unchanged = of.unchanged; nameless = of.nameless; follows = fault_follows w n p f of.answered; begins = tt },
       ),
       record { gives = fault_gives w n p f of.answered; leaves = tt; sought = λ number is. fault_unsought w n p f of.answered number is; repeats = λ stop same. stop_again w n p (Err f) of.answered stop same; good = fault_good w n p f of.answered },
     )

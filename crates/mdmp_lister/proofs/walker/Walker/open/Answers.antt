@@ -11,6 +11,8 @@ returns-in-Ok-clause-new g c =
         steady = new.steady;
         header_is = λ file known. new.sound.header_is file (new.fetches.same_content ∙ known);
         directory = λ file known. new.sound.directory file (new.fetches.same_content ∙ known);
+        checked = new.checked;
+        inside = new.placed;
         count = search rules;
         choice_is = new.choice_is;
         limit_is = new.name;
@@ -22,6 +24,7 @@ returns-in-Ok-clause-new g c =
         left = search rules;
         unread = search rules;
         stop = search rules;
+        standing = rw new.stage refl;
       };
       fetches = new.fetches;
       calls = new.calls;

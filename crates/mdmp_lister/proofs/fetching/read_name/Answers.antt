@@ -1,0 +1,26 @@
+use Rattle.std.proofs.Common.{rules, length, arith}
+use Rattle.mdmp_lister.proofs.SomeNames.{some_bad, some_failed, some_long, some_none, some_outside, some_units}
+use Rattle.mdmp_lister.proofs.fetching.read_name.Goals as goal
+
+pub returns-then-rva-eq0-clause-some : goal.returns-then-rva-eq0-clause-some
+returns-then-rva-eq0-clause-some g c = some_none c.args.meter.now.source.size (length c.args.buffer.now) c.args.rva c.if-rva-eq0.true
+
+pub returns-then-not-inside-clause-some : goal.returns-then-not-inside-clause-some
+returns-then-not-inside-clause-some g c = some_outside _ _ c.args.rva c.faulted.result c.if-rva-eq0.false (search rules) c.faulted.ensures
+
+pub returns-in_err-length-clause-some : goal.returns-in_err-length-clause-some
+returns-in_err-length-clause-some g c = some_failed _ _ c.args.rva c.from_residual.result (search rules) (search rules)
+
+pub returns-in_err-check_units-clause-some : goal.returns-in_err-check_units-clause-some
+returns-in_err-check_units-clause-some g c =
+    let bad = c.in_err-check_units in
+    some_bad _ _ c.args.rva c.in_ok-length.length c.check_units.result bad.field-0.0 c.from_residual-in_err-check_units.result c.if-rva-eq0.false (search rules) (search rules) bad.was (search rules)
+
+pub returns-then-buffer-length-clause-some : goal.returns-then-buffer-length-clause-some
+returns-then-buffer-length-clause-some g c = some_long _ _ c.args.rva c.in_ok-length.length c.if-rva-eq0.false (search rules) (search rules) (omega arith)
+
+pub returns-in_err-fetch_front-clause-some : goal.returns-in_err-fetch_front-clause-some
+returns-in_err-fetch_front-clause-some g c = some_failed _ _ c.args.rva c.from_residual-in_err-fetch_front.result (search rules) (search rules)
+
+pub returns-clause-some : goal.returns-clause-some
+returns-clause-some g c = some_units _ _ c.args.rva c.in_ok-length.length c.if-rva-eq0.false (search rules) (search rules) (omega arith)
