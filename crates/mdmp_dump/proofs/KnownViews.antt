@@ -10,7 +10,7 @@ use Rattle.mdmp_dump.specs.declared.dump.Stream.{Stream}
 use Rattle.mdmp_dump.specs.declared.dump.Stream.TheVariants as streams
 use Rattle.mdmp_dump.specs.declared.view.HeaderFields.{HeaderFields}
 use Rattle.mdmp_dump.specs.EntryWalk.{WalkState, entry_at, kind_by, no_entry, pass_cost}
-use Rattle.mdmp_dump.specs.FileView.{IsViewed, cursor_by, file_shape, first_pass, known_shape, pass_cursor, shape_by, stream_in, stream_of}
+use Rattle.mdmp_dump.specs.FileView.{IsViewed, cursor_by, file_shape, first_pass, header_fields, known_shape, pass_cursor, shape_by, stream_in, stream_of}
 use Rattle.mdmp_dump.specs.InFile.{dump_in, stream_named}
 use Rattle.mdmp_dump.specs.Shape.{Cursor, Shape, StreamShape, all_bytes, begun, body_by, body_of, cost_at, is_far, raw_sizes, rooms, seen_at, shape_of, stream_at, told, unused_seen, value_cursor}
 use Rattle.mdmp_dump.specs.ShapeLaws.{held}
@@ -62,11 +62,7 @@ known_begun d w counts k =
     sym (ap (λ (t : StreamShape). begun_seen t (seen_at (dump_seen d) k)) (shape_in_dump d w counts k)
     ∙ ap (λ (s : StreamSeen). begun_seen (shape_of (stream_seen (get_or d.streams k streams.Unused))) s) (seen_in_dump d w counts k))
 
--- the numbers of a header that a view gives
-abbrev header_in : Header → HeaderFields
-header_in u = record { version_high = u.version / 65536; checksum = u.checksum; time = u.time_date_stamp; flags = u.flags }
-
-header_of_dump : (Z : Type 0) (F : List ℕ) (choice : Choice) → header_in (header_at F 0) ≡ (dump_seen (dump_in {Z = Z} F choice)).header
+header_of_dump : (Z : Type 0) (F : List ℕ) (choice : Choice) → header_fields (header_at F 0) ≡ (dump_seen (dump_in {Z = Z} F choice)).header
 unfolding dump_in
 header_of_dump Z F choice = refl
 
@@ -89,11 +85,19 @@ module _ (Z : Type 0) (limit : ℕ) (w : WalkState) (counts rooms : List ℕ) (c
   -- its header
   pub header_told : (h : Header) (x : DumpSeen) → h ≡ w.header → (file_shape Z w counts rooms).seen ≡ Some x
       → record { version_high = h.version / 65536; checksum = h.checksum; time = h.time_date_stamp; flags = h.flags } ≡ x.header
-  header_told h x same = by_content (λ c. (shape_in c).seen ≡ Some x → header_in h ≡ x.header) w.source.store.content
+  header_told h x same = by_content (λ c. (shape_in c).seen ≡ Some x → header_fields h ≡ x.header) w.source.store.content
       (λ none. absurd (cc))
       (λ F is seen.
       let v = known F is in
-      ap header_in (same ∙ v.header) ∙ header_of_dump Z F w.choice ∙ ap (λ (y : DumpSeen). y.header) (ap (held x) seen))
+      ap header_fields (same ∙ v.header) ∙ header_of_dump Z F w.choice ∙ ap (λ (y : DumpSeen). y.header) (ap (held x) seen))
+
+  -- which is that of its shape
+  pub header_of_shape : (h : Header) → h ≡ w.header → header_fields h ≡ (file_shape Z w counts rooms).header
+  header_of_shape h same = by_content (λ c. header_fields h ≡ (shape_in c).header) w.source.store.content
+      (ap header_fields same)
+      (λ F is.
+      let v = known F is in
+      ap header_fields (same ∙ v.header) ∙ header_of_dump Z F w.choice)
 
   pub inside_view : (k : ℕ) → k < length (file_shape Z w counts rooms).streams → k < length w.chosen
   inside_view k inside = subst (λ (n : ℕ). k < n) streams_are inside

@@ -12,14 +12,14 @@ use Rattle.mdmp_dump.specs.declared.pass.Pass.{Pass}
 use Rattle.mdmp_dump.specs.declared.found_record.PartAt.{PartAt}
 use Rattle.mdmp_dump.specs.declared.view.ViewFault.{ViewFault}
 use Rattle.mdmp_dump.specs.declared.view.ViewFault.TheVariants as view
-use Rattle.mdmp_dump.specs.EntryWalk.{IsSameWalk, Pays, ReadsAside, WalkState, entry_at, listed, name_cost, no_entry, pass_cost, raw_part}
+use Rattle.mdmp_dump.specs.EntryWalk.{IsSameWalk, Pays, ReadsAside, WalkState, entry_at, kind_by, listed, name_cost, no_entry, pass_cost, raw_part}
 use Rattle.mdmp_dump.specs.FileRefusal.{body_told, entry_told, view_refusal}
-use Rattle.mdmp_dump.specs.FileView.{HasMoved, IsPaid, IsPass, IsPassOf, IsView, IsViewed, Tells, costs_in, cursor_by, file_cursor, file_shape, first_pass, opening_cost, owed, room_told, shape_by, source_fault, stream_of}
+use Rattle.mdmp_dump.specs.FileView.{AreBare, HasMoved, IsPaid, IsPass, IsPassOf, IsView, IsViewed, Tells, costs_in, cursor_by, file_cursor, file_shape, first_pass, kind_at, opening_cost, owed, room_told, shape_by, source_fault, stream_of}
 use Rattle.mdmp_dump.specs.FoundRecord.{no_part}
 use Rattle.mdmp_dump.specs.InFile.{stream_named}
 use Rattle.mdmp_dump.specs.Placed.{size_in}
 use Rattle.mdmp_dump.specs.Reading.{IsLastTold}
-use Rattle.mdmp_dump.specs.Shape.{parts_at, sizes_at}
+use Rattle.mdmp_dump.specs.Shape.{GivesNone, parts_at, sizes_at}
 use Rattle.mdmp_dump.specs.View.{kind_in, records_seen}
 use Rattle.mdmp_dump.proofs.KnownViews.{by_content}
 use Rattle.mdmp_dump.proofs.Refusals.{each_quiet, entry_begins, opened_run, view_opens}
@@ -134,6 +134,9 @@ module _ (Z : Type 0) (limit : ℕ) (w : WalkState) (counts rooms : List ℕ) (p
   viewed_then : (F : List ℕ) → v.source.store.content ≡ Some F → IsViewed Z F limit v counts rooms
   viewed_then F known = viewed_stays w v same Z F limit counts rooms (is.of_file F (content_before w v same F known))
 
+  bare_then : AreBare (kind_at v) counts rooms
+  bare_then k none = is.bare k (subst (λ (x : Numbered). GivesNone (kind_by x.entry.stream_type) (get_or counts k 0)) (entry_stays w v same k) none)
+
   -- calls that end with a fault
   module _ {T : Type 0} (fault : ViewFault) (tells : Tells {T = T} w (Err fault) v) where
     ended_then : (told : SourceFault) → v.failed ≡ Some told → Some fault ≡ Some (view.Source told)
@@ -162,7 +165,7 @@ module _ (Z : Type 0) (limit : ℕ) (w : WalkState) (counts rooms : List ℕ) (p
       light = light_then;
       passing = λ p none. absurd (let some = none in cc);
       paid = paid;
-      bare = is.bare;
+      bare = bare_then;
       of_file = viewed_then;
       pass_of = λ F p known none. absurd (let some = none in cc);
       ended = λ told ended. (ended_then told ended, refl);
@@ -183,7 +186,7 @@ module _ (Z : Type 0) (limit : ℕ) (w : WalkState) (counts rooms : List ℕ) (p
       light = light_then;
       passing = λ p some. subst (λ (r : Pass). IsPass v r) (let h = some in cc) passing;
       paid = paid;
-      bare = is.bare;
+      bare = bare_then;
       of_file = viewed_then;
       pass_of = λ F p known some. subst (λ (r : Pass). IsPassOf Z F limit v r) (let h = some in cc) (of_file F known);
       ended = λ told ended. absurd (let none = going_then in cc);
@@ -413,7 +416,7 @@ module _ (Z : Type 0) (limit : ℕ) (w : WalkState) (counts rooms : List ℕ) (p
       light = light_then Z limit w counts rooms pass passed asked last is v read_same;
       passing = read_passing;
       paid = read_paid;
-      bare = is.bare;
+      bare = bare_then Z limit w counts rooms pass passed asked last is v read_same;
       of_file = viewed_then Z limit w counts rooms pass passed asked last is v read_same;
       pass_of = λ F q known some. read_pass_of F q (content_before w v read_same F known) some;
       ended = λ told ended. absurd (let none = still_going in cc);

@@ -1,5 +1,5 @@
 -- A view of a file that was opened.
-use Rattle.std.proofs.Common.{◌≡◌, ◌∙◌, ◌≤◌, ◌<◌, ◌+◌, ◌*◌, ◌^◌, ℕ, List, [], length, Option, Some, None, ap, arith, inl, inr, map, refl, subst, sum, sym}
+use Rattle.std.proofs.Common.{◌≡◌, ◌∙◌, ◌≤◌, ◌<◌, ◌+◌, ◌*◌, ◌^◌, ℕ, List, [], length, Option, Some, None, ap, arith, get_or, inl, inr, map, refl, subst, sum, sym}
 use Rattle.std.proofs.lemmas.Bool.{cases_lt}
 use Rattle.std.specs.Prelude.{IsTrue}
 use Rattle.mdmp_source.specs.Count.{raised}
@@ -11,13 +11,13 @@ use Rattle.mdmp_lister.specs.Format.Listing.{Numbered, chosen, entry_count}
 use Rattle.mdmp_lister.specs.Format.Refusal.{directory_refusal}
 use Rattle.mdmp_lister.specs.Opening.{IsHandedBackBare}
 use Rattle.mdmp_dump.specs.declared.fault.ReadFault.{ReadFault}
-use Rattle.mdmp_dump.specs.EntryWalk.{IsOpened, WalkState}
+use Rattle.mdmp_dump.specs.EntryWalk.{IsOpened, WalkState, kind_by}
 use Rattle.mdmp_dump.specs.FileRefusal.{run_told, view_refusal}
-use Rattle.mdmp_dump.specs.FileView.{AreBare, AreWalked, IsPaid, IsView, IsViewed, PaysAll, PaysSome, costs_in, file_shape, opening_cost, pass_cost_in, room_told, shape_by}
+use Rattle.mdmp_dump.specs.FileView.{AreBare, AreWalked, IsPaid, IsView, IsViewed, PaysAll, PaysSome, costs_in, file_shape, kind_at, opening_cost, pass_cost_in, room_told, shape_by}
 use Rattle.mdmp_dump.specs.InFile.{dump_in, stream_named}
 use Rattle.mdmp_dump.specs.Left.{run_of}
 use Rattle.mdmp_dump.specs.Opening.{HasSpentOpening, opening_bound}
-use Rattle.mdmp_dump.specs.Shape.{IsViewOf}
+use Rattle.mdmp_dump.specs.Shape.{GivesNone, IsViewOf}
 use Rattle.mdmp_dump.proofs.Costs.{costs_are}
 use Rattle.mdmp_dump.proofs.Moving.{content_before, entry_stays, opening_stays}
 use Rattle.mdmp_dump.proofs.Refusals.{none_told, opened_run}
@@ -26,7 +26,7 @@ use Rattle.mdmp_dump.proofs.Taking.{FetchesSome_then}
 module _ (Z : Type 0) (source : SourceState) (window limit : ℕ) (choice : Choice) (w v : WalkState) (counts rooms : List ℕ) (opened : IsOpened source window choice w)
     (opens : (F : List ℕ) → source.store.content ≡ Some F → directory_refusal F ≡ None) (sized : IsSizeOf w.source.store.content w.source.size) (bytes : IsOfBytes w.source.store.content)
     (pays : PaysAll counts w v) (counted : length counts ≡ length w.chosen) (roomed : length rooms ≡ length w.chosen) (going : v.failed ≡ None)
-    (light : w.held < 2 ^ 64) (of_file : (F : List ℕ) → w.source.store.content ≡ Some F → AreWalked Z F limit w counts rooms) (bare : AreBare counts rooms) where
+    (light : w.held < 2 ^ 64) (of_file : (F : List ℕ) → w.source.store.content ≡ Some F → AreWalked Z F limit w counts rooms) (bare : AreBare (kind_at w) counts rooms) where
   at_first : (F : List ℕ) → w.source.store.content ≡ Some F → source.store.content ≡ Some F
   at_first F known = sym opened.fetches.fetches.same_content ∙ known
 
@@ -79,7 +79,7 @@ module _ (Z : Type 0) (source : SourceState) (window limit : ℕ) (choice : Choi
     light = rw pays.same.held light;
     passing = λ p none. absurd (let some = none in cc);
     paid = opened_paid;
-    bare = bare;
+    bare = λ k none. bare k (subst (λ (x : Numbered). GivesNone (kind_by x.entry.stream_type) (get_or counts k 0)) (entry_stays w v pays.same k) none);
     of_file = opened_view;
     pass_of = λ F p known none. absurd (let some = none in cc);
     ended = λ told ended. absurd (let none = going in cc);

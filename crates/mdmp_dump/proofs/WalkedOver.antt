@@ -7,15 +7,17 @@ use Rattle.mdmp_lister.specs.Format.Shape.{record_count}
 use Rattle.mdmp_dump.specs.declared.fault.ReadFault.{ReadFault}
 use Rattle.mdmp_dump.specs.declared.found_record.FoundRecord.{FoundRecord}
 use Rattle.mdmp_dump.specs.declared.view.Fields.{Fields}
-use Rattle.mdmp_dump.specs.EntryWalk.{Begins, FindsRow, GivesNext, IsSameWalk, Pays, WalkState, entry_at, listed, name_cost, no_entry, pass_cost}
+use Rattle.mdmp_dump.specs.declared.view.Kind.{Kind}
+use Rattle.mdmp_dump.specs.declared.view.Kind.TheVariants.{Known}
+use Rattle.mdmp_dump.specs.EntryWalk.{Begins, FindsRow, GivesNext, IsSameWalk, Pays, WalkState, entry_at, kind_by, listed, name_cost, no_entry, pass_cost}
 use Rattle.mdmp_dump.specs.FileRefusal.{body_told, entry_told, run_told}
 use Rattle.mdmp_dump.specs.Left.{run_of}
-use Rattle.mdmp_dump.specs.FileView.{AreBare, AreWalked, HasWalked, PaysAll, PaysSome, PaysUpTo, costs_in, count_in, room_told, stream_of}
+use Rattle.mdmp_dump.specs.FileView.{AreBare, AreWalked, HasWalked, PaysAll, PaysSome, PaysUpTo, costs_in, count_in, kind_at, room_told, stream_of}
 use Rattle.mdmp_dump.specs.FoundRecord.{fields_of}
 use Rattle.mdmp_dump.specs.InFile.{stream_named}
 use Rattle.mdmp_dump.specs.Placed.{far_room, fields_room}
 use Rattle.mdmp_dump.specs.Reading.{Fetches, IsOwn}
-use Rattle.mdmp_dump.specs.Shape.{parts_in, record_at, told}
+use Rattle.mdmp_dump.specs.Shape.{GivesNone, parts_in, record_at, told, type_told}
 use Rattle.mdmp_dump.specs.View.{kind_in, records_seen}
 use Rattle.mdmp_dump.proofs.Costs.{costs_most, costs_push}
 use Rattle.mdmp_dump.proofs.Refusals.{count_refused, entry_begins, one_told, row_passed, row_refused, rows_passed}
@@ -58,8 +60,13 @@ pub record IsWalking (Z : Type 0) (limit : ℕ) (old : WalkState) (k count : ℕ
   pub left : index + now.left ≡ count
   pub few : count < 2 ^ 32
   pub going : now.failed ≡ None
-  pub bare : index ≡ 0 → room ≡ 0
+  pub bare : GivesNone (kind_at old k) index → room ≡ 0
   pub of_file : (F : List ℕ) → old.source.store.content ≡ Some F → IsWalkedTo Z F limit (entry_at old k) count index room
+
+-- a record is found of a known stream alone
+found_none : (kind : Kind) (t index : ℕ) → kind ≡ Known t → GivesNone kind (index + 1) → ⊥
+found_none (Known s) t index is none = omega (arith, none)
+found_none kind t index is none = absurd (cc)
 
 no_more : (cost : ℕ) → 0 ≡ 0 * cost
 no_more cost = omega arith
@@ -125,7 +132,7 @@ module _ (Z : Type 0) (limit : ℕ) (old : WalkState) (k : ℕ) where
           left = omega (arith, walking.left, gives.goes.1);
           few = walking.few;
           going = gives.failed;
-          bare = λ none. absurd (omega (arith, none));
+          bare = λ none. absurd (found_none (kind_at old k) (type_told f.wire) index (sym (ap (λ (x : Numbered). kind_by x.entry.stream_type) walking.current) ∙ gives.found.kind_is) none);
           of_file = λ F known.
               let of = walking.of_file F known in
               let row = row_next (Ok f) gives F known in
@@ -170,16 +177,16 @@ pub record AreWalking (Z : Type 0) (limit : ℕ) (old now : WalkState) (counts r
   pub counted : length counts ≡ k
   pub roomed : length rooms ≡ k
   pub going : now.failed ≡ None
-  pub bare : AreBare counts rooms
+  pub bare : AreBare (kind_at old) counts rooms
   pub of_file : (F : List ℕ) → old.source.store.content ≡ Some F → AreWalked Z F limit old counts rooms
 
-bare_push : (ns rs : List ℕ) (n r : ℕ) → length rs ≡ length ns → AreBare ns rs → (n ≡ 0 → r ≡ 0) → AreBare (ns ++ n ∷ []) (rs ++ r ∷ [])
-bare_push [] [] n r same each last zero = last
-bare_push [] [] n r same each last (suc k) = λ none. refl
-bare_push [] (s ∷ rs) n r same each last k = absurd (omega (arith, same))
-bare_push (m ∷ ns) [] n r same each last k = absurd (omega (arith, same))
-bare_push (m ∷ ns) (s ∷ rs) n r same each last zero = each zero
-bare_push (m ∷ ns) (s ∷ rs) n r same each last (suc k) = bare_push ns rs n r (omega (arith, same)) (λ i. each (suc i)) last k
+bare_push : (kind : ℕ → Kind) (ns rs : List ℕ) (n r : ℕ) → length rs ≡ length ns → AreBare kind ns rs → (GivesNone (kind (length ns)) n → r ≡ 0) → AreBare kind (ns ++ n ∷ []) (rs ++ r ∷ [])
+bare_push kind [] [] n r same each last zero = last
+bare_push kind [] [] n r same each last (suc k) = λ none. refl
+bare_push kind [] (s ∷ rs) n r same each last k = absurd (omega (arith, same))
+bare_push kind (m ∷ ns) [] n r same each last k = absurd (omega (arith, same))
+bare_push kind (m ∷ ns) (s ∷ rs) n r same each last zero = each zero
+bare_push kind (m ∷ ns) (s ∷ rs) n r same each last (suc k) = bare_push (λ i. kind (suc i)) ns rs n r (omega (arith, same)) (λ i. each (suc i)) last k
 
 none_cost_sum : (xs : List Numbered) → sum (costs_in xs []) ≡ 0
 unfolding costs_in
@@ -248,7 +255,7 @@ module _ (Z : Type 0) (limit : ℕ) (old : WalkState) where
     entry_here : entry_at now k ≡ entry_at old (length counts)
     entry_here = entry_now ∙ ap (entry_at old) (sym walking.counted)
 
-    pub one_walked : (n r : ℕ) → Pays (listed (entry_at now k).entry) (n * name_cost (entry_at now k).entry.stream_type) now next → next.failed ≡ None → (n ≡ 0 → r ≡ 0)
+    pub one_walked : (n r : ℕ) → Pays (listed (entry_at now k).entry) (n * name_cost (entry_at now k).entry.stream_type) now next → next.failed ≡ None → (GivesNone (kind_at now k) n → r ≡ 0)
         → ((F : List ℕ) → now.source.store.content ≡ Some F → HasWalked Z F limit now k (Ok (record { count = n; room = r }))) → (counts_new rooms_new : List ℕ) → counts_new ≡ counts ++ n ∷ [] → rooms_new ≡ rooms ++ r ∷ []
         → AreWalking Z limit old next counts_new rooms_new (k + 1)
     one_walked n r pays going bare of counts_new rooms_new pushed also =
@@ -257,7 +264,9 @@ module _ (Z : Type 0) (limit : ℕ) (old : WalkState) where
           counted = ap (λ (ns : List ℕ). length ns) pushed ∙ length-append counts (n ∷ []) ∙ ap (λ (i : ℕ). i + 1) walking.counted;
           roomed = ap (λ (ns : List ℕ). length ns) also ∙ length-append rooms (r ∷ []) ∙ ap (λ (i : ℕ). i + 1) walking.roomed;
           going = going;
-          bare = rw (pushed, also) (bare_push counts rooms n r (walking.roomed ∙ sym walking.counted) walking.bare bare);
+          bare = rw (pushed, also)
+              (bare_push (kind_at old) counts rooms n r (walking.roomed ∙ sym walking.counted) walking.bare
+              (λ none. bare (subst (λ (x : Numbered). GivesNone (kind_by x.entry.stream_type) n) (sym entry_here) none)));
           of_file = λ F known.
               let before = walking.of_file F known in
               let one = of F (file_now F known) in

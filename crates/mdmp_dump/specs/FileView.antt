@@ -1,11 +1,12 @@
 -- A view of a file, by what it keeps of each stream.
-use Rattle.std.specs.Prelude.{◌≡◌, ◌≤◌, ◌<◌, ◌+◌, ◌-◌, ◌*◌, ◌^◌, ◌⊎◌, ℕ, List, [], ◌∷◌, length, map, get_or, take, Option, Some, None, Result, Ok, Err, false, ◌==◌, if◌then◌else◌, sum, IfErr, IfSome, IsOk, MatchResult}
+use Rattle.std.specs.Prelude.{◌≡◌, ◌≤◌, ◌<◌, ◌+◌, ◌-◌, ◌*◌, ◌/◌, ◌^◌, ◌⊎◌, ℕ, List, [], ◌∷◌, length, map, get_or, take, Option, Some, None, Result, Ok, Err, false, ◌==◌, if◌then◌else◌, sum, IfErr, IfSome, IsOk, MatchResult}
 use Rattle.mdmp_source.specs.Range.{bytes_at}
 use Rattle.mdmp_source.specs.Source.{FetchesSome}
 use Rattle.mdmp_source.specs.Store.{AreBytes, IsGood}
 use Rattle.mdmp_source.specs.declared.fault.SourceFault.{SourceFault}
 use Rattle.mdmp_source.specs.declared.fault.SourceFault.TheVariants.{Changed}
 use Rattle.mdmp_wire.specs.Header.{header_at}
+use Rattle.mdmp_wire.specs.declared.header.Header.{Header}
 use Rattle.mdmp_lister.specs.Format.Listing.{Numbered, chosen}
 use Rattle.mdmp_lister.specs.Format.Shape.{record_count}
 use Rattle.mdmp_dump.specs.declared.dump.Dump.{Dump}
@@ -13,6 +14,7 @@ use Rattle.mdmp_dump.specs.declared.dump.Stream.{Stream}
 use Rattle.mdmp_dump.specs.declared.fault.ReadFault.{ReadFault}
 use Rattle.mdmp_dump.specs.declared.pass.Pass.{Pass}
 use Rattle.mdmp_dump.specs.declared.stream_walk.Walked.{Walked}
+use Rattle.mdmp_dump.specs.declared.view.HeaderFields.{HeaderFields}
 use Rattle.mdmp_dump.specs.declared.view.Kind.{Kind}
 use Rattle.mdmp_dump.specs.declared.view.Kind.TheVariants as kinds
 use Rattle.mdmp_dump.specs.declared.view.ViewFault.{ViewFault}
@@ -23,8 +25,8 @@ use Rattle.mdmp_dump.specs.FoundRecord.{AreIn, no_part}
 use Rattle.mdmp_dump.specs.InFile.{dump_in, stream_named}
 use Rattle.mdmp_dump.specs.Placed.{size_in}
 use Rattle.mdmp_dump.specs.Reading.{IsLastTold, IsOwn}
-use Rattle.mdmp_dump.specs.Shape.{Cursor, Shape, StreamShape, is_far, parts_at, parts_in, shape_of, sizes_at, told, value_cursor}
-use Rattle.mdmp_dump.specs.View.{dump_seen, kind_in, records_seen}
+use Rattle.mdmp_dump.specs.Shape.{Cursor, GivesNone, Shape, StreamShape, is_far, parts_at, parts_in, shape_of, sizes_at, told, value_cursor}
+use Rattle.mdmp_dump.specs.View.{dump_seen, header_seen, kind_in, records_seen}
 
 -- ---- what a pass costs
 
@@ -69,8 +71,12 @@ unfoldable pub streams_in : List Numbered → List ℕ → List ℕ → List Str
 streams_in (x ∷ xs) (n ∷ ns) (r ∷ rs) = stream_in x n r ∷ streams_in xs ns rs
 streams_in xs ns rs = []
 
+-- the numbers of a header that a view gives
+abbrev pub header_fields : Header → HeaderFields
+header_fields h = record { version_high = h.version / 65536; checksum = h.checksum; time = h.time_date_stamp; flags = h.flags }
+
 abbrev pub unknown_shape : WalkState → List ℕ → List ℕ → Shape
-unknown_shape w counts rooms = record { streams = streams_in w.chosen counts rooms; costs = costs_in w.chosen counts; is_reliable = false; seen = None }
+unknown_shape w counts rooms = record { header = header_fields w.header; streams = streams_in w.chosen counts rooms; costs = costs_in w.chosen counts; is_reliable = false; seen = None }
 
 -- what is left of the room of a stream
 abbrev pub left_room : Pass → ℕ
@@ -117,6 +123,7 @@ module _ {Z : Type 0} where
 
   abbrev pub known_shape : (d : Dump Z) → WalkState → List ℕ → Shape
   known_shape d w counts = record {
+    header = header_seen d;
     streams = map shape_of (dump_seen d).streams;
     costs = costs_in w.chosen counts;
     is_reliable = w.source.store.is_reliable;
@@ -231,9 +238,13 @@ module _ (Z : Type 0) where
     pub roomed : (k : ℕ) → k < length counts → get_or rooms k 0 ≡ room_told (stream_of {Z = Z} F w k)
     pub quiet : (k : ℕ) → k < length counts → entry_told F limit (entry_at w k) ≡ None
 
--- of streams with so many records each those with none have no names and parts
-abbrev pub AreBare : List ℕ → List ℕ → Type 0
-AreBare counts rooms = (k : ℕ) → get_or counts k 0 ≡ 0 → get_or rooms k 0 ≡ 0
+-- of streams of these kinds, with so many records each, those of which none is given have no names and parts
+abbrev pub AreBare : (ℕ → Kind) → List ℕ → List ℕ → Type 0
+AreBare kind counts rooms = (k : ℕ) → GivesNone (kind k) (get_or counts k 0) → get_or rooms k 0 ≡ 0
+
+-- the kind of a stream of a walk
+abbrev pub kind_at : WalkState → ℕ → Kind
+kind_at w k = kind_by (entry_at w k).entry.stream_type
 
 -- ---- faults
 
@@ -273,7 +284,7 @@ pub record IsView (Z : Type 0) (limit : ℕ) (w : WalkState) (counts rooms : Lis
   pub light : w.held < 2 ^ 64
   pub passing : (p : Pass) → pass ≡ Some p → IsPass w p
   pub paid : IsPaid w counts pass passed asked
-  pub bare : AreBare counts rooms
+  pub bare : AreBare (kind_at w) counts rooms
   pub of_file : (F : List ℕ) → w.source.store.content ≡ Some F → IsViewed Z F limit w counts rooms
   pub pass_of : (F : List ℕ) (p : Pass) → w.source.store.content ≡ Some F → pass ≡ Some p → IsPassOf Z F limit w p
   -- a walk that has ended is begun no more

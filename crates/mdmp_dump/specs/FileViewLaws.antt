@@ -8,14 +8,15 @@ use Rattle.mdmp_source.specs.declared.fault.SourceFault.TheVariants.{Failed, Sho
 use Rattle.mdmp_lister.proofs.Fetches.{FetchesAtMost-none}
 use Rattle.mdmp_lister.specs.Format.Listing.{Numbered}
 use Rattle.mdmp_dump.specs.declared.view.ViewFault.{ViewFault}
-use Rattle.mdmp_dump.specs.EntryWalk.{WalkState}
-use Rattle.mdmp_dump.specs.FileView.{AreBare, HasMoved, costs_in, file_shape, opening_cost, shape_by, source_fault, streams_in}
+use Rattle.mdmp_dump.specs.EntryWalk.{WalkState, kind_by, no_entry}
+use Rattle.mdmp_dump.specs.FileView.{AreBare, HasMoved, costs_in, file_shape, kind_at, opening_cost, shape_by, source_fault, streams_in}
 use Rattle.mdmp_dump.specs.InFile.{dump_in}
 use Rattle.mdmp_dump.specs.Reading.{IsLastTold}
-use Rattle.mdmp_dump.specs.Shape.{AreOfTheirKinds, HaveNoStrayParts, IsSound, unused_shape}
+use Rattle.mdmp_dump.specs.Shape.{AreOfTheirKinds, GivesNone, HaveNoStrayParts, IsSound, unused_shape}
 use Rattle.mdmp_dump.specs.ShapeLaws.{value_kinds, value_sound, value_stray}
 
-streams_stray : (xs : List Numbered) (ns rs : List ℕ) → AreBare ns rs → (k : ℕ) → (get_or (streams_in xs ns rs) k unused_shape).records ≡ 0 → (get_or (streams_in xs ns rs) k unused_shape).parts ≡ 0
+streams_stray : (xs : List Numbered) (ns rs : List ℕ) → AreBare (λ k. kind_by (get_or xs k no_entry).entry.stream_type) ns rs → (k : ℕ)
+    → GivesNone (get_or (streams_in xs ns rs) k unused_shape).kind (get_or (streams_in xs ns rs) k unused_shape).records → (get_or (streams_in xs ns rs) k unused_shape).parts ≡ 0
 unfolding streams_in
 streams_stray [] ns rs bare k none = refl
 streams_stray (x ∷ xs) [] rs bare k none = refl
@@ -40,12 +41,12 @@ module _ (Z : Type 0) (w : WalkState) (counts rooms : List ℕ) where
   pub view_kinds : AreOfTheirKinds (file_shape Z w counts rooms)
   view_kinds = kinds_by w.source.store.content
 
-  stray_by : AreBare counts rooms → (c : Option (List ℕ)) → HaveNoStrayParts (shape_by Z c w counts rooms)
+  stray_by : AreBare (kind_at w) counts rooms → (c : Option (List ℕ)) → HaveNoStrayParts (shape_by Z c w counts rooms)
   stray_by bare None k none = streams_stray w.chosen counts rooms bare k none
   stray_by bare (Some F) k none = value_stray (dump_in {Z = Z} F w.choice) k none
 
-  -- a stream of no records has no names and parts
-  pub view_stray : AreBare counts rooms → HaveNoStrayParts (file_shape Z w counts rooms)
+  -- a stream of which no record is given has no names and parts
+  pub view_stray : AreBare (kind_at w) counts rooms → HaveNoStrayParts (file_shape Z w counts rooms)
   view_stray bare = stray_by bare w.source.store.content
 
   costs_by : (c : Option (List ℕ)) → (shape_by Z c w counts rooms).costs ≡ costs_in w.chosen counts

@@ -3,13 +3,14 @@ use Rattle.std.specs.Prelude.{◌≡◌, ◌^◌, ◌≤◌, ◌<◌, ℕ, zero,
 use Rattle.mdmp_wire.specs.declared.any_record.AnyRecord.{AnyRecord}
 use Rattle.mdmp_wire.specs.declared.any_record.AnyRecord.TheVariants as any
 use Rattle.mdmp_dump.specs.declared.view.Fields.{Fields}
+use Rattle.mdmp_dump.specs.declared.view.HeaderFields.{HeaderFields}
 use Rattle.mdmp_dump.specs.declared.view.Kind.{Kind}
 use Rattle.mdmp_dump.specs.declared.view.Kind.TheVariants as kinds
 use Rattle.mdmp_dump.specs.declared.view.ViewFault.{ViewFault}
 use Rattle.mdmp_dump.specs.declared.dump.Stream.{Stream}
 use Rattle.mdmp_dump.specs.declared.dump.Dump.{Dump}
 use Rattle.mdmp_dump.specs.Seen.{Seen, nothing_seen}
-use Rattle.mdmp_dump.specs.View.{DumpSeen, StreamSeen, dump_seen, kind_in, raw_in, records_seen}
+use Rattle.mdmp_dump.specs.View.{DumpSeen, StreamSeen, dump_seen, header_seen, kind_in, raw_in, records_seen}
 use Rattle.mdmp_dump.specs.Placed.{size_at, size_in, fields_bytes, fields_room, far_room}
 
 -- ---- kinds
@@ -72,9 +73,10 @@ far_of s = if is_far s.kind then s.parts else 0
 abbrev pub asks_of : StreamShape → ℕ
 asks_of s = s.bytes + s.raw
 
--- a view: its streams, and the cost of a pass over each, 0 where none is told; whether none of its calls answers a fault,
--- and what it gives where that is known
+-- a view: the numbers of its header; its streams, and the cost of a pass over each, 0 where none is told; whether none of its
+-- calls answers a fault, and what it gives where that is known
 pub record Shape : Type 0 where
+  pub header : HeaderFields
   pub streams : List StreamShape
   pub costs : List ℕ
   pub is_reliable : Bool
@@ -119,9 +121,14 @@ cost_at s k = get_or s.costs k 0
 abbrev pub seen_at : DumpSeen → ℕ → StreamSeen
 seen_at x k = get_or x.streams k unused_seen
 
--- streams of no records have no names and parts
+-- no record is given of a stream of this kind that has so many: it has none, or they are not known
+abbrev pub GivesNone : Kind → ℕ → Type 0
+GivesNone (kinds.Known t) records = records ≡ 0
+GivesNone kind records = Unit {0}
+
+-- such streams have no names and parts
 abbrev pub HaveNoStrayParts : Shape → Type 0
-HaveNoStrayParts s = (k : ℕ) → (stream_at s k).records ≡ 0 → (stream_at s k).parts ≡ 0
+HaveNoStrayParts s = (k : ℕ) → GivesNone (stream_at s k).kind (stream_at s k).records → (stream_at s k).parts ≡ 0
 
 -- a size as it is told: it stops at the greatest
 abbrev pub told : ℕ → ℕ
@@ -221,7 +228,7 @@ unspent = record { passed = 0; asked = 0; fault = None }
 
 module _ {Z : Type 0} where
   abbrev pub value_shape : Dump Z → Shape
-  value_shape d = record { streams = map shape_of (dump_seen d).streams; costs = []; is_reliable = true; seen = Some (dump_seen d) }
+  value_shape d = record { header = header_seen d; streams = map shape_of (dump_seen d).streams; costs = []; is_reliable = true; seen = Some (dump_seen d) }
 
   -- a view of this value
   abbrev pub IsViewOf : Dump Z → Shape → Type 0

@@ -17,11 +17,11 @@ use Rattle.mdmp_dump.specs.MemoryInfo.{memory_info_seen}
 use Rattle.mdmp_dump.specs.Module.{module_seen}
 use Rattle.mdmp_dump.specs.Placed.{size_in}
 use Rattle.mdmp_dump.specs.Seen.{Seen, seen, size_of, bytes_of, name_size, unit_bytes}
-use Rattle.mdmp_dump.specs.Shape.{AreOf, AreOfTheirKinds, HaveNoStrayParts, IsOf, IsSized, IsSound, fars, is_far, parts_in, rooms, seen_at, shape_of, type_told, unused_seen, unused_shape, value_shape}
+use Rattle.mdmp_dump.specs.Shape.{AreOf, AreOfTheirKinds, GivesNone, HaveNoStrayParts, IsOf, IsSized, IsSound, fars, is_far, parts_in, rooms, seen_at, shape_of, type_told, unused_seen, unused_shape, value_shape}
 use Rattle.mdmp_dump.specs.System.{system_seen}
 use Rattle.mdmp_dump.specs.Thread.{thread_seen}
 use Rattle.mdmp_dump.specs.Unloaded.{unloaded_seen}
-use Rattle.mdmp_dump.specs.View.{DumpSeen, StreamSeen, dump_seen, kind_in, records_seen, stream_seen}
+use Rattle.mdmp_dump.specs.View.{DumpSeen, kind_in, records_seen, stream_seen}
 
 -- what an option holds, or else x
 abbrev pub held : {X : Type 0} → X → Option X → X
@@ -88,10 +88,17 @@ no_parts : (kind : Kind) (xs : List Seen) → length xs ≡ 0 → parts_in kind 
 no_parts kind [] none = no_parts_by (is_far kind)
 no_parts kind (x ∷ xs) none = absurd (omega (arith, none))
 
-shapes_stray : (xs : List StreamSeen) (k : ℕ) → (get_or (map shape_of xs) k unused_shape).records ≡ 0 → (get_or (map shape_of xs) k unused_shape).parts ≡ 0
-shapes_stray [] k none = refl
-shapes_stray (x ∷ xs) zero none = no_parts x.kind x.records none
-shapes_stray (x ∷ xs) (suc k) none = shapes_stray xs k none
+module _ {Z : Type 0} where
+  stream_stray : (s : Stream Z) → GivesNone (kind_in s) (length (records_seen s)) → parts_in (kind_in s) (records_seen s) ≡ 0
+  stream_stray streams.Unused none = no_parts (kind_in {Z = Z} streams.Unused) [] refl
+  stream_stray (streams.Raw t bytes) none = no_parts (kind_in {Z = Z} (streams.Raw t bytes)) [] refl
+  stream_stray s none = no_parts (kind_in s) (records_seen s) none
 
-pub value_stray : {Z : Type 0} (d : Dump Z) → HaveNoStrayParts (value_shape d)
-value_stray d k none = shapes_stray (dump_seen d).streams k none
+  streams_stray : (ss : List (Stream Z)) (k : ℕ) → GivesNone (get_or (map shape_of (map stream_seen ss)) k unused_shape).kind (get_or (map shape_of (map stream_seen ss)) k unused_shape).records
+      → (get_or (map shape_of (map stream_seen ss)) k unused_shape).parts ≡ 0
+  streams_stray [] k none = refl
+  streams_stray (s ∷ ss) zero none = stream_stray s none
+  streams_stray (s ∷ ss) (suc k) none = streams_stray ss k none
+
+  pub value_stray : (d : Dump Z) → HaveNoStrayParts (value_shape d)
+  value_stray d k none = streams_stray d.streams k none

@@ -95,6 +95,7 @@ pub trait DumpView {
     /// The numbers of its header.
     fn header(&mut self) -> HeaderFields
         ensures header { (x : DumpSeen) → (shape self.old).seen ≡ Some x → result ≡ x.header }
+        ensures told { result ≡ (shape self.old).header }
         ensures shape { shape self.new ≡ shape self.old }
         ensures cursor { cursor self.new ≡ cursor self.old }
         ensures spent { spent self.new ≡ spent self.old }
@@ -192,7 +193,7 @@ pub trait DumpView {
     // that they tell.
     ghost kinds: { (v : Self) → AreOfTheirKinds (shape v) };
 
-    // A stream of no records has no names and parts.
+    // A stream of which no record is given has no names and parts.
     ghost stray: { (v : Self) → HaveNoStrayParts (shape v) };
 
     // It is moved so by no call, and by calls one behind the other.

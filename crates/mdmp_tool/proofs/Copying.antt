@@ -1,6 +1,6 @@
 -- What a copy does, from its parts.
 use Rattle.std.proofs.Common.{◌≡◌, ◌⊎◌, ◌∙◌, ◌+◌, ◌<◌, ◌≤◌, ℕ, List, [], Option, Some, None, true, false, inl, inr, refl, ap, arith, drop, length, slice_index_or, subst, sym}
-use Rattle.std.specs.Prelude.{Result, Ok, Err, IfSome, IsTrue}
+use Rattle.std.specs.Prelude.{Result, Ok, Err, IfOk, IfSome, IsTrue}
 use Rattle.std.proofs.lemmas.List.{drop_more}
 use Rattle.std.proofs.lemmas.Option.{none-some}
 use Rattle.std.proofs.Math.ListN.{drop_of_length-le}
@@ -31,6 +31,7 @@ use Rattle.mdmp_dump.specs.LaysOut.{LaysOut}
 use Rattle.mdmp_dump.specs.Opening.{HasSpentOpening}
 use Rattle.mdmp_dump.specs.Reading.{IsLastTold, IsOwn, MayBeTold, TellsOf, store_fault, store_fault_in}
 use Rattle.mdmp_dump.specs.Shape.{Shape}
+use Rattle.mdmp_writer.specs.Writing.{GoesOut}
 use Rattle.mdmp_tool.specs.declared.fault.ToolFault.{ToolFault}
 use Rattle.mdmp_tool.specs.declared.fault.ToolFault.TheVariants as tool
 use Rattle.mdmp_tool.specs.Causes.{HasOutCause, HasSourceCause, IsNoSourceFault, MayChange}
@@ -135,7 +136,7 @@ cause_copied source w v first last r opened none moved told = tt
 
 -- nothing is said of a view where there is none
 no_shape : Shape
-no_shape = record { streams = []; costs = []; is_reliable = false; seen = None }
+no_shape = record { header = record { version_high = 0; checksum = 0; time = 0; flags = 0 }; streams = []; costs = []; is_reliable = false; seen = None }
 
 -- a type is refused
 pub Copies-not : (Z : Type 0) (content : Option (List ℕ)) (file_size : ℕ) (types : List ℕ) (limit : ℕ) (before : OutState) (t : ℕ) → first_not_copied types ≡ Some t
@@ -147,7 +148,7 @@ Copies-not Z content file_size types limit before t is = record {
   quiet = refl;
   out_cause = refl;
   changed = tt;
-  of_shape = record { shape = no_shape; size = tt };
+  of_shape = record { shape = no_shape; size = tt; out = tt };
   of_file = λ F known. tt;
 }
 
@@ -158,49 +159,49 @@ module _ (Z : Type 0) (content : Option (List ℕ)) (file_size : ℕ) (types : L
     copy : (r : Result ℕ ToolFault) (F : List ℕ) → content ≡ Some F → IsDumpCopied (dump_in {Z = Z} F (Types types)) before r after → IsCopy Z F types limit before r after
     copy r F known copied = record { within = within F known; laid_out = laid_out F known; copied = copied }
 
-    pub Copies-viewed : (r : Result ℕ ToolFault) → IsShapeCopied shape before r after → MayChange content r
+    pub Copies-viewed : (r : Result ℕ ToolFault) → IsShapeCopied shape before r after → IfOk r (λ size. GoesOut shape size before after) → MayChange content r
         → ((F : List ℕ) → content ≡ Some F → IsDumpCopied (dump_in {Z = Z} F (Types types)) before r after) → Copies Z content file_size types limit before r after
-    Copies-viewed (Ok size) ends may copied = record {
+    Copies-viewed (Ok size) ends out may copied = record {
       refuses = all;
       short = λ few _. absurd (long few);
       refusal = tt;
       quiet = tt;
       out_cause = ends.1;
       changed = tt;
-      of_shape = record { shape = shape; size = ends.0 };
+      of_shape = record { shape = shape; size = ends.0; out = out };
       of_file = λ F known. copy (Ok size) F known (copied F known);
     }
-    Copies-viewed (Err (tool.Layout fault)) ends may copied = record {
+    Copies-viewed (Err (tool.Layout fault)) ends out may copied = record {
       refuses = all;
       short = λ few _. absurd (long few);
       refusal = tt;
       quiet = ends.1;
       out_cause = ap (λ (o : OutState). o.failures) ends.1;
       changed = tt;
-      of_shape = record { shape = shape; size = ends.0 };
+      of_shape = record { shape = shape; size = ends.0; out = tt };
       of_file = λ F known. copy (Err (tool.Layout fault)) F known (copied F known);
     }
-    Copies-viewed (Err tool.Out) ends may copied = record {
+    Copies-viewed (Err tool.Out) ends out may copied = record {
       refuses = all;
       short = λ few _. absurd (long few);
       refusal = tt;
       quiet = tt;
       out_cause = ends.1;
       changed = tt;
-      of_shape = record { shape = shape; size = ends.0 };
+      of_shape = record { shape = shape; size = ends.0; out = tt };
       of_file = λ F known. copy (Err tool.Out) F known (copied F known);
     }
-    Copies-viewed (Err (tool.Source fault)) ends may copied = record {
+    Copies-viewed (Err (tool.Source fault)) ends out may copied = record {
       refuses = all;
       short = λ few _. absurd (long few);
       refusal = tt;
       quiet = tt;
       out_cause = ends.2;
       changed = may;
-      of_shape = record { shape = shape; size = tt };
+      of_shape = record { shape = shape; size = tt; out = tt };
       of_file = λ F known. inr (copy (Err (tool.Source fault)) F known (copied F known));
     }
-    Copies-viewed (Err fault) ends may copied = absurd ends
+    Copies-viewed (Err fault) ends out may copied = absurd ends
 
   -- nothing was written, and no type is refused
   record Answers (r : Result ℕ ToolFault) : Type 0 where
@@ -278,6 +279,6 @@ module _ (Z : Type 0) (content : Option (List ℕ)) (file_size : ℕ) (types : L
         quiet = answers.quiet;
         out_cause = answers.out_cause;
         changed = answers.changed;
-        of_shape = record { shape = no_shape; size = answers.of_shape };
+        of_shape = record { shape = no_shape; size = answers.of_shape; out = tt };
         of_file = answers.of_file;
       }

@@ -1,5 +1,5 @@
 -- What a copy answers, and what it leaves written.
-use Rattle.std.specs.Prelude.{◌≡◌, ◌<◌, ◌≤◌, ◌+◌, ◌*◌, ◌⊎◌, ◌==◌, ◌||◌, ℕ, Bool, List, [], ◌∷◌, Option, Some, None, Result, Ok, Err, IsFalse, nat_lt, if◌then◌else◌}
+use Rattle.std.specs.Prelude.{◌≡◌, ◌<◌, ◌≤◌, ◌+◌, ◌*◌, ◌⊎◌, ◌==◌, ◌||◌, ℕ, Bool, List, [], ◌∷◌, Option, Some, None, Result, Ok, Err, IfOk, IsFalse, nat_lt, if◌then◌else◌}
 use Rattle.mdmp_source.specs.Source.{SourceState}
 use Rattle.mdmp_source.specs.Output.{HasRefused, OutState, PutsAll, PutsPrefix}
 use Rattle.mdmp_lister.specs.declared.choice.Choice.TheVariants.{Types}
@@ -20,6 +20,7 @@ use Rattle.mdmp_dump.specs.Opening.{HasSpentOpening, opening_bound}
 use Rattle.mdmp_dump.specs.Shape.{IsViewOf, Shape}
 use Rattle.mdmp_writer.specs.Layout.{layout_fault, shape_fault, size_answer, written_size}
 use Rattle.mdmp_writer.specs.Passes.{all_asks, all_costs}
+use Rattle.mdmp_writer.specs.Writing.{GoesOut}
 use Rattle.mdmp_writer.specs.Written.{written}
 use Rattle.mdmp_tool.specs.declared.fault.ToolFault.{ToolFault}
 use Rattle.mdmp_tool.specs.declared.fault.ToolFault.TheVariants as tool
@@ -103,9 +104,11 @@ IsOfShape shape (Err (tool.Layout fault)) = size_answer shape.streams ≡ Err fa
 IsOfShape shape (Err tool.Out) = shape_fault shape.streams ≡ None
 IsOfShape shape answer = Unit {0}
 
-pub record HasShape (answer : Result ℕ ToolFault) : Type 0 where
+pub record HasShape (before : OutState) (answer : Result ℕ ToolFault) (after : OutState) : Type 0 where
   pub shape : Shape
   pub size : IsOfShape shape answer
+  -- as many bytes went out as it answers, which begin with the header and the directory of that view
+  pub out : IfOk answer (λ size. GoesOut shape size before after)
 
 -- no view was opened
 abbrev pub IsUnopened : Result ℕ ToolFault → Type 0
@@ -171,5 +174,5 @@ module _ (Z : Type 0) where
     pub quiet : IsQuietCopy answer (after ≡ before)
     pub out_cause : HasOutCause before answer after
     pub changed : MayChange content answer
-    pub of_shape : HasShape answer
+    pub of_shape : HasShape before answer after
     pub of_file : (file : List ℕ) → content ≡ Some file → EndsOf file types limit before answer after

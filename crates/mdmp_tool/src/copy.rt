@@ -12,6 +12,7 @@ ghost use Rattle.mdmp_dump.specs.Opening.{HasSpentOpening, IsNewView, entries_in
 ghost use Rattle.mdmp_dump.specs.Reading.{Fetches, IsOwn, TellsOf};
 ghost use Rattle.mdmp_dump.specs.Shape.{IsViewOf};
 ghost use Rattle.mdmp_writer.specs.Passes.{all_asks, all_costs};
+ghost use Rattle.mdmp_writer.specs.Writing.{GoesOut};
 ghost use Rattle.mdmp_tool.specs.Causes.{IsNoSourceFault};
 ghost use Rattle.mdmp_tool.specs.Copying.{Copies, IsDumpCopied, IsShapeCopied, IsToldByView, SpendsCopy, first_not_copied, is_copied};
 ghost use Rattle.mdmp_tool.specs.Engines.{Reads};
@@ -165,6 +166,7 @@ fn write_copy<V: DumpView, O: Out>(
     ensures asked { (V.spent view.new).asked ≤ (V.spent view.old).asked + all_asks (V.shape view.old) }
     ensures ends { IsShapeCopied (V.shape view.old) (O.state out.old) result (O.state out.new) }
     ensures copies { (d : Dump V.Memory) → IsViewOf d (V.shape view.old) → IsDumpCopied d (O.state out.old) result (O.state out.new) }
+    ensures out { IfOk result (λ size. GoesOut (V.shape view.old) size (O.state out.old) (O.state out.new)) }
     ensures told { IsToldByView result (V.spent view.new).fault }
     ensures moves { V.Moves view.old view.new }
 {

@@ -1,6 +1,7 @@
 pub mod Back
 pub mod Blocks
 pub mod Causes
+pub mod Counting
 pub mod Dumps
 pub mod Forms
 pub mod Heads

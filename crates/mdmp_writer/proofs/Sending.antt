@@ -82,7 +82,7 @@ no_piece a b text part at past l = left_none a b text (drop at part) (drop_of_le
 
 -- ---- what the buffer holds
 
-abbrev holding : Option (List ℕ) → List ℕ → Gathered
+abbrev pub holding : Option (List ℕ) → List ℕ → Gathered
 holding taken held = record { taken = taken; held = held }
 
 -- bytes that are held, and not yet sent

@@ -1,6 +1,9 @@
 -- Bytes that go to an output by way of a buffer.
-use Rattle.std.specs.Prelude.{◌≡◌, List, ℕ, ◌++◌, Option, Result, MatchResult}
+use Rattle.std.specs.Prelude.{◌≡◌, List, ℕ, ◌++◌, length, Option, Result, MatchResult}
 use Rattle.mdmp_source.specs.Output.{OutState, Takes}
+use Rattle.mdmp_dump.specs.Shape.{Shape}
+use Rattle.mdmp_writer.specs.Layout.{file_size}
+use Rattle.mdmp_writer.specs.Written.{BeginsWith}
 
 -- what the output has taken, where that is known, and what the buffer holds behind it
 pub record Gathered : Type 0 where
@@ -32,3 +35,22 @@ pub record IsLeft (before : Gathered) (text : List ℕ) (now : Gathered) (rest :
   pub first : List ℕ
   pub splits : text ≡ first ++ rest
   pub puts : Puts before first now
+
+-- ---- of a text that is not known
+
+-- some text of so many bytes was put
+pub record PutsSome (before : Gathered) (n : ℕ) (after : Gathered) : Type 0 where
+  pub text : List ℕ
+  pub count : length text ≡ n
+  pub puts : Puts before text after
+
+-- so many bytes more are held
+pub record HoldsMore (n : ℕ) (old new : List ℕ) : Type 0 where
+  pub more : List ℕ
+  pub count : length more ≡ n
+  pub held : new ≡ old ++ more
+
+-- as many bytes were put as a dump of this shape has, which begin with its header and directory
+pub record PutsDump (shape : Shape) (before after : Gathered) : Type 0 where
+  pub some : PutsSome before (file_size shape.streams) after
+  pub begins : BeginsWith shape some.text

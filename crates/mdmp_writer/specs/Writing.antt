@@ -1,12 +1,12 @@
 -- What a writer of a whole dump answers, and what goes out.
-use Rattle.std.specs.Prelude.{◌≡◌, ℕ, Some, None, Result, Ok, Err, IsFalse}
+use Rattle.std.specs.Prelude.{◌≡◌, ℕ, List, length, Some, None, Result, Ok, Err, IsFalse}
 use Rattle.mdmp_source.specs.Output.{HasRefused, OutState, Takes, TakesPrefix}
 use Rattle.mdmp_dump.specs.declared.dump.Dump.{Dump}
 use Rattle.mdmp_dump.specs.Shape.{Shape}
 use Rattle.mdmp_writer.specs.declared.fault.WriteFault.{WriteFault}
 use Rattle.mdmp_writer.specs.declared.fault.WriteFault.TheVariants.{Layout, Out, View}
 use Rattle.mdmp_writer.specs.Layout.{layout_fault, shape_fault, size_answer, written_size}
-use Rattle.mdmp_writer.specs.Written.{written}
+use Rattle.mdmp_writer.specs.Written.{BeginsWith, written}
 
 -- over every view of this shape, whatever it gives: the size or the refusal is that of the shape, where it is refused
 -- nothing goes out, and a run stops only where the output refused, or where the view answered a fault, which a reliable one
@@ -25,3 +25,10 @@ IsWritingOfDump d (Ok size) before after =
 IsWritingOfDump d (Err (Layout fault)) before after = layout_fault d ≡ Some fault
 IsWritingOfDump d (Err Out) before after = (layout_fault d ≡ None) × TakesPrefix before.taken (written d) after.taken
 IsWritingOfDump d (Err (View fault)) before after = (layout_fault d ≡ None) × TakesPrefix before.taken (written d) after.taken
+
+-- so many bytes went out, which begin with the header and the directory of a view of this shape, whatever it holds
+pub record GoesOut (shape : Shape) (size : ℕ) (before after : OutState) : Type 0 where
+  pub text : List ℕ
+  pub count : length text ≡ size
+  pub begins : BeginsWith shape text
+  pub took : Takes before.taken text after.taken

@@ -1,5 +1,5 @@
 -- The bytes of a dump: its header, its directory, a block for each stream, and 64-bit memory.
-use Rattle.std.specs.Prelude.{ℕ, ◌+◌, ◌-◌, ◌*◌, List, [], ◌∷◌, ◌++◌, length, replicate, ◌==◌, if◌then◌else◌}
+use Rattle.std.specs.Prelude.{◌≡◌, ℕ, ◌+◌, ◌-◌, ◌*◌, List, [], ◌∷◌, ◌++◌, length, replicate, ◌==◌, if◌then◌else◌}
 use Rattle.mdmp_wire.specs.declared.entry.Entry.{Entry}
 use Rattle.mdmp_wire.specs.declared.header.Header.{Header}
 use Rattle.mdmp_wire.specs.Entry.{entry_bytes}
@@ -16,7 +16,7 @@ use Rattle.mdmp_dump.specs.declared.view.Kind.TheVariants as kinds
 use Rattle.mdmp_dump.specs.Placed.{bytes_in, fields_room, seen_parts, seen_row}
 use Rattle.mdmp_dump.specs.Places.{up, bytes_location}
 use Rattle.mdmp_dump.specs.Seen.{Seen}
-use Rattle.mdmp_dump.specs.Shape.{StreamShape, body_of, far_of, is_far, shape_of}
+use Rattle.mdmp_dump.specs.Shape.{Shape, StreamShape, body_of, far_of, is_far, shape_of}
 use Rattle.mdmp_dump.specs.View.{DumpSeen, StreamSeen, dump_seen}
 use Rattle.mdmp_writer.specs.Layout.{block_size, blocks_end, directory_at, far_size, first_block, shapes_in}
 
@@ -131,3 +131,8 @@ text_of x =
 -- the bytes of a dump
 abbrev pub written : {Z : Type 0} → Dump Z → List ℕ
 written d = text_of (dump_seen d)
+
+-- of a view of this shape, whatever it holds: these bytes begin with its header and its directory
+pub record BeginsWith (shape : Shape) (text : List ℕ) : Type 0 where
+  pub rest : List ℕ
+  pub is : text ≡ header_bytes (header_of shape.header (length shape.streams)) ++ directory shape.streams (first_block shape.streams) ++ rest

@@ -1,11 +1,11 @@
 //! A stream to an output: its body, and behind it its names and parts.
-ghost use Rattle.std.specs.Prelude.{◌≡◌, ◌<◌, ◌≤◌, ◌+◌, ◌*◌, ◌^◌, Some, length};
+ghost use Rattle.std.specs.Prelude.{◌≡◌, ◌<◌, ◌≤◌, ◌+◌, ◌*◌, ◌^◌, OnOk, Some, length};
 ghost use Rattle.mdmp_dump.specs.declared.view.Kind.TheVariants.{Known, Raw};
 ghost use Rattle.mdmp_dump.specs.Places.{up};
 ghost use Rattle.mdmp_dump.specs.Shape.{body_of, cost_at, room_of, seen_at, stream_at};
 ghost use Rattle.mdmp_dump.specs.View.{DumpSeen};
 ghost use Rattle.mdmp_writer.specs.Block.{RecordsAreKnown};
-ghost use Rattle.mdmp_writer.specs.Gather.{gathered, Writes};
+ghost use Rattle.mdmp_writer.specs.Gather.{gathered, PutsSome, Writes};
 ghost use Rattle.mdmp_writer.specs.Layout.{block_size};
 ghost use Rattle.mdmp_writer.specs.Cause.{HasCause, IsToldBy};
 ghost use Rattle.mdmp_writer.specs.Passes.{block_asks, block_passes, parts_asks, parts_passes};
@@ -35,6 +35,7 @@ fn put_second_pass<V: DumpView, O: Out>(
     ensures shape { V.shape view.new ≡ V.shape view.old }
     ensures writes { (x : DumpSeen) → (V.shape view.old).seen ≡ Some x
         → Writes result (gathered (O.state out.old) gather.old) (all_padded (parts_of (seen_at x stream).records)) (gathered (O.state out.new) gather.new) }
+    ensures some { OnOk result (PutsSome (gathered (O.state out.old) gather.old) (room_of (stream_at (V.shape view.old) stream)) (gathered (O.state out.new) gather.new)) }
     ensures cause { HasCause (V.shape view.old).is_reliable result (O.state out.old) (O.state out.new) }
     ensures passed { (V.spent view.new).passed ≤ (V.spent view.old).passed + cost_at (V.shape view.old) stream }
     ensures asked { (V.spent view.new).asked ≤ (V.spent view.old).asked + (stream_at (V.shape view.old) stream).bytes }
@@ -64,6 +65,7 @@ fn put_stream_parts<V: DumpView, O: Out>(
     ensures shape { V.shape view.new ≡ V.shape view.old }
     ensures writes { (x : DumpSeen) → (V.shape view.old).seen ≡ Some x
         → Writes result (gathered (O.state out.old) gather.old) (all_padded (parts_of (seen_at x stream).records)) (gathered (O.state out.new) gather.new) }
+    ensures some { OnOk result (PutsSome (gathered (O.state out.old) gather.old) (room_of (stream_at (V.shape view.old) stream)) (gathered (O.state out.new) gather.new)) }
     ensures cause { HasCause (V.shape view.old).is_reliable result (O.state out.old) (O.state out.new) }
     ensures passed { (V.spent view.new).passed ≤ (V.spent view.old).passed + parts_passes (V.shape view.old) stream }
     ensures asked { (V.spent view.new).asked ≤ (V.spent view.old).asked + parts_asks (V.shape view.old) stream }
@@ -98,6 +100,7 @@ fn put_records<V: DumpView, O: Out>(
     ensures shape { V.shape view.new ≡ V.shape view.old }
     ensures writes { (x : DumpSeen) → (V.shape view.old).seen ≡ Some x
         → Writes result (gathered (O.state out.old) gather.old) (block_text (seen_at x stream) place.at place.far) (gathered (O.state out.new) gather.new) }
+    ensures some { OnOk result (PutsSome (gathered (O.state out.old) gather.old) (block_size (stream_at (V.shape view.old) stream)) (gathered (O.state out.new) gather.new)) }
     ensures cause { HasCause (V.shape view.old).is_reliable result (O.state out.old) (O.state out.new) }
     ensures passed { (V.spent view.new).passed ≤ (V.spent view.old).passed + block_passes (V.shape view.old) stream }
     ensures asked { (V.spent view.new).asked ≤ (V.spent view.old).asked + block_asks (V.shape view.old) stream }
@@ -131,6 +134,7 @@ fn put_raw<V: DumpView, O: Out>(
     ensures shape { V.shape view.new ≡ V.shape view.old }
     ensures writes { (x : DumpSeen) → (V.shape view.old).seen ≡ Some x
         → Writes result (gathered (O.state out.old) gather.old) (padded (seen_at x stream).raw) (gathered (O.state out.new) gather.new) }
+    ensures some { OnOk result (PutsSome (gathered (O.state out.old) gather.old) (up size) (gathered (O.state out.new) gather.new)) }
     ensures cause { HasCause (V.shape view.old).is_reliable result (O.state out.old) (O.state out.new) }
     ensures passed { (V.spent view.new).passed ≤ (V.spent view.old).passed + cost_at (V.shape view.old) stream }
     ensures asked { (V.spent view.new).asked ≤ (V.spent view.old).asked + size }
@@ -156,6 +160,7 @@ pub(crate) fn put_block<V: DumpView, O: Out>(
     ensures shape { V.shape view.new ≡ V.shape view.old }
     ensures writes { (x : DumpSeen) → (V.shape view.old).seen ≡ Some x → RecordsAreKnown (seen_at x stream)
         → Writes result (gathered (O.state out.old) gather.old) (block_text (seen_at x stream) place.at place.far) (gathered (O.state out.new) gather.new) }
+    ensures some { OnOk result (PutsSome (gathered (O.state out.old) gather.old) (block_size (stream_at (V.shape view.old) stream)) (gathered (O.state out.new) gather.new)) }
     ensures cause { HasCause (V.shape view.old).is_reliable result (O.state out.old) (O.state out.new) }
     ensures passed { (V.spent view.new).passed ≤ (V.spent view.old).passed + block_passes (V.shape view.old) stream }
     ensures asked { (V.spent view.new).asked ≤ (V.spent view.old).asked + block_asks (V.shape view.old) stream }

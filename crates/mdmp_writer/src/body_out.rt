@@ -1,9 +1,10 @@
 //! The body of a stream of records to an output.
-ghost use Rattle.std.specs.Prelude.{◌≡◌, ◌<◌, ◌≤◌, ◌+◌, ◌^◌, ◌++◌, Bool, Option, Some, length};
+ghost use Rattle.std.specs.Prelude.{◌≡◌, ◌<◌, ◌≤◌, ◌+◌, ◌*◌, ◌^◌, ◌++◌, Bool, OnOk, Option, Some, length};
+ghost use Rattle.mdmp_dump.specs.declared.view.Kind.TheVariants.{Known};
 ghost use Rattle.mdmp_dump.specs.declared.view.ViewFault.{ViewFault};
-ghost use Rattle.mdmp_dump.specs.Shape.{cost_at, room_of, seen_at, stream_at};
+ghost use Rattle.mdmp_dump.specs.Shape.{cost_at, head_of, room_of, row_of, seen_at, stream_at};
 ghost use Rattle.mdmp_dump.specs.View.{DumpSeen};
-ghost use Rattle.mdmp_writer.specs.Gather.{gathered, Writes};
+ghost use Rattle.mdmp_writer.specs.Gather.{gathered, PutsSome, Writes};
 ghost use Rattle.mdmp_writer.specs.Cause.{HasCause, IsToldBy};
 ghost use Rattle.mdmp_writer.specs.Written.{head_text, rows};
 
@@ -27,6 +28,7 @@ fn put_head<O: Out>(
 ) -> Result<(), WriteFault>
     requires { count < 2 ^ 32 }
     ensures writes { Writes result (gathered (O.state out.old) gather.old) (head_text stream_type count far) (gathered (O.state out.new) gather.new) }
+    ensures some { OnOk result (PutsSome (gathered (O.state out.old) gather.old) (head_of stream_type) (gathered (O.state out.new) gather.new)) }
     ensures cause { (reliable : Bool) → HasCause reliable result (O.state out.old) (O.state out.new) }
     ensures told { (last : Option ViewFault) → IsToldBy result last }
 {
@@ -83,6 +85,8 @@ pub(crate) fn put_body<V: DumpView, O: Out>(
     ensures writes { (x : DumpSeen) → (V.shape view.old).seen ≡ Some x
         → Writes result (gathered (O.state out.old) gather.old)
         (head_text stream_type count place.far ++ rows place.at (seen_at x stream).records) (gathered (O.state out.new) gather.new) }
+    ensures some { (stream_at (V.shape view.old) stream).kind ≡ Known stream_type
+        → OnOk result (PutsSome (gathered (O.state out.old) gather.old) (head_of stream_type + count * row_of stream_type) (gathered (O.state out.new) gather.new)) }
     ensures cause { HasCause (V.shape view.old).is_reliable result (O.state out.old) (O.state out.new) }
     ensures passed { (V.spent view.new).passed ≤ (V.spent view.old).passed + cost_at (V.shape view.old) stream }
     ensures asked { (V.spent view.new).asked ≤ (V.spent view.old).asked }

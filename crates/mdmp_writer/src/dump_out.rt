@@ -1,14 +1,14 @@
 //! A dump to an output.
-ghost use Rattle.std.specs.Prelude.{◌≡◌, ◌<◌, ◌≤◌, ◌+◌, ◌*◌, ◌++◌, None, Some, length};
+ghost use Rattle.std.specs.Prelude.{◌≡◌, ◌<◌, ◌≤◌, ◌+◌, ◌*◌, ◌++◌, IfOk, None, OnOk, Some, length};
 ghost use Rattle.mdmp_dump.specs.declared.dump.Dump.{Dump};
 ghost use Rattle.mdmp_dump.specs.Shape.{IsViewOf};
 ghost use Rattle.mdmp_dump.specs.View.{DumpSeen};
 ghost use Rattle.mdmp_writer.specs.Block.{AllAreKnown};
-ghost use Rattle.mdmp_writer.specs.Gather.{gathered, Writes};
-ghost use Rattle.mdmp_writer.specs.Layout.{AreEnds, blocks_end, first_block, shape_fault};
+ghost use Rattle.mdmp_writer.specs.Gather.{gathered, PutsDump, PutsSome, Writes};
+ghost use Rattle.mdmp_writer.specs.Layout.{AreEnds, blocks_end, blocks_size, fars_size, first_block, shape_fault};
 ghost use Rattle.mdmp_writer.specs.Cause.{HasCause, IsToldBy};
 ghost use Rattle.mdmp_writer.specs.Passes.{all_asks, all_costs};
-ghost use Rattle.mdmp_writer.specs.Writing.{IsWritingOf, IsWritingOfDump};
+ghost use Rattle.mdmp_writer.specs.Writing.{GoesOut, IsWritingOf, IsWritingOfDump};
 ghost use Rattle.mdmp_writer.specs.Written.{blocks, fars, text_of};
 
 use crate::fault::WriteFault;
@@ -38,6 +38,7 @@ pub fn write_dump<V: DumpView, O: Out>(
     ensures shape { V.shape view.new ≡ V.shape view.old }
     ensures ends { IsWritingOf (V.shape view.old) result (O.state out.old) (O.state out.new) }
     ensures writes { (d : Dump V.Memory) → IsViewOf d (V.shape view.old) → IsWritingOfDump d result (O.state out.old) (O.state out.new) }
+    ensures out { IfOk result (λ size. GoesOut (V.shape view.old) size (O.state out.old) (O.state out.new)) }
     ensures passed { (V.spent view.new).passed ≤ (V.spent view.old).passed + 2 * all_costs (V.shape view.old) }
     ensures asked { (V.spent view.new).asked ≤ (V.spent view.old).asked + all_asks (V.shape view.old) }
     ensures told { IsToldBy result (V.spent view.new).fault }
@@ -69,6 +70,7 @@ fn put_dump<V: DumpView, O: Out>(
     ensures shape { V.shape view.new ≡ V.shape view.old }
     ensures writes { (x : DumpSeen) → (V.shape view.old).seen ≡ Some x → AllAreKnown x
         → Writes result (gathered (O.state out.old) gather.old) (text_of x) (gathered (O.state out.new) gather.new) }
+    ensures out { OnOk result (PutsDump (V.shape view.old) (gathered (O.state out.old) gather.old) (gathered (O.state out.new) gather.new)) }
     ensures cause { HasCause (V.shape view.old).is_reliable result (O.state out.old) (O.state out.new) }
     ensures passed { (V.spent view.new).passed ≤ (V.spent view.old).passed + 2 * all_costs (V.shape view.old) }
     ensures asked { (V.spent view.new).asked ≤ (V.spent view.old).asked + all_asks (V.shape view.old) }
@@ -106,6 +108,7 @@ fn put_streams<V: DumpView, O: Out>(
     ensures shape { V.shape view.new ≡ V.shape view.old }
     ensures writes { (x : DumpSeen) → (V.shape view.old).seen ≡ Some x → AllAreKnown x
         → Writes result (gathered (O.state out.old) gather.old) (blocks x.streams first.at first.far ++ fars x.streams) (gathered (O.state out.new) gather.new) }
+    ensures some { OnOk result (PutsSome (gathered (O.state out.old) gather.old) (blocks_size (V.shape view.old).streams + fars_size (V.shape view.old).streams) (gathered (O.state out.new) gather.new)) }
     ensures cause { HasCause (V.shape view.old).is_reliable result (O.state out.old) (O.state out.new) }
     ensures passed { (V.spent view.new).passed ≤ (V.spent view.old).passed + 2 * all_costs (V.shape view.old) }
     ensures asked { (V.spent view.new).asked ≤ (V.spent view.old).asked + all_asks (V.shape view.old) }

@@ -2,7 +2,7 @@
 ghost use Rattle.std.specs.Prelude.{◌≡◌, ◌≤◌, ◌<◌, ◌+◌, ◌-◌, ◌++◌, ℕ, List, [], length, take, drop, get_or, min, nat_lt, Bool, Option, IsTrue, Some, IfErr, IfOk, OnOk, MatchResult};
 ghost use Rattle.mdmp_source.specs.Output.{refused_if};
 ghost use Rattle.mdmp_dump.specs.declared.view.ViewFault.{ViewFault};
-ghost use Rattle.mdmp_writer.specs.Gather.{gathered, Puts, Writes};
+ghost use Rattle.mdmp_writer.specs.Gather.{gathered, HoldsMore, Puts, Writes};
 ghost use Rattle.mdmp_writer.specs.Cause.{HasCause, IsToldBy};
 
 use crate::fault::WriteFault;
@@ -97,6 +97,7 @@ impl<'b> Gather<'b> {
             (λ k. (parts : List (List ℕ)) → (V.cursor view.old).parts ≡ Some parts
             → self.new ≡ self.old ++ take k (drop at (get_or parts which [])))
             (λ _. self.new ≡ self.old) }
+        ensures more { IfOk result (λ k. HoldsMore k self.old self.new) }
         ensures reliable { IsTrue (V.shape view.old).is_reliable → IfErr result (λ _. ⊥) }
         ensures passed { (V.spent view.new).passed ≤ (V.spent view.old).passed }
         ensures asked { MatchResult result (λ k. (V.spent view.new).asked ≤ (V.spent view.old).asked + k) (λ _. (V.spent view.new).asked ≤ (V.spent view.old).asked + most) }

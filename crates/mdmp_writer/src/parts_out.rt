@@ -1,10 +1,11 @@
 //! The names and parts of records to an output.
-ghost use Rattle.std.specs.Prelude.{◌≡◌, ◌<◌, ◌≤◌, ◌+◌, ◌^◌, ◌++◌, ℕ, List, [], ◌∷◌, Some, length, get_or, OnOk};
-ghost use Rattle.mdmp_dump.specs.Placed.{fields_bytes, fields_room, name_around, name_room, seen_parts, size_at, size_in};
+ghost use Rattle.std.specs.Prelude.{◌≡◌, ◌<◌, ◌≤◌, ◌+◌, ◌-◌, ◌^◌, ◌++◌, ℕ, List, [], ◌∷◌, Some, length, get_or, OnOk};
+ghost use Rattle.mdmp_dump.specs.Placed.{fields_bytes, fields_room, name_around, name_room, part_room, seen_parts, size_at, size_in};
+ghost use Rattle.mdmp_dump.specs.Places.{up};
 ghost use Rattle.mdmp_dump.specs.Seen.{Seen};
 ghost use Rattle.mdmp_dump.specs.Shape.{IsSized};
 ghost use Rattle.mdmp_wire.specs.Number.{zeros};
-ghost use Rattle.mdmp_writer.specs.Gather.{gathered, Writes};
+ghost use Rattle.mdmp_writer.specs.Gather.{gathered, PutsSome, Writes};
 ghost use Rattle.mdmp_writer.specs.Cause.{HasCause, IsToldBy};
 ghost use Rattle.mdmp_writer.specs.Written.{all_padded, padded, padding, parts_of};
 
@@ -31,6 +32,7 @@ fn put_units<V: DumpView, O: Out>(
     ensures writes { (parts : List (List ℕ)) → (V.cursor view.old).parts ≡ Some parts → length (get_or parts 0 []) ≡ size
         → Writes result (gathered (O.state out.old) gather.old)
         (get_or parts 0 [] ++ zeros 2 ++ padding (4 + size + 2)) (gathered (O.state out.new) gather.new) }
+    ensures some { OnOk result (PutsSome (gathered (O.state out.old) gather.old) (up (4 + size + 2) - 4) (gathered (O.state out.new) gather.new)) }
     ensures cause { HasCause (V.shape view.old).is_reliable result (O.state out.old) (O.state out.new) }
     ensures passed { (V.spent view.new).passed ≤ (V.spent view.old).passed }
     ensures asked { (V.spent view.new).asked ≤ (V.spent view.old).asked + size }
@@ -59,6 +61,7 @@ fn put_name<V: DumpView, O: Out>(
     ensures cursor { OnOk result (V.cursor view.new ≡ V.cursor view.old) }
     ensures writes { (parts : List (List ℕ)) → (V.cursor view.old).parts ≡ Some parts → length (get_or parts 0 []) ≡ size_in name
         → Writes result (gathered (O.state out.old) gather.old) (padded (name_around name (get_or parts 0 []))) (gathered (O.state out.new) gather.new) }
+    ensures some { OnOk result (PutsSome (gathered (O.state out.old) gather.old) (name_room name) (gathered (O.state out.new) gather.new)) }
     ensures cause { HasCause (V.shape view.old).is_reliable result (O.state out.old) (O.state out.new) }
     ensures passed { (V.spent view.new).passed ≤ (V.spent view.old).passed }
     ensures asked { (V.spent view.new).asked ≤ (V.spent view.old).asked + size_in name }
@@ -93,6 +96,7 @@ fn put_two<V: DumpView, O: Out>(
         → length (get_or parts which []) ≡ size_in first → length (get_or parts (which + 1) []) ≡ size_in second
         → Writes result (gathered (O.state out.old) gather.old)
         (all_padded (get_or parts which [] ∷ get_or parts (which + 1) [] ∷ [])) (gathered (O.state out.new) gather.new) }
+    ensures some { OnOk result (PutsSome (gathered (O.state out.old) gather.old) (part_room first + part_room second) (gathered (O.state out.new) gather.new)) }
     ensures cause { HasCause (V.shape view.old).is_reliable result (O.state out.old) (O.state out.new) }
     ensures passed { (V.spent view.new).passed ≤ (V.spent view.old).passed }
     ensures asked { (V.spent view.new).asked ≤ (V.spent view.old).asked + size_in first + size_in second }
@@ -118,6 +122,7 @@ fn put_fields_parts<V: DumpView, O: Out>(
     ensures cursor { OnOk result (V.cursor view.new ≡ V.cursor view.old) }
     ensures writes { (x : Seen) → (V.cursor view.old).parts ≡ Some x.parts → IsSized x → x.fields ≡ fields.now
         → Writes result (gathered (O.state out.old) gather.old) (all_padded (seen_parts x)) (gathered (O.state out.new) gather.new) }
+    ensures some { OnOk result (PutsSome (gathered (O.state out.old) gather.old) (fields_room fields.now) (gathered (O.state out.new) gather.new)) }
     ensures cause { HasCause (V.shape view.old).is_reliable result (O.state out.old) (O.state out.new) }
     ensures passed { (V.spent view.new).passed ≤ (V.spent view.old).passed }
     ensures asked { (V.spent view.new).asked ≤ (V.spent view.old).asked + fields_bytes fields.now }
@@ -149,9 +154,11 @@ pub(crate) fn put_parts<V: DumpView, O: Out>(
 ) -> Result<(), WriteFault>
     requires count { count ≡ (V.cursor view.old).records }
     requires room { (V.cursor view.old).room < 2 ^ 32 }
+    requires stray { (V.cursor view.old).records ≡ 0 → (V.cursor view.old).room ≡ 0 }
     ensures shape { V.shape view.new ≡ V.shape view.old }
     ensures writes { (xs : List Seen) → (V.cursor view.old).seen ≡ Some xs → length xs ≡ count
         → Writes result (gathered (O.state out.old) gather.old) (all_padded (parts_of xs)) (gathered (O.state out.new) gather.new) }
+    ensures some { OnOk result (PutsSome (gathered (O.state out.old) gather.old) (V.cursor view.old).room (gathered (O.state out.new) gather.new)) }
     ensures cause { HasCause (V.shape view.old).is_reliable result (O.state out.old) (O.state out.new) }
     ensures passed { (V.spent view.new).passed ≤ (V.spent view.old).passed }
     ensures asked { (V.spent view.new).asked ≤ (V.spent view.old).asked + (V.cursor view.old).bytes }

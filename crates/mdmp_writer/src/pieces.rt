@@ -1,8 +1,8 @@
 //! The bytes of parts to an output.
 ghost use Rattle.std.specs.Prelude.{◌≡◌, ◌<◌, ◌≤◌, ◌+◌, ℕ, List, [], Some, length, take, drop, get_or, Bool, Option, IfOk, OnOk, MatchResult};
 ghost use Rattle.mdmp_dump.specs.declared.view.ViewFault.{ViewFault};
-ghost use Rattle.mdmp_dump.specs.Placed.{size_in};
-ghost use Rattle.mdmp_writer.specs.Gather.{gathered, Puts, Writes};
+ghost use Rattle.mdmp_dump.specs.Placed.{part_room, size_in};
+ghost use Rattle.mdmp_writer.specs.Gather.{gathered, Puts, PutsSome, Writes};
 ghost use Rattle.mdmp_writer.specs.Cause.{HasCause, IsToldBy};
 ghost use Rattle.mdmp_writer.specs.Written.{padded, padding};
 
@@ -29,6 +29,7 @@ fn fetch_more<V: DumpView, O: Out>(
         (λ k. (parts : List (List ℕ)) → (V.cursor view.old).parts ≡ Some parts
         → Puts (gathered (O.state out.old) gather.old) (take k (drop at (get_or parts which []))) (gathered (O.state out.new) gather.new))
         (λ _. Puts (gathered (O.state out.old) gather.old) [] (gathered (O.state out.new) gather.new)) }
+    ensures some { IfOk result (λ k. PutsSome (gathered (O.state out.old) gather.old) k (gathered (O.state out.new) gather.new)) }
     ensures cause { HasCause (V.shape view.old).is_reliable result (O.state out.old) (O.state out.new) }
     ensures passed { (V.spent view.new).passed ≤ (V.spent view.old).passed }
     ensures asked { MatchResult result (λ k. (V.spent view.new).asked ≤ (V.spent view.old).asked + k) (λ _. (V.spent view.new).asked ≤ (V.spent view.old).asked + most) }
@@ -57,6 +58,7 @@ pub(crate) fn put_part<V: DumpView, O: Out>(
     ensures cursor { OnOk result (V.cursor view.new ≡ V.cursor view.old) }
     ensures writes { (parts : List (List ℕ)) → (V.cursor view.old).parts ≡ Some parts → length (get_or parts which []) ≡ size
         → Writes result (gathered (O.state out.old) gather.old) (get_or parts which []) (gathered (O.state out.new) gather.new) }
+    ensures some { OnOk result (PutsSome (gathered (O.state out.old) gather.old) size (gathered (O.state out.new) gather.new)) }
     ensures cause { HasCause (V.shape view.old).is_reliable result (O.state out.old) (O.state out.new) }
     ensures passed { (V.spent view.new).passed ≤ (V.spent view.old).passed }
     ensures asked { (V.spent view.new).asked ≤ (V.spent view.old).asked + size }
@@ -104,6 +106,7 @@ pub(crate) fn put_padded<V: DumpView, O: Out>(
     ensures cursor { OnOk result (V.cursor view.new ≡ V.cursor view.old) }
     ensures writes { (parts : List (List ℕ)) → (V.cursor view.old).parts ≡ Some parts → length (get_or parts which []) ≡ size_in part
         → Writes result (gathered (O.state out.old) gather.old) (padded (get_or parts which [])) (gathered (O.state out.new) gather.new) }
+    ensures some { OnOk result (PutsSome (gathered (O.state out.old) gather.old) (part_room part) (gathered (O.state out.new) gather.new)) }
     ensures cause { HasCause (V.shape view.old).is_reliable result (O.state out.old) (O.state out.new) }
     ensures passed { (V.spent view.new).passed ≤ (V.spent view.old).passed }
     ensures asked { (V.spent view.new).asked ≤ (V.spent view.old).asked + size_in part }

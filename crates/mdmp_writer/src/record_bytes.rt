@@ -1,8 +1,9 @@
 //! Records to an output.
-ghost use Rattle.std.specs.Prelude.{◌≤◌, Bool, Option};
+ghost use Rattle.std.specs.Prelude.{◌≤◌, Bool, OnOk, Option};
 ghost use Rattle.mdmp_wire.specs.AnyRecord.{any_bytes};
+ghost use Rattle.mdmp_dump.specs.Shape.{row_of, type_told};
 ghost use Rattle.mdmp_dump.specs.declared.view.ViewFault.{ViewFault};
-ghost use Rattle.mdmp_writer.specs.Gather.{gathered, Writes};
+ghost use Rattle.mdmp_writer.specs.Gather.{gathered, PutsSome, Writes};
 ghost use Rattle.mdmp_writer.specs.Cause.{HasCause, IsToldBy};
 
 use crate::fault::WriteFault;
@@ -18,6 +19,7 @@ pub(crate) fn put_record<R: Record, O: Out>(
 ) -> Result<(), WriteFault>
     requires { R.SIZE ≤ 168 }
     ensures writes { Writes result (gathered (O.state out.old) gather.old) (R.bytes_of value.now) (gathered (O.state out.new) gather.new) }
+    ensures some { OnOk result (PutsSome (gathered (O.state out.old) gather.old) R.SIZE (gathered (O.state out.new) gather.new)) }
     ensures cause { (reliable : Bool) → HasCause reliable result (O.state out.old) (O.state out.new) }
     ensures told { (last : Option ViewFault) → IsToldBy result last }
 {
@@ -34,6 +36,7 @@ pub(crate) fn put_any<O: Out>(
     row: &AnyRecord,
 ) -> Result<(), WriteFault>
     ensures writes { Writes result (gathered (O.state out.old) gather.old) (any_bytes row.now) (gathered (O.state out.new) gather.new) }
+    ensures some { OnOk result (PutsSome (gathered (O.state out.old) gather.old) (row_of (type_told row.now)) (gathered (O.state out.new) gather.new)) }
     ensures cause { (reliable : Bool) → HasCause reliable result (O.state out.old) (O.state out.new) }
     ensures told { (last : Option ViewFault) → IsToldBy result last }
 {

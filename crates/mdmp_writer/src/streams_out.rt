@@ -1,9 +1,9 @@
 //! All streams to an output, and their 64-bit memory behind them.
-ghost use Rattle.std.specs.Prelude.{◌≡◌, ◌<◌, ◌≤◌, ◌+◌, ◌^◌, Some};
+ghost use Rattle.std.specs.Prelude.{◌≡◌, ◌<◌, ◌≤◌, ◌+◌, ◌^◌, OnOk, Some};
 ghost use Rattle.mdmp_dump.specs.View.{DumpSeen};
 ghost use Rattle.mdmp_writer.specs.Block.{AllAreKnown};
-ghost use Rattle.mdmp_writer.specs.Gather.{gathered, Writes};
-ghost use Rattle.mdmp_writer.specs.Layout.{blocks_end, file_size, first_block};
+ghost use Rattle.mdmp_writer.specs.Gather.{gathered, PutsSome, Writes};
+ghost use Rattle.mdmp_writer.specs.Layout.{blocks_end, blocks_size, fars_size, file_size, first_block};
 ghost use Rattle.mdmp_writer.specs.Cause.{HasCause, IsToldBy};
 ghost use Rattle.mdmp_writer.specs.Passes.{all_block_asks, all_block_passes, all_far_asks, all_far_passes};
 ghost use Rattle.mdmp_writer.specs.Written.{blocks, fars};
@@ -31,6 +31,7 @@ pub(crate) fn put_blocks<V: DumpView, O: Out>(
     ensures shape { V.shape view.new ≡ V.shape view.old }
     ensures writes { (x : DumpSeen) → (V.shape view.old).seen ≡ Some x → AllAreKnown x
         → Writes result (gathered (O.state out.old) gather.old) (blocks x.streams first.at first.far) (gathered (O.state out.new) gather.new) }
+    ensures some { OnOk result (PutsSome (gathered (O.state out.old) gather.old) (blocks_size (V.shape view.old).streams) (gathered (O.state out.new) gather.new)) }
     ensures cause { HasCause (V.shape view.old).is_reliable result (O.state out.old) (O.state out.new) }
     ensures passed { (V.spent view.new).passed ≤ (V.spent view.old).passed + all_block_passes (V.shape view.old) }
     ensures asked { (V.spent view.new).asked ≤ (V.spent view.old).asked + all_block_asks (V.shape view.old) }
@@ -63,6 +64,7 @@ pub(crate) fn put_fars<V: DumpView, O: Out>(
     ensures shape { V.shape view.new ≡ V.shape view.old }
     ensures writes { (x : DumpSeen) → (V.shape view.old).seen ≡ Some x
         → Writes result (gathered (O.state out.old) gather.old) (fars x.streams) (gathered (O.state out.new) gather.new) }
+    ensures some { OnOk result (PutsSome (gathered (O.state out.old) gather.old) (fars_size (V.shape view.old).streams) (gathered (O.state out.new) gather.new)) }
     ensures cause { HasCause (V.shape view.old).is_reliable result (O.state out.old) (O.state out.new) }
     ensures passed { (V.spent view.new).passed ≤ (V.spent view.old).passed + all_far_passes (V.shape view.old) }
     ensures asked { (V.spent view.new).asked ≤ (V.spent view.old).asked + all_far_asks (V.shape view.old) }

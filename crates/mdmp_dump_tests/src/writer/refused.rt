@@ -4,7 +4,7 @@ ghost use Rattle.mdmp_source.specs.declared.fault.SourceFault.TheVariants.{Faile
 ghost use Rattle.mdmp_dump.specs.declared.view.ViewFault.TheVariants.{Source};
 ghost use Rattle.mdmp_dump.specs.declared.view.Kind.TheVariants as kinds;
 ghost use Rattle.std.proofs.lemmas.Option.{none-some};
-ghost use Rattle.mdmp_dump_tests.proofs.Sizes.{no_stray_parts};
+ghost use Rattle.mdmp_dump_tests.specs.Sizes.{no_stray_parts};
 
 use super::{open_out, size_of, write_value, write_view};
 use crate::dump::built::{bytes, dump_of, of_one, two};
@@ -27,6 +27,7 @@ impl DumpView for Sizes {
     type Memory = Global;
 
     ghost shape = { λ v. record {
+      header = record { version_high = 0; checksum = 0; time = 0; flags = 0 };
       streams = record { kind = kinds.Raw v.stream_type; records = 0; raw = v.raw; parts = 0; bytes = 0 }
           ∷ record { kind = kinds.Known 9; records = 1; raw = 0; parts = v.far; bytes = 0 } ∷ [];
       costs = [];

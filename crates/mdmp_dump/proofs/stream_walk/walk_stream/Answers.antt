@@ -1,6 +1,8 @@
-use Rattle.std.proofs.Common.{◌≡◌, ◌*◌, arith, subst}
+use Rattle.std.proofs.Common.{◌≡◌, ◌*◌, arith, subst, sym}
 use Rattle.mdmp_dump.specs.declared.stream_walk.Walked.{Walked}
 use Rattle.mdmp_dump.specs.EntryWalk.{Pays, entry_at, listed, name_cost}
+use Rattle.mdmp_dump.specs.FileView.{kind_at}
+use Rattle.mdmp_dump.specs.Shape.{GivesNone}
 use Rattle.mdmp_dump.proofs.WalkedOver.{unbegun_paid, walking_begins, walking_ends, walking_fetches, walking_goes, walking_paid, walking_refused, walking_unbegun}
 use Rattle.mdmp_dump.proofs.stream_walk.walk_stream.Goals as goal
 
@@ -45,4 +47,4 @@ returns-clause-of_file g c =
 pub returns-clause-bare : goal.returns-clause-bare
 returns-clause-bare g c =
     let all : c.loop-index.index ≡ c.in-Ok.count = omega (arith, c.loop-index-test.false, c.loop-index.auto.index-end) in
-    λ none. c.loop-index.invariant.bare (omega (arith, all, none))
+    λ none. c.loop-index.invariant.bare (subst (λ n. GivesNone (kind_at c.args.walk.now c.args.stream) n) (sym all) none)

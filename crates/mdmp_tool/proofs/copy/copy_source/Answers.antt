@@ -20,7 +20,7 @@ returns-in-Ok-clause-copies g c =
     let of = c.in-Ok.ensures in
     Copies-viewed g.row.A.Denot c.args.source.store.content c.args.source.size c.args.types c.args.limits.name (g.O.Out.state c.args.out.now)
     (ap first_not_copied (sym c.types.ensures) ∙ sym c.in_default.ensures) (file_shape g.row.A.Denot c.in-Ok.field-0.view.walk c.in-Ok.field-0.view.counts.items c.in-Ok.field-0.view.rooms.items) (g.O.Out.state c.write_copy.new.out)
-    (λ file known. (of.views file known).0) of.refuses of.short c.write_copy.result c.write_copy.ensures.ends
+    (λ file known. (of.views file known).0) of.refuses of.short c.write_copy.result c.write_copy.ensures.ends c.write_copy.ensures.out
     (may_change c.write_copy.result c.args.source c.write_copy.new.view.walk.source
     (cause_copied c.args.source c.in-Ok.field-0.view.walk c.write_copy.new.view.walk c.in-Ok.field-0.view.last c.write_copy.new.view.last c.write_copy.result of.new.fetches of.new.last c.write_copy.ensures.moves c.write_copy.ensures.told))
     (λ file known. c.write_copy.ensures.copies _ (of.views file known).1)

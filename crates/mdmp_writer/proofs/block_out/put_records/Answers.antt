@@ -1,10 +1,14 @@
-use Rattle.std.proofs.Common.{◌≡◌, ◌+◌, ◌∙◌, ◌++◌, ℕ, Some, ap, true}
-use Rattle.mdmp_dump.specs.Shape.{Shape, seen_at, stream_at}
+use Rattle.std.proofs.Common.{◌≡◌, ◌+◌, ◌*◌, ◌∙◌, ◌++◌, ℕ, Some, ap, length, refl, sym, true}
+use Rattle.mdmp_dump.specs.Places.{up}
+use Rattle.mdmp_dump.specs.Shape.{Shape, body_of, head_of, room_of, row_of, seen_at, stream_at}
 use Rattle.mdmp_dump.specs.View.{DumpSeen}
 use Rattle.mdmp_writer.specs.Gather.{gathered}
+use Rattle.mdmp_writer.specs.Layout.{block_size}
 use Rattle.mdmp_writer.specs.Written.{all_padded, block_text, head_text, padding, parts_of, rows}
 use Rattle.mdmp_writer.proofs.Blocks.{block_known, known_size}
 use Rattle.mdmp_writer.proofs.Causes.{cause_after}
+use Rattle.mdmp_writer.proofs.Counting.{ok_is, ok_then, some_is, some_of, some_then}
+use Rattle.mdmp_writer.proofs.Placing.{length-padding}
 use Rattle.mdmp_writer.proofs.Sending.{cut_before, cut_behind, cut_same, puts_puts, writes_same, writes_then}
 use Rattle.mdmp_writer.proofs.block_out.put_records.Given.{Over}
 use Rattle.mdmp_writer.proofs.block_out.put_records.Goals.{After-put_body}
@@ -49,3 +53,16 @@ pub returns-in-Err-clause-writes : goal.returns-in-Err-clause-writes
 returns-in-Err-clause-writes g c x known =
     cut_same _ _ _ _ (is_block g (goal.at.returns-in-Err-clause-writes g c).After-put_body x known)
     (cut_before _ _ _ _ (cut_before _ _ _ (padding c.args.body) (c.in-Err.ensures.writes x known)))
+
+pub returns-in-Ok-put_padding-clause-some : goal.returns-in-Ok-put_padding-clause-some
+returns-in-Ok-put_padding-clause-some g c =
+    let s = stream_at (g.V.DumpView.shape c.args.view.now) c.args.stream in
+    let t = c.args.stream_type in
+    let n = c.count_of-count.result in
+    let count : n ≡ s.records = c.count_of-count.ensures.count s.records (c.requires.body ∙ known_size s t c.requires.kind) in
+    let body : head_of t + n * row_of t ≡ c.args.body = ap (λ (m : ℕ). head_of t + m * row_of t) count ∙ sym (known_size s t c.requires.kind) ∙ sym c.requires.body in
+    let rest = length (padding c.args.body) in
+    let whole : c.args.body + rest ≡ up (body_of s) = length-padding c.args.body ∙ ap up c.requires.body in
+    let front = some_then _ _ _ c.args.body rest (some_is _ _ _ c.args.body body (c.in-Ok.ensures.some c.requires.kind)) (some_of _ _ (padding c.args.body) rest c.in-Ok-put_padding.ensures.writes refl) in
+    ok_then c.put_stream_parts.result _ _ _ (c.args.body + rest) (room_of s) (block_size s) (ap (λ (m : ℕ). m + room_of s) whole) front
+    (ok_is c.put_stream_parts.result _ _ _ _ (ap (λ (u : Shape). room_of (stream_at u c.args.stream)) c.put_body.ensures.shape) c.put_stream_parts.ensures.some)

@@ -4,6 +4,7 @@ use Rattle.mdmp_dump.specs.declared.view.Kind.{Kind}
 use Rattle.mdmp_dump.specs.declared.view.Kind.TheVariants.{Known}
 use Rattle.mdmp_dump.specs.Shape.{Shape, Spent, cost_at, is_far, room_of, stream_at}
 use Rattle.mdmp_writer.specs.Gather.{Puts, gathered}
+use Rattle.mdmp_writer.proofs.Counting.{ok_is, some_is, some_none}
 use Rattle.mdmp_writer.proofs.Passing.{near_asks, near_passes, near_room, no_second}
 use Rattle.mdmp_writer.proofs.Sending.{puts_nothing}
 use Rattle.mdmp_writer.proofs.block_out.put_stream_parts.Goals as goal
@@ -53,3 +54,20 @@ returns-clause-asked g c =
       ap (λ (t : Shape). (stream_at t k).bytes) c.parts_size-parts.ensures.shape,
       near_asks s k c.args.stream_type c.requires.kind (ne_eqb c.args.stream_type 9 c.if-stream_type-eq9.false),
     )
+
+pub returns-then-stream_type-eq9-clause-some : goal.returns-then-stream_type-eq9-clause-some
+returns-then-stream_type-eq9-clause-some g c =
+    let s = stream_at (g.V.DumpView.shape c.args.view.now) c.args.stream in
+    let is : s.kind ≡ Known 9 = c.requires.kind ∙ ap Known c.if-stream_type-eq9.true in
+    let none : room_of s ≡ 0 = ap (λ (o : Kind). if is_far o then 0 else s.parts) is in
+    some_is _ _ 0 (room_of s) (sym none) (some_none _)
+
+pub returns-then-parts-eq0-clause-some : goal.returns-then-parts-eq0-clause-some
+returns-then-parts-eq0-clause-some g c =
+    let s = stream_at (g.V.DumpView.shape c.args.view.now) c.args.stream in
+    let none : room_of s ≡ 0 = near_room s (omega (arith, c.parts_size-parts.ensures.size, c.if-parts-eq0.true)) in
+    some_is _ _ 0 (room_of s) (sym none) (some_none _)
+
+pub returns-clause-some : goal.returns-clause-some
+returns-clause-some g c =
+    ok_is c.put_second_pass.result _ _ _ _ (ap (λ (t : Shape). room_of (stream_at t c.args.stream)) c.parts_size-parts.ensures.shape) c.put_second_pass.ensures.some

@@ -1,8 +1,9 @@
-use Rattle.std.proofs.Common.{◌∙◌, sym, ap, true}
-use Rattle.mdmp_dump.specs.Shape.{Cursor, Shape, seen_at}
+use Rattle.std.proofs.Common.{◌∙◌, ◌*◌, refl, sym, ap, true}
+use Rattle.mdmp_dump.specs.Shape.{Cursor, Shape, head_of, row_of, seen_at}
 use Rattle.mdmp_writer.specs.Written.{head_text, rows}
 use Rattle.mdmp_writer.proofs.Blocks.{begun_seen, known_count}
 use Rattle.mdmp_writer.proofs.Causes.{cause_after}
+use Rattle.mdmp_writer.proofs.Counting.{ok_then}
 use Rattle.mdmp_writer.proofs.Sending.{writes_then}
 use Rattle.mdmp_writer.proofs.body_out.put_body.Goals as goal
 
@@ -20,3 +21,8 @@ returns-in-Ok-put_head-clause-cause g c =
     let state = g.O.Out.state in
     cause_after c.put_rows.result (state c.args.out.now) (state c.put_head.new.out) (state c.put_rows.new.out) _ _ (c.in-Ok-put_head.ensures.cause true)
     (ap (λ (s : Shape). s.is_reliable) c.rewind.ensures.shape) c.put_rows.ensures.cause
+
+pub returns-in-Ok-put_head-clause-some : goal.returns-in-Ok-put_head-clause-some
+returns-in-Ok-put_head-clause-some g c is =
+    let t = c.args.stream_type in
+    ok_then c.put_rows.result _ _ _ (head_of t) (c.args.count * row_of t) _ refl c.in-Ok-put_head.ensures.some (c.put_rows.ensures.some t (ap (λ (u : Cursor). u.kind) c.in-Ok.ensures.begins ∙ is))

@@ -2,9 +2,10 @@ use Rattle.std.proofs.Common.{◌≡◌, ◌+◌, ◌*◌, ◌++◌, ◌∙◌, 
 use Rattle.mdmp_wire.specs.Header.{header_bytes}
 use Rattle.mdmp_dump.specs.Shape.{Shape}
 use Rattle.mdmp_dump.specs.View.{DumpSeen}
-use Rattle.mdmp_writer.specs.Layout.{blocks_end, first_block}
+use Rattle.mdmp_writer.specs.Layout.{blocks_end, blocks_size, fars_size, first_block}
 use Rattle.mdmp_writer.specs.Written.{blocks, directory, fars, header_of, text_of}
 use Rattle.mdmp_writer.proofs.Causes.{cause_after}
+use Rattle.mdmp_writer.proofs.Counting.{dump_then, ok_is}
 use Rattle.mdmp_writer.proofs.Sending.{cut_before, cut_behind, cut_same, puts_puts, writes_same, writes_then}
 use Rattle.mdmp_writer.proofs.Streaming.{text_parts}
 use Rattle.mdmp_writer.proofs.dump_out.put_dump.Given.{Over}
@@ -55,3 +56,16 @@ pub returns-in-Err-clause-writes : goal.returns-in-Err-clause-writes
 returns-in-Err-clause-writes g c x known all =
     cut_same _ _ _ _ (is_text g (goal.at.returns-in-Err-clause-writes g c).After-put_header x known)
     (cut_before _ _ _ _ (cut_before _ _ (header_bytes (header_of c.header-header.result c.streams-streams.result)) _ c.in-Err.ensures.writes))
+
+pub returns-in-Ok-put_directory-clause-out : goal.returns-in-Ok-put_directory-clause-out
+returns-in-Ok-put_directory-clause-out g c =
+    let old = g.V.DumpView.shape c.args.view.now in
+    let s = g.V.DumpView.shape c.streams-streams.new.self in
+    let same : s ≡ old = c.streams-streams.ensures.shape ∙ c.header-header.ensures.shape in
+    let count : c.streams-streams.result ≡ length old.streams = c.streams-streams.ensures.count ∙ ap (λ (t : Shape). length t.streams) c.header-header.ensures.shape in
+    let first = 32 + 12 * c.streams-streams.result in
+    let at : first ≡ first_block old.streams = omega (arith, count) in
+    let entries = rw (ap (λ (t : Shape). t.streams) same, at) at c.in-Ok-put_directory.ensures.writes in
+    let head = rw (c.header-header.ensures.told, count) at c.in-Ok.ensures.writes in
+    let behind = ap (λ (t : Shape). blocks_size t.streams + fars_size t.streams) (c.put_directory.ensures.shape ∙ same) in
+    dump_then c.put_streams.result _ _ _ _ old head entries (ok_is c.put_streams.result _ _ _ _ behind c.put_streams.ensures.some)

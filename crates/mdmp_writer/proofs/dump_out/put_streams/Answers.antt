@@ -1,7 +1,9 @@
-use Rattle.std.proofs.Common.{◌∙◌, ap, arith}
+use Rattle.std.proofs.Common.{◌∙◌, ap, arith, refl}
 use Rattle.mdmp_dump.specs.Shape.{Shape}
+use Rattle.mdmp_writer.specs.Layout.{blocks_size, fars_size}
 use Rattle.mdmp_writer.specs.Passes.{all_far_asks, all_far_passes}
 use Rattle.mdmp_writer.specs.Written.{blocks, fars}
+use Rattle.mdmp_writer.proofs.Counting.{ok_is, ok_then}
 use Rattle.mdmp_writer.proofs.Passing.{asks_within, passes_within}
 use Rattle.mdmp_writer.proofs.Sending.{writes_then}
 use Rattle.mdmp_writer.proofs.dump_out.put_streams.Goals as goal
@@ -36,3 +38,9 @@ returns-in-Err-clause-passed g c = omega (arith, c.in-Err.ensures.passed, passes
 
 pub returns-in-Err-clause-asked : goal.returns-in-Err-clause-asked
 returns-in-Err-clause-asked g c = omega (arith, c.in-Err.ensures.asked, asks_within (g.V.DumpView.shape c.args.view.now))
+
+pub returns-in-Ok-clause-some : goal.returns-in-Ok-clause-some
+returns-in-Ok-clause-some g c =
+    let ss = (g.V.DumpView.shape c.args.view.now).streams in
+    ok_then c.put_fars.result _ _ _ (blocks_size ss) (fars_size ss) _ refl c.in-Ok.ensures.some
+    (ok_is c.put_fars.result _ _ _ _ (ap (λ (s : Shape). fars_size s.streams) c.put_blocks.ensures.shape) c.put_fars.ensures.some)

@@ -4,6 +4,7 @@ use Rattle.mdmp_dump.specs.Shape.{Shape}
 use Rattle.mdmp_writer.specs.Gather.{Puts, PutsPrefix, gathered}
 use Rattle.mdmp_writer.specs.Written.{written}
 use Rattle.mdmp_writer.proofs.Blocks.{dump_records_known}
+use Rattle.mdmp_writer.proofs.Counting.{dump_out}
 use Rattle.mdmp_writer.proofs.Runs.{all_of_dump, all_out, cut_of_dump, cut_out, fault_of_dump, size_of_shape, stopped}
 use Rattle.mdmp_writer.proofs.Sending.{puts_all, puts_flush}
 use Rattle.mdmp_writer.proofs.dump_out.write_dump.Goals as goal
@@ -38,3 +39,11 @@ returns-in-Err-put_dump-clause-writes g c d is =
     let cut = subst (λ h. PutsPrefix (gathered (g.O.Out.state c.args.out.now) h) (written d) (gathered (g.O.Out.state c.put_dump.new.out) c.put_dump.new.gather)) c.new-gather.ensures (c.in-Err-put_dump.ensures.writes (dump_seen d) here (dump_records_known d)) in
     cut_of_dump d _ c.in-Err-put_dump.fault (g.O.Out.state c.args.out.now) (g.O.Out.state c.args.out.now) (g.O.Out.state c.put_dump.new.out) (g.V.DumpView.shape c.layout.new.view).is_reliable (g.met.V.DumpView.sound c.args.view.now (dump_seen d) is) c.in-Ok.ensures.ends.0 c.in-Err-put_dump.ensures.cause
     (cut_out (g.O.Out.state c.args.out.now) (gathered (g.O.Out.state c.put_dump.new.out) c.put_dump.new.gather) (written d) cut)
+
+pub returns-in-Ok-flush-clause-out : goal.returns-in-Ok-flush-clause-out
+returns-in-Ok-flush-clause-out g c =
+    let state = g.O.Out.state in
+    let old = g.V.DumpView.shape c.args.view.now in
+    let put = rw (c.layout.ensures.shape, c.new-gather.ensures) at c.in-Ok-put_dump.ensures.out in
+    dump_out old c.in-Ok.ends.file (state c.args.out.now) (state c.put_dump.new.out) (state c.flush.new.out) c.put_dump.new.gather c.flush.new.self c.in-Ok.ensures.ends.1.file
+    put c.in-Ok-flush.ensures.puts c.in-Ok-flush.ensures.empties

@@ -1,20 +1,25 @@
 use Rattle.std.proofs.Common.{◌≡◌, ◌∙◌, Err, arith, refl, sym, ap}
 use Rattle.mdmp_dump.specs.declared.view.Fields.{Fields}
-use Rattle.mdmp_dump.specs.Placed.{size_at, size_in}
-use Rattle.mdmp_dump.specs.Shape.{Cursor, Shape}
+use Rattle.mdmp_dump.specs.Placed.{far_room, size_at, size_in}
+use Rattle.mdmp_dump.specs.Shape.{Cursor, Shape, type_told}
 use Rattle.mdmp_writer.specs.Written.{ranges_text}
 use Rattle.mdmp_writer.proofs.Causes.{cause_after}
+use Rattle.mdmp_writer.proofs.Counting.{come_begin, come_next, come_none, far_of_range, known_type, some_is}
 use Rattle.mdmp_writer.proofs.Loops.{next_of, rest_begin, ranges_cut, ranges_put, ranges_stop, ranges_done}
 use Rattle.mdmp_writer.proofs.far_out.put_ranges.Goals as goal
 
 pub loop-left-init : goal.loop-left-init
 loop-left-init g c = record {
   shape = refl;
-  count = sym c.requires;
+  count = sym c.requires.count;
   passed = omega arith;
   asked = omega arith;
   moves = g.met.V.DumpView.stays _;
   ranges = λ xs known len. rest_begin _ ranges_text xs _ _ known len;
+  kind = refl;
+  come = λ known low. come_begin _ _;
+  low = λ low. omega arith;
+  last = λ low none. c.requires.stray (omega (arith, none, c.requires.count));
   steady = refl;
 }
 
@@ -51,6 +56,14 @@ loop-left-preserved g c =
           let n = next_of old new c.in-Ok.fields c.loop-left.left _ (c.loop-left.invariant.ranges xs known len) gives in
           ranges_put _ _ _ _ new now c.in-Ok.fields _ c.loop-left.left n (omega arith) (ap (λ (k : Cursor). k.seen) stays)
           (c.in-Ok-put_part.ensures.writes n.first.parts n.parts (n.sized 0 ∙ ap (λ (h : Fields). size_in (size_at h 0)) n.same ∙ sym c.size.ensures));
+      kind = rw stays (gives.stays ∙ c.loop-left.invariant.kind);
+      come = λ known low.
+          let far = gives.far (omega (arith, c.loop-left.invariant.low low, low)) in
+          let wire : type_told c.in-Ok.fields.wire ≡ 9 = known_type _ 9 _ gives.kind (c.loop-left.invariant.kind ∙ known) in
+          let size : c.size.result ≡ far_room c.in-Ok.fields = c.size.ensures ∙ far_of_range c.in-Ok.fields.wire c.in-Ok.fields wire in
+          rw stays (come_next _ _ _ _ old.far (far_room c.in-Ok.fields) new.far far.left (c.loop-left.invariant.come known low) (some_is _ _ c.size.result _ size c.in-Ok-put_part.ensures.some));
+      low = λ low. rw stays (omega (arith, (gives.far (omega (arith, c.loop-left.invariant.low low, low))).left, c.loop-left.invariant.low low));
+      last = λ low none. rw stays ((gives.far (omega (arith, c.loop-left.invariant.low low, low))).last (omega (arith, none, gives.records, c.loop-left.invariant.count)));
       steady = c.in-Ok-put_part.ensures.cause ∙ c.loop-left.invariant.steady;
     }
 
@@ -67,3 +80,8 @@ returns-in-Err-put_part-clause-moves g c =
 pub returns-in-Err-put_part-clause-asked : goal.returns-in-Err-put_part-clause-asked
 returns-in-Err-put_part-clause-asked g c =
     omega (arith, c.loop-left.invariant.asked, c.in-Ok.ensures.asked, c.in-Err-put_part.ensures.asked, c.in-Ok.ensures.gives.bytes, c.size.ensures)
+
+pub returns-clause-some : goal.returns-clause-some
+returns-clause-some g c known low =
+    let at = c.loop-left.invariant in
+    come_none _ _ (g.V.DumpView.cursor c.args.view.now).far (g.V.DumpView.cursor c.loop-left.view).far (at.last low (omega arith)) (at.come known low)

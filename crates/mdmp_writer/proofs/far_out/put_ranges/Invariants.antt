@@ -1,7 +1,9 @@
-use Rattle.std.proofs.Common.{◌≡◌, ◌≤◌, ◌+◌, List, Some, length}
+use Rattle.std.proofs.Common.{◌≡◌, ◌≤◌, ◌<◌, ◌+◌, ◌-◌, ◌^◌, List, Some, length}
+use Rattle.mdmp_dump.specs.declared.view.Kind.TheVariants.{Known}
 use Rattle.mdmp_dump.specs.Seen.{Seen}
 use Rattle.mdmp_writer.specs.Gather.{gathered}
 use Rattle.mdmp_writer.specs.Written.{ranges_text}
+use Rattle.mdmp_writer.proofs.Counting.{IsToCome}
 use Rattle.mdmp_writer.proofs.Loops.{RestIs, RangesLeft}
 use Rattle.mdmp_writer.proofs.far_out.put_ranges.Given as goal
 
@@ -16,6 +18,11 @@ invariant-loop-left g l =
       moves : g.V.DumpView.Moves l.fn.view l.view;
       ranges : (xs : List Seen) → (g.V.DumpView.cursor l.fn.view).seen ≡ Some xs → length xs ≡ l.count
           → RestIs (g.V.DumpView.cursor l.view).seen l.left (RangesLeft (gathered (state l.fn.out) l.fn.gather) (ranges_text xs) (gathered (state l.out) l.gather));
+      kind : (g.V.DumpView.cursor l.view).kind ≡ (g.V.DumpView.cursor l.fn.view).kind;
+      come : (g.V.DumpView.cursor l.fn.view).kind ≡ Known 9 → (g.V.DumpView.cursor l.fn.view).far < 2 ^ 64 - 1
+          → IsToCome (gathered (state l.fn.out) l.fn.gather) (g.V.DumpView.cursor l.fn.view).far (g.V.DumpView.cursor l.view).far (gathered (state l.out) l.gather);
+      low : (g.V.DumpView.cursor l.fn.view).far < 2 ^ 64 - 1 → (g.V.DumpView.cursor l.view).far ≤ (g.V.DumpView.cursor l.fn.view).far;
+      last : (g.V.DumpView.cursor l.fn.view).far < 2 ^ 64 - 1 → l.left ≡ 0 → (g.V.DumpView.cursor l.view).far ≡ 0;
       steady : (state l.out).failures ≡ (state l.fn.out).failures;
     }
 

@@ -1,10 +1,11 @@
-use Rattle.std.proofs.Common.{◌∙◌, List, ℕ, refl, sym, ap, subst}
+use Rattle.std.proofs.Common.{◌∙◌, ◌+◌, List, ℕ, arith, refl, sym, ap, subst}
 use Rattle.mdmp_dump.specs.declared.view.Fields.{Fields}
-use Rattle.mdmp_dump.specs.Placed.{size_at, size_in}
+use Rattle.mdmp_dump.specs.Placed.{name_room, part_room, size_at, size_in}
 use Rattle.mdmp_dump.specs.Shape.{Cursor}
 use Rattle.mdmp_writer.specs.Gather.{Puts, gathered}
 use Rattle.mdmp_writer.proofs.Padded.{exception_text, memory_text, module_text, name_text, no_text, system_text, unloaded_text}
 use Rattle.mdmp_writer.proofs.Sending.{cut_before, cut_same, puts_nothing, writes_same, writes_then}
+use Rattle.mdmp_writer.proofs.Counting.{ok_then, some_none}
 use Rattle.mdmp_writer.proofs.parts_out.put_fields_parts.Goals as goal
 
 pub returns-in-Memory-clause-writes : goal.returns-in-Memory-clause-writes
@@ -53,3 +54,30 @@ pub returns-in-MemoryInfo-clause-writes : goal.returns-in-MemoryInfo-clause-writ
 returns-in-MemoryInfo-clause-writes g c x known sized same =
     subst (λ (t : List ℕ). Puts (gathered (g.O.Out.state c.args.out.now) c.args.gather.now) t (gathered (g.O.Out.state c.args.out.now) c.args.gather.now))
     (sym (no_text x c.args.fields.now _ same c.in-MemoryInfo.is refl)) (puts_nothing _)
+
+pub returns-in-Thread-clause-some : goal.returns-in-Thread-clause-some
+returns-in-Thread-clause-some g c = rw c.in-Thread.is c.put_two.ensures.some
+
+pub returns-in-Memory-clause-some : goal.returns-in-Memory-clause-some
+returns-in-Memory-clause-some g c = rw c.in-Memory.is c.put_padded.ensures.some
+
+pub returns-in-Exception-clause-some : goal.returns-in-Exception-clause-some
+returns-in-Exception-clause-some g c = rw c.in-Exception.is c.put_padded-in-Exception.ensures.some
+
+pub returns-in-System-clause-some : goal.returns-in-System-clause-some
+returns-in-System-clause-some g c = rw c.in-System.is c.put_name-in-System.ensures.some
+
+pub returns-in-Unloaded-clause-some : goal.returns-in-Unloaded-clause-some
+returns-in-Unloaded-clause-some g c = rw c.in-Unloaded.is c.put_name-in-Unloaded.ensures.some
+
+pub returns-in-Ok-clause-some : goal.returns-in-Ok-clause-some
+returns-in-Ok-clause-some g c =
+    let f = c.args.fields.now in
+    let rest = part_room (size_at f 1) + part_room (size_at f 2) in
+    rw c.in-Module.is (ok_then c.put_two-in-Ok.result _ _ _ (name_room (size_at f 0)) rest _ (omega arith) c.in-Ok.ensures.some c.put_two-in-Ok.ensures.some)
+
+pub returns-in-Memory64-clause-some : goal.returns-in-Memory64-clause-some
+returns-in-Memory64-clause-some g c = rw c.in-Memory64.is (some_none _)
+
+pub returns-in-MemoryInfo-clause-some : goal.returns-in-MemoryInfo-clause-some
+returns-in-MemoryInfo-clause-some g c = rw c.in-MemoryInfo.is (some_none _)

@@ -1,10 +1,13 @@
-use Rattle.std.proofs.Common.{◌≡◌, ◌+◌, ◌++◌, [], get_or, length, refl, sym, true}
+use Rattle.std.proofs.Common.{◌≡◌, ◌+◌, ◌-◌, ◌++◌, [], arith, get_or, length, refl, sym, true}
+use Rattle.mdmp_wire.specs.NumberLaws.{length-le}
+use Rattle.mdmp_dump.specs.Places.{up}
 use Rattle.mdmp_wire.specs.Number.{le, zeros}
 use Rattle.mdmp_writer.specs.Gather.{gathered}
 use Rattle.mdmp_writer.specs.Written.{padding}
 use Rattle.mdmp_writer.proofs.Causes.{cause_after}
 use Rattle.mdmp_writer.proofs.Padded.{around_units}
 use Rattle.mdmp_writer.proofs.Sending.{cut_before, cut_same, writes_same, writes_then}
+use Rattle.mdmp_writer.proofs.Counting.{ok_then, some_of}
 use Rattle.mdmp_writer.proofs.parts_out.put_name.Goals as goal
 
 pub returns-in-Ok-clause-writes : goal.returns-in-Ok-clause-writes
@@ -28,3 +31,8 @@ returns-in-Err-clause-writes g c ps known len =
     let n = c.in-Size.size in
     let size : length b ≡ n = rw c.in-Size.is at len in
     rw c.in-Size.is (cut_same _ _ _ _ (sym (around_units n b size)) (cut_before _ _ (le 4 n) (b ++ zeros 2 ++ padding (4 + n + 2)) c.in-Err.ensures.writes))
+
+pub returns-in-Ok-clause-some : goal.returns-in-Ok-clause-some
+returns-in-Ok-clause-some g c =
+    let n = c.in-Size.size in
+    rw c.in-Size.is (ok_then c.put_units.result _ _ _ 4 (up (4 + n + 2) - 4) (up (4 + n + 2)) (omega arith) (some_of _ _ (le 4 n) 4 c.in-Ok.ensures.writes (length-le 4 n)) c.put_units.ensures.some)

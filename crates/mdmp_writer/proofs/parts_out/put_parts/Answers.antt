@@ -1,8 +1,10 @@
 use Rattle.std.proofs.Common.{◌≡◌, ◌<◌, ◌-◌, ◌^◌, ◌∙◌, List, Err, arith, refl, sym, ap}
+use Rattle.mdmp_dump.specs.Placed.{fields_room}
 use Rattle.mdmp_dump.specs.Seen.{Seen}
 use Rattle.mdmp_dump.specs.Shape.{Cursor, Shape}
 use Rattle.mdmp_writer.specs.Written.{all_padded, parts_of}
 use Rattle.mdmp_writer.proofs.Causes.{cause_after}
+use Rattle.mdmp_writer.proofs.Counting.{come_begin, come_next, come_none}
 use Rattle.mdmp_writer.proofs.Loops.{next_of, rest_begin, parts_cut, parts_put, parts_stop, parts_done}
 use Rattle.mdmp_writer.proofs.parts_out.put_parts.Goals as goal
 
@@ -15,6 +17,8 @@ loop-left-init g c = record {
   asked = omega arith;
   moves = g.met.V.DumpView.stays _;
   parts = λ xs known len. rest_begin _ (λ (ys : List Seen). all_padded (parts_of ys)) xs _ _ known len;
+  come = come_begin _ _;
+  last = λ none. c.requires.stray (omega (arith, none, c.requires.count));
   steady = refl;
 }
 
@@ -53,6 +57,8 @@ loop-left-preserved g c =
           let n = next_of old new c.in-Ok.fields c.loop-left.left _ (c.loop-left.invariant.parts xs known len) gives in
           parts_put _ _ _ _ new now c.in-Ok.fields _ c.loop-left.left n (omega arith) (ap (λ (k : Cursor). k.seen) stays)
           (c.in-Ok-put_fields_parts.ensures.writes n.first n.parts n.sized n.same);
+      come = rw stays (come_next _ _ _ _ old.room (fields_room c.in-Ok.fields) new.room (gives.room low).left c.loop-left.invariant.come c.in-Ok-put_fields_parts.ensures.some);
+      last = λ none. rw stays ((gives.room low).last (omega (arith, none, gives.records, c.loop-left.invariant.count)));
       steady = c.in-Ok-put_fields_parts.ensures.cause ∙ c.loop-left.invariant.steady;
     }
 
@@ -75,3 +81,8 @@ returns-in-Err-put_fields_parts-clause-moves g c =
 pub returns-in-Err-put_fields_parts-clause-asked : goal.returns-in-Err-put_fields_parts-clause-asked
 returns-in-Err-put_fields_parts-clause-asked g c =
     omega (arith, c.loop-left.invariant.asked, c.in-Ok.ensures.asked, c.in-Err-put_fields_parts.ensures.asked, c.in-Ok.ensures.gives.bytes)
+
+pub returns-clause-some : goal.returns-clause-some
+returns-clause-some g c =
+    let at = c.loop-left.invariant in
+    come_none _ _ (g.V.DumpView.cursor c.args.view.now).room (g.V.DumpView.cursor c.loop-left.view).room (at.last (omega arith)) at.come

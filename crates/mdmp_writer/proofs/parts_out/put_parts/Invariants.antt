@@ -2,6 +2,7 @@ use Rattle.std.proofs.Common.{◌≡◌, ◌≤◌, ◌+◌, List, Some, length}
 use Rattle.mdmp_dump.specs.Seen.{Seen}
 use Rattle.mdmp_writer.specs.Gather.{gathered}
 use Rattle.mdmp_writer.specs.Written.{all_padded, parts_of}
+use Rattle.mdmp_writer.proofs.Counting.{IsToCome}
 use Rattle.mdmp_writer.proofs.Loops.{RestIs, PartsLeft}
 use Rattle.mdmp_writer.proofs.parts_out.put_parts.Given as goal
 
@@ -17,6 +18,8 @@ invariant-loop-left g l =
       moves : g.V.DumpView.Moves l.fn.view l.view;
       parts : (xs : List Seen) → (g.V.DumpView.cursor l.fn.view).seen ≡ Some xs → length xs ≡ l.count
           → RestIs (g.V.DumpView.cursor l.view).seen l.left (PartsLeft (gathered (state l.fn.out) l.fn.gather) (all_padded (parts_of xs)) (gathered (state l.out) l.gather));
+      come : IsToCome (gathered (state l.fn.out) l.fn.gather) (g.V.DumpView.cursor l.fn.view).room (g.V.DumpView.cursor l.view).room (gathered (state l.out) l.gather);
+      last : l.left ≡ 0 → (g.V.DumpView.cursor l.view).room ≡ 0;
       steady : (state l.out).failures ≡ (state l.fn.out).failures;
     }
 

@@ -1,9 +1,11 @@
-use Rattle.std.proofs.Common.{◌+◌, ◌∙◌, List, ℕ, [], get_or, sym, ap, subst}
+use Rattle.std.proofs.Common.{◌+◌, ◌∙◌, List, ℕ, [], get_or, refl, sym, ap, subst}
+use Rattle.mdmp_dump.specs.Placed.{part_room}
 use Rattle.mdmp_dump.specs.Shape.{Cursor}
 use Rattle.mdmp_writer.specs.Gather.{PutsPrefix, Writes, gathered}
 use Rattle.mdmp_writer.specs.Written.{padded}
 use Rattle.mdmp_writer.proofs.Padded.{two_padded}
 use Rattle.mdmp_writer.proofs.Sending.{writes_then, cut_before}
+use Rattle.mdmp_writer.proofs.Counting.{ok_then}
 use Rattle.mdmp_writer.proofs.parts_out.put_two.Goals as goal
 
 pub returns-in-Ok-clause-writes : goal.returns-in-Ok-clause-writes
@@ -22,3 +24,7 @@ returns-in-Err-clause-writes g c ps known one two =
     let b = get_or ps (c.args.which + 1) [] in
     subst (λ (t : List ℕ). PutsPrefix (gathered (state c.args.out.now) c.args.gather.now) t (gathered (state c.put_padded.new.out) c.put_padded.new.gather)) (sym (two_padded a b))
     (cut_before _ _ (padded a) (padded b) (c.in-Err.ensures.writes ps known one))
+
+pub returns-in-Ok-clause-some : goal.returns-in-Ok-clause-some
+returns-in-Ok-clause-some g c =
+    ok_then c.put_padded-in-Ok.result _ _ _ (part_room c.args.first) (part_room c.args.second) _ refl c.in-Ok.ensures.some c.put_padded-in-Ok.ensures.some

@@ -1,8 +1,12 @@
-use Rattle.std.proofs.Common.{◌+◌, ◌++◌, ◌∙◌, [], get_or, refl, true}
+use Rattle.std.proofs.Common.{◌+◌, ◌-◌, ◌++◌, ◌∙◌, [], arith, get_or, length, refl, true}
+use Rattle.mdmp_dump.specs.Places.{up}
 use Rattle.mdmp_wire.specs.Number.{zeros}
+use Rattle.mdmp_wire.specs.NumberLaws.{length-le}
 use Rattle.mdmp_writer.specs.Written.{padding}
 use Rattle.mdmp_writer.proofs.Causes.{cause_after}
 use Rattle.mdmp_writer.proofs.Sending.{cut_before, cut_behind, puts_puts, writes_then}
+use Rattle.mdmp_writer.proofs.Counting.{ok_of, ok_then, some_of, some_then}
+use Rattle.mdmp_writer.proofs.Placing.{length-padding}
 use Rattle.mdmp_writer.proofs.parts_out.put_units.Goals as goal
 
 pub returns-in-Ok-put_record-clause-writes : goal.returns-in-Ok-put_record-clause-writes
@@ -21,3 +25,11 @@ pub returns-in-Err-put_record-clause-writes : goal.returns-in-Err-put_record-cla
 returns-in-Err-put_record-clause-writes g c ps known len =
     let b = get_or ps 0 [] in
     cut_before _ _ (b ++ zeros 2) (padding (4 + c.args.size + 2)) (cut_behind _ _ _ b (zeros 2) (c.in-Ok.ensures.writes ps known len) c.in-Err-put_record.ensures.writes)
+
+pub returns-in-Ok-put_record-clause-some : goal.returns-in-Ok-put_record-clause-some
+returns-in-Ok-put_record-clause-some g c =
+    let n = c.args.size in
+    let rest = length (padding (4 + n + 2)) in
+    ok_then c.put_padding.result _ _ _ (n + 2) rest (up (4 + n + 2) - 4) (omega (arith, length-padding (4 + n + 2)))
+    (some_then _ _ _ n 2 c.in-Ok.ensures.some (some_of _ _ (zeros 2) 2 c.in-Ok-put_record.ensures.writes (length-le 2 0)))
+    (ok_of c.put_padding.result _ _ (padding (4 + n + 2)) rest refl c.put_padding.ensures.writes)

@@ -1,4 +1,9 @@
-use Rattle.std.proofs.Common.{◌≡◌, ◌∙◌, [], length, get_or, sym}
+use Rattle.std.proofs.Common.{◌≡◌, ◌∙◌, ◌+◌, [], ap, length, get_or, refl, sym}
+use Rattle.mdmp_dump.specs.Placed.{part_room}
+use Rattle.mdmp_dump.specs.Places.{up}
+use Rattle.mdmp_writer.specs.Written.{padding}
+use Rattle.mdmp_writer.proofs.Counting.{ok_of, ok_then, room_up}
+use Rattle.mdmp_writer.proofs.Placing.{length-padding}
 use Rattle.mdmp_writer.proofs.Sending.{writes_then}
 use Rattle.mdmp_writer.proofs.pieces.put_padded.Goals as goal
 
@@ -7,3 +12,9 @@ returns-in-Ok-clause-writes g c ps known len =
     let b = get_or ps c.args.which [] in
     let size : c.size-size.result ≡ length b = c.size-size.ensures ∙ sym len in
     writes_then c.put_padding.result _ _ _ b _ (c.in-Ok.ensures.writes ps known (sym size)) (rw size at c.put_padding.ensures.writes)
+
+pub returns-in-Ok-clause-some : goal.returns-in-Ok-clause-some
+returns-in-Ok-clause-some g c =
+    let n = c.size-size.result in
+    let same : n + length (padding n) ≡ part_room c.args.part = length-padding n ∙ ap up c.size-size.ensures ∙ room_up c.args.part in
+    ok_then c.put_padding.result _ _ _ n (length (padding n)) (part_room c.args.part) same c.in-Ok.ensures.some (ok_of c.put_padding.result _ _ (padding n) _ refl c.put_padding.ensures.writes)

@@ -1,6 +1,7 @@
 use Rattle.std.proofs.Common.{◌∙◌, [], get_or, arith, ap}
 use Rattle.mdmp_dump.specs.Shape.{Cursor}
 use Rattle.mdmp_writer.proofs.Sending.{cut_none, cut_at, puts_piece}
+use Rattle.mdmp_writer.proofs.Counting.{some_is, some_then}
 use Rattle.mdmp_writer.proofs.pieces.put_part.Goals as goal
 
 pub returns-in-Err-clause-writes : goal.returns-in-Err-clause-writes
@@ -19,6 +20,7 @@ loop-at-preserved g c =
       moves = g.met.V.DumpView.follows _ _ _ so_far.moves more.moves;
       puts = λ ps known. puts_piece _ _ _ (get_or ps c.args.which []) c.loop-at.at c.in-Ok-fetch_more.count (so_far.puts ps known)
           (more.puts ps (ap (λ (k : Cursor). k.parts) so_far.cursor ∙ known));
+      some = some_then _ _ _ c.loop-at.at c.in-Ok-fetch_more.count so_far.some more.some;
       steady = more.cause ∙ so_far.steady;
     }
 
@@ -28,3 +30,6 @@ returns-in-Err-fetch_more-clause-writes g c ps known len =
 
 pub returns-in-Err-fetch_more-clause-moves : goal.returns-in-Err-fetch_more-clause-moves
 returns-in-Err-fetch_more-clause-moves g c = g.met.V.DumpView.follows _ _ _ c.loop-at.invariant.moves c.in-Err-fetch_more.ensures.moves
+
+pub returns-clause-some : goal.returns-clause-some
+returns-clause-some g c = some_is _ _ c.loop-at.at c.args.size (omega (arith, c.loop-at.invariant.within, c.loop-at-test.false)) c.loop-at.invariant.some

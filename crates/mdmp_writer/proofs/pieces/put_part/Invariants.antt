@@ -1,5 +1,5 @@
 use Rattle.std.proofs.Common.{◌≡◌, ◌≤◌, ◌+◌, ◌-◌, ℕ, List, [], Some, take, get_or}
-use Rattle.mdmp_writer.specs.Gather.{gathered, Puts}
+use Rattle.mdmp_writer.specs.Gather.{gathered, Puts, PutsSome}
 use Rattle.mdmp_writer.proofs.pieces.put_part.Given as goal
 
 abbrev pub invariant-loop-at : goal.invariant-loop-at
@@ -14,6 +14,7 @@ invariant-loop-at g l =
       moves : g.V.DumpView.Moves l.fn.view l.view;
       puts : (parts : List (List ℕ)) → (g.V.DumpView.cursor l.fn.view).parts ≡ Some parts
           → Puts (gathered (state l.fn.out) l.fn.gather) (take l.at (get_or parts l.which [])) (gathered (state l.out) l.gather);
+      some : PutsSome (gathered (state l.fn.out) l.fn.gather) l.at (gathered (state l.out) l.gather);
       steady : (state l.out).failures ≡ (state l.fn.out).failures;
     }
 

@@ -1,6 +1,8 @@
-use Rattle.std.proofs.Common.{◌<◌, ◌+◌, ◌-◌, ◌^◌, ◌∙◌, ℕ, arith, refl, sym, ap, true, Err}
+use Rattle.std.proofs.Common.{◌≡◌, ◌<◌, ◌*◌, ◌+◌, ◌-◌, ◌^◌, ◌∙◌, ℕ, arith, refl, sym, ap, true, Err}
 use Rattle.mdmp_writer.specs.Written.{rows}
 use Rattle.mdmp_writer.proofs.Causes.{cause_after}
+use Rattle.mdmp_dump.specs.Shape.{row_of, type_told}
+use Rattle.mdmp_writer.proofs.Counting.{come_begin, come_next, come_none, known_type, no_rows, placed_type, row_split, some_is}
 use Rattle.mdmp_writer.proofs.Loops.{next_of, rest_begin, row_cut, row_put, rows_stop, rows_done}
 use Rattle.mdmp_writer.proofs.rows_out.put_rows.Goals as goal
 
@@ -13,6 +15,8 @@ loop-left-init g c = record {
   asked = omega arith;
   moves = g.met.V.DumpView.stays _;
   rows = λ xs known len. rest_begin _ (rows c.args.at) xs _ _ known len;
+  kind = refl;
+  come = λ t known. come_begin _ _;
   steady = refl;
 }
 
@@ -46,6 +50,12 @@ loop-left-preserved g c =
       rows = λ xs known len. row_put _ _ _ _ new c.in-Ok.fields c.loop-left.place _ _ c.loop-left.left
           (next_of old new c.in-Ok.fields c.loop-left.left _ (c.loop-left.invariant.rows xs known len) gives) (omega arith)
           (ap (λ (n : ℕ). c.loop-left.place + n) c.room.ensures.value) (rw c.placed.ensures at c.in-Ok-put_any.ensures.writes);
+      kind = gives.stays ∙ c.loop-left.invariant.kind;
+      come = λ t known.
+          let n = c.loop-left.left in
+          let of : t ≡ type_told c.in-Ok.fields.wire = known_type t _ _ (c.loop-left.invariant.kind ∙ known) gives.kind in
+          let size = ap row_of (ap type_told c.placed.ensures ∙ placed_type c.in-Ok.fields c.loop-left.place ∙ sym of) in
+          come_next _ _ _ (c.args.count * row_of t) (n * row_of t) (row_of t) _ (row_split n (n - 1) (row_of t) (omega arith)) (c.loop-left.invariant.come t known) (some_is _ _ _ (row_of t) size c.in-Ok-put_any.ensures.some);
       steady = c.in-Ok-put_any.ensures.cause true ∙ c.loop-left.invariant.steady;
     }
 
@@ -63,3 +73,8 @@ returns-in-Err-clause-moves g c = g.met.V.DumpView.follows _ _ _ c.loop-left.inv
 
 pub returns-in-Err-put_any-clause-moves : goal.returns-in-Err-put_any-clause-moves
 returns-in-Err-put_any-clause-moves g c = g.met.V.DumpView.follows _ _ _ c.loop-left.invariant.moves c.in-Ok.ensures.moves
+
+pub returns-clause-some : goal.returns-clause-some
+returns-clause-some g c t known =
+    let none : c.loop-left.left ≡ 0 = omega arith in
+    come_none _ _ (c.args.count * row_of t) (c.loop-left.left * row_of t) (no_rows c.loop-left.left (row_of t) none) (c.loop-left.invariant.come t known)

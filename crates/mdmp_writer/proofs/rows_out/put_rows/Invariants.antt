@@ -1,7 +1,10 @@
-use Rattle.std.proofs.Common.{◌≡◌, ◌≤◌, ◌+◌, List, Some, length}
+use Rattle.std.proofs.Common.{◌≡◌, ◌≤◌, ◌+◌, ◌*◌, ℕ, List, Some, length}
+use Rattle.mdmp_dump.specs.declared.view.Kind.TheVariants.{Known}
 use Rattle.mdmp_dump.specs.Seen.{Seen}
+use Rattle.mdmp_dump.specs.Shape.{row_of}
 use Rattle.mdmp_writer.specs.Gather.{gathered}
 use Rattle.mdmp_writer.specs.Written.{rows}
+use Rattle.mdmp_writer.proofs.Counting.{IsToCome}
 use Rattle.mdmp_writer.proofs.Loops.{RestIs, RowsLeft}
 use Rattle.mdmp_writer.proofs.rows_out.put_rows.Given as goal
 
@@ -17,6 +20,8 @@ invariant-loop-left g l =
       room : l.place + (g.V.DumpView.cursor l.view).room ≡ l.at + (g.V.DumpView.cursor l.fn.view).room;
       rows : (xs : List Seen) → (g.V.DumpView.cursor l.fn.view).seen ≡ Some xs → length xs ≡ l.count
           → RestIs (g.V.DumpView.cursor l.view).seen l.left (RowsLeft (gathered (state l.fn.out) l.fn.gather) (rows l.at xs) (gathered (state l.out) l.gather) l.place);
+      kind : (g.V.DumpView.cursor l.view).kind ≡ (g.V.DumpView.cursor l.fn.view).kind;
+      come : (t : ℕ) → (g.V.DumpView.cursor l.fn.view).kind ≡ Known t → IsToCome (gathered (state l.fn.out) l.fn.gather) (l.count * row_of t) (l.left * row_of t) (gathered (state l.out) l.gather);
       steady : (state l.out).failures ≡ (state l.fn.out).failures;
     }
 

@@ -1,11 +1,12 @@
 use Rattle.std.proofs.Common.{◌≡◌, ◌<◌, ◌≤◌, ◌+◌, ◌^◌, ◌∙◌, ℕ, ap, arith, refl, sym, subst, length}
 use Rattle.mdmp_dump.specs.Shape.{Shape, Spent, stream_at}
-use Rattle.mdmp_writer.specs.Layout.{block_size, far_size}
+use Rattle.mdmp_writer.specs.Layout.{block_size, blocks_size, far_size}
 use Rattle.mdmp_writer.specs.Passes.{block_asks, block_passes}
+use Rattle.mdmp_writer.proofs.Counting.{come_begin, come_next, come_none, some_is}
 use Rattle.mdmp_writer.proofs.Passing.{sum_more, sum_next, sum_none, sum_with}
 use Rattle.mdmp_writer.proofs.Sending.{left_begin, left_none}
 use Rattle.mdmp_writer.proofs.Streaming.{blocks_none, block_cut, block_put}
-use Rattle.mdmp_writer.proofs.Sums.{blocks_next, fars_next, ends_below, far_within}
+use Rattle.mdmp_writer.proofs.Sums.{blocks_next, blocks_none as none_left, ends_below, far_within, fars_next}
 use Rattle.mdmp_writer.proofs.streams_out.put_blocks.Goals as goal
 
 pub loop-stream-init : goal.loop-stream-init
@@ -17,6 +18,7 @@ loop-stream-init g c = record {
   steady = refl;
   at = omega (arith, c.requires.at);
   far = omega (arith, c.requires.far);
+  come = come_begin _ _;
   left = λ x known all. left_begin _ _;
 }
 
@@ -63,6 +65,8 @@ loop-stream-preserved g c =
       steady = c.in-Ok.ensures.cause ∙ c.loop-stream.invariant.steady;
       at = omega (arith, block, blocks_next s k fewer, c.loop-stream.invariant.at);
       far = omega (arith, far, fars_next s k fewer, c.loop-stream.invariant.far);
+      come = come_next _ _ _ _ _ (block_size (stream_at s k)) _ (blocks_next s k fewer) c.loop-stream.invariant.come
+          (some_is _ _ _ _ (ap (λ (t : Shape). block_size (stream_at t k)) (c.room_for-room.ensures.shape ∙ c.loop-stream.invariant.shape)) c.in-Ok.ensures.some);
       left = λ x known all. block_put s x k c.loop-stream.at c.loop-stream.far _ _ _ _ _ _ (g.met.V.DumpView.sound c.args.view.now x known) fewer (ap (λ (n : ℕ). c.loop-stream.at + n) block) (ap (λ (n : ℕ). c.loop-stream.far + n) far)
           (c.loop-stream.invariant.left x known all) (c.in-Ok.ensures.writes x (ap (λ (t : Shape). t.seen) (c.room_for-room.ensures.shape ∙ c.loop-stream.invariant.shape) ∙ known) (all k));
     }
@@ -115,3 +119,9 @@ pub returns-clause-asked : goal.returns-clause-asked
 returns-clause-asked g c =
     let s = g.V.DumpView.shape c.args.view.now in
     omega (arith, c.loop-stream.invariant.asked, sum_more (block_asks s) c.loop-stream.stream (length s.streams) (omega (arith, c.streams-stream-end.ensures.count)))
+
+pub returns-clause-some : goal.returns-clause-some
+returns-clause-some g c =
+    let s = g.V.DumpView.shape c.args.view.now in
+    let past : length s.streams ≤ c.loop-stream.stream = omega (arith, c.loop-stream-test.false, c.streams-stream-end.ensures.count) in
+    come_none _ _ (blocks_size s.streams) _ (none_left s c.loop-stream.stream past) c.loop-stream.invariant.come

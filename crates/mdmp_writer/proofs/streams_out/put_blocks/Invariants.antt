@@ -5,6 +5,7 @@ use Rattle.mdmp_writer.specs.Gather.{gathered, IsLeft}
 use Rattle.mdmp_writer.specs.Layout.{blocks_end, blocks_size, fars_size, file_size}
 use Rattle.mdmp_writer.specs.Passes.{block_asks, block_passes, sum_below}
 use Rattle.mdmp_writer.specs.Written.{blocks}
+use Rattle.mdmp_writer.proofs.Counting.{IsToCome}
 use Rattle.mdmp_writer.proofs.streams_out.put_blocks.Given as goal
 
 abbrev pub invariant-loop-stream : goal.invariant-loop-stream
@@ -16,6 +17,7 @@ invariant-loop-stream g l = record {
   steady : (g.O.Out.state l.out).failures ≡ (g.O.Out.state l.fn.out).failures;
   at : l.at + blocks_size (drop l.stream (g.V.DumpView.shape l.fn.view).streams) ≡ blocks_end (g.V.DumpView.shape l.fn.view).streams;
   far : l.far + fars_size (drop l.stream (g.V.DumpView.shape l.fn.view).streams) ≡ file_size (g.V.DumpView.shape l.fn.view).streams;
+  come : IsToCome (gathered (g.O.Out.state l.fn.out) l.fn.gather) (blocks_size (g.V.DumpView.shape l.fn.view).streams) (blocks_size (drop l.stream (g.V.DumpView.shape l.fn.view).streams)) (gathered (g.O.Out.state l.out) l.gather);
   left : (x : DumpSeen) → (g.V.DumpView.shape l.fn.view).seen ≡ Some x → AllAreKnown x
       → IsLeft (gathered (g.O.Out.state l.fn.out) l.fn.gather) (blocks x.streams l.fn.first.at l.fn.first.far) (gathered (g.O.Out.state l.out) l.gather) (blocks (drop l.stream x.streams) l.at l.far);
 }

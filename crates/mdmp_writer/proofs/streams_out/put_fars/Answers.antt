@@ -1,11 +1,12 @@
 use Rattle.std.proofs.Common.{◌<◌, ◌≤◌, ◌^◌, ◌∙◌, ap, arith, refl, sym, subst, length}
 use Rattle.mdmp_dump.specs.Shape.{Shape, Spent, body_of, stream_at}
-use Rattle.mdmp_writer.specs.Layout.{far_size}
+use Rattle.mdmp_writer.specs.Layout.{far_size, fars_size}
 use Rattle.mdmp_writer.specs.Passes.{far_asks, far_passes}
+use Rattle.mdmp_writer.proofs.Counting.{come_begin, come_next, come_none, some_is}
 use Rattle.mdmp_writer.proofs.Passing.{sum_more, sum_next, sum_none, sum_with}
 use Rattle.mdmp_writer.proofs.Sending.{left_begin, left_none}
 use Rattle.mdmp_writer.proofs.Streaming.{fars_none, far_cut, far_put}
-use Rattle.mdmp_writer.proofs.Sums.{block_within, far_within}
+use Rattle.mdmp_writer.proofs.Sums.{block_within, far_within, fars_next, fars_none as none_left}
 use Rattle.mdmp_writer.proofs.streams_out.put_fars.Goals as goal
 
 pub loop-stream-init : goal.loop-stream-init
@@ -15,6 +16,7 @@ loop-stream-init g c = record {
   asked = omega (arith, sum_none (far_asks (g.V.DumpView.shape c.args.view.now)), ap (λ (t : Spent). t.asked) c.streams-stream-end.ensures.spent);
   moves = c.streams-stream-end.ensures.moves;
   steady = refl;
+  come = come_begin _ _;
   left = λ x known. left_begin _ _;
 }
 
@@ -42,6 +44,8 @@ loop-stream-preserved g c =
       asked = omega (arith, c.loop-stream.invariant.asked, c.in-Ok.ensures.asked, ap (λ (t : Shape). far_asks t k) c.loop-stream.invariant.shape, sum_next (far_asks s) k);
       moves = g.met.V.DumpView.follows _ _ _ c.loop-stream.invariant.moves c.in-Ok.ensures.moves;
       steady = c.in-Ok.ensures.cause ∙ c.loop-stream.invariant.steady;
+      come = come_next _ _ _ _ _ (far_size (stream_at s k)) _ (fars_next s k fewer) c.loop-stream.invariant.come
+          (some_is _ _ _ _ (ap (λ (t : Shape). far_size (stream_at t k)) (c.loop-stream.invariant.shape)) c.in-Ok.ensures.some);
       left = λ x known. far_put s x k _ _ _ _ (g.met.V.DumpView.sound c.args.view.now x known) fewer (c.loop-stream.invariant.left x known) (c.in-Ok.ensures.writes x (ap (λ (t : Shape). t.seen) c.loop-stream.invariant.shape ∙ known));
     }
 
@@ -83,3 +87,9 @@ pub returns-clause-asked : goal.returns-clause-asked
 returns-clause-asked g c =
     let s = g.V.DumpView.shape c.args.view.now in
     omega (arith, c.loop-stream.invariant.asked, sum_more (far_asks s) c.loop-stream.stream (length s.streams) (omega (arith, c.streams-stream-end.ensures.count)))
+
+pub returns-clause-some : goal.returns-clause-some
+returns-clause-some g c =
+    let s = g.V.DumpView.shape c.args.view.now in
+    let past : length s.streams ≤ c.loop-stream.stream = omega (arith, c.loop-stream-test.false, c.streams-stream-end.ensures.count) in
+    come_none _ _ (fars_size s.streams) _ (none_left s c.loop-stream.stream past) c.loop-stream.invariant.come
