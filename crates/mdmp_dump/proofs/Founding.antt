@@ -30,6 +30,7 @@ use Rattle.mdmp_lister.specs.declared.item.SystemItem.{SystemItem}
 use Rattle.mdmp_lister.specs.declared.item.ThreadItem.{ThreadItem}
 use Rattle.mdmp_lister.specs.declared.item.UnloadedItem.{UnloadedItem}
 use Rattle.mdmp_lister.specs.declared.kind.Kind.{Kind}
+use Rattle.mdmp_lister.specs.Format.Kind.{is_memory64}
 use Rattle.mdmp_lister.specs.declared.kind.Kind.TheVariants as kinds
 use Rattle.mdmp_lister.specs.declared.name.Name.{Name}
 use Rattle.mdmp_lister.specs.Format.Item.{exception_item, item_at, memory_info_item, module_item, name_of, named, range64_item, range_extent_of, range_item, range_offset, record_at, system_item, thread_item, unloaded_item}
@@ -46,7 +47,7 @@ use Rattle.mdmp_dump.specs.declared.view.PartSize.{PartSize}
 use Rattle.mdmp_dump.specs.FoundRecord.{no_part}
 use Rattle.mdmp_dump.specs.FileRefusal.{first_told}
 use Rattle.mdmp_source.specs.Store.{AreBytes}
-use Rattle.mdmp_dump.specs.Finding.{AreHad, FindsName, FindsPart, FindsRange, FindsRecord, IsAt, IsSeenAt, is_list64, seen_in}
+use Rattle.mdmp_dump.specs.Finding.{AreHad, FindsName, FindsPart, FindsRange, FindsRecord, IsAt, IsSeenAt, seen_in}
 use Rattle.mdmp_dump.specs.Placed.{size_in}
 use Rattle.mdmp_dump.specs.Refusal.{Refuse, Step, Take}
 use Rattle.mdmp_dump.specs.Seen.{nowhere, seen}
@@ -378,20 +379,20 @@ module _ (F : List ℕ) (limit e k at o : ℕ) where
       (λ bytes range. (items.Range (range_item (length F) e k (descriptor_at F o)), (refl, λ own. refused _ fault (bytes F (descriptor_at F o).memory refl refl refl own))))
       (λ bytes range. (items.Range (range64_item (length F) e k (descriptor64_at F o) (range_offset F at k)), (refl, λ own. refused _ fault (range F refl own))))
 
-  pub memory_found : (p : PartAt) (kind : Kind) (x : RangeItem) → item_at F 0 e k at o kind ≡ Ok (items.Range x) → is_list64 kind ≡ false → HasBytes x (Ok p)
+  pub memory_found : (p : PartAt) (kind : Kind) (x : RangeItem) → item_at F 0 e k at o kind ≡ Ok (items.Range x) → is_memory64 kind ≡ false → HasBytes x (Ok p)
       → FindsRecord F limit e k at o kind (Ok (record { wire = any.Memory (record { start_of_memory_range = x.start; memory = nowhere }); parts = p ∷ no_part ∷ no_part ∷ [] }))
   memory_found p = range_case
-      (λ kind x. is_list64 kind ≡ false → HasBytes x (Ok p)
+      (λ kind x. is_memory64 kind ≡ false → HasBytes x (Ok p)
       → FindsRecord F limit e k at o kind (Ok (record { wire = any.Memory (record { start_of_memory_range = x.start; memory = nowhere }); parts = p ∷ no_part ∷ no_part ∷ [] })))
       (λ near bytes.
       let a = bytes F (descriptor_at F o).memory refl refl refl in
       (items.Range (range_item (length F) e k (descriptor_at F o)), (refl, (a.0, seen_at F _ _ _ _ _ _ _ p no_part no_part a.1 (nothing_at F) (nothing_at F)))))
       (λ near bytes. absurd (cc near))
 
-  pub memory64_found : (p : PartAt) (kind : Kind) (x : RangeItem) → item_at F 0 e k at o kind ≡ Ok (items.Range x) → is_list64 kind ≡ true → HasRange x (Ok p)
+  pub memory64_found : (p : PartAt) (kind : Kind) (x : RangeItem) → item_at F 0 e k at o kind ≡ Ok (items.Range x) → is_memory64 kind ≡ true → HasRange x (Ok p)
       → FindsRecord F limit e k at o kind (Ok (record { wire = any.Memory64 (record { start_of_memory_range = x.start; data_size = x.size }); parts = p ∷ no_part ∷ no_part ∷ [] }))
   memory64_found p = range_case
-      (λ kind x. is_list64 kind ≡ true → HasRange x (Ok p)
+      (λ kind x. is_memory64 kind ≡ true → HasRange x (Ok p)
       → FindsRecord F limit e k at o kind (Ok (record { wire = any.Memory64 (record { start_of_memory_range = x.start; data_size = x.size }); parts = p ∷ no_part ∷ no_part ∷ [] })))
       (λ far range. absurd (cc far))
       (λ far range.

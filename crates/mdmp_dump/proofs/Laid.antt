@@ -1,7 +1,6 @@
 -- A file that is not refused a view lays out the dump that stands in it.
 use Rattle.std.proofs.Common.{◌≡◌, ◌∙◌, ◌+◌, ◌*◌, ◌==◌, ◌||◌, ℕ, zero, suc, Bool, true, false, List, [], ◌∷◌, ◌++◌, length, map, Option, Some, None, Result, Ok, Err, refl, ap, sym, subst, arith, if◌then◌else◌}
 use Rattle.std.specs.Prelude.{IsTrue}
-use Rattle.std.proofs.lemmas.Bool.{eqb-true}
 use Rattle.std.proofs.lemmas.Bool.Decides.{nat_tests}
 use Rattle.mdmp_source.specs.Range.{is_inside}
 use Rattle.mdmp_source.specs.declared.location.Extent.TheVariants as classes
@@ -19,7 +18,8 @@ use Rattle.mdmp_lister.specs.declared.kind.Kind.{Kind}
 use Rattle.mdmp_lister.specs.declared.kind.Kind.TheVariants as kinds
 use Rattle.mdmp_lister.specs.declared.shape.Shape.{Shape}
 use Rattle.mdmp_lister.specs.Format.Item.{item_at, range_extent_of, range_offset}
-use Rattle.mdmp_lister.specs.Format.Kind.{kind_of}
+use Rattle.mdmp_lister.specs.Format.Kind.{kind_of, type_of_kind}
+use Rattle.mdmp_lister.specs.Format.KindLaws.{type_of-kind}
 use Rattle.mdmp_lister.specs.Format.Listing.{Numbered, body_of, chosen, entry_listing, items_from, list_fault, records_of, shaped, stream_item}
 use Rattle.mdmp_lister.specs.Format.Refusal.{directory_refusal}
 use Rattle.mdmp_lister.specs.Format.Shape.{location_fault, shape_of}
@@ -126,57 +126,6 @@ module _ {X : Type 0} (kind : Kind) (IsAt : ℕ → ℕ → X → Type 0) (f : �
   single_laid : shape.count ≡ 1 → HasRecords F x.entry.location kind IsAt (f 0 (x.entry.location.rva + shape.first) ∷ [])
   single_laid one = subst (λ (xs : List X). HasRecords F x.entry.location kind IsAt xs) (single_in one) list_laid
 
--- ---- the type of a kind
-
-abbrev pub type_by : Kind → ℕ
-type_by kinds.Threads = 3
-type_by kinds.Modules = 4
-type_by kinds.Memory = 5
-type_by kinds.Exception = 6
-type_by kinds.System = 7
-type_by kinds.Memory64 = 9
-type_by kinds.Unloaded = 14
-type_by kinds.MemoryInfo = 16
-
-told_type : (t n : ℕ) (one kind : Kind) → (t == n) ≡ true → type_by one ≡ n → Some one ≡ Some kind → t ≡ type_by kind
-told_type t n one kind is type same =
-    let kinds_are : one ≡ kind = cc same in
-    eqb-true t n is ∙ sym type ∙ ap type_by kinds_are
-
-pub type_of_kind : (t : ℕ) (kind : Kind) → kind_of t ≡ Some kind → t ≡ type_by kind
-type_of_kind t kind is = by3 (t == 3) refl is where
-  by16 : (b : Bool) → (t == 16) ≡ b → (if b then Some kinds.MemoryInfo else None) ≡ Some kind → t ≡ type_by kind
-  by16 true e is = told_type t 16 kinds.MemoryInfo kind e refl is
-  by16 false e is = absurd (cc)
-
-  by14 : (b : Bool) → (t == 14) ≡ b → (if b then Some kinds.Unloaded else if t == 16 then Some kinds.MemoryInfo else None) ≡ Some kind → t ≡ type_by kind
-  by14 true e is = told_type t 14 kinds.Unloaded kind e refl is
-  by14 false e is = by16 (t == 16) refl is
-
-  by9 : (b : Bool) → (t == 9) ≡ b → (if b then Some kinds.Memory64 else if t == 14 then Some kinds.Unloaded else if t == 16 then Some kinds.MemoryInfo else None) ≡ Some kind → t ≡ type_by kind
-  by9 true e is = told_type t 9 kinds.Memory64 kind e refl is
-  by9 false e is = by14 (t == 14) refl is
-
-  by7 : (b : Bool) → (t == 7) ≡ b → (if b then Some kinds.System else if t == 9 then Some kinds.Memory64 else if t == 14 then Some kinds.Unloaded else if t == 16 then Some kinds.MemoryInfo else None) ≡ Some kind → t ≡ type_by kind
-  by7 true e is = told_type t 7 kinds.System kind e refl is
-  by7 false e is = by9 (t == 9) refl is
-
-  by6 : (b : Bool) → (t == 6) ≡ b → (if b then Some kinds.Exception else if t == 7 then Some kinds.System else if t == 9 then Some kinds.Memory64 else if t == 14 then Some kinds.Unloaded else if t == 16 then Some kinds.MemoryInfo else None) ≡ Some kind → t ≡ type_by kind
-  by6 true e is = told_type t 6 kinds.Exception kind e refl is
-  by6 false e is = by7 (t == 7) refl is
-
-  by5 : (b : Bool) → (t == 5) ≡ b → (if b then Some kinds.Memory else if t == 6 then Some kinds.Exception else if t == 7 then Some kinds.System else if t == 9 then Some kinds.Memory64 else if t == 14 then Some kinds.Unloaded else if t == 16 then Some kinds.MemoryInfo else None) ≡ Some kind → t ≡ type_by kind
-  by5 true e is = told_type t 5 kinds.Memory kind e refl is
-  by5 false e is = by6 (t == 6) refl is
-
-  by4 : (b : Bool) → (t == 4) ≡ b → (if b then Some kinds.Modules else if t == 5 then Some kinds.Memory else if t == 6 then Some kinds.Exception else if t == 7 then Some kinds.System else if t == 9 then Some kinds.Memory64 else if t == 14 then Some kinds.Unloaded else if t == 16 then Some kinds.MemoryInfo else None) ≡ Some kind → t ≡ type_by kind
-  by4 true e is = told_type t 4 kinds.Modules kind e refl is
-  by4 false e is = by5 (t == 5) refl is
-
-  by3 : (b : Bool) → (t == 3) ≡ b → (if b then Some kinds.Threads else if t == 4 then Some kinds.Modules else if t == 5 then Some kinds.Memory else if t == 6 then Some kinds.Exception else if t == 7 then Some kinds.System else if t == 9 then Some kinds.Memory64 else if t == 14 then Some kinds.Unloaded else if t == 16 then Some kinds.MemoryInfo else None) ≡ Some kind → t ≡ type_by kind
-  by3 true e is = told_type t 3 kinds.Threads kind e refl is
-  by3 false e is = by4 (t == 4) refl is
-
 -- ---- entries
 
 pub unused_by : (unused inside : Bool) (f : Fault) → unused ≡ false → (if unused || inside then None else Some f) ≡ None → inside ≡ true
@@ -185,7 +134,7 @@ unused_by true false f used none = absurd (cc used)
 unused_by false false f used none = absurd (cc none)
 
 module _ (Z : Type 0) (F : List ℕ) (limit : ℕ) where
-  pub shaped_type : (rva : ℕ) (kind : Kind) (shape : Shape) → type_by kind ≡ type_of (shaped_in {Z = Z} F rva kind shape)
+  pub shaped_type : (rva : ℕ) (kind : Kind) (shape : Shape) → type_of_kind kind ≡ type_of (shaped_in {Z = Z} F rva kind shape)
   shaped_type rva kinds.Threads shape = refl
   shaped_type rva kinds.Modules shape = refl
   shaped_type rva kinds.Memory shape = refl
@@ -230,7 +179,7 @@ module _ (Z : Type 0) (F : List ℕ) (limit : ℕ) where
           (
             refl,
             record {
-              type_is = type_of_kind x.entry.stream_type kind known ∙ shaped_type x.entry.location.rva kind shape;
+              type_is = type_of-kind x.entry.stream_type kind known ∙ shaped_type x.entry.location.rva kind shape;
               stands = shaped_stands kind shape inside is none;
             },
           ),

@@ -29,7 +29,8 @@ use Rattle.mdmp_lister.specs.declared.name.Name.{Name}
 use Rattle.mdmp_lister.specs.declared.shape.Shape.{Shape}
 use Rattle.mdmp_lister.specs.Format.Classes.{IsClassed, IsRecordOf, IsStream}
 use Rattle.mdmp_lister.specs.Format.Item.{item_at, item_of, kind_told, name_of, named, offset_in, plain, range_extent_of, record_at}
-use Rattle.mdmp_lister.specs.Format.Kind.{HasNoNames, kind_of}
+use Rattle.mdmp_lister.specs.Format.Kind.{HasNoNames, is_memory64, kind_of, type_of_kind}
+use Rattle.mdmp_lister.specs.Format.KindLaws.{type_of-kind}
 use Rattle.mdmp_lister.specs.Format.Listing.{Numbered, Run, items_from, joined, list_fault, only_fault, with_item}
 use Rattle.mdmp_lister.specs.Format.Ranges.{IsPlacedIn, IsRangeIn}
 use Rattle.mdmp_lister.specs.Format.Shape.{known_count, location_fault, record_count, records_in, shape_of}
@@ -46,7 +47,7 @@ use Rattle.mdmp_dump.specs.declared.found_record.FoundRecord.{FoundRecord}
 use Rattle.mdmp_dump.specs.declared.view.Kind.TheVariants as view
 use Rattle.mdmp_dump.specs.EntryWalk.{FindsNext, FindsRow, GivesNext, IsFoundIn, IsRowFound, Pays, ended_by, kind_by, name_cost, row_told}
 use Rattle.mdmp_dump.specs.FileRefusal.{IsOfWalk}
-use Rattle.mdmp_dump.specs.Finding.{FindsRecord, FindsSeen, IsFittingOf, IsFoundInside, IsOfPlaces, IsOfRecord, is_list64, range_kind, record_kind, seen_in}
+use Rattle.mdmp_dump.specs.Finding.{FindsRecord, FindsSeen, IsFittingOf, IsFoundInside, IsOfPlaces, IsOfRecord, range_kind, record_kind, seen_in}
 use Rattle.mdmp_dump.specs.FoundRecord.{AreIn}
 use Rattle.mdmp_dump.specs.Left.{RowGiven, body_from, left_from, run_of}
 use Rattle.mdmp_dump.specs.Reading.{IsLastTold, IsReadRefusal, store_fault}
@@ -56,7 +57,7 @@ use Rattle.mdmp_dump.specs.Shape.{type_told}
 use Rattle.mdmp_dump.specs.Walking.{HasLeft, IsFar, IsKept, current_of, ended_with, left_by, left_of, state_of}
 use Rattle.mdmp_dump.proofs.EntryBegun.{last_told, left_begun, left_stopped, no_store_fault, own_store_fault, paid_by, plain_stream, walk_same}
 use Rattle.std.proofs.lemmas.Bool.Decides.{nat_tests}
-use Rattle.mdmp_dump.proofs.Laid.{range_inside, type_by, type_of_kind}
+use Rattle.mdmp_dump.proofs.Laid.{range_inside}
 use Rattle.mdmp_dump.proofs.Within.Part.{extent-inside}
 use Rattle.mdmp_dump.proofs.Left.{row_given}
 use Rattle.mdmp_dump.proofs.Limits.{refused_under}
@@ -66,15 +67,15 @@ use Rattle.mdmp_dump.proofs.Taking.{Fetches_only}
 
 pub names_or_none : (t : ℕ) → HasNoNames (kind_of t) ⊎ (name_cost t ≡ 4)
 names_or_none t = by (kind_of t) refl where
-  cost : (kind : Kind) → HasNoNames (Some kind) ⊎ (name_cost (type_by kind) ≡ 4)
+  cost : (kind : Kind) → HasNoNames (Some kind) ⊎ (name_cost (type_of_kind kind) ≡ 4)
   cost kinds.Modules = inr refl
   cost kinds.System = inr refl
   cost kinds.Unloaded = inr refl
   cost kind = inl refl
 
-  of_type : (kind : Kind) → kind_of t ≡ Some kind → HasNoNames (Some kind) ⊎ (name_cost (type_by kind) ≡ 4) → HasNoNames (kind_of t) ⊎ (name_cost t ≡ 4)
+  of_type : (kind : Kind) → kind_of t ≡ Some kind → HasNoNames (Some kind) ⊎ (name_cost (type_of_kind kind) ≡ 4) → HasNoNames (kind_of t) ⊎ (name_cost t ≡ 4)
   of_type kind is (inl none) = inl (rw is none)
-  of_type kind is (inr some) = inr (ap name_cost (type_of_kind t kind is) ∙ some)
+  of_type kind is (inr some) = inr (ap name_cost (type_of-kind t kind is) ∙ some)
 
   by : (kind : Option Kind) → kind_of t ≡ kind → HasNoNames (kind_of t) ⊎ (name_cost t ≡ 4)
   by None is = inl (rw is tt)
@@ -82,8 +83,8 @@ names_or_none t = by (kind_of t) refl where
 
 -- the kind of a view, of the records of such a stream
 known_by : (t : ℕ) (w : AnyRecord) → kind_of t ≡ Some (kind_told w) → kind_by t ≡ view.Known (type_told w)
-known_by t w is = ap kind_by (type_of_kind t (kind_told w) is) ∙ of_wire w where
-  of_wire : (w : AnyRecord) → kind_by (type_by (kind_told w)) ≡ view.Known (type_told w)
+known_by t w is = ap kind_by (type_of-kind t (kind_told w) is) ∙ of_wire w where
+  of_wire : (w : AnyRecord) → kind_by (type_of_kind (kind_told w)) ≡ view.Known (type_told w)
   of_wire (any.Thread r) = refl
   of_wire (any.Module r) = refl
   of_wire (any.Memory r) = refl
@@ -93,9 +94,9 @@ known_by t w is = ap kind_by (type_of_kind t (kind_told w) is) ∙ of_wire w whe
   of_wire (any.Unloaded r) = refl
   of_wire (any.MemoryInfo r) = refl
 
-pub far_by_type : (t : ℕ) (kind : Kind) → kind_of t ≡ Some kind → is_list64 kind ≡ (t == 9)
-far_by_type t kind is = of_kind kind ∙ ap (λ (n : ℕ). n == 9) (sym (type_of_kind t kind is)) where
-  of_kind : (kind : Kind) → is_list64 kind ≡ (type_by kind == 9)
+pub far_by_type : (t : ℕ) (kind : Kind) → kind_of t ≡ Some kind → is_memory64 kind ≡ (t == 9)
+far_by_type t kind is = of_kind kind ∙ ap (λ (n : ℕ). n == 9) (sym (type_of-kind t kind is)) where
+  of_kind : (kind : Kind) → is_memory64 kind ≡ (type_of_kind kind == 9)
   of_kind kinds.Memory64 = refl
   of_kind kind = refl
 
@@ -105,7 +106,7 @@ plain_kind : (far : Bool) (item : Item) → record_kind far item ≡ record_kind
 plain_kind far (items.Stream x) = refl
 plain_kind far item = refl
 
-told_kind : (far : Bool) (z e k offset : ℕ) (w : AnyRecord) (name : Name) → far ≡ is_list64 (kind_told w) → record_kind far (item_of z e k offset w name) ≡ Some (kind_told w)
+told_kind : (far : Bool) (z e k offset : ℕ) (w : AnyRecord) (name : Name) → far ≡ is_memory64 (kind_told w) → record_kind far (item_of z e k offset w name) ≡ Some (kind_told w)
 told_kind far z e k offset (any.Memory r) name is = ap (λ (b : Bool). Some (range_kind b)) is
 told_kind far z e k offset (any.Memory64 r) name is = ap (λ (b : Bool). Some (range_kind b)) is
 told_kind far z e k offset w name is = refl
@@ -151,7 +152,7 @@ record_classed z e item none (inr is) = is
 -- what is found of it is of its stream's kind
 pub found_in : (z t : ℕ) (far : Bool) (item : Item) (f : FoundRecord) → far ≡ (t == 9) → IsRecordOf z (kind_of t) (plain item) → IsFittingOf (record_kind far item) f → AreIn z f.parts → IsFoundIn z t f
 found_in z t far item f is_far is fits inside =
-    let by_kind : far ≡ is_list64 (kind_told is.fields) = is_far ∙ sym (far_by_type t (kind_told is.fields) is.known) in
+    let by_kind : far ≡ is_memory64 (kind_told is.fields) = is_far ∙ sym (far_by_type t (kind_told is.fields) is.known) in
     let told : record_kind far item ≡ Some (kind_told is.fields) =
     plain_kind far item ∙ ap (record_kind far) is.same ∙ told_kind far z is.entry is.index is.offset is.fields is.name by_kind in
     let wire : Some (kind_told is.fields) ≡ Some (kind_told f.wire) = sym told ∙ fits.0 in

@@ -19,7 +19,8 @@ use Rattle.mdmp_lister.specs.declared.fault.Fault.{Fault}
 use Rattle.mdmp_lister.specs.declared.kind.Kind.{Kind as ListKind}
 use Rattle.mdmp_lister.specs.declared.kind.Kind.TheVariants as lists
 use Rattle.mdmp_lister.specs.declared.shape.Shape.{Shape}
-use Rattle.mdmp_lister.specs.Format.Kind.{kind_of}
+use Rattle.mdmp_lister.specs.Format.Kind.{kind_of, type_of_kind}
+use Rattle.mdmp_lister.specs.Format.KindLaws.{type_of-kind}
 use Rattle.mdmp_lister.specs.Format.Listing.{Numbered}
 use Rattle.mdmp_lister.specs.Format.Shape.{record_count, shape_of}
 use Rattle.mdmp_dump.specs.declared.dump.Stream.{Stream}
@@ -50,7 +51,7 @@ use Rattle.mdmp_dump.specs.Thread.{thread_record, thread_seen}
 use Rattle.mdmp_dump.specs.Unloaded.{unloaded_seen}
 use Rattle.mdmp_dump.specs.View.{kind_in, raw_in, records_seen}
 use Rattle.mdmp_dump.proofs.Budget.{array_is}
-use Rattle.mdmp_dump.proofs.Laid.{type_by, type_of_kind, unused_by}
+use Rattle.mdmp_dump.proofs.Laid.{unused_by}
 use Rattle.mdmp_dump.proofs.Refusals.{counted_placed, known_counted, shape_counted}
 use Rattle.mdmp_dump.proofs.Streams.{one_single}
 use Rattle.mdmp_dump.proofs.Unrefused.{rows_count}
@@ -217,7 +218,7 @@ sizes_found f g same j =
 -- ---- a stream of a kind
 
 -- no stream whose records are known has raw bytes to ask for
-type_part : (kind : ListKind) (size : ℕ) → raw_size (kind_by (type_by kind)) size ≡ NoPart
+type_part : (kind : ListKind) (size : ℕ) → raw_size (kind_by (type_of_kind kind)) size ≡ NoPart
 type_part lists.Threads size = refl
 type_part lists.Modules size = refl
 type_part lists.Memory size = refl
@@ -228,7 +229,7 @@ type_part lists.Unloaded size = refl
 type_part lists.MemoryInfo size = refl
 
 module _ (Z : Type 0) (F : List ℕ) (x : Numbered) where
-  shaped_kind : (kind : ListKind) (shape : Shape) → kind_in (shaped_in {Z = Z} F x.entry.location.rva kind shape) ≡ kind_by (type_by kind)
+  shaped_kind : (kind : ListKind) (shape : Shape) → kind_in (shaped_in {Z = Z} F x.entry.location.rva kind shape) ≡ kind_by (type_of_kind kind)
   shaped_kind lists.Threads shape = refl
   shaped_kind lists.Modules shape = refl
   shaped_kind lists.Memory shape = refl
@@ -343,8 +344,8 @@ module _ (Z : Type 0) (F : List ℕ) (x : Numbered) (n : ℕ) (counts : record_c
   kind_raw : (x.entry.stream_type == 0) ≡ false → kind_of x.entry.stream_type ≡ None → kind_by x.entry.stream_type ≡ kinds.Raw x.entry.stream_type
   kind_raw used known = rw (used, known) refl
 
-  kind_known : (kind : ListKind) → kind_of x.entry.stream_type ≡ Some kind → kind_by (type_by kind) ≡ kind_by x.entry.stream_type
-  kind_known kind known = ap kind_by (sym (type_of_kind x.entry.stream_type kind known))
+  kind_known : (kind : ListKind) → kind_of x.entry.stream_type ≡ Some kind → kind_by (type_of_kind kind) ≡ kind_by x.entry.stream_type
+  kind_known kind known = ap kind_by (sym (type_of-kind x.entry.stream_type kind known))
 
   pub kind_is : kind_in (stream_named {Z = Z} F x.entry) ≡ kind_by x.entry.stream_type
   kind_is = by seen_as where

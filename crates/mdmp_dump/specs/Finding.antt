@@ -11,6 +11,7 @@ use Rattle.mdmp_wire.specs.MemoryInfo.{memory_info_at}
 use Rattle.mdmp_lister.specs.declared.item.Item.{Item}
 use Rattle.mdmp_lister.specs.declared.item.Item.TheVariants as items
 use Rattle.mdmp_lister.specs.declared.kind.Kind.{Kind}
+use Rattle.mdmp_lister.specs.Format.Kind.{is_memory64}
 use Rattle.mdmp_lister.specs.declared.kind.Kind.TheVariants as kinds
 use Rattle.mdmp_wire.specs.Number.{array_at}
 use Rattle.mdmp_lister.specs.declared.item.RangeItem.{RangeItem}
@@ -100,14 +101,9 @@ FindsRecord F limit e k at o kind result = (item : Item) × ((item_at F limit e 
 abbrev pub IsFoundOf : Item → ℕ → Result FoundRecord ReadFault → Type 0
 IsFoundOf item limit result = (F : List ℕ) (e k at o : ℕ) (kind : Kind) → item_at F 0 e k at o kind ≡ Ok item → FindsRecord F limit e k at o kind result
 
--- a stream of this kind is a 64-bit memory list
-abbrev pub is_list64 : Kind → Bool
-is_list64 kinds.Memory64 = true
-is_list64 kind = false
-
 -- the same of a range, which is one of such a list or not
 abbrev pub IsFoundAs : Bool → Item → ℕ → Result FoundRecord ReadFault → Type 0
-IsFoundAs far item limit result = (F : List ℕ) (e k at o : ℕ) (kind : Kind) → is_list64 kind ≡ far → item_at F 0 e k at o kind ≡ Ok item → FindsRecord F limit e k at o kind result
+IsFoundAs far item limit result = (F : List ℕ) (e k at o : ℕ) (kind : Kind) → is_memory64 kind ≡ far → item_at F 0 e k at o kind ≡ Ok item → FindsRecord F limit e k at o kind result
 
 -- ---- of every file
 
@@ -148,5 +144,5 @@ IsAbleOf item result = (F : List ℕ) (e k at o : ℕ) (kind : Kind) → AreByte
 
 -- what is found inside a file that lays out the item: it has not changed
 abbrev pub IsFoundInside : List ℕ → Bool → Item → ℕ → Result FoundRecord ReadFault → Type 0
-IsFoundInside F far item limit result = (e k at o : ℕ) (kind : Kind) → is_list64 kind ≡ far → item_at F 0 e k at o kind ≡ Ok item
+IsFoundInside F far item limit result = (e k at o : ℕ) (kind : Kind) → is_memory64 kind ≡ far → item_at F 0 e k at o kind ≡ Ok item
     → FindsRecord F limit e k at o kind result × IfErr result IsOfRecord

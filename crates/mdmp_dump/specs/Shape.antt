@@ -1,7 +1,11 @@
 -- What a view is: a shape that stays, a cursor that moves, and what was spent of it.
 use Rattle.std.specs.Prelude.{◌≡◌, ◌^◌, ◌≤◌, ◌<◌, ℕ, zero, suc, ◌+◌, ◌-◌, ◌*◌, List, [], ◌∷◌, length, map, get_or, drop, Option, Some, None, option_map, Bool, true, false, ◌==◌, if◌then◌else◌, min}
 use Rattle.mdmp_wire.specs.declared.any_record.AnyRecord.{AnyRecord}
-use Rattle.mdmp_wire.specs.declared.any_record.AnyRecord.TheVariants as any
+use Rattle.mdmp_lister.specs.declared.kind.Kind.{Kind as ListKind}
+use Rattle.mdmp_lister.specs.declared.kind.Kind.TheVariants as list
+use Rattle.mdmp_lister.specs.Format.Item.{kind_told}
+use Rattle.mdmp_lister.specs.Format.Kind.{form_of, kind_of, record_size, type_of_kind}
+use Rattle.mdmp_lister.specs.Format.Shape.{head_cost}
 use Rattle.mdmp_dump.specs.declared.view.Fields.{Fields}
 use Rattle.mdmp_dump.specs.declared.view.HeaderFields.{HeaderFields}
 use Rattle.mdmp_dump.specs.declared.view.Kind.{Kind}
@@ -17,20 +21,25 @@ use Rattle.mdmp_dump.specs.Placed.{size_at, size_in, fields_bytes, fields_room, 
 
 -- the records' bytes stand behind all streams
 abbrev pub is_far : Kind → Bool
-is_far (kinds.Known t) = t == 9
+is_far (kinds.Known t) = t == type_of_kind list.Memory64
 is_far _ = false
 
--- the bytes before the records of a stream of this type, as it is written; none before a single record
-abbrev pub head_of : ℕ → ℕ
-head_of t =
-    if t == 3 then 4 else if t == 4 then 4 else if t == 5 then 4
-    else if t == 9 then 16 else if t == 14 then 12 else if t == 16 then 16 else 0
+-- the bytes before the records of a stream of this kind, as it is written; none before a single record
+abbrev pub head_by : Option ListKind → ℕ
+head_by (Some kind) = head_cost (form_of kind)
+head_by None = 0
 
 -- the bytes of a record of it. No view gives another type as known: its records would have 1.
+abbrev pub row_by : Option ListKind → ℕ
+row_by (Some kind) = record_size kind
+row_by None = 1
+
+-- the same of a stream of this type
+abbrev pub head_of : ℕ → ℕ
+head_of t = head_by (kind_of t)
+
 abbrev pub row_of : ℕ → ℕ
-row_of t =
-    if t == 3 then 48 else if t == 4 then 108 else if t == 5 then 16 else if t == 6 then 168 else if t == 7 then 56
-    else if t == 9 then 16 else if t == 14 then 24 else if t == 16 then 48 else 1
+row_of t = row_by (kind_of t)
 
 abbrev pub body_by : Kind → ℕ → ℕ → ℕ
 body_by kinds.Unused records raw = 0
@@ -39,14 +48,7 @@ body_by (kinds.Raw t) records raw = raw
 
 -- the type of a stream that has such records
 abbrev pub type_told : AnyRecord → ℕ
-type_told (any.Thread r) = 3
-type_told (any.Module r) = 4
-type_told (any.Memory r) = 5
-type_told (any.Exception r) = 6
-type_told (any.System r) = 7
-type_told (any.Memory64 r) = 9
-type_told (any.Unloaded r) = 14
-type_told (any.MemoryInfo r) = 16
+type_told w = type_of_kind (kind_told w)
 
 -- ---- what stays
 

@@ -1,6 +1,8 @@
 -- The types of a dump's streams, and the dump with some of them.
 use Rattle.std.specs.Prelude.{ℕ, List, filter}
 use Rattle.mdmp_lister.specs.declared.choice.Choice.TheVariants.{Types}
+use Rattle.mdmp_lister.specs.declared.kind.Kind.TheVariants as list
+use Rattle.mdmp_lister.specs.Format.Kind.{type_of_kind}
 use Rattle.mdmp_lister.specs.Format.Listing.{is_chosen}
 use Rattle.mdmp_dump.specs.declared.dump.Stream.{Stream}
 use Rattle.mdmp_dump.specs.declared.dump.Stream.TheVariants as streams
@@ -10,14 +12,14 @@ module _ {Z : Type 0} where
   -- the type that a stream has in the directory
   abbrev pub type_of : Stream Z → ℕ
   type_of streams.Unused = 0
-  type_of (streams.Threads threads) = 3
-  type_of (streams.Modules images) = 4
-  type_of (streams.Memory ranges) = 5
-  type_of (streams.Exception exception) = 6
-  type_of (streams.System system) = 7
-  type_of (streams.Memory64 ranges) = 9
-  type_of (streams.Unloaded images) = 14
-  type_of (streams.MemoryInfo regions) = 16
+  type_of (streams.Threads threads) = type_of_kind list.Threads
+  type_of (streams.Modules images) = type_of_kind list.Modules
+  type_of (streams.Memory ranges) = type_of_kind list.Memory
+  type_of (streams.Exception exception) = type_of_kind list.Exception
+  type_of (streams.System system) = type_of_kind list.System
+  type_of (streams.Memory64 ranges) = type_of_kind list.Memory64
+  type_of (streams.Unloaded images) = type_of_kind list.Unloaded
+  type_of (streams.MemoryInfo regions) = type_of_kind list.MemoryInfo
   type_of (streams.Raw t bytes) = t
 
   -- the dump with only the streams of some types, in order

@@ -34,6 +34,7 @@
 //! and [`a_file_that_is_viewed_lays_out_a_dump`].
 #![tactic(auto)]
 
+mod body;
 mod bytes;
 mod dump;
 mod entry_walk;

@@ -8,6 +8,7 @@ ghost use Rattle.mdmp_dump.specs.Reading.{store_fault};
 ghost use Rattle.mdmp_dump.specs.Placed.{far_room, fields_room};
 ghost use Rattle.mdmp_dump.specs.Shape.{GivesRecord, body_by, told};
 
+use crate::body::rows_size;
 use crate::entry_walk::EntryWalk;
 use crate::fault::ReadFault;
 use crate::found_record::{NO_PART, PartAt};
@@ -76,18 +77,7 @@ pub(crate) fn records_size(stream_type: u32, count: u32) -> u64
     ensures value { result ≡ body_by (Kind.Known stream_type) count 0 }
     ensures bound { result ≤ 2 ^ 40 }
 {
-    let count = u64::from(count);
-    match stream_type {
-        3 => 4 + count * 48,
-        4 => 4 + count * 108,
-        5 => 4 + count * 16,
-        6 => count * 168,
-        7 => count * 56,
-        9 => 16 + count * 16,
-        14 => 12 + count * 24,
-        16 => 16 + count * 48,
-        _ => count,
-    }
+    rows_size(stream_type, u64::from(count)) as u64
 }
 
 /// The file has changed where this stream stands.

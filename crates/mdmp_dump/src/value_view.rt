@@ -1,15 +1,25 @@
 //! A dump in memory, given a record at a time.
 ghost use Rattle.std.specs.Prelude.{◌≡◌, ◌<◌, ◌≤◌, ◌+◌, ◌*◌, [], length, take, drop, get_or};
 ghost use Rattle.mdmp_dump.specs.declared.dump.Stream.TheVariants.{Unused};
+ghost use Rattle.mdmp_lister.specs.Format.Kind.{type_of_kind};
 ghost use Rattle.mdmp_dump.specs.View.{kind_in, raw_in, records_seen, stream_seen};
 ghost use Rattle.mdmp_dump.specs.Shape.{body_of, parts_at, parts_in, record_at, shape_of, told, unspent, value_cursor, value_shape};
 ghost use Rattle.mdmp_dump.specs.ShapeLaws.{value_kinds, value_sound, value_stray};
 
+use crate::body::rows_size;
 use crate::dump::{Dump, Stream};
 use crate::given::{Given, far_of_all, fields_at, part_at, room_of_all, room_of_one};
 use crate::view::{DumpView, Fields, HeaderFields, Kind, PartSize, ViewFault};
+use mdmp_lister::Kind as ListKind;
 use mdmp_wire::{AnyRecord, Descriptor64};
 use std::alloc::Allocator;
+
+/// A stream of records of this kind.
+fn known(kind: ListKind) -> Kind
+    ensures { result ≡ Kind.Known (type_of_kind kind) }
+{
+    Kind::Known(kind.stream_type())
+}
 
 /// What a stream is, by the types of `MINIDUMP_STREAM_TYPE`.
 fn stream_kind<A: Allocator>(stream: &Stream<A>) -> Kind
@@ -17,14 +27,14 @@ fn stream_kind<A: Allocator>(stream: &Stream<A>) -> Kind
 {
     match stream {
         Stream::Unused => Kind::Unused,
-        Stream::Threads(_) => Kind::Known(3),
-        Stream::Modules(_) => Kind::Known(4),
-        Stream::Memory(_) => Kind::Known(5),
-        Stream::Exception(_) => Kind::Known(6),
-        Stream::System(_) => Kind::Known(7),
-        Stream::Memory64(_) => Kind::Known(9),
-        Stream::Unloaded(_) => Kind::Known(14),
-        Stream::MemoryInfo(_) => Kind::Known(16),
+        Stream::Threads(_) => known(ListKind::Threads),
+        Stream::Modules(_) => known(ListKind::Modules),
+        Stream::Memory(_) => known(ListKind::Memory),
+        Stream::Exception(_) => known(ListKind::Exception),
+        Stream::System(_) => known(ListKind::System),
+        Stream::Memory64(_) => known(ListKind::Memory64),
+        Stream::Unloaded(_) => known(ListKind::Unloaded),
+        Stream::MemoryInfo(_) => known(ListKind::MemoryInfo),
         Stream::Raw(stream_type, _) => Kind::Raw(*stream_type),
     }
 }
@@ -55,31 +65,17 @@ fn record_count<A: Allocator>(stream: &Stream<A>) -> usize
     }
 }
 
-/// The bytes of a head and of some records behind it, of at most 168 bytes each.
-fn rows_size(head: u64, count: usize, row: u64) -> u64
-    requires { row ≤ 168 }
-    ensures { result ≡ told (head + count * row) }
-{
-    let size = u128::from(head) + count as u128 * u128::from(row);
-    size.min(u128::from(u64::MAX)) as u64
-}
-
 /// How many bytes the body of a stream has: those of its list's head and records, or its raw bytes.
 fn body_size<A: Allocator>(stream: &Stream<A>) -> u64
     ensures { result ≡ told (body_of (shape_of (stream_seen stream.now))) }
 {
-    let count = record_count(stream);
-    match stream {
-        Stream::Unused => 0,
-        Stream::Threads(_) => rows_size(4, count, 48),
-        Stream::Modules(_) => rows_size(4, count, 108),
-        Stream::Memory(_) => rows_size(4, count, 16),
-        Stream::Exception(_) => 168,
-        Stream::System(_) => 56,
-        Stream::Memory64(_) => rows_size(16, count, 16),
-        Stream::Unloaded(_) => rows_size(12, count, 24),
-        Stream::MemoryInfo(_) => rows_size(16, count, 48),
-        Stream::Raw(_, bytes) => bytes.as_slice().len() as u64,
+    match stream_kind(stream) {
+        Kind::Unused => 0,
+        Kind::Known(stream_type) => {
+            let size = rows_size(stream_type, record_count(stream) as u64);
+            size.min(u128::from(u64::MAX)) as u64
+        },
+        Kind::Raw(_) => raw_bytes(stream).len() as u64,
     }
 }
 

@@ -11,7 +11,7 @@ use Rattle.mdmp_lister.specs.Format.Listing.{is_chosen}
 use Rattle.mdmp_lister.specs.Meter.{Books, MeterState}
 use Rattle.mdmp_lister.specs.Format.Kind.{form_of, kind_of, lists_ranges}
 use Rattle.mdmp_lister.specs.Format.Shape.{head_cost, location_fault}
-use Rattle.mdmp_lister.proofs.Sizes.{most_head}
+use Rattle.mdmp_lister.specs.Format.KindLaws.{most_head}
 
 -- a stream of a known type whose location has no fault lies inside
 pub listed-inside : (z : ℕ) (e : Entry) (kind : Kind) → location_fault z e ≡ None → kind_of e.stream_type ≡ Some kind → IsInside e.location.rva e.location.size z

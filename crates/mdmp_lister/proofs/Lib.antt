@@ -39,7 +39,6 @@ pub mod RowWords
 pub mod Rows
 pub mod Runs
 pub mod SomeNames
-pub mod Sizes
 pub mod Sliding
 pub mod Soundness
 pub mod Spending

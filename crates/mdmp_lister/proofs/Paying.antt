@@ -22,7 +22,7 @@ use Rattle.mdmp_lister.specs.Walk.Paying.{IsBounded, IsPaid, IsWithinSince, allo
 use Rattle.mdmp_lister.specs.Format.Shape.{FitsIn}
 use Rattle.mdmp_lister.specs.Format.Kind.{kind_of, record_size}
 use Rattle.mdmp_lister.specs.Stage.{fault_stage, stage_by}
-use Rattle.mdmp_lister.proofs.Sizes.{least_record}
+use Rattle.mdmp_lister.specs.Format.KindLaws.{least_record}
 use Rattle.mdmp_lister.specs.Walk.{CountsRanges, IsNewWalk, SameEntry, SameRoom, stage_work}
 
 -- ---- the stage behind a fault

@@ -6,7 +6,7 @@ use Rattle.mdmp_lister.specs.declared.shape.Shape.{Shape}
 use Rattle.mdmp_source.specs.Range.{IsInside}
 use Rattle.mdmp_lister.specs.Format.Shape.{FitsIn}
 use Rattle.mdmp_lister.specs.Format.Kind.{record_size}
-use Rattle.mdmp_lister.proofs.Sizes.{least_record}
+use Rattle.mdmp_lister.specs.Format.KindLaws.{least_record}
 
 -- record k of n, each of r bytes and s bytes apart, ends where they all do at the latest
 record_room : (k n s r : ℕ) → k < n → r ≤ s → k * s + r ≤ n * s

@@ -15,7 +15,7 @@ use Rattle.mdmp_lister.specs.declared.form.Form.{Form}
 use Rattle.mdmp_lister.specs.Format.Kind.{greatest_record}
 use Rattle.mdmp_lister.specs.Format.Shape.{head_cost}
 use Rattle.mdmp_lister.specs.Holding.{ComesTo, IsAhead, IsHeldOf, Slides, fills, fills_of, jumped, left_behind, needed, reached, started, unfetched}
-use Rattle.mdmp_lister.proofs.Sizes.{most_head}
+use Rattle.mdmp_lister.specs.Format.KindLaws.{most_head}
 
 -- ---- the bytes held
 

@@ -4,6 +4,7 @@ pub mod Classes
 pub mod Directory
 pub mod Item
 pub mod Kind
+pub mod KindLaws
 pub mod Laws
 pub mod Listing
 pub mod Name

@@ -1,12 +1,12 @@
 //! What stands before the records of a stream.
-ghost use Rattle.std.specs.Prelude.{◌≡◌};
+ghost use Rattle.std.specs.Prelude.{◌≡◌, ◌≤◌};
 ghost use Rattle.mdmp_lister.specs.Format.Shape.{head_cost, head_size};
 
 use mdmp_wire::{Memory64List, MemoryInfoList, Record, UnloadedList};
 
 /// What stands before the records of a stream, and so where they stand.
 #[derive(Clone, Copy, Debug, PartialEq, Eq)]
-pub(crate) enum Form {
+pub enum Form {
     /// Their count, of 32 bits, and padding where the stream has exactly 4 bytes more than it needs.
     Counted,
     /// Nothing: the stream is one record.
@@ -21,8 +21,9 @@ pub(crate) enum Form {
 
 impl Form {
     /// How many bytes stand before the records, at least.
-    pub(crate) fn head_cost(self) -> u32
-        ensures { result ≡ head_cost self }
+    pub fn head_cost(self) -> u32
+        ensures value { result ≡ head_cost self }
+        ensures bound { result ≤ 16 }
     {
         let size = match self {
             Form::Counted => <u32 as Record>::SIZE,

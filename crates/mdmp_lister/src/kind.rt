@@ -1,6 +1,6 @@
 //! Which streams have records here: the type, the form and the records of each.
-ghost use Rattle.std.specs.Prelude.{◌≡◌};
-ghost use Rattle.mdmp_lister.specs.Format.Kind.{form_of, kind_of, lists_ranges, record_size};
+ghost use Rattle.std.specs.Prelude.{◌≡◌, ◌≤◌, ◌<◌};
+ghost use Rattle.mdmp_lister.specs.Format.Kind.{form_of, greatest_record, kind_of, lists_ranges, record_size, type_of_kind};
 ghost use Rattle.mdmp_lister.specs.Walk.Owing.{ranges_by};
 
 use crate::form::Form;
@@ -49,8 +49,24 @@ impl Kind {
         }
     }
 
+    /// The type of its streams: `StreamType` of their entries.
+    pub fn stream_type(self) -> u32
+        ensures { result ≡ type_of_kind self }
+    {
+        match self {
+            Kind::Threads => 3,
+            Kind::Modules => 4,
+            Kind::Memory => 5,
+            Kind::Exception => 6,
+            Kind::System => 7,
+            Kind::Memory64 => 9,
+            Kind::Unloaded => 14,
+            Kind::MemoryInfo => 16,
+        }
+    }
+
     /// What stands before its records.
-    pub(crate) fn form(self) -> Form
+    pub fn form(self) -> Form
         ensures { result ≡ form_of self }
     {
         match self {
@@ -63,8 +79,10 @@ impl Kind {
     }
 
     /// How many bytes a record has.
-    pub(crate) fn record_size(self) -> u32
-        ensures { result ≡ record_size self }
+    pub fn record_size(self) -> u32
+        ensures value { result ≡ record_size self }
+        ensures some { 0 < result }
+        ensures bound { result ≤ greatest_record }
     {
         let size = match self {
             Kind::Threads => ThreadRecord::SIZE,

@@ -65,6 +65,7 @@ pub use crate::codeview::CodeViewBytes;
 pub use crate::counts::Counts;
 pub use crate::fault::{Fault, FaultKind, ListFault, OpenFault};
 pub use crate::fetching::NameRead;
+pub use crate::form::Form;
 pub use crate::item::{
     ExceptionItem, Item, MemoryInfoItem, ModuleItem, RangeItem, StreamItem, SystemItem, ThreadItem,
     UnloadedItem,

@@ -1,6 +1,6 @@
 //! Limits, and which entries are listed.
 use crate::same::assert_same;
-use mdmp_lister::{Choice, Kind, Limits, TypeSet};
+use mdmp_lister::{Choice, Form, Kind, Limits, TypeSet};
 use std::test::Fail;
 
 #[test]
@@ -56,8 +56,28 @@ fn eight_stream_types_have_a_kind(rt: HostRuntime) {
     ];
     for (stream_type, kind) in known {
         assert_same(&rt, Kind::of_type(stream_type), Some(kind));
+        assert_same(&rt, kind.stream_type(), stream_type);
     }
     for stream_type in [0, 1, 8, 10, 15, 24, 0x10000, u32::MAX] {
         assert!(rt; Kind::of_type(stream_type).is_none());
+    }
+}
+
+#[test]
+fn kind_tells_its_head_and_its_records(rt: HostRuntime) {
+    let rows = [
+        (Kind::Threads, Form::Counted, 4, 48),
+        (Kind::Modules, Form::Counted, 4, 108),
+        (Kind::Memory, Form::Counted, 4, 16),
+        (Kind::Exception, Form::Single, 0, 168),
+        (Kind::System, Form::Single, 0, 56),
+        (Kind::Memory64, Form::Ranges64, 16, 16),
+        (Kind::Unloaded, Form::Sized32, 12, 24),
+        (Kind::MemoryInfo, Form::Sized64, 16, 48),
+    ];
+    for (kind, form, head, record) in rows {
+        assert_same(&rt, kind.form(), form);
+        assert_same(&rt, form.head_cost(), head);
+        assert_same(&rt, kind.record_size(), record);
     }
 }

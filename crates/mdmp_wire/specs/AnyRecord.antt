@@ -3,6 +3,8 @@ use Rattle.std.specs.Prelude.{ℕ, Option, Some, None, List, [], ◌∷◌}
 use Rattle.mdmp_source.specs.declared.location.Location.{Location}
 use Rattle.mdmp_wire.specs.declared.any_record.AnyRecord.{AnyRecord}
 use Rattle.mdmp_wire.specs.declared.any_record.AnyRecord.TheVariants as any
+use Rattle.mdmp_wire.specs.declared.slot.Slot.{Slot}
+use Rattle.mdmp_wire.specs.declared.slot.Slot.TheVariants.{Empty, Name, Part}
 use Rattle.mdmp_wire.specs.Descriptor.{descriptor_bytes}
 use Rattle.mdmp_wire.specs.Descriptor64.{descriptor64_bytes}
 use Rattle.mdmp_wire.specs.Exception.{exception_bytes}
@@ -26,6 +28,17 @@ parts_of (any.Module image) = image.cv_record ∷ image.misc_record ∷ []
 parts_of (any.Memory range) = range.memory ∷ []
 parts_of (any.Exception exception) = exception.thread_context ∷ []
 parts_of _ = []
+
+-- what it points at, in the order of its fields: a name stands before the parts
+abbrev pub slots_of : AnyRecord → List Slot
+slots_of (any.Thread thread) = Part ∷ Part ∷ Empty ∷ []
+slots_of (any.Module image) = Name ∷ Part ∷ Part ∷ []
+slots_of (any.Memory range) = Part ∷ Empty ∷ Empty ∷ []
+slots_of (any.Exception exception) = Part ∷ Empty ∷ Empty ∷ []
+slots_of (any.System system) = Name ∷ Empty ∷ Empty ∷ []
+slots_of (any.Memory64 range) = Empty ∷ Empty ∷ Empty ∷ []
+slots_of (any.Unloaded image) = Name ∷ Empty ∷ Empty ∷ []
+slots_of (any.MemoryInfo region) = Empty ∷ Empty ∷ Empty ∷ []
 
 -- its bytes
 abbrev pub any_bytes : AnyRecord → List ℕ

@@ -5,6 +5,10 @@ use Rattle.mdmp_wire.specs.declared.descriptor64.Descriptor64.{Descriptor64}
 use Rattle.mdmp_wire.specs.Number.{number_at, le}
 use Rattle.mdmp_wire.specs.NumberLaws.{number_at-within}
 
+-- how many bytes it has
+abbrev pub descriptor64_size : ℕ
+descriptor64_size = 16
+
 -- the descriptor whose structure stands at o in F
 abbrev pub descriptor64_at : List ℕ → ℕ → Descriptor64
 descriptor64_at F o = record {
@@ -18,5 +22,5 @@ descriptor64_bytes x =
     le 8 x.start_of_memory_range ++ le 8 x.data_size
 
 -- it is read of its own 16 bytes alone
-pub descriptor64_at-part : (n o : ℕ) (F : List ℕ) → 16 ≤ n → descriptor64_at (take n (drop o F)) 0 ≡ descriptor64_at F o
+pub descriptor64_at-part : (n o : ℕ) (F : List ℕ) → descriptor64_size ≤ n → descriptor64_at (take n (drop o F)) 0 ≡ descriptor64_at F o
 descriptor64_at-part n o F room = grind (arith, number_at-within)

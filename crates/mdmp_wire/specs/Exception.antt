@@ -6,6 +6,10 @@ use Rattle.mdmp_wire.specs.Number.{number_at, numbers_at, le, les, zeros}
 use Rattle.mdmp_wire.specs.NumberLaws.{number_at-within, numbers_at-within}
 use Rattle.mdmp_wire.specs.Location.{location_at, location_bytes}
 
+-- how many bytes it has
+abbrev pub exception_size : ℕ
+exception_size = 168
+
 -- the exception whose structure stands at o in F. Bytes 4 to 7 and 36 to 39 are of no use.
 abbrev pub exception_at : List ℕ → ℕ → ExceptionRecord
 exception_at F o = record {
@@ -27,5 +31,5 @@ exception_bytes x =
     ++ les 8 x.exception_information ++ location_bytes x.thread_context
 
 -- it is read of its own 168 bytes alone
-pub exception_at-part : (n o : ℕ) (F : List ℕ) → 168 ≤ n → exception_at (take n (drop o F)) 0 ≡ exception_at F o
+pub exception_at-part : (n o : ℕ) (F : List ℕ) → exception_size ≤ n → exception_at (take n (drop o F)) 0 ≡ exception_at F o
 exception_at-part n o F room = grind (arith, number_at-within, numbers_at-within)

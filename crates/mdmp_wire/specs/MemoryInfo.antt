@@ -5,6 +5,10 @@ use Rattle.mdmp_wire.specs.declared.memory_info.MemoryInfoRecord.{MemoryInfoReco
 use Rattle.mdmp_wire.specs.Number.{number_at, le, zeros}
 use Rattle.mdmp_wire.specs.NumberLaws.{number_at-within}
 
+-- how many bytes it has
+abbrev pub memory_info_size : ℕ
+memory_info_size = 48
+
 -- the memory info whose structure stands at o in F. Bytes 20 to 23 and 44 to 47 are of no use.
 abbrev pub memory_info_at : List ℕ → ℕ → MemoryInfoRecord
 memory_info_at F o = record {
@@ -24,5 +28,5 @@ memory_info_bytes x =
     ++ le 8 x.region_size ++ le 4 x.state ++ le 4 x.protect ++ le 4 x.memory_type ++ zeros 4
 
 -- it is read of its own 48 bytes alone
-pub memory_info_at-part : (n o : ℕ) (F : List ℕ) → 48 ≤ n → memory_info_at (take n (drop o F)) 0 ≡ memory_info_at F o
+pub memory_info_at-part : (n o : ℕ) (F : List ℕ) → memory_info_size ≤ n → memory_info_at (take n (drop o F)) 0 ≡ memory_info_at F o
 memory_info_at-part n o F room = grind (arith, number_at-within)

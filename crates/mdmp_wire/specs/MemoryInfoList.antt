@@ -5,6 +5,10 @@ use Rattle.mdmp_wire.specs.declared.memory_info_list.MemoryInfoList.{MemoryInfoL
 use Rattle.mdmp_wire.specs.Number.{number_at, le}
 use Rattle.mdmp_wire.specs.NumberLaws.{number_at-within}
 
+-- how many bytes it has
+abbrev pub memory_info_list_size : ℕ
+memory_info_list_size = 16
+
 -- the head whose structure stands at o in F
 abbrev pub memory_info_list_at : List ℕ → ℕ → MemoryInfoList
 memory_info_list_at F o = record {
@@ -19,5 +23,5 @@ memory_info_list_bytes x =
     le 4 x.size_of_header ++ le 4 x.size_of_entry ++ le 8 x.number_of_entries
 
 -- it is read of its own 16 bytes alone
-pub memory_info_list_at-part : (n o : ℕ) (F : List ℕ) → 16 ≤ n → memory_info_list_at (take n (drop o F)) 0 ≡ memory_info_list_at F o
+pub memory_info_list_at-part : (n o : ℕ) (F : List ℕ) → memory_info_list_size ≤ n → memory_info_list_at (take n (drop o F)) 0 ≡ memory_info_list_at F o
 memory_info_list_at-part n o F room = grind (arith, number_at-within)

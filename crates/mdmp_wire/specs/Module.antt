@@ -7,6 +7,10 @@ use Rattle.mdmp_wire.specs.NumberLaws.{number_at-within}
 use Rattle.mdmp_wire.specs.Location.{location_at, location_bytes}
 use Rattle.mdmp_wire.specs.Version.{version_at, version_bytes}
 
+-- how many bytes it has
+abbrev pub module_size : ℕ
+module_size = 108
+
 -- the module whose structure stands at o in F
 abbrev pub module_at : List ℕ → ℕ → ModuleRecord
 module_at F o = record {
@@ -30,5 +34,5 @@ module_bytes x =
     ++ location_bytes x.misc_record ++ le 8 x.reserved0 ++ le 8 x.reserved1
 
 -- it is read of its own 108 bytes alone
-pub module_at-part : (n o : ℕ) (F : List ℕ) → 108 ≤ n → module_at (take n (drop o F)) 0 ≡ module_at F o
+pub module_at-part : (n o : ℕ) (F : List ℕ) → module_size ≤ n → module_at (take n (drop o F)) 0 ≡ module_at F o
 module_at-part n o F room = grind (arith, number_at-within)

@@ -5,6 +5,10 @@ use Rattle.mdmp_wire.specs.declared.system.SystemRecord.{SystemRecord}
 use Rattle.mdmp_wire.specs.Number.{number_at, array_at, le}
 use Rattle.mdmp_wire.specs.NumberLaws.{number_at-within, array_at-within}
 
+-- how many bytes it has
+abbrev pub system_size : ℕ
+system_size = 56
+
 -- the system whose structure stands at o in F
 abbrev pub system_at : List ℕ → ℕ → SystemRecord
 system_at F o = record {
@@ -32,5 +36,5 @@ system_bytes x =
     ++ le 2 x.reserved2 ++ x.cpu
 
 -- it is read of its own 56 bytes alone
-pub system_at-part : (n o : ℕ) (F : List ℕ) → 56 ≤ n → system_at (take n (drop o F)) 0 ≡ system_at F o
+pub system_at-part : (n o : ℕ) (F : List ℕ) → system_size ≤ n → system_at (take n (drop o F)) 0 ≡ system_at F o
 system_at-part n o F room = grind (arith, number_at-within, array_at-within)

@@ -7,6 +7,10 @@ use Rattle.mdmp_wire.specs.NumberLaws.{number_at-within}
 use Rattle.mdmp_wire.specs.Location.{location_at, location_bytes}
 use Rattle.mdmp_wire.specs.Descriptor.{descriptor_at, descriptor_bytes}
 
+-- how many bytes it has
+abbrev pub thread_size : ℕ
+thread_size = 48
+
 -- the thread whose structure stands at o in F
 abbrev pub thread_at : List ℕ → ℕ → ThreadRecord
 thread_at F o = record {
@@ -26,5 +30,5 @@ thread_bytes x =
     ++ descriptor_bytes x.stack ++ location_bytes x.thread_context
 
 -- it is read of its own 48 bytes alone
-pub thread_at-part : (n o : ℕ) (F : List ℕ) → 48 ≤ n → thread_at (take n (drop o F)) 0 ≡ thread_at F o
+pub thread_at-part : (n o : ℕ) (F : List ℕ) → thread_size ≤ n → thread_at (take n (drop o F)) 0 ≡ thread_at F o
 thread_at-part n o F room = grind (arith, number_at-within)

@@ -5,6 +5,10 @@ use Rattle.mdmp_wire.specs.declared.unloaded.UnloadedRecord.{UnloadedRecord}
 use Rattle.mdmp_wire.specs.Number.{number_at, le}
 use Rattle.mdmp_wire.specs.NumberLaws.{number_at-within}
 
+-- how many bytes it has
+abbrev pub unloaded_size : ℕ
+unloaded_size = 24
+
 -- the unloaded module whose structure stands at o in F
 abbrev pub unloaded_at : List ℕ → ℕ → UnloadedRecord
 unloaded_at F o = record {
@@ -22,5 +26,5 @@ unloaded_bytes x =
     ++ le 4 x.module_name_rva
 
 -- it is read of its own 24 bytes alone
-pub unloaded_at-part : (n o : ℕ) (F : List ℕ) → 24 ≤ n → unloaded_at (take n (drop o F)) 0 ≡ unloaded_at F o
+pub unloaded_at-part : (n o : ℕ) (F : List ℕ) → unloaded_size ≤ n → unloaded_at (take n (drop o F)) 0 ≡ unloaded_at F o
 unloaded_at-part n o F room = grind (arith, number_at-within)

@@ -6,6 +6,7 @@ use crate::descriptor64::Descriptor64;
 use crate::exception::ExceptionRecord;
 use crate::memory_info::MemoryInfoRecord;
 use crate::module::ModuleRecord;
+use crate::slot::Slot;
 use crate::system::SystemRecord;
 use crate::thread::ThreadRecord;
 use crate::unloaded::UnloadedRecord;
@@ -34,7 +35,7 @@ pub enum AnyRecord {
 }
 
 impl AnyRecord {
-    ghost use Rattle.mdmp_wire.specs.AnyRecord.{name_rva, parts_of};
+    ghost use Rattle.mdmp_wire.specs.AnyRecord.{name_rva, parts_of, slots_of};
 
     /// Where its name stands, from the start of the file, if records of its kind have one: of a
     /// module and an unloaded module `ModuleNameRva`, of a system `CSDVersionRva`. 0 says that
@@ -65,6 +66,23 @@ impl AnyRecord {
             AnyRecord::Memory(range) => [range.memory].get(which).copied(),
             AnyRecord::Exception(exception) => [exception.thread_context].get(which).copied(),
             _ => None,
+        }
+    }
+
+    /// What it points at, in the order of its fields: a name stands before the parts.
+    pub fn slots(&self) -> [Slot; 3]
+        ensures { result ≡ slots_of self.now }
+    {
+        match self {
+            AnyRecord::Thread(_) => [Slot::Part, Slot::Part, Slot::Empty],
+            AnyRecord::Module(_) => [Slot::Name, Slot::Part, Slot::Part],
+            AnyRecord::Memory(_) | AnyRecord::Exception(_) => {
+                [Slot::Part, Slot::Empty, Slot::Empty]
+            }
+            AnyRecord::System(_) | AnyRecord::Unloaded(_) => {
+                [Slot::Name, Slot::Empty, Slot::Empty]
+            }
+            AnyRecord::Memory64(_) | AnyRecord::MemoryInfo(_) => [Slot::Empty; 3],
         }
     }
 }

@@ -14,9 +14,9 @@ pub struct Descriptor {
 }
 
 impl Record for Descriptor {
-    ghost use Rattle.mdmp_wire.specs.Descriptor.{descriptor_at, descriptor_bytes, descriptor_at-part};
+    ghost use Rattle.mdmp_wire.specs.Descriptor.{descriptor_at, descriptor_bytes, descriptor_size, descriptor_at-part};
 
-    ghost SIZE = { 16 };
+    ghost SIZE = { descriptor_size };
 
     const SIZE: usize = 16;
 

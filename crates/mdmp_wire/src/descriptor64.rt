@@ -13,9 +13,9 @@ pub struct Descriptor64 {
 }
 
 impl Record for Descriptor64 {
-    ghost use Rattle.mdmp_wire.specs.Descriptor64.{descriptor64_at, descriptor64_bytes, descriptor64_at-part};
+    ghost use Rattle.mdmp_wire.specs.Descriptor64.{descriptor64_at, descriptor64_bytes, descriptor64_size, descriptor64_at-part};
 
-    ghost SIZE = { 16 };
+    ghost SIZE = { descriptor64_size };
 
     const SIZE: usize = 16;
 

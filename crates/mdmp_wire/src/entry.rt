@@ -13,9 +13,9 @@ pub struct Entry {
 }
 
 impl Record for Entry {
-    ghost use Rattle.mdmp_wire.specs.Entry.{entry_at, entry_bytes, entry_at-part};
+    ghost use Rattle.mdmp_wire.specs.Entry.{entry_at, entry_bytes, entry_size, entry_at-part};
 
-    ghost SIZE = { 12 };
+    ghost SIZE = { entry_size };
 
     const SIZE: usize = 12;
 

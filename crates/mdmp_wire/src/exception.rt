@@ -26,9 +26,9 @@ pub struct ExceptionRecord {
 }
 
 impl Record for ExceptionRecord {
-    ghost use Rattle.mdmp_wire.specs.Exception.{exception_at, exception_bytes, exception_at-part};
+    ghost use Rattle.mdmp_wire.specs.Exception.{exception_at, exception_bytes, exception_size, exception_at-part};
 
-    ghost SIZE = { 168 };
+    ghost SIZE = { exception_size };
 
     const SIZE: usize = 168;
 

@@ -12,9 +12,9 @@ pub struct Memory64List {
 }
 
 impl Record for Memory64List {
-    ghost use Rattle.mdmp_wire.specs.Memory64List.{memory64_list_at, memory64_list_bytes, memory64_list_at-part};
+    ghost use Rattle.mdmp_wire.specs.Memory64List.{memory64_list_at, memory64_list_bytes, memory64_list_size, memory64_list_at-part};
 
-    ghost SIZE = { 16 };
+    ghost SIZE = { memory64_list_size };
 
     const SIZE: usize = 16;
 

@@ -22,9 +22,9 @@ pub struct MemoryInfoRecord {
 }
 
 impl Record for MemoryInfoRecord {
-    ghost use Rattle.mdmp_wire.specs.MemoryInfo.{memory_info_at, memory_info_bytes, memory_info_at-part};
+    ghost use Rattle.mdmp_wire.specs.MemoryInfo.{memory_info_at, memory_info_bytes, memory_info_size, memory_info_at-part};
 
-    ghost SIZE = { 48 };
+    ghost SIZE = { memory_info_size };
 
     const SIZE: usize = 48;
 

@@ -14,9 +14,9 @@ pub struct MemoryInfoList {
 }
 
 impl Record for MemoryInfoList {
-    ghost use Rattle.mdmp_wire.specs.MemoryInfoList.{memory_info_list_at, memory_info_list_bytes, memory_info_list_at-part};
+    ghost use Rattle.mdmp_wire.specs.MemoryInfoList.{memory_info_list_at, memory_info_list_bytes, memory_info_list_size, memory_info_list_at-part};
 
-    ghost SIZE = { 16 };
+    ghost SIZE = { memory_info_list_size };
 
     const SIZE: usize = 16;
 

@@ -30,9 +30,9 @@ pub struct ModuleRecord {
 }
 
 impl Record for ModuleRecord {
-    ghost use Rattle.mdmp_wire.specs.Module.{module_at, module_bytes, module_at-part};
+    ghost use Rattle.mdmp_wire.specs.Module.{module_at, module_bytes, module_size, module_at-part};
 
-    ghost SIZE = { 108 };
+    ghost SIZE = { module_size };
 
     const SIZE: usize = 108;
 

@@ -35,9 +35,9 @@ pub struct SystemRecord {
 }
 
 impl Record for SystemRecord {
-    ghost use Rattle.mdmp_wire.specs.System.{system_at, system_bytes, system_at-part};
+    ghost use Rattle.mdmp_wire.specs.System.{system_at, system_bytes, system_size, system_at-part};
 
-    ghost SIZE = { 56 };
+    ghost SIZE = { system_size };
 
     const SIZE: usize = 56;
 

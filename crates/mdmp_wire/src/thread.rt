@@ -24,9 +24,9 @@ pub struct ThreadRecord {
 }
 
 impl Record for ThreadRecord {
-    ghost use Rattle.mdmp_wire.specs.Thread.{thread_at, thread_bytes, thread_at-part};
+    ghost use Rattle.mdmp_wire.specs.Thread.{thread_at, thread_bytes, thread_size, thread_at-part};
 
-    ghost SIZE = { 48 };
+    ghost SIZE = { thread_size };
 
     const SIZE: usize = 48;
 

@@ -18,9 +18,9 @@ pub struct UnloadedRecord {
 }
 
 impl Record for UnloadedRecord {
-    ghost use Rattle.mdmp_wire.specs.Unloaded.{unloaded_at, unloaded_bytes, unloaded_at-part};
+    ghost use Rattle.mdmp_wire.specs.Unloaded.{unloaded_at, unloaded_bytes, unloaded_size, unloaded_at-part};
 
-    ghost SIZE = { 24 };
+    ghost SIZE = { unloaded_size };
 
     const SIZE: usize = 24;
 

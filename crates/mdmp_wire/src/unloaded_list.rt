@@ -14,9 +14,9 @@ pub struct UnloadedList {
 }
 
 impl Record for UnloadedList {
-    ghost use Rattle.mdmp_wire.specs.UnloadedList.{unloaded_list_at, unloaded_list_bytes, unloaded_list_at-part};
+    ghost use Rattle.mdmp_wire.specs.UnloadedList.{unloaded_list_at, unloaded_list_bytes, unloaded_list_size, unloaded_list_at-part};
 
-    ghost SIZE = { 12 };
+    ghost SIZE = { unloaded_list_size };
 
     const SIZE: usize = 12;
 

@@ -1,5 +1,5 @@
 -- The bytes of a dump: its header, its directory, a block for each stream, and 64-bit memory.
-use Rattle.std.specs.Prelude.{◌≡◌, ℕ, ◌+◌, ◌-◌, ◌*◌, List, [], ◌∷◌, ◌++◌, length, replicate, ◌==◌, if◌then◌else◌}
+use Rattle.std.specs.Prelude.{◌≡◌, ℕ, ◌+◌, ◌-◌, ◌*◌, List, [], ◌∷◌, ◌++◌, length, replicate, Option, Some, None, if◌then◌else◌}
 use Rattle.mdmp_wire.specs.declared.entry.Entry.{Entry}
 use Rattle.mdmp_wire.specs.declared.header.Header.{Header}
 use Rattle.mdmp_wire.specs.Entry.{entry_bytes}
@@ -9,6 +9,11 @@ use Rattle.mdmp_wire.specs.Memory64List.{memory64_list_bytes}
 use Rattle.mdmp_wire.specs.MemoryInfoList.{memory_info_list_bytes}
 use Rattle.mdmp_wire.specs.Number.{le}
 use Rattle.mdmp_wire.specs.UnloadedList.{unloaded_list_bytes}
+use Rattle.mdmp_lister.specs.declared.form.Form.{Form}
+use Rattle.mdmp_lister.specs.declared.form.Form.TheVariants as forms
+use Rattle.mdmp_lister.specs.declared.kind.Kind.{Kind as ListKind}
+use Rattle.mdmp_lister.specs.Format.Kind.{form_of, kind_of, record_size}
+use Rattle.mdmp_lister.specs.Format.Shape.{head_cost}
 use Rattle.mdmp_dump.specs.declared.dump.Dump.{Dump}
 use Rattle.mdmp_dump.specs.declared.view.HeaderFields.{HeaderFields}
 use Rattle.mdmp_dump.specs.declared.view.Kind.{Kind}
@@ -36,16 +41,24 @@ all_padded (part ∷ parts) = padded part ++ all_padded parts
 
 -- ---- a stream
 
--- what stands before the records of a stream of this type, with so many of them and its 64-bit memory at a place
+-- what stands before records of this size, so many, of a stream of this form whose 64-bit memory begins at a place
+abbrev pub head_by_form : Form → ℕ → ℕ → ℕ → List ℕ
+head_by_form forms.Counted size count far = le 4 count
+head_by_form forms.Single size count far = []
+head_by_form forms.Ranges64 size count far = memory64_list_bytes (record { number_of_memory_ranges = count; base_rva = far })
+head_by_form forms.Sized32 size count far =
+    unloaded_list_bytes (record { size_of_header = head_cost forms.Sized32; size_of_entry = size; number_of_entries = count })
+head_by_form forms.Sized64 size count far =
+    memory_info_list_bytes (record { size_of_header = head_cost forms.Sized64; size_of_entry = size; number_of_entries = count })
+
+-- the same of a stream of this kind; nothing of one whose records are not known
+abbrev pub head_by_kind : Option ListKind → ℕ → ℕ → List ℕ
+head_by_kind (Some kind) count far = head_by_form (form_of kind) (record_size kind) count far
+head_by_kind None count far = []
+
+-- of this type
 abbrev pub head_text : ℕ → ℕ → ℕ → List ℕ
-head_text t count far =
-    if t == 3 then le 4 count
-    else if t == 4 then le 4 count
-    else if t == 5 then le 4 count
-    else if t == 9 then memory64_list_bytes (record { number_of_memory_ranges = count; base_rva = far })
-    else if t == 14 then unloaded_list_bytes (record { size_of_header = 12; size_of_entry = 24; number_of_entries = count })
-    else if t == 16 then memory_info_list_bytes (record { size_of_header = 16; size_of_entry = 48; number_of_entries = count })
-    else []
+head_text t count far = head_by_kind (kind_of t) count far
 
 -- the records, where the names and parts of the first one begin at a place, and those of the next behind them
 unfoldable pub rows : ℕ → List Seen → List ℕ

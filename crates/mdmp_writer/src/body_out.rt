@@ -2,11 +2,11 @@
 ghost use Rattle.std.specs.Prelude.{◌≡◌, ◌<◌, ◌≤◌, ◌+◌, ◌*◌, ◌^◌, ◌++◌, Bool, OnOk, Option, Some, length};
 ghost use Rattle.mdmp_dump.specs.declared.view.Kind.TheVariants.{Known};
 ghost use Rattle.mdmp_dump.specs.declared.view.ViewFault.{ViewFault};
-ghost use Rattle.mdmp_dump.specs.Shape.{cost_at, head_of, room_of, row_of, seen_at, stream_at};
+ghost use Rattle.mdmp_dump.specs.Shape.{cost_at, head_by, head_of, room_of, row_of, seen_at, stream_at};
 ghost use Rattle.mdmp_dump.specs.View.{DumpSeen};
 ghost use Rattle.mdmp_writer.specs.Gather.{gathered, PutsSome, Writes};
 ghost use Rattle.mdmp_writer.specs.Cause.{HasCause, IsToldBy};
-ghost use Rattle.mdmp_writer.specs.Written.{head_text, rows};
+ghost use Rattle.mdmp_writer.specs.Written.{head_by_kind, head_text, rows};
 
 use crate::fault::WriteFault;
 use crate::gather::Gather;
@@ -14,11 +14,59 @@ use crate::place::Place;
 use crate::record_bytes::put_record;
 use crate::rows_out::put_rows;
 use mdmp_dump::DumpView;
+use mdmp_lister::{Form, Kind};
 use mdmp_source::Out;
 use mdmp_wire::{Memory64List, MemoryInfoList, UnloadedList};
 
-/// Writes what stands before the records of a stream of this type, so many, whose 64-bit memory
+/// Writes what stands before the records of a stream of this kind, so many, whose 64-bit memory
 /// begins at a place.
+fn put_kind_head<O: Out>(
+    out: &mut O,
+    gather: &mut Gather<'_>,
+    kind: Kind,
+    count: u64,
+    far: u64,
+) -> Result<(), WriteFault>
+    requires { count < 2 ^ 32 }
+    ensures writes { Writes result (gathered (O.state out.old) gather.old) (head_by_kind (Some kind) count far) (gathered (O.state out.new) gather.new) }
+    ensures some { OnOk result (PutsSome (gathered (O.state out.old) gather.old) (head_by (Some kind)) (gathered (O.state out.new) gather.new)) }
+    ensures cause { (reliable : Bool) → HasCause reliable result (O.state out.old) (O.state out.new) }
+    ensures told { (last : Option ViewFault) → IsToldBy result last }
+{
+    let form = kind.form();
+    match form {
+        Form::Counted => put_record(out, gather, &(count as u32)),
+        Form::Single => Ok(()),
+        Form::Ranges64 => put_record(
+            out,
+            gather,
+            &Memory64List {
+                number_of_memory_ranges: count,
+                base_rva: far,
+            },
+        ),
+        Form::Sized32 => put_record(
+            out,
+            gather,
+            &UnloadedList {
+                size_of_header: form.head_cost(),
+                size_of_entry: kind.record_size(),
+                number_of_entries: count as u32,
+            },
+        ),
+        Form::Sized64 => put_record(
+            out,
+            gather,
+            &MemoryInfoList {
+                size_of_header: form.head_cost(),
+                size_of_entry: kind.record_size(),
+                number_of_entries: count,
+            },
+        ),
+    }
+}
+
+/// The same of a stream of this type.
 fn put_head<O: Out>(
     out: &mut O,
     gather: &mut Gather<'_>,
@@ -32,37 +80,9 @@ fn put_head<O: Out>(
     ensures cause { (reliable : Bool) → HasCause reliable result (O.state out.old) (O.state out.new) }
     ensures told { (last : Option ViewFault) → IsToldBy result last }
 {
-    match stream_type {
-        3 => put_record(out, gather, &(count as u32)),
-        4 => put_record(out, gather, &(count as u32)),
-        5 => put_record(out, gather, &(count as u32)),
-        9 => put_record(
-            out,
-            gather,
-            &Memory64List {
-                number_of_memory_ranges: count,
-                base_rva: far,
-            },
-        ),
-        14 => put_record(
-            out,
-            gather,
-            &UnloadedList {
-                size_of_header: 12,
-                size_of_entry: 24,
-                number_of_entries: count as u32,
-            },
-        ),
-        16 => put_record(
-            out,
-            gather,
-            &MemoryInfoList {
-                size_of_header: 16,
-                size_of_entry: 48,
-                number_of_entries: count,
-            },
-        ),
-        _ => Ok(()),
+    match Kind::of_type(stream_type) {
+        Some(kind) => put_kind_head(out, gather, kind, count, far),
+        None => Ok(()),
     }
 }
 

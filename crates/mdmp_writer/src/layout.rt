@@ -7,6 +7,7 @@ ghost use Rattle.mdmp_writer.specs.Layout.{AreEnds, block_size, far_size, first_
 use crate::fault::LayoutFault;
 use crate::place::up;
 use mdmp_dump::{DumpView, Kind};
+use mdmp_lister::Kind as ListKind;
 
 /// What a stream takes.
 #[derive(Clone, Copy)]
@@ -69,9 +70,7 @@ fn is_misnamed(kind: Kind) -> bool
     match kind {
         Kind::Unused => false,
         Kind::Known(_) => false,
-        Kind::Raw(stream_type) => {
-            stream_type == 0 || mdmp_lister::Kind::of_type(stream_type).is_some()
-        },
+        Kind::Raw(stream_type) => { stream_type == 0 || ListKind::of_type(stream_type).is_some() },
     }
 }
 
@@ -97,7 +96,7 @@ pub(crate) fn is_far(kind: Kind) -> bool
 {
     match kind {
         Kind::Unused => false,
-        Kind::Known(stream_type) => stream_type == 9,
+        Kind::Known(stream_type) => stream_type == ListKind::Memory64.stream_type(),
         Kind::Raw(_) => false,
     }
 }

@@ -1,7 +1,9 @@
 //! The name and the parts of a record of any kind.
 use crate::same::assert_same;
 use mdmp_source::Location;
-use mdmp_wire::{AnyRecord, Descriptor, ModuleRecord, Record, SystemRecord, ThreadRecord};
+use mdmp_wire::{
+    AnyRecord, Descriptor, Descriptor64, ModuleRecord, Record, Slot, SystemRecord, ThreadRecord,
+};
 
 #[test]
 fn record_of_a_kind_with_names_tells_where_its_name_stands(rt: HostRuntime) {
@@ -30,4 +32,14 @@ fn parts_of_a_thread_are_its_stack_and_its_registers(rt: HostRuntime) {
     assert_same(&rt, record.part(0), Some(stack));
     assert_same(&rt, record.part(1), Some(registers));
     assert_same(&rt, record.part(2), None);
+}
+
+#[test]
+fn slots_of_a_record_are_in_the_order_of_its_fields(rt: HostRuntime) {
+    let module = AnyRecord::Module(ModuleRecord::read(&[0; 108]));
+    assert_same(&rt, module.slots(), [Slot::Name, Slot::Part, Slot::Part]);
+    let thread = AnyRecord::Thread(ThreadRecord::read(&[0; 48]));
+    assert_same(&rt, thread.slots(), [Slot::Part, Slot::Part, Slot::Empty]);
+    let range = AnyRecord::Memory64(Descriptor64::read(&[0; 16]));
+    assert_same(&rt, range.slots(), [Slot::Empty, Slot::Empty, Slot::Empty]);
 }

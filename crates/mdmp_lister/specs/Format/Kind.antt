@@ -1,5 +1,13 @@
 -- Which streams have records: the type, the form and the records of each kind.
 use Rattle.std.specs.Prelude.{◌≡◌, ℕ, Option, Some, None, Bool, true, false, is_some, ◌==◌, if◌then◌else◌}
+use Rattle.mdmp_wire.specs.Descriptor.{descriptor_size}
+use Rattle.mdmp_wire.specs.Descriptor64.{descriptor64_size}
+use Rattle.mdmp_wire.specs.Exception.{exception_size}
+use Rattle.mdmp_wire.specs.MemoryInfo.{memory_info_size}
+use Rattle.mdmp_wire.specs.Module.{module_size}
+use Rattle.mdmp_wire.specs.System.{system_size}
+use Rattle.mdmp_wire.specs.Thread.{thread_size}
+use Rattle.mdmp_wire.specs.Unloaded.{unloaded_size}
 use Rattle.mdmp_lister.specs.declared.form.Form.{Form}
 use Rattle.mdmp_lister.specs.declared.form.Form.TheVariants as forms
 use Rattle.mdmp_lister.specs.declared.kind.Kind.{Kind}
@@ -7,17 +15,28 @@ use Rattle.mdmp_lister.specs.declared.kind.Kind.TheVariants as kinds
 
 -- ---- kinds of streams: the type, the form and the records of each
 
+-- the type of its streams
+abbrev pub type_of_kind : Kind → ℕ
+type_of_kind kinds.Threads = 3
+type_of_kind kinds.Modules = 4
+type_of_kind kinds.Memory = 5
+type_of_kind kinds.Exception = 6
+type_of_kind kinds.System = 7
+type_of_kind kinds.Memory64 = 9
+type_of_kind kinds.Unloaded = 14
+type_of_kind kinds.MemoryInfo = 16
+
 -- the kind of a stream type whose records are known
 abbrev pub kind_of : ℕ → Option Kind
 kind_of t =
-    if t == 3 then Some kinds.Threads
-    else if t == 4 then Some kinds.Modules
-    else if t == 5 then Some kinds.Memory
-    else if t == 6 then Some kinds.Exception
-    else if t == 7 then Some kinds.System
-    else if t == 9 then Some kinds.Memory64
-    else if t == 14 then Some kinds.Unloaded
-    else if t == 16 then Some kinds.MemoryInfo
+    if t == type_of_kind kinds.Threads then Some kinds.Threads
+    else if t == type_of_kind kinds.Modules then Some kinds.Modules
+    else if t == type_of_kind kinds.Memory then Some kinds.Memory
+    else if t == type_of_kind kinds.Exception then Some kinds.Exception
+    else if t == type_of_kind kinds.System then Some kinds.System
+    else if t == type_of_kind kinds.Memory64 then Some kinds.Memory64
+    else if t == type_of_kind kinds.Unloaded then Some kinds.Unloaded
+    else if t == type_of_kind kinds.MemoryInfo then Some kinds.MemoryInfo
     else None
 
 abbrev pub is_known : ℕ → Bool
@@ -36,18 +55,23 @@ form_of kinds.MemoryInfo = forms.Sized64
 
 -- how many bytes a record has
 abbrev pub record_size : Kind → ℕ
-record_size kinds.Threads = 48
-record_size kinds.Modules = 108
-record_size kinds.Memory = 16
-record_size kinds.Exception = 168
-record_size kinds.System = 56
-record_size kinds.Memory64 = 16
-record_size kinds.Unloaded = 24
-record_size kinds.MemoryInfo = 48
+record_size kinds.Threads = thread_size
+record_size kinds.Modules = module_size
+record_size kinds.Memory = descriptor_size
+record_size kinds.Exception = exception_size
+record_size kinds.System = system_size
+record_size kinds.Memory64 = descriptor64_size
+record_size kinds.Unloaded = unloaded_size
+record_size kinds.MemoryInfo = memory_info_size
 
 -- the most bytes that a record of any kind has: those of an exception
 abbrev pub greatest_record : ℕ
 greatest_record = record_size kinds.Exception
+
+-- it is the one whose records do not say where the bytes of their ranges stand: they follow one another
+abbrev pub is_memory64 : Kind → Bool
+is_memory64 kinds.Memory64 = true
+is_memory64 kind = false
 
 -- its records are ranges of memory
 abbrev pub lists_ranges : Kind → Bool

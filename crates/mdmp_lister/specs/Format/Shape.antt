@@ -4,9 +4,9 @@ use Rattle.mdmp_source.specs.Range.{IsInside, is_inside}
 use Rattle.mdmp_source.specs.declared.location.Location.{Location}
 use Rattle.mdmp_wire.specs.declared.entry.Entry.{Entry}
 use Rattle.mdmp_wire.specs.Number.{number_at}
-use Rattle.mdmp_wire.specs.Memory64List.{memory64_list_at}
-use Rattle.mdmp_wire.specs.MemoryInfoList.{memory_info_list_at}
-use Rattle.mdmp_wire.specs.UnloadedList.{unloaded_list_at}
+use Rattle.mdmp_wire.specs.Memory64List.{memory64_list_at, memory64_list_size}
+use Rattle.mdmp_wire.specs.MemoryInfoList.{memory_info_list_at, memory_info_list_size}
+use Rattle.mdmp_wire.specs.UnloadedList.{unloaded_list_at, unloaded_list_size}
 use Rattle.mdmp_lister.specs.declared.form.Form.{Form}
 use Rattle.mdmp_lister.specs.declared.form.Form.TheVariants as forms
 use Rattle.mdmp_lister.specs.declared.kind.Kind.{Kind}
@@ -21,9 +21,9 @@ use Rattle.mdmp_lister.specs.Format.Kind.{kind_of, form_of, record_size}
 abbrev pub head_cost : Form → ℕ
 head_cost forms.Counted = 4
 head_cost forms.Single = 0
-head_cost forms.Ranges64 = 16
-head_cost forms.Sized32 = 12
-head_cost forms.Sized64 = 16
+head_cost forms.Ranges64 = memory64_list_size
+head_cost forms.Sized32 = unloaded_list_size
+head_cost forms.Sized64 = memory_info_list_size
 
 -- how many bytes such a stream has at least, whose records have so many each: those of its head, or of its one record
 abbrev pub head_size : Form → ℕ → ℕ

@@ -13,7 +13,7 @@ returns-clause-reads g c =
     record {
       of_file = λ file known.
           let bytes : take size c.bytes.result.now ≡ bytes_at file c.args.at size = rw c.bytes.ensures (read.of_file file known) in
-          record-fetched c.args.kind size c.args.at file _ c.record_of.result (omega (arith, c.record_size-size.ensures)) bytes c.record_of.ensures;
-      books = rw c.record_size-size.ensures at read.books;
+          record-fetched c.args.kind size c.args.at file _ c.record_of.result (omega (arith, c.record_size-size.ensures.value)) bytes c.record_of.ensures;
+      books = rw c.record_size-size.ensures.value at read.books;
       caused = read.caused;
     }

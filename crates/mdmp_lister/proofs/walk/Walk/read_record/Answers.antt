@@ -2,7 +2,7 @@ use Rattle.std.proofs.Common.{◌≡◌, arith, ◌∙◌, length, refl, rules, 
 use Rattle.mdmp_lister.proofs.Bodies.{take-lent}
 use Rattle.mdmp_lister.proofs.EntrySteps.{answered_record, answered_record_fault, given_record, nameless_reading}
 use Rattle.mdmp_lister.proofs.Fetches.{unchanged_caused}
-use Rattle.mdmp_lister.proofs.Sizes.{most_record}
+use Rattle.mdmp_lister.specs.Format.KindLaws.{most_record}
 use Rattle.mdmp_lister.proofs.Unchanged.{fault_stage-unchanged}
 use Rattle.mdmp_lister.specs.Format.Kind.{greatest_record}
 use Rattle.mdmp_lister.specs.Walk.{IsHolding}
