@@ -10,7 +10,7 @@ use std::alloc::{AllocError, Allocator};
 use std::process::Abort;
 
 /// A row of a test: an address and where it stands.
-type Row = (u64, Option<Place>);
+type PlaceRow = (u64, Option<Place>);
 
 fn place(offset: u64, left: u64) -> Option<Place> {
     Some(Place { offset, left })
@@ -32,7 +32,7 @@ fn push_all<A: Allocator>(rt: &impl Abort, map: &mut AddressMap<A>, ranges: &[(u
 }
 
 /// The map places each address as its row says.
-fn assert_places<A: Allocator>(rt: &impl Abort, map: &AddressMap<A>, rows: &[Row]) {
+fn assert_places<A: Allocator>(rt: &impl Abort, map: &AddressMap<A>, rows: &[PlaceRow]) {
     for (address, expected) in rows {
         assert_eq!(rt; map.find(*address), *expected, "at {address}");
     }

@@ -9,10 +9,10 @@ use Rattle.mdmp_wire.specs.declared.header.Header.{Header}
 use Rattle.mdmp_wire.specs.Entry.{entry_at}
 use Rattle.mdmp_wire.specs.Header.{header_at}
 use Rattle.mdmp_lister.specs.Format.Refusal.{directory_refusal}
-use Rattle.mdmp_c.specs.declared.heading.StreamRow.{StreamRow}
+use Rattle.mdmp_c.specs.declared.header_rows.StreamRow.{StreamRow}
 use Rattle.mdmp_c.specs.Directory.{stream_row, stream_rows}
 use Rattle.mdmp_c.specs.Fault.{no_fault, told_unless}
-use Rattle.mdmp_c.specs.Giving.{Gives, put_front}
+use Rattle.mdmp_c.specs.Giving.{GivesList, put_front}
 use Rattle.mdmp_c.specs.Table.{rows_unless}
 
 -- an entry of a directory that lies inside a file does too
@@ -30,10 +30,10 @@ status_short room n short = let is : nat_lt room n ≡ true = grind (arith, nat_
 pub status_fits : (room n : ℕ) → n ≤ room → ◌≡◌ {A = ℕ} 0 (if nat_lt room n then 4 else 0)
 status_fits room n fits = let is : nat_lt room n ≡ false = grind (arith, nat_tests) in rw is refl
 
-pub Gives-streams : (F : List ℕ) (h : Header) (status count : ℕ) (before after : List StreamRow) → directory_refusal F ≡ None → h ≡ header_at F 0 → count ≡ h.number_of_streams
+pub GivesList-streams : (F : List ℕ) (h : Header) (status count : ℕ) (before after : List StreamRow) → directory_refusal F ≡ None → h ≡ header_at F 0 → count ≡ h.number_of_streams
     → count < 2 ^ 64 → status ≡ (if nat_lt (length before) h.number_of_streams then 4 else 0) → after ≡ put_front (rows_by F h) before
-    → Gives (told_unless (directory_refusal F) no_fault) (rows_unless (directory_refusal F) (stream_rows F)) status count no_fault before after
-Gives-streams F h status count before after none is counts small ends puts =
+    → GivesList (told_unless (directory_refusal F) no_fault) (rows_unless (directory_refusal F) (stream_rows F)) status count no_fault before after
+GivesList-streams F h status count before after none is counts small ends puts =
     let same : rows_by F h ≡ stream_rows F = ap (rows_by F) is in
     let long : length (rows_by F h) ≡ h.number_of_streams =
     length-map-range_with_len (λ e. stream_row e (entry_at F (h.stream_directory_rva + 12 * e))) 0 h.number_of_streams in

@@ -8,7 +8,7 @@ use Rattle.mdmp_lister.specs.Fault.{IsOfSource}
 use Rattle.mdmp_lister.specs.Format.Listing.{listing, memory_lists}
 use Rattle.mdmp_lister.specs.Format.Refusal.{opening_fault}
 use Rattle.mdmp_c.specs.declared.fault.PlainFault.{PlainFault}
-use Rattle.mdmp_c.specs.Fault.{kind_number, list_fault, no_fault, of_kind, status_of}
+use Rattle.mdmp_c.specs.Fault.{kind_number, plain_list_fault, no_fault, of_kind, status_of}
 use Rattle.mdmp_c.specs.Memory.{memory_told}
 
 -- a fault of a listing that is not the store's has status 1
@@ -25,7 +25,7 @@ status-file (kinds.Source fault) of_file = absurd (of_file tt)
 
 -- the first fault of the memory lists of a file that can be opened is told
 pub memory_told-fault : (F : List ℕ) (limit n : ℕ) (choice : Choice) (f : ListFault) → choice ≡ memory_lists → n ≡ limit → opening_fault F choice ≡ None
-    → (listing F choice n).fault ≡ Some f → memory_told F limit ≡ list_fault f
+    → (listing F choice n).fault ≡ Some f → memory_told F limit ≡ plain_list_fault f
 memory_told-fault F limit n choice f is same opened fault =
     let opened_too : opening_fault F memory_lists ≡ None = subst (λ (c : Choice). opening_fault F c ≡ None) is opened in
     let first : (listing F memory_lists n).fault ≡ Some f = subst (λ (c : Choice). (listing F c n).fault ≡ Some f) is fault in

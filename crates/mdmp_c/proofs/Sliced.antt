@@ -5,7 +5,7 @@ use Rattle.std.proofs.lemmas.Bool.Decides.{nat_tests}
 use Rattle.mdmp_wire.specs.Number.{array_at}
 use Rattle.mdmp_wire.specs.CodeView.{codeview_in, codeview_of}
 use Rattle.mdmp_c.specs.declared.parts.PartPlace.{PartPlace}
-use Rattle.mdmp_c.specs.Symbols.{location_of}
+use Rattle.mdmp_c.specs.Symbols.{place_location}
 
 array_is : (F : List ℕ) (o n : ℕ) → array_at F o n ≡ take n (drop o F)
 unfolding array_at
@@ -33,7 +33,7 @@ rest_sliced F r s m is = by (nat_le 24 s) refl where
 
 pub codeview_sliced : (F : List ℕ) (place : PartPlace) (m : ℕ) → m ≡ min place.size 24
     → codeview_in (take (place.rva + m - place.rva) (drop place.rva F)) (take (place.rva + place.size - (place.rva + m)) (drop (place.rva + m) F)) place.size
-    ≡ codeview_of F (location_of place) place.size
+    ≡ codeview_of F (place_location place) place.size
 codeview_sliced F place m is =
     ap (λ (head : List ℕ). codeview_in head (take (place.rva + place.size - (place.rva + m)) (drop (place.rva + m) F)) place.size) (head_sliced F place.rva place.size m is)
     ∙ ap (λ (rest : List ℕ). codeview_in (array_at F place.rva (min place.size 24)) rest place.size) (rest_sliced F place.rva place.size m is)

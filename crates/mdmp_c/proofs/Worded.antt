@@ -19,9 +19,9 @@ use Rattle.mdmp_tool.specs.CheckText.{bad_text}
 use Rattle.mdmp_tool.specs.Faults.{fault_text}
 use Rattle.mdmp_tool.specs.Lines.{error_line}
 use Rattle.mdmp_c.specs.declared.fault.PlainFault.{PlainFault}
-use Rattle.mdmp_c.specs.Fault.{list_fault, no_fault, open_fault}
-use Rattle.mdmp_c.specs.FaultText.{Fits, FitsKind, FitsOpening, FitsReading, TellsWords, fault_in, fixed_words, told, words_of}
-use Rattle.mdmp_c.specs.Giving.{Gives}
+use Rattle.mdmp_c.specs.Fault.{plain_list_fault, no_fault, open_fault}
+use Rattle.mdmp_c.specs.FaultText.{FitsTool, FitsKind, FitsOpening, FitsReading, TellsWords, fault_in, fixed_words, told, words_of}
+use Rattle.mdmp_c.specs.Giving.{GivesList}
 use Rattle.mdmp_c.specs.ToolFault.{read_fault, tool_fault}
 
 -- ---- out of the line
@@ -42,10 +42,10 @@ cut_words text line n is count =
 
 -- what was given was told with no fault of its own
 pub TellsWords-given : (p : PlainFault) (words given : List ℕ) (status count : ℕ) (fault : PlainFault) (before after : List ℕ) → words_of p ≡ Some words → given ≡ words
-    → Gives no_fault given status count fault before after → TellsWords p status count before after
+    → GivesList no_fault given status count fault before after → TellsWords p status count before after
 TellsWords-given p words given status count fault before after is same gives =
     told words is
-    (subst (λ (xs : List ℕ). Gives no_fault xs status count no_fault before after) same
+    (subst (λ (xs : List ℕ). GivesList no_fault xs status count no_fault before after) same
     (record { status_is = gives.status_is; count_is = gives.count_is; fault_is = refl; out = gives.out }))
 
 -- ---- of the numbers of a fault
@@ -62,9 +62,9 @@ opening_words (opening.TooManyRanges count) fits = ap (λ n. Some (fault_text (t
 opening_words opening.Memory fits = refl
 opening_words (opening.Source fault) fits = absurd fits
 
-list_words : (f : ListFault) (kind : FaultKind) → f.kind ≡ kind → FitsKind kind → words_of (list_fault f) ≡ Some (fault_text (tool.List f))
+list_words : (f : ListFault) (kind : FaultKind) → f.kind ≡ kind → FitsKind kind → words_of (plain_list_fault f) ≡ Some (fault_text (tool.List f))
 list_words f kind is fits = by f.index refl kind is fits where
-  by : (k : Option ℕ) → f.index ≡ k → (kind : FaultKind) → f.kind ≡ kind → FitsKind kind → words_of (list_fault f) ≡ Some (fault_text (tool.List f))
+  by : (k : Option ℕ) → f.index ≡ k → (kind : FaultKind) → f.kind ≡ kind → FitsKind kind → words_of (plain_list_fault f) ≡ Some (fault_text (tool.List f))
   by None at kinds.StreamOutside is fits = rw (at, is) refl
   by None at kinds.ShortStream is fits = rw (at, is) refl
   by None at kinds.BadHeaderSize is fits = rw (at, is) refl
@@ -106,7 +106,7 @@ reading_words reading.Memory fits = refl
 reading_words (reading.Source fault) fits = absurd fits
 
 -- the words of the numbers of a fault are its own
-pub words_back : (f : ToolFault) → Fits f → words_of (tool_fault f) ≡ Some (fault_text f)
+pub words_back : (f : ToolFault) → FitsTool f → words_of (tool_fault f) ≡ Some (fault_text f)
 words_back (tool.Opening f) fits = opening_words f fits
 words_back (tool.List f) fits = list_words f f.kind refl fits
 words_back (tool.Reading f) fits = reading_words f fits

@@ -8,8 +8,8 @@ use Rattle.mdmp_lister.specs.declared.fault.OpenFault.{OpenFault}
 use Rattle.mdmp_lister.specs.Format.Listing.{entry_count, entry_of}
 use Rattle.mdmp_lister.specs.Format.Refusal.{directory_refusal}
 use Rattle.mdmp_c.specs.declared.fault.PlainFault.{PlainFault}
-use Rattle.mdmp_c.specs.declared.heading.HeaderRow.{HeaderRow}
-use Rattle.mdmp_c.specs.declared.heading.StreamRow.{StreamRow}
+use Rattle.mdmp_c.specs.declared.header_rows.HeaderRow.{HeaderRow}
+use Rattle.mdmp_c.specs.declared.header_rows.StreamRow.{StreamRow}
 use Rattle.mdmp_c.specs.Fault.{no_fault, status_of, told_unless}
 
 abbrev pub header_row : Header → HeaderRow

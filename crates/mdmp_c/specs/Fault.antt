@@ -41,8 +41,8 @@ kind_number kinds.NameUnitsOutside = 23
 kind_number (kinds.Source fault) = 69
 
 -- a fault of the listing
-abbrev pub list_fault : ListFault → PlainFault
-list_fault f = record {
+abbrev pub plain_list_fault : ListFault → PlainFault
+plain_list_fault f = record {
   kind = kind_number f.kind;
   entry = f.entry;
   index = unwrap_or f.index 0;
@@ -69,5 +69,5 @@ told_unless None told = told
 
 -- what is told of a listing that ends with a fault, or with none
 abbrev pub list_told : Option ListFault → PlainFault
-list_told (Some fault) = list_fault fault
+list_told (Some fault) = plain_list_fault fault
 list_told None = no_fault

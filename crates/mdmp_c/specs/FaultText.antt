@@ -15,7 +15,7 @@ use Rattle.mdmp_tool.specs.CheckText.{bad_text}
 use Rattle.mdmp_tool.specs.Faults.{fault_text}
 use Rattle.mdmp_c.specs.declared.fault.PlainFault.{PlainFault}
 use Rattle.mdmp_c.specs.Fault.{no_fault, no_memory}
-use Rattle.mdmp_c.specs.Giving.{Fails, Gives}
+use Rattle.mdmp_c.specs.Giving.{Fails, GivesList}
 
 -- ---- the fault that some numbers are
 
@@ -34,8 +34,8 @@ opening_in p =
     else None
 
 -- of an entry
-abbrev pub kind_in : ℕ → Option FaultKind
-kind_in kind =
+abbrev pub kind_by_number : ℕ → Option FaultKind
+kind_by_number kind =
     if kind == 16 then Some kinds.StreamOutside
     else if kind == 17 then Some kinds.ShortStream
     else if kind == 18 then Some kinds.BadHeaderSize
@@ -46,8 +46,8 @@ kind_in kind =
     else if kind == 23 then Some kinds.NameUnitsOutside
     else None
 
-abbrev pub part_in : ℕ → Option PartName
-part_in part =
+abbrev pub part_by_number : ℕ → Option PartName
+part_by_number part =
     if part == 1 then Some parts.Stack
     else if part == 2 then Some parts.Context
     else if part == 3 then Some parts.CodeView
@@ -62,7 +62,7 @@ part_fault p None = None
 
 abbrev pub reading_in : PlainFault → Option ReadFault
 reading_in p =
-    if p.kind == 32 then part_fault p (part_in p.part)
+    if p.kind == 32 then part_fault p (part_by_number p.part)
     else if p.kind == 33 then Some (reading.NameTooLong p.entry p.index (p.size % 2 ^ 32))
     else None
 
@@ -91,7 +91,7 @@ or_list p None = or_reading p (reading_in p)
 
 abbrev pub or_opening : PlainFault → Option OpenFault → Option ToolFault
 or_opening p (Some fault) = Some (tool.Opening fault)
-or_opening p None = or_list p (kind_in p.kind)
+or_opening p None = or_list p (kind_by_number p.kind)
 
 abbrev pub fault_in : PlainFault → Option ToolFault
 fault_in p = or_opening p (opening_in p)
@@ -135,17 +135,17 @@ FitsReading (reading.NameTooLong e k length) = length < 2 ^ 32
 FitsReading (reading.Source fault) = ⊥
 FitsReading fault = Unit {0}
 
-abbrev pub Fits : ToolFault → Type 0
-Fits (tool.Opening fault) = FitsOpening fault
-Fits (tool.List fault) = FitsKind fault.kind
-Fits (tool.Reading fault) = FitsReading fault
-Fits (tool.NotCopied t) = t < 2 ^ 32
-Fits (tool.Source fault) = ⊥
-Fits tool.Out = ⊥
-Fits fault = Unit {0}
+abbrev pub FitsTool : ToolFault → Type 0
+FitsTool (tool.Opening fault) = FitsOpening fault
+FitsTool (tool.List fault) = FitsKind fault.kind
+FitsTool (tool.Reading fault) = FitsReading fault
+FitsTool (tool.NotCopied t) = t < 2 ^ 32
+FitsTool (tool.Source fault) = ⊥
+FitsTool tool.Out = ⊥
+FitsTool fault = Unit {0}
 
 -- the words of a fault were given, or memory was wanting; or no call tells such a fault
 pub data TellsWords (p : PlainFault) (status count : ℕ) (before after : List ℕ) : Type 0 where
-  told : (words : List ℕ) → words_of p ≡ Some words → Gives no_fault words status count no_fault before after → TellsWords p status count before after
+  told : (words : List ℕ) → words_of p ≡ Some words → GivesList no_fault words status count no_fault before after → TellsWords p status count before after
   wants : Fails no_memory status count no_memory before after → TellsWords p status count before after
   unknown : words_of p ≡ None → status ≡ 2 → count ≡ 0 → after ≡ before → TellsWords p status count before after

@@ -13,7 +13,7 @@ told_count n = min n (2 ^ 64 - 1)
 
 -- all of it was given with what is told of the file, or as much as the buffer holds, which status 4 tells beside how many
 -- there are
-pub record Gives {X : Type 0} (told : PlainFault) (xs : List X) (status count : ℕ) (fault : PlainFault) (before after : List X) : Type 0 where
+pub record GivesList {X : Type 0} (told : PlainFault) (xs : List X) (status count : ℕ) (fault : PlainFault) (before after : List X) : Type 0 where
   pub status_is : status ≡ (if nat_lt (length before) (length xs) then 4 else status_of told)
   pub count_is : count ≡ told_count (length xs)
   pub fault_is : fault ≡ told
@@ -28,13 +28,13 @@ pub record Fails {X : Type 0} (told : PlainFault) (status count : ℕ) (fault : 
 
 -- it was given, or memory was wanting
 pub data GivesOrWants {X : Type 0} (told : PlainFault) (xs : List X) (status count : ℕ) (fault : PlainFault) (before after : List X) : Type 0 where
-  given : (told ≡ no_memory → ⊥) → Gives told xs status count fault before after → GivesOrWants told xs status count fault before after
+  given : (told ≡ no_memory → ⊥) → GivesList told xs status count fault before after → GivesOrWants told xs status count fault before after
   wanted : Fails no_memory status count fault before after → GivesOrWants told xs status count fault before after
 
 -- what a call answers: with good arguments that is what is told of the file, and what is given of it; or memory was wanting, in
 -- which case nothing is told of it. With others it is that one of these is bad
 pub data Ends {X : Type 0} (IsTold : PlainFault → List X → Type 0) (IsValid : Type 0) (refusal : PlainFault) (status count : ℕ) (fault : PlainFault) (before after : List X) : Type 0 where
-  answers : (told : PlainFault) (xs : List X) → IsValid → IsTold told xs → Gives told xs status count fault before after
+  answers : (told : PlainFault) (xs : List X) → IsValid → IsTold told xs → GivesList told xs status count fault before after
       → Ends IsTold IsValid refusal status count fault before after
   wants : IsValid → Fails no_memory status count fault before after → Ends IsTold IsValid refusal status count fault before after
   refuses : (IsValid → ⊥) → Fails refusal status count fault before after → Ends IsTold IsValid refusal status count fault before after

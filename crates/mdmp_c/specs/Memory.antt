@@ -24,7 +24,7 @@ abbrev pub kept_ranges : ℕ → List RangeRow → List Range
 kept_ranges z rs = filter_map (kept_range z) rs
 
 -- nothing was put into either buffer, for this reason
-pub record GivesNone (status told : ℕ) (reason fault : PlainFault) (out_before out_after : List ℕ) (known_before known_after : List Bool) : Type 0 where
+pub record GivesNoBytes (status told : ℕ) (reason fault : PlainFault) (out_before out_after : List ℕ) (known_before known_after : List Bool) : Type 0 where
   pub status_is : status ≡ told
   pub fault_is : fault ≡ reason
   pub out : out_after ≡ out_before
@@ -43,7 +43,7 @@ lengths_differ = of_kind 70
 pub data ReadsKept (F : List ℕ) (ranges : List RangeRow) (address status : ℕ) (fault : PlainFault) (out_before out_after : List ℕ) (known_before known_after : List Bool) : Type 0 where
   reads : length out_before ≡ length known_before → GivesCells F (kept_ranges (length F) ranges) address status fault out_after known_after
       → ReadsKept F ranges address status fault out_before out_after known_before known_after
-  differ : (length out_before ≡ length known_before → ⊥) → GivesNone status 2 lengths_differ fault out_before out_after known_before known_after
+  differ : (length out_before ≡ length known_before → ⊥) → GivesNoBytes status 2 lengths_differ fault out_before out_after known_before known_after
       → ReadsKept F ranges address status fault out_before out_after known_before known_after
 
 -- why F can't be opened, or the first fault of its memory lists
@@ -55,11 +55,11 @@ pub data ReadsMemory (F : List ℕ) (limits : PlainLimits) (address status : ℕ
   reads : AreLimits limits → length out_before ≡ length known_before → memory_told F limits.name ≡ no_fault
       → GivesCells F (ranges_of (listing F memory_lists limits.name).items) address status fault out_after known_after
       → ReadsMemory F limits address status fault out_before out_after known_before known_after
-  faulty : AreLimits limits → length out_before ≡ length known_before → (memory_told F limits.name ≡ no_fault → ⊥) → GivesNone status 1 (memory_told F limits.name) fault out_before out_after known_before known_after
+  faulty : AreLimits limits → length out_before ≡ length known_before → (memory_told F limits.name ≡ no_fault → ⊥) → GivesNoBytes status 1 (memory_told F limits.name) fault out_before out_after known_before known_after
       → ReadsMemory F limits address status fault out_before out_after known_before known_after
-  wants : AreLimits limits → length out_before ≡ length known_before → GivesNone status 3 no_memory fault out_before out_after known_before known_after
+  wants : AreLimits limits → length out_before ≡ length known_before → GivesNoBytes status 3 no_memory fault out_before out_after known_before known_after
       → ReadsMemory F limits address status fault out_before out_after known_before known_after
-  differ : (length out_before ≡ length known_before → ⊥) → GivesNone status 2 lengths_differ fault out_before out_after known_before known_after
+  differ : (length out_before ≡ length known_before → ⊥) → GivesNoBytes status 2 lengths_differ fault out_before out_after known_before known_after
       → ReadsMemory F limits address status fault out_before out_after known_before known_after
-  refuses : (AreLimits limits → ⊥) → length out_before ≡ length known_before → GivesNone status 2 bad_limits fault out_before out_after known_before known_after
+  refuses : (AreLimits limits → ⊥) → length out_before ≡ length known_before → GivesNoBytes status 2 bad_limits fault out_before out_after known_before known_after
       → ReadsMemory F limits address status fault out_before out_after known_before known_after

@@ -8,8 +8,8 @@ use Rattle.mdmp_c.specs.declared.symbols.Symbols.{Symbols}
 use Rattle.mdmp_c.specs.Fault.{no_fault, of_kind}
 
 -- some bytes stand there, inside F
-abbrev pub IsPlace : List ℕ → PartPlace → Type 0
-IsPlace F place = (0 < place.size) × (place.rva + place.size ≤ length F)
+abbrev pub IsPlaceInside : List ℕ → PartPlace → Type 0
+IsPlaceInside F place = (0 < place.size) × (place.rva + place.size ≤ length F)
 
 abbrev pub no_symbols : Symbols
 no_symbols = record {
@@ -35,14 +35,14 @@ symbols_row place (Rsds guid age name ended) = record no_symbols {
 symbols_row place (Other signature size) = record no_symbols { kind = 1; signature = signature }
 symbols_row place (Short size) = record no_symbols { kind = 2 }
 
-abbrev pub location_of : PartPlace → Location
-location_of place = record { size = place.size; rva = place.rva }
+abbrev pub place_location : PartPlace → Location
+place_location place = record { size = place.size; rva = place.rva }
 
 -- the record at a place was told
 pub record GivesSymbols (F : List ℕ) (place : PartPlace) (status : ℕ) (fault : PlainFault) (after : Symbols) : Type 0 where
   pub status_is : status ≡ 0
   pub fault_is : fault ≡ no_fault
-  pub out : after ≡ symbols_row place (codeview_of F (location_of place) place.size)
+  pub out : after ≡ symbols_row place (codeview_of F (place_location place) place.size)
 
 -- no bytes stand at a place, or not inside the file
 pub record RefusesPlace (place : PartPlace) (status : ℕ) (fault : PlainFault) (after : Symbols) : Type 0 where

@@ -1,7 +1,7 @@
 -- The faults of commands as plain numbers.
 use Rattle.std.specs.Prelude.{ℕ, ◌/◌, ◌%◌, ◌^◌, ◌==◌, Result, Ok, Err, replicate, if◌then◌else◌}
 use Rattle.mdmp_c.specs.declared.fault.PlainFault.{PlainFault}
-use Rattle.mdmp_c.specs.Fault.{list_fault, no_fault, no_memory, of_kind, open_fault}
+use Rattle.mdmp_c.specs.Fault.{plain_list_fault, no_fault, no_memory, of_kind, open_fault}
 use Rattle.mdmp_dump.specs.declared.fault.PartName.{PartName}
 use Rattle.mdmp_dump.specs.declared.fault.PartName.TheVariants as parts
 use Rattle.mdmp_dump.specs.declared.fault.ReadFault.{ReadFault}
@@ -20,7 +20,7 @@ part_number parts.Memory = 5
 -- a fault of reading a file into a dump
 abbrev pub read_fault : ReadFault → PlainFault
 read_fault (reading.Opening fault) = open_fault fault
-read_fault (reading.List fault) = list_fault fault
+read_fault (reading.List fault) = plain_list_fault fault
 read_fault (reading.PartOutside e k part offset size) = record {
   kind = 32;
   entry = e;
@@ -50,7 +50,7 @@ read_fault (reading.Source fault) = of_kind 69
 -- a fault that ends a command: the output is memory, so one that refuses is want of memory
 abbrev pub tool_fault : ToolFault → PlainFault
 tool_fault (tool.Opening fault) = open_fault fault
-tool_fault (tool.List fault) = list_fault fault
+tool_fault (tool.List fault) = plain_list_fault fault
 tool_fault (tool.Reading fault) = read_fault fault
 tool_fault (tool.Layout (layout.RawKnownType stream)) = record (of_kind 48) { size = stream }
 tool_fault (tool.Layout layout.TooLarge) = of_kind 49

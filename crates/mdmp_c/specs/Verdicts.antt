@@ -11,18 +11,18 @@ use Rattle.mdmp_lister.specs.Format.Refusal.{opening_fault}
 use Rattle.mdmp_tool.specs.CheckText.{bad_count, fault_count}
 use Rattle.mdmp_c.specs.declared.fault.PlainFault.{PlainFault}
 use Rattle.mdmp_c.specs.declared.verdict_rows.Judged.{Judged}
-use Rattle.mdmp_c.specs.Fault.{list_fault, no_fault, told_unless}
+use Rattle.mdmp_c.specs.Fault.{plain_list_fault, no_fault, told_unless}
 use Rattle.mdmp_c.specs.Giving.{put_front, told_count}
 use Rattle.mdmp_c.specs.Table.{rows_unless}
 use Rattle.mdmp_c.specs.ToolFault.{bad_entries}
 
 -- the first fault of an entry, or none and the entry's number
-abbrev pub row_told : ℕ → Option ListFault → PlainFault
-row_told e (Some fault) = list_fault fault
-row_told e None = record no_fault { entry = e }
+abbrev pub verdict_told : ℕ → Option ListFault → PlainFault
+verdict_told e (Some fault) = plain_list_fault fault
+verdict_told e None = record no_fault { entry = e }
 
 abbrev pub verdict_row : Verdict → PlainFault
-verdict_row v = row_told v.entry v.fault
+verdict_row v = verdict_told v.entry v.fault
 
 -- why F can't be opened, or how many of its entries have a fault; and the verdict on each entry
 pub record AreVerdicts (F : List ℕ) (limit : ℕ) (told : PlainFault) (rows : List PlainFault) : Type 0 where

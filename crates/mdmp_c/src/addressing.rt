@@ -10,7 +10,7 @@ use mdmp_map::{Found, Range, Search};
 
 /// Addresses that follow each other, which one range is the first to hold, or which none holds.
 #[derive(Clone, Copy)]
-struct Stretch {
+struct RowStretch {
     /// Where the first byte stands in the file, or none where no range holds an address of them.
     offset: Option<u64>,
     /// How many addresses they are.
@@ -54,7 +54,7 @@ fn look_up(size: u64, rows: &[RangeRow], address: u64) -> Found
 
 /// The addresses from this one on that stand together, as far as they do, and at most so many. No range
 /// holds an address of 2^64 or more.
-fn stretch_at(size: u64, rows: &[RangeRow], address: u128, most: usize) -> Stretch
+fn stretch_at(size: u64, rows: &[RangeRow], address: u128, most: usize) -> RowStretch
     requires { 0 < most }
     ensures some { 0 < result.count }
     ensures most { result.count ≤ most }
@@ -62,17 +62,17 @@ fn stretch_at(size: u64, rows: &[RangeRow], address: u128, most: usize) -> Stret
     ensures within { IfSome result.offset (λ at. at + result.count ≤ size) }
 {
     let Ok(first) = u64::try_from(address) else {
-        return Stretch {
+        return RowStretch {
             offset: None,
             count: most,
         };
     };
     match look_up(size, rows, first) {
-        Found::Held(place) => Stretch {
+        Found::Held(place) => RowStretch {
             offset: Some(place.offset),
             count: place.left.min(most as u64) as usize,
         },
-        Found::Gap(count) => Stretch {
+        Found::Gap(count) => RowStretch {
             offset: None,
             count: count.min(most as u128) as usize,
         },

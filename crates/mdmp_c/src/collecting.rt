@@ -5,7 +5,7 @@ ghost use Rattle.mdmp_c.specs.Table.{Collects};
 ghost use Rattle.mdmp_lister.specs.Format.Listing.{Run};
 ghost use Rattle.mdmp_source.specs.Store.{IsGood};
 
-use crate::rows::Row;
+use crate::rows::PlainRow;
 use mdmp_lister::{ListFault, Lister};
 use mdmp_source::Store;
 use std::alloc::Allocator;
@@ -18,7 +18,7 @@ pub(crate) struct Collected {
 }
 
 /// Puts the rows of what is left of a listing into an array, as far as it has room.
-pub(crate) fn collect<T: Row, S: Store + Drop, A: Allocator + Copy>(
+pub(crate) fn collect<T: PlainRow, S: Store + Drop, A: Allocator + Copy>(
     lister: &mut Lister<S, A>,
     out: &mut [T],
 ) -> Collected

@@ -2,13 +2,13 @@
 ghost use Rattle.std.specs.Prelude.{◌≡◌};
 ghost use Rattle.mdmp_c.specs.Directory.{GivesHeader, stream_rows};
 ghost use Rattle.mdmp_c.specs.Fault.{no_fault, told_unless};
-ghost use Rattle.mdmp_c.specs.Giving.{Gives};
+ghost use Rattle.mdmp_c.specs.Giving.{GivesList};
 ghost use Rattle.mdmp_c.specs.Table.{rows_unless};
 ghost use Rattle.mdmp_lister.specs.Format.Refusal.{directory_refusal};
 
 use crate::fault::{NO_FAULT, PlainFault, open_fault, status_of};
 use crate::giving::{TOO_SHORT, refuse};
-use crate::heading::{HeaderRow, StreamRow, fill_streams, header_row};
+use crate::header_rows::{HeaderRow, StreamRow, fill_streams, header_row};
 use mdmp_lister::header_of;
 
 /// Gives the header of a file. Neither its checksum is checked nor what its entries name. Memory is not
@@ -39,7 +39,7 @@ pub extern "C" fn mdmp_streams_(
     count: &mut u64,
     fault: &mut PlainFault,
 ) -> u32
-    ensures { Gives (told_unless (directory_refusal file.now) no_fault) (rows_unless (directory_refusal file.now) (stream_rows file.now)) result count.new fault.new out.old out.new }
+    ensures { GivesList (told_unless (directory_refusal file.now) no_fault) (rows_unless (directory_refusal file.now) (stream_rows file.now)) result count.new fault.new out.old out.new }
 {
     let header = match header_of(file) {
         Ok(header) => header,

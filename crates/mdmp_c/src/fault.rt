@@ -1,6 +1,6 @@
 //! Faults as plain numbers, for callers in other languages.
 ghost use Rattle.std.specs.Prelude.{◌≡◌};
-ghost use Rattle.mdmp_c.specs.Fault.{kind_number, list_fault, no_fault, of_kind, open_fault, status_of};
+ghost use Rattle.mdmp_c.specs.Fault.{kind_number, plain_list_fault, no_fault, of_kind, open_fault, status_of};
 
 use mdmp_lister::{FaultKind, ListFault, OpenFault};
 use std::mem::size_of;
@@ -95,8 +95,8 @@ fn kind_of(kind: FaultKind) -> u32
 }
 
 /// A fault of the listing.
-pub(crate) fn list_fault(fault: ListFault) -> PlainFault
-    ensures { result ≡ list_fault fault }
+pub(crate) fn plain_list_fault(fault: ListFault) -> PlainFault
+    ensures { result ≡ plain_list_fault fault }
 {
     PlainFault {
         kind: kind_of(fault.kind),

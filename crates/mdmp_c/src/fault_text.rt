@@ -2,7 +2,7 @@
 ghost use Rattle.std.specs.Prelude.{◌≡◌, Some, None};
 ghost use Rattle.mdmp_tool.specs.declared.fault.ToolFault.{ToolFault};
 ghost use Rattle.mdmp_tool.specs.Faults.{fault_text};
-ghost use Rattle.mdmp_c.specs.FaultText.{Fits, TellsWords, words_of};
+ghost use Rattle.mdmp_c.specs.FaultText.{FitsTool, TellsWords, words_of};
 ghost use Rattle.mdmp_c.specs.ToolFault.{tool_fault};
 
 use crate::fault::PlainFault;
@@ -19,7 +19,7 @@ pub extern "C" fn mdmp_fault_text_(
     size: &mut u64,
 ) -> u32
     ensures tells { TellsWords fault.now result size.new out.old out.new }
-    ensures words { (f : ToolFault) → Fits f → fault.now ≡ tool_fault f → words_of fault.now ≡ Some (fault_text f) }
+    ensures words { (f : ToolFault) → FitsTool f → fault.now ≡ tool_fault f → words_of fault.now ≡ Some (fault_text f) }
 {
     give_words(alloc, fault, out, size)
 }

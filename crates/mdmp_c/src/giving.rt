@@ -1,7 +1,7 @@
 //! What a call gives, put into the caller's memory.
 ghost use Rattle.std.specs.Prelude.{◌≡◌};
 ghost use Rattle.mdmp_c.specs.Fault.{no_memory, status_of};
-ghost use Rattle.mdmp_c.specs.Giving.{Fails, Gives, GivesOrWants, put_front};
+ghost use Rattle.mdmp_c.specs.Giving.{Fails, GivesList, GivesOrWants, put_front};
 
 use crate::fault::{PlainFault, of_kind, status_of};
 
@@ -28,7 +28,7 @@ pub(crate) fn give(
     size: &mut u64,
     fault: &mut PlainFault,
 ) -> u32
-    ensures { Gives told text.now result size.new fault.new out.old out.new }
+    ensures { GivesList told text.now result size.new fault.new out.old out.new }
 {
     *fault = told;
     *size = text.len() as u64;

@@ -2,7 +2,7 @@
 ghost use Rattle.mdmp_c.specs.Memory.{ReadsKept, ReadsMemory};
 
 use crate::addressing::read_by;
-use crate::fault::{NO_FAULT, PlainFault, list_fault, of_kind, open_fault};
+use crate::fault::{NO_FAULT, PlainFault, of_kind, open_fault, plain_list_fault};
 use crate::giving::refuse;
 use crate::limits::{PlainLimits, limits_of};
 use crate::rows::RangeRow;
@@ -38,7 +38,7 @@ pub extern "C" fn mdmp_memory_(
     };
     match lister.list_ranges() {
         Ok(()) => {}
-        Err(found) => return refuse(list_fault(found), &mut none, fault),
+        Err(found) => return refuse(plain_list_fault(found), &mut none, fault),
     }
     match lister.read_address(address, out, known) {
         Ok(()) => {

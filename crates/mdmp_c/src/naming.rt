@@ -2,7 +2,7 @@
 ghost use Rattle.std.specs.Prelude.{◌≡◌};
 ghost use Rattle.mdmp_c.specs.Names.{long_fault, name_fault};
 
-use crate::fault::{PlainFault, list_fault, of_kind};
+use crate::fault::{PlainFault, of_kind, plain_list_fault};
 use mdmp_lister::{Fault, ListFault};
 
 /// A name has more bytes than the limit.
@@ -19,7 +19,7 @@ pub(crate) fn long_fault(length: u32) -> PlainFault
 pub(crate) fn name_fault(found: Fault) -> PlainFault
     ensures { result ≡ name_fault found }
 {
-    list_fault(ListFault {
+    plain_list_fault(ListFault {
         entry: 0,
         index: None,
         kind: found.kind,

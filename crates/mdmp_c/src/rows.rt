@@ -5,7 +5,7 @@ use mdmp_lister::Item;
 use std::mem::size_of;
 
 /// A record of one kind as a plain structure.
-pub(crate) trait Row: Copy {
+pub(crate) trait PlainRow: Copy {
     ghost use Rattle.std.specs.Prelude.{◌≡◌, Option};
     ghost use Rattle.mdmp_lister.specs.declared.item.Item.{Item};
     ghost use Rattle.mdmp_lister.specs.Format.Item.{plain};
@@ -48,7 +48,7 @@ pub struct ThreadRow {
 
 const _: () = prove!(size_of::<ThreadRow>() == 88);
 
-impl Row for ThreadRow {
+impl PlainRow for ThreadRow {
     ghost use Rattle.mdmp_c.specs.Rows.{thread_row};
 
     ghost row_of = { thread_row };
@@ -109,7 +109,7 @@ pub struct ModuleRow {
 
 const _: () = prove!(size_of::<ModuleRow>() == 104);
 
-impl Row for ModuleRow {
+impl PlainRow for ModuleRow {
     ghost use Rattle.mdmp_c.specs.Rows.{module_row};
 
     ghost row_of = { module_row };
@@ -161,7 +161,7 @@ pub struct UnloadedRow {
 
 const _: () = prove!(size_of::<UnloadedRow>() == 56);
 
-impl Row for UnloadedRow {
+impl PlainRow for UnloadedRow {
     ghost use Rattle.mdmp_c.specs.Rows.{unloaded_row};
 
     ghost row_of = { unloaded_row };
@@ -213,7 +213,7 @@ pub struct ExceptionRow {
 
 const _: () = prove!(size_of::<ExceptionRow>() == 192);
 
-impl Row for ExceptionRow {
+impl PlainRow for ExceptionRow {
     ghost use Rattle.mdmp_c.specs.Rows.{exception_row};
 
     ghost row_of = { exception_row };
@@ -276,7 +276,7 @@ pub struct SystemRow {
 
 const _: () = prove!(size_of::<SystemRow>() == 104);
 
-impl Row for SystemRow {
+impl PlainRow for SystemRow {
     ghost use Rattle.mdmp_c.specs.Rows.{system_row};
 
     ghost row_of = { system_row };
@@ -333,7 +333,7 @@ pub struct RegionRow {
 
 const _: () = prove!(size_of::<RegionRow>() == 64);
 
-impl Row for RegionRow {
+impl PlainRow for RegionRow {
     ghost use Rattle.mdmp_c.specs.Rows.{region_row};
 
     ghost row_of = { region_row };
@@ -381,7 +381,7 @@ pub struct RangeRow {
 
 const _: () = prove!(size_of::<RangeRow>() == 56);
 
-impl Row for RangeRow {
+impl PlainRow for RangeRow {
     ghost use Rattle.mdmp_c.specs.Rows.{range_row};
 
     ghost row_of = { range_row };

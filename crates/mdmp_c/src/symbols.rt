@@ -1,5 +1,5 @@
 //! What a module tells of its symbol file.
-ghost use Rattle.mdmp_c.specs.Symbols.{GivesSymbols, IsPlace, RefusesPlace};
+ghost use Rattle.mdmp_c.specs.Symbols.{GivesSymbols, IsPlaceInside, RefusesPlace};
 
 use crate::fault::{NO_FAULT, PlainFault, of_kind};
 use crate::parts::PartPlace;
@@ -51,8 +51,8 @@ pub extern "C" fn mdmp_symbols_(
     out: &mut Symbols,
     fault: &mut PlainFault,
 ) -> u32
-    ensures inside { IsPlace file.now place.now → GivesSymbols file.now place.now result fault.new out.new }
-    ensures outside { (IsPlace file.now place.now → ⊥) → RefusesPlace place.now result fault.new out.new }
+    ensures inside { IsPlaceInside file.now place.now → GivesSymbols file.now place.now result fault.new out.new }
+    ensures outside { (IsPlaceInside file.now place.now → ⊥) → RefusesPlace place.now result fault.new out.new }
 {
     *out = NO_SYMBOLS;
     let at = u64::from(place.rva);

@@ -7,10 +7,10 @@ ghost use Rattle.mdmp_c.specs.Table.{IsTable};
 ghost use Rattle.mdmp_lister.specs.declared.choice.Choice.TheVariants.{Types};
 
 use crate::collecting::collect;
-use crate::fault::{NO_FAULT, PlainFault, list_fault, of_kind, open_fault, status_of};
+use crate::fault::{NO_FAULT, PlainFault, of_kind, open_fault, plain_list_fault, status_of};
 use crate::giving::{TOO_SHORT, refuse};
 use crate::limits::{PlainLimits, limits_of};
-use crate::rows::Row;
+use crate::rows::PlainRow;
 use mdmp_lister::{Choice, ListFault, Lister, TypeSet};
 use mdmp_source::{MemoryStore, Source};
 use std::alloc::Global;
@@ -26,7 +26,7 @@ pub(crate) fn only(stream_type: u32) -> Choice
 }
 
 /// Gives the rows of the listing of some entries.
-pub(crate) fn give_rows<T: Row>(
+pub(crate) fn give_rows<T: PlainRow>(
     alloc: Global,
     file: &[u8],
     limits: &PlainLimits,
@@ -84,6 +84,6 @@ fn list_end(fault: Option<ListFault>) -> PlainFault
 {
     match fault {
         None => NO_FAULT,
-        Some(fault) => list_fault(fault),
+        Some(fault) => plain_list_fault(fault),
     }
 }

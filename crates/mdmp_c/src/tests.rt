@@ -3,7 +3,7 @@ use crate::copy::mdmp_copy_;
 use crate::directory::mdmp_header_;
 use crate::fault::{NO_FAULT, PlainFault};
 use crate::fault_text::mdmp_fault_text_;
-use crate::heading::HeaderRow;
+use crate::header_rows::HeaderRow;
 use crate::limits::PlainLimits;
 use crate::list_part::mdmp_list_part_;
 use crate::memory::{mdmp_memory_, mdmp_read_};

@@ -1,6 +1,6 @@
 //! The fault of a command that plain numbers are.
 ghost use Rattle.std.specs.Prelude.{◌≡◌, ◌+◌, ◌*◌, ◌^◌};
-ghost use Rattle.mdmp_c.specs.FaultText.{fault_in, kind_in, opening_in, part_in, reading_in, rest_in};
+ghost use Rattle.mdmp_c.specs.FaultText.{fault_in, kind_by_number, opening_in, part_by_number, reading_in, rest_in};
 
 use crate::fault::PlainFault;
 use mdmp_dump::{PartName, ReadFault};
@@ -37,8 +37,8 @@ fn opening_in(fault: &PlainFault) -> Option<OpenFault>
 }
 
 /// What is wrong with an entry.
-fn kind_in(kind: u32) -> Option<FaultKind>
-    ensures { result ≡ kind_in kind }
+fn kind_by_number(kind: u32) -> Option<FaultKind>
+    ensures { result ≡ kind_by_number kind }
 {
     match kind {
         16 => Some(FaultKind::StreamOutside),
@@ -54,8 +54,8 @@ fn kind_in(kind: u32) -> Option<FaultKind>
 }
 
 /// The part of this number.
-fn part_in(part: u32) -> Option<PartName>
-    ensures { result ≡ part_in part }
+fn part_by_number(part: u32) -> Option<PartName>
+    ensures { result ≡ part_by_number part }
 {
     match part {
         1 => Some(PartName::Stack),
@@ -72,7 +72,7 @@ fn reading_in(fault: &PlainFault) -> Option<ReadFault>
     ensures { result ≡ reading_in fault.now }
 {
     match fault.kind {
-        32 => match part_in(fault.part) {
+        32 => match part_by_number(fault.part) {
             Some(part) => Some(ReadFault::PartOutside {
                 entry: fault.entry,
                 index: fault.index,
@@ -111,7 +111,7 @@ pub(crate) fn fault_in(fault: &PlainFault) -> Option<ToolFault>
     if let Some(opening) = opening_in(fault) {
         return Some(ToolFault::Opening(opening));
     }
-    if let Some(kind) = kind_in(fault.kind) {
+    if let Some(kind) = kind_by_number(fault.kind) {
         let index = if fault.has_index == 1 {
             Some(fault.index)
         } else {

@@ -2,7 +2,7 @@
 ghost use Rattle.std.specs.Prelude.{◌≡◌};
 ghost use Rattle.mdmp_c.specs.ToolFault.{check_answer, copy_answer, list_answer, part_number, read_fault, tool_fault};
 
-use crate::fault::{NO_FAULT, PlainFault, list_fault, of_kind, open_fault};
+use crate::fault::{NO_FAULT, PlainFault, of_kind, open_fault, plain_list_fault};
 use mdmp_dump::{PartName, ReadFault};
 use mdmp_tool::ToolFault;
 use mdmp_writer::LayoutFault;
@@ -26,7 +26,7 @@ pub(crate) fn read_fault(fault: ReadFault) -> PlainFault
 {
     match fault {
         ReadFault::Opening(fault) => open_fault(fault),
-        ReadFault::List(fault) => list_fault(fault),
+        ReadFault::List(fault) => plain_list_fault(fault),
         ReadFault::PartOutside {
             entry,
             index,
@@ -72,7 +72,7 @@ pub(crate) fn tool_fault(fault: ToolFault) -> PlainFault
 {
     match fault {
         ToolFault::Opening(fault) => open_fault(fault),
-        ToolFault::List(fault) => list_fault(fault),
+        ToolFault::List(fault) => plain_list_fault(fault),
         ToolFault::Reading(fault) => read_fault(fault),
         ToolFault::Layout(LayoutFault::RawKnownType { stream }) => PlainFault {
             size: stream,

@@ -5,7 +5,7 @@ ghost use Rattle.mdmp_lister.specs.Lister.{is_fresh};
 ghost use Rattle.mdmp_source.specs.Store.{IsGood};
 
 use crate::collecting::put;
-use crate::fault::{NO_FAULT, PlainFault, list_fault};
+use crate::fault::{NO_FAULT, PlainFault, plain_list_fault};
 use mdmp_lister::{Lister, RunFault, Stopped, Verdict, VerdictSink};
 use mdmp_source::Store;
 use std::alloc::Allocator;
@@ -15,7 +15,7 @@ fn verdict_row(verdict: &Verdict) -> PlainFault
     ensures { result ≡ verdict_row verdict.now }
 {
     match verdict.fault {
-        Some(fault) => list_fault(fault),
+        Some(fault) => plain_list_fault(fault),
         None => PlainFault {
             entry: verdict.entry,
             ..NO_FAULT

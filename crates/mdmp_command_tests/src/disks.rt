@@ -1,5 +1,5 @@
 //! Command lines over files in memory: which are opened and made, and what stands there behind them.
-use crate::runs::Ended;
+use crate::runs::CommandEnd;
 use crate::same::{assert_same, assert_same_at};
 use mdmp_disk::{GivenFile, MemoryDisk};
 use mdmp_source::PatchyOut;
@@ -26,7 +26,7 @@ const FILES: [GivenFile<'static>; 2] = [
 ];
 
 /// What a command line comes to.
-struct Row {
+struct CommandRow {
     words: &'static [&'static str],
     status: u8,
     text: &'static str,
@@ -42,36 +42,36 @@ fn asked(disk: &MemoryDisk<'_, Global>) -> (u128, u128, u128) {
 }
 
 /// Lines that print.
-const PRINTS: [Row; 5] = [
-    Row {
+const PRINTS: [CommandRow; 5] = [
+    CommandRow {
         words: &["list", "system.dmp"],
         status: 0,
         text: SYSTEM_TEXT,
         told: "",
         requests: (1, 0, 0),
     },
-    Row {
+    CommandRow {
         words: &["check", "system.dmp"],
         status: 0,
         text: "entry 0: ok\n",
         told: "",
         requests: (1, 0, 0),
     },
-    Row {
+    CommandRow {
         words: &["hex", "system.dmp", "0x10", "1"],
         status: 0,
         text: "0x0000000000000010: ??\n",
         told: "",
         requests: (1, 0, 0),
     },
-    Row {
+    CommandRow {
         words: &["list", "empty.dmp"],
         status: 1,
         text: "",
         told: "mdmp: file of 0 bytes is too short\n",
         requests: (1, 0, 0),
     },
-    Row {
+    CommandRow {
         words: &["list", "other.dmp"],
         status: 3,
         text: "",
@@ -81,9 +81,9 @@ const PRINTS: [Row; 5] = [
 ];
 
 /// Copies that make no file.
-const COPIES: [Row; 4] = [
+const COPIES: [CommandRow; 4] = [
     // What is copied is not there, and the copy would be.
-    Row {
+    CommandRow {
         words: &["copy", "other.dmp", "system.dmp", "7"],
         status: 3,
         text: "",
@@ -91,7 +91,7 @@ const COPIES: [Row; 4] = [
         requests: (0, 0, 1),
     },
     // A file is there already.
-    Row {
+    CommandRow {
         words: &["copy", "system.dmp", "empty.dmp", "7"],
         status: 3,
         text: "",
@@ -99,7 +99,7 @@ const COPIES: [Row; 4] = [
         requests: (1, 0, 1),
     },
     // It is the same.
-    Row {
+    CommandRow {
         words: &["copy", "system.dmp", "system.dmp", "7"],
         status: 3,
         text: "",
@@ -107,7 +107,7 @@ const COPIES: [Row; 4] = [
         requests: (1, 0, 1),
     },
     // A type is refused.
-    Row {
+    CommandRow {
         words: &["copy", "system.dmp", "copy.dmp", "12"],
         status: 2,
         text: "",
@@ -132,7 +132,7 @@ fn run_over<R: AllocGlobal>(
     alloc: Global,
     disk: &mut MemoryDisk<'_, Global>,
     words: &[&str],
-) -> Result<Ended, Fail> {
+) -> Result<CommandEnd, Fail> {
     let mut out = empty_out(alloc, BY_SEVEN)?;
     let mut err = empty_out(alloc, BY_SEVEN)?;
     let status = status_over(rt, alloc, disk, words, &mut out, &mut err);
@@ -155,8 +155,8 @@ fn ended(
     status: u8,
     out: &PatchyOut<Global>,
     err: &PatchyOut<Global>,
-) -> Result<Ended, Fail> {
-    Ok(Ended {
+) -> Result<CommandEnd, Fail> {
+    Ok(CommandEnd {
         status,
         text: text_in(alloc, out)?,
         told: text_in(alloc, err)?,
@@ -164,7 +164,11 @@ fn ended(
 }
 
 /// Asserts that each line ends so, and leaves the files as they were.
-fn assert_rows(rt: &(impl AllocGlobal + Abort), alloc: Global, rows: &[Row]) -> Result<(), Fail> {
+fn assert_rows(
+    rt: &(impl AllocGlobal + Abort),
+    alloc: Global,
+    rows: &[CommandRow],
+) -> Result<(), Fail> {
     for row in rows {
         let mut disk = MemoryDisk::new(alloc, &FILES);
         let ended = run_over(rt, alloc, &mut disk, row.words)?;
@@ -242,7 +246,10 @@ fn copy_of_a_file_that_is_refused_is_empty(rt: HostRuntime) -> Result<(), Fail> 
 
 /// What is told of a copy of a file whose read of this number fails, with the bytes that stand there behind
 /// it.
-fn copied_of_failing(rt: &HostRuntime, fail_at: u64) -> Result<(Ended, Vec<u8, Global>), Fail> {
+fn copied_of_failing(
+    rt: &HostRuntime,
+    fail_at: u64,
+) -> Result<(CommandEnd, Vec<u8, Global>), Fail> {
     let files = [GivenFile {
         name: "failing.dmp",
         bytes: &SYSTEM,
@@ -278,7 +285,7 @@ fn copy_of_a_file_that_fails_is_a_first_part(rt: HostRuntime) -> Result<(), Fail
 }
 
 /// Runs the program with these arguments over a disk, to outputs that take all.
-fn run_given(rt: &HostRuntime, args: io::Result<&[&str]>) -> Result<Ended, Fail> {
+fn run_given(rt: &HostRuntime, args: io::Result<&[&str]>) -> Result<CommandEnd, Fail> {
     let mut disk = MemoryDisk::new(rt.alloc(), &FILES);
     let mut out = empty_out(rt.alloc(), BY_SEVEN)?;
     let mut err = empty_out(rt.alloc(), BY_SEVEN)?;

@@ -14,7 +14,7 @@ const LONG: Room = Room {
 
 /// What a command line asked for: the first address, where any is printed, and how many there are.
 #[derive(Clone, Copy, Debug, PartialEq, Eq)]
-struct Asked {
+struct AddressesAsked {
     address: Option<u64>,
     length: u64,
 }
@@ -42,11 +42,11 @@ fn asked_by(
     alloc: Global,
     address: &str,
     length: &str,
-) -> Result<Option<Asked>, Fail> {
+) -> Result<Option<AddressesAsked>, Fail> {
     let words = ["hex", "unknown.dmp", address, length];
     let ended = run_with(rt, alloc, alloc, &words, LONG, BY_WHOLE)?;
     match (ended.status, ended.text.as_str(), ended.told.as_str()) {
-        (0, text, "") => Ok(Some(Asked {
+        (0, text, "") => Ok(Some(AddressesAsked {
             address: first_address(text),
             length: unknown_bytes(text),
         })),
@@ -65,7 +65,7 @@ fn address_of(
 ) -> Result<Option<u64>, Fail> {
     match asked_by(rt, alloc, word, "1")? {
         Some(
-            Asked {
+            AddressesAsked {
                 address: Some(address),
                 length: 1,
             },
@@ -174,13 +174,13 @@ fn lengths_have_a_limit(rt: HostRuntime) -> Result<(), Fail> {
 fn spans_do_not_wrap(rt: HostRuntime) -> Result<(), Fail> {
     write_file(&rt, "unknown.dmp", header_of(0, 0).as_slice())?;
     let span = |address: u64, length: u64| {
-        Some(Asked {
+        Some(AddressesAsked {
             address: Some(address),
             length,
         })
     };
     // Of no bytes no address is printed.
-    let empty = Some(Asked {
+    let empty = Some(AddressesAsked {
         address: None,
         length: 0,
     });

@@ -4,7 +4,7 @@
 //! and its own proof stays short.
 ghost use Rattle.mdmp_words.specs.Requests.{IsPrintable};
 
-use crate::runs::Ended;
+use crate::runs::CommandEnd;
 use mdmp_source::{BlockOut, PatchyOut, Source, Store};
 use mdmp_test_support::{FOR_LONG_TEXT, Room, empty_out, text_in};
 use mdmp_tool::{Limits, Print, Span, TypeSet, copy_told, print_told};
@@ -45,7 +45,7 @@ pub fn print_store<S: Store + Drop>(
     store: S,
     room: Room,
     err: Room,
-) -> Result<Ended, Fail> {
+) -> Result<CommandEnd, Fail> {
     let out = empty_out(alloc, room)?;
     let mut err = empty_out(alloc, err)?;
     let mut blocks = BlockOut::with_room(alloc, BLOCK, out).ok().ok_or("room")?;
@@ -60,7 +60,7 @@ pub fn print_store<S: Store + Drop>(
         &mut err,
     )
     .status;
-    Ok(Ended {
+    Ok(CommandEnd {
         status,
         text: text_in(alloc, blocks.inner())?,
         told: text_in(alloc, &err)?,

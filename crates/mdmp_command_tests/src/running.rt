@@ -1,6 +1,6 @@
 //! Commands over stores and outputs that fail: what they write, what they tell, and their status.
 use crate::prints::{CopyEnded, Shown, copy_store_to, print_store};
-use crate::runs::{Ended, assert_row_ended};
+use crate::runs::{CommandEnd, assert_row_ended};
 use crate::same::{assert_same, assert_same_at};
 use mdmp_source::{MemoryStore, PatchyOut, PatchyStore};
 use mdmp_test_support::{
@@ -14,7 +14,12 @@ use std::process::Abort;
 use std::test::Fail;
 
 /// Prints what is asked for of a store that gives one byte a call, whose call `fail_at` fails.
-fn print_patchy(alloc: Global, shown: Shown, bytes: &[u8], fail_at: u64) -> Result<Ended, Fail> {
+fn print_patchy(
+    alloc: Global,
+    shown: Shown,
+    bytes: &[u8],
+    fail_at: u64,
+) -> Result<CommandEnd, Fail> {
     let store = PatchyStore::new(bytes, &[1], Some(fail_at));
     print_store(alloc, shown, store, FOR_LONG_TEXT, FOR_LONG_TEXT)
 }

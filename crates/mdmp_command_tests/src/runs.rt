@@ -14,7 +14,7 @@ use std::test::Fail;
 
 /// The exit status of a command line, what it printed, and what it told of a fault.
 #[derive(Drop)]
-pub struct Ended {
+pub struct CommandEnd {
     pub status: u8,
     pub text: String,
     pub told: String,
@@ -24,7 +24,7 @@ pub struct Ended {
 pub fn assert_ended(
     rt: &impl Abort,
     words: &[&str],
-    ended: &Ended,
+    ended: &CommandEnd,
     status: u8,
     text: &str,
     told: &str,
@@ -38,7 +38,7 @@ pub fn assert_ended(
 pub fn assert_row_ended(
     rt: &impl Abort,
     row: u64,
-    ended: &Ended,
+    ended: &CommandEnd,
     status: u8,
     text: &str,
     told: &str,
@@ -49,7 +49,7 @@ pub fn assert_row_ended(
 }
 
 /// Asserts that the words of a command line were refused, whoever judged them.
-pub fn assert_refused(rt: &impl Abort, words: &[&str], ended: &Ended) {
+pub fn assert_refused(rt: &impl Abort, words: &[&str], ended: &CommandEnd) {
     assert_same_at(rt, &words, ended.status, 2);
     assert_same_at(rt, &words, ended.text.as_str(), "");
     assert!(rt; !ended.told.is_empty(), "at {words:?}");
@@ -68,11 +68,11 @@ pub fn run_with<R: Files + AllocGlobal, A: Allocator + Copy>(
     words: &[&str],
     out: Room,
     err: Room,
-) -> Result<Ended, Fail> {
+) -> Result<CommandEnd, Fail> {
     let mut out = empty_out(alloc, out)?;
     let mut err = empty_out(alloc, err)?;
     let status = status_of(rt, heap, words, &mut out, &mut err);
-    Ok(Ended {
+    Ok(CommandEnd {
         status,
         text: text_in(alloc, &out)?,
         told: text_in(alloc, &err)?,
@@ -90,6 +90,10 @@ fn status_of<R: Files + AllocGlobal, A: Allocator + Copy>(
 }
 
 /// Runs a command line, to outputs that take all.
-pub fn run(rt: &(impl Files + AllocGlobal), alloc: Global, words: &[&str]) -> Result<Ended, Fail> {
+pub fn run(
+    rt: &(impl Files + AllocGlobal),
+    alloc: Global,
+    words: &[&str],
+) -> Result<CommandEnd, Fail> {
     run_with(rt, alloc, alloc, words, BY_SEVEN, BY_SEVEN)
 }

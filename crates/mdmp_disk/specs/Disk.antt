@@ -31,10 +31,10 @@ pub record DiskState : Type 0 where
   pub requests : Requests
 
 -- the bytes of the file of a name, where they are known
-abbrev pub bytes_of : FileAt → Option (List ℕ)
-bytes_of unknown = None
-bytes_of absent = None
-bytes_of (present file) = file.bytes
+abbrev pub bytes_of_file : FileAt → Option (List ℕ)
+bytes_of_file unknown = None
+bytes_of_file absent = None
+bytes_of_file (present file) = file.bytes
 
 -- ---- calls, counted
 
@@ -54,16 +54,16 @@ after_open is_opened before = record before { requests = open_counted is_opened 
 abbrev pub opened_once : DiskState → DiskState
 opened_once = after_open true
 
-abbrev pub refused_once : DiskState → DiskState
-refused_once = after_open false
+abbrev pub open_refused : DiskState → DiskState
+open_refused = after_open false
 
 -- ---- what a call gives
 
 -- a store over a file of which this is known: it has its bytes, and was not called yet; there is none over no file
-abbrev pub IsOpened : FileAt → StoreState → Type 0
-IsOpened unknown store = IsNew store None false
-IsOpened absent store = ⊥
-IsOpened (present file) store = IsNew store file.bytes file.is_reliable
+abbrev pub IsOpenedFile : FileAt → StoreState → Type 0
+IsOpenedFile unknown store = IsNew store None false
+IsOpenedFile absent store = ⊥
+IsOpenedFile (present file) store = IsNew store file.bytes file.is_reliable
 
 -- a file of this name is known to be there
 abbrev pub IsPresent : FileAt → Type 0
@@ -86,7 +86,7 @@ pub record IsMade (before : DiskState) (name : List ℕ) (made : OutState) (afte
 
 -- what was taken under this name is the file's bytes
 pub record IsClosed (before : DiskState) (name : List ℕ) (made : OutState) (after : DiskState) : Type 0 where
-  pub bytes : bytes_of (after.files name) ≡ made.taken
+  pub bytes : bytes_of_file (after.files name) ≡ made.taken
   pub others : KeepsOthers before name after
   pub same_blank : after.blank ≡ before.blank
   pub same_requests : after.requests ≡ before.requests

@@ -65,7 +65,7 @@ impl Requests {
 // `std::rt::Files` can remove, rename and write over files, so no clause over it could say what is left.
 pub trait Disk {
     ghost use Rattle.std.specs.Prelude.{◌≡◌, IfOk, IsOk, IsTrue, OnErr, is_ok};
-    ghost use Rattle.mdmp_disk.specs.Disk.{DiskState, FileState, IsClosed, IsMade, IsOpened, after_open, present, refused_once};
+    ghost use Rattle.mdmp_disk.specs.Disk.{DiskState, FileState, IsClosed, IsMade, IsOpenedFile, after_open, present, open_refused};
 
     /// A file that was opened.
     type File: Store + Drop;
@@ -78,14 +78,14 @@ pub trait Disk {
 
     /// Opens the file of this name, to be read from its start. No file is changed.
     fn open(&mut self, name: &str) -> Result<Self::File, DiskRefused>
-        ensures opened { IfOk result (λ file. IsOpened ((state self.old).files name.now) (Self.File.state file)) }
+        ensures opened { IfOk result (λ file. IsOpenedFile ((state self.old).files name.now) (Self.File.state file)) }
         ensures gives { (file : FileState) → (state self.old).files name.now ≡ present file → IsTrue file.is_reliable → IsOk result }
         ensures state { state self.new ≡ after_open (is_ok result) (state self.old) };
 
     /// Makes a file of this name, where there is none. Where it is refused no file is changed.
     fn make(&mut self, name: &str) -> Result<Self::Made, DiskRefused>
         ensures made { IfOk result (λ made. IsMade (state self.old) name.now (Self.Made.state made) (state self.new)) }
-        ensures refused { OnErr result (state self.new ≡ refused_once (state self.old)) };
+        ensures refused { OnErr result (state self.new ≡ open_refused (state self.old)) };
 
     /// Closes a file that was made under this name: what it took is its bytes.
     fn close(&mut self, name: &str, made: Self::Made)

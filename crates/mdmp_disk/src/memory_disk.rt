@@ -33,7 +33,7 @@ pub struct MemoryDisk<'a, A: Allocator> {
 
 impl<'a, A: Allocator + Copy> MemoryDisk<'a, A> {
     ghost use Rattle.std.specs.Prelude.{◌≡◌, false, List, [], ℕ, Some, IfSome};
-    ghost use Rattle.mdmp_disk.specs.Disk.{absent, bytes_of};
+    ghost use Rattle.mdmp_disk.specs.Disk.{absent, bytes_of_file};
     ghost use Rattle.mdmp_disk.specs.Memory.{IsShown, given_at, memory_state};
     ghost use Rattle.mdmp_disk.specs.System.{no_requests};
 
@@ -53,7 +53,7 @@ impl<'a, A: Allocator + Copy> MemoryDisk<'a, A> {
 
     /// The bytes of the file of this name, as they stand.
     pub fn bytes(&self, name: &str) -> Option<&[u8]>
-        ensures { IsShown result (bytes_of ((⟦<MemoryDisk<'a, A> as Disk>⟧.state self.now).files name.now)) }
+        ensures { IsShown result (bytes_of_file ((⟦<MemoryDisk<'a, A> as Disk>⟧.state self.now).files name.now)) }
     {
         if self.has_made && self.made_name.as_slice() == name.as_bytes() {
             return Some(&self.made_bytes);

@@ -23,8 +23,8 @@ use Rattle.mdmp_dump.specs.declared.fault.PartName.{PartName}
 use Rattle.mdmp_dump.specs.declared.part.Part.TheVariants as parts
 use Rattle.mdmp_dump.specs.declared.reader.Reader.{Reader}
 use Rattle.mdmp_dump.specs.Part.{IsPart, part_in}
-use Rattle.mdmp_dump.specs.Reading.{Fetches, HasBytesAt, IsReadRefusal, Takes, store_fault}
-use Rattle.mdmp_dump.specs.Refusal.{Refuse, Step, Take, first_refusal, location_steps, part_steps}
+use Rattle.mdmp_dump.specs.Reading.{Fetches, HasBytesAt, IsReadRefusal, TakesSteps, store_fault}
+use Rattle.mdmp_dump.specs.Refusal.{Refuse, ReadStep, Take, first_refusal, location_steps, part_steps}
 use Rattle.mdmp_dump.proofs.Refusal.{refusal_moved}
 
 -- nothing was fetched, and no fault of the store is told
@@ -34,7 +34,7 @@ Fetches-none (Ok x) s none refusal = record { fetches = record { count = 0; fetc
 Fetches-none (Err fault) s none refusal = record { fetches = record { count = 0; fetches = FetchesAtMost-none s }; told = rw none tt; good = λ file good. none; refusal = refusal }
 
 -- a part is taken by how its bytes compare with those that are left
-take-by : (left e k size : ℕ) (rest : List Step) (last : Option ReadFault) (more : Bool) → nat_lt left size ≡ more
+take-by : (left e k size : ℕ) (rest : List ReadStep) (last : Option ReadFault) (more : Bool) → nat_lt left size ≡ more
     → first_refusal left 0 (Take e k size ∷ rest) last ≡ (if more then Some (faults.PartsTooLarge e k) else first_refusal left size rest last)
 unfolding first_refusal
 take-by left e k size rest last more is =
@@ -43,12 +43,12 @@ take-by left e k size rest last more is =
     ∙ ap (λ (b : Bool). if b then Some (faults.PartsTooLarge e k) else first_refusal left size rest last) is
 
 -- so many bytes are more than are left
-pub take-refused : (left e k size : ℕ) (rest : List Step) (last : Option ReadFault) → left < size
+pub take-refused : (left e k size : ℕ) (rest : List ReadStep) (last : Option ReadFault) → left < size
     → first_refusal left 0 (Take e k size ∷ rest) last ≡ Some (faults.PartsTooLarge e k)
 take-refused left e k size rest last more = take-by left e k size rest last true (lt-ltb _ _ more)
 
 -- or they are taken
-pub take-taken : (left e k size : ℕ) (rest : List Step) (last : Option ReadFault) → size ≤ left
+pub take-taken : (left e k size : ℕ) (rest : List ReadStep) (last : Option ReadFault) → size ≤ left
     → first_refusal left 0 (Take e k size ∷ rest) last ≡ first_refusal (left - size) 0 rest last
 take-taken left e k size rest last most =
     let all : size + (left - size) ≡ left = omega (arith, most) in
@@ -95,15 +95,15 @@ outside-is at size z some out = by (size == 0) (is_inside at size z) (ne_eqb siz
   by : (a i : Bool) → a ≡ false → i ≡ false → (if a then Empty else if i then Inside else Outside) ≡ Outside
   by a i none out = rw (none, out) refl
 
-refused-first : (fault : ReadFault) (left : ℕ) (rest : List Step) (last : Option ReadFault) → first_refusal left 0 (Refuse fault ∷ rest) last ≡ Some fault
+refused-first : (fault : ReadFault) (left : ℕ) (rest : List ReadStep) (last : Option ReadFault) → first_refusal left 0 (Refuse fault ∷ rest) last ≡ Some fault
 unfolding first_refusal
 refused-first fault left rest last = refl
 
 -- they are refused
 pub outside-refused : {S A T : Type 0} (old : Reader S A) (e k : ℕ) (part : PartName) (at size z : ℕ) → (size ≡ 0 → ⊥) → is_inside at size z ≡ false
-    → Takes {T = T} (part_steps e k part at size (range_extent_of at size z)) old (Err (faults.PartOutside e k part at size)) old
+    → TakesSteps {T = T} (part_steps e k part at size (range_extent_of at size z)) old (Err (faults.PartOutside e k part at size)) old
 outside-refused {T = T} old e k part at size z some out =
-    subst (λ (x : Extent). Takes {T = T} (part_steps e k part at size x) old (Err (faults.PartOutside e k part at size)) old) (sym (outside-is at size z some out)) (record {
+    subst (λ (x : Extent). TakesSteps {T = T} (part_steps e k part at size x) old (Err (faults.PartOutside e k part at size)) old) (sym (outside-is at size z some out)) (record {
       same = refl;
       fetches = Fetches-none _ old.lister.source refl tt;
       settles = λ rest last own. refused-first (faults.PartOutside e k part at size) old.left rest last;
@@ -140,7 +140,7 @@ part-present {Z = Z} file at bytes present has = by (at.size == 0) (at.rva == 0)
 
 -- what they ask is what the location asks
 pub takes-present : {S A T : Type 0} (old : Reader S A) (result : Result T ReadFault) (new : Reader S A) (e k : ℕ) (part : PartName) (at : Location) (z : ℕ)
-    → (extent_of at z ≡ Absent → ⊥) → Takes (part_steps e k part at.rva at.size (range_extent_of at.rva at.size z)) old result new
-    → Takes (location_steps e k part at (extent_of at z)) old result new
+    → (extent_of at z ≡ Absent → ⊥) → TakesSteps (part_steps e k part at.rva at.size (range_extent_of at.rva at.size z)) old result new
+    → TakesSteps (location_steps e k part at (extent_of at z)) old result new
 takes-present old result new e k part at z present takes =
-    subst (λ (x : Extent). Takes (part_steps e k part at.rva at.size x) old result new) (extent-present at z present) takes
+    subst (λ (x : Extent). TakesSteps (part_steps e k part at.rva at.size x) old result new) (extent-present at z present) takes

@@ -13,7 +13,7 @@ use Rattle.mdmp_dump.specs.declared.dump.Stream.{Stream}
 use Rattle.mdmp_dump.specs.declared.dump.Stream.TheVariants as streams
 use Rattle.mdmp_dump.specs.declared.dump.Dump.{Dump}
 use Rattle.mdmp_dump.specs.LaysOut.{AreStreams, LaysOut}
-use Rattle.mdmp_dump.specs.Within.{IsNameWithin, IsWithin, NamesWithin, memory_ranges, part_bytes}
+use Rattle.mdmp_dump.specs.Within.{IsNameWithin, IsWithinLimits, NamesWithin, memory_ranges, part_bytes}
 
 module _ (Z : Type 0) where
   -- the streams of all entries
@@ -113,14 +113,14 @@ module _ (Z : Type 0) where
   -- ---- limits
 
   -- three parts of 14 bytes together, and neither names nor ranges
-  crash-within : IsWithin 0 14 crash_dump
+  crash-within : IsWithinLimits 0 14 crash_dump
   crash-within = record { names = unnamed; parts = omega arith; ranges = omega arith } where
     unnamed : (k : ℕ) (d : Stream Z) → k < 2 → NamesWithin 0 (slice_index_or crash_dump.streams k d)
     unnamed zero d lt = tt
     unnamed (suc zero) d lt = tt
     unnamed (suc (suc k)) d lt = absurd (omega (arith, lt))
 
-  crash-over : IsWithin 0 13 crash_dump → ⊥
+  crash-over : IsWithinLimits 0 13 crash_dump → ⊥
   crash-over within = absurd (omega (arith, within.parts))
 
   -- of the absent stack there are no bytes, of the context there is one

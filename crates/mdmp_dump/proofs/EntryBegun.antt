@@ -9,7 +9,7 @@ use Rattle.mdmp_wire.specs.declared.entry.Entry.{Entry}
 use Rattle.mdmp_lister.proofs.Handing.{same_lister-then}
 use Rattle.mdmp_lister.specs.Format.Bounds.{held_bound}
 use Rattle.mdmp_lister.specs.declared.meter.Amount.{Amount}
-use Rattle.mdmp_lister.specs.Fault.{IsAnsweredFor, IsOfSource, IsToldBy, TellsNoChange}
+use Rattle.mdmp_lister.specs.Fault.{IsAnsweredFor, IsOfSource, IsToldByFetch, TellsNoChange}
 use Rattle.mdmp_lister.specs.declared.fault.Fault.{Fault}
 use Rattle.mdmp_lister.specs.declared.fault.FaultKind.{FaultKind}
 use Rattle.mdmp_lister.specs.declared.fault.FaultKind.TheVariants.{Source}
@@ -32,10 +32,10 @@ use Rattle.mdmp_lister.specs.Following.{Standing}
 use Rattle.mdmp_lister.specs.Step.{TellsAnswer}
 use Rattle.mdmp_lister.specs.Walker.{CountsRecords, GivesEntry, IsSought, IsSoughtAt, StepLeaves, WalkerLeaves, WalkerState, is_failed, records_answer, seeks}
 use Rattle.mdmp_dump.specs.declared.fault.ReadFault.TheVariants as faults
-use Rattle.mdmp_dump.specs.EntryWalk.{Begins, IsSameWalk, Pays, WalkState, entry_at, listed, numbered}
+use Rattle.mdmp_dump.specs.EntryWalk.{Begins, IsSameWalk, Pays, WalkState, chosen_entry, listed, numbered}
 use Rattle.mdmp_dump.specs.Left.{left_from, run_of}
 use Rattle.mdmp_dump.specs.Reading.{IsLastTold, store_fault_in}
-use Rattle.mdmp_dump.specs.Walking.{IsFar, IsKept, allowed_of, current_of, ended_with, left_by, left_of, state_of}
+use Rattle.mdmp_dump.specs.Walking.{IsFar, IsKept, bytes_allowed, current_entry, ended_with, left_by, records_to_give, state_of}
 use Rattle.mdmp_dump.proofs.Left.{begun}
 use Rattle.mdmp_dump.proofs.Taking.{FetchesSome_none, FetchesSome_then, Fetches_only, fetches_err}
 
@@ -90,7 +90,7 @@ of_kind (Source fault) is = (fault, refl)
 of_kind kind is = absurd (cc is)
 
 -- a fault of the store that does not tell a change is the last that was told
-pub last_told : (e : Entry) (kind : FaultKind) (old new : SourceState) → IsToldBy e kind old new → TellsNoChange kind → IfSome (store_fault_in kind) (λ of_store. IsLastTold of_store old new)
+pub last_told : (e : Entry) (kind : FaultKind) (old new : SourceState) → IsToldByFetch e kind old new → TellsNoChange kind → IfSome (store_fault_in kind) (λ of_store. IsLastTold of_store old new)
 last_told e (Source (Changed at)) old new told steady = absurd steady
 last_told e (Source (Failed at)) old new told steady = told
 last_told e (Source (ShortRead at)) old new told steady = told
@@ -114,7 +114,7 @@ pub record IsAtEntry (x : Numbered) (old new : WalkerState) : Type 0 where
   pub passed : new.list.passed ≡ x.number + 1
   pub names : new.list.counts.names ≡ old.list.counts.names
   pub mark : new.mark ≡ new.list.counts
-  pub paid : new.list.counts.names + 1 < 2 ^ 128 → new.list.counts.fetched ≤ allowed_of old
+  pub paid : new.list.counts.names + 1 < 2 ^ 128 → new.list.counts.fetched ≤ bytes_allowed old
   pub stop : new.list.stop ≡ None
   pub position : new.position ≡ Begun
   pub left : (F : List ℕ) → old.list.source.store.content ≡ Some F → x.entry ≡ entry_of F x.number
@@ -286,13 +286,13 @@ module _ (number : ℕ) (e : Entry) (old mid new : WalkerState) (at : slice_get 
     by false fresh = fresh
 
 -- behind a fault no records are left
-pub step_stopped : (mid new : WalkerState) (f : ListFault) → StepLeaves mid (Err f) new → left_of new.list ≡ 0
+pub step_stopped : (mid new : WalkerState) (f : ListFault) → StepLeaves mid (Err f) new → records_to_give new.list ≡ 0
 step_stopped mid new f step =
     let stop = (subst (λ (a : Result (Option Item) ListFault). WalkerLeaves mid a new) step.told step.leaves).list.stop in
     left_stopped new.list.passed new.list.stop (Some f) new.list.records stop
 
 -- so nothing is said of them
-pub far_stopped : (v : ListerState) (far : Bool) → left_of v ≡ 0 → IsFar v far
+pub far_stopped : (v : ListerState) (far : Bool) → records_to_give v ≡ 0 → IsFar v far
 far_stopped v far none some = absurd (omega (arith, none, some))
 
 -- ---- its records are counted
@@ -302,10 +302,10 @@ told_count e (Ok n) count is = ap Ok (cc is)
 told_count e (Err f) count is = absurd (cc is)
 
 module _ (x : Numbered) (old mid new : WalkerState) (kept : IsKept old) (at : IsAtEntry x old mid) (result : Result ℕ ListFault) (counts : CountsRecords mid result new) where
-  current_is : current_of mid.list ≡ x
+  current_is : current_entry mid.list ≡ x
   current_is = let number : mid.list.passed - 1 ≡ x.number = omega (arith, at.passed) in λ i. record { number = number i; entry = at.current i }
 
-  current_new : current_of new.list ≡ x
+  current_new : current_entry new.list ≡ x
   current_new = (λ i. record { number = counts.passed i - 1; entry = counts.current i }) ∙ current_is
 
   fetched : FetchesSome old.list.source new.list.source
@@ -334,7 +334,7 @@ module _ (x : Numbered) (old mid new : WalkerState) (kept : IsKept old) (at : Is
     same = same_walk;
     aside = ap (λ (a : Amount). a.bytes) counted_same.aside;
     allowed = λ few.
-        let fetched : mid.list.counts.fetched ≤ allowed_of old = at.paid (omega (arith, few, names_new)) in
+        let fetched : mid.list.counts.fetched ≤ bytes_allowed old = at.paid (omega (arith, few, names_new)) in
         let mark = ap (λ (c : MeterCounts). c.fetched) mark_new in
         omega (arith, fetched, cost_new, mark, mark_names, names_new);
     reached = omega (arith, names_new, at.names);
@@ -344,14 +344,14 @@ module _ (x : Numbered) (old mid new : WalkerState) (kept : IsKept old) (at : Is
   limit_new : new.list.limit ≡ 0
   limit_new = counted_same.limit ∙ kept.limit
 
-  spent_new : new.list.counts.names + 1 < 2 ^ 128 → new.list.counts.fetched ≤ allowed_of new
+  spent_new : new.list.counts.names + 1 < 2 ^ 128 → new.list.counts.fetched ≤ bytes_allowed new
   spent_new few =
       let within : mid.mark.names ≤ new.list.counts.names = let same = ap (λ (c : MeterCounts). c.names) at.mark in omega (arith, same, names_new) in
       let most = paid_by mid.list.limit new.list.counts.fetched (mid.mark.fetched + entry_cost mid.list.source.size mid.list.current) mid.mark.names new.list.counts.names (at.same.limit ∙ kept.limit) (counts.spent few) within in
       rw (counts.mark, counts.current, counts.fetches.same_size) most
 
-  module _ (stream : ℕ) (is : entry_at (state_of old) stream ≡ x) (fresh : is_failed old.list.stop ≡ false) where
-    paid_at : Pays (listed (entry_at (state_of old) stream).entry) 0 (state_of old) (state_of new)
+  module _ (stream : ℕ) (is : chosen_entry (state_of old) stream ≡ x) (fresh : is_failed old.list.stop ≡ false) where
+    paid_at : Pays (listed (chosen_entry (state_of old) stream).entry) 0 (state_of old) (state_of new)
     paid_at = subst (λ (y : Numbered). Pays (listed y.entry) 0 (state_of old) (state_of new)) (sym is) paid
 
     never : {T : Type 0} (fault : SourceFault) → ended_with old.list.stop ≡ Some fault → T
@@ -362,10 +362,10 @@ module _ (x : Numbered) (old mid new : WalkerState) (kept : IsKept old) (at : Is
     count_is : (F : List ℕ) → old.list.source.store.content ≡ Some F → record_count F x.entry ≡ Ok count
     count_is F known = ap (record_count F) (sym at.current) ∙ told_count (mid.list.passed - 1) (record_count F mid.list.current) count (answered F (at.fetches.fetches.same_content ∙ known))
 
-    left_new : left_of new.list ≡ count
+    left_new : records_to_give new.list ≡ count
     left_new = left_begun new.list.passed new.list.stop new.list.records (λ zero. let passed = counts.passed ∙ at.passed in omega (arith, passed, zero)) counts.stop ∙ counts.records
 
-    pub begins_counted : (stream : ℕ) → entry_at (state_of old) stream ≡ x → is_failed old.list.stop ≡ false → Begins (state_of old) stream (Ok count) (state_of new)
+    pub begins_counted : (stream : ℕ) → chosen_entry (state_of old) stream ≡ x → is_failed old.list.stop ≡ false → Begins (state_of old) stream (Ok count) (state_of new)
     begins_counted stream is fresh = record {
       pays = paid_at x old mid new kept at (Ok count) counts stream is fresh;
       begun = (current_new x old mid new kept at (Ok count) counts ∙ sym is, left_new, counts.few);
@@ -385,7 +385,7 @@ module _ (x : Numbered) (old mid new : WalkerState) (kept : IsKept old) (at : Is
           let before : old.list.source.store.content ≡ Some F = sym (fetched x old mid new kept at (Ok count) counts).fetches.same_content ∙ known in
           let xs = chosen_from F old.list.choice (x.number + 1) in
           let left : new.list.left ≡ Some (left_from F 0 x 0 xs) = counts.left ∙ ap (option_map (λ run. run)) (at.left F before (of_file F before)) in
-          let all : 0 + left_of new.list ≡ count = omega (arith, left_new) in (
+          let all : 0 + records_to_give new.list ≡ count = omega (arith, left_new) in (
             0,
             xs,
             (
@@ -397,7 +397,7 @@ module _ (x : Numbered) (old mid new : WalkerState) (kept : IsKept old) (at : Is
     }
 
   module _ (f : ListFault) (counts : CountsRecords mid (Err f) new) (answered : (file : List ℕ) → mid.list.source.store.content ≡ Some file → IsAnsweredFor (records_answer file mid) (Err f)) where
-    pub begins_refused : (stream : ℕ) → entry_at (state_of old) stream ≡ x → is_failed old.list.stop ≡ false → Begins (state_of old) stream (Err (faults.List f)) (state_of new)
+    pub begins_refused : (stream : ℕ) → chosen_entry (state_of old) stream ≡ x → is_failed old.list.stop ≡ false → Begins (state_of old) stream (Err (faults.List f)) (state_of new)
     begins_refused stream is fresh = record {
       pays = paid_at x old mid new kept at (Err f) counts stream is fresh;
       begun = tt;

@@ -10,13 +10,13 @@ use Rattle.mdmp_lister.specs.Lister.{ListerState, ReadsAside}
 use Rattle.mdmp_lister.specs.Meter.{SpendsAside}
 use Rattle.mdmp_lister.specs.Walker.{IsNewWalker, WalkerState}
 use Rattle.mdmp_dump.specs.declared.entry_walk.EntryPlace.{EntryPlace}
-use Rattle.mdmp_dump.specs.EntryWalk.{IsOpened, numbered}
+use Rattle.mdmp_dump.specs.EntryWalk.{IsOpenedWalk, numbered}
 use Rattle.mdmp_dump.specs.Walking.{IsKept, IsStanding, ended_with, state_of}
 use Rattle.mdmp_dump.proofs.EntryPlaces.{chosen_all, few_chosen, length-numbered}
 
 -- ---- a walk that was opened
 
-pub opened : (source : SourceState) (choice : Choice) (limits : Limits) (new : WalkerState) → IsNewWalker source choice limits new → limits.name ≡ 0 → IsOpened source limits.window choice (state_of new)
+pub opened : (source : SourceState) (choice : Choice) (limits : Limits) (new : WalkerState) → IsNewWalker source choice limits new → limits.name ≡ 0 → IsOpenedWalk source limits.window choice (state_of new)
 opened source choice limits new is none =
     let l = is.list in
     let mark = ap (λ (c : MeterCounts). c.fetched) is.mark in

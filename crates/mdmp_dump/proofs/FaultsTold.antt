@@ -11,9 +11,9 @@ use Rattle.mdmp_dump.specs.declared.fault.ReadFault.{ReadFault}
 use Rattle.mdmp_dump.specs.declared.pass.Pass.{Pass}
 use Rattle.mdmp_dump.specs.declared.fault.ReadFault.TheVariants as faults
 use Rattle.mdmp_dump.specs.declared.found_record.FoundRecord.{FoundRecord}
-use Rattle.mdmp_dump.specs.EntryWalk.{Begins, FindsRow, GivesNext, WalkState, ended_by, entry_at}
+use Rattle.mdmp_dump.specs.EntryWalk.{Begins, FindsRow, GivesNext, WalkState, ended_by, chosen_entry}
 use Rattle.mdmp_dump.specs.FileRefusal.{body_told}
-use Rattle.mdmp_dump.specs.FileView.{IsPass, IsPassOf, Tells, source_fault, told_as}
+use Rattle.mdmp_dump.specs.FileView.{IsPass, IsPassOf, TellsViewFault, source_fault, told_as}
 use Rattle.mdmp_dump.specs.Reading.{Fetches, IsLastTold, IsOwn, store_fault}
 use Rattle.mdmp_dump.proofs.Refusals.{row_refused}
 
@@ -52,7 +52,7 @@ module _ (T U : Type 0) (old new : WalkState) where
       → ((F : List ℕ) → old.source.store.content ≡ Some F → store_fault fault ≡ None → ⊥)
       → new.failed ≡ ended_by {T = U} (Err fault)
       → ((told : SourceFault) → old.failed ≡ Some told → (new.source ≡ old.source) × (new.failed ≡ old.failed))
-      → Tells {T = T} old (Err (told_as rva (store_fault fault))) new
+      → TellsViewFault {T = T} old (Err (told_as rva (store_fault fault))) new
   tells_fault fault rva fetches none failed repeats = record {
     told = λ going. last_by rva (store_fault fault) old.source new.source (fetches going).told none;
     ended = λ told is. ap (told_as rva) (ended_is U fault told (sym failed ∙ is));
@@ -63,7 +63,7 @@ module _ (T U : Type 0) (old new : WalkState) where
 module _ (T : Type 0) (old new : WalkState) where
   -- a file that has changed is none of known content
   pub tells_change : (rva : ℕ) → ((F : List ℕ) → old.source.store.content ≡ Some F → ⊥) → new.failed ≡ None → ((told : SourceFault) → old.failed ≡ Some told → ⊥)
-      → Tells {T = T} old (Err (told_as rva None)) new
+      → TellsViewFault {T = T} old (Err (told_as rva None)) new
   tells_change rva none failed going = record {
     told = λ _. unknown old.source.store.content none;
     ended = λ told is. absurd (let ended = is in cc);
@@ -71,7 +71,7 @@ module _ (T : Type 0) (old new : WalkState) where
     good = λ F good _. absurd (none F good.known);
   }
 
-  pub tells_ok : (x : T) → new.failed ≡ None → ((told : SourceFault) → old.failed ≡ Some told → ⊥) → Tells old (Ok x) new
+  pub tells_ok : (x : T) → new.failed ≡ None → ((told : SourceFault) → old.failed ≡ Some told → ⊥) → TellsViewFault old (Ok x) new
   tells_ok x failed going = record {
     told = λ _. tt;
     ended = λ told is. absurd (let ended = is in cc);
@@ -85,19 +85,19 @@ count_kept : (number : ℕ) (count : Result ℕ Fault) (n : ℕ) (f : ListFault)
 count_kept number (Ok m) n f is told = cc
 count_kept number (Err fault) n f is told = cc
 
-module _ (T : Type 0) (old new : WalkState) (k count : ℕ) (counted : (F : List ℕ) → old.source.store.content ≡ Some F → record_count F (entry_at old k).entry ≡ Ok count) where
-  pub begin_refused : (fault : ReadFault) (rva : ℕ) → Begins old k (Err fault) new → Tells {T = T} old (Err (told_as rva (store_fault fault))) new
+module _ (T : Type 0) (old new : WalkState) (k count : ℕ) (counted : (F : List ℕ) → old.source.store.content ≡ Some F → record_count F (chosen_entry old k).entry ≡ Ok count) where
+  pub begin_refused : (fault : ReadFault) (rva : ℕ) → Begins old k (Err fault) new → TellsViewFault {T = T} old (Err (told_as rva (store_fault fault))) new
   begin_refused fault rva begins = tells_fault T ℕ old new fault rva begins.fetches
       (λ F known none.
       let listed = begins.told in
       let told = begins.of_file F known (own_by fault (λ memory. (let list : faults.List listed.0 ≡ faults.Memory = sym listed.1 ∙ memory in cc)) none) in
-      count_kept (entry_at old k).number (record_count F (entry_at old k).entry) count told.0 (counted F known) told.1.0)
+      count_kept (chosen_entry old k).number (record_count F (chosen_entry old k).entry) count told.0 (counted F known) told.1.0)
       begins.failed
       (λ told is.
       let same = (begins.repeats told is).0 in
       (ap (λ (w : WalkState). w.source) same, ap (λ (w : WalkState). w.failed) same))
 
-module _ (old new : WalkState) (k count : ℕ) (counted : (F : List ℕ) → old.source.store.content ≡ Some F → record_count F (entry_at old k).entry ≡ Ok count) where
+module _ (old new : WalkState) (k count : ℕ) (counted : (F : List ℕ) → old.source.store.content ≡ Some F → record_count F (chosen_entry old k).entry ≡ Ok count) where
   pub going_on : (now : ℕ) → Begins old k (Ok now) new → (told : SourceFault) → old.failed ≡ Some told → ⊥
   going_on now begins told is = (begins.repeats told is).1
 
@@ -109,22 +109,22 @@ module _ (old new : WalkState) (k count : ℕ) (counted : (F : List ℕ) → old
 module _ (Z : Type 0) (old new : WalkState) (limit : ℕ) (p : Pass) (passing : IsPass old p) (going : 0 < p.left) (unfailed : old.failed ≡ None)
     (of_file : (F : List ℕ) → old.source.store.content ≡ Some F → IsPassOf Z F limit old p) where
   -- the record that is found is the next one of the pass
-  pub next_row : (result : Result FoundRecord ReadFault) → GivesNext old limit result new → (F : List ℕ) → old.source.store.content ≡ Some F → FindsRow F limit (entry_at old p.stream) p.given result
+  pub next_row : (result : Result FoundRecord ReadFault) → GivesNext old limit result new → (F : List ℕ) → old.source.store.content ≡ Some F → FindsRow F limit (chosen_entry old p.stream) p.given result
   next_row result gives F known =
       let next = gives.of_file F known in
       let stands = passing.going going in
       let counted = (of_file F known).counted in
-      let count : record_count F (entry_at old p.stream).entry ≡ Ok (next.0 + old.left) = subst (λ (x : Numbered). record_count F x.entry ≡ Ok (next.0 + old.left)) stands.0 next.1.0 in
+      let count : record_count F (chosen_entry old p.stream).entry ≡ Ok (next.0 + old.left) = subst (λ (x : Numbered). record_count F x.entry ≡ Ok (next.0 + old.left)) stands.0 next.1.0 in
       let sum : next.0 + old.left ≡ p.given + p.left = (let a = count in let b = counted in cc) in
       let same : next.0 ≡ p.given = omega (arith, sum, stands.1) in
-      subst (λ (i : ℕ). FindsRow F limit (entry_at old p.stream) i result) same (subst (λ (x : Numbered). FindsRow F limit x next.0 result) stands.0 next.1.1)
+      subst (λ (i : ℕ). FindsRow F limit (chosen_entry old p.stream) i result) same (subst (λ (x : Numbered). FindsRow F limit x next.0 result) stands.0 next.1.1)
 
-  pub next_refused : (T : Type 0) (fault : ReadFault) (rva : ℕ) → GivesNext old limit (Err fault) new → Tells {T = T} old (Err (told_as rva (store_fault fault))) new
+  pub next_refused : (T : Type 0) (fault : ReadFault) (rva : ℕ) → GivesNext old limit (Err fault) new → TellsViewFault {T = T} old (Err (told_as rva (store_fault fault))) new
   next_refused T fault rva gives = tells_fault T FoundRecord old new fault rva (λ _. gives.fetches)
       (λ F known none.
       let pass = of_file F known in
-      let refused : body_told F limit (entry_at old p.stream) p.given ≡ Some fault =
-      row_refused F limit (entry_at old p.stream) (p.given + p.left) pass.counted p.given fault (next_row (Err fault) gives F known) (own_by fault (gives.able F known) none) in
+      let refused : body_told F limit (chosen_entry old p.stream) p.given ≡ Some fault =
+      row_refused F limit (chosen_entry old p.stream) (p.given + p.left) pass.counted p.given fault (next_row (Err fault) gives F known) (own_by fault (gives.able F known) none) in
       let quiet = pass.quiet in
       cc)
       gives.failed
@@ -132,6 +132,6 @@ module _ (Z : Type 0) (old new : WalkState) (limit : ℕ) (p : Pass) (passing : 
 
   -- or the file has changed, where it is not known
   pub next_changed : (T : Type 0) (result : Result FoundRecord ReadFault) (rva : ℕ) → GivesNext old limit result new → IsOk result → ((F : List ℕ) → old.source.store.content ≡ Some F → ⊥)
-      → Tells {T = T} old (Err (told_as rva None)) new
+      → TellsViewFault {T = T} old (Err (told_as rva None)) new
   next_changed T (Ok f) rva gives ok none = tells_change T old new rva none gives.failed (λ told is. (let no = unfailed in cc))
   next_changed T (Err fault) rva gives ok none = absurd (let no = ok in cc)

@@ -9,14 +9,14 @@ use Rattle.mdmp_lister.specs.Format.Refusal.{behind_directory, directory_refusal
 use Rattle.mdmp_dump.specs.declared.fault.ReadFault.{ReadFault}
 use Rattle.mdmp_dump.specs.declared.fault.ReadFault.TheVariants as faults
 use Rattle.mdmp_dump.specs.FileRefusal.{first_told, opened_told, parts_taken, taken_by, view_refusal}
-use Rattle.mdmp_dump.specs.Refusal.{Step, Refuse, Take, first_refusal, item_steps, opened_refusal, read_refusal}
+use Rattle.mdmp_dump.specs.Refusal.{ReadStep, Refuse, Take, first_refusal, item_steps, opened_refusal, read_refusal}
 
 -- what is not refused with a limit on parts is not refused without one
 take_or : (b : Bool) (e k : ℕ) (rest : Option ReadFault) → (if b then Some (faults.PartsTooLarge e k) else rest) ≡ None → rest ≡ None
 take_or true e k rest none = absurd (cc)
 take_or false e k rest none = none
 
-told_none : (limit total : ℕ) (steps : List Step) (last : Option ReadFault) → first_refusal limit total steps last ≡ None → first_told steps last ≡ None
+told_none : (limit total : ℕ) (steps : List ReadStep) (last : Option ReadFault) → first_refusal limit total steps last ≡ None → first_told steps last ≡ None
 unfolding first_refusal first_told
 told_none limit total [] last none = none
 told_none limit total (Refuse fault ∷ steps) last none = none
@@ -27,7 +27,7 @@ take_within : (b : Bool) (limit n e k : ℕ) (rest : Option ReadFault) → nat_l
 take_within true limit n e k rest is within = absurd (grind (arith, nat_tests))
 take_within false limit n e k rest is within = refl
 
-told_same : (limit total : ℕ) (steps : List Step) (last : Option ReadFault) → total + taken_by steps ≤ limit → first_refusal limit total steps last ≡ first_told steps last
+told_same : (limit total : ℕ) (steps : List ReadStep) (last : Option ReadFault) → total + taken_by steps ≤ limit → first_refusal limit total steps last ≡ first_told steps last
 unfolding first_refusal first_told taken_by
 told_same limit total [] last within = refl
 told_same limit total (Refuse fault ∷ steps) last within = refl

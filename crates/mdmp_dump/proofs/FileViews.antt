@@ -12,11 +12,11 @@ use Rattle.mdmp_dump.specs.declared.found_record.PartAt.{PartAt}
 use Rattle.mdmp_dump.specs.declared.view.Fields.{Fields}
 use Rattle.mdmp_dump.specs.declared.view.Kind.{Kind}
 use Rattle.mdmp_dump.specs.declared.view.Kind.TheVariants as kinds
-use Rattle.mdmp_dump.specs.EntryWalk.{IsFoundIn, WalkState, entry_at, kind_by, no_entry, pass_cost, raw_size}
+use Rattle.mdmp_dump.specs.EntryWalk.{IsFoundIn, WalkState, chosen_entry, kind_by, no_entry, pass_cost, raw_size}
 use Rattle.mdmp_dump.specs.FileView.{bytes_by, costs_in, first_pass, greatest, raw_by, stream_in, streams_in, unknown_cursor, unknown_shape}
 use Rattle.mdmp_dump.specs.FoundRecord.{AreIn, IsPartIn, fields_of, no_part}
 use Rattle.mdmp_dump.specs.Placed.{far_by, far_room, fields_bytes, fields_room, room_by, size_at, size_in}
-use Rattle.mdmp_dump.specs.Shape.{Cursor, GivesRecord, StreamShape, TakesOff, begun, body_by, body_of, far_of, is_far, raw_sizes, room_of, told, type_told, unused_shape}
+use Rattle.mdmp_dump.specs.Shape.{StreamCursor, GivesRecord, StreamShape, TakesOff, begun, body_by, body_of, far_of, is_far, raw_sizes, room_of, told, type_told, unused_shape}
 
 -- a record takes room in one way alone
 far_alone : (w : AnyRecord) (f : Fields) → is_far (kinds.Known (type_told w)) ≡ false → far_by w f ≡ 0
@@ -91,15 +91,15 @@ fields_small size ps w most inside =
     omega (arith, sizes_are ps 0, sizes_are ps 1, sizes_are ps 2, part_small size (get_or ps 0 no_part) most (inside.1 0), part_small size (get_or ps 1 no_part) most (inside.1 1), part_small size (get_or ps 2 no_part) most (inside.1 2))
 
 -- a record that was taken is given
-pub takes_record : (w v : WalkState) (p q : Pass) (f : FoundRecord) (g : Fields) → IsFoundIn w.source.size (entry_at w p.stream).entry.stream_type f → g ≡ fields_of f → v.chosen ≡ w.chosen
+pub takes_record : (w v : WalkState) (p q : Pass) (f : FoundRecord) (g : Fields) → IsFoundIn w.source.size (chosen_entry w p.stream).entry.stream_type f → g ≡ fields_of f → v.chosen ≡ w.chosen
     → w.source.size < 2 ^ 64 → q.stream ≡ p.stream → p.left ≡ q.left + 1 → q.room ≡ p.room → q.parts ≡ f.parts → p.room ≤ greatest → p.met ≤ p.room → q.met ≤ p.room
     → q.met ≡ told (told (p.met + fields_room g) + far_room g) → (q.left ≡ 0 → q.met ≡ p.room)
     → GivesRecord (unknown_cursor w p) g (unknown_cursor v q)
 unfolding left_by
 takes_record w v p q f g found same chosen size stream one room parts most old new sum last =
-    let is : kind_by (entry_at w p.stream).entry.stream_type ≡ kinds.Known (type_told g.wire) = found.kind_is ∙ ap (λ (h : Fields). kinds.Known (type_told h.wire)) (sym same) in
-    let stays : kind_by (entry_at v q.stream).entry.stream_type ≡ kind_by (entry_at w p.stream).entry.stream_type =
-    ap (λ (xs : List Numbered). kind_by (get_or xs q.stream no_entry).entry.stream_type) chosen ∙ ap (λ (k : ℕ). kind_by (entry_at w k).entry.stream_type) stream in
+    let is : kind_by (chosen_entry w p.stream).entry.stream_type ≡ kinds.Known (type_told g.wire) = found.kind_is ∙ ap (λ (h : Fields). kinds.Known (type_told h.wire)) (sym same) in
+    let stays : kind_by (chosen_entry v q.stream).entry.stream_type ≡ kind_by (chosen_entry w p.stream).entry.stream_type =
+    ap (λ (xs : List Numbered). kind_by (get_or xs q.stream no_entry).entry.stream_type) chosen ∙ ap (λ (k : ℕ). kind_by (chosen_entry w k).entry.stream_type) stream in
     let far = is_far (kinds.Known (type_told g.wire)) in
     let bytes : fields_bytes g ≤ fields_room g + far_room g = subst (λ (h : Fields). fields_bytes h ≤ fields_room h + far_room h) (sym same) found.bytes in
     let small : fields_bytes g ≤ 3 * 2 ^ 64 = subst (λ (h : Fields). fields_bytes h ≤ 3 * 2 ^ 64) (sym same) (fields_small w.source.size f.parts f.wire size found.inside) in
@@ -181,7 +181,7 @@ raw_are kind size at (suc (suc zero)) = refl
 raw_are kind size at (suc (suc (suc j))) = refl
 
 -- the cursor of a stream that is begun
-cursor_of : StreamShape → Cursor
+cursor_of : StreamShape → StreamCursor
 cursor_of t = record {
   kind = t.kind;
   records = t.records;
@@ -193,7 +193,7 @@ cursor_of t = record {
   parts = None;
 }
 
-fresh : (e : Numbered) (n r at : ℕ) (w : WalkState) (k rva : ℕ) → entry_at w k ≡ e
+fresh : (e : Numbered) (n r at : ℕ) (w : WalkState) (k rva : ℕ) → chosen_entry w k ≡ e
     → unknown_cursor w (record { stream = k; rva = rva; given = 0; left = n; room = r; met = 0; parts = record { size = raw_size (kind_by e.entry.stream_type) e.entry.location.size; at = at } ∷ no_part ∷ no_part ∷ [] })
     ≡ cursor_of (stream_in e n r)
 unfolding cursor_of
@@ -214,7 +214,7 @@ pub begun_is : (w v : WalkState) (ns rs : List ℕ) (k n r : ℕ) → v.chosen �
     → k < length w.chosen → n ≡ get_or ns k 0 → r ≡ get_or rs k 0 → unknown_cursor v (first_pass w k n r) ≡ begun (unknown_shape w ns rs) k
 unfolding cursor_of
 begun_is w v ns rs k n r same nl rl inside count room =
-    let e = entry_at w k in
+    let e = chosen_entry w k in
     fresh e n r e.entry.location.rva v k e.entry.location.rva (ap (λ (es : List Numbered). get_or es k no_entry) same)
     ∙ ap cursor_of (rw (count, room) (sym (stream_is w.chosen ns rs k nl rl inside)))
 

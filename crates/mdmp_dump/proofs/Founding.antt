@@ -29,9 +29,9 @@ use Rattle.mdmp_lister.specs.declared.item.StreamItem.{StreamItem}
 use Rattle.mdmp_lister.specs.declared.item.SystemItem.{SystemItem}
 use Rattle.mdmp_lister.specs.declared.item.ThreadItem.{ThreadItem}
 use Rattle.mdmp_lister.specs.declared.item.UnloadedItem.{UnloadedItem}
-use Rattle.mdmp_lister.specs.declared.kind.Kind.{Kind}
+use Rattle.mdmp_lister.specs.declared.kind.StreamKind.{StreamKind}
 use Rattle.mdmp_lister.specs.Format.Kind.{is_memory64}
-use Rattle.mdmp_lister.specs.declared.kind.Kind.TheVariants as kinds
+use Rattle.mdmp_lister.specs.declared.kind.StreamKind.TheVariants as kinds
 use Rattle.mdmp_lister.specs.declared.name.Name.{Name}
 use Rattle.mdmp_lister.specs.Format.Item.{exception_item, item_at, memory_info_item, module_item, name_of, named, range64_item, range_extent_of, range_item, range_offset, record_at, system_item, thread_item, unloaded_item}
 use Rattle.mdmp_lister.specs.Format.Name.{name_at}
@@ -49,33 +49,33 @@ use Rattle.mdmp_dump.specs.FileRefusal.{first_told}
 use Rattle.mdmp_source.specs.Store.{AreBytes}
 use Rattle.mdmp_dump.specs.Finding.{AreHad, FindsName, FindsPart, FindsRange, FindsRecord, IsAt, IsSeenAt, seen_in}
 use Rattle.mdmp_dump.specs.Placed.{size_in}
-use Rattle.mdmp_dump.specs.Refusal.{Refuse, Step, Take}
+use Rattle.mdmp_dump.specs.Refusal.{Refuse, ReadStep, Take}
 use Rattle.mdmp_dump.specs.Seen.{nowhere, seen}
 use Rattle.mdmp_dump.specs.TellingLaws.{item_made, made}
 
 -- ---- steps
 
-pub both_had : (xs ys : List Step) → AreHad xs → AreHad ys → AreHad (xs ++ ys)
+pub both_had : (xs ys : List ReadStep) → AreHad xs → AreHad ys → AreHad (xs ++ ys)
 unfolding first_told
 both_had [] ys front back = back
 both_had (Refuse fault ∷ xs) ys front back = absurd (cc front)
 both_had (Take e k n ∷ xs) ys front back = both_had xs ys front back
 
-pub then_refused : (xs ys : List Step) (fault : ReadFault) → AreHad xs → ys ≡ Refuse fault ∷ [] → first_told (xs ++ ys) None ≡ Some fault
+pub then_refused : (xs ys : List ReadStep) (fault : ReadFault) → AreHad xs → ys ≡ Refuse fault ∷ [] → first_told (xs ++ ys) None ≡ Some fault
 unfolding first_told
-then_refused [] ys fault had is = ap (λ (steps : List Step). first_told steps None) is
+then_refused [] ys fault had is = ap (λ (steps : List ReadStep). first_told steps None) is
 then_refused (Refuse other ∷ xs) ys fault had is = absurd (cc had)
 then_refused (Take e k n ∷ xs) ys fault had is = then_refused xs ys fault had is
 
-pub first_refused : (xs ys : List Step) (fault : ReadFault) → xs ≡ Refuse fault ∷ [] → first_told (xs ++ ys) None ≡ Some fault
+pub first_refused : (xs ys : List ReadStep) (fault : ReadFault) → xs ≡ Refuse fault ∷ [] → first_told (xs ++ ys) None ≡ Some fault
 unfolding first_told
-first_refused xs ys fault is = ap (λ (steps : List Step). first_told (steps ++ ys) None) is
+first_refused xs ys fault is = ap (λ (steps : List ReadStep). first_told (steps ++ ys) None) is
 
-pub refused : (xs : List Step) (fault : ReadFault) → xs ≡ Refuse fault ∷ [] → first_told xs None ≡ Some fault
+pub refused : (xs : List ReadStep) (fault : ReadFault) → xs ≡ Refuse fault ∷ [] → first_told xs None ≡ Some fault
 unfolding first_told
-refused xs fault is = ap (λ (steps : List Step). first_told steps None) is
+refused xs fault is = ap (λ (steps : List ReadStep). first_told steps None) is
 
-pub told_front : (xs ys : List Step) (fault : ReadFault) → first_told xs None ≡ Some fault → first_told (xs ++ ys) None ≡ Some fault
+pub told_front : (xs ys : List ReadStep) (fault : ReadFault) → first_told xs None ≡ Some fault → first_told (xs ++ ys) None ≡ Some fault
 unfolding first_told
 told_front [] ys fault is = absurd (cc is)
 told_front (Refuse other ∷ xs) ys fault is = is
@@ -103,7 +103,7 @@ module _ (F : List ℕ) (wire : AnyRecord) (a b c : PartSize) (x y z : List ℕ)
 -- ---- items
 
 -- what holds of the item that a record makes with its name holds of that item
-module _ (F : List ℕ) (e k at o : ℕ) (kind : Kind) (item : Item) (is : item_at F 0 e k at o kind ≡ Ok item) (P : Kind → Item → Type 0) where
+module _ (F : List ℕ) (e k at o : ℕ) (kind : StreamKind) (item : Item) (is : item_at F 0 e k at o kind ≡ Ok item) (P : StreamKind → Item → Type 0) where
   pub item_case : ((n : Name) → name_of F 0 (name_rva (record_at kind F o)) ≡ Ok n → P kind (made kind F 0 e k at o n)) → P kind item
   item_case any =
       let given = item_made kind F 0 e k at o item is in
@@ -122,20 +122,20 @@ HasNameIn e k rva name limit result = (F : List ℕ) → name_at F rva 0 ≡ Ok 
 module _ (F : List ℕ) (limit e k at o : ℕ) where
   -- ---- threads
 
-  abbrev ThreadCase : (Kind → ThreadItem → Type 0) → Kind → Item → Type 0
+  abbrev ThreadCase : (StreamKind → ThreadItem → Type 0) → StreamKind → Item → Type 0
   ThreadCase P kind (items.Thread x) = P kind x
   ThreadCase P kind item = Unit {0}
 
-  thread_case : (P : Kind → ThreadItem → Type 0) → P kinds.Threads (thread_item (length F) e k (thread_at F o)) → (kind : Kind) (x : ThreadItem) → item_at F 0 e k at o kind ≡ Ok (items.Thread x) → P kind x
+  thread_case : (P : StreamKind → ThreadItem → Type 0) → P kinds.Threads (thread_item (length F) e k (thread_at F o)) → (kind : StreamKind) (x : ThreadItem) → item_at F 0 e k at o kind ≡ Ok (items.Thread x) → P kind x
   thread_case P holds kind x is = item_case F e k at o kind (items.Thread x) is (ThreadCase P) (by kind) where
-    by : (other : Kind) (n : Name) → name_of F 0 (name_rva (record_at other F o)) ≡ Ok n → ThreadCase P other (made other F 0 e k at o n)
+    by : (other : StreamKind) (n : Name) → name_of F 0 (name_rva (record_at other F o)) ≡ Ok n → ThreadCase P other (made other F 0 e k at o n)
     by kinds.Threads n given = holds
     by other n given = tt
 
   abbrev pub thread_wire : ThreadItem → AnyRecord
   thread_wire x = any.Thread (record x.fields { stack = record x.fields.stack { memory = nowhere }; thread_context = nowhere })
 
-  pub thread_found : (p q : PartAt) (kind : Kind) (x : ThreadItem) → item_at F 0 e k at o kind ≡ Ok (items.Thread x)
+  pub thread_found : (p q : PartAt) (kind : StreamKind) (x : ThreadItem) → item_at F 0 e k at o kind ≡ Ok (items.Thread x)
       → HasPart x.entry x.index Stack x.fields.stack.memory x.stack (Ok p) → HasPart x.entry x.index Context x.fields.thread_context x.context (Ok q)
       → FindsRecord F limit e k at o kind (Ok (record { wire = thread_wire x; parts = p ∷ q ∷ no_part ∷ [] }))
   thread_found p q = thread_case
@@ -146,13 +146,13 @@ module _ (F : List ℕ) (limit e k at o : ℕ) where
       let b = context F refl in
       (items.Thread (thread_item (length F) e k (thread_at F o)), (refl, (both_had _ _ a.0 b.0, seen_at F _ _ _ _ _ _ _ p q no_part a.1 b.1 (nothing_at F)))))
 
-  pub thread_stack : (fault : ReadFault) (kind : Kind) (x : ThreadItem) → item_at F 0 e k at o kind ≡ Ok (items.Thread x)
+  pub thread_stack : (fault : ReadFault) (kind : StreamKind) (x : ThreadItem) → item_at F 0 e k at o kind ≡ Ok (items.Thread x)
       → HasPart x.entry x.index Stack x.fields.stack.memory x.stack (Err fault) → FindsRecord F limit e k at o kind (Err fault)
   thread_stack fault = thread_case
       (λ kind x. HasPart x.entry x.index Stack x.fields.stack.memory x.stack (Err fault) → FindsRecord F limit e k at o kind (Err fault))
       (λ stack. (items.Thread (thread_item (length F) e k (thread_at F o)), (refl, λ own. first_refused _ _ fault (stack F refl own))))
 
-  pub thread_context : (p : PartAt) (fault : ReadFault) (kind : Kind) (x : ThreadItem) → item_at F 0 e k at o kind ≡ Ok (items.Thread x)
+  pub thread_context : (p : PartAt) (fault : ReadFault) (kind : StreamKind) (x : ThreadItem) → item_at F 0 e k at o kind ≡ Ok (items.Thread x)
       → HasPart x.entry x.index Stack x.fields.stack.memory x.stack (Ok p) → HasPart x.entry x.index Context x.fields.thread_context x.context (Err fault)
       → FindsRecord F limit e k at o kind (Err fault)
   thread_context p fault = thread_case
@@ -162,20 +162,20 @@ module _ (F : List ℕ) (limit e k at o : ℕ) where
 
   -- ---- exceptions
 
-  abbrev ExceptionCase : (Kind → ExceptionItem → Type 0) → Kind → Item → Type 0
+  abbrev ExceptionCase : (StreamKind → ExceptionItem → Type 0) → StreamKind → Item → Type 0
   ExceptionCase P kind (items.Exception x) = P kind x
   ExceptionCase P kind item = Unit {0}
 
-  exception_case : (P : Kind → ExceptionItem → Type 0) → P kinds.Exception (exception_item (length F) e k (exception_at F o)) → (kind : Kind) (x : ExceptionItem) → item_at F 0 e k at o kind ≡ Ok (items.Exception x) → P kind x
+  exception_case : (P : StreamKind → ExceptionItem → Type 0) → P kinds.Exception (exception_item (length F) e k (exception_at F o)) → (kind : StreamKind) (x : ExceptionItem) → item_at F 0 e k at o kind ≡ Ok (items.Exception x) → P kind x
   exception_case P holds kind x is = item_case F e k at o kind (items.Exception x) is (ExceptionCase P) (by kind) where
-    by : (other : Kind) (n : Name) → name_of F 0 (name_rva (record_at other F o)) ≡ Ok n → ExceptionCase P other (made other F 0 e k at o n)
+    by : (other : StreamKind) (n : Name) → name_of F 0 (name_rva (record_at other F o)) ≡ Ok n → ExceptionCase P other (made other F 0 e k at o n)
     by kinds.Exception n given = holds
     by other n given = tt
 
   abbrev pub exception_wire : ExceptionItem → AnyRecord
   exception_wire x = any.Exception (record x.fields { thread_context = nowhere })
 
-  pub exception_found : (p : PartAt) (kind : Kind) (x : ExceptionItem) → item_at F 0 e k at o kind ≡ Ok (items.Exception x)
+  pub exception_found : (p : PartAt) (kind : StreamKind) (x : ExceptionItem) → item_at F 0 e k at o kind ≡ Ok (items.Exception x)
       → HasPart x.entry x.index Context x.fields.thread_context x.context (Ok p)
       → FindsRecord F limit e k at o kind (Ok (record { wire = exception_wire x; parts = p ∷ no_part ∷ no_part ∷ [] }))
   exception_found p = exception_case
@@ -185,7 +185,7 @@ module _ (F : List ℕ) (limit e k at o : ℕ) where
       let a = context F refl in
       (items.Exception (exception_item (length F) e k (exception_at F o)), (refl, (a.0, seen_at F _ _ _ _ _ _ _ p no_part no_part a.1 (nothing_at F) (nothing_at F)))))
 
-  pub exception_context : (fault : ReadFault) (kind : Kind) (x : ExceptionItem) → item_at F 0 e k at o kind ≡ Ok (items.Exception x)
+  pub exception_context : (fault : ReadFault) (kind : StreamKind) (x : ExceptionItem) → item_at F 0 e k at o kind ≡ Ok (items.Exception x)
       → HasPart x.entry x.index Context x.fields.thread_context x.context (Err fault) → FindsRecord F limit e k at o kind (Err fault)
   exception_context fault = exception_case
       (λ kind x. HasPart x.entry x.index Context x.fields.thread_context x.context (Err fault) → FindsRecord F limit e k at o kind (Err fault))
@@ -193,17 +193,17 @@ module _ (F : List ℕ) (limit e k at o : ℕ) where
 
   -- ---- regions of memory
 
-  abbrev MemoryInfoCase : (Kind → MemoryInfoItem → Type 0) → Kind → Item → Type 0
+  abbrev MemoryInfoCase : (StreamKind → MemoryInfoItem → Type 0) → StreamKind → Item → Type 0
   MemoryInfoCase P kind (items.MemoryInfo x) = P kind x
   MemoryInfoCase P kind item = Unit {0}
 
-  memory_info_case : (P : Kind → MemoryInfoItem → Type 0) → P kinds.MemoryInfo (memory_info_item e k (memory_info_at F o)) → (kind : Kind) (x : MemoryInfoItem) → item_at F 0 e k at o kind ≡ Ok (items.MemoryInfo x) → P kind x
+  memory_info_case : (P : StreamKind → MemoryInfoItem → Type 0) → P kinds.MemoryInfo (memory_info_item e k (memory_info_at F o)) → (kind : StreamKind) (x : MemoryInfoItem) → item_at F 0 e k at o kind ≡ Ok (items.MemoryInfo x) → P kind x
   memory_info_case P holds kind x is = item_case F e k at o kind (items.MemoryInfo x) is (MemoryInfoCase P) (by kind) where
-    by : (other : Kind) (n : Name) → name_of F 0 (name_rva (record_at other F o)) ≡ Ok n → MemoryInfoCase P other (made other F 0 e k at o n)
+    by : (other : StreamKind) (n : Name) → name_of F 0 (name_rva (record_at other F o)) ≡ Ok n → MemoryInfoCase P other (made other F 0 e k at o n)
     by kinds.MemoryInfo n given = holds
     by other n given = tt
 
-  pub memory_info_found : (kind : Kind) (x : MemoryInfoItem) → item_at F 0 e k at o kind ≡ Ok (items.MemoryInfo x)
+  pub memory_info_found : (kind : StreamKind) (x : MemoryInfoItem) → item_at F 0 e k at o kind ≡ Ok (items.MemoryInfo x)
       → FindsRecord F limit e k at o kind (Ok (record { wire = any.MemoryInfo x.fields; parts = no_part ∷ no_part ∷ no_part ∷ [] }))
   unfolding first_told
   memory_info_found = memory_info_case
@@ -212,14 +212,14 @@ module _ (F : List ℕ) (limit e k at o : ℕ) where
 
   -- ---- modules
 
-  abbrev ModuleCase : (Kind → ModuleItem → Type 0) → Kind → Item → Type 0
+  abbrev ModuleCase : (StreamKind → ModuleItem → Type 0) → StreamKind → Item → Type 0
   ModuleCase P kind (items.Module x) = P kind x
   ModuleCase P kind item = Unit {0}
 
-  module_case : (P : Kind → ModuleItem → Type 0) → ((n : Name) → name_at F (module_at F o).module_name_rva 0 ≡ Ok n → P kinds.Modules (module_item (length F) e k (module_at F o) n))
-      → (kind : Kind) (x : ModuleItem) → item_at F 0 e k at o kind ≡ Ok (items.Module x) → P kind x
+  module_case : (P : StreamKind → ModuleItem → Type 0) → ((n : Name) → name_at F (module_at F o).module_name_rva 0 ≡ Ok n → P kinds.Modules (module_item (length F) e k (module_at F o) n))
+      → (kind : StreamKind) (x : ModuleItem) → item_at F 0 e k at o kind ≡ Ok (items.Module x) → P kind x
   module_case P holds kind x is = item_case F e k at o kind (items.Module x) is (ModuleCase P) (by kind) where
-    by : (other : Kind) (n : Name) → name_of F 0 (name_rva (record_at other F o)) ≡ Ok n → ModuleCase P other (made other F 0 e k at o n)
+    by : (other : StreamKind) (n : Name) → name_of F 0 (name_rva (record_at other F o)) ≡ Ok n → ModuleCase P other (made other F 0 e k at o n)
     by kinds.Modules n given = holds n given
     by other n given = tt
 
@@ -230,7 +230,7 @@ module _ (F : List ℕ) (limit e k at o : ℕ) where
   module_under : (n : Name) → name_at F (module_at F o).module_name_rva limit ≡ Ok n → item_at F limit e k at o kinds.Modules ≡ Ok (items.Module (module_item (length F) e k (module_at F o) n))
   module_under n given = ap (λ (r : Result Name Fault). named r (made kinds.Modules F limit e k at o)) given
 
-  pub module_found : (p q r : PartAt) (kind : Kind) (x : ModuleItem) → item_at F 0 e k at o kind ≡ Ok (items.Module x)
+  pub module_found : (p q r : PartAt) (kind : StreamKind) (x : ModuleItem) → item_at F 0 e k at o kind ≡ Ok (items.Module x)
       → HasNameIn x.entry x.index x.fields.module_name_rva x.name limit (Ok p)
       → HasPart x.entry x.index CodeView x.fields.cv_record x.codeview (Ok q) → HasPart x.entry x.index Misc x.fields.misc_record x.misc (Ok r)
       → FindsRecord F limit e k at o kind (Ok (record { wire = module_wire x; parts = p ∷ q ∷ r ∷ [] }))
@@ -246,7 +246,7 @@ module _ (F : List ℕ) (limit e k at o : ℕ) where
         (module_under a.0 a.1.0, (both_had _ _ (both_had _ _ a.1.1.0 b.0) c.0, seen_at F _ _ _ _ _ _ _ p q r a.1.1.1 b.1 c.1)),
       ))
 
-  pub module_name : (fault : ReadFault) (kind : Kind) (x : ModuleItem) → item_at F 0 e k at o kind ≡ Ok (items.Module x)
+  pub module_name : (fault : ReadFault) (kind : StreamKind) (x : ModuleItem) → item_at F 0 e k at o kind ≡ Ok (items.Module x)
       → HasNameIn x.entry x.index x.fields.module_name_rva x.name limit (Err fault) → FindsRecord F limit e k at o kind (Err fault)
   module_name fault = module_case
       (λ kind x. HasNameIn x.entry x.index x.fields.module_name_rva x.name limit (Err fault) → FindsRecord F limit e k at o kind (Err fault))
@@ -254,7 +254,7 @@ module _ (F : List ℕ) (limit e k at o : ℕ) where
       let a = name F given in
       (items.Module (module_item (length F) e k (module_at F o) a.0), (module_under a.0 a.1.0, λ own. told_front _ _ fault (first_refused _ _ fault (a.1.1 own)))))
 
-  pub module_codeview : (p : PartAt) (fault : ReadFault) (kind : Kind) (x : ModuleItem) → item_at F 0 e k at o kind ≡ Ok (items.Module x)
+  pub module_codeview : (p : PartAt) (fault : ReadFault) (kind : StreamKind) (x : ModuleItem) → item_at F 0 e k at o kind ≡ Ok (items.Module x)
       → HasNameIn x.entry x.index x.fields.module_name_rva x.name limit (Ok p) → HasPart x.entry x.index CodeView x.fields.cv_record x.codeview (Err fault)
       → FindsRecord F limit e k at o kind (Err fault)
   module_codeview p fault = module_case
@@ -264,7 +264,7 @@ module _ (F : List ℕ) (limit e k at o : ℕ) where
       let a = name F given in
       (items.Module (module_item (length F) e k (module_at F o) a.0), (module_under a.0 a.1.0, λ own. told_front _ _ fault (then_refused _ _ fault a.1.1.0 (codeview F refl own)))))
 
-  pub module_misc : (p q : PartAt) (fault : ReadFault) (kind : Kind) (x : ModuleItem) → item_at F 0 e k at o kind ≡ Ok (items.Module x)
+  pub module_misc : (p q : PartAt) (fault : ReadFault) (kind : StreamKind) (x : ModuleItem) → item_at F 0 e k at o kind ≡ Ok (items.Module x)
       → HasNameIn x.entry x.index x.fields.module_name_rva x.name limit (Ok p)
       → HasPart x.entry x.index CodeView x.fields.cv_record x.codeview (Ok q) → HasPart x.entry x.index Misc x.fields.misc_record x.misc (Err fault)
       → FindsRecord F limit e k at o kind (Err fault)
@@ -279,14 +279,14 @@ module _ (F : List ℕ) (limit e k at o : ℕ) where
 
   -- ---- unloaded modules
 
-  abbrev UnloadedCase : (Kind → UnloadedItem → Type 0) → Kind → Item → Type 0
+  abbrev UnloadedCase : (StreamKind → UnloadedItem → Type 0) → StreamKind → Item → Type 0
   UnloadedCase P kind (items.Unloaded x) = P kind x
   UnloadedCase P kind item = Unit {0}
 
-  unloaded_case : (P : Kind → UnloadedItem → Type 0) → ((n : Name) → name_at F (unloaded_at F o).module_name_rva 0 ≡ Ok n → P kinds.Unloaded (unloaded_item e k (unloaded_at F o) n))
-      → (kind : Kind) (x : UnloadedItem) → item_at F 0 e k at o kind ≡ Ok (items.Unloaded x) → P kind x
+  unloaded_case : (P : StreamKind → UnloadedItem → Type 0) → ((n : Name) → name_at F (unloaded_at F o).module_name_rva 0 ≡ Ok n → P kinds.Unloaded (unloaded_item e k (unloaded_at F o) n))
+      → (kind : StreamKind) (x : UnloadedItem) → item_at F 0 e k at o kind ≡ Ok (items.Unloaded x) → P kind x
   unloaded_case P holds kind x is = item_case F e k at o kind (items.Unloaded x) is (UnloadedCase P) (by kind) where
-    by : (other : Kind) (n : Name) → name_of F 0 (name_rva (record_at other F o)) ≡ Ok n → UnloadedCase P other (made other F 0 e k at o n)
+    by : (other : StreamKind) (n : Name) → name_of F 0 (name_rva (record_at other F o)) ≡ Ok n → UnloadedCase P other (made other F 0 e k at o n)
     by kinds.Unloaded n given = holds n given
     by other n given = tt
 
@@ -296,7 +296,7 @@ module _ (F : List ℕ) (limit e k at o : ℕ) where
   unloaded_under : (n : Name) → name_at F (unloaded_at F o).module_name_rva limit ≡ Ok n → item_at F limit e k at o kinds.Unloaded ≡ Ok (items.Unloaded (unloaded_item e k (unloaded_at F o) n))
   unloaded_under n given = ap (λ (r : Result Name Fault). named r (made kinds.Unloaded F limit e k at o)) given
 
-  pub unloaded_found : (p : PartAt) (kind : Kind) (x : UnloadedItem) → item_at F 0 e k at o kind ≡ Ok (items.Unloaded x)
+  pub unloaded_found : (p : PartAt) (kind : StreamKind) (x : UnloadedItem) → item_at F 0 e k at o kind ≡ Ok (items.Unloaded x)
       → HasNameIn x.entry x.index x.fields.module_name_rva x.name limit (Ok p)
       → FindsRecord F limit e k at o kind (Ok (record { wire = unloaded_wire x; parts = p ∷ no_part ∷ no_part ∷ [] }))
   unloaded_found p = unloaded_case
@@ -306,7 +306,7 @@ module _ (F : List ℕ) (limit e k at o : ℕ) where
       let a = name F given in
       (items.Unloaded (unloaded_item e k (unloaded_at F o) a.0), (unloaded_under a.0 a.1.0, (a.1.1.0, seen_at F _ _ _ _ _ _ _ p no_part no_part a.1.1.1 (nothing_at F) (nothing_at F)))))
 
-  pub unloaded_name : (fault : ReadFault) (kind : Kind) (x : UnloadedItem) → item_at F 0 e k at o kind ≡ Ok (items.Unloaded x)
+  pub unloaded_name : (fault : ReadFault) (kind : StreamKind) (x : UnloadedItem) → item_at F 0 e k at o kind ≡ Ok (items.Unloaded x)
       → HasNameIn x.entry x.index x.fields.module_name_rva x.name limit (Err fault) → FindsRecord F limit e k at o kind (Err fault)
   unloaded_name fault = unloaded_case
       (λ kind x. HasNameIn x.entry x.index x.fields.module_name_rva x.name limit (Err fault) → FindsRecord F limit e k at o kind (Err fault))
@@ -316,14 +316,14 @@ module _ (F : List ℕ) (limit e k at o : ℕ) where
 
   -- ---- the system
 
-  abbrev SystemCase : (Kind → SystemItem → Type 0) → Kind → Item → Type 0
+  abbrev SystemCase : (StreamKind → SystemItem → Type 0) → StreamKind → Item → Type 0
   SystemCase P kind (items.System x) = P kind x
   SystemCase P kind item = Unit {0}
 
-  system_case : (P : Kind → SystemItem → Type 0) → ((n : Name) → name_at F (system_at F o).csd_version_rva 0 ≡ Ok n → P kinds.System (system_item e k (system_at F o) n))
-      → (kind : Kind) (x : SystemItem) → item_at F 0 e k at o kind ≡ Ok (items.System x) → P kind x
+  system_case : (P : StreamKind → SystemItem → Type 0) → ((n : Name) → name_at F (system_at F o).csd_version_rva 0 ≡ Ok n → P kinds.System (system_item e k (system_at F o) n))
+      → (kind : StreamKind) (x : SystemItem) → item_at F 0 e k at o kind ≡ Ok (items.System x) → P kind x
   system_case P holds kind x is = item_case F e k at o kind (items.System x) is (SystemCase P) (by kind) where
-    by : (other : Kind) (n : Name) → name_of F 0 (name_rva (record_at other F o)) ≡ Ok n → SystemCase P other (made other F 0 e k at o n)
+    by : (other : StreamKind) (n : Name) → name_of F 0 (name_rva (record_at other F o)) ≡ Ok n → SystemCase P other (made other F 0 e k at o n)
     by kinds.System n given = holds n given
     by other n given = tt
 
@@ -333,7 +333,7 @@ module _ (F : List ℕ) (limit e k at o : ℕ) where
   system_under : (n : Name) → name_at F (system_at F o).csd_version_rva limit ≡ Ok n → item_at F limit e k at o kinds.System ≡ Ok (items.System (system_item e k (system_at F o) n))
   system_under n given = ap (λ (r : Result Name Fault). named r (made kinds.System F limit e k at o)) given
 
-  pub system_found : (p : PartAt) (kind : Kind) (x : SystemItem) → item_at F 0 e k at o kind ≡ Ok (items.System x)
+  pub system_found : (p : PartAt) (kind : StreamKind) (x : SystemItem) → item_at F 0 e k at o kind ≡ Ok (items.System x)
       → HasNameIn x.entry x.index x.fields.csd_version_rva x.name limit (Ok p)
       → FindsRecord F limit e k at o kind (Ok (record { wire = system_wire x; parts = p ∷ no_part ∷ no_part ∷ [] }))
   system_found p = system_case
@@ -343,7 +343,7 @@ module _ (F : List ℕ) (limit e k at o : ℕ) where
       let a = name F given in
       (items.System (system_item e k (system_at F o) a.0), (system_under a.0 a.1.0, (a.1.1.0, seen_at F _ _ _ _ _ _ _ p no_part no_part a.1.1.1 (nothing_at F) (nothing_at F)))))
 
-  pub system_name : (fault : ReadFault) (kind : Kind) (x : SystemItem) → item_at F 0 e k at o kind ≡ Ok (items.System x)
+  pub system_name : (fault : ReadFault) (kind : StreamKind) (x : SystemItem) → item_at F 0 e k at o kind ≡ Ok (items.System x)
       → HasNameIn x.entry x.index x.fields.csd_version_rva x.name limit (Err fault) → FindsRecord F limit e k at o kind (Err fault)
   system_name fault = system_case
       (λ kind x. HasNameIn x.entry x.index x.fields.csd_version_rva x.name limit (Err fault) → FindsRecord F limit e k at o kind (Err fault))
@@ -361,25 +361,25 @@ module _ (F : List ℕ) (limit e k at o : ℕ) where
   abbrev pub HasRange : RangeItem → Result PartAt ReadFault → Type 0
   HasRange x result = (file : List ℕ) → FindsRange file x result
 
-  abbrev RangeCase : (Kind → RangeItem → Type 0) → Kind → Item → Type 0
+  abbrev RangeCase : (StreamKind → RangeItem → Type 0) → StreamKind → Item → Type 0
   RangeCase P kind (items.Range x) = P kind x
   RangeCase P kind item = Unit {0}
 
-  range_case : (P : Kind → RangeItem → Type 0) → P kinds.Memory (range_item (length F) e k (descriptor_at F o)) → P kinds.Memory64 (range64_item (length F) e k (descriptor64_at F o) (range_offset F at k))
-      → (kind : Kind) (x : RangeItem) → item_at F 0 e k at o kind ≡ Ok (items.Range x) → P kind x
+  range_case : (P : StreamKind → RangeItem → Type 0) → P kinds.Memory (range_item (length F) e k (descriptor_at F o)) → P kinds.Memory64 (range64_item (length F) e k (descriptor64_at F o) (range_offset F at k))
+      → (kind : StreamKind) (x : RangeItem) → item_at F 0 e k at o kind ≡ Ok (items.Range x) → P kind x
   range_case P near far kind x is = item_case F e k at o kind (items.Range x) is (RangeCase P) (by kind) where
-    by : (other : Kind) (n : Name) → name_of F 0 (name_rva (record_at other F o)) ≡ Ok n → RangeCase P other (made other F 0 e k at o n)
+    by : (other : StreamKind) (n : Name) → name_of F 0 (name_rva (record_at other F o)) ≡ Ok n → RangeCase P other (made other F 0 e k at o n)
     by kinds.Memory n given = near
     by kinds.Memory64 n given = far
     by other n given = tt
 
-  pub range_refused : (fault : ReadFault) (kind : Kind) (x : RangeItem) → item_at F 0 e k at o kind ≡ Ok (items.Range x)
+  pub range_refused : (fault : ReadFault) (kind : StreamKind) (x : RangeItem) → item_at F 0 e k at o kind ≡ Ok (items.Range x)
       → HasBytes x (Err fault) → HasRange x (Err fault) → FindsRecord F limit e k at o kind (Err fault)
   range_refused fault = range_case (λ kind x. HasBytes x (Err fault) → HasRange x (Err fault) → FindsRecord F limit e k at o kind (Err fault))
       (λ bytes range. (items.Range (range_item (length F) e k (descriptor_at F o)), (refl, λ own. refused _ fault (bytes F (descriptor_at F o).memory refl refl refl own))))
       (λ bytes range. (items.Range (range64_item (length F) e k (descriptor64_at F o) (range_offset F at k)), (refl, λ own. refused _ fault (range F refl own))))
 
-  pub memory_found : (p : PartAt) (kind : Kind) (x : RangeItem) → item_at F 0 e k at o kind ≡ Ok (items.Range x) → is_memory64 kind ≡ false → HasBytes x (Ok p)
+  pub memory_found : (p : PartAt) (kind : StreamKind) (x : RangeItem) → item_at F 0 e k at o kind ≡ Ok (items.Range x) → is_memory64 kind ≡ false → HasBytes x (Ok p)
       → FindsRecord F limit e k at o kind (Ok (record { wire = any.Memory (record { start_of_memory_range = x.start; memory = nowhere }); parts = p ∷ no_part ∷ no_part ∷ [] }))
   memory_found p = range_case
       (λ kind x. is_memory64 kind ≡ false → HasBytes x (Ok p)
@@ -389,7 +389,7 @@ module _ (F : List ℕ) (limit e k at o : ℕ) where
       (items.Range (range_item (length F) e k (descriptor_at F o)), (refl, (a.0, seen_at F _ _ _ _ _ _ _ p no_part no_part a.1 (nothing_at F) (nothing_at F)))))
       (λ near bytes. absurd (cc near))
 
-  pub memory64_found : (p : PartAt) (kind : Kind) (x : RangeItem) → item_at F 0 e k at o kind ≡ Ok (items.Range x) → is_memory64 kind ≡ true → HasRange x (Ok p)
+  pub memory64_found : (p : PartAt) (kind : StreamKind) (x : RangeItem) → item_at F 0 e k at o kind ≡ Ok (items.Range x) → is_memory64 kind ≡ true → HasRange x (Ok p)
       → FindsRecord F limit e k at o kind (Ok (record { wire = any.Memory64 (record { start_of_memory_range = x.start; data_size = x.size }); parts = p ∷ no_part ∷ no_part ∷ [] }))
   memory64_found p = range_case
       (λ kind x. is_memory64 kind ≡ true → HasRange x (Ok p)
@@ -415,19 +415,19 @@ module _ (F : List ℕ) (limit e k at o : ℕ) where
 -- ---- want of memory
 
 -- an absent range has a size of 32 bits, since a 64-bit memory list has none
-pub range_fits : (F : List ℕ) (e k at o : ℕ) (kind : Kind) (x : RangeItem) → AreBytes F → item_at F 0 e k at o kind ≡ Ok (items.Range x) → x.extent ≡ Absent → x.size < 2 ^ 32
+pub range_fits : (F : List ℕ) (e k at o : ℕ) (kind : StreamKind) (x : RangeItem) → AreBytes F → item_at F 0 e k at o kind ≡ Ok (items.Range x) → x.extent ≡ Absent → x.size < 2 ^ 32
 range_fits F e k at o kind x fits = range_case F 0 e k at o (λ kind x. x.extent ≡ Absent → x.size < 2 ^ 32)
     (λ absent. number_at-lt F (o + 8) 4 fits)
     (λ absent. let d = descriptor64_at F o in range_absent F e k (range_offset F at k) d.data_size absent) kind x
 
-NoStream : Kind → Item → Type 0
+NoStream : StreamKind → Item → Type 0
 NoStream kind (items.Stream x) = ⊥
 NoStream kind item = Unit {0}
 
 -- no record makes a Stream item
-pub stream_never : (F : List ℕ) (e k at o : ℕ) (kind : Kind) (x : StreamItem) → item_at F 0 e k at o kind ≡ Ok (items.Stream x) → ⊥
+pub stream_never : (F : List ℕ) (e k at o : ℕ) (kind : StreamKind) (x : StreamItem) → item_at F 0 e k at o kind ≡ Ok (items.Stream x) → ⊥
 unfolding NoStream
 stream_never F e k at o kind x is = item_case F e k at o kind (items.Stream x) is NoStream (by kind) where
-  by : (other : Kind) (n : Name) → name_of F 0 (name_rva (record_at other F o)) ≡ Ok n → NoStream other (made other F 0 e k at o n)
+  by : (other : StreamKind) (n : Name) → name_of F 0 (name_rva (record_at other F o)) ≡ Ok n → NoStream other (made other F 0 e k at o n)
   by kinds.Threads n given = tt
   by other n given = tt

@@ -9,10 +9,10 @@ use Rattle.mdmp_dump.specs.declared.dump.Dump.{Dump}
 use Rattle.mdmp_dump.specs.declared.dump.Stream.{Stream}
 use Rattle.mdmp_dump.specs.declared.dump.Stream.TheVariants as streams
 use Rattle.mdmp_dump.specs.declared.view.HeaderFields.{HeaderFields}
-use Rattle.mdmp_dump.specs.EntryWalk.{WalkState, entry_at, kind_by, no_entry, pass_cost}
+use Rattle.mdmp_dump.specs.EntryWalk.{WalkState, chosen_entry, kind_by, no_entry, pass_cost}
 use Rattle.mdmp_dump.specs.FileView.{IsViewed, cursor_by, file_shape, first_pass, header_fields, known_shape, pass_cursor, shape_by, stream_in, stream_of}
 use Rattle.mdmp_dump.specs.InFile.{dump_in, stream_named}
-use Rattle.mdmp_dump.specs.Shape.{Cursor, Shape, StreamShape, all_bytes, begun, body_by, body_of, cost_at, is_far, raw_sizes, rooms, seen_at, shape_of, stream_at, told, unused_seen, value_cursor}
+use Rattle.mdmp_dump.specs.Shape.{StreamCursor, ViewShape, StreamShape, all_bytes, begun, body_by, body_of, cost_at, is_far, raw_sizes, rooms, seen_at, shape_seen, stream_at, told, unused_seen, value_cursor}
 use Rattle.mdmp_dump.specs.ShapeLaws.{held}
 use Rattle.mdmp_dump.specs.View.{DumpSeen, StreamSeen, dump_seen, stream_seen}
 use Rattle.mdmp_dump.proofs.FileViews.{begun_is, cost_is, stream_is, streams_count}
@@ -39,12 +39,12 @@ module _ {Z : Type 0} (d : Dump Z) (w : WalkState) (counts : List ℕ) (k : ℕ)
   seen_in_dump : seen_at (dump_seen d) k ≡ stream_seen (get_or d.streams k streams.Unused)
   seen_in_dump = get_or-map (λ (s : Stream Z). stream_seen s) d.streams k streams.Unused
 
-  shape_in_dump : stream_at (known_shape d w counts) k ≡ shape_of (stream_seen (get_or d.streams k streams.Unused))
+  shape_in_dump : stream_at (known_shape d w counts) k ≡ shape_seen (stream_seen (get_or d.streams k streams.Unused))
   unfolding rooms all_bytes
-  shape_in_dump = get_or-map shape_of (dump_seen d).streams k unused_seen ∙ ap shape_of seen_in_dump
+  shape_in_dump = get_or-map shape_seen (dump_seen d).streams k unused_seen ∙ ap shape_seen seen_in_dump
 
 -- the cursor of a stream that is begun
-begun_seen : StreamShape → StreamSeen → Cursor
+begun_seen : StreamShape → StreamSeen → StreamCursor
 begun_seen t s = record {
   kind = t.kind;
   records = t.records;
@@ -60,7 +60,7 @@ known_begun : {Z : Type 0} (d : Dump Z) (w : WalkState) (counts : List ℕ) (k :
 unfolding begun_seen
 known_begun d w counts k =
     sym (ap (λ (t : StreamShape). begun_seen t (seen_at (dump_seen d) k)) (shape_in_dump d w counts k)
-    ∙ ap (λ (s : StreamSeen). begun_seen (shape_of (stream_seen (get_or d.streams k streams.Unused))) s) (seen_in_dump d w counts k))
+    ∙ ap (λ (s : StreamSeen). begun_seen (shape_seen (stream_seen (get_or d.streams k streams.Unused))) s) (seen_in_dump d w counts k))
 
 header_of_dump : (Z : Type 0) (F : List ℕ) (choice : Choice) → header_fields (header_at F 0) ≡ (dump_seen (dump_in {Z = Z} F choice)).header
 unfolding dump_in
@@ -70,7 +70,7 @@ header_of_dump Z F choice = refl
 
 module _ (Z : Type 0) (limit : ℕ) (w : WalkState) (counts rooms : List ℕ) (counted : length counts ≡ length w.chosen) (roomed : length rooms ≡ length w.chosen)
     (known : (F : List ℕ) → w.source.store.content ≡ Some F → IsViewed Z F limit w counts rooms) where
-  abbrev shape_in : Option (List ℕ) → Shape
+  abbrev shape_in : Option (List ℕ) → ViewShape
   shape_in c = shape_by Z c w counts rooms
 
   pub streams_are : length (file_shape Z w counts rooms).streams ≡ length w.chosen
@@ -78,7 +78,7 @@ module _ (Z : Type 0) (limit : ℕ) (w : WalkState) (counts rooms : List ℕ) (c
       (streams_count w.chosen counts rooms counted roomed)
       (λ F is.
       let v = known F is in
-      length-map (dump_seen (dump_in {Z = Z} F w.choice)).streams shape_of
+      length-map (dump_seen (dump_in {Z = Z} F w.choice)).streams shape_seen
       ∙ length-map (dump_in {Z = Z} F w.choice).streams (λ (s : Stream Z). stream_seen s)
       ∙ streams_in_dump Z F w.choice ∙ ap (λ (xs : List Numbered). length xs) (sym v.chosen_are))
 
@@ -103,25 +103,25 @@ module _ (Z : Type 0) (limit : ℕ) (w : WalkState) (counts rooms : List ℕ) (c
   inside_view k inside = subst (λ (n : ℕ). k < n) streams_are inside
 
   module _ (k : ℕ) (inside : k < length w.chosen) where
-    stream_known : (F : List ℕ) → w.source.store.content ≡ Some F → stream_at (shape_in (Some F)) k ≡ shape_of (stream_seen (stream_of {Z = Z} F w k))
+    stream_known : (F : List ℕ) → w.source.store.content ≡ Some F → stream_at (shape_in (Some F)) k ≡ shape_seen (stream_seen (stream_of {Z = Z} F w k))
     stream_known F is =
         let v = known F is in
         shape_in_dump (dump_in {Z = Z} F w.choice) w counts k
-        ∙ ap (λ (s : Stream Z). shape_of (stream_seen s)) (stream_in_dump Z F w.choice k ∙ ap (λ (xs : List Numbered). stream_named {Z = Z} F (get_or xs k no_entry).entry) (sym v.chosen_are))
+        ∙ ap (λ (s : Stream Z). shape_seen (stream_seen s)) (stream_in_dump Z F w.choice k ∙ ap (λ (xs : List Numbered). stream_named {Z = Z} F (get_or xs k no_entry).entry) (sym v.chosen_are))
 
-    pub kind_told : kind_by (entry_at w k).entry.stream_type ≡ (stream_at (file_shape Z w counts rooms) k).kind
-    kind_told = by_content (λ c. kind_by (entry_at w k).entry.stream_type ≡ (stream_at (shape_in c) k).kind) w.source.store.content
+    pub kind_told : kind_by (chosen_entry w k).entry.stream_type ≡ (stream_at (file_shape Z w counts rooms) k).kind
+    kind_told = by_content (λ c. kind_by (chosen_entry w k).entry.stream_type ≡ (stream_at (shape_in c) k).kind) w.source.store.content
         (sym (ap (λ (t : StreamShape). t.kind) (stream_is w.chosen counts rooms k counted roomed inside)))
         (λ F is.
         let v = known F is in
-        sym (ap (λ (t : StreamShape). t.kind) (stream_known F is) ∙ kind_is Z F (entry_at w k) (get_or counts k 0) (v.counted k inside)))
+        sym (ap (λ (t : StreamShape). t.kind) (stream_known F is) ∙ kind_is Z F (chosen_entry w k) (get_or counts k 0) (v.counted k inside)))
 
-    pub body_told : told (body_of (stream_in (entry_at w k) (get_or counts k 0) (get_or rooms k 0))) ≡ told (body_of (stream_at (file_shape Z w counts rooms) k))
-    body_told = by_content (λ c. told (body_of (stream_in (entry_at w k) (get_or counts k 0) (get_or rooms k 0))) ≡ told (body_of (stream_at (shape_in c) k))) w.source.store.content
+    pub body_told : told (body_of (stream_in (chosen_entry w k) (get_or counts k 0) (get_or rooms k 0))) ≡ told (body_of (stream_at (file_shape Z w counts rooms) k))
+    body_told = by_content (λ c. told (body_of (stream_in (chosen_entry w k) (get_or counts k 0) (get_or rooms k 0))) ≡ told (body_of (stream_at (shape_in c) k))) w.source.store.content
         (sym (ap (λ (t : StreamShape). told (body_of t)) (stream_is w.chosen counts rooms k counted roomed inside)))
         (λ F is.
         let v = known F is in
-        let x = entry_at w k in
+        let x = chosen_entry w k in
         let n = get_or counts k 0 in
         let counts_are = v.counted k inside in
         sym (ap (λ (t : StreamShape). told (body_of t)) (stream_known F is)
@@ -134,8 +134,8 @@ module _ (Z : Type 0) (limit : ℕ) (w : WalkState) (counts rooms : List ℕ) (c
         let v = known F is in
         v.roomed k inside ∙ sym (ap (λ (t : StreamShape). told t.parts) (stream_known F is)))
 
-    pub cost_told : cost_at (file_shape Z w counts rooms) k ≡ pass_cost (entry_at w k).entry (get_or counts k 0)
-    cost_told = by_content (λ c. cost_at (shape_in c) k ≡ pass_cost (entry_at w k).entry (get_or counts k 0)) w.source.store.content
+    pub cost_told : cost_at (file_shape Z w counts rooms) k ≡ pass_cost (chosen_entry w k).entry (get_or counts k 0)
+    cost_told = by_content (λ c. cost_at (shape_in c) k ≡ pass_cost (chosen_entry w k).entry (get_or counts k 0)) w.source.store.content
         (cost_is w.chosen counts k counted inside) (λ F is. cost_is w.chosen counts k counted inside)
 
     -- a pass that begins

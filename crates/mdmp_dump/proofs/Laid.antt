@@ -14,13 +14,13 @@ use Rattle.mdmp_lister.specs.declared.choice.Choice.{Choice}
 use Rattle.mdmp_lister.specs.declared.fault.Fault.{Fault}
 use Rattle.mdmp_lister.specs.declared.fault.OpenFault.{OpenFault}
 use Rattle.mdmp_lister.specs.declared.item.Item.{Item}
-use Rattle.mdmp_lister.specs.declared.kind.Kind.{Kind}
-use Rattle.mdmp_lister.specs.declared.kind.Kind.TheVariants as kinds
+use Rattle.mdmp_lister.specs.declared.kind.StreamKind.{StreamKind}
+use Rattle.mdmp_lister.specs.declared.kind.StreamKind.TheVariants as kinds
 use Rattle.mdmp_lister.specs.declared.shape.Shape.{Shape}
 use Rattle.mdmp_lister.specs.Format.Item.{item_at, range_extent_of, range_offset}
 use Rattle.mdmp_lister.specs.Format.Kind.{kind_of, type_of_kind}
 use Rattle.mdmp_lister.specs.Format.KindLaws.{type_of-kind}
-use Rattle.mdmp_lister.specs.Format.Listing.{Numbered, body_of, chosen, entry_listing, items_from, list_fault, records_of, shaped, stream_item}
+use Rattle.mdmp_lister.specs.Format.Listing.{Numbered, entry_body, chosen, entry_listing, items_from, list_fault, records_of, shaped, stream_item}
 use Rattle.mdmp_lister.specs.Format.Refusal.{directory_refusal}
 use Rattle.mdmp_lister.specs.Format.Shape.{location_fault, shape_of}
 use Rattle.mdmp_lister.proofs.Heads.{listed-inside}
@@ -28,7 +28,7 @@ use Rattle.mdmp_dump.specs.declared.fault.PartName.TheVariants.{Stack, Context, 
 use Rattle.mdmp_dump.specs.Exception.{IsException}
 use Rattle.mdmp_dump.specs.FileRefusal.{opened_told, run_told, view_refusal}
 use Rattle.mdmp_dump.specs.InFile.{by_kind, by_type, dump_in, exception_in, memory_in, memory64_in, module_in, rows_in, shaped_in, stream_named, system_in, thread_in, unloaded_in}
-use Rattle.mdmp_dump.specs.LaysOut.{AreStreams, HasRecords, IsStream, LaysOut, StandsAt}
+use Rattle.mdmp_dump.specs.LaysOut.{AreStreams, HasRecords, NamesStream, LaysOut, StandsAt}
 use Rattle.mdmp_dump.specs.Left.{run_of}
 use Rattle.mdmp_dump.specs.Memory.{IsMemory}
 use Rattle.mdmp_dump.specs.Memory64.{IsMemory64}
@@ -99,7 +99,7 @@ module _ {Z : Type 0} where
 
 -- ---- the records of a stream
 
-module _ {X : Type 0} (kind : Kind) (IsAt : ℕ → ℕ → X → Type 0) (f : ℕ → ℕ → X) (F : List ℕ) (limit : ℕ) (x : Numbered) (shape : Shape)
+module _ {X : Type 0} (kind : StreamKind) (IsAt : ℕ → ℕ → X → Type 0) (f : ℕ → ℕ → X) (F : List ℕ) (limit : ℕ) (x : Numbered) (shape : Shape)
     (inside : IsTrue (is_inside x.entry.location.rva x.entry.location.size (length F)))
     (is_shape : shape_of F x.entry.location.rva x.entry.location.size kind ≡ Ok shape)
     (none : run_told F (items_from F limit x.number x.entry.location.rva kind shape shape.count 0) ≡ None)
@@ -134,7 +134,7 @@ unused_by true false f used none = absurd (cc used)
 unused_by false false f used none = absurd (cc none)
 
 module _ (Z : Type 0) (F : List ℕ) (limit : ℕ) where
-  pub shaped_type : (rva : ℕ) (kind : Kind) (shape : Shape) → type_of_kind kind ≡ type_of (shaped_in {Z = Z} F rva kind shape)
+  pub shaped_type : (rva : ℕ) (kind : StreamKind) (shape : Shape) → type_of_kind kind ≡ type_of (shaped_in {Z = Z} F rva kind shape)
   shaped_type rva kinds.Threads shape = refl
   shaped_type rva kinds.Modules shape = refl
   shaped_type rva kinds.Memory shape = refl
@@ -148,7 +148,7 @@ module _ (Z : Type 0) (F : List ℕ) (limit : ℕ) where
     abbrev at_x : ℕ
     at_x = x.entry.location.rva
 
-    shaped_stands : (kind : Kind) (shape : Shape) → IsTrue (is_inside x.entry.location.rva x.entry.location.size (length F))
+    shaped_stands : (kind : StreamKind) (shape : Shape) → IsTrue (is_inside x.entry.location.rva x.entry.location.size (length F))
         → shape_of F x.entry.location.rva x.entry.location.size kind ≡ Ok shape
         → run_told F (items_from F limit x.number x.entry.location.rva kind shape shape.count 0) ≡ None
         → StandsAt F x.entry.location (shaped_in {Z = Z} F x.entry.location.rva kind shape)
@@ -170,9 +170,9 @@ module _ (Z : Type 0) (F : List ℕ) (limit : ℕ) where
         list_laid kinds.MemoryInfo (λ k o y. memory_info_at F o ≡ y) (λ k o. memory_info_at F o) F limit x shape inside is none (λ k o item given quiet. refl)
 
     -- a stream whose records are known
-    known_stands : (kind : Kind) (shape : Result Shape Fault) → kind_of x.entry.stream_type ≡ Some kind → location_fault (length F) x.entry ≡ None
+    known_stands : (kind : StreamKind) (shape : Result Shape Fault) → kind_of x.entry.stream_type ≡ Some kind → location_fault (length F) x.entry ≡ None
         → shape_of F x.entry.location.rva x.entry.location.size kind ≡ shape
-        → run_told F (shaped F limit x.number x.entry.location.rva kind shape) ≡ None → (shape_found : Shape) × ((shape ≡ Ok shape_found) × IsStream F x.entry (shaped_in {Z = Z} F x.entry.location.rva kind shape_found))
+        → run_told F (shaped F limit x.number x.entry.location.rva kind shape) ≡ None → (shape_found : Shape) × ((shape ≡ Ok shape_found) × NamesStream F x.entry (shaped_in {Z = Z} F x.entry.location.rva kind shape_found))
     known_stands kind (Ok shape) known placed is none =
         let inside = inside_is F x.entry.location.rva x.entry.location.size (length F) (listed-inside (length F) x.entry kind placed known) refl in (
           shape,
@@ -186,8 +186,8 @@ module _ (Z : Type 0) (F : List ℕ) (limit : ℕ) where
         )
     known_stands kind (Err fault) known placed is none = absurd (fault_told F (list_fault x.number None fault) none)
 
-    kind_stands : (t : ℕ) (kind : Option Kind) → x.entry.stream_type ≡ suc t → kind_of x.entry.stream_type ≡ kind → location_fault (length F) x.entry ≡ None
-        → run_told F (records_of F limit x.number x.entry.location.rva x.entry.location.size kind) ≡ None → IsStream F x.entry (by_kind {Z = Z} F x.entry kind)
+    kind_stands : (t : ℕ) (kind : Option StreamKind) → x.entry.stream_type ≡ suc t → kind_of x.entry.stream_type ≡ kind → location_fault (length F) x.entry ≡ None
+        → run_told F (records_of F limit x.number x.entry.location.rva x.entry.location.size kind) ≡ None → NamesStream F x.entry (by_kind {Z = Z} F x.entry kind)
     kind_stands t (Some kind) used known placed none =
         let given = known_stands kind (shape_of F x.entry.location.rva x.entry.location.size kind) known placed refl none in
         rw given.1.0 given.1.1
@@ -199,11 +199,11 @@ module _ (Z : Type 0) (F : List ℕ) (limit : ℕ) where
         }
 
     type_stands : (t : ℕ) → x.entry.stream_type ≡ t → location_fault (length F) x.entry ≡ None
-        → run_told F (records_of F limit x.number x.entry.location.rva x.entry.location.size (kind_of t)) ≡ None → IsStream F x.entry (by_type {Z = Z} F x.entry t)
+        → run_told F (records_of F limit x.number x.entry.location.rva x.entry.location.size (kind_of t)) ≡ None → NamesStream F x.entry (by_type {Z = Z} F x.entry t)
     type_stands zero is placed none = record { type_is = is; stands = tt }
     type_stands (suc t) is placed none = kind_stands t (kind_of (suc t)) is (ap kind_of is) placed none
 
-    body_stands : (fault : Option Fault) → location_fault (length F) x.entry ≡ fault → run_told F (body_of F limit x) ≡ None → IsStream F x.entry (stream_named {Z = Z} F x.entry)
+    body_stands : (fault : Option Fault) → location_fault (length F) x.entry ≡ fault → run_told F (entry_body F limit x) ≡ None → NamesStream F x.entry (stream_named {Z = Z} F x.entry)
     body_stands None placed none = type_stands x.entry.stream_type refl placed (rw placed at none)
     body_stands (Some fault) placed none = absurd (fault_told F (list_fault x.number None fault) (rw placed at none))
 
@@ -213,7 +213,7 @@ module _ (Z : Type 0) (F : List ℕ) (limit : ℕ) where
   streams_stand [] none = tt
   streams_stand (x ∷ xs) none =
       let both = joined_quiet F (entry_listing F limit x) (run_of F limit xs) none in
-      let body = first_quiet F (stream_item x) (body_of F limit x) both.0 in
+      let body = first_quiet F (stream_item x) (entry_body F limit x) both.0 in
       (body_stands x (location_fault (length F) x.entry) refl body.1, streams_stand xs both.1)
 
   opened_lays : (choice : Choice) (fault : Option OpenFault) → directory_refusal F ≡ fault → opened_told F choice limit fault ≡ None → LaysOut F choice (dump_in {Z = Z} F choice)

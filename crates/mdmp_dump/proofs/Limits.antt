@@ -23,7 +23,7 @@ use Rattle.mdmp_source.specs.declared.location.Extent.TheVariants as classes
 use Rattle.mdmp_dump.specs.FoundRecord.{no_part}
 use Rattle.mdmp_dump.specs.FileRefusal.{first_told}
 use Rattle.mdmp_source.specs.Store.{AreBytes}
-use Rattle.mdmp_dump.specs.Finding.{Finds, FindsName, FindsPart}
+use Rattle.mdmp_dump.specs.Finding.{IsFoundInFile, FindsName, FindsPart}
 use Rattle.mdmp_dump.specs.Part.{part_in}
 use Rattle.std.proofs.lemmas.Bool.{eqb-true}
 use Rattle.mdmp_lister.specs.Format.Item.{range_extent_of}
@@ -214,7 +214,7 @@ module _ (F : List ℕ) (rva limit e k : ℕ) where
 module _ (F : List ℕ) (e k : ℕ) (part : PartName) (at : Location) where
   abbrev part_found_at : Extent → Result PartAt ReadFault → Type 0
   part_found_at x result =
-      Finds F (location_steps e k part at x) (size_of (part_or (part_in {Z = Unit {0}} F at x))) (bytes_of (part_or (part_in {Z = Unit {0}} F at x))) result
+      IsFoundInFile F (location_steps e k part at x) (size_of (part_or (part_in {Z = Unit {0}} F at x))) (bytes_of (part_or (part_in {Z = Unit {0}} F at x))) result
 
   pub part_found : (x : Extent) (result : Result PartAt ReadFault) → extent_of at (length F) ≡ x → part_found_at x result → FindsPart F e k part at result
   part_found x result is found = subst (λ (y : Extent). part_found_at y result) (sym is) found
@@ -256,7 +256,7 @@ absent_by false false is = cc is
 
 module _ (F : List ℕ) (e k offset size : ℕ) where
   abbrev pub range_found_at : Extent → Result PartAt ReadFault → Type 0
-  range_found_at x result = Finds F (part_steps e k Memory offset size x) (Size (length (array_at F offset size))) (array_at F offset size) result
+  range_found_at x result = IsFoundInFile F (part_steps e k Memory offset size x) (Size (length (array_at F offset size))) (array_at F offset size) result
 
   nothing_in : (n : ℕ) → n ≡ 0 → array_at F offset n ≡ []
   unfolding array_at

@@ -2,7 +2,7 @@
 use Rattle.std.proofs.Common.{◌≡◌, ◌+◌, ◌*◌, ℕ, List, [], ◌∷◌, ◌++◌, length, arith, subst}
 use Rattle.mdmp_lister.specs.Format.Listing.{Numbered}
 use Rattle.mdmp_dump.specs.declared.dump.Stream.{Stream}
-use Rattle.mdmp_dump.specs.LaysOut.{AreStreams, EachFrom, IsStream}
+use Rattle.mdmp_dump.specs.LaysOut.{AreStreams, EachFrom, NamesStream}
 
 module _ {X : Type 0} (IsAt : ℕ → ℕ → X → Type 0) (at stride : ℕ) where
   -- one more record of a list
@@ -17,7 +17,7 @@ module _ {X : Type 0} (IsAt : ℕ → ℕ → X → Type 0) (at stride : ℕ) wh
 
 -- one more entry and its stream
 pub streams_more : {Z : Type 0} (F : List ℕ) (xs : List Numbered) (ss : List (Stream Z)) (x : Numbered) (s : Stream Z)
-    → AreStreams F xs ss → IsStream F x.entry s → AreStreams F (xs ++ x ∷ []) (ss ++ s ∷ [])
+    → AreStreams F xs ss → NamesStream F x.entry s → AreStreams F (xs ++ x ∷ []) (ss ++ s ∷ [])
 streams_more F [] [] x s streams is = (is, tt)
 streams_more F (w ∷ ws) (z ∷ zs) x s streams is = (streams.0, streams_more F ws zs x s streams.1 is)
 streams_more F [] (z ∷ zs) x s streams is = absurd streams

@@ -12,9 +12,9 @@ use Rattle.mdmp_dump.specs.declared.pass.Pass.{Pass}
 use Rattle.mdmp_dump.specs.declared.found_record.PartAt.{PartAt}
 use Rattle.mdmp_dump.specs.declared.view.ViewFault.{ViewFault}
 use Rattle.mdmp_dump.specs.declared.view.ViewFault.TheVariants as view
-use Rattle.mdmp_dump.specs.EntryWalk.{IsSameWalk, Pays, ReadsAside, WalkState, entry_at, kind_by, listed, name_cost, no_entry, pass_cost, raw_part}
+use Rattle.mdmp_dump.specs.EntryWalk.{IsSameWalk, Pays, WalkReadsAside, WalkState, chosen_entry, kind_by, listed, name_cost, no_entry, pass_cost, raw_part}
 use Rattle.mdmp_dump.specs.FileRefusal.{body_told, entry_told, view_refusal}
-use Rattle.mdmp_dump.specs.FileView.{AreBare, HasMoved, IsPaid, IsPass, IsPassOf, IsView, IsViewed, Tells, costs_in, cursor_by, file_cursor, file_shape, first_pass, kind_at, opening_cost, owed, room_told, shape_by, source_fault, stream_of}
+use Rattle.mdmp_dump.specs.FileView.{AreBare, HasMoved, IsViewPaid, IsPass, IsPassOf, IsView, IsViewed, TellsViewFault, costs_in, cursor_by, file_cursor, file_shape, first_pass, kind_at, opening_cost, names_owed, room_told, shape_by, source_fault, stream_of}
 use Rattle.mdmp_dump.specs.FoundRecord.{no_part}
 use Rattle.mdmp_dump.specs.InFile.{stream_named}
 use Rattle.mdmp_dump.specs.Placed.{size_in}
@@ -30,7 +30,7 @@ owed_in : List Numbered → Option Pass → ℕ
 owed_in xs None = 0
 owed_in xs (Some p) = p.left * name_cost (get_or xs p.stream no_entry).entry.stream_type
 
-owed_is : (w : WalkState) (pass : Option Pass) → owed w pass ≡ owed_in w.chosen pass
+owed_is : (w : WalkState) (pass : Option Pass) → names_owed w pass ≡ owed_in w.chosen pass
 unfolding owed_in
 owed_is w None = refl
 owed_is w (Some p) = refl
@@ -48,7 +48,7 @@ module _ (w v : WalkState) (same : IsSameWalk w v) where
   pub good_before : (F : List ℕ) → IsGood v.source.store F → IsGood w.source.store F
   good_before F good = record { known = content_before F good.known; reliable = sym same.fetches.fetches.same_reliable ∙ good.reliable }
 
-  pub entry_stays : (k : ℕ) → entry_at v k ≡ entry_at w k
+  pub entry_stays : (k : ℕ) → chosen_entry v k ≡ chosen_entry w k
   entry_stays k = ap (λ (xs : List Numbered). get_or xs k no_entry) same.chosen
 
   pub opening_stays : (counts : List ℕ) → opening_cost v counts ≡ opening_cost w counts
@@ -86,12 +86,12 @@ raw_sizes_at Z F x n counts (suc (suc zero)) = refl
 raw_sizes_at Z F x n counts (suc (suc (suc j))) = refl
 
 -- nothing that an entry of a view gives is refused
-entry_quiet : (Z : Type 0) (F : List ℕ) (limit : ℕ) (w : WalkState) (counts rooms : List ℕ) (k : ℕ) → IsViewed Z F limit w counts rooms → k < length w.chosen → body_told F limit (entry_at w k) 0 ≡ None
+entry_quiet : (Z : Type 0) (F : List ℕ) (limit : ℕ) (w : WalkState) (counts rooms : List ℕ) (k : ℕ) → IsViewed Z F limit w counts rooms → k < length w.chosen → body_told F limit (chosen_entry w k) 0 ≡ None
 entry_quiet Z F limit w counts rooms k is inside =
     let run = sym (opened_run F w.choice limit (view_opens F w.choice limit is.quiet)) ∙ is.quiet in
     let each : entry_told F limit (get_or (chosen F w.choice) k no_entry) ≡ None =
     each_quiet F limit (chosen F w.choice) run k (omega (arith, inside, ap (λ (xs : List Numbered). length xs) is.chosen_are)) in
-    sym (entry_begins F limit (entry_at w k)) ∙ ap (λ (xs : List Numbered). entry_told F limit (get_or xs k no_entry)) is.chosen_are ∙ each
+    sym (entry_begins F limit (chosen_entry w k)) ∙ ap (λ (xs : List Numbered). entry_told F limit (get_or xs k no_entry)) is.chosen_are ∙ each
 
 pub first_pass_of : (Z : Type 0) (F : List ℕ) (limit : ℕ) (w : WalkState) (counts rooms : List ℕ) (k n r : ℕ) → IsViewed Z F limit w counts rooms → k < length w.chosen
     → n ≡ get_or counts k 0 → r ≡ get_or rooms k 0 → IsPassOf Z F limit w (first_pass w k n r)
@@ -102,8 +102,8 @@ first_pass_of Z F limit w counts rooms k n r is inside count room =
       counted = counted ∙ ap (λ (m : ℕ). Ok m) (let h : get_or counts k 0 ≡ 0 + n = omega (arith, count) in h);
       room = room ∙ is.roomed k inside;
       met = sym (rooms_none (kind_in (stream_of {Z = Z} F w k)) (records_seen (stream_of {Z = Z} F w k)));
-      parts = raw_parts_at Z F (entry_at w k) (get_or counts k 0) counted;
-      sizes = raw_sizes_at Z F (entry_at w k) (get_or counts k 0) counted;
+      parts = raw_parts_at Z F (chosen_entry w k) (get_or counts k 0) counted;
+      sizes = raw_sizes_at Z F (chosen_entry w k) (get_or counts k 0) counted;
     }
 
 -- one record fewer is left
@@ -138,7 +138,7 @@ module _ (Z : Type 0) (limit : ℕ) (w : WalkState) (counts rooms : List ℕ) (p
   bare_then k none = is.bare k (subst (λ (x : Numbered). GivesNone (kind_by x.entry.stream_type) (get_or counts k 0)) (entry_stays w v same k) none)
 
   -- calls that end with a fault
-  module _ {T : Type 0} (fault : ViewFault) (tells : Tells {T = T} w (Err fault) v) where
+  module _ {T : Type 0} (fault : ViewFault) (tells : TellsViewFault {T = T} w (Err fault) v) where
     ended_then : (told : SourceFault) → v.failed ≡ Some told → Some fault ≡ Some (view.Source told)
     ended_then told ended = ap Some (tells.ended told ended)
 
@@ -157,7 +157,7 @@ module _ (Z : Type 0) (limit : ℕ) (w : WalkState) (counts rooms : List ℕ) (p
     moves_err = record { header = same.header; choice = same.choice; chosen = same.chosen; held = same.held; start = same.start; fetches = same.fetches; told = moved_by w.failed refl }
 
     -- the view behind it has no pass
-    pub view_err : (more : ℕ) → IsPaid v counts None more asked → IsView Z limit v counts rooms None more asked (Some fault)
+    pub view_err : (more : ℕ) → IsViewPaid v counts None more asked → IsView Z limit v counts rooms None more asked (Some fault)
     view_err more paid = record {
       counted = counted_then;
       roomed = roomed_then;
@@ -173,11 +173,11 @@ module _ (Z : Type 0) (limit : ℕ) (w : WalkState) (counts rooms : List ℕ) (p
     }
 
   -- calls that give something
-  module _ {T : Type 0} (x : T) (tells : Tells {T = T} w (Ok x) v) where
+  module _ {T : Type 0} (x : T) (tells : TellsViewFault {T = T} w (Ok x) v) where
     going_then : v.failed ≡ None
     going_then = none_by v.failed (λ told ended. tells.ended told ended)
 
-    pub view_ok : (q : Pass) (more : ℕ) → IsPass v q → ((F : List ℕ) → v.source.store.content ≡ Some F → IsPassOf Z F limit v q) → IsPaid v counts (Some q) more asked
+    pub view_ok : (q : Pass) (more : ℕ) → IsPass v q → ((F : List ℕ) → v.source.store.content ≡ Some F → IsPassOf Z F limit v q) → IsViewPaid v counts (Some q) more asked
         → IsView Z limit v counts rooms (Some q) more asked None
     view_ok q more passing of_file paid = record {
       counted = counted_then;
@@ -196,14 +196,14 @@ module _ (Z : Type 0) (limit : ℕ) (w : WalkState) (counts rooms : List ℕ) (p
   -- ---- what is paid
 
   -- a stream is begun
-  module _ (k n more : ℕ) (pays : Pays (listed (entry_at w k).entry) 0 w v) (sum_is : opening_cost w counts + more + asked < 2 ^ 128 - 1 → more ≡ passed + pass_cost (entry_at w k).entry n) where
+  module _ (k n more : ℕ) (pays : Pays (listed (chosen_entry w k).entry) 0 w v) (sum_is : opening_cost w counts + more + asked < 2 ^ 128 - 1 → more ≡ passed + pass_cost (chosen_entry w k).entry n) where
     begun_low : opening_cost v counts + more + asked < 2 ^ 128 - 1 → opening_cost w counts + more + asked < 2 ^ 128 - 1
     begun_low low = subst (λ (c : ℕ). c + more + asked < 2 ^ 128 - 1) (opening_stays w v same counts) low
 
     begun_before : (low : opening_cost w counts + more + asked < 2 ^ 128 - 1) → opening_cost w counts + passed + asked < 2 ^ 128 - 1
     begun_before low = omega (arith, low, sum_is low)
 
-    pub paid_begun : (q : Option Pass) → owed v q ≤ n * name_cost (entry_at w k).entry.stream_type → IsPaid v counts q more asked
+    pub paid_begun : (q : Option Pass) → names_owed v q ≤ n * name_cost (chosen_entry w k).entry.stream_type → IsViewPaid v counts q more asked
     paid_begun q least = record {
       bytes = λ low.
           let was = begun_low low in
@@ -218,10 +218,10 @@ module _ (Z : Type 0) (limit : ℕ) (w : WalkState) (counts rooms : List ℕ) (p
     }
 
   -- a record is taken
-  module _ (p : Pass) (here : pass ≡ Some p) (pays : Pays 0 (name_cost (entry_at w p.stream).entry.stream_type) w v) where
-    pub paid_taken : (q : Option Pass) → owed v q + name_cost (entry_at w p.stream).entry.stream_type ≤ p.left * name_cost (entry_at w p.stream).entry.stream_type → IsPaid v counts q passed asked
+  module _ (p : Pass) (here : pass ≡ Some p) (pays : Pays 0 (name_cost (chosen_entry w p.stream).entry.stream_type) w v) where
+    pub paid_taken : (q : Option Pass) → names_owed v q + name_cost (chosen_entry w p.stream).entry.stream_type ≤ p.left * name_cost (chosen_entry w p.stream).entry.stream_type → IsViewPaid v counts q passed asked
     paid_taken q least =
-        let due : owed w pass ≡ p.left * name_cost (entry_at w p.stream).entry.stream_type = ap (owed w) here in
+        let due : names_owed w pass ≡ p.left * name_cost (chosen_entry w p.stream).entry.stream_type = ap (names_owed w) here in
         record {
           bytes = λ low.
               let was : opening_cost w counts + passed + asked < 2 ^ 128 - 1 = omega (arith, low, opening_stays w v same counts) in
@@ -235,11 +235,11 @@ module _ (Z : Type 0) (limit : ℕ) (w : WalkState) (counts rooms : List ℕ) (p
         }
 
   -- a stream was begun
-  module _ (k n r more : ℕ) (inside : k < length w.chosen) (count : n ≡ get_or counts k 0) (room : r ≡ get_or rooms k 0) (pays : Pays (listed (entry_at w k).entry) 0 w v)
-      (sum_is : opening_cost w counts + more + asked < 2 ^ 128 - 1 → more ≡ passed + pass_cost (entry_at w k).entry n) where
-    pub view_begun : (q : Pass) → q ≡ first_pass w k n r → IsPass v q → Tells w (Ok q) v → IsView Z limit v counts rooms (Some q) more asked None
+  module _ (k n r more : ℕ) (inside : k < length w.chosen) (count : n ≡ get_or counts k 0) (room : r ≡ get_or rooms k 0) (pays : Pays (listed (chosen_entry w k).entry) 0 w v)
+      (sum_is : opening_cost w counts + more + asked < 2 ^ 128 - 1 → more ≡ passed + pass_cost (chosen_entry w k).entry n) where
+    pub view_begun : (q : Pass) → q ≡ first_pass w k n r → IsPass v q → TellsViewFault w (Ok q) v → IsView Z limit v counts rooms (Some q) more asked None
     view_begun q first passing tells =
-        let least : owed v (Some q) ≤ n * name_cost (entry_at w k).entry.stream_type =
+        let least : names_owed v (Some q) ≤ n * name_cost (chosen_entry w k).entry.stream_type =
         rw (first, entry_stays w v same k) (omega arith) in
         view_ok q tells q more passing
         (λ F known.
@@ -247,27 +247,27 @@ module _ (Z : Type 0) (limit : ℕ) (w : WalkState) (counts rooms : List ℕ) (p
         (first_pass_of Z F limit v counts rooms k n r (viewed_then F known) (omega (arith, inside, ap (λ (xs : List Numbered). length xs) same.chosen)) count room))
         (paid_begun k n more pays sum_is (Some q) least)
 
-    pub view_unbegun : {T : Type 0} (fault : ViewFault) → Tells {T = T} w (Err fault) v → IsView Z limit v counts rooms None more asked (Some fault)
+    pub view_unbegun : {T : Type 0} (fault : ViewFault) → TellsViewFault {T = T} w (Err fault) v → IsView Z limit v counts rooms None more asked (Some fault)
     view_unbegun fault tells = view_err fault tells more (paid_begun k n more pays sum_is None (omega arith))
 
   -- a record was taken
-  module _ (p : Pass) (here : pass ≡ Some p) (going : 0 < p.left) (pays : Pays 0 (name_cost (entry_at w p.stream).entry.stream_type) w v) where
-    pub view_taken : {T : Type 0} (x : T) (q : Pass) → IsPass v q → (q.stream ≡ p.stream) × (q.left + 1 ≡ p.left) → Tells w (Ok x) v
+  module _ (p : Pass) (here : pass ≡ Some p) (going : 0 < p.left) (pays : Pays 0 (name_cost (chosen_entry w p.stream).entry.stream_type) w v) where
+    pub view_taken : {T : Type 0} (x : T) (q : Pass) → IsPass v q → (q.stream ≡ p.stream) × (q.left + 1 ≡ p.left) → TellsViewFault w (Ok x) v
         → ((F : List ℕ) → w.source.store.content ≡ Some F → IsPassOf Z F limit v q) → IsView Z limit v counts rooms (Some q) passed asked None
     view_taken x q passing goes tells of_file =
-        let cost = name_cost (entry_at w p.stream).entry.stream_type in
-        let name : name_cost (entry_at v q.stream).entry.stream_type ≡ cost =
-        ap (λ (y : Numbered). name_cost y.entry.stream_type) (entry_stays w v same q.stream ∙ ap (entry_at w) goes.0) in
-        let due : owed v (Some q) ≡ q.left * cost = ap (λ (c : ℕ). q.left * c) name in
+        let cost = name_cost (chosen_entry w p.stream).entry.stream_type in
+        let name : name_cost (chosen_entry v q.stream).entry.stream_type ≡ cost =
+        ap (λ (y : Numbered). name_cost y.entry.stream_type) (entry_stays w v same q.stream ∙ ap (chosen_entry w) goes.0) in
+        let due : names_owed v (Some q) ≡ q.left * cost = ap (λ (c : ℕ). q.left * c) name in
         view_ok x tells q passed passing (λ F known. of_file F (content_before w v same F known)) (paid_taken p here pays (Some q) (omega (arith, due, one_less p.left q.left cost goes.1)))
 
-    pub view_untaken : {T : Type 0} (fault : ViewFault) → Tells {T = T} w (Err fault) v → IsView Z limit v counts rooms None passed asked (Some fault)
+    pub view_untaken : {T : Type 0} (fault : ViewFault) → TellsViewFault {T = T} w (Err fault) v → IsView Z limit v counts rooms None passed asked (Some fault)
     view_untaken fault tells =
-        let cost = name_cost (entry_at w p.stream).entry.stream_type in
+        let cost = name_cost (chosen_entry w p.stream).entry.stream_type in
         view_err fault tells passed (paid_taken p here pays None (omega (arith, one_less p.left (p.left - 1) cost (omega (arith, going)))))
 
   -- over a good store there is no fault
-  pub reliable_err : {T : Type 0} (fault : ViewFault) → Tells {T = T} w (Err fault) v → IsTrue (file_shape Z w counts rooms).is_reliable → ⊥
+  pub reliable_err : {T : Type 0} (fault : ViewFault) → TellsViewFault {T = T} w (Err fault) v → IsTrue (file_shape Z w counts rooms).is_reliable → ⊥
   reliable_err fault tells = by_content (λ c. IsTrue (shape_by Z c w counts rooms).is_reliable → ⊥) w.source.store.content
       (λ reliable. absurd (let no = reliable in cc))
       (λ F known reliable.
@@ -304,7 +304,7 @@ module _ (Z : Type 0) (limit : ℕ) (w : WalkState) (counts rooms : List ℕ) (p
       (λ F known.
       let of = is.pass_of F p known here in
       let xs = records_seen (stream_of {Z = Z} F w p.stream) in
-      omega (arith, length-drop p.given xs, records_are Z F (entry_at w p.stream) (p.given + p.left) of.counted))
+      omega (arith, length-drop p.given xs, records_are Z F (chosen_entry w p.stream) (p.given + p.left) of.counted))
 
   pub cursor_sizes : (which : ℕ) → (file_cursor Z w pass).sizes which ≡ size_in (get_or p.parts which no_part).size
   cursor_sizes which =
@@ -351,7 +351,7 @@ module _ (Z : Type 0) (limit : ℕ) (w : WalkState) (counts rooms : List ℕ) (p
         ∙ ap (λ (xs : List ℕ). take n (drop more xs)) (known.1.1 which)
 
   -- bytes were read beside the walk
-  module _ (count more : ℕ) (result : Result (Unit {0}) SourceFault) (v : WalkState) (reads : ReadsAside count w result v)
+  module _ (count more : ℕ) (result : Result (Unit {0}) SourceFault) (v : WalkState) (reads : WalkReadsAside count w result v)
       (sum_is : opening_cost w counts + passed + more < 2 ^ 128 - 1 → more ≡ asked + count) where
     pub read_same : IsSameWalk w v
     read_same = record {
@@ -366,9 +366,9 @@ module _ (Z : Type 0) (limit : ℕ) (w : WalkState) (counts rooms : List ℕ) (p
     still_going : v.failed ≡ None
     still_going = ap (λ (u : WalkState). u.failed) reads.same ∙ unended
 
-    read_paid : IsPaid v counts pass passed more
+    read_paid : IsViewPaid v counts pass passed more
     read_paid =
-        let due : owed v pass ≡ owed w pass = owed_is v pass ∙ ap (λ (xs : List Numbered). owed_in xs pass) read_same.chosen ∙ sym (owed_is w pass) in
+        let due : names_owed v pass ≡ names_owed w pass = owed_is v pass ∙ ap (λ (xs : List Numbered). owed_in xs pass) read_same.chosen ∙ sym (owed_is w pass) in
         let allowed : v.allowed ≡ w.allowed = ap (λ (u : WalkState). u.allowed) reads.same in
         let names : v.names ≡ w.names = ap (λ (u : WalkState). u.names) reads.same in
         record {

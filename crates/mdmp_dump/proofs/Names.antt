@@ -12,7 +12,7 @@ use Rattle.mdmp_lister.specs.declared.name.Name.{Name}
 use Rattle.mdmp_lister.specs.declared.name.Name.TheVariants as names
 use Rattle.mdmp_wire.specs.AnyRecord.{name_rva}
 use Rattle.mdmp_lister.specs.declared.item.Item.{Item}
-use Rattle.mdmp_lister.specs.declared.kind.Kind.{Kind}
+use Rattle.mdmp_lister.specs.declared.kind.StreamKind.{StreamKind}
 use Rattle.mdmp_lister.specs.Format.Item.{item_at, name_of, record_at}
 use Rattle.mdmp_lister.specs.Format.Name.{name_at}
 use Rattle.mdmp_lister.specs.Format.Summary.{summary_of}
@@ -52,7 +52,7 @@ name_stands F rva limit n name is told =
     (units_over (array_at F (rva + 4) bytes)) (inside_few (rva + 4) bytes (length F)) is
 
 -- the name of an item, of a record that has one at rva
-pub made_named : (kind : Kind) (file : List ℕ) (limit e k at o : ℕ) (item : Item) → item_at file limit e k at o kind ≡ Ok item → (rva : ℕ) (name : Option (List ℕ))
+pub made_named : (kind : StreamKind) (file : List ℕ) (limit e k at o : ℕ) (item : Item) → item_at file limit e k at o kind ≡ Ok item → (rva : ℕ) (name : Option (List ℕ))
     → name_rva (record_at kind file o) ≡ Some rva → ((n : Name) → (summary_of (made kind file limit e k at o n)).name ≡ n)
     → name_told (summary_of item).name ≡ Some name → IsName file rva name
 made_named kind file limit e k at o item is rva name has any told =

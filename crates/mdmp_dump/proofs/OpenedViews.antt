@@ -11,9 +11,9 @@ use Rattle.mdmp_lister.specs.Format.Listing.{Numbered, chosen, entry_count}
 use Rattle.mdmp_lister.specs.Format.Refusal.{directory_refusal}
 use Rattle.mdmp_lister.specs.Opening.{IsHandedBackBare}
 use Rattle.mdmp_dump.specs.declared.fault.ReadFault.{ReadFault}
-use Rattle.mdmp_dump.specs.EntryWalk.{IsOpened, WalkState, kind_by}
+use Rattle.mdmp_dump.specs.EntryWalk.{IsOpenedWalk, WalkState, kind_by}
 use Rattle.mdmp_dump.specs.FileRefusal.{run_told, view_refusal}
-use Rattle.mdmp_dump.specs.FileView.{AreBare, AreWalked, IsPaid, IsView, IsViewed, PaysAll, PaysSome, costs_in, file_shape, kind_at, opening_cost, pass_cost_in, room_told, shape_by}
+use Rattle.mdmp_dump.specs.FileView.{AreBare, AreWalked, IsViewPaid, IsView, IsViewed, PaysAll, PaysSome, costs_in, file_shape, kind_at, opening_cost, pass_cost_in, room_told, shape_by}
 use Rattle.mdmp_dump.specs.InFile.{dump_in, stream_named}
 use Rattle.mdmp_dump.specs.Left.{run_of}
 use Rattle.mdmp_dump.specs.Opening.{HasSpentOpening, opening_bound}
@@ -23,7 +23,7 @@ use Rattle.mdmp_dump.proofs.Moving.{content_before, entry_stays, opening_stays}
 use Rattle.mdmp_dump.proofs.Refusals.{none_told, opened_run}
 use Rattle.mdmp_dump.proofs.Taking.{FetchesSome_then}
 
-module _ (Z : Type 0) (source : SourceState) (window limit : ℕ) (choice : Choice) (w v : WalkState) (counts rooms : List ℕ) (opened : IsOpened source window choice w)
+module _ (Z : Type 0) (source : SourceState) (window limit : ℕ) (choice : Choice) (w v : WalkState) (counts rooms : List ℕ) (opened : IsOpenedWalk source window choice w)
     (opens : (F : List ℕ) → source.store.content ≡ Some F → directory_refusal F ≡ None) (sized : IsSizeOf w.source.store.content w.source.size) (bytes : IsOfBytes w.source.store.content)
     (pays : PaysAll counts w v) (counted : length counts ≡ length w.chosen) (roomed : length rooms ≡ length w.chosen) (going : v.failed ≡ None)
     (light : w.held < 2 ^ 64) (of_file : (F : List ℕ) → w.source.store.content ≡ Some F → AreWalked Z F limit w counts rooms) (bare : AreBare (kind_at w) counts rooms) where
@@ -63,7 +63,7 @@ module _ (Z : Type 0) (source : SourceState) (window limit : ℕ) (choice : Choi
   costs_same : opening_cost v counts ≡ opening_cost w counts
   costs_same = opening_stays w v pays.same counts
 
-  opened_paid : IsPaid v counts None 0 0
+  opened_paid : IsViewPaid v counts None 0 0
   opened_paid = record {
     bytes = λ low.
         let names : v.names + 1 < 2 ^ 128 = omega (arith, low, costs_same, pays.reached, opened.names) in
@@ -124,7 +124,7 @@ module _ (Z : Type 0) (source : SourceState) (window limit : ℕ) (choice : Choi
   view_fetches = FetchesSome_then source w.source v.source opened.fetches pays.same.fetches
 
 -- a refusal among the items is that of the file
-pub run_refused : (source : SourceState) (window limit : ℕ) (choice : Choice) (w : WalkState) → IsOpened source window choice w → (F : List ℕ) → source.store.content ≡ Some F → directory_refusal F ≡ None
+pub run_refused : (source : SourceState) (window limit : ℕ) (choice : Choice) (w : WalkState) → IsOpenedWalk source window choice w → (F : List ℕ) → source.store.content ≡ Some F → directory_refusal F ≡ None
     → (fault : ReadFault) → run_told F (run_of F limit w.chosen) ≡ Some fault → view_refusal F choice limit ≡ Some fault
 run_refused source window limit choice w opened F known opens fault refused =
     opened_run F choice limit opens ∙ ap (λ (xs : List Numbered). run_told F (run_of F limit xs)) (sym (opened.chosen_are F known)) ∙ refused
@@ -144,7 +144,7 @@ head_spent source left choice fault back = record {
 }
 
 -- a stream was, behind some others
-module _ (source : SourceState) (window : ℕ) (choice : Choice) (w v : WalkState) (opened : IsOpened source window choice w) (some : PaysSome w v) where
+module _ (source : SourceState) (window : ℕ) (choice : Choice) (w v : WalkState) (opened : IsOpenedWalk source window choice w) (some : PaysSome w v) where
   pub walk_spent : (left : SourceState) → left.fetched ≡ raised v.start (v.fetched + v.aside) → (v.names + 1 < 2 ^ 128 → v.fetched ≤ v.allowed) → HasSpentOpening choice source left
   walk_spent left booked most = record {
     entries = w.header.number_of_streams;

@@ -21,8 +21,8 @@ use Rattle.mdmp_lister.specs.declared.item.Item.{Item}
 use Rattle.mdmp_lister.specs.declared.item.Item.TheVariants as items
 use Rattle.mdmp_lister.specs.declared.item.RangeItem.{RangeItem}
 use Rattle.mdmp_lister.specs.declared.item.StreamItem.{StreamItem}
-use Rattle.mdmp_lister.specs.declared.kind.Kind.{Kind}
-use Rattle.mdmp_lister.specs.declared.kind.Kind.TheVariants as kinds
+use Rattle.mdmp_lister.specs.declared.kind.StreamKind.{StreamKind}
+use Rattle.mdmp_lister.specs.declared.kind.StreamKind.TheVariants as kinds
 use Rattle.mdmp_lister.specs.declared.meter.Amount.{Amount}
 use Rattle.mdmp_lister.specs.declared.meter.MeterCounts.{MeterCounts}
 use Rattle.mdmp_lister.specs.declared.name.Name.{Name}
@@ -54,7 +54,7 @@ use Rattle.mdmp_dump.specs.Reading.{IsLastTold, IsReadRefusal, store_fault}
 use Rattle.mdmp_dump.specs.Refusal.{item_steps}
 use Rattle.mdmp_dump.specs.Seen.{Seen}
 use Rattle.mdmp_dump.specs.Shape.{type_told}
-use Rattle.mdmp_dump.specs.Walking.{HasLeft, IsFar, IsKept, current_of, ended_with, left_by, left_of, state_of}
+use Rattle.mdmp_dump.specs.Walking.{HasLeft, IsFar, IsKept, current_entry, ended_with, left_by, records_to_give, state_of}
 use Rattle.mdmp_dump.proofs.EntryBegun.{last_told, left_begun, left_stopped, no_store_fault, own_store_fault, paid_by, plain_stream, walk_same}
 use Rattle.std.proofs.lemmas.Bool.Decides.{nat_tests}
 use Rattle.mdmp_dump.proofs.Laid.{range_inside}
@@ -67,17 +67,17 @@ use Rattle.mdmp_dump.proofs.Taking.{Fetches_only}
 
 pub names_or_none : (t : ℕ) → HasNoNames (kind_of t) ⊎ (name_cost t ≡ 4)
 names_or_none t = by (kind_of t) refl where
-  cost : (kind : Kind) → HasNoNames (Some kind) ⊎ (name_cost (type_of_kind kind) ≡ 4)
+  cost : (kind : StreamKind) → HasNoNames (Some kind) ⊎ (name_cost (type_of_kind kind) ≡ 4)
   cost kinds.Modules = inr refl
   cost kinds.System = inr refl
   cost kinds.Unloaded = inr refl
   cost kind = inl refl
 
-  of_type : (kind : Kind) → kind_of t ≡ Some kind → HasNoNames (Some kind) ⊎ (name_cost (type_of_kind kind) ≡ 4) → HasNoNames (kind_of t) ⊎ (name_cost t ≡ 4)
+  of_type : (kind : StreamKind) → kind_of t ≡ Some kind → HasNoNames (Some kind) ⊎ (name_cost (type_of_kind kind) ≡ 4) → HasNoNames (kind_of t) ⊎ (name_cost t ≡ 4)
   of_type kind is (inl none) = inl (rw is none)
   of_type kind is (inr some) = inr (ap name_cost (type_of-kind t kind is) ∙ some)
 
-  by : (kind : Option Kind) → kind_of t ≡ kind → HasNoNames (kind_of t) ⊎ (name_cost t ≡ 4)
+  by : (kind : Option StreamKind) → kind_of t ≡ kind → HasNoNames (kind_of t) ⊎ (name_cost t ≡ 4)
   by None is = inl (rw is tt)
   by (Some kind) is = of_type kind is (cost kind)
 
@@ -94,9 +94,9 @@ known_by t w is = ap kind_by (type_of-kind t (kind_told w) is) ∙ of_wire w whe
   of_wire (any.Unloaded r) = refl
   of_wire (any.MemoryInfo r) = refl
 
-pub far_by_type : (t : ℕ) (kind : Kind) → kind_of t ≡ Some kind → is_memory64 kind ≡ (t == 9)
+pub far_by_type : (t : ℕ) (kind : StreamKind) → kind_of t ≡ Some kind → is_memory64 kind ≡ (t == 9)
 far_by_type t kind is = of_kind kind ∙ ap (λ (n : ℕ). n == 9) (sym (type_of-kind t kind is)) where
-  of_kind : (kind : Kind) → is_memory64 kind ≡ (type_of_kind kind == 9)
+  of_kind : (kind : StreamKind) → is_memory64 kind ≡ (type_of_kind kind == 9)
   of_kind kinds.Memory64 = refl
   of_kind kind = refl
 
@@ -133,7 +133,7 @@ told_placed z few e k offset (any.Memory r) name = λ is. let all = extent_in r.
 told_placed z few e k offset (any.Memory64 r) name = λ is. let all = range_in offset r.data_size z is in (all.0, (omega (arith, all.1, few), omega (arith, all.1, few)))
 told_placed z few e k offset w name = tt
 
-pub record_placed : (z : ℕ) (kind : Option Kind) (item : Item) → z ≤ 2 ^ 64 - 1 → IsRecordOf z kind (plain item) → IsPlacedIn (2 ^ 64 - 1) item
+pub record_placed : (z : ℕ) (kind : Option StreamKind) (item : Item) → z ≤ 2 ^ 64 - 1 → IsRecordOf z kind (plain item) → IsPlacedIn (2 ^ 64 - 1) item
 record_placed z kind item few is =
     let range : (summary_of (plain item)).range ≡ (summary_of item).range = ap (λ (s : Summary). s.range) (summary_of-plain item) in
     subst (λ (r : Option RangeItem). IfSome r (IsRangeIn (2 ^ 64 - 1))) range
@@ -171,18 +171,18 @@ left_some passed (Some stop) records some = absurd (omega (arith, some))
 -- of a known file they have a shape
 pub record Counted (F : List ℕ) (e : Entry) (n : ℕ) : Type 0 where
   pub placed : location_fault (length F) e ≡ None
-  pub kind : Kind
+  pub kind : StreamKind
   pub known : kind_of e.stream_type ≡ Some kind
   pub shape : Shape
   pub shaped : shape_of F e.location.rva e.location.size kind ≡ Ok shape
   pub count : shape.count ≡ n
 
 module _ (F : List ℕ) (e : Entry) (n : ℕ) (some : 0 < n) where
-  counted_shape : (kind : Kind) → location_fault (length F) e ≡ None → kind_of e.stream_type ≡ Some kind → (r : Result Shape Fault) → shape_of F e.location.rva e.location.size kind ≡ r → records_in r ≡ Ok n → Counted F e n
+  counted_shape : (kind : StreamKind) → location_fault (length F) e ≡ None → kind_of e.stream_type ≡ Some kind → (r : Result Shape Fault) → shape_of F e.location.rva e.location.size kind ≡ r → records_in r ≡ Ok n → Counted F e n
   counted_shape kind placed known (Ok shape) shaped is = record { placed = placed; kind = kind; known = known; shape = shape; shaped = shaped; count = cc is }
   counted_shape kind placed known (Err f) shaped is = absurd (cc is)
 
-  counted_kind : location_fault (length F) e ≡ None → (kind : Option Kind) → kind_of e.stream_type ≡ kind → known_count F e.location.rva e.location.size kind ≡ Ok n → Counted F e n
+  counted_kind : location_fault (length F) e ≡ None → (kind : Option StreamKind) → kind_of e.stream_type ≡ kind → known_count F e.location.rva e.location.size kind ≡ Ok n → Counted F e n
   counted_kind placed (Some kind) known is = counted_shape kind placed known (shape_of F e.location.rva e.location.size kind) refl is
   counted_kind placed None known is = absurd (let none : 0 ≡ n = cc is in omega (arith, some, none))
 
@@ -203,7 +203,7 @@ name_refused : (F : List ℕ) (limit : ℕ) (rva : Option ℕ) (f : Fault) → n
 name_refused F limit None f is = absurd (cc is)
 name_refused F limit (Some rva) f is = refused_under F rva 0 limit f is
 
-item_refused : (F : List ℕ) (limit e k at o : ℕ) (kind : Kind) (f : Fault) → item_at F 0 e k at o kind ≡ Err f → item_at F limit e k at o kind ≡ Err f
+item_refused : (F : List ℕ) (limit e k at o : ℕ) (kind : StreamKind) (f : Fault) → item_at F 0 e k at o kind ≡ Err f → item_at F limit e k at o kind ≡ Err f
 item_refused F limit e k at o kind f is =
     let name = name_refused F limit (name_rva (record_at kind F o)) f (named_fault (name_of F 0 (name_rva (record_at kind F o))) (λ n. item_of (length F) e k (offset_in F at k kind) (record_at kind F o) n) f is) in
     ap (λ (r : Result Name Fault). named r (λ n. item_of (length F) e k (offset_in F at k kind) (record_at kind F o) n)) name
@@ -315,11 +315,11 @@ module _ (old new : WalkerState) (kept : IsKept old) (stays : Stays old new) whe
     more = stays.counts.more_names;
   }
 
-  pub current_same : current_of new.list ≡ current_of old.list
+  pub current_same : current_entry new.list ≡ current_entry old.list
   current_same = λ i. record { number = stays.passed i - 1; entry = stays.current i }
 
   -- it is kept where what is left is
-  pub kept_by : ((file : List ℕ) → new.list.source.store.content ≡ Some file → 0 < left_of new.list → HasLeft file new.list) → IsKept new
+  pub kept_by : ((file : List ℕ) → new.list.source.store.content ≡ Some file → 0 < records_to_give new.list → HasLeft file new.list) → IsKept new
   kept_by left = record {
     limit = stays.same.limit ∙ kept.limit;
     within = let more = stays.counts.more_names in omega (arith, mark_names, kept.within, more);
@@ -365,7 +365,7 @@ places_refused size (faults.Opening f) is = absurd is
 places_refused size (faults.List f) is = absurd is
 places_refused size fault is = tt
 
-module _ (old new : WalkerState) (kept : IsKept old) (left : 0 < left_of old.list) (item : Item) (leaves : WalkerLeaves old (Ok (Some item)) new) where
+module _ (old new : WalkerState) (kept : IsKept old) (left : 0 < records_to_give old.list) (item : Item) (leaves : WalkerLeaves old (Ok (Some item)) new) where
   went : ((summary_of item).stream ≡ None) × (old.list.records ≡ new.list.records + 1)
   went =
       let some = left_some old.list.passed old.list.stop old.list.records left in
@@ -374,7 +374,7 @@ module _ (old new : WalkerState) (kept : IsKept old) (left : 0 < left_of old.lis
   stays : Stays old new
   stays = stays_record old new item went.0 leaves
 
-  fewer_left : left_of old.list ≡ left_of new.list + 1
+  fewer_left : records_to_give old.list ≡ records_to_give new.list + 1
   fewer_left =
       let some = left_some old.list.passed old.list.stop old.list.records left in
       let same = stays.passed in
@@ -389,16 +389,16 @@ module _ (old new : WalkerState) (kept : IsKept old) (left : 0 < left_of old.lis
     had : HasLeft F old.list
     had = kept.of_file F known left
 
-    shaped : Counted F old.list.current (had.0 + left_of old.list)
-    shaped = counted F old.list.current (had.0 + left_of old.list) (omega (arith, left)) had.2.1
+    shaped : Counted F old.list.current (had.0 + records_to_give old.list)
+    shaped = counted F old.list.current (had.0 + records_to_give old.list) (omega (arith, left)) had.2.1
 
-    given : RowGiven F 0 (current_of old.list) had.0 had.1 shaped.kind (plain item)
-    given = row_given F 0 (current_of old.list) had.0 had.1 shaped.kind (plain item) shaped.known (no_stream item went.0) (gives (left_from F 0 (current_of old.list) had.0 had.1) had.2.0)
+    given : RowGiven F 0 (current_entry old.list) had.0 had.1 shaped.kind (plain item)
+    given = row_given F 0 (current_entry old.list) had.0 had.1 shaped.kind (plain item) shaped.known (no_stream item went.0) (gives (left_from F 0 (current_entry old.list) had.0 had.1) had.2.0)
 
     left_behind : HasLeft F new.list
     left_behind =
-        let rest : new.list.left ≡ Some (left_from F 0 (current_of old.list) (had.0 + 1) had.1) = leaves.list.left ∙ ap (option_map tail) had.2.0 ∙ ap Some given.rest in
-        let count : had.0 + left_of old.list ≡ had.0 + 1 + left_of new.list = omega (arith, fewer_left) in (
+        let rest : new.list.left ≡ Some (left_from F 0 (current_entry old.list) (had.0 + 1) had.1) = leaves.list.left ∙ ap (option_map tail) had.2.0 ∙ ap Some given.rest in
+        let count : had.0 + records_to_give old.list ≡ had.0 + 1 + records_to_give new.list = omega (arith, fewer_left) in (
           had.0 + 1,
           had.1,
           (
@@ -411,8 +411,8 @@ module _ (old new : WalkerState) (kept : IsKept old) (left : 0 < left_of old.lis
       abbrev offset : ℕ
       offset = old.list.current.location.rva + given.shape.first + had.0 * given.shape.stride
 
-      found : FindsRecord F limit (current_of old.list).number had.0 old.list.current.location.rva offset shaped.kind result × IfErr result IsOfRecord
-      found = finds (current_of old.list).number had.0 old.list.current.location.rva offset shaped.kind (far_by_type old.list.current.stream_type shaped.kind shaped.known ∙ sym is_far) given.is_item
+      found : FindsRecord F limit (current_entry old.list).number had.0 old.list.current.location.rva offset shaped.kind result × IfErr result IsOfRecord
+      found = finds (current_entry old.list).number had.0 old.list.current.location.rva offset shaped.kind (far_by_type old.list.current.stream_type shaped.kind shaped.known ∙ sym is_far) given.is_item
 
       found_next : FindsNext F limit (state_of old) result
       found_next = (
@@ -425,7 +425,7 @@ module _ (old new : WalkerState) (kept : IsKept old) (left : 0 < left_of old.lis
             kind_is = shaped.known;
             shape_is = given.shaped;
             within = given.within;
-            finds = row_found F (current_of old.list).number had.0 _ found.0.0 (seen_in shaped.kind F old.list.current.location.rva had.0 offset) result found.0.1.0 found.0.1.1;
+            finds = row_found F (current_entry old.list).number had.0 _ found.0.0 (seen_in shaped.kind F old.list.current.location.rva had.0 offset) result found.0.1.0 found.0.1.1;
           },
         ),
       )
@@ -493,8 +493,8 @@ module _ (old new : WalkerState) (kept : IsKept old) (left : 0 < left_of old.lis
 -- ---- a fault
 
 -- the next record is refused, or the store failed
-module _ (old new : WalkerState) (kept : IsKept old) (left : 0 < left_of old.list) (f : ListFault) (leaves : WalkerLeaves old (Err f) new) where
-  stopped : left_of new.list ≡ 0
+module _ (old new : WalkerState) (kept : IsKept old) (left : 0 < records_to_give old.list) (f : ListFault) (leaves : WalkerLeaves old (Err f) new) where
+  stopped : records_to_give new.list ≡ 0
   stopped = left_stopped new.list.passed new.list.stop (Some f) new.list.records leaves.list.stop
 
   pub kept_fault : IsKept new
@@ -511,12 +511,12 @@ module _ (old new : WalkerState) (kept : IsKept old) (left : 0 < left_of old.lis
         found = tt;
         of_file = λ F known.
             let had = kept.of_file F known left in
-            let shaped = counted F old.list.current (had.0 + left_of old.list) (omega (arith, left)) had.2.1 in (
+            let shaped = counted F old.list.current (had.0 + records_to_give old.list) (omega (arith, left)) had.2.1 in (
               had.0,
               (
                 had.2.1,
-                row_refused F limit (current_of old.list) had.0 had.1 (had.0 + left_of old.list) shaped (omega (arith, left)) f
-                    (gives (left_from F 0 (current_of old.list) had.0 had.1) had.2.0),
+                row_refused F limit (current_entry old.list) had.0 had.1 (had.0 + records_to_give old.list) shaped (omega (arith, left)) f
+                    (gives (left_from F 0 (current_entry old.list) had.0 had.1) had.2.0),
               ),
             );
         told = tt;

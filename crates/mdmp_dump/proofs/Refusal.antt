@@ -2,7 +2,7 @@
 use Rattle.std.proofs.Common.{◌≡◌, ◌∙◌, ◌+◌, ℕ, Bool, true, false, List, [], ◌∷◌, Option, Some, arith, ap, ap₂, refl, nat_lt, if◌then◌else◌, ltb-true, ltb-false, lt-ltb, le-ltb}
 use Rattle.mdmp_dump.specs.declared.fault.ReadFault.{ReadFault}
 use Rattle.mdmp_dump.specs.declared.fault.ReadFault.TheVariants as faults
-use Rattle.mdmp_dump.specs.Refusal.{Refuse, Step, Take, first_refusal}
+use Rattle.mdmp_dump.specs.Refusal.{Refuse, ReadStep, Take, first_refusal}
 
 module _ (spent limit : ℕ) where
   lt-moved_by : (total : ℕ) (b : Bool) → nat_lt limit total ≡ b → nat_lt (spent + limit) (spent + total) ≡ b
@@ -13,7 +13,7 @@ module _ (spent limit : ℕ) where
   lt-moved total = lt-moved_by total _ refl
 
   -- it is the same as with what is left of the limit and nothing spent
-  pub refusal_moved : (total : ℕ) (steps : List Step) (last : Option ReadFault)
+  pub refusal_moved : (total : ℕ) (steps : List ReadStep) (last : Option ReadFault)
       → first_refusal (spent + limit) (spent + total) steps last ≡ first_refusal limit total steps last
   unfolding first_refusal
   refusal_moved total [] last = refl

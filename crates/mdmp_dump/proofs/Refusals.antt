@@ -7,11 +7,11 @@ use Rattle.mdmp_lister.specs.declared.fault.ListFault.{ListFault}
 use Rattle.mdmp_lister.specs.declared.fault.OpenFault.{OpenFault}
 use Rattle.mdmp_lister.specs.declared.fault.OpenFault.TheVariants as opening
 use Rattle.mdmp_lister.specs.declared.item.Item.{Item}
-use Rattle.mdmp_lister.specs.declared.kind.Kind.{Kind}
+use Rattle.mdmp_lister.specs.declared.kind.StreamKind.{StreamKind}
 use Rattle.mdmp_lister.specs.declared.shape.Shape.{Shape}
 use Rattle.mdmp_lister.specs.Format.Item.{item_at}
 use Rattle.mdmp_lister.specs.Format.Kind.{kind_of}
-use Rattle.mdmp_lister.specs.Format.Listing.{Numbered, Run, body_of, chosen, count_listed, entry_listing, joined, list_fault, only_fault, records_told, stream_item, with_item}
+use Rattle.mdmp_lister.specs.Format.Listing.{Numbered, Run, entry_body, chosen, count_listed, entry_listing, joined, list_fault, only_fault, records_told, stream_item, with_item}
 use Rattle.mdmp_lister.specs.Format.Refusal.{directory_refusal}
 use Rattle.mdmp_lister.specs.Format.Shape.{known_count, location_fault, record_count, records_in, shape_of}
 use Rattle.mdmp_lister.specs.Opening.{IsBareRefusal}
@@ -23,7 +23,7 @@ use Rattle.mdmp_dump.specs.EntryWalk.{FindsRow, IsRowFound, no_entry}
 use Rattle.mdmp_dump.specs.FileRefusal.{IsOfWalk, IsViewRefusal, body_told, entry_told, first_told, opened_told, run_told, view_refusal}
 use Rattle.mdmp_dump.specs.Left.{body_from, records_from, run_of, shaped_from}
 use Rattle.mdmp_dump.specs.Reading.{IsOwn, IsReadRefusal, refusal_of}
-use Rattle.mdmp_dump.specs.Refusal.{Step, Refuse, Take, item_steps}
+use Rattle.mdmp_dump.specs.Refusal.{ReadStep, Refuse, Take, item_steps}
 use Rattle.mdmp_dump.specs.Seen.{Seen, nothing_seen}
 use Rattle.mdmp_dump.proofs.Left.{body_from-all, body_from-shaped}
 use Rattle.mdmp_dump.proofs.Unrefused.{IsQuiet, joined_quiet, told_last}
@@ -31,14 +31,14 @@ use Rattle.mdmp_dump.proofs.Unrefused.{IsQuiet, joined_quiet, told_last}
 -- ---- steps
 
 -- steps of which none is refused refuse nothing of what comes behind them
-pub told_behind : (xs ys : List Step) (last : Option ReadFault) → IsQuiet xs → first_told (xs ++ ys) last ≡ first_told ys last
+pub told_behind : (xs ys : List ReadStep) (last : Option ReadFault) → IsQuiet xs → first_told (xs ++ ys) last ≡ first_told ys last
 unfolding first_told
 told_behind [] ys last quiet = refl
 told_behind (Refuse fault ∷ xs) ys last quiet = absurd (cc quiet)
 told_behind (Take e k size ∷ xs) ys last quiet = told_behind xs ys last quiet
 
 -- and the first that is refused is the first of all
-pub told_before : (xs ys : List Step) (last : Option ReadFault) (fault : ReadFault) → first_told xs None ≡ Some fault → first_told (xs ++ ys) last ≡ Some fault
+pub told_before : (xs ys : List ReadStep) (last : Option ReadFault) (fault : ReadFault) → first_told xs None ≡ Some fault → first_told (xs ++ ys) last ≡ Some fault
 unfolding first_told
 told_before [] ys last fault told = absurd (cc told)
 told_before (Refuse other ∷ xs) ys last fault told = told
@@ -58,7 +58,7 @@ module _ (F : List ℕ) (next : Run) where
   passed_by : (items : List Item) (fault : Option ListFault) → run_told F (record { items = items; fault = fault }) ≡ None
       → run_told F (joined (record { items = items; fault = fault }) next) ≡ run_told F next
   passed_by items None none =
-      ap (λ (steps : List Step). first_told steps (option_map faults.List next.fault)) (flat_map-append (item_steps (length F)) items next.items)
+      ap (λ (steps : List ReadStep). first_told steps (option_map faults.List next.fault)) (flat_map-append (item_steps (length F)) items next.items)
       ∙ told_behind (flat_map (item_steps (length F)) items) (flat_map (item_steps (length F)) next.items) (option_map faults.List next.fault) none
   passed_by items (Some fault) none = absurd (told_last (flat_map (item_steps (length F)) items) (faults.List fault) none)
 
@@ -68,7 +68,7 @@ module _ (F : List ℕ) (next : Run) where
   refused_by : (items : List Item) (fault : Option ListFault) (told : ReadFault) → run_told F (record { items = items; fault = fault }) ≡ Some told
       → run_told F (joined (record { items = items; fault = fault }) next) ≡ Some told
   refused_by items None told is =
-      ap (λ (steps : List Step). first_told steps (option_map faults.List next.fault)) (flat_map-append (item_steps (length F)) items next.items)
+      ap (λ (steps : List ReadStep). first_told steps (option_map faults.List next.fault)) (flat_map-append (item_steps (length F)) items next.items)
       ∙ told_before (flat_map (item_steps (length F)) items) (flat_map (item_steps (length F)) next.items) (option_map faults.List next.fault) told is
   refused_by items (Some fault) told is = is
 
@@ -126,7 +126,7 @@ module _ (F : List ℕ) (x : Numbered) (n : ℕ) (counts : record_count F x.entr
   pub known_counted : known_count F x.entry.location.rva x.entry.location.size (kind_of x.entry.stream_type) ≡ Ok n
   known_counted = rw counted_placed at counts
 
-  module _ (kind : Kind) (shape : Shape) (known : kind_of x.entry.stream_type ≡ Some kind) (shaped : shape_of F x.entry.location.rva x.entry.location.size kind ≡ Ok shape) where
+  module _ (kind : StreamKind) (shape : Shape) (known : kind_of x.entry.stream_type ≡ Some kind) (shaped : shape_of F x.entry.location.rva x.entry.location.size kind ≡ Ok shape) where
     -- a stream of this shape has as many
     pub shape_counted : shape.count ≡ n
     shape_counted =
@@ -144,19 +144,19 @@ taken_quiet false e size = refl
 module _ (F : List ℕ) (limit : ℕ) (x : Numbered) where
   pub entry_begins : entry_told F limit x ≡ body_told F limit x 0
   entry_begins =
-      told_behind (item_steps (length F) (stream_item x)) (flat_map (item_steps (length F)) (body_of F limit x).items) (option_map faults.List (body_of F limit x).fault) (taken_quiet _ x.number x.entry.location.size)
+      told_behind (item_steps (length F) (stream_item x)) (flat_map (item_steps (length F)) (entry_body F limit x).items) (option_map faults.List (entry_body F limit x).fault) (taken_quiet _ x.number x.entry.location.size)
       ∙ ap (run_told F) (sym (body_from-all F limit x (location_fault (length F) x.entry) refl))
 
   -- ---- the fault in the place of its records
 
-  refused_by_shape : (kind : Kind) (shape : Result Shape Fault) (f : ListFault) → count_listed x.number (records_in shape) ≡ Err f
+  refused_by_shape : (kind : StreamKind) (shape : Result Shape Fault) (f : ListFault) → count_listed x.number (records_in shape) ≡ Err f
       → run_told F (shaped_from F limit x.number x.entry.location.rva kind 0 shape) ≡ Some (faults.List f)
   refused_by_shape kind (Ok shape) f is = absurd (cc is)
   refused_by_shape kind (Err fault) f is =
       let same : list_fault x.number None fault ≡ f = cc is in
       fault_first F (list_fault x.number None fault) ∙ ap (λ (told : ListFault). Some (faults.List told)) same
 
-  refused_by_kind : (kind : Option Kind) (f : ListFault) → count_listed x.number (known_count F x.entry.location.rva x.entry.location.size kind) ≡ Err f
+  refused_by_kind : (kind : Option StreamKind) (f : ListFault) → count_listed x.number (known_count F x.entry.location.rva x.entry.location.size kind) ≡ Err f
       → run_told F (records_from F limit x.number x.entry.location.rva x.entry.location.size 0 kind) ≡ Some (faults.List f)
   refused_by_kind (Some kind) f is = refused_by_shape kind (shape_of F x.entry.location.rva x.entry.location.size kind) f is
   refused_by_kind None f is = absurd (cc is)
@@ -184,7 +184,7 @@ module _ (F : List ℕ) (limit : ℕ) (x : Numbered) where
   -- ---- its records, one after the other
 
   module _ (n : ℕ) (counts : record_count F x.entry ≡ Ok n) where
-    module _ (kind : Kind) (shape : Shape) (known : kind_of x.entry.stream_type ≡ Some kind) (shaped : shape_of F x.entry.location.rva x.entry.location.size kind ≡ Ok shape) where
+    module _ (kind : StreamKind) (shape : Shape) (known : kind_of x.entry.stream_type ≡ Some kind) (shaped : shape_of F x.entry.location.rva x.entry.location.size kind ≡ Ok shape) where
       module _ (k : ℕ) (within : k < shape.count) where
         given_by : (item : Item) → item_at F limit x.number k x.entry.location.rva (x.entry.location.rva + shape.first + k * shape.stride) kind ≡ Ok item
             → body_from F limit x k ≡ with_item item (body_from F limit x (k + 1))
@@ -229,14 +229,14 @@ module _ (F : List ℕ) (limit : ℕ) (x : Numbered) where
       pub row_refused : (fault : ReadFault) → FindsRow F limit x k (Err fault) → (IsOwn fault → ⊥) → body_told F limit x k ≡ Some fault
       row_refused fault finds own = refused_item finds.kind finds.shape finds.kind_is finds.shape_is k finds.within nothing_seen fault _ refl finds.finds own
 
-    through_shape : (kind : Kind) (shape : Result Shape Fault) → records_in shape ≡ Ok n → run_told F (shaped_from F limit x.number x.entry.location.rva kind n shape) ≡ None
+    through_shape : (kind : StreamKind) (shape : Result Shape Fault) → records_in shape ≡ Ok n → run_told F (shaped_from F limit x.number x.entry.location.rva kind n shape) ≡ None
     through_shape kind (Ok shape) is =
         let count : shape.count ≡ n = cc is in
         let none : shape.count - n ≡ 0 = omega (arith, count) in
         rw none nothing_first
     through_shape kind (Err fault) is = absurd (cc is)
 
-    through_kind : (kind : Option Kind) → known_count F x.entry.location.rva x.entry.location.size kind ≡ Ok n
+    through_kind : (kind : Option StreamKind) → known_count F x.entry.location.rva x.entry.location.size kind ≡ Ok n
         → run_told F (records_from F limit x.number x.entry.location.rva x.entry.location.size n kind) ≡ None
     through_kind (Some kind) is = through_shape kind (shape_of F x.entry.location.rva x.entry.location.size kind) is
     through_kind None is = nothing_first

@@ -4,8 +4,8 @@ use Rattle.std.proofs.lemmas.List.{length-map, length-take}
 use Rattle.std.proofs.Common.{length-drop}
 use Rattle.mdmp_source.specs.Range.{bytes_at}
 use Rattle.mdmp_source.specs.Store.{AreBytes}
-use Rattle.mdmp_lister.specs.declared.kind.Kind.{Kind}
-use Rattle.mdmp_lister.specs.declared.kind.Kind.TheVariants as kinds
+use Rattle.mdmp_lister.specs.declared.kind.StreamKind.{StreamKind}
+use Rattle.mdmp_lister.specs.declared.kind.StreamKind.TheVariants as kinds
 use Rattle.mdmp_dump.specs.declared.found_record.FoundRecord.{FoundRecord}
 use Rattle.mdmp_dump.specs.declared.found_record.PartAt.{PartAt}
 use Rattle.mdmp_dump.specs.declared.view.Fields.{Fields}
@@ -76,7 +76,7 @@ sized : (s : Seen) → length (bytes_in s 0) ≡ size_in (size_at s.fields 0) �
     → IsSized (seen s.fields.wire (size_at s.fields 0 ∷ size_at s.fields 1 ∷ size_at s.fields 2 ∷ []) (bytes_in s 0 ∷ bytes_in s 1 ∷ bytes_in s 2 ∷ []))
 sized s first second third = three_sized s.fields.wire (size_at s.fields 0) (size_at s.fields 1) (size_at s.fields 2) (bytes_in s 0) (bytes_in s 1) (bytes_in s 2) first second third
 
-seen_sized : (kind : Kind) (F : List ℕ) (at k o : ℕ) → IsSized (seen_in kind F at k o)
+seen_sized : (kind : StreamKind) (F : List ℕ) (at k o : ℕ) → IsSized (seen_in kind F at k o)
 seen_sized kinds.Threads F at k o = let t = thread_in {Z = Unit {0}} F o in sized (thread_seen t) (part_sized t.stack) (part_sized t.context) refl
 seen_sized kinds.Modules F at k o = let m = module_in {Z = Unit {0}} F o in sized (module_seen m) (name_sized m.name) (part_sized m.codeview) (part_sized m.misc)
 seen_sized kinds.Memory F at k o = let m = memory_in {Z = Unit {0}} F o in sized (memory_seen m) (part_sized m.bytes) refl refl
@@ -86,7 +86,7 @@ seen_sized kinds.Memory64 F at k o = sized (memory64_seen (memory64_in {Z = Unit
 seen_sized kinds.Unloaded F at k o = let u = unloaded_in {Z = Unit {0}} F o in sized (unloaded_seen u) (name_sized u.name) refl refl
 seen_sized kinds.MemoryInfo F at k o = sized (memory_info_seen (memory_info_at F o)) refl refl refl
 
-seen_three : (kind : Kind) (F : List ℕ) (at k o : ℕ) → length (seen_in kind F at k o).fields.parts ≡ 3
+seen_three : (kind : StreamKind) (F : List ℕ) (at k o : ℕ) → length (seen_in kind F at k o).fields.parts ≡ 3
 seen_three kinds.Threads F at k o = refl
 seen_three kinds.Modules F at k o = refl
 seen_three kinds.Memory F at k o = refl
@@ -97,7 +97,7 @@ seen_three kinds.Unloaded F at k o = refl
 seen_three kinds.MemoryInfo F at k o = refl
 
 -- the parts of a record that was found in a file lie inside it
-pub seen_inside : (kind : Kind) (F : List ℕ) (at k o : ℕ) (f : FoundRecord) → AreBytes F → IsSeenAt F (seen_in kind F at k o) f → AreIn (length F) f.parts
+pub seen_inside : (kind : StreamKind) (F : List ℕ) (at k o : ℕ) (f : FoundRecord) → AreBytes F → IsSeenAt F (seen_in kind F at k o) f → AreIn (length F) f.parts
 seen_inside kind F at k o f fits is = (three, each) where
   three : length f.parts ≡ 3
   three = sym (length-map f.parts (λ p. p.size)) ∙ ap (λ (x : Fields). length x.parts) is.fields ∙ seen_three kind F at k o

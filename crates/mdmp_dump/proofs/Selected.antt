@@ -6,7 +6,7 @@ use Rattle.mdmp_lister.specs.Format.Listing.{Numbered, entries, is_chosen, only_
 use Rattle.mdmp_dump.specs.declared.dump.Stream.{Stream}
 use Rattle.mdmp_dump.specs.declared.dump.Dump.{Dump}
 use Rattle.mdmp_dump.specs.Value.{type_of, select}
-use Rattle.mdmp_dump.specs.LaysOut.{IsStream, AreStreams, LaysOut}
+use Rattle.mdmp_dump.specs.LaysOut.{NamesStream, AreStreams, LaysOut}
 
 all_chosen : (es : List Numbered) → only_chosen All es ≡ es
 unfolding only_chosen
@@ -15,7 +15,7 @@ all_chosen (e ∷ es) = ap (λ (ys : List Numbered). e ∷ ys) (all_chosen es)
 
 module _ {Z : Type 0} where
   -- the first of some entries and of their streams is chosen, or it is not, by two tests that agree
-  selected_first : (F : List ℕ) (b c : Bool) (e : Numbered) (s : Stream Z) (es : List Numbered) (ss : List (Stream Z)) → b ≡ c → IsStream F e.entry s → AreStreams F es ss → AreStreams F (if b then e ∷ es else es) (if c then s ∷ ss else ss)
+  selected_first : (F : List ℕ) (b c : Bool) (e : Numbered) (s : Stream Z) (es : List Numbered) (ss : List (Stream Z)) → b ≡ c → NamesStream F e.entry s → AreStreams F es ss → AreStreams F (if b then e ∷ es else es) (if c then s ∷ ss else ss)
   selected_first F true true e s es ss same first later = (first, later)
   selected_first F false false e s es ss same first later = later
   selected_first F true false e s es ss same first later = absurd (cc same)

@@ -15,24 +15,24 @@ use Rattle.mdmp_lister.specs.Lister.{ListerState, tail}
 use Rattle.mdmp_dump.specs.declared.fault.ReadFault.{ReadFault}
 use Rattle.mdmp_dump.specs.declared.fault.ReadFault.TheVariants as faults
 use Rattle.mdmp_lister.specs.declared.item.Item.TheVariants as items
-use Rattle.mdmp_lister.specs.declared.kind.Kind.{Kind}
+use Rattle.mdmp_lister.specs.declared.kind.StreamKind.{StreamKind}
 use Rattle.mdmp_lister.specs.Format.Classes.{IsStream as IsStreamItem}
 use Rattle.mdmp_lister.specs.Format.Kind.{kind_of}
 use Rattle.mdmp_dump.specs.declared.reader.Reader.{Reader}
 use Rattle.mdmp_dump.specs.declared.reader.Told.{Told}
 use Rattle.mdmp_dump.specs.declared.reader.Told.TheVariants as tolds
-use Rattle.mdmp_dump.specs.declared.row.Found.{Found}
-use Rattle.mdmp_dump.specs.Left.{IsGiven, IsThrough, RowGiven, left_from, run_of}
-use Rattle.mdmp_dump.specs.Reading.{AreRows, HasOneRecord, IsFound, IsLeftBehind, IsNextStream, IsOwn, NoRowFirst, IsRecordFound, IsRow, IsRowRead, IsToldOf, Takes, Settles, name_steps_of, owed, refusal_found, refusal_in, store_fault_in}
+use Rattle.mdmp_dump.specs.declared.row.ToldRecord.{ToldRecord}
+use Rattle.mdmp_dump.specs.Left.{IsGiven, AreAllGiven, RowGiven, left_from, run_of}
+use Rattle.mdmp_dump.specs.Reading.{AreRows, HasOneRecord, IsFoundOrBehind, IsLeftBehind, IsNextStream, IsOwn, NoRowFirst, IsRecordFound, IsRow, IsRowRead, IsToldOf, TakesSteps, Settles, name_steps_of, owed, refusal_found, refusal_in, store_fault_in}
 use Rattle.mdmp_dump.specs.LaysOut.{HasRecords}
-use Rattle.mdmp_dump.specs.Telling.{Tells}
+use Rattle.mdmp_dump.specs.Telling.{ItemTells}
 use Rattle.mdmp_lister.specs.declared.shape.Shape.{Shape}
 use Rattle.mdmp_lister.proofs.Heads.{listed-inside}
 use Rattle.mdmp_dump.proofs.Budget.{inside_is}
 use Rattle.mdmp_dump.proofs.More.{each_more}
 use Rattle.mdmp_dump.proofs.Left.{all_given, no_row_first, row_given, stream_given}
 use Rattle.mdmp_dump.proofs.Refusal.{refusal-end}
-use Rattle.mdmp_dump.specs.Refusal.{Refuse, Step, first_refusal, item_steps}
+use Rattle.mdmp_dump.specs.Refusal.{Refuse, ReadStep, first_refusal, item_steps}
 
 not-of-store : (kind : FaultKind) → (((told : SourceFault) × (store_fault_in kind ≡ Some told)) → ⊥) → IsOfSource kind → ⊥
 not-of-store (Source fault) own is = own (fault, refl)
@@ -69,12 +69,12 @@ end-given file limit x k xs none =
 
 -- ---- a record
 
-refused-by : (fault : ReadFault) (left : ℕ) (steps : List Step) (last : Option ReadFault) → first_refusal left 0 (Refuse fault ∷ steps) last ≡ Some fault
+refused-by : (fault : ReadFault) (left : ℕ) (steps : List ReadStep) (last : Option ReadFault) → first_refusal left 0 (Refuse fault ∷ steps) last ≡ Some fault
 unfolding first_refusal
 refused-by fault left steps last = refl
 
-module _ {X : Type 0} (file : List ℕ) (limit : ℕ) (x : Numbered) (k : ℕ) (xs : List Numbered) (kind : Kind) (told : Item → Option (Found X))
-    (steps : ℕ → Found X → List Step) (law : Tells kind told steps) (known : kind_of x.entry.stream_type ≡ Some kind) (left : ℕ)
+module _ {X : Type 0} (file : List ℕ) (limit : ℕ) (x : Numbered) (k : ℕ) (xs : List Numbered) (kind : StreamKind) (told : Item → Option (ToldRecord X))
+    (steps : ℕ → ToldRecord X → List ReadStep) (law : ItemTells kind told steps) (known : kind_of x.entry.stream_type ≡ Some kind) (left : ℕ)
     (item : Item) (first : slice_get (left_from file limit x k xs).items 0 ≡ Some item) where
   abbrev pub run_first : Run
   run_first = left_from file limit x k xs
@@ -82,19 +82,19 @@ module _ {X : Type 0} (file : List ℕ) (limit : ℕ) (x : Numbered) (k : ℕ) (
   given : (IsStreamItem item → ⊥) → RowGiven file limit x k xs kind item
   given other = row_given file limit x k xs kind item known other first
 
-  told_by : (other : IsStreamItem item → ⊥) → (found : Found X) × ((told item ≡ Some found) × (item_steps (length file) item ≡ name_steps_of item ++ steps (length file) found))
+  told_by : (other : IsStreamItem item → ⊥) → (found : ToldRecord X) × ((told item ≡ Some found) × (item_steps (length file) item ≡ name_steps_of item ++ steps (length file) found))
   told_by other = law file limit x.number k x.entry.location.rva _ item (given other).is_item
 
   -- what the first item tells is found, and what it asks is owed
   pub found-given : {Z : Type 0} (result : Result (Told X Z) ReadFault) → IsToldOf told item result
-      → IfOk result (λ t. IsFound file limit x k xs kind told t (Some (tail run_first)))
+      → IfOk result (λ t. IsFoundOrBehind file limit x k xs kind told t (Some (tail run_first)))
       × Settles (owed file left None (Some run_first)) result (λ t. refusal_found file left steps t (Some (tail run_first)))
   found-given (Ok (tolds.Record found name)) is =
       let by = told_by is.0 in
       let same : by.0 ≡ found = let e : Some by.0 ≡ Some found = sym by.1.0 ∙ is.1.0 in cc e in
       let asked : item_steps (length file) item ≡ steps (length file) found = by.1.1 ∙ (rw (is.1.1.0, same) refl) in (
         record { item = item; given = given is.0; told = is.1.0; named = is.1.1.1; rest = ap (λ (r : Run). Some r) (given is.0).rest },
-        item-owed file left run_first item first ∙ ap (λ (s : List Step). refusal_in file left s (Some (tail run_first))) asked,
+        item-owed file left run_first item first ∙ ap (λ (s : List ReadStep). refusal_in file left s (Some (tail run_first))) asked,
       )
   found-given (Ok (tolds.Behind (Some stream))) is =
       let at : slice_get run_first.items 0 ≡ Some (items.Stream stream) = first ∙ ap (λ (i : Item). Some i) is in
@@ -108,25 +108,25 @@ module _ {X : Type 0} (file : List ℕ) (limit : ℕ) (x : Numbered) (k : ℕ) (
     settled faults.Memory is own = absurd (own tt)
     settled fault is own =
         let by = told_by is.0 in
-        let asked : item_steps (length file) item ≡ Refuse fault ∷ steps (length file) by.0 = by.1.1 ∙ ap (λ (s : List Step). s ++ steps (length file) by.0) is.1 in
+        let asked : item_steps (length file) item ≡ Refuse fault ∷ steps (length file) by.0 = by.1.1 ∙ ap (λ (s : List ReadStep). s ++ steps (length file) by.0) is.1 in
         item-owed file left run_first item first ∙ (rw asked (refused-by fault left _ _))
 
 -- ---- its parts
 
-module _ {S A X T : Type 0} (file : List ℕ) (limit : ℕ) (x : Numbered) (k : ℕ) (xs : List Numbered) (kind : Kind) (told : Item → Option (Found X))
-    (steps : ℕ → Found X → List Step) (IsAt : List ℕ → ℕ → ℕ → ℕ → T → Type 0) (old : Option ReadFault) (mid : Reader S A) (found : Found X) (name : Option (List ℕ))
+module _ {S A X T : Type 0} (file : List ℕ) (limit : ℕ) (x : Numbered) (k : ℕ) (xs : List Numbered) (kind : StreamKind) (told : Item → Option (ToldRecord X))
+    (steps : ℕ → ToldRecord X → List ReadStep) (IsAt : List ℕ → ℕ → ℕ → ℕ → T → Type 0) (old : Option ReadFault) (mid : Reader S A) (found : ToldRecord X) (name : Option (List ℕ))
     (is : IsRecordFound file limit x k xs kind told found name mid.lister.left) (owes : old ≡ refusal_in file mid.left (steps (length file) found) mid.lister.left)
     (size : mid.lister.source.size ≡ length file) (known : mid.lister.source.store.content ≡ Some file) (new : Reader S A) where
   abbrev left_behind : Run
   left_behind = left_from file limit x (k + 1) xs
 
-  settled : {result : Result T ReadFault} → Takes (steps mid.lister.source.size found) mid result new → Settles old result (λ _. owed file new.left None (Some left_behind))
+  settled : {result : Result T ReadFault} → TakesSteps (steps mid.lister.source.size found) mid result new → Settles old result (λ _. owed file new.left None (Some left_behind))
   settled {result = result} takes =
-      let at_size = subst (λ (z : ℕ). (rest : List Step) (last : Option ReadFault) → Settles (first_refusal mid.left 0 (steps z found ++ rest) last) result (λ _. first_refusal new.left 0 rest last)) size takes.settles in
+      let at_size = subst (λ (z : ℕ). (rest : List ReadStep) (last : Option ReadFault) → Settles (first_refusal mid.left 0 (steps z found ++ rest) last) result (λ _. first_refusal new.left 0 rest last)) size takes.settles in
       let same : old ≡ first_refusal mid.left 0 (steps (length file) found ++ flat_map (item_steps (length file)) left_behind.items) (option_map faults.List left_behind.fault) = owes ∙ (rw is.rest refl) in
       subst (λ (o : Option ReadFault). Settles o result (λ _. owed file new.left None (Some left_behind))) (sym same) (at_size _ _)
 
-  left-read : {result : Result T ReadFault} → Takes (steps mid.lister.source.size found) mid result new → new.lister.left ≡ Some left_behind
+  left-read : {result : Result T ReadFault} → TakesSteps (steps mid.lister.source.size found) mid result new → new.lister.left ≡ Some left_behind
   left-read takes = ap (λ (l : ListerState). l.left) takes.same ∙ is.rest
 
   -- the row is that of the record, and the next one stands behind it
@@ -143,7 +143,7 @@ module _ {S A X T : Type 0} (file : List ℕ) (limit : ℕ) (x : Numbered) (k : 
 
 -- ---- all records of an entry
 
-module _ {T : Type 0} (file : List ℕ) (x : Numbered) (kind : Kind) (IsAt : ℕ → ℕ → T → Type 0) where
+module _ {T : Type 0} (file : List ℕ) (x : Numbered) (kind : StreamKind) (IsAt : ℕ → ℕ → T → Type 0) where
   pub rows-none : AreRows file x kind IsAt []
   rows-none shape shaped = (omega arith, tt)
 
@@ -161,7 +161,7 @@ module _ {T : Type 0} (file : List ℕ) (x : Numbered) (kind : Kind) (IsAt : ℕ
   pub rows-all : (rows : List T) → kind_of x.entry.stream_type ≡ Some kind → AreRows file x kind IsAt rows → IsGiven file x (length rows)
       → HasRecords file x.entry.location kind IsAt rows
   rows-all rows known are given =
-      let through = subst (λ (k : Option Kind). IsThrough file x (length rows) k) known given.through in
+      let through = subst (λ (k : Option StreamKind). AreAllGiven file x (length rows) k) known given.through in
       let each = are through.0 through.1.0 in
       record {
         inside = inside_is file x.entry.location.rva x.entry.location.size (length file) (listed-inside (length file) x.entry kind given.placed known) refl;
@@ -173,7 +173,7 @@ module _ {T : Type 0} (file : List ℕ) (x : Numbered) (kind : Kind) (IsAt : ℕ
 
 -- ---- behind the last record
 
-module _ (file : List ℕ) (limit : ℕ) (x : Numbered) (k : ℕ) (xs : List Numbered) (kind : Kind) (known : kind_of x.entry.stream_type ≡ Some kind)
+module _ (file : List ℕ) (limit : ℕ) (x : Numbered) (k : ℕ) (xs : List Numbered) (kind : StreamKind) (known : kind_of x.entry.stream_type ≡ Some kind)
     (shape : Shape) (shaped : shape_of file x.entry.location.rva x.entry.location.size kind ≡ Ok shape) (all : shape.count ≤ k) where
   no-row-by : (item : Item) (outside : Option Fault) → location_fault (length file) x.entry ≡ outside
       → slice_get (left_from file limit x k xs).items 0 ≡ Some item → IsStreamItem item
@@ -201,7 +201,7 @@ behind-given file limit x k xs None new gives =
     (all.0, (left_from file limit x k xs, (gives.1, (all.1, gives.0))))
 
 -- the one record of an entry, and what stands behind it
-module _ {T : Type 0} (file : List ℕ) (limit : ℕ) (x : Numbered) (xs : List Numbered) (kind : Kind) (IsAt : ℕ → ℕ → T → Type 0)
+module _ {T : Type 0} (file : List ℕ) (limit : ℕ) (x : Numbered) (xs : List Numbered) (kind : StreamKind) (IsAt : ℕ → ℕ → T → Type 0)
     (known : kind_of x.entry.stream_type ≡ Some kind) (one : HasOneRecord file x kind) (row : T) (is : IsRow file x kind IsAt 0 row) where
   pub no-row-after-one : NoRowFirst (left_from file limit x 1 xs)
   no-row-after-one = no-row-after file limit x 1 xs kind known is.0 is.1.0 (omega (arith, one is.0 is.1.0))

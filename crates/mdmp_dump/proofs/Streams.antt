@@ -8,8 +8,8 @@ use Rattle.mdmp_source.specs.declared.location.Location.{Location}
 use Rattle.mdmp_lister.specs.declared.fault.Fault.{Fault}
 use Rattle.mdmp_lister.specs.declared.item.Item.{Item}
 use Rattle.mdmp_lister.specs.declared.item.StreamItem.{StreamItem}
-use Rattle.mdmp_lister.specs.declared.kind.Kind.{Kind}
-use Rattle.mdmp_lister.specs.declared.kind.Kind.TheVariants as kinds
+use Rattle.mdmp_lister.specs.declared.kind.StreamKind.{StreamKind}
+use Rattle.mdmp_lister.specs.declared.kind.StreamKind.TheVariants as kinds
 use Rattle.mdmp_lister.specs.declared.shape.Shape.{Shape}
 use Rattle.mdmp_wire.specs.declared.entry.Entry.{Entry}
 use Rattle.mdmp_lister.specs.Format.Classes.{IsStream as IsStreamItem}
@@ -23,8 +23,8 @@ use Rattle.mdmp_dump.specs.declared.dump.Stream.TheVariants as streams
 use Rattle.mdmp_dump.specs.declared.reader.Reader.{Reader}
 use Rattle.mdmp_dump.specs.LaysOut.{HasBytes}
 use Rattle.mdmp_dump.specs.Left.{is_item_of, left_from, run_of}
-use Rattle.mdmp_dump.specs.Reading.{HasBytesAt, HasOneRecord, IsEntryRead, IsLeftBehind, IsNextStream, IsOneStream, IsRaw, NoRowFirst, Settles, Takes, owed, refusal_in}
-use Rattle.mdmp_dump.specs.Refusal.{Step, Take, first_refusal, stream_steps}
+use Rattle.mdmp_dump.specs.Reading.{HasBytesAt, HasOneRecord, IsEntryRead, IsLeftBehind, IsNextStream, IsOneStream, IsRaw, NoRowFirst, Settles, TakesSteps, owed, refusal_in}
+use Rattle.mdmp_dump.specs.Refusal.{ReadStep, Take, first_refusal, stream_steps}
 use Rattle.mdmp_dump.proofs.Taking.{FetchesSome_none}
 use Rattle.mdmp_dump.proofs.Left.{all_given, no_row_first, stream_given}
 
@@ -63,7 +63,7 @@ RawValue F item stream = (bytes : List ℕ) × ((stream ≡ Some (streams.Raw it
 pub record RawTaken {S A Z : Type 0} (old : Reader S A) (item : StreamItem) (stream : Option (Stream Z)) (new : Reader S A) : Type 0 where
   pub same : new.lister ≡ record old.lister { source = new.lister.source; counts = new.lister.counts }
   pub fetches : FetchesSome old.lister.source new.lister.source
-  pub settles : (F : List ℕ) → old.lister.source.store.content ≡ Some F → IsRaw item.stream_type → (rest : List Step) (last : Option ReadFault)
+  pub settles : (F : List ℕ) → old.lister.source.store.content ≡ Some F → IsRaw item.stream_type → (rest : List ReadStep) (last : Option ReadFault)
       → first_refusal old.left 0 (stream_steps (length F) item.entry item.stream_type item.location ++ rest) last ≡ first_refusal new.left 0 rest last
   pub value : (F : List ℕ) → old.lister.source.store.content ≡ Some F → IsRaw item.stream_type → IsTrue (is_inside item.location.rva item.location.size (length F))
       → RawValue F item stream
@@ -71,7 +71,7 @@ pub record RawTaken {S A Z : Type 0} (old : Reader S A) (item : StreamItem) (str
 raw_steps : (size e t : ℕ) (at : Location) (b : Bool) → IsRaw t → is_inside at.rva at.size size ≡ b → stream_steps size e t at ≡ (if b then Take e 0 at.size ∷ [] else [])
 raw_steps size e t at b raw is =
     ap (λ (z : Bool). if not z && not (is_known t) && is_inside at.rva at.size size then Take e 0 at.size ∷ [] else []) raw.0
-    ∙ ap (λ (k : Option Kind). if not (is_some k) && is_inside at.rva at.size size then Take e 0 at.size ∷ [] else []) raw.1
+    ∙ ap (λ (k : Option StreamKind). if not (is_some k) && is_inside at.rva at.size size then Take e 0 at.size ∷ [] else []) raw.1
     ∙ ap (λ (z : Bool). if z then Take e 0 at.size ∷ [] else []) is
 
 sized : (F : List ℕ) (content : Option (List ℕ)) (size : ℕ) → content ≡ Some F → IsSizeOf content size → size ≡ length F
@@ -85,14 +85,14 @@ module _ {S A : Type 0} (old : Reader S A) (item : StreamItem) (size : ℕ) (is_
       raw_steps (length F) item.entry item.stream_type item.location b raw (ap (is_inside item.location.rva item.location.size) (sym same) ∙ is)
 
   raw_inside : {Z : Type 0} (bytes : List ℕ) (new : Reader S A) → is_inside item.location.rva item.location.size size ≡ true
-      → Takes (Take item.entry 0 item.location.size ∷ []) old (Ok bytes) new
+      → TakesSteps (Take item.entry 0 item.location.size ∷ []) old (Ok bytes) new
       → ((F : List ℕ) → old.lister.source.store.content ≡ Some F → HasBytesAt F item.location.rva item.location.size bytes)
       → RawTaken {Z = Z} old item (Some (streams.Raw item.stream_type bytes)) new
   raw_inside {Z} bytes new inside takes has = record {
     same = takes.same;
     fetches = takes.fetches.fetches;
     settles = λ F known raw rest last.
-        ap (λ (steps : List Step). first_refusal old.left 0 (steps ++ rest) last) (steps_by true inside F known raw) ∙ takes.settles rest last;
+        ap (λ (steps : List ReadStep). first_refusal old.left 0 (steps ++ rest) last) (steps_by true inside F known raw) ∙ takes.settles rest last;
     value = λ F known raw within.
         let is = has F known in
         (bytes, (refl, record { used = raw.0; opaque = raw.1; inside = within; bytes_are = is.same }));
@@ -102,7 +102,7 @@ module _ {S A : Type 0} (old : Reader S A) (item : StreamItem) (size : ℕ) (is_
   raw_outside {Z} outside = record {
     same = refl;
     fetches = FetchesSome_none old.lister.source;
-    settles = λ F known raw rest last. ap (λ (steps : List Step). first_refusal old.left 0 (steps ++ rest) last) (steps_by false outside F known raw);
+    settles = λ F known raw rest last. ap (λ (steps : List ReadStep). first_refusal old.left 0 (steps ++ rest) last) (steps_by false outside F known raw);
     value = λ F known raw within.
         let same : size ≡ length F = sized F old.lister.source.store.content size known is_size in
         let not : is_inside item.location.rva item.location.size (length F) ≡ false = ap (is_inside item.location.rva item.location.size) (sym same) ∙ outside in
@@ -110,7 +110,7 @@ module _ {S A : Type 0} (old : Reader S A) (item : StreamItem) (size : ℕ) (is_
   }
 
   module _ {Z : Type 0} (at len : ℕ) (at_is : at ≡ item.location.rva) (len_is : len ≡ item.location.size) (stream : Option (Stream Z)) (reader : Reader S A) where
-    pub raw_taken : (bytes : List ℕ) (new : Reader S A) → is_inside at len size ≡ true → Takes (Take item.entry 0 len ∷ []) old (Ok bytes) new
+    pub raw_taken : (bytes : List ℕ) (new : Reader S A) → is_inside at len size ≡ true → TakesSteps (Take item.entry 0 len ∷ []) old (Ok bytes) new
         → ((F : List ℕ) → old.lister.source.store.content ≡ Some F → HasBytesAt F at len bytes)
         → reader ≡ new → stream ≡ Some (streams.Raw item.stream_type bytes) → RawTaken old item stream reader
     raw_taken bytes new inside takes has same is =
@@ -174,14 +174,14 @@ module _ {S A : Type 0} (old : Reader S A) (item : StreamItem) (n : ℕ) (type_i
   owed_unasked : (F : List ℕ) → owed F old.left (Some item) old.lister.left ≡ owed F old.left None old.lister.left
   owed_unasked F =
       let none = ap (λ (t : ℕ). stream_steps (length F) item.entry t item.location) type_is ∙ unasked (length F) item.entry item.location in
-      ap (λ (steps : List Step). refusal_in F old.left steps old.lister.left) none
+      ap (λ (steps : List ReadStep). refusal_in F old.left steps old.lister.left) none
 
 type_of_entry : (item : StreamItem) (n : ℕ) → item.stream_type ≡ n → (x : Numbered) → item ≡ is_item_of x → x.entry.stream_type ≡ n
 type_of_entry item n type_is x is = sym (ap (λ (i : StreamItem). i.stream_type) is) ∙ type_is
 
 -- an entry was read, of a type whose Stream item asks nothing
 module _ {S A V Z : Type 0} (old new : Reader S A) (item : StreamItem) (n : ℕ) (type_is : item.stream_type ≡ n) (unasked : (size e : ℕ) (at : Location) → stream_steps size e n at ≡ [])
-    (kind : Kind) (kind_is : kind_of n ≡ Some kind) (IsValue : List ℕ → Location → V → Type 0) where
+    (kind : StreamKind) (kind_is : kind_of n ≡ Some kind) (IsValue : List ℕ → Location → V → Type 0) where
   pub stream_read : (value : V) (stream : Option (Stream Z)) (next : Option StreamItem)
       → ((F : List ℕ) (e : Entry) → e.stream_type ≡ n → IsValue F e.location value → IsOneStream F e stream)
       → ((F : List ℕ) (limit : ℕ) (x : Numbered) (xs : List Numbered) → old.lister.source.store.content ≡ Some F → old.lister.left ≡ Some (left_from F limit x 0 xs)
@@ -212,7 +212,7 @@ one_by : (short : Bool) (f : Fault) (size : ℕ) (shape : Shape) → (if short t
 one_by true f size shape is = absurd (cc)
 one_by false f size shape is = let same : record { first = 0; stride = size; count = 1 } ≡ shape = cc in sym (ap (λ (s : Shape). s.count) same)
 
-pub one_single : (F : List ℕ) (x : Numbered) (kind : Kind) → form_of kind ≡ form_of kinds.System → HasOneRecord F x kind
+pub one_single : (F : List ℕ) (x : Numbered) (kind : StreamKind) → form_of kind ≡ form_of kinds.System → HasOneRecord F x kind
 unfolding shape_of
 one_single F x kind form shape is = one_by _ _ _ shape (rw form at is)
 

@@ -6,12 +6,12 @@ use Rattle.mdmp_dump.specs.declared.dump.Stream.{Stream}
 use Rattle.mdmp_dump.specs.declared.pass.Pass.{Pass}
 use Rattle.mdmp_dump.specs.declared.found_record.FoundRecord.{FoundRecord}
 use Rattle.mdmp_dump.specs.declared.view.Fields.{Fields}
-use Rattle.mdmp_dump.specs.EntryWalk.{FindsRow, GivesNext, WalkState, entry_at, no_entry}
+use Rattle.mdmp_dump.specs.EntryWalk.{FindsRow, GivesNext, WalkState, chosen_entry, no_entry}
 use Rattle.mdmp_dump.specs.FileView.{IsPass, IsPassOf, cursor_by, greatest, met_told, pass_cursor, room_told, stream_of}
 use Rattle.mdmp_dump.specs.FoundRecord.{fields_of}
 use Rattle.mdmp_dump.specs.InFile.{stream_named}
 use Rattle.mdmp_dump.specs.Placed.{far_room, fields_room}
-use Rattle.mdmp_dump.specs.Shape.{GivesRecord, parts_at, record_at, sizes_at, told, value_cursor}
+use Rattle.mdmp_dump.specs.Shape.{GivesRecord, parts_at, seen_record, sizes_at, told, value_cursor}
 use Rattle.mdmp_dump.specs.View.{kind_in, records_seen}
 use Rattle.mdmp_dump.proofs.FaultsTold.{next_row}
 use Rattle.mdmp_dump.proofs.FileViews.{takes_record}
@@ -32,37 +32,37 @@ module _ (Z : Type 0) (w v : WalkState) (limit : ℕ) (p : Pass) (passing : IsPa
     pass : IsPassOf Z F limit w p
     pass = of_file F known
 
-    row : FindsRow F limit (entry_at w p.stream) p.given (Ok f)
+    row : FindsRow F limit (chosen_entry w p.stream) p.given (Ok f)
     row = next_row Z w v limit p passing going unfailed of_file (Ok f) gives F known
 
-    fields : g ≡ (record_at seen p.given).fields
-    fields = same ∙ (row_seen Z F (entry_at w p.stream) (p.given + p.left) pass.counted limit p.given f row).fields
+    fields : g ≡ (seen_record seen p.given).fields
+    fields = same ∙ (row_seen Z F (chosen_entry w p.stream) (p.given + p.left) pass.counted limit p.given f row).fields
 
     inside : p.given < length (records_seen seen)
-    inside = omega (arith, going, records_are Z F (entry_at w p.stream) (p.given + p.left) pass.counted)
+    inside = omega (arith, going, records_are Z F (chosen_entry w p.stream) (p.given + p.left) pass.counted)
 
     met_is : met ≡ met_told seen (p.given + 1)
-    met_is = rooms_step Z F (entry_at w p.stream) (p.given + p.left) pass.counted p.given p.met met (omega (arith, going)) pass.met
+    met_is = rooms_step Z F (chosen_entry w p.stream) (p.given + p.left) pass.counted p.given p.met met (omega (arith, going)) pass.met
         (subst (λ (h : Fields). met ≡ told (told (p.met + fields_room h) + far_room h)) fields sum)
 
     pub met_within : met ≤ p.room
     met_within = (let h = rooms_within (kind_in seen) (records_seen seen) (p.given + 1) in omega (arith, met_is, h, pass.room))
 
     pub met_whole : p.left ≡ 1 → met ≡ p.room
-    met_whole last = met_is ∙ ap told (rooms_all (kind_in seen) (records_seen seen) (p.given + 1) (omega (arith, last, records_are Z F (entry_at w p.stream) (p.given + p.left) pass.counted))) ∙ sym pass.room
+    met_whole last = met_is ∙ ap told (rooms_all (kind_in seen) (records_seen seen) (p.given + 1) (omega (arith, last, records_are Z F (chosen_entry w p.stream) (p.given + p.left) pass.counted))) ∙ sym pass.room
 
   -- ---- the pass behind it
 
   module _ (q : Pass) (stream : q.stream ≡ p.stream) (given : q.given ≡ p.given + 1) (left : p.left ≡ q.left + 1) (room : q.room ≡ p.room) (parts : q.parts ≡ f.parts) (met_same : q.met ≡ met) where
-    entry_same : entry_at v q.stream ≡ entry_at w p.stream
-    entry_same = ap (λ (xs : List Numbered). get_or xs q.stream no_entry) gives.pays.same.chosen ∙ ap (entry_at w) stream
+    entry_same : chosen_entry v q.stream ≡ chosen_entry w p.stream
+    entry_same = ap (λ (xs : List Numbered). get_or xs q.stream no_entry) gives.pays.same.chosen ∙ ap (chosen_entry w) stream
 
     seen_same : (F : List ℕ) → stream_of {Z = Z} F v q.stream ≡ stream_of {Z = Z} F w p.stream
     seen_same F = ap (λ (x : Numbered). stream_named {Z = Z} F x.entry) entry_same
 
     pub pass_behind : (F : List ℕ) → w.source.store.content ≡ Some F → IsPassOf Z F limit v q
     pass_behind F known =
-        let x = entry_at w p.stream in
+        let x = chosen_entry w p.stream in
         let n = p.given + p.left in
         let is = pass F known in
         let n_same : p.given + p.left ≡ q.given + q.left = omega (arith, given, left) in

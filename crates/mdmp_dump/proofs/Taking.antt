@@ -8,7 +8,7 @@ use Rattle.mdmp_wire.specs.declared.entry.Entry.{Entry}
 use Rattle.mdmp_lister.specs.declared.fault.FaultKind.{FaultKind}
 use Rattle.mdmp_lister.specs.declared.fault.FaultKind.TheVariants as kinds
 use Rattle.mdmp_lister.specs.declared.fault.ListFault.{ListFault}
-use Rattle.mdmp_lister.specs.Fault.{IsOfSource, IsToldBy, IsToldIn}
+use Rattle.mdmp_lister.specs.Fault.{IsOfSource, IsToldByFetch, IsToldIn}
 use Rattle.mdmp_lister.specs.Following.{FitsFile}
 use Rattle.mdmp_source.specs.declared.fault.SourceFault.{SourceFault}
 use Rattle.mdmp_source.specs.declared.fault.SourceFault.TheVariants.{Failed, ShortRead, Changed}
@@ -16,11 +16,11 @@ use Rattle.mdmp_lister.proofs.Fetches.{FetchesAtMost-none, IsGood-later}
 use Rattle.mdmp_dump.specs.declared.fault.ReadFault.{ReadFault}
 use Rattle.mdmp_dump.specs.declared.fault.ReadFault.TheVariants as faults
 use Rattle.mdmp_lister.specs.declared.item.Item.{Item}
-use Rattle.mdmp_lister.specs.declared.kind.Kind.{Kind}
+use Rattle.mdmp_lister.specs.declared.kind.StreamKind.{StreamKind}
 use Rattle.mdmp_dump.specs.declared.reader.Reader.{Reader}
-use Rattle.mdmp_dump.specs.declared.row.Found.{Found}
-use Rattle.mdmp_dump.specs.Reading.{Fetches, IsLastTold, IsReadRefusal, IsRowRead, IsToldOf, Settles, Takes, name_steps_of, store_fault, store_fault_in}
-use Rattle.mdmp_dump.specs.Refusal.{Refuse, Step, first_refusal, name_steps}
+use Rattle.mdmp_dump.specs.declared.row.ToldRecord.{ToldRecord}
+use Rattle.mdmp_dump.specs.Reading.{Fetches, IsLastTold, IsReadRefusal, IsRowRead, IsToldOf, Settles, TakesSteps, name_steps_of, store_fault, store_fault_in}
+use Rattle.mdmp_dump.specs.Refusal.{Refuse, ReadStep, first_refusal, name_steps}
 use Rattle.mdmp_dump.specs.declared.reader.Told.{Told}
 use Rattle.mdmp_lister.specs.declared.item.Item.TheVariants as items
 use Rattle.mdmp_lister.specs.declared.name.Name.{Name}
@@ -57,7 +57,7 @@ pub Fetches_as : {T U : Type 0} (fault : ReadFault) (a b : SourceState) → Fetc
 Fetches_as fault a b told = record { fetches = told.fetches; told = told.told; good = told.good; refusal = told.refusal }
 
 -- the fault of a listing
-told_last : (e : Entry) (kind : FaultKind) (a b : SourceState) → IsToldBy e kind a b → IfSome (store_fault_in kind) (λ of_store. IsLastTold of_store a b)
+told_last : (e : Entry) (kind : FaultKind) (a b : SourceState) → IsToldByFetch e kind a b → IfSome (store_fault_in kind) (λ of_store. IsLastTold of_store a b)
 told_last e (kinds.Source (Changed at)) a b told = told.0
 told_last e (kinds.Source (Failed at)) a b told = told
 told_last e (kinds.Source (ShortRead at)) a b told = told
@@ -88,7 +88,7 @@ name_only size (items.Unloaded x) fault is = long_only size x.entry x.index x.na
 name_only size (items.System x) fault is = long_only size x.entry x.index x.name fault is
 name_only size _ fault is = absurd (cc)
 
-module _ {X Z : Type 0} (told : Item → Option (Found X)) (item : Item) (a b : SourceState) (some : FetchesSome a b) where
+module _ {X Z : Type 0} (told : Item → Option (ToldRecord X)) (item : Item) (a b : SourceState) (some : FetchesSome a b) where
   refused : (fault : ReadFault) → name_steps_of item ≡ Refuse fault ∷ [] → Fetches {T = Told X Z} (Err fault) a b
   refused fault is =
       let of = name_only a.size item fault is in
@@ -120,7 +120,7 @@ Fetches_later (Err fault) a b c first then = fetches_err a b c first fault then
 
 module _ {S A : Type 0} where
   -- nothing is asked
-  pub Takes_none : {T : Type 0} (old : Reader S A) (x : T) → Takes [] old (Ok x) old
+  pub Takes_none : {T : Type 0} (old : Reader S A) (x : T) → TakesSteps [] old (Ok x) old
   Takes_none old x = record {
     same = refl;
     fetches = Fetches_only x old.lister.source old.lister.source (FetchesSome_none old.lister.source);
@@ -128,24 +128,24 @@ module _ {S A : Type 0} where
   }
 
   -- where memory is wanting, whatever is asked
-  pub Takes_memory : {T : Type 0} (steps : List Step) (old : Reader S A) → Takes {T = T} steps old (Err faults.Memory) old
+  pub Takes_memory : {T : Type 0} (steps : List ReadStep) (old : Reader S A) → TakesSteps {T = T} steps old (Err faults.Memory) old
   Takes_memory steps old = record {
     same = refl;
     fetches = Fetches_memory old.lister.source old.lister.source (FetchesSome_none old.lister.source);
     settles = λ rest last other. absurd (other tt);
   }
 
-  module _ {T : Type 0} (steps : List Step) (old new : Reader S A) (result : Result T ReadFault) (takes : Takes steps old result new) where
+  module _ {T : Type 0} (steps : List ReadStep) (old new : Reader S A) (result : Result T ReadFault) (takes : TakesSteps steps old result new) where
     -- the file stays, and its size
-    pub Takes-known : (file : List ℕ) → old.lister.source.store.content ≡ Some file → new.lister.source.store.content ≡ Some file
-    Takes-known file known = takes.fetches.fetches.fetches.same_content ∙ known
+    pub TakesSteps-known : (file : List ℕ) → old.lister.source.store.content ≡ Some file → new.lister.source.store.content ≡ Some file
+    TakesSteps-known file known = takes.fetches.fetches.fetches.same_content ∙ known
 
-    pub Takes-size : new.lister.source.size ≡ old.lister.source.size
-    Takes-size = takes.fetches.fetches.fetches.same_size
+    pub TakesSteps-size : new.lister.source.size ≡ old.lister.source.size
+    TakesSteps-size = takes.fetches.fetches.fetches.same_size
 
-  module _ {T U : Type 0} (steps : List Step) (old : Reader S A) where
+  module _ {T U : Type 0} (steps : List ReadStep) (old : Reader S A) where
     -- what was taken may be put into another value
-    pub Takes_as : (x : T) (y : U) (new : Reader S A) → Takes steps old (Ok x) new → Takes steps old (Ok y) new
+    pub Takes_as : (x : T) (y : U) (new : Reader S A) → TakesSteps steps old (Ok x) new → TakesSteps steps old (Ok y) new
     Takes_as x y new takes = record {
       same = takes.same;
       fetches = Fetches_only y old.lister.source new.lister.source takes.fetches.fetches;
@@ -153,29 +153,29 @@ module _ {S A : Type 0} where
     }
 
     -- behind what was taken some more is asked
-    pub Takes_then : (more : List Step) (x : T) (result : Result U ReadFault) (mid new : Reader S A)
-        → Takes steps old (Ok x) mid → Takes more mid result new → Takes (steps ++ more) old result new
+    pub Takes_then : (more : List ReadStep) (x : T) (result : Result U ReadFault) (mid new : Reader S A)
+        → TakesSteps steps old (Ok x) mid → TakesSteps more mid result new → TakesSteps (steps ++ more) old result new
     Takes_then more x result mid new first then = record {
       same = then.same ∙ (λ i. record (first.same i) { source = new.lister.source; counts = new.lister.counts });
       fetches = Fetches_later result old.lister.source mid.lister.source new.lister.source first.fetches.fetches then.fetches;
       settles = λ rest last.
           let all : first_refusal old.left 0 ((steps ++ more) ++ rest) last ≡ first_refusal mid.left 0 (more ++ rest) last =
-          ap (λ (all : List Step). first_refusal old.left 0 all last) (append_assoc steps more rest) ∙ first.settles (more ++ rest) last in
+          ap (λ (all : List ReadStep). first_refusal old.left 0 all last) (append_assoc steps more rest) ∙ first.settles (more ++ rest) last in
           subst (λ (refusal : Option ReadFault). Settles refusal result (λ _. first_refusal new.left 0 rest last)) (sym all) (then.settles rest last);
     }
 
     -- a step that can't be taken is the last
-    pub Takes_fault : (more : List Step) (fault : ReadFault) (new : Reader S A)
-        → Takes {T = T} steps old (Err fault) new → Takes {T = U} (steps ++ more) old (Err fault) new
+    pub Takes_fault : (more : List ReadStep) (fault : ReadFault) (new : Reader S A)
+        → TakesSteps {T = T} steps old (Err fault) new → TakesSteps {T = U} (steps ++ more) old (Err fault) new
     Takes_fault more fault new takes = record {
       same = takes.same;
       fetches = Fetches_as fault old.lister.source new.lister.source takes.fetches;
       settles = λ rest last other.
-          ap (λ (all : List Step). first_refusal old.left 0 all last) (append_assoc steps more rest) ∙ takes.settles (more ++ rest) last other;
+          ap (λ (all : List ReadStep). first_refusal old.left 0 all last) (append_assoc steps more rest) ∙ takes.settles (more ++ rest) last other;
     }
 
     -- and so at another type of result
-    pub Takes_fault_as : (fault : ReadFault) (new : Reader S A) → Takes {T = T} steps old (Err fault) new → Takes {T = U} steps old (Err fault) new
+    pub Takes_fault_as : (fault : ReadFault) (new : Reader S A) → TakesSteps {T = T} steps old (Err fault) new → TakesSteps {T = U} steps old (Err fault) new
     Takes_fault_as fault new takes = record {
       same = takes.same;
       fetches = Fetches_as fault old.lister.source new.lister.source takes.fetches;
@@ -183,18 +183,18 @@ module _ {S A : Type 0} where
     }
 
     -- what is asked behind may be said of the size of the file, which stays
-    pub Takes_then_at : (more : ℕ → List Step) (x : T) (result : Result U ReadFault) (mid new : Reader S A)
-        → Takes steps old (Ok x) mid → Takes (more mid.lister.source.size) mid result new → Takes (steps ++ more old.lister.source.size) old result new
+    pub Takes_then_at : (more : ℕ → List ReadStep) (x : T) (result : Result U ReadFault) (mid new : Reader S A)
+        → TakesSteps steps old (Ok x) mid → TakesSteps (more mid.lister.source.size) mid result new → TakesSteps (steps ++ more old.lister.source.size) old result new
     Takes_then_at more x result mid new first then =
         Takes_then (more old.lister.source.size) x result mid new first
-        (subst (λ (size : ℕ). Takes (more size) mid result new) (Takes-size steps old mid (Ok x) first) then)
+        (subst (λ (size : ℕ). TakesSteps (more size) mid result new) (TakesSteps-size steps old mid (Ok x) first) then)
 
   -- ---- records
 
   -- a record whose name and parts are refused is not read
-  pub row_refused : {X T : Type 0} (kind : Kind) (told : Item → Option (Found X)) (steps : ℕ → Found X → List Step) (IsAt : List ℕ → ℕ → ℕ → ℕ → T → Type 0)
-      (old : Reader S A) (found : Found X) (name : Option (List ℕ)) (result : Result T ReadFault) (fault : ReadFault) (new : Reader S A)
-      → result ≡ Err fault → Takes {T = T} (steps old.lister.source.size found) old (Err fault) new → IsRowRead kind told steps IsAt old found name result new
+  pub row_refused : {X T : Type 0} (kind : StreamKind) (told : Item → Option (ToldRecord X)) (steps : ℕ → ToldRecord X → List ReadStep) (IsAt : List ℕ → ℕ → ℕ → ℕ → T → Type 0)
+      (old : Reader S A) (found : ToldRecord X) (name : Option (List ℕ)) (result : Result T ReadFault) (fault : ReadFault) (new : Reader S A)
+      → result ≡ Err fault → TakesSteps {T = T} (steps old.lister.source.size found) old (Err fault) new → IsRowRead kind told steps IsAt old found name result new
   row_refused kind told steps IsAt old found name result fault new is takes =
       subst (λ r. IsRowRead kind told steps IsAt old found name r new) (sym is)
       (record { takes = takes; stands = λ file limit e k at o item known given tells named. tt })

@@ -8,7 +8,7 @@ use Rattle.mdmp_wire.specs.Units.{units_in}
 use Rattle.mdmp_lister.specs.declared.fault.Fault.{Fault}
 use Rattle.mdmp_lister.specs.declared.fault.ListFault.{ListFault}
 use Rattle.mdmp_lister.specs.declared.item.Item.{Item}
-use Rattle.mdmp_lister.specs.declared.kind.Kind.{Kind}
+use Rattle.mdmp_lister.specs.declared.kind.StreamKind.{StreamKind}
 use Rattle.mdmp_lister.specs.declared.name.Name.{Name}
 use Rattle.mdmp_lister.specs.declared.name.Name.TheVariants as names
 use Rattle.mdmp_lister.specs.declared.shape.Shape.{Shape}
@@ -21,7 +21,7 @@ use Rattle.mdmp_dump.specs.declared.fault.ReadFault.TheVariants as faults
 use Rattle.mdmp_dump.specs.FileRefusal.{first_told, run_told}
 use Rattle.mdmp_dump.specs.InFile.{rows_in}
 use Rattle.mdmp_dump.specs.LaysOut.{EachFrom}
-use Rattle.mdmp_dump.specs.Refusal.{Step, Refuse, Take, item_steps, name_steps, part_steps}
+use Rattle.mdmp_dump.specs.Refusal.{ReadStep, Refuse, Take, item_steps, name_steps, part_steps}
 use Rattle.mdmp_dump.specs.TellingLaws.{item_made, made}
 use Rattle.mdmp_dump.proofs.InFiles.{HasName}
 use Rattle.mdmp_dump.proofs.Names.{name_stands}
@@ -29,16 +29,16 @@ use Rattle.mdmp_dump.proofs.Names.{name_stands}
 -- ---- steps
 
 -- no step is a refusal
-abbrev pub IsQuiet : List Step → Type 0
+abbrev pub IsQuiet : List ReadStep → Type 0
 IsQuiet steps = first_told steps None ≡ None
 
-pub told_last : (steps : List Step) (fault : ReadFault) → first_told steps (Some fault) ≡ None → ⊥
+pub told_last : (steps : List ReadStep) (fault : ReadFault) → first_told steps (Some fault) ≡ None → ⊥
 unfolding first_told
 told_last [] fault none = cc
 told_last (Refuse other ∷ steps) fault none = cc
 told_last (Take e k size ∷ steps) fault none = told_last steps fault none
 
-pub told_both : (xs ys : List Step) (last : Option ReadFault) → first_told (xs ++ ys) last ≡ None → IsQuiet xs × (first_told ys last ≡ None)
+pub told_both : (xs ys : List ReadStep) (last : Option ReadFault) → first_told (xs ++ ys) last ≡ None → IsQuiet xs × (first_told ys last ≡ None)
 unfolding first_told
 told_both [] ys last none = (refl, none)
 told_both (Refuse fault ∷ xs) ys last none = absurd (cc)
@@ -62,7 +62,7 @@ name_given F limit e k rva (names.Long size) is quiet = absurd (cc quiet)
 -- ---- items
 
 -- the item of a record that is not refused, whatever its name
-pub item_given : {P : Type 0} (kind : Kind) (F : List ℕ) (limit e k at o : ℕ) (item : Item) → item_at F limit e k at o kind ≡ Ok item → IsQuiet (item_steps (length F) item)
+pub item_given : {P : Type 0} (kind : StreamKind) (F : List ℕ) (limit e k at o : ℕ) (item : Item) → item_at F limit e k at o kind ≡ Ok item → IsQuiet (item_steps (length F) item)
     → ((n : Name) → name_of F limit (name_rva (record_at kind F o)) ≡ Ok n → IsQuiet (item_steps (length F) (made kind F limit e k at o n)) → P) → P
 item_given kind F limit e k at o item is quiet with_name =
     let given = item_made kind F limit e k at o item is in
@@ -80,7 +80,7 @@ joined_by : (F : List ℕ) (items : List Item) (fault : Option ListFault) (next 
     → (run_told F (record { items = items; fault = fault }) ≡ None) × (run_told F next ≡ None)
 joined_by F items None next none =
     told_both (flat_map (item_steps (length F)) items) (flat_map (item_steps (length F)) next.items) (option_map faults.List next.fault)
-    (subst (λ (steps : List Step). first_told steps (option_map faults.List next.fault) ≡ None) (flat_map-append (item_steps (length F)) items next.items) none)
+    (subst (λ (steps : List ReadStep). first_told steps (option_map faults.List next.fault) ≡ None) (flat_map-append (item_steps (length F)) items next.items) none)
 joined_by F items (Some fault) next none = absurd (told_last (flat_map (item_steps (length F)) items) (faults.List fault) none)
 
 pub joined_quiet : (F : List ℕ) (first next : Run) → run_told F (joined first next) ≡ None → (run_told F first ≡ None) × (run_told F next ≡ None)
@@ -88,7 +88,7 @@ joined_quiet F first next none = joined_by F first.items first.fault next none
 
 -- ---- the records of a stream
 
-module _ {X : Type 0} (kind : Kind) (IsAt : ℕ → ℕ → X → Type 0) (f : ℕ → ℕ → X) (F : List ℕ) (limit e at : ℕ) (shape : Shape)
+module _ {X : Type 0} (kind : StreamKind) (IsAt : ℕ → ℕ → X → Type 0) (f : ℕ → ℕ → X) (F : List ℕ) (limit e at : ℕ) (shape : Shape)
     (each : (k o : ℕ) (item : Item) → item_at F limit e k at o kind ≡ Ok item → IsQuiet (item_steps (length F) item) → IsAt k o (f k o)) where
   row_laid : (k o : ℕ) (item : Result Item Fault) (rest : Run) → item_at F limit e k at o kind ≡ item → run_told F (item_then e k item rest) ≡ None
       → IsAt k o (f k o) × (run_told F rest ≡ None)

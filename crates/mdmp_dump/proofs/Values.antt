@@ -18,7 +18,7 @@ use Rattle.mdmp_dump.specs.System.{system_seen}
 use Rattle.mdmp_dump.specs.Thread.{thread_seen}
 use Rattle.mdmp_dump.specs.Unloaded.{unloaded_seen}
 use Rattle.mdmp_dump.specs.Placed.{fields_bytes, fields_room, far_room}
-use Rattle.mdmp_dump.specs.Shape.{GivesRecord, IsSized, all_bytes, fars, is_far, parts_at, record_at, rooms, shape_of, sizes_at, stream_at, told, type_told, unused_seen, value_cursor, value_shape}
+use Rattle.mdmp_dump.specs.Shape.{GivesRecord, IsSized, all_bytes, fars, is_far, parts_at, seen_record, rooms, shape_seen, sizes_at, stream_at, told, type_told, unused_seen, value_cursor, value_shape}
 use Rattle.mdmp_dump.specs.ShapeLaws.{held, name_sized, part_sized, three_sized}
 
 -- a fact of each record that some things are seen as is one of the record at any place
@@ -69,7 +69,7 @@ none_left false [] e = (refl, refl)
 none_left far (x ∷ xs) e = absurd (let h : suc (length xs) ≡ 0 = e in omega (arith, h))
 
 module _ {Z : Type 0} where
-  pub record_sized : (s : Stream Z) (k : ℕ) → IsSized (record_at s k)
+  pub record_sized : (s : Stream Z) (k : ℕ) → IsSized (seen_record s k)
   record_sized streams.Unused k = nothing_sized
   record_sized (streams.Threads ts) k = at_any IsSized thread_seen nothing_sized (λ t. three_sized (thread_seen t).fields.wire _ _ _ _ _ _ (part_sized t.stack) (part_sized t.context) refl) ts k
   record_sized (streams.Modules ms) k = at_any IsSized module_seen nothing_sized (λ m. three_sized (module_seen m).fields.wire _ _ _ _ _ _ (name_sized m.name) (part_sized m.codeview) (part_sized m.misc)) ms k
@@ -81,7 +81,7 @@ module _ {Z : Type 0} where
   record_sized (streams.MemoryInfo rs) k = at_any IsSized memory_info_seen nothing_sized (λ r. three_sized (memory_info_seen r).fields.wire _ _ _ _ _ _ refl refl refl) rs k
   record_sized (streams.Raw t bytes) k = nothing_sized
 
-  pub one_room : (s : Stream Z) (k : ℕ) → HasOneRoom (is_far (kind_in s)) (record_at s k)
+  pub one_room : (s : Stream Z) (k : ℕ) → HasOneRoom (is_far (kind_in s)) (seen_record s k)
   one_room streams.Unused k = refl
   one_room (streams.Threads ts) k = at_any (HasOneRoom false) thread_seen refl (λ t. refl) ts k
   one_room (streams.Modules ms) k = at_any (HasOneRoom false) module_seen refl (λ m. refl) ms k
@@ -94,7 +94,7 @@ module _ {Z : Type 0} where
   one_room (streams.Raw t bytes) k = refl
 
   -- the record at a place that a stream has is of the stream's kind
-  record_kind : (s : Stream Z) (k : ℕ) → k < length (records_seen s) → kind_in s ≡ Known (type_told (record_at s k).fields.wire)
+  record_kind : (s : Stream Z) (k : ℕ) → k < length (records_seen s) → kind_in s ≡ Known (type_told (seen_record s k).fields.wire)
   record_kind streams.Unused k inside = absurd (omega arith)
   record_kind (streams.Threads ts) k inside = at_in (λ x. Known 3 ≡ Known (type_told x.fields.wire)) thread_seen (λ t. refl) ts k inside
   record_kind (streams.Modules ms) k inside = at_in (λ x. Known 4 ≡ Known (type_told x.fields.wire)) module_seen (λ m. refl) ms k inside
@@ -107,10 +107,10 @@ module _ {Z : Type 0} where
   record_kind (streams.Raw t bytes) k inside = absurd (omega arith)
 
   -- a step of the cursor
-  pub value_next : (s : Stream Z) (k next : ℕ) (f : Fields) → next ≡ k + 1 → k < length (records_seen s) → f ≡ (record_at s k).fields → GivesRecord (value_cursor s k) f (value_cursor s next)
+  pub value_next : (s : Stream Z) (k next : ℕ) (f : Fields) → next ≡ k + 1 → k < length (records_seen s) → f ≡ (seen_record s k).fields → GivesRecord (value_cursor s k) f (value_cursor s next)
   unfolding near away
   value_next s k next f e fewer same =
-      let x = record_at s k in
+      let x = seen_record s k in
       let rest = drop (k + 1) (records_seen s) in
       let split : drop k (records_seen s) ≡ x ∷ rest = drop_more (records_seen s) k nothing_seen fewer in
       let place : k + 1 ≡ suc k = omega arith in
@@ -149,13 +149,13 @@ module _ {Z : Type 0} where
       absurd (omega (arith, none))
 
   -- the shape of one of a value's streams
-  value_stream : (d : Dump Z) (k : ℕ) → stream_at (value_shape d) k ≡ shape_of (stream_seen (get_or d.streams k streams.Unused))
+  value_stream : (d : Dump Z) (k : ℕ) → stream_at (value_shape d) k ≡ shape_seen (stream_seen (get_or d.streams k streams.Unused))
   unfolding rooms all_bytes
   value_stream d k =
-      get_or-map shape_of (map stream_seen d.streams) k unused_seen ∙ ap shape_of (get_or-map (λ (s : Stream Z). stream_seen s) d.streams k streams.Unused)
+      get_or-map shape_seen (map stream_seen d.streams) k unused_seen ∙ ap shape_seen (get_or-map (λ (s : Stream Z). stream_seen s) d.streams k streams.Unused)
 
-  pub chosen_shape : (d : Dump Z) (k : ℕ) (ss : List (Stream Z)) (s : Stream Z) → s ≡ get_or ss k streams.Unused → ss ≡ d.streams → shape_of (stream_seen s) ≡ stream_at (value_shape d) k
-  chosen_shape d k ss s chosen same = ap (λ x. shape_of (stream_seen x)) (chosen ∙ ap (λ xs. get_or xs k streams.Unused) same) ∙ sym (value_stream d k)
+  pub chosen_shape : (d : Dump Z) (k : ℕ) (ss : List (Stream Z)) (s : Stream Z) → s ≡ get_or ss k streams.Unused → ss ≡ d.streams → shape_seen (stream_seen s) ≡ stream_at (value_shape d) k
+  chosen_shape d k ss s chosen same = ap (λ x. shape_seen (stream_seen x)) (chosen ∙ ap (λ xs. get_or xs k streams.Unused) same) ∙ sym (value_stream d k)
 
 -- what is left of some records' room
 pub rooms_next : {X : Type 0} (see : X → Seen) (xs : List X) (i : ℕ) (x : X) → i < length xs → x ≡ get_or xs i x → rooms (map see (drop i xs)) ≡ fields_room (see x).fields + rooms (map see (drop (i + 1) xs))

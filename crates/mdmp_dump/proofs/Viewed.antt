@@ -16,8 +16,8 @@ use Rattle.mdmp_wire.specs.Number.{array_at}
 use Rattle.mdmp_wire.specs.Thread.{thread_at}
 use Rattle.mdmp_wire.specs.declared.any_record.AnyRecord.TheVariants as any
 use Rattle.mdmp_lister.specs.declared.fault.Fault.{Fault}
-use Rattle.mdmp_lister.specs.declared.kind.Kind.{Kind as ListKind}
-use Rattle.mdmp_lister.specs.declared.kind.Kind.TheVariants as lists
+use Rattle.mdmp_lister.specs.declared.kind.StreamKind.{StreamKind}
+use Rattle.mdmp_lister.specs.declared.kind.StreamKind.TheVariants as lists
 use Rattle.mdmp_lister.specs.declared.shape.Shape.{Shape}
 use Rattle.mdmp_lister.specs.Format.Kind.{kind_of, type_of_kind}
 use Rattle.mdmp_lister.specs.Format.KindLaws.{type_of-kind}
@@ -45,7 +45,7 @@ use Rattle.mdmp_dump.specs.Module.{module_record, module_seen}
 use Rattle.mdmp_dump.specs.Part.{part_in}
 use Rattle.mdmp_dump.specs.Placed.{far_room, fields_room, size_at, size_in}
 use Rattle.mdmp_dump.specs.Seen.{Seen, bytes_of, name_size, nothing_seen, nowhere, seen, size_of, unit_bytes}
-use Rattle.mdmp_dump.specs.Shape.{fars, is_far, parts_in, record_at, rooms, told}
+use Rattle.mdmp_dump.specs.Shape.{fars, is_far, parts_in, seen_record, rooms, told}
 use Rattle.mdmp_dump.specs.System.{system_seen}
 use Rattle.mdmp_dump.specs.Thread.{thread_record, thread_seen}
 use Rattle.mdmp_dump.specs.Unloaded.{unloaded_seen}
@@ -218,7 +218,7 @@ sizes_found f g same j =
 -- ---- a stream of a kind
 
 -- no stream whose records are known has raw bytes to ask for
-type_part : (kind : ListKind) (size : ℕ) → raw_size (kind_by (type_of_kind kind)) size ≡ NoPart
+type_part : (kind : StreamKind) (size : ℕ) → raw_size (kind_by (type_of_kind kind)) size ≡ NoPart
 type_part lists.Threads size = refl
 type_part lists.Modules size = refl
 type_part lists.Memory size = refl
@@ -229,7 +229,7 @@ type_part lists.Unloaded size = refl
 type_part lists.MemoryInfo size = refl
 
 module _ (Z : Type 0) (F : List ℕ) (x : Numbered) where
-  shaped_kind : (kind : ListKind) (shape : Shape) → kind_in (shaped_in {Z = Z} F x.entry.location.rva kind shape) ≡ kind_by (type_of_kind kind)
+  shaped_kind : (kind : StreamKind) (shape : Shape) → kind_in (shaped_in {Z = Z} F x.entry.location.rva kind shape) ≡ kind_by (type_of_kind kind)
   shaped_kind lists.Threads shape = refl
   shaped_kind lists.Modules shape = refl
   shaped_kind lists.Memory shape = refl
@@ -240,7 +240,7 @@ module _ (Z : Type 0) (F : List ℕ) (x : Numbered) where
   shaped_kind lists.MemoryInfo shape = refl
 
   -- it has no raw bytes
-  shaped_raw : (kind : ListKind) (shape : Shape) → raw_in (shaped_in {Z = Z} F x.entry.location.rva kind shape) ≡ []
+  shaped_raw : (kind : StreamKind) (shape : Shape) → raw_in (shaped_in {Z = Z} F x.entry.location.rva kind shape) ≡ []
   shaped_raw lists.Threads shape = refl
   shaped_raw lists.Modules shape = refl
   shaped_raw lists.Memory shape = refl
@@ -256,7 +256,7 @@ module _ (Z : Type 0) (F : List ℕ) (x : Numbered) where
         length-map (list_in f x.entry.location.rva shape) see ∙ rows_count f (x.entry.location.rva + shape.first) shape.stride 0 shape.count
 
     -- it has as many records as its shape
-    shaped_count : (kind : ListKind) → shape_of F x.entry.location.rva x.entry.location.size kind ≡ Ok shape
+    shaped_count : (kind : StreamKind) → shape_of F x.entry.location.rva x.entry.location.size kind ≡ Ok shape
         → length (records_seen (shaped_in {Z = Z} F x.entry.location.rva kind shape)) ≡ shape.count
     shaped_count lists.Threads shaped = rows_seen thread_seen (λ k o. thread_in {Z = Z} F o)
     shaped_count lists.Modules shaped = rows_seen module_seen (λ k o. module_in {Z = Z} F o)
@@ -282,8 +282,8 @@ module _ (Z : Type 0) (F : List ℕ) (x : Numbered) where
       only_by one record_of = single_at record_of k (omega (arith, one, within))
 
       -- each of which is what is found there
-      shaped_row : (kind : ListKind) → shape_of F x.entry.location.rva x.entry.location.size kind ≡ Ok shape
-          → record_at (shaped_in {Z = Z} F x.entry.location.rva kind shape) k ≡ seen_in kind F x.entry.location.rva k (row_place k)
+      shaped_row : (kind : StreamKind) → shape_of F x.entry.location.rva x.entry.location.size kind ≡ Ok shape
+          → seen_record (shaped_in {Z = Z} F x.entry.location.rva kind shape) k ≡ seen_in kind F x.entry.location.rva k (row_place k)
       shaped_row lists.Threads shaped = row_by thread_seen (λ k o. thread_in {Z = Z} F o) ∙ thread_alike Z F (row_place k)
       shaped_row lists.Modules shaped = row_by module_seen (λ k o. module_in {Z = Z} F o) ∙ module_alike Z F (row_place k)
       shaped_row lists.Memory shaped = row_by memory_seen (λ k o. memory_in {Z = Z} F o) ∙ memory_alike Z F (row_place k)
@@ -299,20 +299,20 @@ module _ (Z : Type 0) (F : List ℕ) (x : Numbered) where
 -- an unused one has nothing, a known one its records, and of any other the raw bytes lie inside the file
 data IsSeenAs (Z : Type 0) (F : List ℕ) (x : Numbered) (n : ℕ) : Type 0 where
   Unused : x.entry.stream_type ≡ 0 → stream_named {Z = Z} F x.entry ≡ streams.Unused → n ≡ 0 → IsSeenAs Z F x n
-  Known : (kind : ListKind) (shape : Shape) → kind_of x.entry.stream_type ≡ Some kind → shape_of F x.entry.location.rva x.entry.location.size kind ≡ Ok shape
+  Known : (kind : StreamKind) (shape : Shape) → kind_of x.entry.stream_type ≡ Some kind → shape_of F x.entry.location.rva x.entry.location.size kind ≡ Ok shape
       → stream_named {Z = Z} F x.entry ≡ shaped_in {Z = Z} F x.entry.location.rva kind shape → n ≡ shape.count → IsSeenAs Z F x n
   Raw : (x.entry.stream_type == 0) ≡ false → kind_of x.entry.stream_type ≡ None → is_inside x.entry.location.rva x.entry.location.size (length F) ≡ true
       → stream_named {Z = Z} F x.entry ≡ streams.Raw x.entry.stream_type (array_at F x.entry.location.rva x.entry.location.size) → n ≡ 0 → IsSeenAs Z F x n
 
 module _ (Z : Type 0) (F : List ℕ) (x : Numbered) (n : ℕ) (counts : record_count F x.entry ≡ Ok n) where
-  seen_by_shape : (t : ℕ) (kind : ListKind) (shape : Result Shape Fault) → x.entry.stream_type ≡ suc t → kind_of x.entry.stream_type ≡ Some kind
+  seen_by_shape : (t : ℕ) (kind : StreamKind) (shape : Result Shape Fault) → x.entry.stream_type ≡ suc t → kind_of x.entry.stream_type ≡ Some kind
       → shape_of F x.entry.location.rva x.entry.location.size kind ≡ shape → stream_named {Z = Z} F x.entry ≡ known_in {Z = Z} F x.entry.location.rva kind shape → IsSeenAs Z F x n
   seen_by_shape t kind (Ok shape) type known shaped same = Known kind shape known shaped same (sym (shape_counted F x n counts kind shape known shaped))
   seen_by_shape t kind (Err fault) type known shaped same =
       let wrong : Err fault ≡ Ok n = rw (known, shaped) at (known_counted F x n counts) in
       absurd (cc wrong)
 
-  seen_by_kind : (t : ℕ) (kind : Option ListKind) → x.entry.stream_type ≡ suc t → kind_of x.entry.stream_type ≡ kind
+  seen_by_kind : (t : ℕ) (kind : Option StreamKind) → x.entry.stream_type ≡ suc t → kind_of x.entry.stream_type ≡ kind
       → stream_named {Z = Z} F x.entry ≡ by_kind {Z = Z} F x.entry kind → IsSeenAs Z F x n
   seen_by_kind t (Some kind) type known same = seen_by_shape t kind (shape_of F x.entry.location.rva x.entry.location.size kind) type known refl same
   seen_by_kind t None type known same =
@@ -344,7 +344,7 @@ module _ (Z : Type 0) (F : List ℕ) (x : Numbered) (n : ℕ) (counts : record_c
   kind_raw : (x.entry.stream_type == 0) ≡ false → kind_of x.entry.stream_type ≡ None → kind_by x.entry.stream_type ≡ kinds.Raw x.entry.stream_type
   kind_raw used known = rw (used, known) refl
 
-  kind_known : (kind : ListKind) → kind_of x.entry.stream_type ≡ Some kind → kind_by (type_of_kind kind) ≡ kind_by x.entry.stream_type
+  kind_known : (kind : StreamKind) → kind_of x.entry.stream_type ≡ Some kind → kind_by (type_of_kind kind) ≡ kind_by x.entry.stream_type
   kind_known kind known = ap kind_by (sym (type_of-kind x.entry.stream_type kind known))
 
   pub kind_is : kind_in (stream_named {Z = Z} F x.entry) ≡ kind_by x.entry.stream_type
@@ -359,7 +359,7 @@ module _ (Z : Type 0) (F : List ℕ) (x : Numbered) (n : ℕ) (counts : record_c
   part_unused : x.entry.stream_type ≡ 0 → raw_size (kind_by x.entry.stream_type) x.entry.location.size ≡ NoPart
   part_unused type = ap (λ (t : ℕ). raw_size (kind_by t) x.entry.location.size) type
 
-  part_known : (kind : ListKind) → kind_of x.entry.stream_type ≡ Some kind → raw_size (kind_by x.entry.stream_type) x.entry.location.size ≡ NoPart
+  part_known : (kind : StreamKind) → kind_of x.entry.stream_type ≡ Some kind → raw_size (kind_by x.entry.stream_type) x.entry.location.size ≡ NoPart
   part_known kind known = ap (λ (k : Kind). raw_size k x.entry.location.size) (sym (kind_known kind known)) ∙ type_part kind x.entry.location.size
 
   part_raw : (x.entry.stream_type == 0) ≡ false → kind_of x.entry.stream_type ≡ None → raw_size (kind_by x.entry.stream_type) x.entry.location.size ≡ Size x.entry.location.size
@@ -399,35 +399,35 @@ module _ (Z : Type 0) (F : List ℕ) (x : Numbered) (n : ℕ) (counts : record_c
   -- ---- each of its records
 
   -- a stream of this shape is what stands there
-  named_shaped : (kind : ListKind) (shape : Shape) → kind_of x.entry.stream_type ≡ Some kind → shape_of F x.entry.location.rva x.entry.location.size kind ≡ Ok shape
+  named_shaped : (kind : StreamKind) (shape : Shape) → kind_of x.entry.stream_type ≡ Some kind → shape_of F x.entry.location.rva x.entry.location.size kind ≡ Ok shape
       → stream_named {Z = Z} F x.entry ≡ shaped_in {Z = Z} F x.entry.location.rva kind shape
   named_shaped kind shape known shaped = by seen_as where
     by : IsSeenAs Z F x n → stream_named {Z = Z} F x.entry ≡ shaped_in {Z = Z} F x.entry.location.rva kind shape
     by (Unused type same none) = let unknown : kind_of x.entry.stream_type ≡ None = ap kind_of type in absurd (cc)
     by (Known other one is stands same count) =
         let kinds_are : other ≡ kind = cc in
-        let again : shape_of F x.entry.location.rva x.entry.location.size kind ≡ Ok one = subst (λ (k : ListKind). shape_of F x.entry.location.rva x.entry.location.size k ≡ Ok one) kinds_are stands in
+        let again : shape_of F x.entry.location.rva x.entry.location.size kind ≡ Ok one = subst (λ (k : StreamKind). shape_of F x.entry.location.rva x.entry.location.size k ≡ Ok one) kinds_are stands in
         let shapes_are : one ≡ shape = cc in
-        same ∙ ap (λ (k : ListKind). shaped_in {Z = Z} F x.entry.location.rva k one) kinds_are ∙ ap (shaped_in {Z = Z} F x.entry.location.rva kind) shapes_are
+        same ∙ ap (λ (k : StreamKind). shaped_in {Z = Z} F x.entry.location.rva k one) kinds_are ∙ ap (shaped_in {Z = Z} F x.entry.location.rva kind) shapes_are
     by (Raw used unknown inside same none) = absurd (cc)
 
   module _ (limit k : ℕ) (f : FoundRecord) (finds : FindsRow F limit x k (Ok f)) where
-    record_is : record_at (stream_named {Z = Z} F x.entry) k
+    record_is : seen_record (stream_named {Z = Z} F x.entry) k
         ≡ seen_in finds.kind F x.entry.location.rva k (x.entry.location.rva + finds.shape.first + k * finds.shape.stride)
     record_is =
-        ap (λ (s : Stream Z). record_at s k) (named_shaped finds.kind finds.shape finds.kind_is finds.shape_is)
+        ap (λ (s : Stream Z). seen_record s k) (named_shaped finds.kind finds.shape finds.kind_is finds.shape_is)
         ∙ shaped_row Z F x finds.shape k finds.within finds.kind finds.shape_is
 
     -- a record that is found is the one that stands there
-    pub row_seen : IsSeenAt F (record_at (stream_named {Z = Z} F x.entry) k) f
+    pub row_seen : IsSeenAt F (seen_record (stream_named {Z = Z} F x.entry) k) f
     row_seen = subst (λ (s : Seen). IsSeenAt F s f) (sym record_is) finds.finds.1
 
-    pub sizes_are : (j : ℕ) → size_in (get_or f.parts j no_part).size ≡ size_in (size_at (record_at (stream_named {Z = Z} F x.entry) k).fields j)
-    sizes_are j = sizes_found f (record_at (stream_named {Z = Z} F x.entry) k).fields row_seen.fields j
+    pub sizes_are : (j : ℕ) → size_in (get_or f.parts j no_part).size ≡ size_in (size_at (seen_record (stream_named {Z = Z} F x.entry) k).fields j)
+    sizes_are j = sizes_found f (seen_record (stream_named {Z = Z} F x.entry) k).fields row_seen.fields j
 
   -- the room of one more of them
   pub rooms_step : (k met q : ℕ) → k < n → met ≡ told (parts_in (kind_in (stream_named {Z = Z} F x.entry)) (take k (records_seen (stream_named {Z = Z} F x.entry))))
-      → q ≡ told (told (met + fields_room (record_at (stream_named {Z = Z} F x.entry) k).fields) + far_room (record_at (stream_named {Z = Z} F x.entry) k).fields)
+      → q ≡ told (told (met + fields_room (seen_record (stream_named {Z = Z} F x.entry) k).fields) + far_room (seen_record (stream_named {Z = Z} F x.entry) k).fields)
       → q ≡ told (parts_in (kind_in (stream_named {Z = Z} F x.entry)) (take (k + 1) (records_seen (stream_named {Z = Z} F x.entry))))
   rooms_step k met q within is next =
       let count = records_are in

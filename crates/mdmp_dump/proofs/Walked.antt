@@ -9,7 +9,7 @@ use Rattle.mdmp_lister.specs.Lister.{ListerState, tail}
 use Rattle.mdmp_dump.specs.declared.dump.Stream.{Stream}
 use Rattle.mdmp_dump.specs.declared.fault.ReadFault.{ReadFault}
 use Rattle.mdmp_dump.specs.declared.reader.Reader.{Reader}
-use Rattle.mdmp_dump.specs.LaysOut.{AreStreams, IsStream}
+use Rattle.mdmp_dump.specs.LaysOut.{AreStreams, NamesStream}
 use Rattle.mdmp_dump.specs.Left.{is_item_of, left_from, run_of}
 use Rattle.mdmp_dump.specs.Reading.{IsEntryRead, IsGoing, IsLeftBehind, IsNextStream, IsOneStream, IsOwn, NoRowFirst, Settles, owed}
 use Rattle.mdmp_dump.specs.Refusal.{first_refusal}
@@ -99,7 +99,7 @@ module _ {S A Z : Type 0} (old mid new : Reader S A) (streams : List (Stream Z))
           done = so_read.done ++ so_read.behind.1.1.0 ∷ [];
           rest = so_read.behind.1.1.1;
           all = so_read.all ∙ ap (λ (ys : List Numbered). so_read.done ++ ys) so_read.behind.1.1.2.0 ∙ sym (append_assoc so_read.done (so_read.behind.1.1.0 ∷ []) so_read.behind.1.1.1);
-          are = streams_more F so_read.done streams so_read.behind.1.1.0 one so_read.are (subst (λ (s : Stream Z). IsStream F so_read.behind.1.1.0.entry s) same given.value.0.1.1);
+          are = streams_more F so_read.done streams so_read.behind.1.1.0 one so_read.are (subst (λ (s : Stream Z). NamesStream F so_read.behind.1.1.0.entry s) same given.value.0.1.1);
           behind = given.value.1;
           settles = so_read.settles ∙ given.settles;
         }

@@ -9,7 +9,7 @@ use Rattle.mdmp_dump.specs.declared.found_record.FoundRecord.{FoundRecord}
 use Rattle.mdmp_dump.specs.declared.view.Fields.{Fields}
 use Rattle.mdmp_dump.specs.declared.view.Kind.{Kind}
 use Rattle.mdmp_dump.specs.declared.view.Kind.TheVariants.{Known}
-use Rattle.mdmp_dump.specs.EntryWalk.{Begins, FindsRow, GivesNext, IsSameWalk, Pays, WalkState, entry_at, kind_by, listed, name_cost, no_entry, pass_cost}
+use Rattle.mdmp_dump.specs.EntryWalk.{Begins, FindsRow, GivesNext, IsSameWalk, Pays, WalkState, chosen_entry, kind_by, listed, name_cost, no_entry, pass_cost}
 use Rattle.mdmp_dump.specs.FileRefusal.{body_told, entry_told, run_told}
 use Rattle.mdmp_dump.specs.Left.{run_of}
 use Rattle.mdmp_dump.specs.FileView.{AreBare, AreWalked, HasWalked, PaysAll, PaysSome, PaysUpTo, costs_in, count_in, kind_at, room_told, stream_of}
@@ -17,7 +17,7 @@ use Rattle.mdmp_dump.specs.FoundRecord.{fields_of}
 use Rattle.mdmp_dump.specs.InFile.{stream_named}
 use Rattle.mdmp_dump.specs.Placed.{far_room, fields_room}
 use Rattle.mdmp_dump.specs.Reading.{Fetches, IsOwn}
-use Rattle.mdmp_dump.specs.Shape.{GivesNone, parts_in, record_at, told, type_told}
+use Rattle.mdmp_dump.specs.Shape.{GivesNone, parts_in, seen_record, told, type_told}
 use Rattle.mdmp_dump.specs.View.{kind_in, records_seen}
 use Rattle.mdmp_dump.proofs.Costs.{costs_most, costs_push}
 use Rattle.mdmp_dump.proofs.Refusals.{count_refused, entry_begins, one_told, row_passed, row_refused, rows_passed}
@@ -55,13 +55,13 @@ pub record IsWalkedTo (Z : Type 0) (F : List ℕ) (limit : ℕ) (x : Numbered) (
 
 -- and the walk stands behind them
 pub record IsWalking (Z : Type 0) (limit : ℕ) (old : WalkState) (k count : ℕ) (now : WalkState) (index room : ℕ) : Type 0 where
-  pub pays : Pays (listed (entry_at old k).entry) (index * name_cost (entry_at old k).entry.stream_type) old now
-  pub current : now.current ≡ entry_at old k
+  pub pays : Pays (listed (chosen_entry old k).entry) (index * name_cost (chosen_entry old k).entry.stream_type) old now
+  pub current : now.current ≡ chosen_entry old k
   pub left : index + now.left ≡ count
   pub few : count < 2 ^ 32
   pub going : now.failed ≡ None
   pub bare : GivesNone (kind_at old k) index → room ≡ 0
-  pub of_file : (F : List ℕ) → old.source.store.content ≡ Some F → IsWalkedTo Z F limit (entry_at old k) count index room
+  pub of_file : (F : List ℕ) → old.source.store.content ≡ Some F → IsWalkedTo Z F limit (chosen_entry old k) count index room
 
 -- a record is found of a known stream alone
 found_none : (kind : Kind) (t index : ℕ) → kind ≡ Known t → GivesNone kind (index + 1) → ⊥
@@ -77,7 +77,7 @@ one_more index cost = omega arith
 module _ (Z : Type 0) (limit : ℕ) (old : WalkState) (k : ℕ) where
   pub walking_begins : (count : ℕ) (now : WalkState) → Begins old k (Ok count) now → IsWalking Z limit old k count now 0 0
   walking_begins count now begins = record {
-    pays = subst (λ (b : ℕ). Pays (listed (entry_at old k).entry) b old now) (no_more (name_cost (entry_at old k).entry.stream_type)) begins.pays;
+    pays = subst (λ (b : ℕ). Pays (listed (chosen_entry old k).entry) b old now) (no_more (name_cost (chosen_entry old k).entry.stream_type)) begins.pays;
     current = begins.begun.0;
     left = omega (arith, begins.begun.1);
     few = begins.begun.2;
@@ -85,7 +85,7 @@ module _ (Z : Type 0) (limit : ℕ) (old : WalkState) (k : ℕ) where
     bare = λ none. refl;
     of_file = λ F known. record {
       counted = begins.of_file F known;
-      quiet = entry_begins F limit (entry_at old k);
+      quiet = entry_begins F limit (chosen_entry old k);
       room_is = sym (rooms_none (kind_in (stream_of {Z = Z} F old k)) (records_seen (stream_of {Z = Z} F old k)));
     };
   }
@@ -93,35 +93,35 @@ module _ (Z : Type 0) (limit : ℕ) (old : WalkState) (k : ℕ) where
   pub unbegun_paid : (fault : ReadFault) (now : WalkState) → Begins old k (Err fault) now → PaysUpTo k old now
   unbegun_paid fault now begins = record {
     reached = 0;
-    pays = subst (λ (b : ℕ). Pays (listed (entry_at old k).entry) b old now) (no_more (name_cost (entry_at old k).entry.stream_type)) begins.pays;
+    pays = subst (λ (b : ℕ). Pays (listed (chosen_entry old k).entry) b old now) (no_more (name_cost (chosen_entry old k).entry.stream_type)) begins.pays;
     few = λ F known. omega arith;
   }
 
   pub walking_unbegun : (fault : ReadFault) (now : WalkState) → Begins old k (Err fault) now → (F : List ℕ) → old.source.store.content ≡ Some F → HasWalked Z F limit old k (Err fault)
   walking_unbegun fault now begins F known = λ own.
       let told = begins.of_file F known own in
-      count_refused F limit (entry_at old k) told.0 told.1.0 ∙ ap Some (sym told.1.1)
+      count_refused F limit (chosen_entry old k) told.0 told.1.0 ∙ ap Some (sym told.1.1)
 
   module _ (count : ℕ) (now : WalkState) (index room : ℕ) (walking : IsWalking Z limit old k count now index room) (next : WalkState) where
     known_now : (F : List ℕ) → old.source.store.content ≡ Some F → now.source.store.content ≡ Some F
     known_now F known = walking.pays.same.fetches.fetches.same_content ∙ known
 
-    row_next : (result : Result FoundRecord ReadFault) → GivesNext now limit result next → (F : List ℕ) → old.source.store.content ≡ Some F → FindsRow F limit (entry_at old k) index result
+    row_next : (result : Result FoundRecord ReadFault) → GivesNext now limit result next → (F : List ℕ) → old.source.store.content ≡ Some F → FindsRow F limit (chosen_entry old k) index result
     row_next result gives F known =
         let found = gives.of_file F (known_now F known) in
-        let count_is : record_count F (entry_at old k).entry ≡ Ok (found.0 + now.left) = subst (λ (x : Numbered). record_count F x.entry ≡ Ok (found.0 + now.left)) walking.current found.1.0 in
+        let count_is : record_count F (chosen_entry old k).entry ≡ Ok (found.0 + now.left) = subst (λ (x : Numbered). record_count F x.entry ≡ Ok (found.0 + now.left)) walking.current found.1.0 in
         let whole : found.0 + now.left ≡ count = (let a = count_is in let b = (walking.of_file F known).counted in cc) in
         let same : found.0 ≡ index = omega (arith, whole, walking.left) in
-        subst (λ (i : ℕ). FindsRow F limit (entry_at old k) i result) same (subst (λ (x : Numbered). FindsRow F limit x found.0 result) walking.current found.1.1)
+        subst (λ (i : ℕ). FindsRow F limit (chosen_entry old k) i result) same (subst (λ (x : Numbered). FindsRow F limit x found.0 result) walking.current found.1.1)
 
     -- one record more was reached
-    row_paid : (result : Result FoundRecord ReadFault) → GivesNext now limit result next → Pays (listed (entry_at old k).entry) ((index + 1) * name_cost (entry_at old k).entry.stream_type) old next
+    row_paid : (result : Result FoundRecord ReadFault) → GivesNext now limit result next → Pays (listed (chosen_entry old k).entry) ((index + 1) * name_cost (chosen_entry old k).entry.stream_type) old next
     row_paid result gives =
-        let cost = name_cost (entry_at old k).entry.stream_type in
+        let cost = name_cost (chosen_entry old k).entry.stream_type in
         let pays : Pays 0 cost now next = subst (λ (x : Numbered). Pays 0 (name_cost x.entry.stream_type) now next) walking.current gives.pays in
-        let both : Pays (listed (entry_at old k).entry + 0) (index * cost + cost) old next = pays_then (listed (entry_at old k).entry) (index * cost) 0 cost old now next walking.pays pays in
-        let bytes : listed (entry_at old k).entry + 0 ≡ listed (entry_at old k).entry = omega arith in
-        subst (λ (a : ℕ). Pays a ((index + 1) * cost) old next) bytes (subst (λ (b : ℕ). Pays (listed (entry_at old k).entry + 0) b old next) (sym (one_more index cost)) both)
+        let both : Pays (listed (chosen_entry old k).entry + 0) (index * cost + cost) old next = pays_then (listed (chosen_entry old k).entry) (index * cost) 0 cost old now next walking.pays pays in
+        let bytes : listed (chosen_entry old k).entry + 0 ≡ listed (chosen_entry old k).entry = omega arith in
+        subst (λ (a : ℕ). Pays a ((index + 1) * cost) old next) bytes (subst (λ (b : ℕ). Pays (listed (chosen_entry old k).entry + 0) b old next) (sym (one_more index cost)) both)
 
     pub walking_goes : (f : FoundRecord) (g : Fields) (met : ℕ) → GivesNext now limit (Ok f) next → index < count → g ≡ fields_of f → met ≡ told (told (room + fields_room g) + far_room g)
         → IsWalking Z limit old k count next (index + 1) met
@@ -136,18 +136,18 @@ module _ (Z : Type 0) (limit : ℕ) (old : WalkState) (k : ℕ) where
           of_file = λ F known.
               let of = walking.of_file F known in
               let row = row_next (Ok f) gives F known in
-              let fields : g ≡ (record_at (stream_of {Z = Z} F old k) index).fields = same ∙ (row_seen Z F (entry_at old k) count of.counted limit index f row).fields in
+              let fields : g ≡ (seen_record (stream_of {Z = Z} F old k) index).fields = same ∙ (row_seen Z F (chosen_entry old k) count of.counted limit index f row).fields in
               record {
                 counted = of.counted;
-                quiet = of.quiet ∙ row_passed F limit (entry_at old k) count of.counted index f row;
-                room_is = rooms_step Z F (entry_at old k) count of.counted index room met fewer of.room_is (subst (λ (h : Fields). met ≡ told (told (room + fields_room h) + far_room h)) fields sum);
+                quiet = of.quiet ∙ row_passed F limit (chosen_entry old k) count of.counted index f row;
+                room_is = rooms_step Z F (chosen_entry old k) count of.counted index room met fewer of.room_is (subst (λ (h : Fields). met ≡ told (told (room + fields_room h) + far_room h)) fields sum);
               };
         }
 
     pub walking_refused : (fault : ReadFault) → GivesNext now limit (Err fault) next → (F : List ℕ) → old.source.store.content ≡ Some F → HasWalked Z F limit old k (Err fault)
     walking_refused fault gives F known = λ own.
         let of = walking.of_file F known in
-        of.quiet ∙ row_refused F limit (entry_at old k) count of.counted index fault (row_next (Err fault) gives F known) own
+        of.quiet ∙ row_refused F limit (chosen_entry old k) count of.counted index fault (row_next (Err fault) gives F known) own
 
     pub walking_paid : (fault : ReadFault) → GivesNext now limit (Err fault) next → index < count → PaysUpTo k old next
     walking_paid fault gives fewer = record {
@@ -165,8 +165,8 @@ module _ (Z : Type 0) (limit : ℕ) (old : WalkState) (k : ℕ) where
       let of = walking.of_file F known in
       let s = stream_of {Z = Z} F old k in (
         of.counted,
-        of.room_is ∙ ap told (rooms_all (kind_in s) (records_seen s) index (omega (arith, all, records_are Z F (entry_at old k) count of.counted))),
-        of.quiet ∙ ap (body_told F limit (entry_at old k)) all ∙ rows_passed F limit (entry_at old k) count of.counted,
+        of.room_is ∙ ap told (rooms_all (kind_in s) (records_seen s) index (omega (arith, all, records_are Z F (chosen_entry old k) count of.counted))),
+        of.quiet ∙ ap (body_told F limit (chosen_entry old k)) all ∙ rows_passed F limit (chosen_entry old k) count of.counted,
       )
 
 -- ---- all streams
@@ -230,17 +230,17 @@ module _ (Z : Type 0) (limit : ℕ) (old : WalkState) where
   }
 
   module _ (now : WalkState) (counts rooms : List ℕ) (k : ℕ) (walking : AreWalking Z limit old now counts rooms k) (inside : k < length old.chosen) (next : WalkState) where
-    entry_now : entry_at now k ≡ entry_at old k
+    entry_now : chosen_entry now k ≡ chosen_entry old k
     entry_now = ap (λ (xs : List Numbered). get_or xs k no_entry) walking.pays.same.chosen
 
     file_now : (F : List ℕ) → old.source.store.content ≡ Some F → now.source.store.content ≡ Some F
     file_now F known = walking.pays.same.fetches.fetches.same_content ∙ known
 
     -- one stream more was walked over, or a part of it
-    one_pays : (n : ℕ) → Pays (listed (entry_at now k).entry) (n * name_cost (entry_at now k).entry.stream_type) now next → (counts_new : List ℕ) → counts_new ≡ counts ++ n ∷ [] → PaysAll counts_new old next
+    one_pays : (n : ℕ) → Pays (listed (chosen_entry now k).entry) (n * name_cost (chosen_entry now k).entry.stream_type) now next → (counts_new : List ℕ) → counts_new ≡ counts ++ n ∷ [] → PaysAll counts_new old next
     one_pays n pays counts_new pushed =
         let e : Numbered → ℕ = λ (x : Numbered). listed x.entry + n * name_cost x.entry.stream_type in
-        let cost : listed (entry_at now k).entry + n * name_cost (entry_at now k).entry.stream_type ≡ pass_cost (get_or old.chosen (length counts) no_entry).entry n =
+        let cost : listed (chosen_entry now k).entry + n * name_cost (chosen_entry now k).entry.stream_type ≡ pass_cost (get_or old.chosen (length counts) no_entry).entry n =
         ap e entry_now ∙ ap (λ (i : ℕ). e (get_or old.chosen i no_entry)) (sym walking.counted) in
         let sums : sum (costs_in old.chosen counts_new) ≡ sum (costs_in old.chosen counts) + pass_cost (get_or old.chosen (length counts) no_entry).entry n =
         ap (λ (ns : List ℕ). sum (costs_in old.chosen ns)) pushed ∙ costs_push old.chosen counts n (omega (arith, inside, walking.counted)) in
@@ -252,10 +252,10 @@ module _ (Z : Type 0) (limit : ℕ) (old : WalkState) where
         }
 
     -- the entry behind those that were counted
-    entry_here : entry_at now k ≡ entry_at old (length counts)
-    entry_here = entry_now ∙ ap (entry_at old) (sym walking.counted)
+    entry_here : chosen_entry now k ≡ chosen_entry old (length counts)
+    entry_here = entry_now ∙ ap (chosen_entry old) (sym walking.counted)
 
-    pub one_walked : (n r : ℕ) → Pays (listed (entry_at now k).entry) (n * name_cost (entry_at now k).entry.stream_type) now next → next.failed ≡ None → (GivesNone (kind_at now k) n → r ≡ 0)
+    pub one_walked : (n r : ℕ) → Pays (listed (chosen_entry now k).entry) (n * name_cost (chosen_entry now k).entry.stream_type) now next → next.failed ≡ None → (GivesNone (kind_at now k) n → r ≡ 0)
         → ((F : List ℕ) → now.source.store.content ≡ Some F → HasWalked Z F limit now k (Ok (record { count = n; room = r }))) → (counts_new rooms_new : List ℕ) → counts_new ≡ counts ++ n ∷ [] → rooms_new ≡ rooms ++ r ∷ []
         → AreWalking Z limit old next counts_new rooms_new (k + 1)
     one_walked n r pays going bare of counts_new rooms_new pushed also =
@@ -273,13 +273,13 @@ module _ (Z : Type 0) (limit : ℕ) (old : WalkState) where
               let here = entry_here in
               let rooms_same : length rooms ≡ length counts = walking.roomed ∙ sym walking.counted in
               rw (pushed, also) (record {
-                counted = each_push (λ i m. record_count F (entry_at old i).entry ≡ Ok m) counts n before.counted (subst (λ (x : Numbered). record_count F x.entry ≡ Ok n) here one.0);
+                counted = each_push (λ i m. record_count F (chosen_entry old i).entry ≡ Ok m) counts n before.counted (subst (λ (x : Numbered). record_count F x.entry ≡ Ok n) here one.0);
                 roomed = λ i within.
                     each_push (λ j m. m ≡ room_told (stream_of {Z = Z} F old j)) rooms r (λ j less. before.roomed j (omega (arith, less, rooms_same)))
                     (subst (λ (m : ℕ). r ≡ room_told (stream_of {Z = Z} F old m)) (sym rooms_same) (subst (λ (x : Numbered). r ≡ room_told (stream_named {Z = Z} F x.entry)) here one.1)) i
                     (omega (arith, within, rooms_same, length-append rooms (r ∷ []), length-append counts (n ∷ [])));
                 quiet = λ i within.
-                    each_push (λ j m. entry_told F limit (entry_at old j) ≡ None) counts n before.quiet (subst (λ (x : Numbered). entry_told F limit x ≡ None) here one.2) i within;
+                    each_push (λ j m. entry_told F limit (chosen_entry old j) ≡ None) counts n before.quiet (subst (λ (x : Numbered). entry_told F limit x ≡ None) here one.2) i within;
               });
         }
 
@@ -296,7 +296,7 @@ module _ (Z : Type 0) (limit : ℕ) (old : WalkState) where
       pays = one_pays up.reached up.pays (counts ++ up.reached ∷ []) refl;
       few = λ F known.
           costs_most F old.chosen (counts ++ up.reached ∷ [])
-          (each_push (λ i m. m ≤ count_in (record_count F (entry_at old i).entry)) counts up.reached
+          (each_push (λ i m. m ≤ count_in (record_count F (chosen_entry old i).entry)) counts up.reached
           (λ i before. omega (arith, ap count_in ((walking.of_file F known).counted i before)))
           (subst (λ (x : Numbered). up.reached ≤ count_in (record_count F x.entry)) entry_here (up.few F (file_now F known))));
     }

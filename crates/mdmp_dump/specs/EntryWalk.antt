@@ -10,7 +10,7 @@ use Rattle.mdmp_lister.specs.declared.choice.Choice.{Choice}
 use Rattle.mdmp_lister.specs.declared.fault.Fault.{Fault}
 use Rattle.mdmp_lister.specs.declared.fault.ListFault.{ListFault}
 use Rattle.mdmp_lister.specs.declared.item.Item.{Item}
-use Rattle.mdmp_lister.specs.declared.kind.Kind.{Kind as ListKind}
+use Rattle.mdmp_lister.specs.declared.kind.StreamKind.{StreamKind}
 use Rattle.mdmp_lister.specs.declared.shape.Shape.{Shape}
 use Rattle.mdmp_lister.specs.Format.Item.{item_at}
 use Rattle.mdmp_lister.specs.Format.Kind.{is_known, kind_of}
@@ -85,8 +85,8 @@ pub record WalkState : Type 0 where
   pub failed : Option SourceFault
 
 -- the entry of a stream
-abbrev pub entry_at : WalkState → ℕ → Numbered
-entry_at w k = get_or w.chosen k no_entry
+abbrev pub chosen_entry : WalkState → ℕ → Numbered
+chosen_entry w k = get_or w.chosen k no_entry
 
 -- what stays
 pub record IsSameWalk (old new : WalkState) : Type 0 where
@@ -106,7 +106,7 @@ pub record Pays (bytes names : ℕ) (old new : WalkState) : Type 0 where
   pub more : old.names ≤ new.names
 
 -- it was opened over a source, and has given nothing
-pub record IsOpened (source : SourceState) (window : ℕ) (choice : Choice) (w : WalkState) : Type 0 where
+pub record IsOpenedWalk (source : SourceState) (window : ℕ) (choice : Choice) (w : WalkState) : Type 0 where
   pub fetches : FetchesSome source w.source
   pub choice_is : w.choice ≡ choice
   pub few : length w.chosen ≤ w.header.number_of_streams
@@ -132,9 +132,9 @@ ended_by (Err (faults.List fault)) = store_fault_in fault.kind
 ended_by result = None
 
 pub record Begins (old : WalkState) (stream : ℕ) (result : Result ℕ ReadFault) (new : WalkState) : Type 0 where
-  pub pays : Pays (listed (entry_at old stream).entry) 0 old new
-  pub begun : IfOk result (λ count. (new.current ≡ entry_at old stream) × (new.left ≡ count) × (count < 2 ^ 32))
-  pub of_file : (file : List ℕ) → old.source.store.content ≡ Some file → IsCountOf file (entry_at old stream) result
+  pub pays : Pays (listed (chosen_entry old stream).entry) 0 old new
+  pub begun : IfOk result (λ count. (new.current ≡ chosen_entry old stream) × (new.left ≡ count) × (count < 2 ^ 32))
+  pub of_file : (file : List ℕ) → old.source.store.content ≡ Some file → IsCountOf file (chosen_entry old stream) result
   pub fetches : old.failed ≡ None → Fetches result old.source new.source
   -- each fault is one of the listing
   pub told : IfErr result (λ fault. (told : ListFault) × (fault ≡ faults.List told))
@@ -162,7 +162,7 @@ IsRowFound F e k item seen (Err fault) = (IsOwn fault → ⊥) → row_told F e 
 
 -- the record with this index of the stream of an entry, whose name may have at most `limit` bytes
 pub record FindsRow (F : List ℕ) (limit : ℕ) (x : Numbered) (k : ℕ) (result : Result FoundRecord ReadFault) : Type 0 where
-  pub kind : ListKind
+  pub kind : StreamKind
   pub shape : Shape
   pub kind_is : kind_of x.entry.stream_type ≡ Some kind
   pub shape_is : shape_of F x.entry.location.rva x.entry.location.size kind ≡ Ok shape
@@ -188,7 +188,7 @@ pub record GivesNext (old : WalkState) (limit : ℕ) (result : Result FoundRecor
 
 -- ---- bytes beside the walk
 
-pub record ReadsAside (count : ℕ) (old : WalkState) (result : Result (Unit {0}) SourceFault) (new : WalkState) : Type 0 where
+pub record WalkReadsAside (count : ℕ) (old : WalkState) (result : Result (Unit {0}) SourceFault) (new : WalkState) : Type 0 where
   pub same : new ≡ record old { source = new.source; aside = new.aside }
   pub aside : new.aside ≤ old.aside + count
   pub fetches : FetchesSome old.source new.source

@@ -11,16 +11,16 @@ use Rattle.mdmp_lister.specs.Opening.{IsBareRefusal}
 use Rattle.mdmp_dump.specs.declared.fault.ReadFault.{ReadFault}
 use Rattle.mdmp_dump.specs.declared.fault.ReadFault.TheVariants as faults
 use Rattle.mdmp_dump.specs.Left.{body_from}
-use Rattle.mdmp_dump.specs.Refusal.{Step, Refuse, Take, item_steps}
+use Rattle.mdmp_dump.specs.Refusal.{ReadStep, Refuse, Take, item_steps}
 
 -- the first step that is refused, or else the last fault
-unfoldable pub first_told : List Step → Option ReadFault → Option ReadFault
+unfoldable pub first_told : List ReadStep → Option ReadFault → Option ReadFault
 first_told [] last = last
 first_told (Refuse fault ∷ steps) last = Some fault
 first_told (Take e k size ∷ steps) last = first_told steps last
 
 -- the bytes that some steps take
-unfoldable pub taken_by : List Step → ℕ
+unfoldable pub taken_by : List ReadStep → ℕ
 taken_by [] = 0
 taken_by (Refuse fault ∷ steps) = taken_by steps
 taken_by (Take e k size ∷ steps) = size + taken_by steps

@@ -19,13 +19,13 @@ use Rattle.mdmp_dump.specs.declared.view.Kind.{Kind}
 use Rattle.mdmp_dump.specs.declared.view.Kind.TheVariants as kinds
 use Rattle.mdmp_dump.specs.declared.view.ViewFault.{ViewFault}
 use Rattle.mdmp_dump.specs.declared.view.ViewFault.TheVariants as view
-use Rattle.mdmp_dump.specs.EntryWalk.{IsSameWalk, Pays, WalkState, entry_at, kind_by, listed, name_cost, pass_cost, raw_part}
+use Rattle.mdmp_dump.specs.EntryWalk.{IsSameWalk, Pays, WalkState, chosen_entry, kind_by, listed, name_cost, pass_cost, raw_part}
 use Rattle.mdmp_dump.specs.FileRefusal.{body_told, entry_told, view_refusal}
 use Rattle.mdmp_dump.specs.FoundRecord.{AreIn, no_part}
 use Rattle.mdmp_dump.specs.InFile.{dump_in, stream_named}
 use Rattle.mdmp_dump.specs.Placed.{size_in}
 use Rattle.mdmp_dump.specs.Reading.{IsLastTold, IsOwn}
-use Rattle.mdmp_dump.specs.Shape.{Cursor, GivesNone, Shape, StreamShape, is_far, parts_at, parts_in, shape_of, sizes_at, told, value_cursor}
+use Rattle.mdmp_dump.specs.Shape.{StreamCursor, GivesNone, ViewShape, StreamShape, is_far, parts_at, parts_in, shape_seen, sizes_at, told, value_cursor}
 use Rattle.mdmp_dump.specs.View.{dump_seen, header_seen, kind_in, records_seen}
 
 -- ---- what a pass costs
@@ -75,19 +75,19 @@ streams_in xs ns rs = []
 abbrev pub header_fields : Header → HeaderFields
 header_fields h = record { version_high = h.version / 65536; checksum = h.checksum; time = h.time_date_stamp; flags = h.flags }
 
-abbrev pub unknown_shape : WalkState → List ℕ → List ℕ → Shape
+abbrev pub unknown_shape : WalkState → List ℕ → List ℕ → ViewShape
 unknown_shape w counts rooms = record { header = header_fields w.header; streams = streams_in w.chosen counts rooms; costs = costs_in w.chosen counts; is_reliable = false; seen = None }
 
 -- what is left of the room of a stream
 abbrev pub left_room : Pass → ℕ
 left_room p = if p.room == greatest then greatest else p.room - p.met
 
-abbrev pub unknown_cursor : WalkState → Pass → Cursor
+abbrev pub unknown_cursor : WalkState → Pass → StreamCursor
 unknown_cursor w p = record {
-  kind = kind_by (entry_at w p.stream).entry.stream_type;
+  kind = kind_by (chosen_entry w p.stream).entry.stream_type;
   records = p.left;
-  room = if is_far (kind_by (entry_at w p.stream).entry.stream_type) then 0 else left_room p;
-  far = if is_far (kind_by (entry_at w p.stream).entry.stream_type) then left_room p else 0;
+  room = if is_far (kind_by (chosen_entry w p.stream).entry.stream_type) then 0 else left_room p;
+  far = if is_far (kind_by (chosen_entry w p.stream).entry.stream_type) then left_room p else 0;
   bytes = bytes_by p.left p.room (p.room - p.met);
   seen = None;
   sizes = λ k. size_in (get_or p.parts k no_part).size;
@@ -95,7 +95,7 @@ unknown_cursor w p = record {
 }
 
 -- no stream is begun
-abbrev pub no_cursor : Cursor
+abbrev pub no_cursor : StreamCursor
 no_cursor = record { kind = kinds.Unused; records = 0; room = 0; far = 0; bytes = 0; seen = None; sizes = λ k. 0; parts = None }
 
 -- a pass fits the walk: while records are left, its stream is the current one; and the parts lie inside the file
@@ -104,14 +104,14 @@ pub record IsPass (w : WalkState) (p : Pass) : Type 0 where
   pub few : p.given + p.left < 2 ^ 32
   pub met : p.met ≤ p.room
   pub parts : AreIn w.source.size p.parts
-  pub going : 0 < p.left → (w.current ≡ entry_at w p.stream) × (w.left ≡ p.left)
+  pub going : 0 < p.left → (w.current ≡ chosen_entry w p.stream) × (w.left ≡ p.left)
 
 -- ---- of known content
 
 module _ {Z : Type 0} where
   -- the stream of an entry of F
   abbrev pub stream_of : List ℕ → WalkState → ℕ → Stream Z
-  stream_of F w k = stream_named F (entry_at w k).entry
+  stream_of F w k = stream_named F (chosen_entry w k).entry
 
   -- what the names and parts of all records of a stream take, as it is told
   abbrev pub room_told : Stream Z → ℕ
@@ -121,17 +121,17 @@ module _ {Z : Type 0} where
   abbrev pub met_told : Stream Z → ℕ → ℕ
   met_told s given = told (parts_in (kind_in s) (take given (records_seen s)))
 
-  abbrev pub known_shape : (d : Dump Z) → WalkState → List ℕ → Shape
+  abbrev pub known_shape : (d : Dump Z) → WalkState → List ℕ → ViewShape
   known_shape d w counts = record {
     header = header_seen d;
-    streams = map shape_of (dump_seen d).streams;
+    streams = map shape_seen (dump_seen d).streams;
     costs = costs_in w.chosen counts;
     is_reliable = w.source.store.is_reliable;
     seen = Some (dump_seen d);
   }
 
 module _ (Z : Type 0) where
-  abbrev pub known_cursor : List ℕ → WalkState → Pass → Cursor
+  abbrev pub known_cursor : List ℕ → WalkState → Pass → StreamCursor
   known_cursor F w p = value_cursor (stream_of {Z = Z} F w p.stream) p.given
 
   -- a view of F: its entries have as many records as were counted, whose names and parts take what was told, and nothing of
@@ -142,14 +142,14 @@ module _ (Z : Type 0) where
     pub header : w.header ≡ header_at F 0
     pub chosen_are : w.chosen ≡ chosen F w.choice
     pub quiet : view_refusal F w.choice limit ≡ None
-    pub counted : (k : ℕ) → k < length w.chosen → record_count F (entry_at w k).entry ≡ Ok (get_or counts k 0)
+    pub counted : (k : ℕ) → k < length w.chosen → record_count F (chosen_entry w k).entry ≡ Ok (get_or counts k 0)
     pub roomed : (k : ℕ) → k < length w.chosen → get_or rooms k 0 ≡ room_told (stream_of {Z = Z} F w k)
 
   -- a pass over a stream of F: so many of its records were given, none of those that are left is refused, and the parts of
   -- the last one stand where it says, or the raw bytes
   pub record IsPassOf (F : List ℕ) (limit : ℕ) (w : WalkState) (p : Pass) : Type 0 where
-    pub quiet : body_told F limit (entry_at w p.stream) p.given ≡ None
-    pub counted : record_count F (entry_at w p.stream).entry ≡ Ok (p.given + p.left)
+    pub quiet : body_told F limit (chosen_entry w p.stream) p.given ≡ None
+    pub counted : record_count F (chosen_entry w p.stream).entry ≡ Ok (p.given + p.left)
     pub room : p.room ≡ room_told (stream_of {Z = Z} F w p.stream)
     pub met : p.met ≡ met_told (stream_of {Z = Z} F w p.stream) p.given
     pub parts : (j : ℕ) → bytes_at F (get_or p.parts j no_part).at (size_in (get_or p.parts j no_part).size) ≡ get_or (parts_at (stream_of {Z = Z} F w p.stream) p.given) j []
@@ -157,21 +157,21 @@ module _ (Z : Type 0) where
 
   -- ---- of any content
 
-  abbrev pub shape_by : Option (List ℕ) → WalkState → List ℕ → List ℕ → Shape
+  abbrev pub shape_by : Option (List ℕ) → WalkState → List ℕ → List ℕ → ViewShape
   shape_by None w counts rooms = unknown_shape w counts rooms
   shape_by (Some F) w counts rooms = known_shape (dump_in {Z = Z} F w.choice) w counts
 
-  abbrev pub file_shape : WalkState → List ℕ → List ℕ → Shape
+  abbrev pub file_shape : WalkState → List ℕ → List ℕ → ViewShape
   file_shape w counts rooms = shape_by w.source.store.content w counts rooms
 
-  abbrev pub cursor_by : Option (List ℕ) → WalkState → Pass → Cursor
+  abbrev pub cursor_by : Option (List ℕ) → WalkState → Pass → StreamCursor
   cursor_by None w p = unknown_cursor w p
   cursor_by (Some F) w p = known_cursor F w p
 
-  abbrev pub pass_cursor : WalkState → Pass → Cursor
+  abbrev pub pass_cursor : WalkState → Pass → StreamCursor
   pass_cursor w p = cursor_by w.source.store.content w p
 
-  abbrev pub file_cursor : WalkState → Option Pass → Cursor
+  abbrev pub file_cursor : WalkState → Option Pass → StreamCursor
   file_cursor w None = no_cursor
   file_cursor w (Some p) = pass_cursor w p
 
@@ -179,12 +179,12 @@ module _ (Z : Type 0) where
 abbrev pub first_pass : WalkState → ℕ → ℕ → ℕ → Pass
 first_pass w k count room = record {
   stream = k;
-  rva = (entry_at w k).entry.location.rva;
+  rva = (chosen_entry w k).entry.location.rva;
   given = 0;
   left = count;
   room = room;
   met = 0;
-  parts = raw_part (entry_at w k).entry ∷ no_part ∷ no_part ∷ [];
+  parts = raw_part (chosen_entry w k).entry ∷ no_part ∷ no_part ∷ [];
 }
 
 -- ---- what was fetched
@@ -194,14 +194,14 @@ abbrev pub opening_cost : WalkState → List ℕ → ℕ
 opening_cost w counts = 32 + 12 * w.header.number_of_streams + sum (costs_in w.chosen counts)
 
 -- the lengths of names that a pass may still fetch
-abbrev pub owed : WalkState → Option Pass → ℕ
-owed w None = 0
-owed w (Some p) = p.left * name_cost (entry_at w p.stream).entry.stream_type
+abbrev pub names_owed : WalkState → Option Pass → ℕ
+names_owed w None = 0
+names_owed w (Some p) = p.left * name_cost (chosen_entry w p.stream).entry.stream_type
 
 -- what was fetched is paid for: by the opening, by the passes that were begun, and by what was asked
-pub record IsPaid (w : WalkState) (counts : List ℕ) (pass : Option Pass) (passed asked : ℕ) : Type 0 where
-  pub bytes : opening_cost w counts + passed + asked < 2 ^ 128 - 1 → w.allowed + w.aside + owed w pass ≤ opening_cost w counts + passed + asked
-  pub names : opening_cost w counts + passed + asked < 2 ^ 128 - 1 → 4 * w.names + owed w pass ≤ opening_cost w counts + passed + asked
+pub record IsViewPaid (w : WalkState) (counts : List ℕ) (pass : Option Pass) (passed asked : ℕ) : Type 0 where
+  pub bytes : opening_cost w counts + passed + asked < 2 ^ 128 - 1 → w.allowed + w.aside + names_owed w pass ≤ opening_cost w counts + passed + asked
+  pub names : opening_cost w counts + passed + asked < 2 ^ 128 - 1 → 4 * w.names + names_owed w pass ≤ opening_cost w counts + passed + asked
 
 -- ---- opening
 
@@ -215,8 +215,8 @@ pub record PaysAll (counts : List ℕ) (old new : WalkState) : Type 0 where
 -- a stream was walked over up to what is refused: so many records were reached, of a known file no more than it has
 pub record PaysUpTo (k : ℕ) (old new : WalkState) : Type 0 where
   pub reached : ℕ
-  pub pays : Pays (listed (entry_at old k).entry) (reached * name_cost (entry_at old k).entry.stream_type) old new
-  pub few : (F : List ℕ) → old.source.store.content ≡ Some F → reached ≤ count_in (record_count F (entry_at old k).entry)
+  pub pays : Pays (listed (chosen_entry old k).entry) (reached * name_cost (chosen_entry old k).entry.stream_type) old new
+  pub few : (F : List ℕ) → old.source.store.content ≡ Some F → reached ≤ count_in (record_count F (chosen_entry old k).entry)
 
 -- the streams were, up to one of them
 pub record PaysSome (old new : WalkState) : Type 0 where
@@ -229,14 +229,14 @@ pub record PaysSome (old new : WalkState) : Type 0 where
 module _ (Z : Type 0) where
   abbrev pub HasWalked : List ℕ → ℕ → WalkState → ℕ → Result Walked ReadFault → Type 0
   HasWalked F limit w k (Ok walked) =
-      (record_count F (entry_at w k).entry ≡ Ok walked.count) × (walked.room ≡ room_told (stream_of {Z = Z} F w k)) × (entry_told F limit (entry_at w k) ≡ None)
-  HasWalked F limit w k (Err fault) = (IsOwn fault → ⊥) → entry_told F limit (entry_at w k) ≡ Some fault
+      (record_count F (chosen_entry w k).entry ≡ Ok walked.count) × (walked.room ≡ room_told (stream_of {Z = Z} F w k)) × (entry_told F limit (chosen_entry w k) ≡ None)
+  HasWalked F limit w k (Err fault) = (IsOwn fault → ⊥) → entry_told F limit (chosen_entry w k) ≡ Some fault
 
   -- so many streams were
   pub record AreWalked (F : List ℕ) (limit : ℕ) (w : WalkState) (counts rooms : List ℕ) : Type 0 where
-    pub counted : (k : ℕ) → k < length counts → record_count F (entry_at w k).entry ≡ Ok (get_or counts k 0)
+    pub counted : (k : ℕ) → k < length counts → record_count F (chosen_entry w k).entry ≡ Ok (get_or counts k 0)
     pub roomed : (k : ℕ) → k < length counts → get_or rooms k 0 ≡ room_told (stream_of {Z = Z} F w k)
-    pub quiet : (k : ℕ) → k < length counts → entry_told F limit (entry_at w k) ≡ None
+    pub quiet : (k : ℕ) → k < length counts → entry_told F limit (chosen_entry w k) ≡ None
 
 -- of streams of these kinds, with so many records each, those of which none is given have no names and parts
 abbrev pub AreBare : (ℕ → Kind) → List ℕ → List ℕ → Type 0
@@ -244,7 +244,7 @@ AreBare kind counts rooms = (k : ℕ) → GivesNone (kind k) (get_or counts k 0)
 
 -- the kind of a stream of a walk
 abbrev pub kind_at : WalkState → ℕ → Kind
-kind_at w k = kind_by (entry_at w k).entry.stream_type
+kind_at w k = kind_by (chosen_entry w k).entry.stream_type
 
 -- ---- faults
 
@@ -257,7 +257,7 @@ told_as rva (Some fault) = view.Source fault
 told_as rva None = view.Source (Changed rva)
 
 -- a call that fetches answers so: a fault is told in it, or the walk has ended with it before; over a good store there is none
-pub record Tells {T : Type 0} (old : WalkState) (result : Result T ViewFault) (new : WalkState) : Type 0 where
+pub record TellsViewFault {T : Type 0} (old : WalkState) (result : Result T ViewFault) (new : WalkState) : Type 0 where
   pub told : old.failed ≡ None → IfErr result (λ fault. IsLastTold (source_fault fault) old.source new.source)
   pub ended : (fault : SourceFault) → new.failed ≡ Some fault → MatchResult result (λ x. ⊥) (λ last. last ≡ view.Source fault)
   pub repeats : (fault : SourceFault) → old.failed ≡ Some fault → (new.source ≡ old.source) × (new.failed ≡ old.failed)
@@ -283,7 +283,7 @@ pub record IsView (Z : Type 0) (limit : ℕ) (w : WalkState) (counts rooms : Lis
   pub few : length w.chosen ≤ w.header.number_of_streams
   pub light : w.held < 2 ^ 64
   pub passing : (p : Pass) → pass ≡ Some p → IsPass w p
-  pub paid : IsPaid w counts pass passed asked
+  pub paid : IsViewPaid w counts pass passed asked
   pub bare : AreBare (kind_at w) counts rooms
   pub of_file : (F : List ℕ) → w.source.store.content ≡ Some F → IsViewed Z F limit w counts rooms
   pub pass_of : (F : List ℕ) (p : Pass) → w.source.store.content ≡ Some F → pass ≡ Some p → IsPassOf Z F limit w p

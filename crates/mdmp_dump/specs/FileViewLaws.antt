@@ -12,7 +12,7 @@ use Rattle.mdmp_dump.specs.EntryWalk.{WalkState, kind_by, no_entry}
 use Rattle.mdmp_dump.specs.FileView.{AreBare, HasMoved, costs_in, file_shape, kind_at, opening_cost, shape_by, source_fault, streams_in}
 use Rattle.mdmp_dump.specs.InFile.{dump_in}
 use Rattle.mdmp_dump.specs.Reading.{IsLastTold}
-use Rattle.mdmp_dump.specs.Shape.{AreOfTheirKinds, GivesNone, HaveNoStrayParts, IsSound, unused_shape}
+use Rattle.mdmp_dump.specs.Shape.{AreOfTheirKinds, GivesNone, HaveNoStrayParts, IsShapeOfSeen, unused_shape}
 use Rattle.mdmp_dump.specs.ShapeLaws.{value_kinds, value_sound, value_stray}
 
 streams_stray : (xs : List Numbered) (ns rs : List ℕ) → AreBare (λ k. kind_by (get_or xs k no_entry).entry.stream_type) ns rs → (k : ℕ)
@@ -25,12 +25,12 @@ streams_stray (x ∷ xs) (n ∷ ns) (r ∷ rs) bare zero none = bare zero none
 streams_stray (x ∷ xs) (n ∷ ns) (r ∷ rs) bare (suc k) none = streams_stray xs ns rs (λ i. bare (suc i)) k none
 
 module _ (Z : Type 0) (w : WalkState) (counts rooms : List ℕ) where
-  sound_by : (c : Option (List ℕ)) → IsSound (shape_by Z c w counts rooms)
+  sound_by : (c : Option (List ℕ)) → IsShapeOfSeen (shape_by Z c w counts rooms)
   sound_by None x known = absurd (let none = known in cc)
   sound_by (Some F) x known = value_sound (dump_in {Z = Z} F w.choice) x known
 
   -- what it gives has its shape
-  pub view_sound : IsSound (file_shape Z w counts rooms)
+  pub view_sound : IsShapeOfSeen (file_shape Z w counts rooms)
   view_sound = sound_by w.source.store.content
 
   kinds_by : (c : Option (List ℕ)) → AreOfTheirKinds (shape_by Z c w counts rooms)
@@ -54,8 +54,8 @@ module _ (Z : Type 0) (w : WalkState) (counts rooms : List ℕ) where
   costs_by (Some F) = refl
 
   -- what its opening may fetch, by what its shape tells of the passes
-  pub opening_told : opening_cost w counts ≡ 32 + 12 * w.header.number_of_streams + sum (file_shape Z w counts rooms).costs
-  opening_told = ap (λ (ns : List ℕ). 32 + 12 * w.header.number_of_streams + sum ns) (sym (costs_by w.source.store.content))
+  pub opening_cost_told : opening_cost w counts ≡ 32 + 12 * w.header.number_of_streams + sum (file_shape Z w counts rooms).costs
+  opening_cost_told = ap (λ (ns : List ℕ). 32 + 12 * w.header.number_of_streams + sum ns) (sym (costs_by w.source.store.content))
 
 -- ---- how it moves
 

@@ -15,8 +15,8 @@ use Rattle.mdmp_wire.specs.Thread.{thread_at}
 use Rattle.mdmp_wire.specs.Unloaded.{unloaded_at}
 use Rattle.mdmp_lister.specs.declared.choice.Choice.{Choice}
 use Rattle.mdmp_lister.specs.declared.fault.Fault.{Fault}
-use Rattle.mdmp_lister.specs.declared.kind.Kind.{Kind}
-use Rattle.mdmp_lister.specs.declared.kind.Kind.TheVariants as kinds
+use Rattle.mdmp_lister.specs.declared.kind.StreamKind.{StreamKind}
+use Rattle.mdmp_lister.specs.declared.kind.StreamKind.TheVariants as kinds
 use Rattle.mdmp_lister.specs.declared.name.Name.{Name}
 use Rattle.mdmp_lister.specs.declared.shape.Shape.{Shape}
 use Rattle.mdmp_lister.specs.Format.Item.{range_offset}
@@ -159,7 +159,7 @@ module _ {Z : Type 0} where
   -- ---- streams
 
   -- a stream of a kind that has this shape
-  abbrev pub shaped_in : List ℕ → ℕ → Kind → Shape → Stream Z
+  abbrev pub shaped_in : List ℕ → ℕ → StreamKind → Shape → Stream Z
   shaped_in F rva kinds.Threads shape = streams.Threads (list_in (λ k o. thread_in F o) rva shape)
   shaped_in F rva kinds.Modules shape = streams.Modules (list_in (λ k o. module_in F o) rva shape)
   shaped_in F rva kinds.Memory shape = streams.Memory (list_in (λ k o. memory_in F o) rva shape)
@@ -169,11 +169,11 @@ module _ {Z : Type 0} where
   shaped_in F rva kinds.Unloaded shape = streams.Unloaded (list_in (λ k o. unloaded_in F o) rva shape)
   shaped_in F rva kinds.MemoryInfo shape = streams.MemoryInfo (list_in (λ k o. memory_info_at F o) rva shape)
 
-  abbrev pub known_in : List ℕ → ℕ → Kind → Result Shape Fault → Stream Z
+  abbrev pub known_in : List ℕ → ℕ → StreamKind → Result Shape Fault → Stream Z
   known_in F rva kind (Ok shape) = shaped_in F rva kind shape
   known_in F rva kind (Err fault) = streams.Unused
 
-  abbrev pub by_kind : List ℕ → Entry → Option Kind → Stream Z
+  abbrev pub by_kind : List ℕ → Entry → Option StreamKind → Stream Z
   by_kind F e (Some kind) = known_in F e.location.rva kind (shape_of F e.location.rva e.location.size kind)
   by_kind F e None = streams.Raw e.stream_type (array_at F e.location.rva e.location.size)
 

@@ -8,8 +8,8 @@ use Rattle.mdmp_wire.specs.Header.{header_at}
 use Rattle.mdmp_wire.specs.HeaderFault.{HasHeader}
 use Rattle.mdmp_wire.specs.MemoryInfo.{memory_info_at}
 use Rattle.mdmp_lister.specs.declared.choice.Choice.{Choice}
-use Rattle.mdmp_lister.specs.declared.kind.Kind.{Kind}
-use Rattle.mdmp_lister.specs.declared.kind.Kind.TheVariants as kinds
+use Rattle.mdmp_lister.specs.declared.kind.StreamKind.{StreamKind}
+use Rattle.mdmp_lister.specs.declared.kind.StreamKind.TheVariants as kinds
 use Rattle.mdmp_lister.specs.declared.shape.Shape.{Shape}
 use Rattle.mdmp_lister.specs.Format.Kind.{kind_of}
 use Rattle.mdmp_lister.specs.Format.Shape.{shape_of}
@@ -34,7 +34,7 @@ EachFrom IsAt at stride k [] = Unit {0}
 EachFrom IsAt at stride k (x ∷ xs) = IsAt k (at + k * stride) x × EachFrom IsAt at stride (k + 1) xs
 
 -- the stream lies inside; its shape has no fault, and it has as many records of this kind as it counts
-pub record HasRecords {X : Type 0} (F : List ℕ) (at : Location) (kind : Kind) (IsAt : ℕ → ℕ → X → Type 0) (xs : List X) : Type 0 where
+pub record HasRecords {X : Type 0} (F : List ℕ) (at : Location) (kind : StreamKind) (IsAt : ℕ → ℕ → X → Type 0) (xs : List X) : Type 0 where
   pub inside : IsTrue (is_inside at.rva at.size (length F))
   pub shape : Shape
   pub shaped : shape_of F at.rva at.size kind ≡ Ok shape
@@ -65,14 +65,14 @@ module _ {Z : Type 0} where
   StandsAt F at (streams.Raw t bytes) = HasBytes F at t bytes
 
   -- the entry names the stream
-  pub record IsStream (F : List ℕ) (e : Entry) (s : Stream Z) : Type 0 where
+  pub record NamesStream (F : List ℕ) (e : Entry) (s : Stream Z) : Type 0 where
     pub type_is : e.stream_type ≡ type_of s
     pub stands : StandsAt F e.location s
 
   -- the entries name the streams, one each
   abbrev pub AreStreams : List ℕ → List Numbered → List (Stream Z) → Type 0
   AreStreams F [] [] = Unit {0}
-  AreStreams F (x ∷ xs) (s ∷ ss) = IsStream F x.entry s × AreStreams F xs ss
+  AreStreams F (x ∷ xs) (s ∷ ss) = NamesStream F x.entry s × AreStreams F xs ss
   AreStreams F [] (s ∷ ss) = ⊥
   AreStreams F (x ∷ xs) [] = ⊥
 

@@ -7,12 +7,12 @@ use Rattle.mdmp_dump.specs.declared.memory.MemoryRange.{MemoryRange}
 use Rattle.mdmp_dump.specs.Part.{IsPart, PartFits}
 use Rattle.mdmp_lister.specs.declared.item.Item.{Item}
 use Rattle.mdmp_lister.specs.declared.item.Item.TheVariants as items
-use Rattle.mdmp_dump.specs.declared.row.Found.{Found}
+use Rattle.mdmp_dump.specs.declared.row.ToldRecord.{ToldRecord}
 use Rattle.mdmp_lister.specs.declared.item.RangeItem.{RangeItem}
 use Rattle.mdmp_source.specs.declared.location.Extent.{Extent}
 use Rattle.mdmp_source.specs.declared.location.Extent.TheVariants as classes
 use Rattle.mdmp_lister.specs.Format.Item.{range_extent_of}
-use Rattle.mdmp_dump.specs.Refusal.{Step, part_steps}
+use Rattle.mdmp_dump.specs.Refusal.{ReadStep, part_steps}
 use Rattle.mdmp_dump.specs.declared.fault.PartName.TheVariants.{Memory}
 use Rattle.mdmp_wire.specs.declared.any_record.AnyRecord.TheVariants as any
 use Rattle.mdmp_dump.specs.Seen.{Seen, seen, nowhere, size_of, bytes_of}
@@ -38,14 +38,14 @@ module _ {Z : Type 0} where
     pub bytes : PartFits x.bytes
 
 -- what an item tells of such a record, but for its name
-abbrev pub range_told : Item → Option (Found RangeItem)
+abbrev pub range_told : Item → Option (ToldRecord RangeItem)
 range_told (items.Range x) = Some (record { place = record { entry = x.entry; index = x.index }; fields = x })
 range_told item = None
 
 -- its bytes are taken, unless they are absent
-abbrev pub present_steps : ℕ → ℕ → ℕ → ℕ → ℕ → Extent → List Step
+abbrev pub present_steps : ℕ → ℕ → ℕ → ℕ → ℕ → Extent → List ReadStep
 present_steps size e k offset len classes.Absent = []
 present_steps size e k offset len extent = part_steps e k Memory offset len (range_extent_of offset len size)
 
-abbrev pub memory_steps : ℕ → Found RangeItem → List Step
+abbrev pub memory_steps : ℕ → ToldRecord RangeItem → List ReadStep
 memory_steps size x = present_steps size x.place.entry x.place.index x.fields.offset x.fields.size x.fields.extent

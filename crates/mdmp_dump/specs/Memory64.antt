@@ -7,8 +7,8 @@ use Rattle.mdmp_wire.specs.Descriptor64.{descriptor64_at}
 use Rattle.mdmp_lister.specs.Format.Item.{range_extent_of, range_offset}
 use Rattle.mdmp_dump.specs.declared.memory64.Memory64Range.{Memory64Range}
 use Rattle.mdmp_lister.specs.declared.item.RangeItem.{RangeItem}
-use Rattle.mdmp_dump.specs.declared.row.Found.{Found}
-use Rattle.mdmp_dump.specs.Refusal.{Step, part_steps}
+use Rattle.mdmp_dump.specs.declared.row.ToldRecord.{ToldRecord}
+use Rattle.mdmp_dump.specs.Refusal.{ReadStep, part_steps}
 use Rattle.mdmp_dump.specs.declared.fault.PartName.TheVariants.{Memory}
 use Rattle.mdmp_wire.specs.declared.any_record.AnyRecord.TheVariants as any
 use Rattle.mdmp_dump.specs.Seen.{Seen, seen}
@@ -35,6 +35,6 @@ module _ {Z : Type 0} where
   Memory64Fits x = x.start < 2 ^ 64
 
 -- its bytes are taken
-abbrev pub memory64_steps : ℕ → Found RangeItem → List Step
+abbrev pub memory64_steps : ℕ → ToldRecord RangeItem → List ReadStep
 memory64_steps size x =
     part_steps x.place.entry x.place.index Memory x.fields.offset x.fields.size (range_extent_of x.fields.offset x.fields.size size)

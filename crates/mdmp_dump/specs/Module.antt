@@ -8,9 +8,9 @@ use Rattle.mdmp_dump.specs.Name.{IsName, NameFits}
 use Rattle.mdmp_dump.specs.Part.{IsPart, PartFits}
 use Rattle.mdmp_lister.specs.declared.item.Item.{Item}
 use Rattle.mdmp_lister.specs.declared.item.Item.TheVariants as items
-use Rattle.mdmp_dump.specs.declared.row.Found.{Found}
+use Rattle.mdmp_dump.specs.declared.row.ToldRecord.{ToldRecord}
 use Rattle.mdmp_source.specs.Extent.{extent_of}
-use Rattle.mdmp_dump.specs.Refusal.{Step, location_steps}
+use Rattle.mdmp_dump.specs.Refusal.{ReadStep, location_steps}
 use Rattle.mdmp_dump.specs.declared.fault.PartName.TheVariants.{CodeView, Misc}
 use Rattle.mdmp_wire.specs.declared.any_record.AnyRecord.TheVariants as any
 use Rattle.mdmp_dump.specs.Seen.{Seen, seen, nowhere, size_of, bytes_of, name_size, unit_bytes}
@@ -75,12 +75,12 @@ module _ {Z : Type 0} where
     pub reserved1 : x.reserved1 < 2 ^ 64
 
 -- what an item tells of such a record, but for its name
-abbrev pub module_told : Item → Option (Found ModuleRecord)
+abbrev pub module_told : Item → Option (ToldRecord ModuleRecord)
 module_told (items.Module x) = Some (record { place = record { entry = x.entry; index = x.index }; fields = x.fields })
 module_told item = None
 
 -- its CodeView record is taken, and then its miscellaneous debug record
-abbrev pub module_steps : ℕ → Found ModuleRecord → List Step
+abbrev pub module_steps : ℕ → ToldRecord ModuleRecord → List ReadStep
 module_steps size x =
     location_steps x.place.entry x.place.index CodeView x.fields.cv_record (extent_of x.fields.cv_record size)
     ++ location_steps x.place.entry x.place.index Misc x.fields.misc_record (extent_of x.fields.misc_record size)

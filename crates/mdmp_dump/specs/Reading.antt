@@ -20,24 +20,24 @@ use Rattle.mdmp_lister.specs.Opening.{IsOpenRefusal}
 use Rattle.mdmp_lister.specs.Following.{FitsFile}
 use Rattle.mdmp_lister.specs.Lister.{ListerState, tail}
 use Rattle.mdmp_lister.specs.declared.name.Name.{Name}
-use Rattle.mdmp_lister.specs.declared.kind.Kind.{Kind}
+use Rattle.mdmp_lister.specs.declared.kind.StreamKind.{StreamKind}
 use Rattle.mdmp_lister.specs.declared.shape.Shape.{Shape}
 use Rattle.mdmp_lister.specs.Format.Shape.{shape_of}
 use Rattle.mdmp_dump.specs.declared.fault.ReadFault.{ReadFault}
 use Rattle.mdmp_dump.specs.declared.fault.ReadFault.TheVariants as faults
 use Rattle.mdmp_dump.specs.declared.reader.Reader.{Reader}
-use Rattle.mdmp_dump.specs.declared.row.Found.{Found}
+use Rattle.mdmp_dump.specs.declared.row.ToldRecord.{ToldRecord}
 use Rattle.mdmp_dump.specs.declared.reader.Told.{Told}
 use Rattle.mdmp_dump.specs.declared.reader.Told.TheVariants as tolds
 use Rattle.mdmp_dump.specs.declared.reader.Next.{Next}
 use Rattle.mdmp_dump.specs.declared.reader.Next.TheVariants as nexts
-use Rattle.mdmp_dump.specs.LaysOut.{EachFrom, IsStream}
+use Rattle.mdmp_dump.specs.LaysOut.{EachFrom, NamesStream}
 use Rattle.mdmp_dump.specs.declared.dump.Stream.{Stream}
 use Rattle.mdmp_wire.specs.declared.entry.Entry.{Entry}
 use Rattle.mdmp_lister.specs.Format.Kind.{kind_of}
-use Rattle.mdmp_dump.specs.Left.{IsBehind, IsGiven, RowGiven, left_from}
+use Rattle.mdmp_dump.specs.Left.{StandBehind, IsGiven, RowGiven, left_from}
 use Rattle.mdmp_dump.specs.Name.{name_told}
-use Rattle.mdmp_dump.specs.Refusal.{Step, Refuse, first_refusal, item_steps, name_steps, stream_steps}
+use Rattle.mdmp_dump.specs.Refusal.{ReadStep, Refuse, first_refusal, item_steps, name_steps, stream_steps}
 use Rattle.mdmp_source.specs.Range.{is_inside}
 use Rattle.mdmp_wire.specs.Number.{array_at}
 
@@ -102,10 +102,10 @@ pub record TellsOf (content : Option (List ℕ)) (fault : ReadFault) : Type 0 wh
   pub changed : MayBeTold content (store_fault fault)
 
 -- what some steps ask was done, or the first of them that can't be is told
-pub record Takes {S A T : Type 0} (steps : List Step) (old : Reader S A) (result : Result T ReadFault) (new : Reader S A) : Type 0 where
+pub record TakesSteps {S A T : Type 0} (steps : List ReadStep) (old : Reader S A) (result : Result T ReadFault) (new : Reader S A) : Type 0 where
   pub same : new.lister ≡ record old.lister { source = new.lister.source; counts = new.lister.counts }
   pub fetches : Fetches result old.lister.source new.lister.source
-  pub settles : (rest : List Step) (last : Option ReadFault) → Settles (first_refusal old.left 0 (steps ++ rest) last) result (λ _. first_refusal new.left 0 rest last)
+  pub settles : (rest : List ReadStep) (last : Option ReadFault) → Settles (first_refusal old.left 0 (steps ++ rest) last) result (λ _. first_refusal new.left 0 rest last)
 
 -- these are the bytes at a place inside the file
 pub record HasBytesAt (F : List ℕ) (at size : ℕ) (bytes : List ℕ) : Type 0 where
@@ -116,7 +116,7 @@ pub record HasBytesAt (F : List ℕ) (at size : ℕ) (bytes : List ℕ) : Type 0
 -- ---- items
 
 -- the name of an item is refused where it is too long
-abbrev pub name_steps_of : Item → List Step
+abbrev pub name_steps_of : Item → List ReadStep
 name_steps_of (items.Module x) = name_steps x.entry x.index x.name
 name_steps_of (items.Unloaded x) = name_steps x.entry x.index x.name
 name_steps_of (items.System x) = name_steps x.entry x.index x.name
@@ -132,12 +132,12 @@ IsNextStream run None new = (run ≡ nothing) × (new ≡ Some run)
 IsNextStream run (Some item) new = (slice_get run.items 0 ≡ Some (items.Stream item)) × (new ≡ Some (tail run))
 
 -- what a Stream item that was given asks
-abbrev pub steps_of : ℕ → Option StreamItem → List Step
+abbrev pub steps_of : ℕ → Option StreamItem → List ReadStep
 steps_of size None = []
 steps_of size (Some item) = stream_steps size item.entry item.stream_type item.location
 
 -- the first refusal where these steps and what is left of the listing are still to come, with so many bytes for parts
-abbrev pub refusal_in : List ℕ → ℕ → List Step → Option Run → Option ReadFault
+abbrev pub refusal_in : List ℕ → ℕ → List ReadStep → Option Run → Option ReadFault
 refusal_in F left steps None = None
 refusal_in F left steps (Some run) = first_refusal left 0 (steps ++ flat_map (item_steps (length F)) run.items) (option_map faults.List run.fault)
 
@@ -146,50 +146,50 @@ abbrev pub owed : List ℕ → ℕ → Option StreamItem → Option Run → Opti
 owed F left item run = refusal_in F left (steps_of (length F) item) run
 
 -- behind an item the listing goes on, and fewer are left
-abbrev pub GoesOn : ListerState → ListerState → Type 0
-GoesOn old new = (new.stop ≡ None) × (new.work < old.work)
+abbrev pub ListingGoesOn : ListerState → ListerState → Type 0
+ListingGoesOn old new = (new.stop ≡ None) × (new.work < old.work)
 
 abbrev pub IsGoing : ListerState → Option StreamItem → ListerState → Type 0
 IsGoing old None new = Unit {0}
-IsGoing old (Some item) new = GoesOn old new
+IsGoing old (Some item) new = ListingGoesOn old new
 
 -- what is left begins with the entries behind these
 abbrev pub IsLeftBehind : List ℕ → ℕ → List Numbered → Option StreamItem → Option Run → Type 0
-IsLeftBehind F limit xs next left = (run : Run) × ((left ≡ Some run) × IsBehind F limit xs next run)
+IsLeftBehind F limit xs next left = (run : Run) × ((left ≡ Some run) × StandBehind F limit xs next run)
 
 -- ---- records
 
 -- these are the first records of a stream
-abbrev pub AreRows : {X : Type 0} → List ℕ → Numbered → Kind → (ℕ → ℕ → X → Type 0) → List X → Type 0
+abbrev pub AreRows : {X : Type 0} → List ℕ → Numbered → StreamKind → (ℕ → ℕ → X → Type 0) → List X → Type 0
 AreRows F x kind IsAt rows = (shape : Shape) → shape_of F x.entry.location.rva x.entry.location.size kind ≡ Ok shape
     → (length rows ≤ shape.count) × EachFrom IsAt (x.entry.location.rva + shape.first) shape.stride 0 rows
 
 -- this is record k of a stream
-abbrev pub IsRow : {X : Type 0} → List ℕ → Numbered → Kind → (ℕ → ℕ → X → Type 0) → ℕ → X → Type 0
+abbrev pub IsRow : {X : Type 0} → List ℕ → Numbered → StreamKind → (ℕ → ℕ → X → Type 0) → ℕ → X → Type 0
 IsRow F x kind IsAt k row = (shape : Shape) × ((shape_of F x.entry.location.rva x.entry.location.size kind ≡ Ok shape)
     × ((k < shape.count) × IsAt k (x.entry.location.rva + shape.first + k * shape.stride) row))
 
 -- its stream has one record
-abbrev pub HasOneRecord : List ℕ → Numbered → Kind → Type 0
+abbrev pub HasOneRecord : List ℕ → Numbered → StreamKind → Type 0
 HasOneRecord F x kind = (shape : Shape) → shape_of F x.entry.location.rva x.entry.location.size kind ≡ Ok shape → shape.count ≡ 1
 
 -- behind k records of an entry stands its next one, or other entries
-abbrev pub IsNext : {X : Type 0} → List ℕ → ℕ → Numbered → ℕ → List Numbered → Kind → (ℕ → ℕ → X → Type 0) → Next X → Option Run → Type 0
+abbrev pub IsNext : {X : Type 0} → List ℕ → ℕ → Numbered → ℕ → List Numbered → StreamKind → (ℕ → ℕ → X → Type 0) → Next X → Option Run → Type 0
 IsNext F limit x k xs kind IsAt (nexts.Row row) left = IsRow F x kind IsAt k row × (left ≡ Some (left_from F limit x (k + 1) xs))
 IsNext F limit x k xs kind IsAt (nexts.Behind next) left = IsGiven F x k × IsLeftBehind F limit xs next left
 
-abbrev pub behind_of : {X : Type 0} → Next X → Option StreamItem
-behind_of (nexts.Row row) = None
-behind_of (nexts.Behind next) = next
+abbrev pub next_behind : {X : Type 0} → Next X → Option StreamItem
+next_behind (nexts.Row row) = None
+next_behind (nexts.Behind next) = next
 
 abbrev pub IsGoingOn : {X : Type 0} → ListerState → Next X → ListerState → Type 0
-IsGoingOn old (nexts.Row row) new = GoesOn old new
+IsGoingOn old (nexts.Row row) new = ListingGoesOn old new
 IsGoingOn old (nexts.Behind next) new = IsGoing old next new
 
 -- the value of a record was read, with its name and its parts, of an item that told the record
-pub record IsRowRead {S A X T : Type 0} (kind : Kind) (told : Item → Option (Found X)) (steps : ℕ → Found X → List Step) (IsAt : List ℕ → ℕ → ℕ → ℕ → T → Type 0)
-    (old : Reader S A) (found : Found X) (name : Option (List ℕ)) (result : Result T ReadFault) (new : Reader S A) : Type 0 where
-  pub takes : Takes (steps old.lister.source.size found) old result new
+pub record IsRowRead {S A X T : Type 0} (kind : StreamKind) (told : Item → Option (ToldRecord X)) (steps : ℕ → ToldRecord X → List ReadStep) (IsAt : List ℕ → ℕ → ℕ → ℕ → T → Type 0)
+    (old : Reader S A) (found : ToldRecord X) (name : Option (List ℕ)) (result : Result T ReadFault) (new : Reader S A) : Type 0 where
+  pub takes : TakesSteps (steps old.lister.source.size found) old result new
   pub stands : (file : List ℕ) (limit e k at o : ℕ) (item : Item) → old.lister.source.store.content ≡ Some file
       → item_at file limit e k at o kind ≡ Ok item → told item ≡ Some found → name_told (summary_of item).name ≡ Some name
       → IfOk result (IsAt file at k o)
@@ -197,12 +197,12 @@ pub record IsRowRead {S A X T : Type 0} (kind : Kind) (told : Item → Option (F
 -- ---- what an item tells
 
 abbrev pub IsToldGoing : {X Z : Type 0} → ListerState → Told X Z → ListerState → Type 0
-IsToldGoing old (tolds.Record found name) new = GoesOn old new
+IsToldGoing old (tolds.Record found name) new = ListingGoesOn old new
 IsToldGoing old (tolds.Behind next) new = IsGoing old next new
 
 -- the first of what is left of an entry is the item of its record k, which tells this
-pub record IsRecordFound {X : Type 0} (F : List ℕ) (limit : ℕ) (x : Numbered) (k : ℕ) (xs : List Numbered) (kind : Kind)
-    (found : Item → Option (Found X)) (record_is : Found X) (name : Option (List ℕ)) (left : Option Run) : Type 0 where
+pub record IsRecordFound {X : Type 0} (F : List ℕ) (limit : ℕ) (x : Numbered) (k : ℕ) (xs : List Numbered) (kind : StreamKind)
+    (found : Item → Option (ToldRecord X)) (record_is : ToldRecord X) (name : Option (List ℕ)) (left : Option Run) : Type 0 where
   pub item : Item
   pub given : RowGiven F limit x k xs kind item
   pub told : found item ≡ Some record_is
@@ -210,17 +210,17 @@ pub record IsRecordFound {X : Type 0} (F : List ℕ) (limit : ℕ) (x : Numbered
   pub rest : left ≡ Some (left_from F limit x (k + 1) xs)
 
 -- or all its records were given
-abbrev pub IsFound : {X Z : Type 0} → List ℕ → ℕ → Numbered → ℕ → List Numbered → Kind → (Item → Option (Found X)) → Told X Z → Option Run → Type 0
-IsFound F limit x k xs kind found (tolds.Record record_is name) left = IsRecordFound F limit x k xs kind found record_is name left
-IsFound F limit x k xs kind found (tolds.Behind next) left = IsGiven F x k × IsLeftBehind F limit xs next left
+abbrev pub IsFoundOrBehind : {X Z : Type 0} → List ℕ → ℕ → Numbered → ℕ → List Numbered → StreamKind → (Item → Option (ToldRecord X)) → Told X Z → Option Run → Type 0
+IsFoundOrBehind F limit x k xs kind found (tolds.Record record_is name) left = IsRecordFound F limit x k xs kind found record_is name left
+IsFoundOrBehind F limit x k xs kind found (tolds.Behind next) left = IsGiven F x k × IsLeftBehind F limit xs next left
 
 -- the first refusal where the parts of a record that was told are still to come
-abbrev pub refusal_found : {X Z : Type 0} → List ℕ → ℕ → (ℕ → Found X → List Step) → Told X Z → Option Run → Option ReadFault
+abbrev pub refusal_found : {X Z : Type 0} → List ℕ → ℕ → (ℕ → ToldRecord X → List ReadStep) → Told X Z → Option Run → Option ReadFault
 refusal_found F left steps (tolds.Record found name) run = refusal_in F left (steps (length F) found) run
 refusal_found F left steps (tolds.Behind next) run = owed F left next run
 
 -- a name was taken, whose steps are these, or is refused as they say
-abbrev pub IsNameTaken : List Step → Name → Result (Option (List ℕ)) ReadFault → Type 0
+abbrev pub IsNameTaken : List ReadStep → Name → Result (Option (List ℕ)) ReadFault → Type 0
 IsNameTaken steps name (Ok units) = (steps ≡ []) × (name_told name ≡ Some units)
 IsNameTaken steps name (Err faults.Memory) = Unit {0}
 IsNameTaken steps name (Err fault) = steps ≡ Refuse fault ∷ []
@@ -232,7 +232,7 @@ pub record IsEntryRead {S A V : Type 0} (F : List ℕ) (limit : ℕ) (xs : List 
   pub settles : Settles refusal result (λ r. owed F new.left r.1 new.lister.left)
 
 -- what an item tells a reader of records of one kind
-abbrev pub IsToldOf : {X Z : Type 0} → (Item → Option (Found X)) → Item → Result (Told X Z) ReadFault → Type 0
+abbrev pub IsToldOf : {X Z : Type 0} → (Item → Option (ToldRecord X)) → Item → Result (Told X Z) ReadFault → Type 0
 IsToldOf told item (Ok (tolds.Record found name)) =
     (IsStreamItem item → ⊥) × ((told item ≡ Some found) × ((name_steps_of item ≡ []) × (name_told (summary_of item).name ≡ Some name)))
 IsToldOf told item (Ok (tolds.Behind (Some stream))) = item ≡ items.Stream stream
@@ -248,4 +248,4 @@ IsRaw t = IsFalse (t == 0) × (kind_of t ≡ None)
 
 -- the entry names this one stream
 abbrev pub IsOneStream : {Z : Type 0} → List ℕ → Entry → Option (Stream Z) → Type 0
-IsOneStream {Z} F e stream = (one : Stream Z) × ((stream ≡ Some one) × IsStream F e one)
+IsOneStream {Z} F e stream = (one : Stream Z) × ((stream ≡ Some one) × NamesStream F e one)

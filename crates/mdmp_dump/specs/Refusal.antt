@@ -19,36 +19,36 @@ use Rattle.mdmp_dump.specs.declared.fault.ReadFault.{ReadFault}
 use Rattle.mdmp_dump.specs.declared.fault.ReadFault.TheVariants as faults
 
 -- what an item asks of a reader: to refuse it, or to take so many bytes for the item with this entry and index
-pub data Step : Type 0 where
-  Refuse : ReadFault → Step
-  Take : ℕ → ℕ → ℕ → Step
+pub data ReadStep : Type 0 where
+  Refuse : ReadFault → ReadStep
+  Take : ℕ → ℕ → ℕ → ReadStep
 
 -- ---- names and parts, of the item with entry e and index k
 
 -- a long name is refused
-abbrev pub name_steps : ℕ → ℕ → Name → List Step
+abbrev pub name_steps : ℕ → ℕ → Name → List ReadStep
 name_steps e k (Long bytes) = Refuse (faults.NameTooLong e k bytes) ∷ []
 name_steps e k _ = []
 
 -- a part is refused outside the file, and taken inside
-abbrev pub part_steps : ℕ → ℕ → PartName → ℕ → ℕ → Extent → List Step
+abbrev pub part_steps : ℕ → ℕ → PartName → ℕ → ℕ → Extent → List ReadStep
 part_steps e k part offset size classes.Outside = Refuse (faults.PartOutside e k part offset size) ∷ []
 part_steps e k part offset size classes.Inside = Take e k size ∷ []
 part_steps e k part offset size _ = []
 
 -- the same of a part that a location of this class names
-abbrev pub location_steps : ℕ → ℕ → PartName → Location → Extent → List Step
+abbrev pub location_steps : ℕ → ℕ → PartName → Location → Extent → List ReadStep
 location_steps e k part at extent = part_steps e k part at.rva at.size extent
 
 -- ---- items
 
 -- the bytes of a stream whose records are not known are taken, inside a file of `size` bytes
-abbrev pub stream_steps : ℕ → ℕ → ℕ → Location → List Step
+abbrev pub stream_steps : ℕ → ℕ → ℕ → Location → List ReadStep
 stream_steps size e t at =
     if not (t == 0) && not (is_known t) && is_inside at.rva at.size size then Take e 0 at.size ∷ [] else []
 
 -- what an item of a file of `size` bytes asks, the name first and then the parts in the order of its fields
-abbrev pub item_steps : ℕ → Item → List Step
+abbrev pub item_steps : ℕ → Item → List ReadStep
 item_steps size (items.Stream x) = stream_steps size x.entry x.stream_type x.location
 item_steps size (items.Thread x) =
     location_steps x.entry x.index Stack x.fields.stack.memory x.stack
@@ -66,7 +66,7 @@ item_steps size (items.Range x) = part_steps x.entry x.index Memory x.offset x.s
 -- ---- a file
 
 -- the first step that is refused, or with which more than the limit was taken in all, or else the last fault
-unfoldable pub first_refusal : ℕ → ℕ → List Step → Option ReadFault → Option ReadFault
+unfoldable pub first_refusal : ℕ → ℕ → List ReadStep → Option ReadFault → Option ReadFault
 first_refusal limit total [] last = last
 first_refusal limit total (Refuse fault ∷ steps) last = Some fault
 first_refusal limit total (Take e k size ∷ steps) last =

@@ -1,8 +1,8 @@
 -- What a view is: a shape that stays, a cursor that moves, and what was spent of it.
 use Rattle.std.specs.Prelude.{◌≡◌, ◌^◌, ◌≤◌, ◌<◌, ℕ, zero, suc, ◌+◌, ◌-◌, ◌*◌, List, [], ◌∷◌, length, map, get_or, drop, Option, Some, None, option_map, Bool, true, false, ◌==◌, if◌then◌else◌, min}
 use Rattle.mdmp_wire.specs.declared.any_record.AnyRecord.{AnyRecord}
-use Rattle.mdmp_lister.specs.declared.kind.Kind.{Kind as ListKind}
-use Rattle.mdmp_lister.specs.declared.kind.Kind.TheVariants as list
+use Rattle.mdmp_lister.specs.declared.kind.StreamKind.{StreamKind}
+use Rattle.mdmp_lister.specs.declared.kind.StreamKind.TheVariants as list
 use Rattle.mdmp_lister.specs.Format.Item.{kind_told}
 use Rattle.mdmp_lister.specs.Format.Kind.{form_of, kind_of, record_size, type_of_kind}
 use Rattle.mdmp_lister.specs.Format.Shape.{head_cost}
@@ -25,12 +25,12 @@ is_far (kinds.Known t) = t == type_of_kind list.Memory64
 is_far _ = false
 
 -- the bytes before the records of a stream of this kind, as it is written; none before a single record
-abbrev pub head_by : Option ListKind → ℕ
+abbrev pub head_by : Option StreamKind → ℕ
 head_by (Some kind) = head_cost (form_of kind)
 head_by None = 0
 
 -- the bytes of a record of it. No view gives another type as known: its records would have 1.
-abbrev pub row_by : Option ListKind → ℕ
+abbrev pub row_by : Option StreamKind → ℕ
 row_by (Some kind) = record_size kind
 row_by None = 1
 
@@ -77,7 +77,7 @@ asks_of s = s.bytes + s.raw
 
 -- a view: the numbers of its header; its streams, and the cost of a pass over each, 0 where none is told; whether none of its
 -- calls answers a fault, and what it gives where that is known
-pub record Shape : Type 0 where
+pub record ViewShape : Type 0 where
   pub header : HeaderFields
   pub streams : List StreamShape
   pub costs : List ℕ
@@ -107,17 +107,17 @@ all_bytes (x ∷ xs) = fields_bytes x.fields + all_bytes xs
 abbrev pub parts_in : Kind → List Seen → ℕ
 parts_in kind xs = if is_far kind then fars xs else rooms xs
 
-abbrev pub shape_of : StreamSeen → StreamShape
-shape_of s = record { kind = s.kind; records = length s.records; raw = length s.raw; parts = parts_in s.kind s.records; bytes = all_bytes s.records }
+abbrev pub shape_seen : StreamSeen → StreamShape
+shape_seen s = record { kind = s.kind; records = length s.records; raw = length s.raw; parts = parts_in s.kind s.records; bytes = all_bytes s.records }
 
 -- known content has this shape
-abbrev pub IsSound : Shape → Type 0
-IsSound s = (x : DumpSeen) → s.seen ≡ Some x → s.streams ≡ map shape_of x.streams
+abbrev pub IsShapeOfSeen : ViewShape → Type 0
+IsShapeOfSeen s = (x : DumpSeen) → s.seen ≡ Some x → s.streams ≡ map shape_seen x.streams
 
-abbrev pub stream_at : Shape → ℕ → StreamShape
+abbrev pub stream_at : ViewShape → ℕ → StreamShape
 stream_at s k = get_or s.streams k unused_shape
 
-abbrev pub cost_at : Shape → ℕ → ℕ
+abbrev pub cost_at : ViewShape → ℕ → ℕ
 cost_at s k = get_or s.costs k 0
 
 abbrev pub seen_at : DumpSeen → ℕ → StreamSeen
@@ -129,7 +129,7 @@ GivesNone (kinds.Known t) records = records ≡ 0
 GivesNone kind records = Unit {0}
 
 -- such streams have no names and parts
-abbrev pub HaveNoStrayParts : Shape → Type 0
+abbrev pub HaveNoStrayParts : ViewShape → Type 0
 HaveNoStrayParts s = (k : ℕ) → GivesNone (stream_at s k).kind (stream_at s k).records → (stream_at s k).parts ≡ 0
 
 -- a size as it is told: it stops at the greatest
@@ -142,7 +142,7 @@ told n = min n (2 ^ 64 - 1)
 -- memory, how many bytes their names and parts have at most, and the records where they are known. Then what `part` can be
 -- asked for: the sizes of the parts of the record given last, or of the raw bytes as part 0, and their bytes where they are
 -- known.
-pub record Cursor : Type 0 where
+pub record StreamCursor : Type 0 where
   pub kind : Kind
   pub records : ℕ
   pub room : ℕ
@@ -157,7 +157,7 @@ raw_sizes n zero = n
 raw_sizes n (suc k) = 0
 
 -- a stream is begun
-abbrev pub begun : Shape → ℕ → Cursor
+abbrev pub begun : ViewShape → ℕ → StreamCursor
 begun s k = record {
   kind = (stream_at s k).kind;
   records = (stream_at s k).records;
@@ -183,11 +183,11 @@ AreOf kind [] = Unit {0}
 AreOf kind (x ∷ xs) = IsOf kind x × AreOf kind xs
 
 -- the records of each stream are of its kind, where they are known
-abbrev pub AreOfTheirKinds : Shape → Type 0
+abbrev pub AreOfTheirKinds : ViewShape → Type 0
 AreOfTheirKinds s = (x : DumpSeen) (k : ℕ) → s.seen ≡ Some x → AreOf (seen_at x k).kind (seen_at x k).records
 
 -- of known records the first was given
-pub record GivesSeen (xs : List Seen) (f : Fields) (new : Cursor) : Type 0 where
+pub record GivesSeen (xs : List Seen) (f : Fields) (new : StreamCursor) : Type 0 where
   pub first : Seen
   pub others : List Seen
   pub split : xs ≡ first ∷ others
@@ -203,7 +203,7 @@ pub record TakesOff (old taken new records : ℕ) : Type 0 where
 
 -- a record of the stream's kind was given: its parts never pass the room that is left, and with the last record none is
 -- left, unless the room stands at the greatest size that is told
-pub record GivesRecord (old : Cursor) (f : Fields) (new : Cursor) : Type 0 where
+pub record GivesRecord (old : StreamCursor) (f : Fields) (new : StreamCursor) : Type 0 where
   pub kind : old.kind ≡ kinds.Known (type_told f.wire)
   pub stays : new.kind ≡ old.kind
   pub records : old.records ≡ new.records + 1
@@ -229,27 +229,27 @@ unspent = record { passed = 0; asked = 0; fault = None }
 -- ---- of a value
 
 module _ {Z : Type 0} where
-  abbrev pub value_shape : Dump Z → Shape
-  value_shape d = record { header = header_seen d; streams = map shape_of (dump_seen d).streams; costs = []; is_reliable = true; seen = Some (dump_seen d) }
+  abbrev pub value_shape : Dump Z → ViewShape
+  value_shape d = record { header = header_seen d; streams = map shape_seen (dump_seen d).streams; costs = []; is_reliable = true; seen = Some (dump_seen d) }
 
   -- a view of this value
-  abbrev pub IsViewOf : Dump Z → Shape → Type 0
+  abbrev pub IsViewOf : Dump Z → ViewShape → Type 0
   IsViewOf d s = s.seen ≡ Some (dump_seen d)
 
   -- the record of a stream with this index
-  abbrev pub record_at : Stream Z → ℕ → Seen
-  record_at s k = get_or (records_seen s) k nothing_seen
+  abbrev pub seen_record : Stream Z → ℕ → Seen
+  seen_record s k = get_or (records_seen s) k nothing_seen
 
   abbrev pub sizes_at : Stream Z → ℕ → ℕ → ℕ
   sizes_at s zero = raw_sizes (length (raw_in s))
-  sizes_at s (suc k) = λ which. size_in (size_at (record_at s k).fields which)
+  sizes_at s (suc k) = λ which. size_in (size_at (seen_record s k).fields which)
 
   abbrev pub parts_at : Stream Z → ℕ → List (List ℕ)
   parts_at s zero = raw_in s ∷ []
-  parts_at s (suc k) = (record_at s k).parts
+  parts_at s (suc k) = (seen_record s k).parts
 
   -- so many records of a stream were given
-  abbrev pub value_cursor : Stream Z → ℕ → Cursor
+  abbrev pub value_cursor : Stream Z → ℕ → StreamCursor
   value_cursor s k = record {
     kind = kind_in s;
     records = length (drop k (records_seen s));

@@ -17,7 +17,7 @@ use Rattle.mdmp_dump.specs.MemoryInfo.{memory_info_seen}
 use Rattle.mdmp_dump.specs.Module.{module_seen}
 use Rattle.mdmp_dump.specs.Placed.{size_in}
 use Rattle.mdmp_dump.specs.Seen.{Seen, seen, size_of, bytes_of, name_size, unit_bytes}
-use Rattle.mdmp_dump.specs.Shape.{AreOf, AreOfTheirKinds, GivesNone, HaveNoStrayParts, IsOf, IsSized, IsSound, fars, is_far, parts_in, rooms, seen_at, shape_of, type_told, unused_seen, unused_shape, value_shape}
+use Rattle.mdmp_dump.specs.Shape.{AreOf, AreOfTheirKinds, GivesNone, HaveNoStrayParts, IsOf, IsSized, IsShapeOfSeen, fars, is_far, parts_in, rooms, seen_at, shape_seen, type_told, unused_seen, unused_shape, value_shape}
 use Rattle.mdmp_dump.specs.System.{system_seen}
 use Rattle.mdmp_dump.specs.Thread.{thread_seen}
 use Rattle.mdmp_dump.specs.Unloaded.{unloaded_seen}
@@ -28,8 +28,8 @@ abbrev pub held : {X : Type 0} → X → Option X → X
 held x None = x
 held x (Some y) = y
 
-pub value_sound : {Z : Type 0} (d : Dump Z) → IsSound (value_shape d)
-value_sound d x known = ap (λ (x : DumpSeen). map shape_of x.streams) (ap (held x) known)
+pub value_sound : {Z : Type 0} (d : Dump Z) → IsShapeOfSeen (value_shape d)
+value_sound d x known = ap (λ (x : DumpSeen). map shape_seen x.streams) (ap (held x) known)
 
 -- ---- the sizes of parts
 
@@ -94,8 +94,8 @@ module _ {Z : Type 0} where
   stream_stray (streams.Raw t bytes) none = no_parts (kind_in {Z = Z} (streams.Raw t bytes)) [] refl
   stream_stray s none = no_parts (kind_in s) (records_seen s) none
 
-  streams_stray : (ss : List (Stream Z)) (k : ℕ) → GivesNone (get_or (map shape_of (map stream_seen ss)) k unused_shape).kind (get_or (map shape_of (map stream_seen ss)) k unused_shape).records
-      → (get_or (map shape_of (map stream_seen ss)) k unused_shape).parts ≡ 0
+  streams_stray : (ss : List (Stream Z)) (k : ℕ) → GivesNone (get_or (map shape_seen (map stream_seen ss)) k unused_shape).kind (get_or (map shape_seen (map stream_seen ss)) k unused_shape).records
+      → (get_or (map shape_seen (map stream_seen ss)) k unused_shape).parts ≡ 0
   streams_stray [] k none = refl
   streams_stray (s ∷ ss) zero none = stream_stray s none
   streams_stray (s ∷ ss) (suc k) none = streams_stray ss k none

@@ -13,15 +13,15 @@ use Rattle.mdmp_wire.specs.Thread.{thread_at}
 use Rattle.mdmp_wire.specs.Unloaded.{unloaded_at}
 use Rattle.mdmp_lister.specs.declared.fault.Fault.{Fault}
 use Rattle.mdmp_lister.specs.declared.item.Item.{Item}
-use Rattle.mdmp_lister.specs.declared.kind.Kind.{Kind}
-use Rattle.mdmp_lister.specs.declared.kind.Kind.TheVariants as kinds
+use Rattle.mdmp_lister.specs.declared.kind.StreamKind.{StreamKind}
+use Rattle.mdmp_lister.specs.declared.kind.StreamKind.TheVariants as kinds
 use Rattle.mdmp_lister.specs.declared.name.Name.{Name}
 use Rattle.mdmp_lister.specs.Format.Item.{item_at, item_of, name_of, named, offset_in, range64_item, range_item, range_offset, record_at}
 use Rattle.mdmp_dump.specs.declared.fault.PartName.TheVariants.{Memory}
-use Rattle.mdmp_dump.specs.declared.row.Found.{Found}
+use Rattle.mdmp_dump.specs.declared.row.ToldRecord.{ToldRecord}
 use Rattle.mdmp_dump.specs.Reading.{name_steps_of}
-use Rattle.mdmp_dump.specs.Refusal.{Step, item_steps, part_steps}
-use Rattle.mdmp_dump.specs.Telling.{Tells}
+use Rattle.mdmp_dump.specs.Refusal.{ReadStep, item_steps, part_steps}
+use Rattle.mdmp_dump.specs.Telling.{ItemTells}
 use Rattle.mdmp_dump.specs.Exception.{exception_steps, exception_told}
 use Rattle.mdmp_dump.specs.Memory.{memory_steps, present_steps, range_told}
 use Rattle.mdmp_dump.specs.Memory64.{memory64_steps}
@@ -39,10 +39,10 @@ named_given (Ok n) f item is = (n, (refl, cc))
 named_given (Err fault) f item is = absurd (cc)
 
 -- what is found in record k of an entry with these fields
-abbrev pub found_at : {X : Type 0} → ℕ → ℕ → X → Found X
+abbrev pub found_at : {X : Type 0} → ℕ → ℕ → X → ToldRecord X
 found_at e k fields = record { place = record { entry = e; index = k }; fields = fields }
 
-module _ (kind : Kind) (file : List ℕ) (limit e k at o : ℕ) where
+module _ (kind : StreamKind) (file : List ℕ) (limit e k at o : ℕ) where
   -- the item that the record makes with a name
   abbrev pub made : Name → Item
   made name = item_of (length file) e k (offset_in file at k kind) (record_at kind file o) name
@@ -51,17 +51,17 @@ module _ (kind : Kind) (file : List ℕ) (limit e k at o : ℕ) where
     pub item_made : (n : Name) × ((name_of file limit (name_rva (record_at kind file o)) ≡ Ok n) × (made n ≡ item))
     item_made = named_given (name_of file limit (name_rva (record_at kind file o))) made item is
 
-    module _ {X : Type 0} (told : Item → Option (Found X)) (found : Found X) where
+    module _ {X : Type 0} (told : Item → Option (ToldRecord X)) (found : ToldRecord X) where
       -- it tells what it does with any name
-      pub made_tells : (steps : ℕ → Found X → List Step)
+      pub made_tells : (steps : ℕ → ToldRecord X → List ReadStep)
           → ((n : Name) → (told (made n) ≡ Some found) × (item_steps (length file) (made n) ≡ name_steps_of (made n) ++ steps (length file) found))
-          → (one : Found X) × ((told item ≡ Some one) × (item_steps (length file) item ≡ name_steps_of item ++ steps (length file) one))
+          → (one : ToldRecord X) × ((told item ≡ Some one) × (item_steps (length file) item ≡ name_steps_of item ++ steps (length file) one))
       made_tells steps any =
-          subst (λ (x : Item). (one : Found X) × ((told x ≡ Some one) × (item_steps (length file) x ≡ name_steps_of x ++ steps (length file) one)))
+          subst (λ (x : Item). (one : ToldRecord X) × ((told x ≡ Some one) × (item_steps (length file) x ≡ name_steps_of x ++ steps (length file) one)))
           item_made.1.1 (found, any item_made.0)
 
       -- which is one thing
-      pub made_found : (other : Found X) → ((n : Name) → told (made n) ≡ Some found) → told item ≡ Some other → other ≡ found
+      pub made_found : (other : ToldRecord X) → ((n : Name) → told (made n) ≡ Some found) → told item ≡ Some other → other ≡ found
       made_found other any tells =
           let same : told (made item_made.0) ≡ told item = ap told item_made.1.1 in
           let first = any item_made.0 in
@@ -69,31 +69,31 @@ module _ (kind : Kind) (file : List ℕ) (limit e k at o : ℕ) where
 
 -- ---- the kinds
 
-pub thread_tells : Tells kinds.Threads thread_told thread_steps
+pub thread_tells : ItemTells kinds.Threads thread_told thread_steps
 thread_tells file limit e k at o item is =
     made_tells kinds.Threads file limit e k at o item is thread_told (found_at e k (thread_at file o)) thread_steps (λ n. (refl, refl))
 
-pub module_tells : Tells kinds.Modules module_told module_steps
+pub module_tells : ItemTells kinds.Modules module_told module_steps
 module_tells file limit e k at o item is =
     made_tells kinds.Modules file limit e k at o item is module_told (found_at e k (module_at file o)) module_steps (λ n. (refl, simp append_assoc))
 
-pub exception_tells : Tells kinds.Exception exception_told exception_steps
+pub exception_tells : ItemTells kinds.Exception exception_told exception_steps
 exception_tells file limit e k at o item is =
     made_tells kinds.Exception file limit e k at o item is exception_told (found_at e k (exception_at file o)) exception_steps (λ n. (refl, refl))
 
-pub system_tells : Tells kinds.System system_told (λ z x. [])
+pub system_tells : ItemTells kinds.System system_told (λ z x. [])
 system_tells file limit e k at o item is =
     made_tells kinds.System file limit e k at o item is system_told (found_at e k (system_at file o)) (λ z x. []) (λ n. (refl, sym (append-nil _)))
 
-pub unloaded_tells : Tells kinds.Unloaded unloaded_told (λ z x. [])
+pub unloaded_tells : ItemTells kinds.Unloaded unloaded_told (λ z x. [])
 unloaded_tells file limit e k at o item is =
     made_tells kinds.Unloaded file limit e k at o item is unloaded_told (found_at e k (unloaded_at file o)) (λ z x. []) (λ n. (refl, sym (append-nil _)))
 
-pub memory_info_tells : Tells kinds.MemoryInfo memory_info_told (λ z x. [])
+pub memory_info_tells : ItemTells kinds.MemoryInfo memory_info_told (λ z x. [])
 memory_info_tells file limit e k at o item is =
     made_tells kinds.MemoryInfo file limit e k at o item is memory_info_told (found_at e k (memory_info_at file o)) (λ z x. []) (λ n. (refl, refl))
 
-pub memory64_tells : Tells kinds.Memory64 range_told memory64_steps
+pub memory64_tells : ItemTells kinds.Memory64 range_told memory64_steps
 memory64_tells file limit e k at o item is =
     made_tells kinds.Memory64 file limit e k at o item is range_told (found_at e k (range64_item (length file) e k (descriptor64_at file o) (range_offset file at k))) memory64_steps
     (λ n. (refl, refl))
@@ -113,7 +113,7 @@ descriptor_steps z e k at true absent a b = rw a (rw a refl)
 descriptor_steps z e k at false true a b = rw (a, b) refl
 descriptor_steps z e k at false false a b = descriptor_present z e k at _ refl a b
 
-pub memory_tells : Tells kinds.Memory range_told memory_steps
+pub memory_tells : ItemTells kinds.Memory range_told memory_steps
 memory_tells file limit e k at o item is =
     made_tells kinds.Memory file limit e k at o item is range_told (found_at e k (range_item (length file) e k (descriptor_at file o))) memory_steps
     (λ n. (refl, descriptor_steps (length file) e k (descriptor_at file o).memory _ _ refl refl))

@@ -1,7 +1,7 @@
 -- The types of a dump's streams, and the dump with some of them.
 use Rattle.std.specs.Prelude.{ℕ, List, filter}
 use Rattle.mdmp_lister.specs.declared.choice.Choice.TheVariants.{Types}
-use Rattle.mdmp_lister.specs.declared.kind.Kind.TheVariants as list
+use Rattle.mdmp_lister.specs.declared.kind.StreamKind.TheVariants as list
 use Rattle.mdmp_lister.specs.Format.Kind.{type_of_kind}
 use Rattle.mdmp_lister.specs.Format.Listing.{is_chosen}
 use Rattle.mdmp_dump.specs.declared.dump.Stream.{Stream}

@@ -25,24 +25,24 @@ abbrev pub chosen_of : ListerState → List Numbered
 chosen_of v = only_chosen v.choice (numbered 0 v.entries)
 
 -- the entry that was begun last
-abbrev pub current_of : ListerState → Numbered
-current_of v = record { number = v.passed - 1; entry = v.current }
+abbrev pub current_entry : ListerState → Numbered
+current_entry v = record { number = v.passed - 1; entry = v.current }
 
 -- how many of its records are left: none before the first entry, behind the end and behind a fault
 abbrev pub left_by : ℕ → Option (Option ListFault) → ℕ → ℕ
 left_by passed None records = if passed == 0 then 0 else records
 left_by passed (Some stop) records = 0
 
-abbrev pub left_of : ListerState → ℕ
-left_of v = left_by v.passed v.stop v.records
+abbrev pub records_to_give : ListerState → ℕ
+records_to_give v = left_by v.passed v.stop v.records
 
 abbrev pub ended_with : Option (Option ListFault) → Option SourceFault
 ended_with (Some (Some f)) = store_fault_in f.kind
 ended_with stop = None
 
 -- what was fetched before its stream, all of that, and a length for each name since then
-abbrev pub allowed_of : WalkerState → ℕ
-allowed_of w = w.mark.fetched + entry_cost w.list.source.size w.list.current + 4 * (w.list.counts.names - w.mark.names)
+abbrev pub bytes_allowed : WalkerState → ℕ
+bytes_allowed w = w.mark.fetched + entry_cost w.list.source.size w.list.current + 4 * (w.list.counts.names - w.mark.names)
 
 abbrev pub state_of : WalkerState → WalkState
 state_of w = record {
@@ -55,9 +55,9 @@ state_of w = record {
   fetched = w.list.counts.fetched;
   aside = w.list.counts.aside.bytes;
   names = w.list.counts.names;
-  allowed = allowed_of w;
-  current = current_of w.list;
-  left = left_of w.list;
+  allowed = bytes_allowed w;
+  current = current_entry w.list;
+  left = records_to_give w.list;
   failed = ended_with w.list.stop;
 }
 
@@ -65,16 +65,16 @@ state_of w = record {
 
 -- records of a known file are left: those of the current entry from record k on
 abbrev pub HasLeft : List ℕ → ListerState → Type 0
-HasLeft F v = (k : ℕ) × (xs : List Numbered) × ((v.left ≡ Some (left_from F 0 (current_of v) k xs)) × (record_count F v.current ≡ Ok (k + left_of v)))
+HasLeft F v = (k : ℕ) × (xs : List Numbered) × ((v.left ≡ Some (left_from F 0 (current_entry v) k xs)) × (record_count F v.current ≡ Ok (k + records_to_give v)))
 
 -- no name is read, and what was fetched is allowed
 pub record IsKept (w : WalkerState) : Type 0 where
   pub limit : w.list.limit ≡ 0
   pub within : w.mark.names ≤ w.list.counts.names
-  pub spent : w.list.counts.names + 1 < 2 ^ 128 → w.list.counts.fetched ≤ allowed_of w
-  pub of_file : (file : List ℕ) → w.list.source.store.content ≡ Some file → 0 < left_of w.list → HasLeft file w.list
+  pub spent : w.list.counts.names + 1 < 2 ^ 128 → w.list.counts.fetched ≤ bytes_allowed w
+  pub of_file : (file : List ℕ) → w.list.source.store.content ≡ Some file → 0 < records_to_give w.list → HasLeft file w.list
   -- while records are left no entry is sought
-  pub unsought : 0 < left_of w.list → is_sought w ≡ false
+  pub unsought : 0 < records_to_give w.list → is_sought w ≡ false
 
 -- before this entry stand so many chosen ones
 pub record IsPlace (v : ListerState) (place : EntryPlace) : Type 0 where
@@ -90,7 +90,7 @@ pub record IsPlaceOf (v : ListerState) (stream : ℕ) (place : EntryPlace) : Typ
 
 -- it is told whether the stream that was begun last is a list of 64-bit memory
 abbrev pub IsFar : ListerState → Bool → Type 0
-IsFar v far = 0 < left_of v → far ≡ (v.current.stream_type == 9)
+IsFar v far = 0 < records_to_give v → far ≡ (v.current.stream_type == 9)
 
 pub record IsStanding (w : WalkerState) (place : EntryPlace) (far : Bool) : Type 0 where
   pub kept : IsKept w

@@ -42,7 +42,7 @@ module _ {Z : Type 0} where
 
   -- each name of the dump has at most name_limit bytes, its parts and raw streams have at most part_limit together, and
   -- its memory lists have no more ranges together than a lister takes. What stands twice counts twice
-  pub record IsWithin (name_limit part_limit : ℕ) (d : Dump Z) : Type 0 where
+  pub record IsWithinLimits (name_limit part_limit : ℕ) (d : Dump Z) : Type 0 where
     pub names : All (NamesWithin name_limit) d.streams
     pub parts : sum_by part_bytes d.streams ≤ part_limit
     pub ranges : sum_by memory_ranges d.streams ≤ most_ranges

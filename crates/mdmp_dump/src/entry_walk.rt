@@ -4,10 +4,10 @@ ghost use Rattle.mdmp_source.specs.Count.{raised};
 ghost use Rattle.mdmp_source.specs.Range.{IsInside, bytes_at};
 ghost use Rattle.mdmp_source.specs.Store.{IsOfBytes, IsSizeOf};
 ghost use Rattle.mdmp_lister.specs.Format.Refusal.{directory_refusal};
-ghost use Rattle.mdmp_dump.specs.EntryWalk.{Begins, GivesNext, IsOpened, ReadsAside, entry_at};
+ghost use Rattle.mdmp_dump.specs.EntryWalk.{Begins, GivesNext, IsOpenedWalk, WalkReadsAside, chosen_entry};
 ghost use Rattle.mdmp_lister.specs.Format.Listing.{entry_of};
 ghost use Rattle.mdmp_lister.specs.Lister.{IsSameLister};
-ghost use Rattle.mdmp_dump.specs.Walking.{IsFar, IsKept, IsPlace, IsPlaceOf, chosen_of, left_of, state_of};
+ghost use Rattle.mdmp_dump.specs.Walking.{IsFar, IsKept, IsPlace, IsPlaceOf, chosen_of, records_to_give, state_of};
 ghost use Rattle.mdmp_dump.specs.FileRefusal.{IsViewRefusal, view_refusal};
 ghost use Rattle.mdmp_dump.specs.Opening.{HasSpentOpening};
 ghost use Rattle.mdmp_dump.specs.Reading.{Fetches, IsOwn, TellsOf};
@@ -68,7 +68,7 @@ impl<S: Store + Drop, A: Allocator + Copy> EntryWalk<S, A> {
         limits: Limits,
         choice: Choice,
     ) -> Result<Self, ViewRefused<S>>
-        ensures opened { IfOk result (IsOpened source limits.window choice) }
+        ensures opened { IfOk result (IsOpenedWalk source limits.window choice) }
         ensures of_file { (file : List ℕ) → source.store.content ≡ Some file
             → MatchResult result (λ _. directory_refusal file ≡ None)
             (λ refused. (names : ℕ) → (IsOwn refused.fault → ⊥) → view_refusal file choice names ≡ Some refused.fault) }
@@ -134,7 +134,7 @@ impl<S: Store + Drop, A: Allocator + Copy> EntryWalk<S, A> {
     /// The entry of a stream.
     pub(crate) fn entry(&mut self, stream: u64) -> Entry
         requires { stream < length self.old.chosen }
-        ensures value { result ≡ (entry_at self.old stream).entry }
+        ensures value { result ≡ (chosen_entry self.old stream).entry }
         ensures same { self.new ≡ self.old }
     {
         self.place = place_of(&self.walker, self.place, stream);
@@ -165,7 +165,7 @@ impl<S: Store + Drop, A: Allocator + Copy> EntryWalk<S, A> {
     pub(crate) fn read_part(&mut self, at: u64, out: &mut [u8]) -> Result<(), SourceFault>
         requires { IsInside at (length out.old) self.old.source.size }
         ensures bytes { (file : List ℕ) → self.old.source.store.content ≡ Some file → OnOk result (out.new ≡ bytes_at file at (length out.new)) }
-        ensures reads { ReadsAside (length out.new) self.old result self.new }
+        ensures reads { WalkReadsAside (length out.new) self.old result self.new }
     {
         self.walker.read_part(at, out)
     }
@@ -237,7 +237,7 @@ fn begin_entry<S: Store + Drop, A: Allocator + Copy>(
     requires of_file { (file : List ℕ) (e : Entry) → walker.old.list.source.store.content ≡ Some file → slice_get walker.old.list.entries number ≡ Some e → e ≡ entry_of file number }
     requires kept { IsKept walker.old }
     ensures begins { (stream : ℕ) (e : Entry) → slice_get walker.old.list.entries number ≡ Some e
-        → entry_at (state_of walker.old) stream ≡ record { number = number; entry = e } → Begins (state_of walker.old) stream result (state_of walker.new) }
+        → chosen_entry (state_of walker.old) stream ≡ record { number = number; entry = e } → Begins (state_of walker.old) stream result (state_of walker.new) }
     ensures kept { IsKept walker.new }
     ensures far { (e : Entry) → slice_get walker.old.list.entries number ≡ Some e → IsFar walker.new.list (e.stream_type == 9) }
     ensures same { IsSameLister walker.old.list walker.new.list }
@@ -259,7 +259,7 @@ fn found_next<S: Store + Drop, A: Allocator + Copy>(
     begun: Entry,
     limit: u32,
 ) -> Result<FoundRecord, ReadFault>
-    requires left { 0 < left_of walker.old.list }
+    requires left { 0 < records_to_give walker.old.list }
     requires far { IsFar walker.old.list (begun.stream_type == 9) }
     requires kept { IsKept walker.old }
     ensures gives { GivesNext (state_of walker.old) limit result (state_of walker.new) }

@@ -1,5 +1,5 @@
 //! The exception of a dump.
-ghost use Rattle.mdmp_lister.specs.declared.kind.Kind.TheVariants as kinds;
+ghost use Rattle.mdmp_lister.specs.declared.kind.StreamKind.TheVariants as kinds;
 ghost use Rattle.mdmp_dump.specs.Exception.{ExceptionFits, IsException, exception_seen, exception_steps, exception_told};
 ghost use Rattle.mdmp_dump.specs.TellingLaws.{exception_tells};
 ghost use Rattle.std.specs.Prelude.{◌≡◌, ◌<◌, ◌^◌, ℕ, length, slice_index};
@@ -9,7 +9,7 @@ use crate::fits::Fitting;
 use crate::given::{Given, bytes_of, nowhere, size_of};
 use crate::part::Part;
 use crate::reader::Reader;
-use crate::row::{Found, Place, Row};
+use crate::row::{RecordPlace, Row, ToldRecord};
 use crate::view::{Fields, PartSize};
 use mdmp_lister::Item;
 use mdmp_source::Store;
@@ -76,10 +76,10 @@ impl<S: Store + Drop, A: Allocator + Copy> Row<S, A> for Exception<A> {
 
     ghost IsAt = { λ file at k. IsException file };
 
-    fn find(item: &Item<'_>) -> Option<Found<ExceptionRecord>> {
+    fn find(item: &Item<'_>) -> Option<ToldRecord<ExceptionRecord>> {
         match item {
-            Item::Exception(exception) => Some(Found {
-                place: Place {
+            Item::Exception(exception) => Some(ToldRecord {
+                place: RecordPlace {
                     entry: exception.entry,
                     index: exception.index,
                 },
@@ -91,7 +91,7 @@ impl<S: Store + Drop, A: Allocator + Copy> Row<S, A> for Exception<A> {
 
     fn read(
         reader: &mut Reader<S, A>,
-        place: Place,
+        place: RecordPlace,
         fields: ExceptionRecord,
         name: &mut Option<Units<A>>,
     ) -> Result<Self, ReadFault> {

@@ -9,7 +9,7 @@ ghost use Rattle.mdmp_source.specs.declared.location.Location.{Location};
 ghost use Rattle.mdmp_source.specs.declared.location.Extent.TheVariants.{Absent};
 ghost use Rattle.mdmp_lister.specs.Format.Ranges.{IsRangeIn};
 ghost use Rattle.mdmp_lister.specs.Format.Ranges.{IsPlacedIn};
-ghost use Rattle.mdmp_lister.specs.declared.kind.Kind.TheVariants as kinds;
+ghost use Rattle.mdmp_lister.specs.declared.kind.StreamKind.TheVariants as kinds;
 ghost use Rattle.mdmp_source.specs.Store.{AreBytes};
 ghost use Rattle.mdmp_dump.specs.Finding.{FindsName, FindsPart, FindsRange, IsAbleOf, IsFittingOf, IsFoundAs, IsFoundInside, IsFoundOf, IsOfPlaces, IsOfRecord, range_kind, record_kind};
 ghost use Rattle.mdmp_dump.specs.FoundRecord.{AreIn, IsPartIn, fields_of};

@@ -78,7 +78,7 @@ pub use crate::memory::MemoryRange;
 pub use crate::memory64::Memory64Range;
 pub use crate::module::Module;
 pub use crate::part::{Part, PositiveSize};
-pub use crate::read::{Answered, read_dump, read_source};
+pub use crate::read::{ReadAnswered, read_dump, read_source};
 pub use crate::records::Records;
 pub use crate::system::System;
 pub use crate::thread::Thread;

@@ -1,5 +1,5 @@
 //! A range of memory of a dump.
-ghost use Rattle.mdmp_lister.specs.declared.kind.Kind.TheVariants as kinds;
+ghost use Rattle.mdmp_lister.specs.declared.kind.StreamKind.TheVariants as kinds;
 ghost use Rattle.mdmp_dump.specs.Memory.{IsMemory, MemoryFits, memory_seen, memory_steps, range_told};
 ghost use Rattle.mdmp_dump.specs.TellingLaws.{memory_tells};
 
@@ -8,7 +8,7 @@ use crate::fits::Fitting;
 use crate::given::{Given, bytes_of, nowhere, size_of};
 use crate::part::Part;
 use crate::reader::{Reader, absent};
-use crate::row::{Found, Place, Row};
+use crate::row::{RecordPlace, Row, ToldRecord};
 use crate::view::{Fields, PartSize};
 use mdmp_lister::{Item, RangeItem};
 use mdmp_source::{Extent, Store};
@@ -45,10 +45,10 @@ impl<S: Store + Drop, A: Allocator + Copy> Row<S, A> for MemoryRange<A> {
 
     ghost IsAt = { λ file at k. IsMemory file };
 
-    fn find(item: &Item<'_>) -> Option<Found<RangeItem>> {
+    fn find(item: &Item<'_>) -> Option<ToldRecord<RangeItem>> {
         match item {
-            Item::Range(range) => Some(Found {
-                place: Place {
+            Item::Range(range) => Some(ToldRecord {
+                place: RecordPlace {
                     entry: range.entry,
                     index: range.index,
                 },
@@ -60,7 +60,7 @@ impl<S: Store + Drop, A: Allocator + Copy> Row<S, A> for MemoryRange<A> {
 
     fn read(
         reader: &mut Reader<S, A>,
-        place: Place,
+        place: RecordPlace,
         fields: RangeItem,
         name: &mut Option<Units<A>>,
     ) -> Result<Self, ReadFault> {

@@ -1,5 +1,5 @@
 //! A range of a 64-bit memory list of a dump.
-ghost use Rattle.mdmp_lister.specs.declared.kind.Kind.TheVariants as kinds;
+ghost use Rattle.mdmp_lister.specs.declared.kind.StreamKind.TheVariants as kinds;
 ghost use Rattle.mdmp_dump.specs.Memory.{range_told};
 ghost use Rattle.mdmp_dump.specs.Memory64.{IsMemory64, Memory64Fits, memory64_seen, memory64_steps};
 ghost use Rattle.mdmp_dump.specs.TellingLaws.{memory64_tells};
@@ -9,7 +9,7 @@ use crate::fault::{PartName, ReadFault};
 use crate::fits::Fitting;
 use crate::given::Given;
 use crate::reader::Reader;
-use crate::row::{Found, Place, Row};
+use crate::row::{RecordPlace, Row, ToldRecord};
 use crate::view::{Fields, PartSize};
 use mdmp_lister::{Item, RangeItem};
 use mdmp_source::Store;
@@ -45,10 +45,10 @@ impl<S: Store + Drop, A: Allocator + Copy> Row<S, A> for Memory64Range<A> {
 
     ghost IsAt = { λ file. IsMemory64 file };
 
-    fn find(item: &Item<'_>) -> Option<Found<RangeItem>> {
+    fn find(item: &Item<'_>) -> Option<ToldRecord<RangeItem>> {
         match item {
-            Item::Range(range) => Some(Found {
-                place: Place {
+            Item::Range(range) => Some(ToldRecord {
+                place: RecordPlace {
                     entry: range.entry,
                     index: range.index,
                 },
@@ -60,7 +60,7 @@ impl<S: Store + Drop, A: Allocator + Copy> Row<S, A> for Memory64Range<A> {
 
     fn read(
         reader: &mut Reader<S, A>,
-        place: Place,
+        place: RecordPlace,
         fields: RangeItem,
         name: &mut Option<Units<A>>,
     ) -> Result<Self, ReadFault> {

@@ -1,6 +1,6 @@
 //! A region of memory of a dump, which is the record itself.
 ghost use Rattle.std.specs.Prelude.{[], ◌≡◌};
-ghost use Rattle.mdmp_lister.specs.declared.kind.Kind.TheVariants as kinds;
+ghost use Rattle.mdmp_lister.specs.declared.kind.StreamKind.TheVariants as kinds;
 ghost use Rattle.mdmp_wire.specs.MemoryInfo.{memory_info_at};
 ghost use Rattle.mdmp_dump.specs.MemoryInfo.{MemoryInfoFits, memory_info_seen, memory_info_told};
 ghost use Rattle.mdmp_dump.specs.TellingLaws.{memory_info_tells};
@@ -9,7 +9,7 @@ use crate::fault::ReadFault;
 use crate::fits::Fitting;
 use crate::given::Given;
 use crate::reader::Reader;
-use crate::row::{Found, Place, Row};
+use crate::row::{RecordPlace, Row, ToldRecord};
 use crate::view::{Fields, PartSize};
 use mdmp_lister::Item;
 use mdmp_source::Store;
@@ -41,10 +41,10 @@ impl<S: Store + Drop, A: Allocator + Copy> Row<S, A> for MemoryInfoRecord {
 
     ghost IsAt = { λ file at k o row. memory_info_at file o ≡ row };
 
-    fn find(item: &Item<'_>) -> Option<Found<MemoryInfoRecord>> {
+    fn find(item: &Item<'_>) -> Option<ToldRecord<MemoryInfoRecord>> {
         match item {
-            Item::MemoryInfo(region) => Some(Found {
-                place: Place {
+            Item::MemoryInfo(region) => Some(ToldRecord {
+                place: RecordPlace {
                     entry: region.entry,
                     index: region.index,
                 },
@@ -56,7 +56,7 @@ impl<S: Store + Drop, A: Allocator + Copy> Row<S, A> for MemoryInfoRecord {
 
     fn read(
         reader: &mut Reader<S, A>,
-        place: Place,
+        place: RecordPlace,
         fields: MemoryInfoRecord,
         name: &mut Option<Units<A>>,
     ) -> Result<Self, ReadFault> {

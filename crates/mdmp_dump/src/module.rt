@@ -1,5 +1,5 @@
 //! A module of a dump.
-ghost use Rattle.mdmp_lister.specs.declared.kind.Kind.TheVariants as kinds;
+ghost use Rattle.mdmp_lister.specs.declared.kind.StreamKind.TheVariants as kinds;
 ghost use Rattle.mdmp_dump.specs.Module.{IsModule, ModuleFits, VersionFits, module_seen, module_steps, module_told};
 ghost use Rattle.mdmp_dump.specs.TellingLaws.{module_tells};
 
@@ -8,7 +8,7 @@ use crate::fits::{Fitting, name_fits};
 use crate::given::{Given, bytes_of, name_size, nowhere, size_of, unit_bytes};
 use crate::part::Part;
 use crate::reader::Reader;
-use crate::row::{Found, Place, Row};
+use crate::row::{RecordPlace, Row, ToldRecord};
 use crate::view::Fields;
 use mdmp_lister::Item;
 use mdmp_source::Store;
@@ -89,10 +89,10 @@ impl<S: Store + Drop, A: Allocator + Copy> Row<S, A> for Module<A> {
 
     ghost IsAt = { λ file at k. IsModule file };
 
-    fn find(item: &Item<'_>) -> Option<Found<ModuleRecord>> {
+    fn find(item: &Item<'_>) -> Option<ToldRecord<ModuleRecord>> {
         match item {
-            Item::Module(module) => Some(Found {
-                place: Place {
+            Item::Module(module) => Some(ToldRecord {
+                place: RecordPlace {
                     entry: module.entry,
                     index: module.index,
                 },
@@ -104,7 +104,7 @@ impl<S: Store + Drop, A: Allocator + Copy> Row<S, A> for Module<A> {
 
     fn read(
         reader: &mut Reader<S, A>,
-        place: Place,
+        place: RecordPlace,
         fields: ModuleRecord,
         name: &mut Option<Units<A>>,
     ) -> Result<Self, ReadFault> {

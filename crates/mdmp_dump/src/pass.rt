@@ -1,8 +1,8 @@
 //! A pass over the records of a stream of a file, and what it costs.
 ghost use Rattle.std.specs.Prelude.{◌≡◌, ◌≤◌, ◌<◌, ◌+◌, ◌^◌, ℕ, List, length, Some, Err, IfErr, IfOk, Ok};
 ghost use Rattle.mdmp_lister.specs.Format.Shape.{record_count};
-ghost use Rattle.mdmp_dump.specs.EntryWalk.{Pays, entry_at, kind_by, listed, name_cost, pass_cost, raw_part};
-ghost use Rattle.mdmp_dump.specs.FileView.{IsPass, IsPassOf, Tells, first_pass, pass_cursor, told_as};
+ghost use Rattle.mdmp_dump.specs.EntryWalk.{Pays, chosen_entry, kind_by, listed, name_cost, pass_cost, raw_part};
+ghost use Rattle.mdmp_dump.specs.FileView.{IsPass, IsPassOf, TellsViewFault, first_pass, pass_cursor, told_as};
 ghost use Rattle.mdmp_dump.specs.FoundRecord.{no_part};
 ghost use Rattle.mdmp_dump.specs.Reading.{store_fault};
 ghost use Rattle.mdmp_dump.specs.Placed.{far_room, fields_room};
@@ -15,7 +15,7 @@ use crate::found_record::{NO_PART, PartAt};
 use crate::given::add_told;
 use crate::placed::far_room;
 use crate::view::{Fields, Kind, PartSize, ViewFault};
-use mdmp_lister::{FaultKind, Kind as ListKind, OpenFault};
+use mdmp_lister::{FaultKind, OpenFault, StreamKind};
 use mdmp_source::{SourceFault, Store};
 use mdmp_wire::Entry;
 use std::alloc::Allocator;
@@ -42,7 +42,7 @@ pub(crate) fn kind_of(stream_type: u32) -> Kind
 {
     if stream_type == 0 {
         Kind::Unused
-    } else if ListKind::of_type(stream_type).is_some() {
+    } else if StreamKind::of_type(stream_type).is_some() {
         Kind::Known(stream_type)
     } else {
         Kind::Raw(stream_type)
@@ -64,7 +64,7 @@ fn name_cost(stream_type: u32) -> u64
 pub(crate) fn cost_of(entry: Entry, count: u32) -> u64
     ensures { result ≡ pass_cost entry count }
 {
-    let size = if ListKind::of_type(entry.stream_type).is_some() {
+    let size = if StreamKind::of_type(entry.stream_type).is_some() {
         u64::from(entry.location.size)
     } else {
         0
@@ -131,10 +131,10 @@ pub(crate) fn begin_pass<S: Store + Drop, A: Allocator + Copy>(
     room: u64,
 ) -> Result<Pass, ViewFault>
     requires within { stream < length walk.old.chosen }
-    requires counted { (file : List ℕ) → walk.old.source.store.content ≡ Some file → record_count file (entry_at walk.old stream).entry ≡ Ok count }
-    ensures pays { Pays (listed (entry_at walk.old stream).entry) 0 walk.old walk.new }
+    requires counted { (file : List ℕ) → walk.old.source.store.content ≡ Some file → record_count file (chosen_entry walk.old stream).entry ≡ Ok count }
+    ensures pays { Pays (listed (chosen_entry walk.old stream).entry) 0 walk.old walk.new }
     ensures begins { IfOk result (λ pass. IsPass walk.new pass × (pass ≡ first_pass walk.old stream count room)) }
-    ensures tells { Tells walk.old result walk.new }
+    ensures tells { TellsViewFault walk.old result walk.new }
 {
     let entry = walk.entry(stream);
     let rva = entry.location.rva;
@@ -167,11 +167,11 @@ pub(crate) fn take_record<S: Store + Drop, A: Allocator + Copy>(
     requires unfailed { walk.old.failed ≡ None }
     requires passing { IsPass walk.old pass }
     requires of_file { (file : List ℕ) → walk.old.source.store.content ≡ Some file → IsPassOf A file limit walk.old pass }
-    ensures pays { Pays 0 (name_cost (entry_at walk.old pass.stream).entry.stream_type) walk.old walk.new }
+    ensures pays { Pays 0 (name_cost (chosen_entry walk.old pass.stream).entry.stream_type) walk.old walk.new }
     ensures gives { IfOk result (λ r. GivesRecord (pass_cursor A walk.old pass) r.0 (pass_cursor A walk.new r.1)) }
     ensures passes { IfOk result (λ r. IsPass walk.new r.1 × (r.1.stream ≡ pass.stream) × (r.1.left + 1 ≡ pass.left)) }
     ensures passes_of { (file : List ℕ) → walk.old.source.store.content ≡ Some file → IfOk result (λ r. IsPassOf A file limit walk.new r.1) }
-    ensures tells { Tells walk.old result walk.new }
+    ensures tells { TellsViewFault walk.old result walk.new }
 {
     // The proof learns here that the size has 64 bits, and that known content is one of bytes.
     let _size = walk.size();

@@ -15,7 +15,7 @@ use crate::memory64::Memory64Range;
 use crate::module::Module;
 use crate::reader::Reader;
 use crate::records::Records;
-use crate::row::Place;
+use crate::row::RecordPlace;
 use crate::system::System;
 use crate::thread::Thread;
 use crate::unloaded::Unloaded;
@@ -26,7 +26,7 @@ use std::alloc::Allocator;
 
 /// What reading a file answered, and the source that was read.
 #[derive(Drop)]
-pub struct Answered<S: Store + Drop, A: Allocator> {
+pub struct ReadAnswered<S: Store + Drop, A: Allocator> {
     /// The dump, or why there is none.
     pub answer: Result<Dump<A>, ReadFault>,
     /// The source, whose counts tell the cause of its faults.
@@ -64,7 +64,7 @@ pub fn read_source<S: Store + Drop, A: Allocator + Copy>(
     limits: Limits,
     choice: Choice,
     parts: u64,
-) -> Answered<S, A>
+) -> ReadAnswered<S, A>
     ensures lays_out { (file : List ℕ) → source.store.content ≡ Some file → IfOk result.answer (LaysOut file choice) }
     ensures refuses { (file : List ℕ) → source.store.content ≡ Some file → Settles (read_refusal file choice limits.name parts) result.answer (λ _. None) }
     ensures cause { Fetches result.answer source result.source }
@@ -75,7 +75,7 @@ pub fn read_source<S: Store + Drop, A: Allocator + Copy>(
     let lister = match Lister::open(alloc, source, limits, choice) {
         Ok(lister) => lister,
         Err(refused) => {
-            return Answered {
+            return ReadAnswered {
                 answer: Err(refusal(refused.fault)),
                 source: refused.source,
             };
@@ -94,7 +94,7 @@ pub fn read_source<S: Store + Drop, A: Allocator + Copy>(
         0
     };
     match read_streams(&mut reader, room) {
-        Ok(streams) => Answered {
+        Ok(streams) => ReadAnswered {
             answer: Ok(Dump {
                 version_high: (header.version >> 16) as u16,
                 checksum: header.checksum,
@@ -104,7 +104,7 @@ pub fn read_source<S: Store + Drop, A: Allocator + Copy>(
             }),
             source: reader.lister.into_source(),
         },
-        Err(fault) => Answered {
+        Err(fault) => ReadAnswered {
             answer: Err(fault),
             source: reader.lister.into_source(),
         },
@@ -212,7 +212,7 @@ fn read_raw<S: Store + Drop, A: Allocator + Copy>(
         → reader.old.lister.left ≡ Some (left_from file limit x 0 xs) → item ≡ is_item_of x → IsRaw x.entry.stream_type
         → IsEntryRead file limit xs (IsOneStream file x.entry) (owed file reader.old.left (Some item) reader.old.lister.left) result reader.new }
 {
-    let place = Place {
+    let place = RecordPlace {
         entry: item.entry,
         index: 0,
     };

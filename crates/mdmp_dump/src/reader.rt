@@ -16,7 +16,7 @@ ghost use Rattle.mdmp_dump.specs.Reading.{
   HasBytesAt,
   HasOneRecord,
   IsEntryRead,
-  IsFound,
+  IsFoundOrBehind,
   IsGoing,
   IsGoingOn,
   IsNameTaken,
@@ -26,8 +26,8 @@ ghost use Rattle.mdmp_dump.specs.Reading.{
   IsToldOf,
   NoRowFirst,
   Settles,
-  Takes,
-  behind_of,
+  TakesSteps,
+  next_behind,
   name_steps_of,
   owed,
   refusal_found,
@@ -39,7 +39,7 @@ use crate::bytes::Bytes;
 use crate::fault::{PartName, ReadFault};
 use crate::part::{Part, PositiveSize};
 use crate::records::Records;
-use crate::row::{Found, Place, Row};
+use crate::row::{RecordPlace, Row, ToldRecord};
 use mdmp_lister::{Item, Lister, Name, StreamItem};
 use mdmp_source::{Extent, Location, Store, inside};
 use mdmp_wire::Units;
@@ -56,7 +56,7 @@ pub(crate) struct Reader<S: Store + Drop, A: Allocator + Copy> {
 /// What an item tells: a record and its name, or what stands behind the records.
 #[derive(Drop)]
 pub(crate) enum Told<F: Copy + Drop, A: Allocator> {
-    Record(Found<F>, Option<Units<A>>),
+    Record(ToldRecord<F>, Option<Units<A>>),
     Behind(Option<StreamItem>),
 }
 
@@ -71,10 +71,15 @@ pub(crate) enum Next<T: Drop> {
 
 impl<S: Store + Drop, A: Allocator + Copy> Reader<S, A> {
     /// The bytes at an offset, of a part or of a stream.
-    pub(crate) fn bytes(&mut self, place: Place, at: u64, size: u64) -> Result<Bytes<A>, ReadFault>
+    pub(crate) fn bytes(
+        &mut self,
+        place: RecordPlace,
+        at: u64,
+        size: u64,
+    ) -> Result<Bytes<A>, ReadFault>
         requires inside { IsInside at size self.old.lister.source.size }
         requires sized { IsSizeOf self.old.lister.source.store.content self.old.lister.source.size }
-        ensures takes { Takes (Take place.entry place.index size ∷ []) self.old result self.new }
+        ensures takes { TakesSteps (Take place.entry place.index size ∷ []) self.old result self.new }
         ensures of_file { (file : List ℕ) → self.old.lister.source.store.content ≡ Some file → IfOk result (HasBytesAt file at size) }
     {
         if size > self.left {
@@ -98,12 +103,12 @@ impl<S: Store + Drop, A: Allocator + Copy> Reader<S, A> {
     /// The bytes of a part at an offset, unless that or its end lies outside the file.
     pub(crate) fn bytes_at(
         &mut self,
-        place: Place,
+        place: RecordPlace,
         name: PartName,
         offset: u128,
         size: u64,
     ) -> Result<Bytes<A>, ReadFault>
-        ensures takes { Takes (part_steps place.entry place.index name offset size (range_extent_of offset size self.old.lister.source.size)) self.old result self.new }
+        ensures takes { TakesSteps (part_steps place.entry place.index name offset size (range_extent_of offset size self.old.lister.source.size)) self.old result self.new }
         ensures of_file { (file : List ℕ) → self.old.lister.source.store.content ≡ Some file → IfOk result (HasBytesAt file offset size) }
     {
         if size == 0 {
@@ -125,11 +130,11 @@ impl<S: Store + Drop, A: Allocator + Copy> Reader<S, A> {
     /// The part that a location names.
     pub(crate) fn part(
         &mut self,
-        place: Place,
+        place: RecordPlace,
         name: PartName,
         location: Location,
     ) -> Result<Part<A>, ReadFault>
-        ensures takes { Takes (location_steps place.entry place.index name location (extent_of location self.old.lister.source.size)) self.old result self.new }
+        ensures takes { TakesSteps (location_steps place.entry place.index name location (extent_of location self.old.lister.source.size)) self.old result self.new }
         ensures of_file { (file : List ℕ) → self.old.lister.source.store.content ≡ Some file → IfOk result (IsPart file location) }
     {
         let size = u64::from(location.size);
@@ -165,7 +170,7 @@ impl<S: Store + Drop, A: Allocator + Copy> Reader<S, A> {
         ensures left { self.new.left ≡ self.old.left }
         ensures of_file { (file : List ℕ) (limit : ℕ) (x : Numbered) (k : ℕ) (xs : List Numbered) → self.old.lister.source.store.content ≡ Some file
             → self.old.lister.left ≡ Some (left_from file limit x k xs) → kind_of x.entry.stream_type ≡ Some T.kind
-            → IfOk result (λ told. IsFound file limit x k xs T.kind T.told told self.new.lister.left)
+            → IfOk result (λ told. IsFoundOrBehind file limit x k xs T.kind T.told told self.new.lister.left)
             × Settles (owed file self.old.left None self.old.lister.left) result (λ told. refusal_found file self.new.left T.steps told self.new.lister.left) }
         ensures going { IfOk result (λ told. IsToldGoing self.old.lister told self.new.lister) }
     {
@@ -185,7 +190,7 @@ impl<S: Store + Drop, A: Allocator + Copy> Reader<S, A> {
         ensures of_file { (file : List ℕ) (limit : ℕ) (x : Numbered) (k : ℕ) (xs : List Numbered) → self.old.lister.source.store.content ≡ Some file
             → self.old.lister.left ≡ Some (left_from file limit x k xs) → kind_of x.entry.stream_type ≡ Some T.kind
             → IfOk result (λ next. IsNext file limit x k xs T.kind (T.IsAt file x.entry.location.rva) next self.new.lister.left)
-            × Settles (owed file self.old.left None self.old.lister.left) result (λ next. owed file self.new.left (behind_of next) self.new.lister.left) }
+            × Settles (owed file self.old.left None self.old.lister.left) result (λ next. owed file self.new.left (next_behind next) self.new.lister.left) }
     {
         // Its answer is the length of the file: what a record's parts ask is told by that.
         let _size = self.lister.size();

@@ -2,11 +2,11 @@
 ghost use Rattle.std.specs.Prelude.{◌≡◌, ℕ, List, Option};
 ghost use Rattle.mdmp_lister.specs.Format.Item.{plain};
 ghost use Rattle.mdmp_lister.specs.declared.item.Item.{Item};
-ghost use Rattle.mdmp_lister.specs.declared.kind.Kind.{Kind};
+ghost use Rattle.mdmp_lister.specs.declared.kind.StreamKind.{StreamKind};
 ghost use Rattle.mdmp_dump.specs.Reading.{IsRowRead};
-ghost use Rattle.mdmp_dump.specs.Refusal.{Step};
-ghost use Rattle.mdmp_dump.specs.Telling.{Tells};
-ghost use Rattle.mdmp_dump.specs.declared.row.Found.{Found};
+ghost use Rattle.mdmp_dump.specs.Refusal.{ReadStep};
+ghost use Rattle.mdmp_dump.specs.Telling.{ItemTells};
+ghost use Rattle.mdmp_dump.specs.declared.row.ToldRecord.{ToldRecord};
 
 use crate::fault::ReadFault;
 use crate::reader::Reader;
@@ -17,7 +17,7 @@ use std::alloc::Allocator;
 
 /// Which record of the file something is of.
 #[derive(Clone, Copy)]
-pub(crate) struct Place {
+pub(crate) struct RecordPlace {
     /// The number of the entry in the directory.
     pub(crate) entry: u32,
     /// The index of the record in its stream.
@@ -26,8 +26,8 @@ pub(crate) struct Place {
 
 /// What an item tells of a record, but for its name.
 #[derive(Clone, Copy)]
-pub(crate) struct Found<F: Copy> {
-    pub(crate) place: Place,
+pub(crate) struct ToldRecord<F: Copy> {
+    pub(crate) place: RecordPlace,
     pub(crate) fields: F,
 }
 
@@ -37,30 +37,30 @@ pub(crate) trait Row<S: Store + Drop, A: Allocator + Copy>: Drop + Sized {
     type Fields: Copy + Drop;
 
     // The kind of the streams that have such records.
-    ghost kind: { Kind };
+    ghost kind: { StreamKind };
 
     // What this item tells, if it is of this kind.
-    ghost told: { Item → Option (Found Self.Fields) };
+    ghost told: { Item → Option (ToldRecord Self.Fields) };
 
     // What its parts ask of a reader of a file of so many bytes.
-    ghost steps: { ℕ → Found Self.Fields → List Step };
+    ghost steps: { ℕ → ToldRecord Self.Fields → List ReadStep };
 
     // The value is that of the record with an index that stands at an offset of a file, of the stream at another.
     ghost IsAt: { List ℕ → ℕ → ℕ → ℕ → Self → Type 0 };
 
     /// What this item tells, if it is of this kind.
-    fn find(item: &Item<'_>) -> Option<Found<Self::Fields>>
+    fn find(item: &Item<'_>) -> Option<ToldRecord<Self::Fields>>
         ensures { result ≡ told (plain item.now) };
 
     /// The value of this record, of this name, which it takes if it has one, and with its parts.
     fn read(
         reader: &mut Reader<S, A>,
-        place: Place,
+        place: RecordPlace,
         fields: Self::Fields,
         name: &mut Option<Units<A>>,
     ) -> Result<Self, ReadFault>
         ensures { IsRowRead kind told steps IsAt reader.old (record { place = place; fields = fields }) name.old result reader.new };
 
     // The item of a record of this kind tells it, and asks for its name and then for its parts.
-    ghost tells: { Tells kind told steps };
+    ghost tells: { ItemTells kind told steps };
 }

@@ -1,6 +1,6 @@
 //! The walk over all streams of a file, as a view of it is opened.
 ghost use Rattle.std.specs.Prelude.{◌≡◌, ◌≤◌, ◌<◌, ◌*◌, ℕ, List, length, None, Some, Err, IfErr, IfOk, MatchResult, vec_len};
-ghost use Rattle.mdmp_dump.specs.EntryWalk.{Pays, entry_at, listed, name_cost};
+ghost use Rattle.mdmp_dump.specs.EntryWalk.{Pays, chosen_entry, listed, name_cost};
 ghost use Rattle.mdmp_dump.specs.FileView.{AreBare, AreWalked, HasWalked, PaysAll, PaysSome, PaysUpTo, kind_at};
 ghost use Rattle.mdmp_dump.specs.Shape.{GivesNone};
 ghost use Rattle.mdmp_dump.specs.FileRefusal.{IsOfWalk, run_told};
@@ -29,7 +29,7 @@ fn walk_stream<S: Store + Drop, A: Allocator + Copy>(
     requires within { stream < length walk.old.chosen }
     requires going { walk.old.failed ≡ None }
     ensures pays { MatchResult result
-        (λ walked. Pays (listed (entry_at walk.old stream).entry) (walked.count * name_cost (entry_at walk.old stream).entry.stream_type) walk.old walk.new)
+        (λ walked. Pays (listed (chosen_entry walk.old stream).entry) (walked.count * name_cost (chosen_entry walk.old stream).entry.stream_type) walk.old walk.new)
         (λ _. PaysUpTo stream walk.old walk.new) }
     ensures goes { IfOk result (λ _. walk.new.failed ≡ None) }
     ensures bare { IfOk result (λ walked. GivesNone (kind_at walk.old stream) walked.count → walked.room ≡ 0) }

@@ -1,6 +1,6 @@
 //! The system of a dump.
 ghost use Rattle.std.specs.Prelude.{[], ◌≡◌, length};
-ghost use Rattle.mdmp_lister.specs.declared.kind.Kind.TheVariants as kinds;
+ghost use Rattle.mdmp_lister.specs.declared.kind.StreamKind.TheVariants as kinds;
 ghost use Rattle.mdmp_dump.specs.System.{IsSystem, SystemFits, system_seen, system_told};
 ghost use Rattle.mdmp_dump.specs.TellingLaws.{system_tells};
 
@@ -8,7 +8,7 @@ use crate::fault::ReadFault;
 use crate::fits::{Fitting, name_fits};
 use crate::given::{Given, name_size, unit_bytes};
 use crate::reader::Reader;
-use crate::row::{Found, Place, Row};
+use crate::row::{RecordPlace, Row, ToldRecord};
 use crate::view::{Fields, PartSize};
 use mdmp_lister::Item;
 use mdmp_source::Store;
@@ -83,10 +83,10 @@ impl<S: Store + Drop, A: Allocator + Copy> Row<S, A> for System<A> {
 
     ghost IsAt = { λ file at k. IsSystem file };
 
-    fn find(item: &Item<'_>) -> Option<Found<SystemRecord>> {
+    fn find(item: &Item<'_>) -> Option<ToldRecord<SystemRecord>> {
         match item {
-            Item::System(system) => Some(Found {
-                place: Place {
+            Item::System(system) => Some(ToldRecord {
+                place: RecordPlace {
                     entry: system.entry,
                     index: system.index,
                 },
@@ -98,7 +98,7 @@ impl<S: Store + Drop, A: Allocator + Copy> Row<S, A> for System<A> {
 
     fn read(
         reader: &mut Reader<S, A>,
-        place: Place,
+        place: RecordPlace,
         fields: SystemRecord,
         name: &mut Option<Units<A>>,
     ) -> Result<Self, ReadFault> {

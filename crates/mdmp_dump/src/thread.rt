@@ -1,5 +1,5 @@
 //! A thread of a dump.
-ghost use Rattle.mdmp_lister.specs.declared.kind.Kind.TheVariants as kinds;
+ghost use Rattle.mdmp_lister.specs.declared.kind.StreamKind.TheVariants as kinds;
 ghost use Rattle.mdmp_dump.specs.Thread.{IsThread, ThreadFits, thread_seen, thread_steps, thread_told};
 ghost use Rattle.mdmp_dump.specs.TellingLaws.{thread_tells};
 
@@ -8,7 +8,7 @@ use crate::fits::Fitting;
 use crate::given::{Given, bytes_of, nowhere, size_of};
 use crate::part::Part;
 use crate::reader::Reader;
-use crate::row::{Found, Place, Row};
+use crate::row::{RecordPlace, Row, ToldRecord};
 use crate::view::{Fields, PartSize};
 use mdmp_lister::Item;
 use mdmp_source::Store;
@@ -63,10 +63,10 @@ impl<S: Store + Drop, A: Allocator + Copy> Row<S, A> for Thread<A> {
 
     ghost IsAt = { λ file at k. IsThread file };
 
-    fn find(item: &Item<'_>) -> Option<Found<ThreadRecord>> {
+    fn find(item: &Item<'_>) -> Option<ToldRecord<ThreadRecord>> {
         match item {
-            Item::Thread(thread) => Some(Found {
-                place: Place {
+            Item::Thread(thread) => Some(ToldRecord {
+                place: RecordPlace {
                     entry: thread.entry,
                     index: thread.index,
                 },
@@ -78,7 +78,7 @@ impl<S: Store + Drop, A: Allocator + Copy> Row<S, A> for Thread<A> {
 
     fn read(
         reader: &mut Reader<S, A>,
-        place: Place,
+        place: RecordPlace,
         fields: ThreadRecord,
         name: &mut Option<Units<A>>,
     ) -> Result<Self, ReadFault> {

@@ -1,6 +1,6 @@
 //! An unloaded module of a dump.
 ghost use Rattle.std.specs.Prelude.{[]};
-ghost use Rattle.mdmp_lister.specs.declared.kind.Kind.TheVariants as kinds;
+ghost use Rattle.mdmp_lister.specs.declared.kind.StreamKind.TheVariants as kinds;
 ghost use Rattle.mdmp_dump.specs.Unloaded.{IsUnloaded, UnloadedFits, unloaded_seen, unloaded_told};
 ghost use Rattle.mdmp_dump.specs.TellingLaws.{unloaded_tells};
 
@@ -8,7 +8,7 @@ use crate::fault::ReadFault;
 use crate::fits::{Fitting, name_fits};
 use crate::given::{Given, name_size, unit_bytes};
 use crate::reader::Reader;
-use crate::row::{Found, Place, Row};
+use crate::row::{RecordPlace, Row, ToldRecord};
 use crate::view::{Fields, PartSize};
 use mdmp_lister::Item;
 use mdmp_source::Store;
@@ -54,10 +54,10 @@ impl<S: Store + Drop, A: Allocator + Copy> Row<S, A> for Unloaded<A> {
 
     ghost IsAt = { λ file at k. IsUnloaded file };
 
-    fn find(item: &Item<'_>) -> Option<Found<UnloadedRecord>> {
+    fn find(item: &Item<'_>) -> Option<ToldRecord<UnloadedRecord>> {
         match item {
-            Item::Unloaded(module) => Some(Found {
-                place: Place {
+            Item::Unloaded(module) => Some(ToldRecord {
+                place: RecordPlace {
                     entry: module.entry,
                     index: module.index,
                 },
@@ -69,7 +69,7 @@ impl<S: Store + Drop, A: Allocator + Copy> Row<S, A> for Unloaded<A> {
 
     fn read(
         reader: &mut Reader<S, A>,
-        place: Place,
+        place: RecordPlace,
         fields: UnloadedRecord,
         name: &mut Option<Units<A>>,
     ) -> Result<Self, ReadFault> {

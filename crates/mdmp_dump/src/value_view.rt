@@ -3,19 +3,19 @@ ghost use Rattle.std.specs.Prelude.{◌≡◌, ◌<◌, ◌≤◌, ◌+◌, ◌*
 ghost use Rattle.mdmp_dump.specs.declared.dump.Stream.TheVariants.{Unused};
 ghost use Rattle.mdmp_lister.specs.Format.Kind.{type_of_kind};
 ghost use Rattle.mdmp_dump.specs.View.{kind_in, raw_in, records_seen, stream_seen};
-ghost use Rattle.mdmp_dump.specs.Shape.{body_of, parts_at, parts_in, record_at, shape_of, told, unspent, value_cursor, value_shape};
+ghost use Rattle.mdmp_dump.specs.Shape.{body_of, parts_at, parts_in, seen_record, shape_seen, told, unspent, value_cursor, value_shape};
 ghost use Rattle.mdmp_dump.specs.ShapeLaws.{value_kinds, value_sound, value_stray};
 
 use crate::body::rows_size;
 use crate::dump::{Dump, Stream};
 use crate::given::{Given, far_of_all, fields_at, part_at, room_of_all, room_of_one};
 use crate::view::{DumpView, Fields, HeaderFields, Kind, PartSize, ViewFault};
-use mdmp_lister::Kind as ListKind;
+use mdmp_lister::StreamKind as StreamKind;
 use mdmp_wire::{AnyRecord, Descriptor64};
 use std::alloc::Allocator;
 
 /// A stream of records of this kind.
-fn known(kind: ListKind) -> Kind
+fn known(kind: StreamKind) -> Kind
     ensures { result ≡ Kind.Known (type_of_kind kind) }
 {
     Kind::Known(kind.stream_type())
@@ -27,14 +27,14 @@ fn stream_kind<A: Allocator>(stream: &Stream<A>) -> Kind
 {
     match stream {
         Stream::Unused => Kind::Unused,
-        Stream::Threads(_) => known(ListKind::Threads),
-        Stream::Modules(_) => known(ListKind::Modules),
-        Stream::Memory(_) => known(ListKind::Memory),
-        Stream::Exception(_) => known(ListKind::Exception),
-        Stream::System(_) => known(ListKind::System),
-        Stream::Memory64(_) => known(ListKind::Memory64),
-        Stream::Unloaded(_) => known(ListKind::Unloaded),
-        Stream::MemoryInfo(_) => known(ListKind::MemoryInfo),
+        Stream::Threads(_) => known(StreamKind::Threads),
+        Stream::Modules(_) => known(StreamKind::Modules),
+        Stream::Memory(_) => known(StreamKind::Memory),
+        Stream::Exception(_) => known(StreamKind::Exception),
+        Stream::System(_) => known(StreamKind::System),
+        Stream::Memory64(_) => known(StreamKind::Memory64),
+        Stream::Unloaded(_) => known(StreamKind::Unloaded),
+        Stream::MemoryInfo(_) => known(StreamKind::MemoryInfo),
         Stream::Raw(stream_type, _) => Kind::Raw(*stream_type),
     }
 }
@@ -67,7 +67,7 @@ fn record_count<A: Allocator>(stream: &Stream<A>) -> usize
 
 /// How many bytes the body of a stream has: those of its list's head and records, or its raw bytes.
 fn body_size<A: Allocator>(stream: &Stream<A>) -> u64
-    ensures { result ≡ told (body_of (shape_of (stream_seen stream.now))) }
+    ensures { result ≡ told (body_of (shape_seen (stream_seen stream.now))) }
 {
     match stream_kind(stream) {
         Kind::Unused => 0,
@@ -100,7 +100,7 @@ fn parts_size<A: Allocator>(stream: &Stream<A>) -> u64
 /// The fields of one record of a stream.
 fn record_fields<A: Allocator>(stream: &Stream<A>, index: usize) -> Fields
     requires { index < length (records_seen stream.now) }
-    ensures { result ≡ (record_at stream.now index).fields }
+    ensures { result ≡ (seen_record stream.now index).fields }
 {
     match stream {
         Stream::Threads(threads) => fields_at(threads.as_slice(), index),
@@ -124,7 +124,7 @@ fn record_fields<A: Allocator>(stream: &Stream<A>, index: usize) -> Fields
 /// A part of one record of a stream.
 fn record_part<A: Allocator>(stream: &Stream<A>, index: usize, which: usize) -> &[u8]
     requires { index < length (records_seen stream.now) }
-    ensures { result.now ≡ get_or (record_at stream.now index).parts which [] }
+    ensures { result.now ≡ get_or (seen_record stream.now index).parts which [] }
 {
     match stream {
         Stream::Threads(threads) => part_at(threads.as_slice(), index, which),
@@ -166,7 +166,7 @@ fn stream_of<A: Allocator>(streams: &[Stream<A>], index: usize) -> &Stream<A>
 #[tactic(auto, using(crate::proofs::Begun::begun_inside))]
 fn next_fields<A: Allocator>(streams: &[Stream<A>], stream: usize, given: usize) -> (Fields, usize)
     requires { given < length (records_seen (get_or streams.now stream Unused)) }
-    ensures fields { result.0 ≡ (record_at (get_or streams.now stream Unused) given).fields }
+    ensures fields { result.0 ≡ (seen_record (get_or streams.now stream Unused) given).fields }
     ensures next { result.1 ≡ given + 1 }
 {
     let chosen = stream_of(streams, stream);

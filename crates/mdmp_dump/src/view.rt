@@ -66,17 +66,17 @@ pub enum Kind {
 // No condition of a call is stated by what the view gives: of a view of a file that may be unknown.
 pub trait DumpView {
     ghost use Rattle.std.specs.Prelude.{◌≡◌, ◌<◌, ◌≤◌, ◌+◌, ℕ, List, [], Some, length, take, drop, get_or, IfErr, IfOk, IsTrue, OnOk};
-    ghost use Rattle.mdmp_dump.specs.Shape.{AreOfTheirKinds, begun, body_of, cost_at, Cursor, GivesRecord, HaveNoStrayParts, IsSound, Shape, Spent, stream_at, told};
+    ghost use Rattle.mdmp_dump.specs.Shape.{AreOfTheirKinds, begun, body_of, cost_at, StreamCursor, GivesRecord, HaveNoStrayParts, IsShapeOfSeen, ViewShape, Spent, stream_at, told};
     ghost use Rattle.mdmp_dump.specs.View.{DumpSeen};
 
     /// The memory of a value that this may be a view of.
     type Memory: Allocator;
 
     // What stays.
-    ghost shape: { Self → Shape };
+    ghost shape: { Self → ViewShape };
 
     // What moves.
-    ghost cursor: { Self → Cursor };
+    ghost cursor: { Self → StreamCursor };
 
     // What was spent of it.
     ghost spent: { Self → Spent };
@@ -187,7 +187,7 @@ pub trait DumpView {
         ensures moves { Moves self.old self.new };
 
     // What it gives, where that is known, has its shape.
-    ghost sound: { (v : Self) → IsSound (shape v) };
+    ghost sound: { (v : Self) → IsShapeOfSeen (shape v) };
 
     // Its records, where they are known, are of their streams' kinds, and their parts have the sizes
     // that they tell.

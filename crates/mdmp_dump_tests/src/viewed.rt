@@ -18,7 +18,7 @@ use std::test::Fail;
 
 /// What came of writing a file through a view of it.
 #[derive(Clone, Copy, Debug, PartialEq, Eq)]
-enum Outcome {
+enum ViewOutcome {
     /// The file gives no view.
     Refused(ReadFault),
     /// The dump has so many bytes, and all of them went out.
@@ -29,7 +29,7 @@ enum Outcome {
 
 /// What a view counted, and `opened`, what it had fetched as it was opened.
 #[derive(Clone, Copy, Debug, PartialEq, Eq)]
-struct Counts {
+struct ViewCounts {
     held: u128,
     opened: u128,
     fetched: u128,
@@ -38,7 +38,7 @@ struct Counts {
 }
 
 /// No view was opened.
-const NOTHING: Counts = Counts {
+const NOTHING: ViewCounts = ViewCounts {
     held: 0,
     opened: 0,
     fetched: 0,
@@ -49,11 +49,11 @@ const NOTHING: Counts = Counts {
 /// What was written through a view.
 #[derive(Drop)]
 struct Written {
-    outcome: Outcome,
+    outcome: ViewOutcome,
     /// How many bytes the dump has, as it was told before any was written; 0 where it can't be written.
     told: u64,
     bytes: Vec<u8, Global>,
-    counts: Counts,
+    counts: ViewCounts,
 }
 
 /// The entries of these types, or all where none is named.
@@ -69,8 +69,8 @@ fn choice_of(types: &[u32]) -> Result<Choice, Fail> {
 fn counts_of<S: Store + Drop, A: Allocator + Copy>(
     view: &mut FileView<S, A>,
     opened: u128,
-) -> Counts {
-    Counts {
+) -> ViewCounts {
+    ViewCounts {
         held: view.held(),
         opened,
         fetched: view.fetched(),
@@ -92,7 +92,7 @@ fn write_over<S: Store + Drop>(
         Ok(view) => view,
         Err(fault) => {
             return Ok(Written {
-                outcome: Outcome::Refused(fault),
+                outcome: ViewOutcome::Refused(fault),
                 told: 0,
                 bytes: Vec::new(alloc),
                 counts: NOTHING,
@@ -103,8 +103,8 @@ fn write_over<S: Store + Drop>(
     let told = written_size(&mut view).unwrap_or(0);
     let mut out = open_out(alloc)?;
     let outcome = match write_view(&mut view, &mut out, room) {
-        Ok(size) => Outcome::Wrote(size),
-        Err(fault) => Outcome::Stopped(fault),
+        Ok(size) => ViewOutcome::Wrote(size),
+        Err(fault) => ViewOutcome::Stopped(fault),
     };
     Ok(Written {
         outcome,

@@ -9,11 +9,11 @@ use Rattle.mdmp_lister.specs.declared.fault.FaultKind.{FaultKind}
 use Rattle.mdmp_lister.specs.declared.fault.FaultKind.TheVariants.{Source}
 use Rattle.mdmp_lister.specs.declared.fault.ListFault.{ListFault}
 use Rattle.mdmp_lister.specs.declared.item.Item.{Item}
-use Rattle.mdmp_lister.specs.declared.kind.Kind.{Kind}
+use Rattle.mdmp_lister.specs.declared.kind.StreamKind.{StreamKind}
 use Rattle.mdmp_lister.specs.declared.shape.Shape.{Shape}
 use Rattle.mdmp_lister.specs.Format.Directory.{IsFirstChosen}
 use Rattle.mdmp_lister.specs.Format.Item.{item_at}
-use Rattle.mdmp_lister.specs.Format.Listing.{Numbered, Run, all_joined, body_of, entry_listing, entry_of, items_from, joined, list_fault, listing_from, only_fault, stream_item, with_item}
+use Rattle.mdmp_lister.specs.Format.Listing.{Numbered, Run, all_joined, entry_body, entry_listing, entry_of, items_from, joined, list_fault, listing_from, only_fault, stream_item, with_item}
 use Rattle.mdmp_lister.specs.Format.Kind.{kind_of}
 use Rattle.mdmp_lister.specs.Format.Shape.{location_fault, shape_of}
 use Rattle.mdmp_lister.specs.Stage.{fault_stage, stage_by}
@@ -41,7 +41,7 @@ fault_stage-left F limit number e f = stage_by-left F limit number e f f.kind
 
 -- ---- records
 
-module _ (F : List ℕ) (limit e at : ℕ) (kind : Kind) (shape : Shape) (k : ℕ) (left : k < shape.count) where
+module _ (F : List ℕ) (limit e at : ℕ) (kind : StreamKind) (shape : Shape) (k : ℕ) (left : k < shape.count) where
   pub records-given : (item : Item) → item_at F limit e k at (at + shape.first + k * shape.stride) kind ≡ Ok item
       → items_from F limit e at kind shape (shape.count - k) k ≡ with_item item (items_from F limit e at kind shape (shape.count - (k + 1)) (k + 1))
   records-given item given = items_from-Ok F limit e at kind shape (shape.count - k) (shape.count - (k + 1)) k _ item (omega (arith, left)) refl (sym given)
@@ -52,26 +52,26 @@ module _ (F : List ℕ) (limit e at : ℕ) (kind : Kind) (shape : Shape) (k : �
 
 -- ---- heads
 
-module _ (F : List ℕ) (limit number : ℕ) (e : Entry) (kind : Kind) (inside : location_fault (length F) e ≡ None) (known : kind_of e.stream_type ≡ Some kind) where
+module _ (F : List ℕ) (limit number : ℕ) (e : Entry) (kind : StreamKind) (inside : location_fault (length F) e ≡ None) (known : kind_of e.stream_type ≡ Some kind) where
   -- what is left of an entry whose head was not read yet, by the shape of its stream
   pub body-shaped : (shape : Shape) → shape_of F e.location.rva e.location.size kind ≡ Ok shape
-      → body_of F limit (record { number = number; entry = e }) ≡ items_from F limit number e.location.rva kind shape (shape.count - 0) 0
+      → entry_body F limit (record { number = number; entry = e }) ≡ items_from F limit number e.location.rva kind shape (shape.count - 0) 0
   body-shaped shape shaped =
       let all : shape.count - 0 ≡ shape.count = omega arith in
       rw (inside, known, shaped, all) refl
 
-  pub body-faulted : (f : Fault) → shape_of F e.location.rva e.location.size kind ≡ Err f → body_of F limit (record { number = number; entry = e }) ≡ only_fault (list_fault number None f)
+  pub body-faulted : (f : Fault) → shape_of F e.location.rva e.location.size kind ≡ Err f → entry_body F limit (record { number = number; entry = e }) ≡ only_fault (list_fault number None f)
   body-faulted f faulted = rw (inside, known, faulted) refl
 
 -- ---- the next entry
 
 pub listing_from-first : (F : List ℕ) (choice : Choice) (limit from i : ℕ) (e : Entry) → IsFirstChosen F choice from (Some i) → e ≡ entry_of F i
     → listing_from F choice limit from
-    ≡ with_item (stream_item (record { number = i; entry = e })) (joined (body_of F limit (record { number = i; entry = e })) (listing_from F choice limit (i + 1)))
+    ≡ with_item (stream_item (record { number = i; entry = e })) (joined (entry_body F limit (record { number = i; entry = e })) (listing_from F choice limit (i + 1)))
 listing_from-first F choice limit from i e first same =
     ap (λ (xs : List Numbered). all_joined (map (entry_listing F limit) xs)) first
     ∙ ap (λ (x : Entry). joined (entry_listing F limit (record { number = i; entry = x })) (listing_from F choice limit (i + 1))) (sym same)
-    ∙ joined-with_item (stream_item (record { number = i; entry = e })) (body_of F limit (record { number = i; entry = e })) (listing_from F choice limit (i + 1))
+    ∙ joined-with_item (stream_item (record { number = i; entry = e })) (entry_body F limit (record { number = i; entry = e })) (listing_from F choice limit (i + 1))
 
 -- a buffer that was lent whole has what was written
 pub take-lent : (n : ℕ) (bytes rest : List ℕ) → length bytes ≡ n → take n (bytes ++ rest) ≡ bytes

@@ -10,7 +10,7 @@ use Rattle.mdmp_wire.specs.declared.entry.Entry.{Entry}
 use Rattle.mdmp_lister.specs.declared.fault.FaultKind.{FaultKind}
 use Rattle.mdmp_lister.specs.declared.fault.FaultKind.TheVariants.{Source}
 use Rattle.mdmp_lister.specs.declared.fault.ListFault.{ListFault}
-use Rattle.mdmp_lister.specs.declared.kind.Kind.{Kind}
+use Rattle.mdmp_lister.specs.declared.kind.StreamKind.{StreamKind}
 use Rattle.mdmp_lister.specs.declared.stage.Stage.{Stage}
 use Rattle.mdmp_lister.specs.declared.stage.Stage.TheVariants.{Between, Head, Records}
 use Rattle.mdmp_lister.specs.declared.walk.Walk.{Walk}
@@ -65,7 +65,7 @@ ahead-owed F e _ listing = absurd listing
 
 -- where ranges are ahead the head of a memory list was read
 record IsRangedIn (z : ℕ) (e : Entry) : Type 0 where
-  kind : Kind
+  kind : StreamKind
   known : kind_of e.stream_type ≡ Some kind
   inside : IsInside e.location.rva e.location.size z
   is : IsRanged (kind_of e.stream_type)
@@ -116,19 +116,19 @@ module _ {S A : Type 0} (room : ℕ) (old new : Walk S A) where
 -- ---- a list that has changed
 
 -- a stream whose head was read has room for it
-shape_room : (at : Location) (kind : Kind) (r : Result Shape Fault) (offset : ℕ) (s : Standing) → IsSomeShape at kind r → Ok s ≡ mapped (standing_by offset) r
+shape_room : (at : Location) (kind : StreamKind) (r : Result Shape Fault) (offset : ℕ) (s : Standing) → IsSomeShape at kind r → Ok s ≡ mapped (standing_by offset) r
     → head_size (form_of kind) (record_size kind) ≤ at.size
 shape_room at kind r offset s (following.short less is) ok = absurd (cc)
 shape_room at kind r offset s (following.headed room some) ok = room
 shape_room at kind r offset s (following.failed room fault is of) ok = room
 
-begun_room : (z : ℕ) (e : Entry) (kind : Kind) → kind_of e.stream_type ≡ Some kind → (s : Standing) → IsBegun z e (Ok s)
+begun_room : (z : ℕ) (e : Entry) (kind : StreamKind) → kind_of e.stream_type ≡ Some kind → (s : Standing) → IsBegun z e (Ok s)
     → head_size (form_of kind) (record_size kind) ≤ e.location.size
 begun_room z e kind known s (following.outside fault is bad) = absurd (cc)
 begun_room z e kind known s (following.opaque whole none is) = absurd (cc)
 begun_room z e kind known s (following.shaped whole other of shape some offset is) =
     let same : other ≡ kind = cc in
-    subst (λ (k : Kind). head_size (form_of k) (record_size k) ≤ e.location.size) same (shape_room e.location other shape offset s some is)
+    subst (λ (k : StreamKind). head_size (form_of k) (record_size k) ≤ e.location.size) same (shape_room e.location other shape offset s some is)
 
 module _ {S A : Type 0} (room : ℕ) (old mid : Walk S A) (f : ListFault) (head : HeadRead old mid) (at : old.stage ≡ Head) (sound : IsSound old)
     (has : HasRoom room 0 old) (more : room < ranges_ahead mid.stage) where

@@ -9,7 +9,7 @@ use Rattle.mdmp_lister.specs.declared.fetching.NameRead.{NameRead}
 use Rattle.mdmp_lister.specs.declared.fetching.NameRead.TheVariants as read
 use Rattle.mdmp_lister.specs.declared.item.Item.{Item}
 use Rattle.mdmp_lister.specs.declared.item.StreamItem.{StreamItem}
-use Rattle.mdmp_lister.specs.declared.kind.Kind.{Kind}
+use Rattle.mdmp_lister.specs.declared.kind.StreamKind.{StreamKind}
 use Rattle.mdmp_lister.specs.declared.name.Name.{Name}
 use Rattle.mdmp_lister.specs.declared.name.Name.TheVariants.{Units, Long}
 use Rattle.mdmp_lister.specs.declared.name.Name.TheVariants as names
@@ -17,7 +17,7 @@ use Rattle.mdmp_lister.specs.declared.stage.Stage.{Stage}
 use Rattle.mdmp_lister.specs.declared.stage.Stage.TheVariants.{Head, Records}
 use Rattle.mdmp_lister.specs.declared.step.Step.{Step}
 use Rattle.mdmp_lister.specs.declared.step.Step.TheVariants as step
-use Rattle.mdmp_lister.specs.Costs.{IsUnreadBy, bad_name_cost, item_cost, name_cost, read_cost, step_cost, stream_begun}
+use Rattle.mdmp_lister.specs.Costs.{IsUnreadBy, bad_name_cost, item_cost, cost_of_name, read_cost, step_cost, stream_begun}
 use Rattle.mdmp_lister.specs.Format.Item.{plain}
 use Rattle.mdmp_lister.specs.Format.Name.{plain_name}
 use Rattle.mdmp_lister.specs.Step.{IsHeld, name_read, IsNameHeld, IsStepOf, step_item}
@@ -34,26 +34,26 @@ source_name_cost limit _ of = absurd of
 
 -- ---- items and their steps
 
-name_cost-plain : (name : Name) → name_cost (plain_name name) ≡ name_cost name
-name_cost-plain names.None = refl
-name_cost-plain (Units units) = refl
-name_cost-plain (Long bytes) = refl
+cost_of_name-plain : (name : Name) → cost_of_name (plain_name name) ≡ cost_of_name name
+cost_of_name-plain names.None = refl
+cost_of_name-plain (Units units) = refl
+cost_of_name-plain (Long bytes) = refl
 
 pub item_cost-plain : (x : Item) → item_cost (plain x) ≡ item_cost x
-item_cost-plain x = ap (λ (t : Summary). name_cost t.name) (summary_of-plain x) ∙ name_cost-plain (summary_of x).name
+item_cost-plain x = ap (λ (t : Summary). cost_of_name t.name) (summary_of-plain x) ∙ cost_of_name-plain (summary_of x).name
 
-name_cost-read : (buffer : List ℕ) (name : NameRead) → IsHeld (length buffer) name → name_cost (name_read buffer name) ≡ read_cost name
-name_cost-read buffer read.None held = refl
-name_cost-read buffer (read.Long bytes) held = refl
-name_cost-read buffer (read.Units bytes) held = let room : bytes ≤ length buffer = held.0 in rw length-take (omega (arith, room))
+cost_of_name-read : (buffer : List ℕ) (name : NameRead) → IsHeld (length buffer) name → cost_of_name (name_read buffer name) ≡ read_cost name
+cost_of_name-read buffer read.None held = refl
+cost_of_name-read buffer (read.Long bytes) held = refl
+cost_of_name-read buffer (read.Units bytes) held = let room : bytes ≤ length buffer = held.0 in rw length-take (omega (arith, room))
 
-item_cost-read : (z : ℕ) (buffer : List ℕ) (kind : Option Kind) (s : Step) → IsNameHeld (length buffer) s → IsStepOf kind s → item_cost (step_item z buffer s) ≡ step_cost s
+item_cost-read : (z : ℕ) (buffer : List ℕ) (kind : Option StreamKind) (s : Step) → IsNameHeld (length buffer) s → IsStepOf kind s → item_cost (step_item z buffer s) ≡ step_cost s
 item_cost-read z buffer kind (step.Stream x) held of = refl
 item_cost-read z buffer kind (step.Record r) held of =
-    ap (λ (t : Summary). name_cost t.name) (summary_of-read z buffer r of.1) ∙ name_cost-read buffer r.name held
+    ap (λ (t : Summary). cost_of_name t.name) (summary_of-read z buffer r of.1) ∙ cost_of_name-read buffer r.name held
 
 -- an item costs what its step does
-pub item_cost-step : (z : ℕ) (buffer : List ℕ) (kind : Option Kind) (s : Step) (x : Item) → IsNameHeld (length buffer) s → IsStepOf kind s → plain x ≡ step_item z buffer s → item_cost x ≡ step_cost s
+pub item_cost-step : (z : ℕ) (buffer : List ℕ) (kind : Option StreamKind) (s : Step) (x : Item) → IsNameHeld (length buffer) s → IsStepOf kind s → plain x ≡ step_item z buffer s → item_cost x ≡ step_cost s
 item_cost-step z buffer kind s x held of same = sym (item_cost-plain x) ∙ ap item_cost same ∙ item_cost-read z buffer kind s held of
 
 pub stream_begun-plain : (z : ℕ) (x : Item) → stream_begun z (summary_of (plain x)).stream ≡ stream_begun z (summary_of x).stream

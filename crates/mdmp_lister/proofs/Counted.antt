@@ -5,7 +5,7 @@ use Rattle.mdmp_lister.specs.declared.fault.Fault.{Fault}
 use Rattle.mdmp_lister.specs.declared.fault.FaultKind.{FaultKind}
 use Rattle.mdmp_lister.specs.declared.fault.FaultKind.TheVariants.{Source}
 use Rattle.mdmp_lister.specs.declared.fault.ListFault.{ListFault}
-use Rattle.mdmp_lister.specs.declared.kind.Kind.{Kind}
+use Rattle.mdmp_lister.specs.declared.kind.StreamKind.{StreamKind}
 use Rattle.mdmp_lister.specs.declared.shape.Shape.{Shape}
 use Rattle.mdmp_lister.specs.Fault.{IsListFaultOf, IsOfSource}
 use Rattle.mdmp_lister.specs.Format.Kind.{kind_of}
@@ -20,7 +20,7 @@ module _ (F : List ℕ) (e : Entry) where
   count-opaque : location_fault (length F) e ≡ None → kind_of e.stream_type ≡ None → record_count F e ≡ Ok 0
   count-opaque whole none = rw (whole, none) refl
 
-  count-shaped : (kind : Kind) (shape : Result Shape Fault) → location_fault (length F) e ≡ None → kind_of e.stream_type ≡ Some kind
+  count-shaped : (kind : StreamKind) (shape : Result Shape Fault) → location_fault (length F) e ≡ None → kind_of e.stream_type ≡ Some kind
       → shape_of F e.location.rva e.location.size kind ≡ shape → record_count F e ≡ records_in shape
   count-shaped kind shape whole known shaped = rw (whole, known, shaped) refl
 
@@ -42,7 +42,7 @@ module _ (F : List ℕ) (number : ℕ) (e : Entry) where
       → IsCounted (records_told F (record { number = number; entry = e })) (fault_stage f)
   counted_outside fault f out told = counted-fault F number e fault f told (λ _. count-outside F e fault out)
 
-  pub counted_bad : (kind : Kind) (fault : Fault) (f : ListFault) → location_fault (length F) e ≡ None → kind_of e.stream_type ≡ Some kind
+  pub counted_bad : (kind : StreamKind) (fault : Fault) (f : ListFault) → location_fault (length F) e ≡ None → kind_of e.stream_type ≡ Some kind
       → ((IsOfSource fault.kind → ⊥) → shape_of F e.location.rva e.location.size kind ≡ Err fault) → IsListFaultOf number None fault f
       → IsCounted (records_told F (record { number = number; entry = e })) (fault_stage f)
   counted_bad kind fault f whole known shape told = counted-fault F number e fault f told (λ other. count-shaped F e kind (Err fault) whole known (shape other))
@@ -50,6 +50,6 @@ module _ (F : List ℕ) (number : ℕ) (e : Entry) where
   pub counted_none : location_fault (length F) e ≡ None → kind_of e.stream_type ≡ None → records_told F (record { number = number; entry = e }) ≡ Ok 0
   counted_none whole none = ap (count_listed number) (count-opaque F e whole none)
 
-  pub counted_shaped : (kind : Kind) (shape : Shape) → location_fault (length F) e ≡ None → kind_of e.stream_type ≡ Some kind
+  pub counted_shaped : (kind : StreamKind) (shape : Shape) → location_fault (length F) e ≡ None → kind_of e.stream_type ≡ Some kind
       → shape_of F e.location.rva e.location.size kind ≡ Ok shape → records_told F (record { number = number; entry = e }) ≡ Ok shape.count
   counted_shaped kind shape whole known shaped = ap (count_listed number) (count-shaped F e kind (Ok shape) whole known shaped)

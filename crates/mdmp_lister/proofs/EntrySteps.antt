@@ -4,9 +4,9 @@ use Rattle.mdmp_source.specs.Store.{IsGood}
 use Rattle.mdmp_lister.specs.declared.fault.Fault.{Fault}
 use Rattle.mdmp_lister.specs.declared.fault.FaultKind.TheVariants.{StreamOutside}
 use Rattle.mdmp_lister.specs.declared.fault.ListFault.{ListFault}
-use Rattle.mdmp_lister.specs.declared.heading.Head.{Head}
-use Rattle.mdmp_lister.specs.declared.kind.Kind.{Kind}
-use Rattle.mdmp_lister.specs.declared.kind.Kind.TheVariants.{Memory64}
+use Rattle.mdmp_lister.specs.declared.stream_head.Head.{Head}
+use Rattle.mdmp_lister.specs.declared.kind.StreamKind.{StreamKind}
+use Rattle.mdmp_lister.specs.declared.kind.StreamKind.TheVariants.{Memory64}
 use Rattle.mdmp_lister.specs.declared.shape.Shape.{Shape}
 use Rattle.mdmp_lister.specs.declared.stage.Stage.TheVariants as stage
 use Rattle.mdmp_lister.specs.declared.step.Step.{Step}
@@ -17,7 +17,7 @@ use Rattle.mdmp_lister.specs.Following.{IsRecordFault, IsSomeRecord, IsSomeShape
 use Rattle.mdmp_lister.specs.Following as following
 use Rattle.mdmp_lister.specs.Format.Item.{item_at, range_offset}
 use Rattle.mdmp_lister.specs.Format.Kind.{HasNoNames, greatest_record, has_names, kind_of}
-use Rattle.mdmp_lister.specs.Format.Listing.{body_of, only_fault}
+use Rattle.mdmp_lister.specs.Format.Listing.{entry_body, only_fault}
 use Rattle.mdmp_lister.specs.Format.Shape.{location_fault, shape_of}
 use Rattle.mdmp_lister.specs.Holding.{ComesTo, fills, started, unfetched}
 use Rattle.mdmp_lister.specs.Meter.{Books}
@@ -38,7 +38,7 @@ use Rattle.mdmp_lister.proofs.Soundness.{IsSound-after}
 
 -- ---- the head of the current entry, which is of a known kind and lies inside
 
-module _ {S A : Type 0} (old new : Walk S A) (kind : Kind) (at : old.stage ≡ stage.Head) (sound : IsSound old) (same : SameEntry old new)
+module _ {S A : Type 0} (old new : Walk S A) (kind : StreamKind) (at : old.stage ≡ stage.Head) (sound : IsSound old) (same : SameEntry old new)
     (whole : location_fault old.meter.source.size old.current ≡ None) (known : kind_of old.current.stream_type ≡ Some kind)
     (spent : ℕ) (books : Books 1 spent old.meter new.meter) where
   pub head_read : (head : Head) (offset : ℕ) → new.stage ≡ stage.Records kind head.shape 0 offset → IsHeadOf old.current.location.size kind head → offset < 2 ^ 64
@@ -83,7 +83,7 @@ module _ {S A : Type 0} (old new : Walk S A) (kind : Kind) (at : old.stage ≡ s
       }
 
   pub answered_head : (f : ListFault) → new.stage ≡ fault_stage f → FaultMet old f new → spent ≤ old.current.location.size
-      → ((file : List ℕ) → old.meter.source.store.content ≡ Some file → (IsOfSource f.kind → ⊥) → body_of file (vec_len old.name) (record { number = old.next - 1; entry = old.current }) ≡ only_fault f)
+      → ((file : List ℕ) → old.meter.source.store.content ≡ Some file → (IsOfSource f.kind → ⊥) → entry_body file (vec_len old.name) (record { number = old.next - 1; entry = old.current }) ≡ only_fault f)
       → ((file : List ℕ) → IsGood old.meter.source.store file → IsOfSource f.kind → ⊥)
       → (fault : Fault) → IsListFaultOf (old.next - 1) None fault f → IsSomeShape old.current.location kind (Err fault) → Answered old (Err f) new
   unfolding stream_calls
@@ -138,7 +138,7 @@ module _ {S A : Type 0} (old new : Walk S A) (f : ListFault) (at : old.stage ≡
 
 -- ---- a record of the current entry
 
-module _ {S A : Type 0} (old new : Walk S A) (kind : Kind) (shape : Shape) (k offset place : ℕ) (at : old.stage ≡ stage.Records kind shape k offset) (left : k < shape.count)
+module _ {S A : Type 0} (old new : Walk S A) (kind : StreamKind) (shape : Shape) (k offset place : ℕ) (at : old.stage ≡ stage.Records kind shape k offset) (left : k < shape.count)
     (sound : IsSound old) (same : SameEntry old new) (stands : place ≡ old.current.location.rva + shape.first + k * shape.stride) where
   reading : IsReading old.meter.source.size old.next old.current kind shape k offset
   reading = rw at at sound.staged
@@ -238,7 +238,7 @@ module _ {S A : Type 0} (old new : Walk S A) (kind : Kind) (shape : Shape) (k of
 
 -- ---- an entry whose records have no names
 
-module _ {S A : Type 0} (w : Walk S A) (kind : Kind) (shape : Shape) (k offset : ℕ) (at : w.stage ≡ stage.Records kind shape k offset) (sound : IsSound w) where
+module _ {S A : Type 0} (w : Walk S A) (kind : StreamKind) (shape : Shape) (k offset : ℕ) (at : w.stage ≡ stage.Records kind shape k offset) (sound : IsSound w) where
   pub nameless_reading : HasNoNames (kind_of w.current.stream_type) → has_names kind ≡ false
   nameless_reading none =
       let reading : IsReading w.meter.source.size w.next w.current kind shape k offset = rw at at sound.staged in

@@ -10,7 +10,7 @@ use Rattle.mdmp_lister.specs.declared.fault.Fault.{Fault}
 use Rattle.mdmp_lister.specs.declared.fault.FaultKind.{FaultKind}
 use Rattle.mdmp_lister.specs.declared.fault.FaultKind.TheVariants as kinds
 use Rattle.mdmp_lister.specs.declared.fault.ListFault.{ListFault}
-use Rattle.mdmp_lister.specs.Fault.{IsCaused, IsCausedAt, IsOfSource, IsPlaced, IsPlacedAt, IsSteady, IsToldBy, IsToldIn, TellsNoChange, source_fault, source_of}
+use Rattle.mdmp_lister.specs.Fault.{IsCaused, IsCausedAt, IsOfSource, NamesStorePlace, IsPlacedAt, IsSteady, IsToldByFetch, IsToldIn, TellsNoChange, source_of_answer, source_of}
 use Rattle.mdmp_source.specs.declared.fault.SourceFault.TheVariants.{Failed, ShortRead, Changed}
 use Rattle.mdmp_lister.specs.declared.fault.OpenFault.{OpenFault}
 use Rattle.mdmp_lister.specs.declared.fault.OpenFault.TheVariants.{Source}
@@ -71,7 +71,7 @@ IsCaused_later (Some fault) n a b c f before caused = record {
 
 -- and so of an answer
 pub IsCausedAt_later : {T : Type 0} (result : Result T Fault) (n : ℕ) (a b c : SourceState) → FetchesAtMost n a b → IsCaused None a b → IsCausedAt result b c → IsCausedAt result a c
-IsCausedAt_later result n a b c f before caused = record { caused = IsCaused_later (source_fault result) n a b c f before caused.caused; placed = caused.placed }
+IsCausedAt_later result n a b c f before caused = record { caused = IsCaused_later (source_of_answer result) n a b c f before caused.caused; placed = caused.placed }
 
 -- ---- faults that are told
 
@@ -104,13 +104,13 @@ pub unread_caused : (fault : OpenFault) (old new : SourceState) → IsCaused (un
 unread_caused (Source fault) old new caused = (caused.told, caused.once)
 unread_caused _ old new caused = caused.once
 
-told_by_caused : (e : Entry) (kind : FaultKind) (old new : SourceState) → IsCaused (source_of kind) old new → IsToldBy e kind old new
+told_by_caused : (e : Entry) (kind : FaultKind) (old new : SourceState) → IsCaused (source_of kind) old new → IsToldByFetch e kind old new
 told_by_caused e (kinds.Source (Changed at)) old new caused = absurd caused.told.cause
 told_by_caused e (kinds.Source (Failed at)) old new caused = caused.told
 told_by_caused e (kinds.Source (ShortRead at)) old new caused = caused.told
 told_by_caused e _ old new caused = tt
 
-placed_in : (kind : FaultKind) (f : ListFault) (offset size : ℕ) → IsPlacedAt kind offset size → f.offset ≡ offset → f.size ≡ size → (IsOfSource kind → f.index ≡ None) → IsPlaced kind f
+placed_in : (kind : FaultKind) (f : ListFault) (offset size : ℕ) → IsPlacedAt kind offset size → f.offset ≡ offset → f.size ≡ size → (IsOfSource kind → f.index ≡ None) → NamesStorePlace kind f
 placed_in (kinds.Source fault) f offset size placed at len none = (at ∙ placed.0, (len ∙ placed.1, none tt))
 placed_in _ f offset size placed at len none = tt
 
@@ -118,8 +118,8 @@ placed_in _ f offset size placed at len none = tt
 pub told_in_caused : {T : Type 0} (e : Entry) (fault : Fault) (f : ListFault) (old new : SourceState) → IsCausedAt {T = T} (Err fault) old new → f.kind ≡ fault.kind → (f.offset ≡ fault.offset) × (f.size ≡ fault.size)
     → (IsOfSource fault.kind → f.index ≡ None) → IsToldIn e f old new
 told_in_caused e fault f old new caused kind place none = record {
-  by = subst (λ k. IsToldBy e k old new) (sym kind) (told_by_caused e fault.kind old new caused.caused);
-  placed = subst (λ k. IsPlaced k f) (sym kind) (placed_in fault.kind f fault.offset fault.size caused.placed place.0 place.1 none);
+  by = subst (λ k. IsToldByFetch e k old new) (sym kind) (told_by_caused e fault.kind old new caused.caused);
+  placed = subst (λ k. NamesStorePlace k f) (sym kind) (placed_in fault.kind f fault.offset fault.size caused.placed place.0 place.1 none);
 }
 
 -- which a fault that has its cause does not
@@ -129,7 +129,7 @@ unchanged_caused fault f old new caused kind = subst TellsNoChange (sym kind) (o
   of (kinds.Source (Changed at)) by = absurd by.told.cause
   of _ by = tt
 
-told_by_later : (e : Entry) (kind : FaultKind) (n : ℕ) (a b c : SourceState) → FetchesAtMost n a b → IsToldBy e kind b c → IsToldBy e kind a c
+told_by_later : (e : Entry) (kind : FaultKind) (n : ℕ) (a b c : SourceState) → FetchesAtMost n a b → IsToldByFetch e kind b c → IsToldByFetch e kind a c
 told_by_later e (kinds.Source (Changed at)) n a b c first told = (sym first.same_content ∙ told.0, told.1)
 told_by_later e (kinds.Source (Failed at)) n a b c first told = told_later (Failed at) n a b c first told
 told_by_later e (kinds.Source (ShortRead at)) n a b c first told = told_later (ShortRead at) n a b c first told

@@ -5,8 +5,8 @@ use Rattle.std.proofs.lemmas.List.Sums.{sum_by-cons, sum_by_more, sum_by-take-le
 use Rattle.mdmp_source.specs.Range.{IsInside}
 use Rattle.mdmp_wire.specs.declared.entry.Entry.{Entry}
 use Rattle.mdmp_lister.specs.declared.choice.Choice.{Choice}
-use Rattle.mdmp_lister.specs.declared.kind.Kind.{Kind}
-use Rattle.mdmp_lister.specs.Heading.{ahead_by, ahead_of, chosen_ahead, head_inside, head_spent, heads_ahead}
+use Rattle.mdmp_lister.specs.declared.kind.StreamKind.{StreamKind}
+use Rattle.mdmp_lister.specs.StreamHead.{ahead_by, ahead_of, chosen_ahead, head_inside, head_spent, heads_ahead}
 use Rattle.mdmp_lister.specs.Format.Listing.{is_chosen}
 use Rattle.mdmp_lister.specs.Meter.{Books, MeterState}
 use Rattle.mdmp_lister.specs.Format.Kind.{form_of, kind_of, lists_ranges}
@@ -14,20 +14,20 @@ use Rattle.mdmp_lister.specs.Format.Shape.{head_cost, location_fault}
 use Rattle.mdmp_lister.specs.Format.KindLaws.{most_head}
 
 -- a stream of a known type whose location has no fault lies inside
-pub listed-inside : (z : ℕ) (e : Entry) (kind : Kind) → location_fault z e ≡ None → kind_of e.stream_type ≡ Some kind → IsInside e.location.rva e.location.size z
+pub listed-inside : (z : ℕ) (e : Entry) (kind : StreamKind) → location_fault z e ≡ None → kind_of e.stream_type ≡ Some kind → IsInside e.location.rva e.location.size z
 listed-inside z e kind none known = grind (arith, common_steps, known, none)
 
-head_inside-is : (z : ℕ) (e : Entry) (kind : Kind) → IsInside e.location.rva e.location.size z → head_inside z e kind ≡ head_spent e.location.size kind
+head_inside-is : (z : ℕ) (e : Entry) (kind : StreamKind) → IsInside e.location.rva e.location.size z → head_inside z e kind ≡ head_spent e.location.size kind
 head_inside-is z e kind (inl none) = rw none refl
 head_inside-is z e kind (inr within) = grind (arith, common_steps, within)
 
 -- of a memory list it is fetched ahead
-ahead_of-is : (z : ℕ) (e : Entry) (kind : Kind) → lists_ranges kind ≡ true → kind_of e.stream_type ≡ Some kind → IsInside e.location.rva e.location.size z
+ahead_of-is : (z : ℕ) (e : Entry) (kind : StreamKind) → lists_ranges kind ≡ true → kind_of e.stream_type ≡ Some kind → IsInside e.location.rva e.location.size z
     → head_spent e.location.size kind ≡ ahead_of z e
 unfolding ahead_of
 ahead_of-is z e kind list known inside = rw (known, list) (sym (head_inside-is z e kind inside))
 
-module _ (z : ℕ) (e : Entry) (kind : Kind) (list : lists_ranges kind ≡ true) (known : kind_of e.stream_type ≡ Some kind) (inside : IsInside e.location.rva e.location.size z) where
+module _ (z : ℕ) (e : Entry) (kind : StreamKind) (list : lists_ranges kind ≡ true) (known : kind_of e.stream_type ≡ Some kind) (inside : IsInside e.location.rva e.location.size z) where
   pub books_ahead : (old new : MeterState) → Books 1 (head_spent e.location.size kind) old new → Books 1 (ahead_of z e) old new
   books_ahead old new books = subst (λ n. Books 1 n old new) (ahead_of-is z e kind list known inside) books
 
@@ -60,10 +60,10 @@ unless_most : (b : Bool) (n most : ℕ) → n ≤ most → (if b then 0 else n) 
 unless_most true n most le = omega arith
 unless_most false n most le = le
 
-inside_most : (z : ℕ) (e : Entry) (kind : Kind) → head_inside z e kind ≤ 16
+inside_most : (z : ℕ) (e : Entry) (kind : StreamKind) → head_inside z e kind ≤ 16
 inside_most z e kind = if_most _ (head_spent e.location.size kind) 16 (unless_most _ (head_cost (form_of kind)) 16 (most_head (form_of kind)))
 
-ahead_most : (z : ℕ) (e : Entry) (kind : Option Kind) → ahead_by z e kind ≤ 16
+ahead_most : (z : ℕ) (e : Entry) (kind : Option StreamKind) → ahead_by z e kind ≤ 16
 ahead_most z e (Some kind) = if_most (lists_ranges kind) (head_inside z e kind) 16 (inside_most z e kind)
 ahead_most z e None = omega arith
 

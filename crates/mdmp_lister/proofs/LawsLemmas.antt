@@ -6,7 +6,7 @@ use Rattle.std.proofs.lemmas.Bool.{false≢true}
 use Rattle.std.proofs.lemmas.List.Elements.{filter-append}
 use Rattle.mdmp_lister.specs.declared.choice.Choice.{Choice}
 use Rattle.mdmp_lister.specs.declared.choice.Choice.TheVariants.{All}
-use Rattle.mdmp_lister.specs.declared.kind.Kind.{Kind}
+use Rattle.mdmp_lister.specs.declared.kind.StreamKind.{StreamKind}
 use Rattle.mdmp_lister.specs.declared.shape.Shape.{Shape}
 use Rattle.mdmp_lister.specs.declared.fault.Fault.{Fault}
 use Rattle.mdmp_lister.specs.declared.fault.ListFault.{ListFault}
@@ -16,7 +16,7 @@ use Rattle.mdmp_lister.specs.declared.verdict.Verdict.{Verdict}
 use Rattle.mdmp_lister.specs.Format.Item.{item_at, named, offset_in, record_at}
 use Rattle.mdmp_lister.specs.Format.Kind.{kind_of}
 use Rattle.mdmp_lister.specs.Format.Shape.{shape_of, location_fault}
-use Rattle.mdmp_lister.specs.Format.Listing.{Numbered, Run, all_joined, body_of, entries_from, entry_count, entry_listing, entry_of, item_then, items_from, joined, list_fault, listing, nothing, only_chosen, only_fault, records_of, shaped, stream_item, verdicts, with_item}
+use Rattle.mdmp_lister.specs.Format.Listing.{Numbered, Run, all_joined, entry_body, entries_from, entry_count, entry_listing, entry_of, item_then, items_from, joined, list_fault, listing, nothing, only_chosen, only_fault, records_of, shaped, stream_item, verdicts, with_item}
 use Rattle.mdmp_lister.specs.Format.Laws.{entry_number, first_fault, is_good, is_of, part_of, stands_in}
 use Rattle.mdmp_lister.specs.Format.Summary.{Summary}
 use Rattle.mdmp_lister.proofs.Summary.{summary_of-item_of}
@@ -55,7 +55,7 @@ named-entry : (e : ℕ) (name : Result Name Fault) (item : Name → Item) → ((
 named-entry e (Ok n) item same = same n
 named-entry e (Err f) item same = tt
 
-item_at-entry : (F : List ℕ) (limit e k at o : ℕ) (kind : Kind) → IfOk (item_at F limit e k at o kind) (λ x. entry_number x ≡ e)
+item_at-entry : (F : List ℕ) (limit e k at o : ℕ) (kind : StreamKind) → IfOk (item_at F limit e k at o kind) (λ x. entry_number x ≡ e)
 item_at-entry F limit e k at o kind =
     let fields = record_at kind F o in
     let offset = offset_in F at k kind in
@@ -65,27 +65,27 @@ IsOf-item_then : (e k : ℕ) (item : Result Item Fault) (rest : Run) → IfOk it
 IsOf-item_then e k (Ok item) rest same of = IsOf-with_item e item rest same of
 IsOf-item_then e k (Err f) rest same of = IsOf-only_fault e (Some k) f
 
-IsOf-items_from : (F : List ℕ) (limit e at : ℕ) (kind : Kind) (shape : Shape) (n k : ℕ) → IsOf e (items_from F limit e at kind shape n k)
+IsOf-items_from : (F : List ℕ) (limit e at : ℕ) (kind : StreamKind) (shape : Shape) (n k : ℕ) → IsOf e (items_from F limit e at kind shape n k)
 IsOf-items_from F limit e at kind shape zero k = IsOf-nothing e
 IsOf-items_from F limit e at kind shape (suc n) k =
     let o = at + shape.first + k * shape.stride in
     IsOf-item_then e k (item_at F limit e k at o kind) _ (item_at-entry F limit e k at o kind) (IsOf-items_from F limit e at kind shape n (k + 1))
 
-IsOf-shaped : (F : List ℕ) (limit e at : ℕ) (kind : Kind) (shape : Result Shape Fault) → IsOf e (shaped F limit e at kind shape)
+IsOf-shaped : (F : List ℕ) (limit e at : ℕ) (kind : StreamKind) (shape : Result Shape Fault) → IsOf e (shaped F limit e at kind shape)
 IsOf-shaped F limit e at kind (Ok shape) = IsOf-items_from F limit e at kind shape shape.count 0
 IsOf-shaped F limit e at kind (Err f) = IsOf-only_fault e None f
 
-IsOf-records_of : (F : List ℕ) (limit e at size : ℕ) (kind : Option Kind) → IsOf e (records_of F limit e at size kind)
+IsOf-records_of : (F : List ℕ) (limit e at size : ℕ) (kind : Option StreamKind) → IsOf e (records_of F limit e at size kind)
 IsOf-records_of F limit e at size (Some kind) = IsOf-shaped F limit e at kind (shape_of F at size kind)
 IsOf-records_of F limit e at size None = IsOf-nothing e
 
-IsOf-body_of : (F : List ℕ) (limit : ℕ) (x : Numbered) (outside : Option Fault) → outside ≡ location_fault (length F) x.entry → IsOf x.number (body_of F limit x)
-IsOf-body_of F limit x None inside = rw (← inside) (IsOf-records_of F limit x.number x.entry.location.rva x.entry.location.size (kind_of x.entry.stream_type))
-IsOf-body_of F limit x (Some f) outside = rw (← outside) (IsOf-only_fault x.number None f)
+IsOf-entry_body : (F : List ℕ) (limit : ℕ) (x : Numbered) (outside : Option Fault) → outside ≡ location_fault (length F) x.entry → IsOf x.number (entry_body F limit x)
+IsOf-entry_body F limit x None inside = rw (← inside) (IsOf-records_of F limit x.number x.entry.location.rva x.entry.location.size (kind_of x.entry.stream_type))
+IsOf-entry_body F limit x (Some f) outside = rw (← outside) (IsOf-only_fault x.number None f)
 
 -- all that an entry gives is of that entry
 IsOf-entry_listing : (F : List ℕ) (limit : ℕ) (x : Numbered) → IsOf x.number (entry_listing F limit x)
-IsOf-entry_listing F limit x = IsOf-with_item x.number (stream_item x) (body_of F limit x) refl (IsOf-body_of F limit x (location_fault (length F) x.entry) refl)
+IsOf-entry_listing F limit x = IsOf-with_item x.number (stream_item x) (entry_body F limit x) refl (IsOf-entry_body F limit x (location_fault (length F) x.entry) refl)
 
 -- ---- the part of a listing that a choice has
 

@@ -11,7 +11,7 @@ use Rattle.mdmp_lister.specs.declared.walk.Walk.{Walk}
 use Rattle.mdmp_lister.specs.Fault.{IsOfSource}
 use Rattle.mdmp_lister.specs.Format.Item.{plain}
 use Rattle.mdmp_lister.specs.Format.Listing.{Run, nothing, only_fault, with_item}
-use Rattle.mdmp_lister.specs.Lister.{AnswersNext, Gives, HasRecordsLeft, IsSameLister, Leaves, ListerState, tail}
+use Rattle.mdmp_lister.specs.Lister.{AnswersNext, Gives, HasRecordsLeft, IsSameLister, NextLeaves, ListerState, tail}
 use Rattle.mdmp_lister.specs.Meter.{counts_of}
 use Rattle.mdmp_lister.specs.Following.{records_by}
 use Rattle.mdmp_lister.specs.Stage.{records_left_in, standing_of, stop_of}
@@ -109,7 +109,7 @@ module _ {S A : Type 0} (w n : Walk S A) (room : ℕ) where
   -- ---- at the end
 
   module _ (rs : List Range) (e : Answered w (Ok None) n) where
-    pub leaves_none : Leaves (listed_by rs room w) (Ok None) (listed_by rs room n)
+    pub leaves_none : NextLeaves (listed_by rs room w) (Ok None) (listed_by rs room n)
     leaves_none = record {
       same = same_list rs rs (Ok None) e;
       fetches = e.fetches;
@@ -136,7 +136,7 @@ module _ {S A : Type 0} (w n : Walk S A) (room : ℕ) where
   -- ---- at a fault
 
   module _ (rs : List Range) (f : ListFault) (e : Answered w (Err f) n) where
-    pub leaves_fault : Leaves (listed_by rs room w) (Err f) (listed_by rs room n)
+    pub leaves_fault : NextLeaves (listed_by rs room w) (Err f) (listed_by rs room n)
     leaves_fault =
         let stopped : stop_of n.stage ≡ Some (Some f) = rw e.stage (fault_stage-stop f) in
         record {
@@ -168,7 +168,7 @@ module _ {S A : Type 0} (w n : Walk S A) (room : ℕ) where
     given : (file : List ℕ) → w.meter.source.store.content ≡ Some file → left_of w file ≡ with_item (plain x) (left_of n file)
     given file known = rw (told, e.fetches.same_size) (e.listing file known)
 
-    pub leaves_item : Leaves (listed_by rs room w) (Ok (Some x)) (listed_by rest room n)
+    pub leaves_item : NextLeaves (listed_by rs room w) (Ok (Some x)) (listed_by rest room n)
     leaves_item =
         let z = n.meter.source.size in
         let buffer = n.name.items in

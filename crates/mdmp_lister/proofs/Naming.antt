@@ -4,7 +4,7 @@ use Rattle.mdmp_source.specs.Count.{raised}
 use Rattle.mdmp_lister.specs.declared.fetching.NameRead.{NameRead}
 use Rattle.mdmp_lister.specs.declared.fetching.NameRead.TheVariants as read
 use Rattle.mdmp_lister.specs.declared.item.Item.{Item}
-use Rattle.mdmp_lister.specs.declared.kind.Kind.{Kind}
+use Rattle.mdmp_lister.specs.declared.kind.StreamKind.{StreamKind}
 use Rattle.mdmp_lister.specs.declared.name.Name.{Name}
 use Rattle.mdmp_lister.specs.declared.name.Name.TheVariants.{Units, Long}
 use Rattle.mdmp_lister.specs.declared.name.Name.TheVariants as names
@@ -35,15 +35,15 @@ named_once-read buffer read.None = refl
 named_once-read buffer (read.Units bytes) = refl
 named_once-read buffer (read.Long bytes) = refl
 
-names_of-read : (z : ℕ) (buffer : List ℕ) (kind : Option Kind) (s : Step) → IsStepOf kind s → names_of (step_item z buffer s) ≡ told_once s
+names_of-read : (z : ℕ) (buffer : List ℕ) (kind : Option StreamKind) (s : Step) → IsStepOf kind s → names_of (step_item z buffer s) ≡ told_once s
 names_of-read z buffer kind (step.Stream x) of = refl
 names_of-read z buffer kind (step.Record r) of = ap (λ (s : Summary). named_once s.name) (summary_of-read z buffer r of.1) ∙ named_once-read buffer r.name
 
-names_of-step : (z : ℕ) (buffer : List ℕ) (kind : Option Kind) (s : Step) (x : Item) → IsStepOf kind s → plain x ≡ step_item z buffer s → names_of x ≡ told_once s
+names_of-step : (z : ℕ) (buffer : List ℕ) (kind : Option StreamKind) (s : Step) (x : Item) → IsStepOf kind s → plain x ≡ step_item z buffer s → names_of x ≡ told_once s
 names_of-step z buffer kind s x of same = sym (names_of-plain x) ∙ ap names_of same ∙ names_of-read z buffer kind s of
 
 -- the count of names rises by those of the item
-pub names_raised : (z : ℕ) (buffer : List ℕ) (kind : Option Kind) (s : Step) (x : Item) (old new : ℕ) → IsStepOf kind s → plain x ≡ step_item z buffer s
+pub names_raised : (z : ℕ) (buffer : List ℕ) (kind : Option StreamKind) (s : Step) (x : Item) (old new : ℕ) → IsStepOf kind s → plain x ≡ step_item z buffer s
     → new ≡ raised old (told_once s) → new ≡ raised old (names_of x)
 names_raised z buffer kind s x old new of same rose = rw (names_of-step z buffer kind s x of same) rose
 
@@ -56,7 +56,7 @@ told_most (step.Stream x) = omega arith
 told_most (step.Record r) = read_most r.name
 
 -- by just so many where it does not stand at its greatest
-pub names_given : (z : ℕ) (buffer : List ℕ) (kind : Option Kind) (s : Step) (x : Item) (old new : ℕ) → IsStepOf kind s → plain x ≡ step_item z buffer s → old < 2 ^ 66
+pub names_given : (z : ℕ) (buffer : List ℕ) (kind : Option StreamKind) (s : Step) (x : Item) (old new : ℕ) → IsStepOf kind s → plain x ≡ step_item z buffer s → old < 2 ^ 66
     → new ≡ raised old (told_once s) → new ≡ old + names_of x
 names_given z buffer kind s x old new of same small rose = rw (names_of-step z buffer kind s x of same) (omega (arith, small, rose, told_most s))
 

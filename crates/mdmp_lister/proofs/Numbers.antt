@@ -10,7 +10,7 @@ use Rattle.mdmp_lister.specs.Counts.{AreHeld, AreOfFile, AreSpent}
 use Rattle.mdmp_lister.specs.Meter.{IsBooked, counts_of}
 use Rattle.mdmp_lister.specs.Walk.Telling.{numbers_of_walk}
 use Rattle.mdmp_lister.specs.Format.Bounds.{call_bound, fetch_bound}
-use Rattle.mdmp_lister.specs.Format.Numbers.{is_listed, listed, listed_bytes, listed_sizes, sizes_of}
+use Rattle.mdmp_lister.specs.Format.Numbers.{is_listed, listed_entries, listed_bytes, listed_sizes, sizes_of}
 use Rattle.mdmp_lister.specs.Format.Directory.{IsDirectory}
 use Rattle.mdmp_lister.specs.Format.Listing.{Numbered, entries_from, entry_of, is_chosen, only_chosen}
 use Rattle.mdmp_lister.specs.Walk.Paying.{IsBounded, cost_by, cost_of, sizes_in, stream_calls}
@@ -23,14 +23,14 @@ use Rattle.mdmp_lister.proofs.Sliding.{fills_most}
 -- ---- the streams that are listed of the directory are those of the file
 
 module _ (F : List ℕ) (choice : Choice) (z : ℕ) where
-  sizes_then : (chosen is : Bool) (x : Numbered) (xs : List Numbered) (es : List Entry) → is_listed z x.entry ≡ is → map (λ e. e.location.size) es ≡ sizes_of (listed z xs)
-      → map (λ e. e.location.size) (if chosen && is then x.entry ∷ es else es) ≡ sizes_of (listed z (if chosen then x ∷ xs else xs))
-  sizes_then true true x xs es listed same = rw listed (ap (λ sizes. x.entry.location.size ∷ sizes) same)
-  sizes_then true false x xs es listed same = rw listed same
-  sizes_then false is x xs es listed same = same
+  sizes_then : (chosen is : Bool) (x : Numbered) (xs : List Numbered) (es : List Entry) → is_listed z x.entry ≡ is → map (λ e. e.location.size) es ≡ sizes_of (listed_entries z xs)
+      → map (λ e. e.location.size) (if chosen && is then x.entry ∷ es else es) ≡ sizes_of (listed_entries z (if chosen then x ∷ xs else xs))
+  sizes_then true true x xs es listed_entries same = rw listed_entries (ap (λ sizes. x.entry.location.size ∷ sizes) same)
+  sizes_then true false x xs es listed_entries same = rw listed_entries same
+  sizes_then false is x xs es listed_entries same = same
 
   sizes_from : (es : List Entry) (k : ℕ) → ((i : ℕ) (d : Entry) → i < length es → get_or es i d ≡ entry_of F (k + i))
-      → sizes_in choice z es ≡ sizes_of (listed z (only_chosen choice (entries_from F (length es) k)))
+      → sizes_in choice z es ≡ sizes_of (listed_entries z (only_chosen choice (entries_from F (length es) k)))
   unfolding sizes_in entries_from only_chosen
   sizes_from [] k each = refl
   sizes_from (e ∷ es) k each =

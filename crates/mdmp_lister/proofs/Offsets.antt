@@ -7,8 +7,8 @@ use Rattle.mdmp_wire.specs.Descriptor64.{descriptor64_at}
 use Rattle.mdmp_lister.specs.declared.fault.Fault.{Fault}
 use Rattle.mdmp_lister.specs.declared.item.Item.{Item}
 use Rattle.mdmp_lister.specs.declared.item.RangeItem.{RangeItem}
-use Rattle.mdmp_lister.specs.declared.kind.Kind.{Kind}
-use Rattle.mdmp_lister.specs.declared.kind.Kind.TheVariants.{Memory64}
+use Rattle.mdmp_lister.specs.declared.kind.StreamKind.{StreamKind}
+use Rattle.mdmp_lister.specs.declared.kind.StreamKind.TheVariants.{Memory64}
 use Rattle.mdmp_lister.specs.declared.item.Item.TheVariants as items
 use Rattle.mdmp_lister.specs.declared.name.Name.{Name}
 use Rattle.mdmp_lister.specs.declared.step.Step.{Step}
@@ -50,7 +50,7 @@ one_answer : (r : Result Item Fault) (x y : Item) → r ≡ Ok x → r ≡ Ok y 
 one_answer r x y first second = cc
 
 -- behind a range of a 64-bit memory list the next one's bytes stand
-pub range-next : (F : List ℕ) (limit e k at o z offset next : ℕ) (buffer : List ℕ) (kind : Kind) (s : Step) → kind ≡ Memory64 → IsStepOf (Some kind) s
+pub range-next : (F : List ℕ) (limit e k at o z offset next : ℕ) (buffer : List ℕ) (kind : StreamKind) (s : Step) → kind ≡ Memory64 → IsStepOf (Some kind) s
     → item_at F limit e k at o kind ≡ Ok (step_item z buffer s) → offset ≡ range_offset F at k → o ≡ at + 16 + k * 16 → next ≡ offset + bytes_behind s → next ≡ range_offset F at (k + 1)
 range-next F limit e k at o z offset next buffer kind s is of given here place behind =
     let x = range64_item (length F) e k (descriptor64_at F o) (range_offset F at k) in

@@ -2,7 +2,7 @@
 use Rattle.std.proofs.Common.{◌≡◌, ◌≤◌, ◌<◌, arith, refl, ℕ, List, length, Bool, true, false, Option, Some, None, Ok, if◌then◌else◌}
 use Rattle.std.specs.Prelude.{IsTrue}
 use Rattle.mdmp_wire.specs.declared.entry.Entry.{Entry}
-use Rattle.mdmp_lister.specs.declared.kind.Kind.{Kind}
+use Rattle.mdmp_lister.specs.declared.kind.StreamKind.{StreamKind}
 use Rattle.mdmp_lister.specs.declared.shape.Shape.{Shape}
 use Rattle.mdmp_lister.specs.declared.stage.Stage.TheVariants.{Head}
 use Rattle.mdmp_lister.specs.declared.walk.Walk.{Walk}
@@ -16,16 +16,16 @@ use Rattle.mdmp_lister.specs.Walk.Owing.{HasRoom, ranges_by}
 use Rattle.mdmp_lister.specs.Format.Kind.{kind_of, lists_ranges}
 use Rattle.mdmp_lister.specs.Format.Shape.{location_fault, shape_of}
 
-shape-ranges : (F : List ℕ) (e : Entry) (kind : Kind) (shape : Shape) (list : Bool) → location_fault (length F) e ≡ None → kind_of e.stream_type ≡ Some kind
+shape-ranges : (F : List ℕ) (e : Entry) (kind : StreamKind) (shape : Shape) (list : Bool) → location_fault (length F) e ≡ None → kind_of e.stream_type ≡ Some kind
     → shape_of F e.location.rva e.location.size kind ≡ Ok shape → ranges_if F e list ≡ (if list then shape.count else 0)
 shape-ranges F e kind shape true whole known shaped = rw (whole, known, shaped) refl
 shape-ranges F e kind shape false whole known shaped = refl
 
-pub ranges_in-shape : (F : List ℕ) (e : Entry) (kind : Kind) (shape : Shape) → location_fault (length F) e ≡ None → kind_of e.stream_type ≡ Some kind
+pub ranges_in-shape : (F : List ℕ) (e : Entry) (kind : StreamKind) (shape : Shape) → location_fault (length F) e ≡ None → kind_of e.stream_type ≡ Some kind
     → shape_of F e.location.rva e.location.size kind ≡ Ok shape → ranges_in F e (kind_of e.stream_type) ≡ ranges_by kind shape.count
 ranges_in-shape F e kind shape whole known shaped = rw known (shape-ranges F e kind shape (lists_ranges kind) whole known shaped)
 
-module _ {S A : Type 0} (w : Walk S A) (room : ℕ) (kind : Kind) (shape : Shape) where
+module _ {S A : Type 0} (w : Walk S A) (room : ℕ) (kind : StreamKind) (shape : Shape) where
   pub ranges-counted : (file : List ℕ) → HasRoom room 0 w → w.stage ≡ Head → w.meter.source.store.content ≡ Some file → w.meter.source.size ≡ length file
       → location_fault w.meter.source.size w.current ≡ None → kind_of w.current.stream_type ≡ Some kind
       → shape_of file w.current.location.rva w.current.location.size kind ≡ Ok shape → ranges_by kind shape.count ≤ room
@@ -40,7 +40,7 @@ unknown None never = refl
 unknown (Some file) never = absurd (never file refl)
 
 -- a list that tells ranges is a memory list
-pub ranged : (known : Option Kind) (kind : Kind) (count room : ℕ) → known ≡ Some kind → room < ranges_by kind count → IsRanged known
+pub ranged : (known : Option StreamKind) (kind : StreamKind) (count room : ℕ) → known ≡ Some kind → room < ranges_by kind count → IsRanged known
 ranged known kind count room is some = rw is (lists (lists_ranges kind) some) where
   lists : (list : Bool) → room < (if list then count else 0) → IsTrue list
   lists true some = refl

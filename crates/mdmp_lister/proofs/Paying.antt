@@ -12,7 +12,7 @@ use Rattle.mdmp_lister.specs.declared.choice.Choice.{Choice}
 use Rattle.mdmp_lister.specs.declared.fault.FaultKind.{FaultKind}
 use Rattle.mdmp_lister.specs.declared.fault.FaultKind.TheVariants.{Source}
 use Rattle.mdmp_lister.specs.declared.fault.ListFault.{ListFault}
-use Rattle.mdmp_lister.specs.declared.kind.Kind.{Kind}
+use Rattle.mdmp_lister.specs.declared.kind.StreamKind.{StreamKind}
 use Rattle.mdmp_lister.specs.declared.meter.Amount.{Amount}
 use Rattle.mdmp_lister.specs.declared.shape.Shape.{Shape}
 use Rattle.mdmp_lister.specs.declared.stage.Stage.TheVariants.{Between}
@@ -93,7 +93,7 @@ module _ {S A : Type 0} (calls spent begun : ℕ) (old new : Walk S A) where
 -- ---- entries
 
 -- a stream has fewer than 2^32 records
-pub few_records : (size : ℕ) (kind : Kind) (shape : Shape) → size < 2 ^ 32 → FitsIn size kind shape → shape.count < 2 ^ 32
+pub few_records : (size : ℕ) (kind : StreamKind) (shape : Shape) → size < 2 ^ 32 → FitsIn size kind shape → shape.count < 2 ^ 32
 few_records size kind shape small fits = few shape.count shape.stride fits.records fits.stride where
   few : (count stride : ℕ) → shape.first + count * stride ≤ size → (0 < count → record_size kind ≤ stride) → count < 2 ^ 32
   few zero stride records wide = omega arith
@@ -101,7 +101,7 @@ few_records size kind shape small fits = few shape.count shape.stride fits.recor
       let one : 1 ≤ stride = omega (arith, wide (omega arith), least_record kind) in
       omega (arith, small, records, mul-le-mul_left (suc n) one)
 
-pub entry_cost-listed : (f : ℕ → ℕ) (size : ℕ) (e : Entry) (kind : Kind) → kind_of e.stream_type ≡ Some kind → IsInside e.location.rva e.location.size size
+pub entry_cost-listed : (f : ℕ → ℕ) (size : ℕ) (e : Entry) (kind : StreamKind) → kind_of e.stream_type ≡ Some kind → IsInside e.location.rva e.location.size size
     → entry_cost_by f size e ≡ f e.location.size
 unfolding entry_cost_by
 entry_cost-listed f size e kind known (inl none) = rw (known, none) refl

@@ -13,14 +13,14 @@ use Rattle.mdmp_wire.specs.Unloaded.{unloaded_at-part}
 use Rattle.mdmp_wire.specs.MemoryInfo.{memory_info_at-part}
 use Rattle.mdmp_lister.specs.declared.fault.Fault.{Fault}
 use Rattle.mdmp_lister.specs.declared.item.Item.{Item}
-use Rattle.mdmp_lister.specs.declared.kind.Kind.{Kind}
-use Rattle.mdmp_lister.specs.declared.kind.Kind.TheVariants as kinds
+use Rattle.mdmp_lister.specs.declared.kind.StreamKind.{StreamKind}
+use Rattle.mdmp_lister.specs.declared.kind.StreamKind.TheVariants as kinds
 use Rattle.mdmp_lister.specs.declared.name.Name.{Name}
 use Rattle.mdmp_lister.specs.Format.Item.{item_at, item_of, kind_told, name_of, named, offset_in, range_offset, record_at}
 use Rattle.mdmp_lister.specs.Format.Kind.{has_names, record_size}
 
 -- a record is read of its own bytes alone
-record_at-part : (kind : Kind) (n o : ℕ) (F : List ℕ) → record_size kind ≤ n → record_at kind (take n (drop o F)) 0 ≡ record_at kind F o
+record_at-part : (kind : StreamKind) (n o : ℕ) (F : List ℕ) → record_size kind ≤ n → record_at kind (take n (drop o F)) 0 ≡ record_at kind F o
 record_at-part kinds.Threads n o F room = ap any.Thread (thread_at-part n o F room)
 record_at-part kinds.Modules n o F room = ap any.Module (module_at-part n o F room)
 record_at-part kinds.Memory n o F room = ap any.Memory (descriptor_at-part n o F room)
@@ -31,7 +31,7 @@ record_at-part kinds.Unloaded n o F room = ap any.Unloaded (unloaded_at-part n o
 record_at-part kinds.MemoryInfo n o F room = ap any.MemoryInfo (memory_info_at-part n o F room)
 
 -- and it tells its kind
-pub kind_told-at : (kind : Kind) (F : List ℕ) (o : ℕ) → kind_told (record_at kind F o) ≡ kind
+pub kind_told-at : (kind : StreamKind) (F : List ℕ) (o : ℕ) → kind_told (record_at kind F o) ≡ kind
 kind_told-at kinds.Threads F o = refl
 kind_told-at kinds.Modules F o = refl
 kind_told-at kinds.Memory F o = refl
@@ -53,16 +53,16 @@ named_kind (any.Unloaded r) rva is none = cc
 named_kind (any.MemoryInfo r) rva is none = cc
 
 -- the record of the bytes that were fetched is that of the file
-pub record-fetched : (kind : Kind) (n o : ℕ) (F bytes : List ℕ) (fields : AnyRecord) → record_size kind ≤ n → bytes ≡ take n (drop o F) → fields ≡ record_at kind bytes 0 → record_at kind F o ≡ fields
+pub record-fetched : (kind : StreamKind) (n o : ℕ) (F bytes : List ℕ) (fields : AnyRecord) → record_size kind ≤ n → bytes ≡ take n (drop o F) → fields ≡ record_at kind bytes 0 → record_at kind F o ≡ fields
 record-fetched kind n o F bytes fields room fetched read = sym (read ∙ ap (λ b. record_at kind b 0) fetched ∙ record_at-part kind n o F room)
 
 -- only the bytes of a 64-bit range are said to stand elsewhere
-item_of-offset : (F : List ℕ) (z e k at o offset : ℕ) (kind : Kind) (name : Name) → (kind ≡ kinds.Memory64 → offset ≡ range_offset F at k)
+item_of-offset : (F : List ℕ) (z e k at o offset : ℕ) (kind : StreamKind) (name : Name) → (kind ≡ kinds.Memory64 → offset ≡ range_offset F at k)
     → item_of z e k (offset_in F at k kind) (record_at kind F o) name ≡ item_of z e k offset (record_at kind F o) name
 item_of-offset F z e k at o offset kinds.Memory64 name here = rw (here refl) refl
 item_of-offset F z e k at o offset _ name here = refl
 
-module _ (F : List ℕ) (limit e k at o : ℕ) (kind : Kind) (fields : AnyRecord) (known : record_at kind F o ≡ fields) where
+module _ (F : List ℕ) (limit e k at o : ℕ) (kind : StreamKind) (fields : AnyRecord) (known : record_at kind F o ≡ fields) where
   item_at-named : item_at F limit e k at o kind ≡ named (name_of F limit (name_rva fields)) (λ name. item_of (length F) e k (offset_in F at k kind) fields name)
   item_at-named = ap (λ (x : AnyRecord). named (name_of F limit (name_rva x)) (λ name. item_of (length F) e k (offset_in F at k kind) x name)) known
 

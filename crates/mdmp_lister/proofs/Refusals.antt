@@ -12,10 +12,10 @@ use Rattle.mdmp_source.specs.declared.fault.SourceFault.{SourceFault}
 use Rattle.mdmp_wire.specs.declared.header_fault.HeaderFault.{HeaderFault}
 use Rattle.mdmp_wire.specs.declared.header_fault.HeaderFault.TheVariants as header
 use Rattle.mdmp_wire.specs.Header.{header_at, header_at-part}
-use Rattle.mdmp_wire.specs.HeaderFault.{fault_of, header_fault}
+use Rattle.mdmp_wire.specs.HeaderFault.{header_fault_of, header_fault}
 use Rattle.mdmp_lister.specs.declared.choice.Choice.{Choice}
 use Rattle.mdmp_lister.specs.Format.Directory.{AreFirst}
-use Rattle.mdmp_lister.specs.Heading.{heads_ahead}
+use Rattle.mdmp_lister.specs.StreamHead.{heads_ahead}
 use Rattle.mdmp_lister.specs.declared.fault.OpenFault.{OpenFault}
 use Rattle.mdmp_lister.specs.declared.fault.OpenFault.TheVariants.{TooShort, BadSignature, BadVersion, DirectoryOutside, TooManyRanges, Source, Memory}
 use Rattle.mdmp_lister.specs.Meter.{Books, MeterState}
@@ -39,7 +39,7 @@ pub directory_refusal-fetched : (F bytes : List ℕ) (size : ℕ) (fault : Optio
 directory_refusal-fetched F bytes size fault len room whole fetched e =
     let long : nat_lt (length F) 32 ≡ false = grind (arith, common_steps) in
     ap (λ b. if b then Some (TooShort (length F)) else behind_header F (header_fault F)) long
-    ∙ ap (behind_header F) (ap fault_of (sym (header_at-fetched F bytes whole fetched)) ∙ e)
+    ∙ ap (behind_header F) (ap header_fault_of (sym (header_at-fetched F bytes whole fetched)) ∙ e)
 
 -- the same where the header is good, by its directory
 directory_refusal-placed : (F bytes : List ℕ) (h : Header) (size : ℕ) → size ≡ length F → 32 ≤ size → length bytes ≡ 32 → bytes ≡ bytes_at F 0 (length bytes)

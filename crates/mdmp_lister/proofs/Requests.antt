@@ -22,7 +22,7 @@ use Rattle.mdmp_lister.specs.Following.{Cursor, Follows, GivesNextEntry, GivesNe
 use Rattle.mdmp_lister.specs.Following as following
 use Rattle.mdmp_lister.specs.declared.choice.Choice.{Choice}
 use Rattle.mdmp_lister.specs.declared.fault.Fault.{Fault}
-use Rattle.mdmp_lister.specs.Walk.Requests.{Answered, Counted, FaultMet, HeadRead, RecordsCounted, StepGiven}
+use Rattle.mdmp_lister.specs.Walk.Requests.{Answered, HeadCounted, FaultMet, HeadRead, RecordsCounted, StepGiven}
 use Rattle.mdmp_lister.specs.Format.Kind.{kind_of}
 use Rattle.mdmp_lister.specs.Stage.{IsStageAfter, failure_of, fault_stage, records_left_in, stage_by, standing_of, stop_of}
 use Rattle.mdmp_lister.specs.Step.{CurrentAfter, IsStepHeld, TakesRecord, current_by, passed_by, step_item, stream_told}
@@ -381,7 +381,7 @@ module _ {S A : Type 0} (old mid new : Walk S A) (head : HeadRead old mid) where
 
 -- ---- records that are counted
 
-module _ {S A : Type 0} (old new : Walk S A) (count : ℕ) (at : old.stage ≡ Head) (head : HeadRead old new) (counted : Counted old new) (is : count ≡ records_left_in new.stage) where
+module _ {S A : Type 0} (old new : Walk S A) (count : ℕ) (at : old.stage ≡ Head) (head : HeadRead old new) (counted : HeadCounted old new) (is : count ≡ records_left_in new.stage) where
   pub counted_head : RecordsCounted old (Ok count) new
   counted_head = record {
     sound = head.sound;
@@ -401,7 +401,7 @@ module _ {S A : Type 0} (old new : Walk S A) (count : ℕ) (at : old.stage ≡ H
   }
 
 -- a fault of the head stands in the place of a count
-module _ {S A : Type 0} (old new : Walk S A) (f : ListFault) (at : old.stage ≡ Head) (answered : Answered old (Err f) new) (counted : Counted old new) where
+module _ {S A : Type 0} (old new : Walk S A) (f : ListFault) (at : old.stage ≡ Head) (answered : Answered old (Err f) new) (counted : HeadCounted old new) where
   pub counted_refused : RecordsCounted old (Err f) new
   counted_refused =
       let none : unread_bytes new ≡ 0 = rw answered.stage (fault_stage-owed new.meter.source.size new.current new.window f) in

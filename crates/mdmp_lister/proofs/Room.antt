@@ -1,7 +1,7 @@
 -- Room for the records of a stream.
 use Rattle.std.proofs.Common.{◌≤◌, ◌<◌, ◌+◌, ◌*◌, inl, inr, ℕ, suc, arith, mul-suc, mul_comm}
 use Rattle.std.proofs.Math.Nat.{mul-le-mul_left}
-use Rattle.mdmp_lister.specs.declared.kind.Kind.{Kind}
+use Rattle.mdmp_lister.specs.declared.kind.StreamKind.{StreamKind}
 use Rattle.mdmp_lister.specs.declared.shape.Shape.{Shape}
 use Rattle.mdmp_source.specs.Range.{IsInside}
 use Rattle.mdmp_lister.specs.Format.Shape.{FitsIn}
@@ -14,7 +14,7 @@ record_room k n s r lt le =
     let more : suc k ≤ n = omega (arith, lt) in
     omega (arith, mul-le-mul_left s more, mul-suc s k, mul_comm s k, mul_comm s n, le)
 
-module _ (at size : ℕ) (kind : Kind) (shape : Shape) (k : ℕ) (fits : FitsIn size kind shape) (lt : k < shape.count) where
+module _ (at size : ℕ) (kind : StreamKind) (shape : Shape) (k : ℕ) (fits : FitsIn size kind shape) (lt : k < shape.count) where
   -- record k of a stream ends in it
   pub record-within : at + shape.first + k * shape.stride + record_size kind ≤ at + size
   record-within =

@@ -13,7 +13,7 @@ use Rattle.mdmp_lister.specs.Format.Name.{name_at}
 use Rattle.mdmp_lister.specs.Format.Shape.{shape_of, record_count}
 use Rattle.mdmp_lister.specs.Format.Item.{sizes_before}
 use Rattle.mdmp_lister.specs.Format.Listing.{listing, listing_from, verdicts, entry_count, entries_from, only_chosen, entry_of}
-use Rattle.mdmp_lister.specs.Format.Numbers.{listed, sizes_of, listed_bytes, listed_sizes, range_count, answers_of, names_reached}
+use Rattle.mdmp_lister.specs.Format.Numbers.{listed_entries, sizes_of, listed_bytes, listed_sizes, range_count, answers_of, names_reached}
 use Rattle.mdmp_lister.specs.Format.Bounds.{held_bound, fetch_bound, call_bound}
 use Rattle.mdmp_lister.specs.Format.Refusal.{opening_fault}
 use Rattle.mdmp_lister.specs.Format.Ranges.{ranges_of}
@@ -327,7 +327,7 @@ unfolding number_at numbers_at array_at le name_at shape_of entries_from only_ch
 many_entries-bytes = refl
 
 -- a thousand such entries, in a file of 16836 bytes
-many_entries-sum : sum (sizes_of (listed 16836 (replicate 1000 (numbered 0 3 4804 12032)))) ≡ 4804000
+many_entries-sum : sum (sizes_of (listed_entries 16836 (replicate 1000 (numbered 0 3 4804 12032)))) ≡ 4804000
 unfolding number_at numbers_at array_at le name_at shape_of entries_from only_chosen sizes_before
 many_entries-sum = refl
 

@@ -20,11 +20,11 @@ use Rattle.mdmp_lister.specs.declared.stage.Stage.TheVariants.{Between}
 use Rattle.mdmp_lister.specs.declared.step.Step.{Step}
 use Rattle.mdmp_lister.specs.declared.verdict.Verdict.{Verdict}
 use Rattle.mdmp_lister.specs.declared.walk.Walk.{Walk}
-use Rattle.mdmp_lister.specs.Check.{AreFirst, AreNextVerdicts, IsNextVerdict, IsVerdict, MayBeJudged, check_cost, fault_cost, ReadsFirst, behind_judged, items_of, left_checked, names_at, names_judged}
+use Rattle.mdmp_lister.specs.Check.{AreFirstVerdicts, AreNextVerdicts, IsNextVerdict, IsVerdict, MayBeJudged, check_cost, fault_cost, ReadsFirst, behind_judged, items_of, left_checked, names_at, names_judged}
 use Rattle.mdmp_wire.specs.declared.entry.Entry.{Entry}
 use Rattle.mdmp_lister.specs.Following.{Cursor, IsChosenBehind, NoneChosenBehind, Standing}
 use Rattle.mdmp_lister.specs.Following as following
-use Rattle.mdmp_lister.specs.Format.Listing.{Numbered, Run, body_of, chosen, chosen_from, entries_from, entry_count, entry_listing, listing_from, nothing, only_chosen, only_fault, stream_item, verdicts}
+use Rattle.mdmp_lister.specs.Format.Listing.{Numbered, Run, entry_body, chosen, chosen_from, entries_from, entry_count, entry_listing, listing_from, nothing, only_chosen, only_fault, stream_item, verdicts}
 use Rattle.mdmp_lister.specs.Format.Numbers.{maybe_name, names_of}
 use Rattle.mdmp_lister.specs.Format.Ranges.{ranges_of}
 use Rattle.mdmp_lister.specs.Lister.{ListerState}
@@ -169,10 +169,10 @@ module _ {S A : Type 0} (verdicts : List Verdict) (items : List Item) (old w ns 
       (begun.first file (so_far.fetches.same_content ∙ known))
 
   -- what is left of the entry is its body
-  body_is : (file : List ℕ) → current_of ns file ≡ body_of file (vec_len old.name) (entry_in ns)
+  body_is : (file : List ℕ) → current_of ns file ≡ entry_body file (vec_len old.name) (entry_in ns)
   body_is file =
       ap (λ stage. left_of_entry file (vec_len ns.name) (ns.next - 1) ns.current stage) begun.stage
-      ∙ ap (λ limit. body_of file limit (entry_in ns)) (taken.answered.same.name ∙ so_far.same.name)
+      ∙ ap (λ limit. entry_body file limit (entry_in ns)) (taken.answered.same.name ∙ so_far.same.name)
 
   -- which stands in the directory
   current_begun : slice_get old.entries.items (ns.next - 1) ≡ Some ns.current
@@ -256,7 +256,7 @@ module _ {S A : Type 0} (verdicts : List Verdict) (items : List Item) (old w ns 
             (All-cons IsVerdict (record { entry = ns.next - 1; fault = fault }) [] (rw judged.same.next at judged.at_end.1) (All-nil IsVerdict));
         of_file = λ file known.
             let left = judged.left file (known_now file known) in
-            let is : body_of file (vec_len old.name) (entry_in ns) ≡ record { items = judged.items; fault = fault } = sym (body_is file) ∙ left in
+            let is : entry_body file (vec_len old.name) (entry_in ns) ≡ record { items = judged.items; fault = fault } = sym (body_is file) ∙ left in
             rw (next, ← ap (λ (run : Run). run.items) is, ← ap (λ (run : Run). run.fault) is)
             (FirstJudged-more file (vec_len old.name) _ _ (chosen_from file old.choice ns.next) verdicts items (entry_in ns) (so_far.of_file file known) (next_is file known));
         mapped = skipped_mapped j sk q judged.mapped skipped moved;
@@ -411,7 +411,7 @@ all_chosen : (F : List ℕ) (choice : Choice) → chosen_from F choice 0 ≡ cho
 all_chosen F choice = let all : entry_count F - 0 ≡ entry_count F = omega arith in ap (λ n. only_chosen choice (entries_from F n 0)) all
 
 module _ (F : List ℕ) (limit : ℕ) (entries : List Numbered) (verdicts : List Verdict) (items : List Item) where
-  first_verdicts : (result : Result (Unit {0}) RunFault) → JudgesFirst F limit entries verdicts items result → AreFirst (map (verdict_on F limit) entries) verdicts result
+  first_verdicts : (result : Result (Unit {0}) RunFault) → JudgesFirst F limit entries verdicts items result → AreFirstVerdicts (map (verdict_on F limit) entries) verdicts result
   first_verdicts (Ok done) judges =
       ap (λ (xs : List Numbered). map (verdict_on F limit) xs) (judges.in_order ∙ ap (λ (xs : List Numbered). judges.judged ++ xs) judges.ends.0 ∙ append-nil judges.judged) ∙ sym judges.verdicts_are
   first_verdicts (Err fault) judges = (
@@ -438,10 +438,10 @@ option_map_each f g (Some file) each = ap Some (each file refl)
 
 module _ {S A K : Type 0} (sink : K → Verdict → Result (Unit {0}) Stopped → K → Type 0) (old new : Walk S A) (m n : MapState) (k l : K) where
   pub verdicts_of_file : (result : Result (Unit {0}) RunFault) (checked : EntriesChecked sink old m k result new n l) → old.next ≡ 0 → (file : List ℕ) → old.meter.source.store.content ≡ Some file
-      → AreFirst (verdicts file old.choice (vec_len old.name)) checked.verdicts result
+      → AreFirstVerdicts (verdicts file old.choice (vec_len old.name)) checked.verdicts result
   verdicts_of_file result checked first file known =
       let all : chosen_from file old.choice old.next ≡ chosen file old.choice = ap (λ i. chosen_from file old.choice i) first ∙ all_chosen file old.choice in
-      subst (λ xs. AreFirst (map (verdict_on file (vec_len old.name)) xs) checked.verdicts result) all
+      subst (λ xs. AreFirstVerdicts (map (verdict_on file (vec_len old.name)) xs) checked.verdicts result) all
       (first_verdicts file (vec_len old.name) (chosen_from file old.choice old.next) checked.verdicts checked.items result (checked.of_file file known))
 
   pub items_of_file : (result : Result (Unit {0}) RunFault) (checked : EntriesChecked sink old m k result new n l) → old.next ≡ 0 → (file : List ℕ) → old.meter.source.store.content ≡ Some file

@@ -26,15 +26,15 @@ use Rattle.mdmp_lister.specs.Fault.{IsAnsweredFor, IsCaused, IsOfSource, TellsNo
 use Rattle.mdmp_lister.specs.Following.{begun, records_by}
 use Rattle.mdmp_lister.specs.Format.Item.{plain}
 use Rattle.mdmp_lister.specs.Format.Kind.{HasNoNames, kind_of}
-use Rattle.mdmp_lister.specs.Format.Listing.{Run, body_of, entry_of, joined, listing_from, listing_sought, records_told, stream_item, with_item}
+use Rattle.mdmp_lister.specs.Format.Listing.{Run, entry_body, entry_of, joined, listing_from, listing_sought, records_told, stream_item, with_item}
 use Rattle.mdmp_lister.specs.Format.Summary.{entry_begun}
-use Rattle.mdmp_lister.specs.Lister.{AnswersNext, Gives, Leaves, ListerState, ReadsAside, tail}
+use Rattle.mdmp_lister.specs.Lister.{AnswersNext, Gives, NextLeaves, ListerState, ReadsAside, tail}
 use Rattle.mdmp_lister.specs.Meter.{BooksAside, MeterState, counts_of}
 use Rattle.mdmp_lister.specs.Stage.{IsCounted, IsUnended, StaysUnchanged, records_left_in, stage_by, standing_of, stop_after, stop_of}
 use Rattle.mdmp_lister.specs.Step.{CurrentAfter, IsNameHeld, step_item, stream_told}
 use Rattle.mdmp_lister.specs.Walk.{IsListing, IsPastHead, IsSound, IsStageCounted, IsStaged, left_of}
 use Rattle.mdmp_lister.specs.Walk.Paying.{IsWithinSince, entry_cost, entry_cost_by, unread_bytes}
-use Rattle.mdmp_lister.specs.Walk.Positions.{AnsweredFrom, GivesSought, IsPositioned, IsWalked, left_in, mark_by, position_by, records_in, standing_in, stop_in, unread_in, work_in}
+use Rattle.mdmp_lister.specs.Walk.Positions.{AnsweredFrom, GivesSought, IsPositioned, IsWalked, left_in, mark_by, position_by, records_at_position, standing_in, stop_in, unread_in, work_in}
 use Rattle.mdmp_lister.specs.Walk.Requests.{Answered, EntryTaken, RecordsCounted}
 use Rattle.mdmp_lister.specs.Walker.{CountsRecords, GivesEntry, StepLeaves, WalkerState, begins, left_counted, seeks, stop_counted}
 use Rattle.mdmp_lister.proofs.Advancing.{becomes, of_run, option_map-then, passes, same_entries, same_rooms}
@@ -58,7 +58,7 @@ module _ {S A : Type 0} where
     stop = stop_in p w.stage;
     unread = unread_in p w;
     standing = standing_in p w.stage;
-    records = records_in p w.stage;
+    records = records_at_position p w.stage;
     work = work_in p w;
   }
 
@@ -75,9 +75,9 @@ entry_cost-unused size e none = rw none refl
 
 module _ (F : List ℕ) (choice : Choice) (limit at : ℕ) (e : Entry) (is : e ≡ entry_of F at) where
   sought-first : listing_sought F choice limit at
-      ≡ with_item (stream_item (record { number = at; entry = e })) (joined (body_of F limit (record { number = at; entry = e })) (listing_from F choice limit (at + 1)))
+      ≡ with_item (stream_item (record { number = at; entry = e })) (joined (entry_body F limit (record { number = at; entry = e })) (listing_from F choice limit (at + 1)))
   sought-first =
-      rw is (joined-with_item (stream_item (record { number = at; entry = entry_of F at })) (body_of F limit (record { number = at; entry = entry_of F at })) (listing_from F choice limit (at + 1)))
+      rw is (joined-with_item (stream_item (record { number = at; entry = entry_of F at })) (entry_body F limit (record { number = at; entry = entry_of F at })) (listing_from F choice limit (at + 1)))
 
 -- ---- the Stream item of an entry that was sought
 
@@ -92,7 +92,7 @@ module _ {S A : Type 0} (w : Walk S A) (at : ℕ) (e : Entry) (sound : IsSound w
   begun_left file known =
       rw (add-sub_cancel at 1, same) (sought-first file w.choice (vec_len w.name) at e (begun_entry file known))
 
-  begun_leaves : Leaves (walked_by (Sought at) w) (Ok (Some x)) (listed_by [] 0 (began w at e))
+  begun_leaves : NextLeaves (walked_by (Sought at) w) (Ok (Some x)) (listed_by [] 0 (began w at e))
   begun_leaves =
       let z = w.meter.source.size in
       let buffer = w.name.items in
@@ -129,9 +129,9 @@ module _ {S A : Type 0} (w n : Walk S A) (at : ℕ) (s : Step) (taken : EntryTak
       subst (λ (m : Walk S A). plain x ≡ step_item m.meter.source.size m.name.items (stream w at n.current)) taken.is
       (subst (λ (t : Step). plain x ≡ step_item n.meter.source.size n.name.items t) taken.step_is same)
 
-  sought_leaves : Leaves (walked_by (Sought at) w) (Ok (Some x)) (listed_by [] 0 n)
+  sought_leaves : NextLeaves (walked_by (Sought at) w) (Ok (Some x)) (listed_by [] 0 n)
   sought_leaves =
-      subst (λ (m : Walk S A). Leaves (walked_by (Sought at) w) (Ok (Some x)) (listed_by [] 0 m)) (sym taken.is)
+      subst (λ (m : Walk S A). NextLeaves (walked_by (Sought at) w) (Ok (Some x)) (listed_by [] 0 m)) (sym taken.is)
       (begun_leaves w at n.current sound within taken.entry x told)
 
   sought_gives : (left : Run) → (walked_by (Sought at) w).left ≡ Some left → Gives left (Ok (Some x))
@@ -157,7 +157,7 @@ module _ {S A : Type 0} (w n : Walk S A) where
   item_follows Begun s x told e going unsought = follows_item w n 0 [] [] s x e told going
   item_follows Within s x told e going unsought = follows_item w n 0 [] [] s x e told going
 
-  pub none_leaves : (p : Position) → AnsweredFrom p w (Ok None) n → Leaves (walked_by p w) (Ok None) (listed_by [] 0 n)
+  pub none_leaves : (p : Position) → AnsweredFrom p w (Ok None) n → NextLeaves (walked_by p w) (Ok None) (listed_by [] 0 n)
   none_leaves (Sought at) e = let never = e.answer in absurd (cc)
   none_leaves Begun e = leaves_none w n 0 [] e
   none_leaves Within e = leaves_none w n 0 [] e
@@ -167,7 +167,7 @@ module _ {S A : Type 0} (w n : Walk S A) where
   none_gives Begun e = gives_none w n 0 [] e
   none_gives Within e = gives_none w n 0 [] e
 
-  pub fault_leaves : (p : Position) (f : ListFault) → AnsweredFrom p w (Err f) n → Leaves (walked_by p w) (Err f) (listed_by [] 0 n)
+  pub fault_leaves : (p : Position) (f : ListFault) → AnsweredFrom p w (Err f) n → NextLeaves (walked_by p w) (Err f) (listed_by [] 0 n)
   fault_leaves (Sought at) f e = let never = e.answer in absurd (cc)
   fault_leaves Begun f e = leaves_fault w n 0 [] f e
   fault_leaves Within f e = leaves_fault w n 0 [] f e
@@ -186,7 +186,7 @@ module _ {S A : Type 0} (w n : Walk S A) where
     taken_step : (at : ℕ) (e : GivesSought at w (Ok (Some s)) n) → EntryTaken at w s n
     taken_step at e = let same : e.step ≡ s = let is = e.answer in cc in subst (λ (t : Step). EntryTaken at w t n) same e.taken
 
-    pub item_leaves : (p : Position) → IsPositioned p w → AnsweredFrom p w (Ok (Some s)) n → Leaves (walked_by p w) (Ok (Some x)) (listed_by [] 0 n)
+    pub item_leaves : (p : Position) → IsPositioned p w → AnsweredFrom p w (Ok (Some s)) n → NextLeaves (walked_by p w) (Ok (Some x)) (listed_by [] 0 n)
     item_leaves (Sought at) placed e = sought_leaves w n at s (taken_step at e) sound placed.0 x told
     item_leaves Begun placed e = leaves_item w n 0 [] [] s x e told
     item_leaves Within placed e = leaves_item w n 0 [] [] s x e told
@@ -540,7 +540,7 @@ module _ {S A : Type 0} (w n : Walk S A) (mark : MeterCounts) where
         answer = Ok (Some x);
         told = (x, (refl, step-told z buffer s held));
         leaves = record {
-          list = subst (λ (v : ListerState). Leaves (walked_by p w) (Ok (Some x)) v) (sym (walked_by-behind (stream_told s) n)) (item_leaves w n s x same walked.sound p walked.placed e);
+          list = subst (λ (v : ListerState). NextLeaves (walked_by p w) (Ok (Some x)) v) (sym (walked_by-behind (stream_told s) n)) (item_leaves w n s x same walked.sound p walked.placed e);
           position = rw begins refl;
           mark = rw begins refl;
           spent = request_spent w n mark walked.within p (Ok (Some s)) e;

@@ -10,7 +10,7 @@ use Rattle.std.proofs.lemmas.List.FromFn.{fill_by_all, length-map-range_with_len
 use Rattle.mdmp_source.specs.Range.{bytes_at}
 use Rattle.mdmp_map.specs.declared.range.Range.{Range}
 use Rattle.mdmp_map.specs.declared.place.Place.{Place}
-use Rattle.mdmp_map.specs.Ranges.{IsGap, IsLeft, address_end, byte_at, first_range, holds, place_of}
+use Rattle.mdmp_map.specs.Ranges.{IsGap, IsGreatestLeft, address_end, byte_at, first_range, holds, place_of}
 use Rattle.mdmp_map.specs.RangeLaws.{first_range-passes, first_range_holds, holds_parts, none_found, place-first_range}
 use Rattle.mdmp_lister.specs.Addressing.{IsStretch, ReadsCells, cell, cells, cells_at, is_held}
 
@@ -42,7 +42,7 @@ stretch_in_gap ranges address gap count is within = free_stretch ranges address 
 
 -- those that one range is the first to hold
 pub stretch_in_range : (ranges : List Range) (address count : ℕ) (place : Place) → Some place ≡ place_of ranges address
-    → ((r : Range) → first_range ranges address ≡ Some r → IsLeft ranges address r place.left) → count ≤ place.left
+    → ((r : Range) → first_range ranges address ≡ Some r → IsGreatestLeft ranges address r place.left) → count ≤ place.left
     → IsStretch ranges address (Some place.offset) count
 stretch_in_range ranges address count place is left within =
     let of = place-first_range ranges address place (sym is) in

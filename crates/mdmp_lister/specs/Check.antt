@@ -57,9 +57,9 @@ abbrev pub IsVerdict : Verdict → Type 0
 IsVerdict v = IfSome v.fault (λ f. (f.entry ≡ v.entry) × (IsOfSource f.kind → ⊥))
 
 -- these verdicts are the first of all, and behind the last entry they are all
-abbrev pub AreFirst : List Verdict → List Verdict → Result (Unit {0}) RunFault → Type 0
-AreFirst all vs (Ok done) = all ≡ vs
-AreFirst all vs (Err fault) = (rest : List Verdict) × (all ≡ vs ++ rest)
+abbrev pub AreFirstVerdicts : List Verdict → List Verdict → Result (Unit {0}) RunFault → Type 0
+AreFirstVerdicts all vs (Ok done) = all ≡ vs
+AreFirstVerdicts all vs (Err fault) = (rest : List Verdict) × (all ≡ vs ++ rest)
 
 -- ---- what was judged of any file
 
@@ -158,7 +158,7 @@ pub record CheckLeaves {K : Type 0} (step : K → Verdict → Result (Unit {0}) 
   pub items : List Item
   pub handed : Handed step k judged result l
   pub each : All IsVerdict judged
-  pub of_file : (file : List ℕ) → old.source.store.content ≡ Some file → AreFirst (verdicts file old.choice old.limit) judged result
+  pub of_file : (file : List ℕ) → old.source.store.content ≡ Some file → AreFirstVerdicts (verdicts file old.choice old.limit) judged result
   pub read : (file : List ℕ) → old.source.store.content ≡ Some file → ReadsFirst file old.limit (chosen file old.choice) (length judged) items result
   pub ranges : new.ranges ≡ old.ranges ++ ranges_of items
   pub left : new.left ≡ left_checked result new

@@ -23,10 +23,10 @@ use Rattle.mdmp_lister.specs.Format.Summary.{summary_of}
 -- ---- names
 
 -- the bytes of a name: none of one that is not there, its length alone of a long one
-abbrev pub name_cost : Name → ℕ
-name_cost names.None = 0
-name_cost (Units units) = 4 + length units.bytes.now
-name_cost (Long bytes) = 4
+abbrev pub cost_of_name : Name → ℕ
+cost_of_name names.None = 0
+cost_of_name (Units units) = 4 + length units.bytes.now
+cost_of_name (Long bytes) = 4
 
 -- the same of a name that was read
 abbrev pub read_cost : NameRead → ℕ
@@ -49,7 +49,7 @@ name_spent limit (Err fault) = bad_name_cost limit fault.kind
 
 -- the bytes of an item beside those of its stream: its name's
 abbrev pub item_cost : Item → ℕ
-item_cost item = name_cost (summary_of item).name
+item_cost item = cost_of_name (summary_of item).name
 
 -- the same of one whose name stands in a buffer
 abbrev pub step_cost : Step → ℕ

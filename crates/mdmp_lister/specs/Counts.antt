@@ -28,13 +28,13 @@ pub record AreOfFile (file : List ℕ) (choice : Choice) (c : Counts) : Type 0 w
   pub listed : c.n ≡ listed_bytes file choice
 
 -- the bytes that a lister's lists have together
-abbrev pub bytes_of : ListerState → ℕ
-bytes_of v = v.rooms.window + 12 * length v.entries + 24 * length v.ranges + v.limit
+abbrev pub bytes_in_lists : ListerState → ℕ
+bytes_in_lists v = v.rooms.window + 12 * length v.entries + 24 * length v.ranges + v.limit
 
 -- a lister's lists stay within the bound that its numbers tell, no list has outgrown the room that it took as the file was
 -- opened, and its source's own counts have risen by what was fetched or stand at their greatest
 pub record AreHeld (v : ListerState) (c : Counts) : Type 0 where
-  pub held : bytes_of v ≤ c.held
+  pub held : bytes_in_lists v ≤ c.held
   pub entries : length v.entries ≤ v.rooms.entries
   pub ranges : length v.ranges ≤ v.rooms.ranges
   pub booked : IsBooked v.source v.counts

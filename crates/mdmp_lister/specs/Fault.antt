@@ -6,7 +6,7 @@ use Rattle.mdmp_source.specs.Store.{IsGood}
 use Rattle.mdmp_source.specs.declared.fault.SourceFault.{SourceFault}
 use Rattle.mdmp_source.specs.declared.fault.SourceFault.TheVariants.{Changed}
 use Rattle.mdmp_wire.specs.declared.entry.Entry.{Entry}
-use Rattle.mdmp_lister.specs.declared.kind.Kind.{Kind}
+use Rattle.mdmp_lister.specs.declared.kind.StreamKind.{StreamKind}
 use Rattle.mdmp_lister.specs.Format.Kind.{kind_of, lists_ranges}
 use Rattle.mdmp_lister.specs.Format.Listing.{list_fault}
 use Rattle.mdmp_lister.specs.declared.fault.Fault.{Fault}
@@ -43,9 +43,9 @@ source_of (Source fault) = Some fault
 source_of kind = None
 
 -- and that of an answer
-abbrev pub source_fault : {T : Type 0} → Result T Fault → Option SourceFault
-source_fault (Ok x) = None
-source_fault (Err fault) = source_of fault.kind
+abbrev pub source_of_answer : {T : Type 0} → Result T Fault → Option SourceFault
+source_of_answer (Ok x) = None
+source_of_answer (Err fault) = source_of fault.kind
 
 -- a fault of the store names the place where the store is at fault, and no size
 abbrev pub IsPlacedAt : FaultKind → ℕ → ℕ → Type 0
@@ -54,7 +54,7 @@ IsPlacedAt kind offset size = Unit {0}
 
 -- some fetches end with this answer, of which a fault of the store is caused by them and placed
 pub record IsCausedAt {T : Type 0} (result : Result T Fault) (old new : SourceState) : Type 0 where
-  pub caused : IsCaused (source_fault result) old new
+  pub caused : IsCaused (source_of_answer result) old new
   pub placed : IfErr result (λ fault. IsPlacedAt fault.kind fault.offset fault.size)
 
 -- an answer is the wanted one, or a fault of the store stands in its place
@@ -68,25 +68,25 @@ IsAnsweredFor wanted (Ok x) = wanted ≡ Ok x
 IsAnsweredFor wanted (Err f) = (IsOfSource f.kind → ⊥) → wanted ≡ Err f
 
 -- a memory list
-abbrev pub IsRanged : Option Kind → Type 0
+abbrev pub IsRanged : Option StreamKind → Type 0
 IsRanged (Some kind) = IsTrue (lists_ranges kind)
 IsRanged None = ⊥
 
 -- a fault of the store, of no item of this entry: what the last fetch of these told, or that the store has changed,
 -- which one of known content does not, and which the head of a memory list tells, at its RVA
-abbrev pub IsToldBy : Entry → FaultKind → SourceState → SourceState → Type 0
-IsToldBy e (Source (Changed at)) old new = (old.store.content ≡ None) × ((at ≡ e.location.rva) × IsRanged (kind_of e.stream_type))
-IsToldBy e (Source fault) old new = IsTold fault old new
-IsToldBy e kind old new = Unit {0}
+abbrev pub IsToldByFetch : Entry → FaultKind → SourceState → SourceState → Type 0
+IsToldByFetch e (Source (Changed at)) old new = (old.store.content ≡ None) × ((at ≡ e.location.rva) × IsRanged (kind_of e.stream_type))
+IsToldByFetch e (Source fault) old new = IsTold fault old new
+IsToldByFetch e kind old new = Unit {0}
 
 -- and it names the place at which the store is at fault, no size and no item
-abbrev pub IsPlaced : FaultKind → ListFault → Type 0
-IsPlaced (Source fault) f = (f.offset ≡ fault_at fault) × ((f.size ≡ 0) × (f.index ≡ None))
-IsPlaced kind f = Unit {0}
+abbrev pub NamesStorePlace : FaultKind → ListFault → Type 0
+NamesStorePlace (Source fault) f = (f.offset ≡ fault_at fault) × ((f.size ≡ 0) × (f.index ≡ None))
+NamesStorePlace kind f = Unit {0}
 
 pub record IsToldIn (e : Entry) (f : ListFault) (old new : SourceState) : Type 0 where
-  pub by : IsToldBy e f.kind old new
-  pub placed : IsPlaced f.kind f
+  pub by : IsToldByFetch e f.kind old new
+  pub placed : NamesStorePlace f.kind f
 
 -- it does not tell that the store has changed
 abbrev pub TellsNoChange : FaultKind → Type 0

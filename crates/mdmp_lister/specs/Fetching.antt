@@ -8,14 +8,14 @@ use Rattle.mdmp_source.specs.declared.location.Location.{Location}
 use Rattle.mdmp_wire.specs.declared.entry.Entry.{Entry}
 use Rattle.mdmp_lister.specs.declared.fault.Fault.{Fault}
 use Rattle.mdmp_lister.specs.declared.fetching.NameRead.{NameRead}
-use Rattle.mdmp_lister.specs.declared.heading.Head.{Head}
-use Rattle.mdmp_lister.specs.declared.kind.Kind.{Kind}
-use Rattle.mdmp_lister.specs.declared.kind.Kind.TheVariants.{Memory64}
+use Rattle.mdmp_lister.specs.declared.stream_head.Head.{Head}
+use Rattle.mdmp_lister.specs.declared.kind.StreamKind.{StreamKind}
+use Rattle.mdmp_lister.specs.declared.kind.StreamKind.TheVariants.{Memory64}
 use Rattle.mdmp_lister.specs.declared.shape.Shape.{Shape}
 use Rattle.mdmp_lister.specs.declared.step.Step.{Step}
 use Rattle.mdmp_lister.specs.Costs.{name_spent, read_cost, step_spent}
 use Rattle.mdmp_lister.specs.Following.{mapped}
-use Rattle.mdmp_lister.specs.Heading.{head_spent}
+use Rattle.mdmp_lister.specs.StreamHead.{head_spent}
 use Rattle.mdmp_lister.specs.Holding.{ComesTo, fills, left_behind, started, unfetched}
 use Rattle.mdmp_lister.specs.Meter.{Books, MeterState, Spends}
 use Rattle.mdmp_lister.specs.Walk.Owing.{count_told, ranges_by}
@@ -33,7 +33,7 @@ pub record Reads {T : Type 0} (Booked : MeterState → MeterState → Type 0) (I
   pub caused : IsCaused (fault_of result) old.source new.source
 
 -- what the head of a stream says, of so many bytes and of this kind
-pub record IsHeadOf (size : ℕ) (kind : Kind) (head : Head) : Type 0 where
+pub record IsHeadOf (size : ℕ) (kind : StreamKind) (head : Head) : Type 0 where
   pub fits : FitsIn size kind head.shape
   pub few : head.shape.count < 2 ^ 32
   pub ranges : kind ≡ Memory64 → (head.shape.first ≡ 16) × (head.shape.stride ≡ 16)
@@ -45,7 +45,7 @@ abbrev pub shape_told : Result Head Fault → Result Shape Fault
 shape_told r = mapped (λ head. head.shape) r
 
 -- the head of a stream of so many bytes and of this kind was read, or is too short
-pub record ReadsHead (size : ℕ) (kind : Kind) (result : Result Head Fault) (old new : MeterState) : Type 0 where
+pub record ReadsHead (size : ℕ) (kind : StreamKind) (result : Result Head Fault) (old new : MeterState) : Type 0 where
   pub books : Books 1 (head_spent size kind) old new
   pub caused : IsCausedAt result old.source new.source
   pub at_fault : IfErr result (λ fault. ReachesAtFault fault.kind old new)
@@ -84,7 +84,7 @@ pub record ReadsRecord (spent limit : ℕ) (result : Result Step Fault) (old new
   pub caused : IsCausedAt result old.source new.source
 
 -- a step tells a record of this kind, its name fits in `room` bytes, and it begins no entry
-pub record TellsRecord (room : ℕ) (kind : Kind) (s : Step) : Type 0 where
+pub record TellsRecord (room : ℕ) (kind : StreamKind) (s : Step) : Type 0 where
   pub held : IsStepHeld room (Some kind) s
   pub ranges : count_told s ≡ ranges_by kind 1
   pub passed : (next : ℕ) → passed_by s next ≡ next

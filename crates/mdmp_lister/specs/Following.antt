@@ -14,7 +14,7 @@ use Rattle.mdmp_lister.specs.declared.fetching.NameRead.{NameRead}
 use Rattle.mdmp_lister.specs.declared.fetching.NameRead.TheVariants as read
 use Rattle.mdmp_lister.specs.declared.form.Form.{Form}
 use Rattle.mdmp_lister.specs.declared.form.Form.TheVariants as forms
-use Rattle.mdmp_lister.specs.declared.kind.Kind.{Kind}
+use Rattle.mdmp_lister.specs.declared.kind.StreamKind.{StreamKind}
 use Rattle.mdmp_lister.specs.declared.shape.Shape.{Shape}
 use Rattle.mdmp_lister.specs.declared.step.Step.{Step}
 use Rattle.mdmp_lister.specs.declared.step.Step.TheVariants as step
@@ -76,7 +76,7 @@ IsSomeHead at size record_size forms.Ranges64 r = (count : ℕ) × (r ≡ ranges
 IsSomeHead at size record_size form r = (first stride count : ℕ) × (r ≡ sized at size (head_cost form) record_size first stride count)
 
 -- what is read of the head of a stream of this kind
-pub data IsSomeShape (at : Location) (kind : Kind) (r : Result Shape Fault) : Type 0 where
+pub data IsSomeShape (at : Location) (kind : StreamKind) (r : Result Shape Fault) : Type 0 where
   -- the stream is too short for it
   short : at.size < head_size (form_of kind) (record_size kind) → r ≡ Err (record { kind = ShortStream; offset = at.rva; size = at.size }) → IsSomeShape at kind r
   headed : head_size (form_of kind) (record_size kind) ≤ at.size → IsSomeHead at.rva at.size (record_size kind) (form_of kind) r → IsSomeShape at kind r
@@ -92,7 +92,7 @@ pub data IsBegun (z : ℕ) (e : Entry) (r : Result Standing Fault) : Type 0 wher
   outside : (fault : Fault) → location_fault z e ≡ Some fault → r ≡ Err fault → IsBegun z e r
   -- it is unused, or its records are not known
   opaque : location_fault z e ≡ None → kind_of e.stream_type ≡ None → r ≡ Ok through → IsBegun z e r
-  shaped : location_fault z e ≡ None → (kind : Kind) → kind_of e.stream_type ≡ Some kind → (shape : Result Shape Fault) → IsSomeShape e.location kind shape
+  shaped : location_fault z e ≡ None → (kind : StreamKind) → kind_of e.stream_type ≡ Some kind → (shape : Result Shape Fault) → IsSomeShape e.location kind shape
       → (offset : ℕ) → r ≡ mapped (standing_by offset) shape → IsBegun z e r
 
 -- the head of the current entry's stream was read, or nothing was
@@ -123,7 +123,7 @@ IsSomeNameOf z limit (Some rva) r = IsSomeName z limit rva r
 IsSomeNameOf z limit None r = r ≡ Ok read.None
 
 -- this is record k of entry number e, whose stream is of this kind, in a file of z bytes
-pub record IsSomeRecord (z limit : ℕ) (kind : Kind) (e k offset : ℕ) (s : Step) : Type 0 where
+pub record IsSomeRecord (z limit : ℕ) (kind : StreamKind) (e k offset : ℕ) (s : Step) : Type 0 where
   pub fields : AnyRecord
   pub kind_is : kind ≡ kind_told fields
   pub name : NameRead
@@ -131,7 +131,7 @@ pub record IsSomeRecord (z limit : ℕ) (kind : Kind) (e k offset : ℕ) (s : St
   pub step_is : s ≡ step.Record (record { entry = e; index = k; fields = fields; offset = offset; name = name })
 
 -- a fault that stands in the place of such a record
-pub data IsRecordFault (z limit : ℕ) (kind : Kind) (fault : Fault) : Type 0 where
+pub data IsRecordFault (z limit : ℕ) (kind : StreamKind) (fault : Fault) : Type 0 where
   of_name : (fields : AnyRecord) → kind ≡ kind_told fields → IsSomeNameOf z limit (name_rva fields) (Err fault) → IsRecordFault z limit kind fault
   failed : IsOfSource fault.kind → IsRecordFault z limit kind fault
 
@@ -146,7 +146,7 @@ pub record MeetsFault (c : Cursor) (index : Option ℕ) (fault : Fault) (answer 
 
 module _ (choice : Choice) (entries : List Entry) (z limit : ℕ) where
   -- the Stream item of the next chosen entry was given
-  pub record GivesEntry (c : Cursor) (s : Step) (d : Cursor) : Type 0 where
+  pub record GivesChosenEntry (c : Cursor) (s : Step) (d : Cursor) : Type 0 where
     pub number : ℕ
     pub entry : Entry
     pub first : IsChosenBehind choice entries c.passed number entry
@@ -156,19 +156,19 @@ module _ (choice : Choice) (entries : List Entry) (z limit : ℕ) where
   -- or there is none
   abbrev pub GivesNextEntry : Cursor → Result (Option Step) ListFault → Cursor → Type 0
   GivesNextEntry c (Ok None) d = NoneChosenBehind choice entries c.passed × (d.standing ≡ through)
-  GivesNextEntry c (Ok (Some s)) d = GivesEntry c s d
+  GivesNextEntry c (Ok (Some s)) d = GivesChosenEntry c s d
   GivesNextEntry c (Err f) d = ⊥
 
   -- the next record of the current entry, of which so many were given and so many are left, was given
-  pub record GivesRecord (c : Cursor) (given left offset : ℕ) (s : Step) (d : Cursor) : Type 0 where
-    pub kind : Kind
+  pub record GivesCurrentRecord (c : Cursor) (given left offset : ℕ) (s : Step) (d : Cursor) : Type 0 where
+    pub kind : StreamKind
     pub kind_is : kind_of c.current.stream_type ≡ Some kind
     pub is : IsSomeRecord z limit kind (c.passed - 1) given offset s
     pub stands : d ≡ record c { standing = within (given + 1) (left - 1) (offset + bytes_behind s) }
 
   -- or its name has a fault, or the store failed
   pub record MeetsRecordFault (c : Cursor) (given : ℕ) (answer : Result (Option Step) ListFault) (d : Cursor) : Type 0 where
-    pub kind : Kind
+    pub kind : StreamKind
     pub kind_is : kind_of c.current.stream_type ≡ Some kind
     pub fault : Fault
     pub is : IsRecordFault z limit kind fault
@@ -176,7 +176,7 @@ module _ (choice : Choice) (entries : List Entry) (z limit : ℕ) where
 
   abbrev pub GivesNextRecord : Cursor → ℕ → ℕ → ℕ → Result (Option Step) ListFault → Cursor → Type 0
   GivesNextRecord c given left offset (Ok None) d = ⊥
-  GivesNextRecord c given left offset (Ok (Some s)) d = GivesRecord c given left offset s d
+  GivesNextRecord c given left offset (Ok (Some s)) d = GivesCurrentRecord c given left offset s d
   GivesNextRecord c given left offset (Err f) d = MeetsRecordFault c given (Err f) d
 
   -- the records of the current entry that are left come first, and then the next chosen entry
@@ -198,7 +198,7 @@ module _ (choice : Choice) (entries : List Entry) (z limit : ℕ) where
 -- what may be told of an entry of a file of z bytes: of its record with this index, or of all of it
 abbrev pub IsEntryFault : ℕ → ℕ → Entry → Option ℕ → Fault → Type 0
 IsEntryFault z limit e None fault = IsBegun z e (Err fault)
-IsEntryFault z limit e (Some k) fault = (kind : Kind) × ((kind_of e.stream_type ≡ Some kind) × IsRecordFault z limit kind fault)
+IsEntryFault z limit e (Some k) fault = (kind : StreamKind) × ((kind_of e.stream_type ≡ Some kind) × IsRecordFault z limit kind fault)
 
 -- a listing of a file of z bytes may end with this fault, whatever they are: it is one of some entry. No fault goes by the
 -- limit on names.

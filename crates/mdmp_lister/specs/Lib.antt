@@ -9,7 +9,7 @@ pub mod FaultLaws
 pub mod Fetching
 pub mod Following
 pub mod Format
-pub mod Heading
+pub mod StreamHead
 pub mod Holding
 pub mod Limits
 pub mod Lister

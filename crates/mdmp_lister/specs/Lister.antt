@@ -9,7 +9,7 @@ use Rattle.mdmp_wire.specs.declared.entry.Entry.{Entry}
 use Rattle.mdmp_wire.specs.declared.header.Header.{Header}
 use Rattle.mdmp_source.specs.Range.{IsInside}
 use Rattle.mdmp_wire.specs.Header.{header_at}
-use Rattle.mdmp_wire.specs.HeaderFault.{fault_of}
+use Rattle.mdmp_wire.specs.HeaderFault.{header_fault_of}
 use Rattle.mdmp_lister.specs.Format.Refusal.{most_ranges}
 use Rattle.mdmp_lister.specs.declared.choice.Choice.{Choice}
 use Rattle.mdmp_lister.specs.declared.fault.FaultKind.{FaultKind}
@@ -17,7 +17,7 @@ use Rattle.mdmp_lister.specs.declared.fault.FaultKind.TheVariants.{Source}
 use Rattle.mdmp_lister.specs.declared.fault.ListFault.{ListFault}
 use Rattle.mdmp_lister.specs.declared.item.Item.{Item}
 use Rattle.mdmp_map.specs.declared.range.Range.{Range}
-use Rattle.mdmp_lister.specs.declared.kind.Kind.{Kind}
+use Rattle.mdmp_lister.specs.declared.kind.StreamKind.{StreamKind}
 use Rattle.mdmp_lister.specs.declared.limits.Limits.{Limits}
 use Rattle.mdmp_lister.specs.declared.shape.Shape.{Shape}
 use Rattle.mdmp_lister.specs.Format.Classes.{IsClassed}
@@ -26,12 +26,12 @@ use Rattle.mdmp_lister.specs.declared.step.Step.{Step}
 use Rattle.mdmp_lister.specs.Following.{Cursor, Follows, Standing, records_by, through}
 use Rattle.mdmp_lister.specs.Format.Numbers.{most_names_in, names_in, range_count}
 use Rattle.mdmp_lister.specs.Format.Directory.{IsDirectory}
-use Rattle.mdmp_lister.specs.Heading.{heads_ahead}
+use Rattle.mdmp_lister.specs.StreamHead.{heads_ahead}
 use Rattle.mdmp_lister.specs.Format.Item.{plain}
 use Rattle.mdmp_lister.specs.Format.Kind.{kind_of}
 use Rattle.mdmp_lister.specs.Format.Listing.{Run, nothing, only_fault, items_from, joined, listing, listing_from}
 use Rattle.mdmp_lister.specs.Format.Shape.{shape_of}
-use Rattle.mdmp_lister.specs.Meter.{IsBegun, Moves, SpendsAside}
+use Rattle.mdmp_lister.specs.Meter.{IsBegunOver, Moves, SpendsAside}
 use Rattle.mdmp_lister.specs.declared.meter.MeterCounts.{MeterCounts}
 use Rattle.mdmp_lister.specs.Format.Ranges.{ranges_of}
 use Rattle.mdmp_lister.specs.Fault.{IsOfSource, IsSteady, IsToldIn}
@@ -83,7 +83,7 @@ listing_behind v i = option_map (λ file. listing_from file v.choice v.limit i) 
 -- n records of the current entry are left in this file: they follow those that were given, up to the count in the head of
 -- its stream, and what is left begins with them, up to the first whose name has a fault
 pub record HasRecordsLeft (file : List ℕ) (v : ListerState) (n : ℕ) : Type 0 where
-  pub kind : Kind
+  pub kind : StreamKind
   pub shape : Shape
   pub given : ℕ
   pub kind_is : kind_of v.current.stream_type ≡ Some kind
@@ -132,10 +132,10 @@ IsCurrent (Ok (Some item)) old new = new ≡ current_after item old
 IsCurrent answer old new = new ≡ old
 
 -- while records of the current entry are left, an item is the next of them
-abbrev pub GivesRecord : ℕ → Result (Option Item) ListFault → ℕ → Type 0
-GivesRecord old (Ok None) new = old ≡ 0
-GivesRecord old (Ok (Some item)) new = 0 < old → ((summary_of item).stream ≡ None) × (old ≡ new + 1)
-GivesRecord old (Err f) new = Unit {0}
+abbrev pub GivesLeftRecord : ℕ → Result (Option Item) ListFault → ℕ → Type 0
+GivesLeftRecord old (Ok None) new = old ≡ 0
+GivesLeftRecord old (Ok (Some item)) new = 0 < old → ((summary_of item).stream ≡ None) × (old ≡ new + 1)
+GivesLeftRecord old (Err f) new = Unit {0}
 
 -- where it stands in its directory
 abbrev pub cursor_in : ListerState → Cursor
@@ -178,7 +178,7 @@ pub record IsNewList (source : SourceState) (choice : Choice) (limits : Limits) 
   pub header_is : (file : List ℕ) → source.store.content ≡ Some file → new.header ≡ header_at file 0
   pub directory : (file : List ℕ) → source.store.content ≡ Some file → IsDirectory file new.entries
   -- of every file: the header is one of a minidump, and the directory lies inside
-  pub checked : fault_of new.header ≡ None
+  pub checked : header_fault_of new.header ≡ None
   pub inside : IsInside new.header.stream_directory_rva (12 * new.header.number_of_streams) source.size
   pub count : length new.entries ≡ new.header.number_of_streams
   pub choice_is : new.choice ≡ choice
@@ -187,7 +187,7 @@ pub record IsNewList (source : SourceState) (choice : Choice) (limits : Limits) 
   pub window_room : new.rooms.window ≡ limits.window
   pub passed : new.passed ≡ 0
   pub ranges : new.ranges ≡ []
-  pub counts : IsBegun source new.counts
+  pub counts : IsBegunOver source new.counts
   pub left : new.left ≡ option_map (λ file. listing file choice limits.name) source.store.content
   pub unread : new.unread ≡ 0
   pub stop : new.stop ≡ None
@@ -213,7 +213,7 @@ pub record IsSameLister (old new : ListerState) : Type 0 where
   pub start : new.counts.start ≡ old.counts.start
 
 -- what a request for the next item leaves, whether ranges are kept or not
-pub record Leaves (old : ListerState) (result : Result (Option Item) ListFault) (new : ListerState) : Type 0 where
+pub record NextLeaves (old : ListerState) (result : Result (Option Item) ListFault) (new : ListerState) : Type 0 where
   pub same : IsSameLister old new
   -- what came off the unread bytes of the current entry's stream, and the name of the item
   pub fetches : FetchesAtMost (old.unread + stream_begun old.source.size (begun_by result) + answer_cost old.limit result - new.unread) old.source new.source
@@ -228,7 +228,7 @@ pub record Leaves (old : ListerState) (result : Result (Option Item) ListFault) 
   pub stop : new.stop ≡ stop_after result
   pub passed : Passes result old.passed new.passed
   pub current : IsCurrent result old.current new.current
-  pub records : GivesRecord old.records result new.records
+  pub records : GivesLeftRecord old.records result new.records
   -- what the item names is classed by the file's size
   pub classed : IfOk result (λ given. IfSome given (IsClassed old.source.size new.current))
   pub falls : IfOk result (λ given. IfSome given (λ item. new.work < old.work))
@@ -242,7 +242,7 @@ pub record Leaves (old : ListerState) (result : Result (Option Item) ListFault) 
 
 -- and of a lister, which keeps the ranges that it gives, and whose count of names is never at its greatest
 pub record ListerLeaves (old : ListerState) (result : Result (Option Item) ListFault) (new : ListerState) : Type 0 where
-  pub list : Leaves old result new
+  pub list : NextLeaves old result new
   -- what comes next, whatever the file holds
   pub follows : old.stop ≡ None → AnswersNext old result new
   pub ranges : new.ranges ≡ old.ranges ++ ranges_answered result

@@ -68,7 +68,7 @@ pub record Moves (n : ℕ) (old new : MeterCounts) : Type 0 where
   pub same_start : new.start ≡ old.start
 
 -- a count that has begun over a source, of no name and of nothing aside
-pub record IsBegun (source : SourceState) (new : MeterCounts) : Type 0 where
+pub record IsBegunOver (source : SourceState) (new : MeterCounts) : Type 0 where
   pub names : new.names ≡ 0
   pub aside : new.aside ≡ record { bytes = 0; calls = 0 }
   pub start : new.start ≡ record { bytes = source.fetched; calls = source.calls }

@@ -8,13 +8,13 @@ use Rattle.mdmp_wire.specs.declared.entry.Entry.{Entry}
 use Rattle.mdmp_wire.specs.declared.header.Header.{Header}
 use Rattle.mdmp_source.specs.Range.{IsInside, bytes_at, is_inside}
 use Rattle.mdmp_wire.specs.Header.{header_at}
-use Rattle.mdmp_wire.specs.HeaderFault.{fault_of, minidump_version}
+use Rattle.mdmp_wire.specs.HeaderFault.{header_fault_of, minidump_version}
 use Rattle.mdmp_lister.specs.declared.choice.Choice.{Choice}
 use Rattle.mdmp_lister.specs.declared.fault.OpenFault.{OpenFault}
 use Rattle.mdmp_lister.specs.declared.fault.OpenFault.TheVariants.{TooShort, BadSignature, BadVersion, DirectoryOutside, TooManyRanges, Source, Memory}
 use Rattle.mdmp_lister.specs.Format.Directory.{AreFirst, IsDirectory, IsFirstChosen}
 use Rattle.mdmp_lister.specs.Following.{IsChosenBehind, NoneChosenBehind}
-use Rattle.mdmp_lister.specs.Heading.{heads_ahead}
+use Rattle.mdmp_lister.specs.StreamHead.{heads_ahead}
 use Rattle.mdmp_lister.specs.Format.Listing.{entry_count}
 use Rattle.mdmp_lister.specs.Fault.{IsCaused, IsSteady}
 use Rattle.mdmp_lister.specs.Meter.{Books, MeterState}
@@ -118,7 +118,7 @@ pub record IsHeaderIn (bytes : List ℕ) (size : ℕ) (result : Result Header Op
   pub refusal : IfErr result (IsBareRefusal size)
   pub long : (told : ℕ) → result ≡ Err (TooShort told) → ⊥
   pub read : unread_fault result ≡ None
-  pub checked : IfOk result (λ header. fault_of header ≡ None)
+  pub checked : IfOk result (λ header. header_fault_of header ≡ None)
 
 -- what is told of the header of a file fits its size, whatever its bytes
 pub record FitsHeader (old : SourceState) (result : Result Header OpenFault) (new : SourceState) : Type 0 where
@@ -126,7 +126,7 @@ pub record FitsHeader (old : SourceState) (result : Result Header OpenFault) (ne
   pub inside : IfOk result (λ header. IsInside header.stream_directory_rva (12 * header.number_of_streams) old.size)
   pub refusal : IfErr result (IsBareRefusal old.size)
   pub short : old.size < 32 → result ≡ Err (TooShort old.size)
-  pub checked : IfOk result (λ header. fault_of header ≡ None)
+  pub checked : IfOk result (λ header. header_fault_of header ≡ None)
   -- a file that is too short is not touched
   pub untouched : (size : ℕ) → result ≡ Err (TooShort size) → new ≡ old
 

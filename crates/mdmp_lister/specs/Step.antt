@@ -11,7 +11,7 @@ use Rattle.mdmp_lister.specs.declared.item.Item.TheVariants as items
 use Rattle.mdmp_lister.specs.declared.item.StreamItem.{StreamItem}
 use Rattle.mdmp_lister.specs.declared.step.Step.{Step}
 use Rattle.mdmp_lister.specs.declared.step.Step.TheVariants as step
-use Rattle.mdmp_lister.specs.declared.kind.Kind.{Kind}
+use Rattle.mdmp_lister.specs.declared.kind.StreamKind.{StreamKind}
 use Rattle.mdmp_lister.specs.Format.Item.{item_of, kind_told, plain}
 use Rattle.mdmp_lister.specs.Format.Ranges.{IsPlacedIn}
 use Rattle.mdmp_lister.specs.Format.Summary.{entry_begun, number_behind}
@@ -59,12 +59,12 @@ range64_size (any.Memory64 fields) = fields.data_size
 range64_size fields = 0
 
 -- its record is one of a stream of this kind, and its name one of such a record
-abbrev pub IsStepOf : Option Kind → Step → Type 0
+abbrev pub IsStepOf : Option StreamKind → Step → Type 0
 IsStepOf kind (step.Stream x) = Unit {0}
 IsStepOf kind (step.Record r) = (kind ≡ Some (kind_told r.fields)) × IsNameOf (name_rva r.fields) r.name
 
 -- both: what the item of a step has to have
-abbrev pub IsStepHeld : ℕ → Option Kind → Step → Type 0
+abbrev pub IsStepHeld : ℕ → Option StreamKind → Step → Type 0
 IsStepHeld room kind s = IsNameHeld room s × IsStepOf kind s
 
 -- the entry that it begins

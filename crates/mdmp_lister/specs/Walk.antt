@@ -16,11 +16,11 @@ use Rattle.mdmp_source.specs.declared.fault.SourceFault.{SourceFault}
 use Rattle.mdmp_source.specs.Window.{WindowState}
 use Rattle.mdmp_wire.specs.declared.entry.Entry.{Entry}
 use Rattle.mdmp_wire.specs.Header.{header_at}
-use Rattle.mdmp_wire.specs.HeaderFault.{fault_of as header_fault_of}
+use Rattle.mdmp_wire.specs.HeaderFault.{header_fault_of}
 use Rattle.mdmp_lister.specs.declared.choice.Choice.{Choice}
 use Rattle.mdmp_lister.specs.declared.fault.ListFault.{ListFault}
-use Rattle.mdmp_lister.specs.declared.kind.Kind.{Kind}
-use Rattle.mdmp_lister.specs.declared.kind.Kind.TheVariants.{Memory64}
+use Rattle.mdmp_lister.specs.declared.kind.StreamKind.{StreamKind}
+use Rattle.mdmp_lister.specs.declared.kind.StreamKind.TheVariants.{Memory64}
 use Rattle.mdmp_lister.specs.declared.limits.Limits.{Limits}
 use Rattle.mdmp_lister.specs.declared.shape.Shape.{Shape}
 use Rattle.mdmp_lister.specs.declared.step.Step.{Step}
@@ -29,10 +29,10 @@ use Rattle.mdmp_lister.specs.declared.stage.Stage.TheVariants.{Between, Head, Re
 use Rattle.mdmp_lister.specs.declared.walk.Walk.{Walk}
 use Rattle.mdmp_lister.specs.Format.Numbers.{range_count}
 use Rattle.mdmp_lister.specs.Format.Directory.{IsDirectory}
-use Rattle.mdmp_lister.specs.Heading.{heads_ahead}
+use Rattle.mdmp_lister.specs.StreamHead.{heads_ahead}
 use Rattle.mdmp_lister.specs.Holding.{IsHeldOf, fills_of}
 use Rattle.mdmp_lister.specs.Format.Item.{range_offset}
-use Rattle.mdmp_lister.specs.Format.Listing.{Run, nothing, only_fault, with_item, joined, items_from, body_of, listing_from}
+use Rattle.mdmp_lister.specs.Format.Listing.{Run, nothing, only_fault, with_item, joined, items_from, entry_body, listing_from}
 use Rattle.mdmp_lister.specs.Meter.{Books}
 use Rattle.mdmp_lister.specs.Format.Refusal.{directory_refusal}
 use Rattle.mdmp_lister.specs.Fault.{IsCaused, IsOfSource, IsSteady}
@@ -46,13 +46,13 @@ use Rattle.mdmp_lister.specs.Step.{passed_by, step_item}
 abbrev pub left_of_entry : List ℕ → ℕ → ℕ → Entry → Stage → Run
 left_of_entry F limit number e Between = nothing
 left_of_entry F limit number e Ended = nothing
-left_of_entry F limit number e Head = body_of F limit (record { number = number; entry = e })
+left_of_entry F limit number e Head = entry_body F limit (record { number = number; entry = e })
 left_of_entry F limit number e (Records kind shape index offset) = items_from F limit number e.location.rva kind shape (shape.count - index) index
 left_of_entry F limit number e (Bad f) = only_fault f
 left_of_entry F limit number e (Failed f) = only_fault f
 
 -- the records of an entry are read from `index` on, in a file of `size` bytes
-pub record IsReading (size next : ℕ) (e : Entry) (kind : Kind) (shape : Shape) (index offset : ℕ) : Type 0 where
+pub record IsReading (size next : ℕ) (e : Entry) (kind : StreamKind) (shape : Shape) (index offset : ℕ) : Type 0 where
   pub begun : 0 < next
   pub known : kind_of e.stream_type ≡ Some kind
   pub within : index ≤ shape.count

@@ -19,7 +19,7 @@ use Rattle.mdmp_lister.specs.Following.{Follows, IsBegun, begun, records_by}
 use Rattle.mdmp_lister.specs.Format.Item.{plain}
 use Rattle.mdmp_lister.specs.Format.Kind.{HasNoNames, kind_of}
 use Rattle.mdmp_lister.specs.Format.Listing.{Run, listing_sought, only_fault, records_told, stream_item}
-use Rattle.mdmp_lister.specs.Lister.{AnswersNext, Gives, cursor_in, IsNewList, IsSameLister, Leaves, ListerState, is_of_source}
+use Rattle.mdmp_lister.specs.Lister.{AnswersNext, Gives, cursor_in, IsNewList, IsSameLister, NextLeaves, ListerState, is_of_source}
 use Rattle.mdmp_lister.specs.Meter.{Moves}
 use Rattle.mdmp_lister.specs.Step.{TellsAnswer}
 use Rattle.mdmp_lister.specs.Walk.Paying.{entry_cost}
@@ -75,7 +75,7 @@ IsSpentSince old counts = counts.names + 1 < 2 ^ 128
 
 -- what a request for the next item leaves
 pub record WalkerLeaves (old : WalkerState) (result : Result (Option Item) ListFault) (new : WalkerState) : Type 0 where
-  pub list : Leaves old.list result new.list
+  pub list : NextLeaves old.list result new.list
   pub position : new.position ≡ position_by (begun_by result)
   pub mark : new.mark ≡ mark_by (begun_by result) new.list.counts old.mark
   pub spent : IsSpentSince old new.list.counts

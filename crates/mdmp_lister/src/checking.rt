@@ -6,7 +6,7 @@ ghost use Rattle.mdmp_lister.specs.Walk.Checking.{EntriesChecked, EntryJudged, N
 ghost use Rattle.mdmp_lister.specs.Walk.Mapping.{IsMapped};
 
 use crate::fault::{FaultKind, ListFault};
-use crate::lister::push_range;
+use crate::range_map::push_range;
 use crate::ranging::read_head;
 use crate::sink::{RunFault, Stopped, VerdictSink};
 use crate::stage::Stage;

@@ -3,16 +3,16 @@ ghost use Rattle.std.specs.Prelude.{◌≡◌, ◌<◌, ◌^◌, ℕ, List, Some
 ghost use Rattle.mdmp_lister.specs.Format.Numbers.{range_count, ranges_in};
 ghost use Rattle.mdmp_lister.specs.Format.Directory.{IsDirectory};
 ghost use Rattle.mdmp_lister.specs.Fetching.{Reads};
-ghost use Rattle.mdmp_lister.specs.Heading.{ahead_of, heads_ahead};
+ghost use Rattle.mdmp_lister.specs.StreamHead.{ahead_of, heads_ahead};
 ghost use Rattle.mdmp_lister.specs.Meter.{Books};
 ghost use Rattle.mdmp_lister.specs.Format.Kind.{kind_of};
 
 use crate::choice::Choice;
 use crate::fault::FaultKind;
-use crate::heading::fetch_head;
-use crate::kind::Kind;
+use crate::kind::StreamKind;
 use crate::meter::Meter;
 use crate::shape::location_fault;
+use crate::stream_head::fetch_head;
 use mdmp_source::{SourceFault, Store};
 use mdmp_wire::Entry;
 
@@ -24,7 +24,7 @@ fn ranges_of_entry<S: Store>(meter: &mut Meter<S>, entry: Entry) -> Result<u64, 
     ensures { Reads (Books 1 (ahead_of meter.old.source.size entry)) (λ file count. count ≡ ranges_in file entry (kind_of entry.stream_type))
         result meter.old meter.new }
 {
-    let Some(kind) = Kind::of_type(entry.stream_type) else {
+    let Some(kind) = StreamKind::of_type(entry.stream_type) else {
         return Ok(0);
     };
     if !kind.lists_ranges() || location_fault(entry, meter.size()).is_some() {

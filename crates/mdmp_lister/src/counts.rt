@@ -3,7 +3,7 @@ ghost use Rattle.std.specs.Prelude.{◌≡◌, ◌≤◌, ◌<◌, ◌+◌, ◌*
 ghost use Rattle.mdmp_lister.specs.Walk.Paying.{cost_of, entry_cost};
 
 use crate::choice::Choice;
-use crate::kind::Kind;
+use crate::kind::StreamKind;
 use mdmp_source::inside;
 use mdmp_wire::Entry;
 use std::mem::size_of;
@@ -41,7 +41,7 @@ fn listed_bytes_of(entry: Entry, size: u64) -> u32
     ensures { result ≡ entry_cost size entry }
 {
     let location = entry.location;
-    if Kind::of_type(entry.stream_type).is_some()
+    if StreamKind::of_type(entry.stream_type).is_some()
         && inside(u64::from(location.rva), u64::from(location.size), size)
     {
         location.size

@@ -12,7 +12,7 @@ use mdmp_wire::{
 /// The streams whose records are listed, with their `MINIDUMP_STREAM_TYPE`. Of an entry of another
 /// type its location alone is listed: such a stream is opaque, and `UnusedStream`, 0, is none.
 #[derive(Clone, Copy, Debug, PartialEq, Eq)]
-pub enum Kind {
+pub enum StreamKind {
     /// `ThreadListStream`, 3.
     Threads,
     /// `ModuleListStream`, 4.
@@ -31,20 +31,20 @@ pub enum Kind {
     MemoryInfo,
 }
 
-impl Kind {
+impl StreamKind {
     /// The kind of a stream type, or none where the type is opaque or `UnusedStream`, 0.
-    pub fn of_type(stream_type: u32) -> Option<Kind>
+    pub fn of_type(stream_type: u32) -> Option<StreamKind>
         ensures { result ≡ kind_of stream_type }
     {
         match stream_type {
-            3 => Some(Kind::Threads),
-            4 => Some(Kind::Modules),
-            5 => Some(Kind::Memory),
-            6 => Some(Kind::Exception),
-            7 => Some(Kind::System),
-            9 => Some(Kind::Memory64),
-            14 => Some(Kind::Unloaded),
-            16 => Some(Kind::MemoryInfo),
+            3 => Some(StreamKind::Threads),
+            4 => Some(StreamKind::Modules),
+            5 => Some(StreamKind::Memory),
+            6 => Some(StreamKind::Exception),
+            7 => Some(StreamKind::System),
+            9 => Some(StreamKind::Memory64),
+            14 => Some(StreamKind::Unloaded),
+            16 => Some(StreamKind::MemoryInfo),
             _ => None,
         }
     }
@@ -54,14 +54,14 @@ impl Kind {
         ensures { result ≡ type_of_kind self }
     {
         match self {
-            Kind::Threads => 3,
-            Kind::Modules => 4,
-            Kind::Memory => 5,
-            Kind::Exception => 6,
-            Kind::System => 7,
-            Kind::Memory64 => 9,
-            Kind::Unloaded => 14,
-            Kind::MemoryInfo => 16,
+            StreamKind::Threads => 3,
+            StreamKind::Modules => 4,
+            StreamKind::Memory => 5,
+            StreamKind::Exception => 6,
+            StreamKind::System => 7,
+            StreamKind::Memory64 => 9,
+            StreamKind::Unloaded => 14,
+            StreamKind::MemoryInfo => 16,
         }
     }
 
@@ -70,11 +70,11 @@ impl Kind {
         ensures { result ≡ form_of self }
     {
         match self {
-            Kind::Threads | Kind::Modules | Kind::Memory => Form::Counted,
-            Kind::Exception | Kind::System => Form::Single,
-            Kind::Memory64 => Form::Ranges64,
-            Kind::Unloaded => Form::Sized32,
-            Kind::MemoryInfo => Form::Sized64,
+            StreamKind::Threads | StreamKind::Modules | StreamKind::Memory => Form::Counted,
+            StreamKind::Exception | StreamKind::System => Form::Single,
+            StreamKind::Memory64 => Form::Ranges64,
+            StreamKind::Unloaded => Form::Sized32,
+            StreamKind::MemoryInfo => Form::Sized64,
         }
     }
 
@@ -85,14 +85,14 @@ impl Kind {
         ensures bound { result ≤ greatest_record }
     {
         let size = match self {
-            Kind::Threads => ThreadRecord::SIZE,
-            Kind::Modules => ModuleRecord::SIZE,
-            Kind::Memory => Descriptor::SIZE,
-            Kind::Exception => ExceptionRecord::SIZE,
-            Kind::System => SystemRecord::SIZE,
-            Kind::Memory64 => Descriptor64::SIZE,
-            Kind::Unloaded => UnloadedRecord::SIZE,
-            Kind::MemoryInfo => MemoryInfoRecord::SIZE,
+            StreamKind::Threads => ThreadRecord::SIZE,
+            StreamKind::Modules => ModuleRecord::SIZE,
+            StreamKind::Memory => Descriptor::SIZE,
+            StreamKind::Exception => ExceptionRecord::SIZE,
+            StreamKind::System => SystemRecord::SIZE,
+            StreamKind::Memory64 => Descriptor64::SIZE,
+            StreamKind::Unloaded => UnloadedRecord::SIZE,
+            StreamKind::MemoryInfo => MemoryInfoRecord::SIZE,
         };
         size as u32
     }
@@ -101,7 +101,7 @@ impl Kind {
     pub(crate) fn lists_ranges(self) -> bool
         ensures { result ≡ lists_ranges self }
     {
-        matches!(self, Kind::Memory | Kind::Memory64)
+        matches!(self, StreamKind::Memory | StreamKind::Memory64)
     }
 
     /// How many of `count` records tell a range: all or none.

@@ -5,7 +5,7 @@
 //! chosen entry, or at the first [`ListFault`], which names the entry, the item and the bytes that
 //! are bad.
 //! The definitions in `specs/Format` say exactly which items those are: `Listing.antt` first, and
-//! under it `Kind` and `Shape` (which streams have records, and where those stand), `Item` (what a
+//! under it `StreamKind` and `Shape` (which streams have records, and where those stand), `Item` (what a
 //! record gives), `Name` and `Refusal` (which files can't be listed at all).
 //!
 //! [`Lister`] lists a file through a window, one item at a time or all of them into a [`Sink`], or hands
@@ -38,7 +38,6 @@ mod counts;
 mod fault;
 mod fetching;
 mod form;
-mod heading;
 mod holding;
 mod item;
 mod kind;
@@ -49,13 +48,15 @@ mod meter;
 mod name;
 mod opening;
 mod position;
+mod range_map;
 mod ranging;
-mod recording;
+mod record_reading;
 mod shape;
 mod sink;
 mod stage;
 mod step;
 mod stop_at;
+mod stream_head;
 mod verdict;
 mod walk;
 mod walker;
@@ -70,7 +71,7 @@ pub use crate::item::{
     ExceptionItem, Item, MemoryInfoItem, ModuleItem, RangeItem, StreamItem, SystemItem, ThreadItem,
     UnloadedItem,
 };
-pub use crate::kind::Kind;
+pub use crate::kind::StreamKind;
 pub use crate::laws::{listing_ends_at_the_first_bad_verdict, listing_of_a_choice};
 pub use crate::limits::Limits;
 pub use crate::lister::Lister;

@@ -8,7 +8,6 @@ ghost use Rattle.mdmp_wire.specs.CodeView.{codeview_of};
 ghost use Rattle.mdmp_lister.specs.CodeView.{AreFetched, codeview_cost, codeview_told};
 ghost use Rattle.mdmp_lister.specs.Opening.{IsHandedBack, IsOpenRefusal, IsRefusalOf, IsUnread, IsUnreadFor};
 ghost use Rattle.mdmp_lister.specs.Format.Refusal.{opening_fault};
-ghost use Rattle.mdmp_map.specs.Map.{free_of};
 ghost use Rattle.mdmp_map.specs.Ranges.{IsWithin};
 ghost use Rattle.mdmp_source.specs.Source.{FetchesAtMost, FetchesSome};
 ghost use Rattle.mdmp_lister.specs.Addressing.{LooksUpAtMost, ReadsCells};
@@ -17,7 +16,7 @@ ghost use Rattle.mdmp_lister.specs.Counts.{AreHeld, AreOfFile, AreSpent, numbers
 ghost use Rattle.mdmp_lister.specs.Following.{through};
 ghost use Rattle.mdmp_lister.specs.Format.Listing.{Run};
 ghost use Rattle.mdmp_lister.specs.Format.Numbers.{range_count};
-ghost use Rattle.mdmp_lister.specs.Format.Ranges.{IsPlacedIn, ranges_of};
+ghost use Rattle.mdmp_lister.specs.Format.Ranges.{ranges_of};
 ghost use Rattle.mdmp_lister.specs.Fault.{IsOfSource, IsToldIn};
 ghost use Rattle.mdmp_lister.specs.Stage.{stop_after, stop_after_run};
 
@@ -30,12 +29,13 @@ use crate::fault::{ListFault, OpenFault};
 use crate::item::Item;
 use crate::limits::Limits;
 use crate::opening::OpenRefused;
+use crate::range_map::push_range;
 use crate::ranging::advance;
 use crate::sink::{RunFault, Sink, Stopped, Unseen, VerdictSink};
 use crate::stage::Stage;
 use crate::walk::{Walk, refused};
 use mdmp_map::{AddressMap, Steps};
-use mdmp_source::{Extent, Location, Source, SourceFault, Store};
+use mdmp_source::{Location, Source, SourceFault, Store};
 use mdmp_wire::Header;
 use std::alloc::{AllocError, Allocator};
 use std::marker::{Brand, Model};
@@ -391,18 +391,5 @@ impl<S: Store + Drop, A: Allocator + Copy> Lister<S, A> {
     {
         let Lister { walk, map: _ } = self;
         walk.meter.into_source()
-    }
-}
-
-/// Puts a range that lies inside the file behind those of a map.
-pub(crate) fn push_range<A: Allocator>(map: &mut AddressMap<A>, item: &Item)
-    requires placed { IsPlacedIn (2 ^ 64 - 1) item.now }
-    requires room { length (ranges_of (item.now ∷ [])) ≤ free_of map.old }
-    ensures { map.new ≡ record map.old { ranges = map.old.ranges ++ ranges_of (item.now ∷ []) } }
-{
-    if let Item::Range(range) = item {
-        if let Extent::Inside = range.extent {
-            map.push(range.start, range.size, range.offset as u64);
-        }
     }
 }

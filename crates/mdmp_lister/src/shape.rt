@@ -6,7 +6,7 @@ ghost use Rattle.mdmp_lister.specs.Format.Kind.{record_size};
 
 use crate::fault::{Fault, FaultKind, faulted};
 use crate::form::Form;
-use crate::kind::Kind;
+use crate::kind::StreamKind;
 use mdmp_source::{Location, inside};
 use mdmp_wire::{Entry, Memory64List, MemoryInfoList, Record, UnloadedList, get_at};
 
@@ -132,7 +132,7 @@ pub(crate) fn sized(
 /// size, a bad entry size, a bad count. The stream lies inside the file, or has no bytes. The
 /// records themselves are not read.
 #[tactic(auto, unfolding(crate::specs::Format::Shape::shape_of))]
-pub fn shape_of(file: &[u8], location: Location, kind: Kind) -> Result<Shape, Fault>
+pub fn shape_of(file: &[u8], location: Location, kind: StreamKind) -> Result<Shape, Fault>
     requires { IsInside location.rva location.size (length file.now) }
     ensures shape { result ≡ shape_of file.now location.rva location.size kind }
     ensures fits { IfOk result (λ shape. FitsIn location.size kind shape) }
@@ -157,7 +157,13 @@ pub fn shape_of(file: &[u8], location: Location, kind: Kind) -> Result<Shape, Fa
 }
 
 /// Where a record stands of a stream that lies inside a file of `size` bytes.
-pub(crate) fn record_at(stream: Location, kind: Kind, shape: Shape, index: u64, size: u64) -> u64
+pub(crate) fn record_at(
+    stream: Location,
+    kind: StreamKind,
+    shape: Shape,
+    index: u64,
+    size: u64,
+) -> u64
     requires inside { IsShapedIn size stream kind shape }
     requires left { index < shape.count }
     ensures place { result ≡ stream.rva + shape.first + index * shape.stride }

@@ -1,7 +1,7 @@
 //! How far a walk is.
 
 use crate::fault::ListFault;
-use crate::kind::Kind;
+use crate::kind::StreamKind;
 use crate::shape::Shape;
 
 /// How far the current entry is listed.
@@ -14,7 +14,7 @@ pub(crate) enum Stage {
     /// Its records are left from `index` on. The bytes of that range of a 64-bit memory list stand at
     /// `offset`.
     Records {
-        kind: Kind,
+        kind: StreamKind,
         shape: Shape,
         index: u64,
         offset: u128,

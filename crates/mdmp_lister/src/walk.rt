@@ -15,16 +15,16 @@ use crate::codeview::{CodeViewBytes, CodeViewRead, read_codeview};
 use crate::counting::count_ranges;
 use crate::counts::{Counts, listed_bytes};
 use crate::fault::{Fault, FaultKind, ListFault, OpenFault};
-use crate::heading::begin_stream;
 use crate::item::{Item, StreamItem};
-use crate::kind::Kind;
+use crate::kind::StreamKind;
 use crate::limits::Limits;
 use crate::meter::Meter;
 use crate::opening::{OpenRefused, next_chosen, read_directory, read_header};
-use crate::recording::read_item;
+use crate::record_reading::read_item;
 use crate::shape::{Shape, location_fault, record_at};
 use crate::stage::Stage;
 use crate::step::{Step, record_item};
+use crate::stream_head::begin_stream;
 use mdmp_source::{Location, Source, SourceFault, Store, Window};
 use mdmp_wire::{AnyRecord, Entry, Header, Record};
 use std::alloc::Allocator;
@@ -53,8 +53,8 @@ pub(crate) struct Walk<S: Store + Drop, A: Allocator + Copy> {
 }
 
 impl<S: Store + Drop, A: Allocator + Copy> Walk<S, A> {
-    ghost use Rattle.mdmp_lister.specs.Walk.Requests.{Answered, CodeViewFetched, Counted, EntrySkipped, EntryTaken, HasChanged, HeadRead, RecordsCounted, StepTaken};
-    ghost use Rattle.mdmp_lister.specs.Walk.Checking.{EntryBegun, NoneLeft, RecordRead, RecordTaken};
+    ghost use Rattle.mdmp_lister.specs.Walk.Requests.{Answered, CodeViewFetched, HeadCounted, EntrySkipped, EntryTaken, HasChanged, HeadRead, RecordsCounted, StepTaken};
+    ghost use Rattle.mdmp_lister.specs.Walk.Checking.{EntryBegun, NoneLeft, RecordWasRead, RecordTaken};
     ghost use Rattle.mdmp_lister.specs.Walk.Telling.{numbers_of_walk};
     ghost use Rattle.mdmp_lister.specs.Walk.{CountsRanges, IsListing, IsNewWalk, IsPastHead, IsSound, IsThrough};
 
@@ -200,13 +200,13 @@ impl<S: Store + Drop, A: Allocator + Copy> Walk<S, A> {
         requires sound { IsSound self.old }
         requires head { self.old.stage ≡ Stage.Head }
         ensures read { MatchResult result (λ _. HeadRead self.old self.new) (λ fault. Answered self.old (Err fault) self.new) }
-        ensures counted { Counted self.old self.new }
+        ensures counted { HeadCounted self.old self.new }
     {
         let number = (self.next - 1) as u32;
         if let Some(fault) = location_fault(self.current, self.meter.size()) {
             return self.stop_at(ListFault::of_entry(number, None, fault));
         }
-        let Some(kind) = Kind::of_type(self.current.stream_type) else {
+        let Some(kind) = StreamKind::of_type(self.current.stream_type) else {
             self.stage = Stage::Between;
             return Ok(());
         };
@@ -309,7 +309,7 @@ impl<S: Store + Drop, A: Allocator + Copy> Walk<S, A> {
     /// Gives a record that is left.
     fn read_record(
         &mut self,
-        kind: Kind,
+        kind: StreamKind,
         shape: Shape,
         index: u64,
         offset: u128,
@@ -317,7 +317,7 @@ impl<S: Store + Drop, A: Allocator + Copy> Walk<S, A> {
         requires sound { IsSound self.old }
         requires stage { self.old.stage ≡ Stage.Records kind shape index offset }
         requires left { index < shape.count }
-        ensures { RecordRead self.old result self.new }
+        ensures { RecordWasRead self.old result self.new }
     {
         let number = (self.next - 1) as u32;
         let at = record_at(self.current.location, kind, shape, index, self.meter.size());

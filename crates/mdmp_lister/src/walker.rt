@@ -54,7 +54,7 @@ impl<S: Store + Drop, A: Allocator + Copy> Model for Walker<S, A> {
     ghost use Rattle.std.specs.Prelude.{[], vec_capacity, vec_len};
     ghost use Rattle.mdmp_lister.specs.Meter.{counts_of};
     ghost use Rattle.mdmp_lister.specs.Walker.{WalkerState};
-    ghost use Rattle.mdmp_lister.specs.Walk.Positions.{IsWalked, left_in, records_in, standing_in, stop_in, unread_in, work_in};
+    ghost use Rattle.mdmp_lister.specs.Walk.Positions.{IsWalked, left_in, records_at_position, standing_in, stop_in, unread_in, work_in};
 
     ghost Value = { WalkerState };
 
@@ -74,7 +74,7 @@ impl<S: Store + Drop, A: Allocator + Copy> Model for Walker<S, A> {
         stop = stop_in w.position w.walk.stage;
         unread = unread_in w.position w.walk;
         standing = standing_in w.position w.walk.stage;
-        records = records_in w.position w.walk.stage;
+        records = records_at_position w.position w.walk.stage;
         work = work_in w.position w.walk;
       };
       position = w.position;

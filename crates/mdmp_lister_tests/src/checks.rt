@@ -15,12 +15,12 @@ use std::test::Fail;
 
 /// Keeps the first four verdicts.
 #[derive(Drop)]
-struct Kept {
+struct KeptVerdicts {
     verdicts: [Option<Verdict>; 4],
     calls: usize,
 }
 
-impl VerdictSink for Kept {
+impl VerdictSink for KeptVerdicts {
     ghost step = { λ _ _ _ _. Unit {0} };
 
     fn take(&mut self, verdict: &Verdict) -> Result<(), Stopped> {
@@ -36,7 +36,7 @@ impl VerdictSink for Kept {
 fn checked<S: Store + Drop>(
     lister: &mut Lister<S, Global>,
 ) -> Result<(Option<RunFault>, [Option<Verdict>; 4]), Fail> {
-    let mut sink = Kept {
+    let mut sink = KeptVerdicts {
         verdicts: [None; 4],
         calls: 0,
     };

@@ -1,6 +1,6 @@
 //! Limits, and which entries are listed.
 use crate::same::assert_same;
-use mdmp_lister::{Choice, Form, Kind, Limits, TypeSet};
+use mdmp_lister::{Choice, Form, Limits, StreamKind, TypeSet};
 use std::test::Fail;
 
 #[test]
@@ -45,35 +45,35 @@ fn choice_has_its_types(rt: HostRuntime) -> Result<(), Fail> {
 #[test]
 fn eight_stream_types_have_a_kind(rt: HostRuntime) {
     let known = [
-        (3, Kind::Threads),
-        (4, Kind::Modules),
-        (5, Kind::Memory),
-        (6, Kind::Exception),
-        (7, Kind::System),
-        (9, Kind::Memory64),
-        (14, Kind::Unloaded),
-        (16, Kind::MemoryInfo),
+        (3, StreamKind::Threads),
+        (4, StreamKind::Modules),
+        (5, StreamKind::Memory),
+        (6, StreamKind::Exception),
+        (7, StreamKind::System),
+        (9, StreamKind::Memory64),
+        (14, StreamKind::Unloaded),
+        (16, StreamKind::MemoryInfo),
     ];
     for (stream_type, kind) in known {
-        assert_same(&rt, Kind::of_type(stream_type), Some(kind));
+        assert_same(&rt, StreamKind::of_type(stream_type), Some(kind));
         assert_same(&rt, kind.stream_type(), stream_type);
     }
     for stream_type in [0, 1, 8, 10, 15, 24, 0x10000, u32::MAX] {
-        assert!(rt; Kind::of_type(stream_type).is_none());
+        assert!(rt; StreamKind::of_type(stream_type).is_none());
     }
 }
 
 #[test]
 fn kind_tells_its_head_and_its_records(rt: HostRuntime) {
     let rows = [
-        (Kind::Threads, Form::Counted, 4, 48),
-        (Kind::Modules, Form::Counted, 4, 108),
-        (Kind::Memory, Form::Counted, 4, 16),
-        (Kind::Exception, Form::Single, 0, 168),
-        (Kind::System, Form::Single, 0, 56),
-        (Kind::Memory64, Form::Ranges64, 16, 16),
-        (Kind::Unloaded, Form::Sized32, 12, 24),
-        (Kind::MemoryInfo, Form::Sized64, 16, 48),
+        (StreamKind::Threads, Form::Counted, 4, 48),
+        (StreamKind::Modules, Form::Counted, 4, 108),
+        (StreamKind::Memory, Form::Counted, 4, 16),
+        (StreamKind::Exception, Form::Single, 0, 168),
+        (StreamKind::System, Form::Single, 0, 56),
+        (StreamKind::Memory64, Form::Ranges64, 16, 16),
+        (StreamKind::Unloaded, Form::Sized32, 12, 24),
+        (StreamKind::MemoryInfo, Form::Sized64, 16, 48),
     ];
     for (kind, form, head, record) in rows {
         assert_same(&rt, kind.form(), form);

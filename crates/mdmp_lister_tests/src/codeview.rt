@@ -13,7 +13,7 @@ use uuid::Uuid;
 /// What a record tells, to be compared: by the macro, since the prover cannot hand on a `Uuid` to a
 /// call in a test that does not name it.
 #[derive(Clone, Copy, Debug, PartialEq)]
-enum Told {
+enum SymbolsTold {
     Rsds {
         guid: Uuid,
         age: u32,
@@ -30,11 +30,11 @@ enum Told {
 }
 
 /// The symbol file with this name, and whether a zero byte ends it.
-fn symbol_file(name: &str, ended: bool) -> Told {
+fn symbol_file(name: &str, ended: bool) -> SymbolsTold {
     let guid = Uuid::from_bytes(
         *b"\x00\x11\x22\x33\x44\x55\x66\x77\x88\x99\xaa\xbb\xcc\xdd\xee\xff",
     );
-    Told::Rsds {
+    SymbolsTold::Rsds {
         guid,
         age: 1,
         name: short_text(name.as_bytes()),
@@ -45,7 +45,7 @@ fn symbol_file(name: &str, ended: bool) -> Told {
 fn told_of<S: Store + Drop, A: Allocator + Copy>(
     lister: &mut Lister<S, A>,
     location: Location,
-) -> Result<Told, Fail>
+) -> Result<SymbolsTold, Fail>
     requires { IsInside location.rva location.size lister.old.source.size }
 {
     let Ok(bytes) = lister.codeview(location) else {
@@ -57,20 +57,25 @@ fn told_of<S: Store + Drop, A: Allocator + Copy>(
             age,
             name,
             ended,
-        } => Told::Rsds {
+        } => SymbolsTold::Rsds {
             guid,
             age,
             name: short_text(name),
             ended,
         },
-        CodeView::Other { signature, size } => Told::Other { signature, size },
-        CodeView::Short { size } => Told::Short { size },
+        CodeView::Other { signature, size } => SymbolsTold::Other { signature, size },
+        CodeView::Short { size } => SymbolsTold::Short { size },
     })
 }
 
 /// What the first `size` bytes of a record tell, whose first four are this number, where names have at
 /// most `limit` bytes; and how many bytes were fetched for it.
-fn read(rt: &HostRuntime, signature: u32, size: u32, limit: u32) -> Result<(Told, u128), Fail> {
+fn read(
+    rt: &HostRuntime,
+    signature: u32,
+    size: u32,
+    limit: u32,
+) -> Result<(SymbolsTold, u128), Fail> {
     // An identity, an age of 1, and `a.pdb` with its zero byte.
     let numbers = [
         signature, 0x00112233, 0x66774455, 0xbbaa9988, 0xffeeddcc, 1, 0x64702e61, 0x00000062,
@@ -107,9 +112,9 @@ fn symbol_file_is_named_up_to_the_limit(rt: HostRuntime) -> Result<(), Fail> {
 
 #[test]
 fn short_and_other_records_name_no_symbol_file(rt: HostRuntime) -> Result<(), Fail> {
-    let short = (Told::Short { size: 23 }, 23);
+    let short = (SymbolsTold::Short { size: 23 }, 23);
     assert_eq!(rt; read(&rt, RSDS, 23, 4096)?, short);
-    let other = Told::Other {
+    let other = SymbolsTold::Other {
         signature: *b"NSDS",
         size: 30,
     };

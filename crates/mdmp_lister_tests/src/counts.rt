@@ -90,7 +90,7 @@ fn list_with_a_bad_count_is_opened_and_told_later(rt: HostRuntime) -> Result<(),
 
 /// What comes of a file of so many ranges that 16,384 entries name.
 #[derive(Clone, Copy, Debug, PartialEq, Eq)]
-struct Refusal {
+struct RefusedRanges {
     fault: Option<OpenFault>,
     size: u64,
     /// Whether the header, the directory and the counts were fetched, and no more.
@@ -99,7 +99,7 @@ struct Refusal {
     without: Option<OpenFault>,
 }
 
-fn open_crowded(rt: &HostRuntime, ranges: u16) -> Result<Refusal, Fail> {
+fn open_crowded(rt: &HostRuntime, ranges: u16) -> Result<RefusedRanges, Fail> {
     let crowded = crowded(rt, ranges)?;
     let threads = chosen(&[3])?;
     let source = Source::new(MemoryStore::new(&crowded));
@@ -107,7 +107,7 @@ fn open_crowded(rt: &HostRuntime, ranges: u16) -> Result<Refusal, Fail> {
     let size = source.size();
     let is_fetched = source.fetched() <= 32 + 28 * 16384;
     let (without, _) = open_and_close(rt.alloc(), source, LEAST, threads);
-    Ok(Refusal {
+    Ok(RefusedRanges {
         fault,
         size,
         is_fetched,
@@ -117,7 +117,7 @@ fn open_crowded(rt: &HostRuntime, ranges: u16) -> Result<Refusal, Fail> {
 
 #[test]
 fn too_many_ranges_are_refused(rt: HostRuntime) -> Result<(), Fail> {
-    let expected = Refusal {
+    let expected = RefusedRanges {
         fault: Some(OpenFault::TooManyRanges { count: 268451840 }),
         size: 458804,
         is_fetched: true,

@@ -60,7 +60,7 @@ pub enum What {
 
 /// An item. That of an entry has the index 0, and where a kind has no name it has none.
 #[derive(Clone, Copy, Debug, PartialEq, Eq)]
-pub struct Given {
+pub struct GivenItem {
     pub entry: u32,
     pub index: u64,
     pub what: What,
@@ -85,7 +85,7 @@ pub fn spelled(name: &str) -> Named {
 }
 
 /// The entry of the directory with this number, and the three numbers that stand there.
-pub fn stream(entry: u32, stream_type: u32, size: u32, rva: u32) -> Given {
+pub fn stream(entry: u32, stream_type: u32, size: u32, rva: u32) -> GivenItem {
     let what = What::Stream {
         stream_type,
         size,
@@ -95,7 +95,7 @@ pub fn stream(entry: u32, stream_type: u32, size: u32, rva: u32) -> Given {
 }
 
 /// A thread without a stack and a context.
-pub fn thread(entry: u32, id: u32) -> Given {
+pub fn thread(entry: u32, id: u32) -> GivenItem {
     let what = What::Thread {
         id,
         stack: Extent::Empty,
@@ -105,7 +105,7 @@ pub fn thread(entry: u32, id: u32) -> Given {
 }
 
 /// A range of the first entry.
-pub fn range(index: u64, start: u64, size: u64, extent: Extent, offset: u128) -> Given {
+pub fn range(index: u64, start: u64, size: u64, extent: Extent, offset: u128) -> GivenItem {
     let what = What::Range {
         start,
         size,
@@ -116,22 +116,22 @@ pub fn range(index: u64, start: u64, size: u64, extent: Extent, offset: u128) ->
 }
 
 /// An unloaded module of the first entry.
-pub fn unloaded(index: u64, base: u64, name: Named) -> Given {
+pub fn unloaded(index: u64, base: u64, name: Named) -> GivenItem {
     with_name(0, index, What::Unloaded { base }, name)
 }
 
 /// The system of the first entry.
-pub fn system(processors: u8, build: u32, name: Named) -> Given {
+pub fn system(processors: u8, build: u32, name: Named) -> GivenItem {
     with_name(0, 0, What::System { processors, build }, name)
 }
 
 /// An item of a kind that has no name.
-pub fn nameless(entry: u32, index: u64, what: What) -> Given {
+pub fn nameless(entry: u32, index: u64, what: What) -> GivenItem {
     with_name(entry, index, what, Named::None)
 }
 
-fn with_name(entry: u32, index: u64, what: What, name: Named) -> Given {
-    Given {
+fn with_name(entry: u32, index: u64, what: What, name: Named) -> GivenItem {
+    GivenItem {
         entry,
         index,
         what,
@@ -152,7 +152,7 @@ pub fn plain_name(rt: &HostRuntime, name: &Name<'_>) -> Result<Named, AllocError
 }
 
 /// An item as a plain value.
-pub fn plain(rt: &HostRuntime, item: &Item<'_>) -> Result<Given, AllocError> {
+pub fn plain(rt: &HostRuntime, item: &Item<'_>) -> Result<GivenItem, AllocError> {
     match item {
         Item::Stream(item) => {
             let location = item.location;
@@ -217,7 +217,7 @@ pub fn plain(rt: &HostRuntime, item: &Item<'_>) -> Result<Given, AllocError> {
 pub fn next_of<S: Store + Drop, A: Allocator + Copy>(
     rt: &HostRuntime,
     lister: &mut Lister<S, A>,
-) -> Result<Result<Option<Given>, ListFault>, AllocError> {
+) -> Result<Result<Option<GivenItem>, ListFault>, AllocError> {
     match lister.next() {
         Ok(Some(item)) => Ok(Ok(Some(plain(rt, &item)?))),
         Ok(None) => Ok(Ok(None)),

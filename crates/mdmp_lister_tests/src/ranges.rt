@@ -1,5 +1,5 @@
 //! Which ranges of memory are mapped as they are given.
-use crate::given::{Given, range, stream};
+use crate::given::{GivenItem, range, stream};
 use crate::same::assert_same;
 use crate::script::{
     LEAST, ends, finds, finds_nothing, gives, has_room, other_in_bytes, other_in_numbers, runs,
@@ -11,7 +11,7 @@ use mdmp_test_support::{MEMORY64, OVERLAPPING};
 use std::test::Fail;
 
 /// The two ranges of `OVERLAPPING`.
-fn overlapping() -> [Given; 2] {
+fn overlapping() -> [GivenItem; 2] {
     [
         range(0, 0x1000, 4, Extent::Inside, 80),
         range(1, 0x1002, 4, Extent::Inside, 84),

@@ -28,7 +28,7 @@ fn stream_file(
 
 /// What is told of the records of a stream before they are read, twice, and what comes of reading them.
 #[derive(Clone, Copy, Debug, PartialEq, Eq)]
-struct Told {
+struct RecordsTold {
     first: Option<Result<u64, ListFault>>,
     again: Option<Result<u64, ListFault>>,
     read: Result<u64, ListFault>,
@@ -46,12 +46,12 @@ fn read<S: Store + Drop>(walker: &mut Walker<S, Global>) -> Result<u64, ListFaul
     Ok(count)
 }
 
-fn told_of(rt: &HostRuntime, file: &[u8]) -> Result<Told, Fail> {
+fn told_of(rt: &HostRuntime, file: &[u8]) -> Result<RecordsTold, Fail> {
     let mut walker = open_over(rt, MemoryStore::new(file), LEAST, Choice::All)?;
     let Ok(Some(Step::Stream(_))) = step_of(&mut walker) else {
         return Err(Fail::from("stream"));
     };
-    Ok(Told {
+    Ok(RecordsTold {
         first: records_of(&mut walker),
         again: records_of(&mut walker),
         read: read(&mut walker),
@@ -78,7 +78,7 @@ fn records_of_each_kind_are_counted(rt: HostRuntime) -> Result<(), Fail> {
         (16, 16, [16, 0, 0, 0], 0),
     ] {
         let file = stream_file(&rt, stream_type, size, head, 0)?;
-        let told = Told {
+        let told = RecordsTold {
             first: Some(Ok(count)),
             again: Some(Ok(count)),
             read: Ok(count),
@@ -121,7 +121,7 @@ fn fault_of_a_shape_is_told_in_the_place_of_a_count(rt: HostRuntime) -> Result<(
     ] {
         let file = stream_file(&rt, stream_type, size, head, cut)?;
         let fault = fault(None, kind, at, told);
-        let expected = Told {
+        let expected = RecordsTold {
             first: Some(Err(fault)),
             again: Some(Err(fault)),
             read: Err(fault),

@@ -1,5 +1,5 @@
 //! The items of whole files, of each kind of record.
-use crate::given::{Given, Named, What, nameless, range, stream, thread, unloaded};
+use crate::given::{GivenItem, Named, What, nameless, range, stream, thread, unloaded};
 use crate::same::assert_same;
 use crate::script::{LEAST, ends, gives, other_in_bytes, other_in_numbers};
 use mdmp_source::Extent;
@@ -8,7 +8,7 @@ use mdmp_wire::MemoryInfoRecord;
 use std::test::Fail;
 
 /// A module without a name, of the first entry.
-fn module(index: u64, base: u64) -> Given {
+fn module(index: u64, base: u64) -> GivenItem {
     let what = What::Module {
         base,
         codeview: Extent::Empty,

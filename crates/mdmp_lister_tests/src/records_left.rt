@@ -1,5 +1,5 @@
 //! How many records of the current entry are still to come.
-use crate::given::{Given, What, nameless, stream};
+use crate::given::{GivenItem, What, nameless, stream};
 use crate::same::assert_same;
 use crate::script::{LEAST, ends, gives, has_records_left, other_in_numbers, skips};
 use mdmp_source::Extent;
@@ -11,7 +11,7 @@ const THREE: [u32; 19] = [
     3, 0x1000, 0, 4, 4, 0x2000, 0, 4, 8, 0x3000, 0, 4, 12,
 ];
 
-fn range(index: u64, start: u64, offset: u128) -> Given {
+fn range(index: u64, start: u64, offset: u128) -> GivenItem {
     let what = What::Range {
         start,
         size: 4,

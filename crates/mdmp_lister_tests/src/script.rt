@@ -1,5 +1,5 @@
 //! The calls of one lister, or of one walker, in a row, and what each is to answer.
-use crate::given::{Given, next_of};
+use crate::given::{GivenItem, next_of};
 use crate::opening::chosen;
 use mdmp_lister::{Choice, Limits, ListFault, Lister, RunFault, StopAt};
 use mdmp_map::Place;
@@ -22,7 +22,7 @@ pub const NAMED: Limits = Limits {
 
 /// A call of a lister or of a walker.
 #[derive(Clone, Copy, Debug, PartialEq, Eq)]
-pub enum Step {
+pub enum ScriptStep {
     /// How many entries its header counts.
     Entries,
     /// The next item.
@@ -58,7 +58,7 @@ pub enum Step {
 pub enum Answer {
     Done,
     Entries(u32),
-    Item(Given),
+    Item(GivenItem),
     End,
     Fault(ListFault),
     /// How a run ended, and how often its sink was called so far.
@@ -84,7 +84,7 @@ pub enum Answer {
 /// A call and its answer.
 #[derive(Clone, Copy, Debug, PartialEq, Eq)]
 pub struct Call {
-    pub step: Step,
+    pub step: ScriptStep,
     pub answer: Answer,
 }
 
@@ -97,61 +97,61 @@ pub struct Played {
     pub size: u64,
 }
 
-fn called(step: Step, answer: Answer) -> Call {
+fn called(step: ScriptStep, answer: Answer) -> Call {
     Call { step, answer }
 }
 
 pub fn entries(count: u32) -> Call {
-    called(Step::Entries, Answer::Entries(count))
+    called(ScriptStep::Entries, Answer::Entries(count))
 }
 
-pub fn gives(item: Given) -> Call {
-    called(Step::Next, Answer::Item(item))
+pub fn gives(item: GivenItem) -> Call {
+    called(ScriptStep::Next, Answer::Item(item))
 }
 
 pub fn ends() -> Call {
-    called(Step::Next, Answer::End)
+    called(ScriptStep::Next, Answer::End)
 }
 
 pub fn fails(fault: ListFault) -> Call {
-    called(Step::Next, Answer::Fault(fault))
+    called(ScriptStep::Next, Answer::Fault(fault))
 }
 
 pub fn skips() -> Call {
-    called(Step::Skip, Answer::Done)
+    called(ScriptStep::Skip, Answer::Done)
 }
 
 /// A run into a new sink that stops at this call.
 pub fn runs(stop_at: u64, fault: Option<RunFault>, calls: u64) -> Call {
-    called(Step::NewSink(stop_at), Answer::Ran(fault, calls))
+    called(ScriptStep::NewSink(stop_at), Answer::Ran(fault, calls))
 }
 
 /// A further run into the same sink.
 pub fn runs_on(fault: Option<RunFault>, calls: u64) -> Call {
-    called(Step::SameSink, Answer::Ran(fault, calls))
+    called(ScriptStep::SameSink, Answer::Ran(fault, calls))
 }
 
 /// Verdicts for a new sink that stops at this call.
 pub fn checks(stop_at: u64, fault: Option<RunFault>, calls: u64) -> Call {
-    called(Step::Check(stop_at), Answer::Ran(fault, calls))
+    called(ScriptStep::Check(stop_at), Answer::Ran(fault, calls))
 }
 
 /// No verdicts any more.
 pub fn has_begun() -> Call {
-    called(Step::Check(u64::MAX), Answer::Begun)
+    called(ScriptStep::Check(u64::MAX), Answer::Begun)
 }
 
 pub fn has_room(len: usize, free: usize) -> Call {
-    called(Step::Room, Answer::Room { len, free })
+    called(ScriptStep::Room, Answer::Room { len, free })
 }
 
 pub fn finds(address: u64, offset: u64, left: u64) -> Call {
     let place = Place { offset, left };
-    called(Step::Find(address), Answer::Place(Some(place)))
+    called(ScriptStep::Find(address), Answer::Place(Some(place)))
 }
 
 pub fn finds_nothing(address: u64) -> Call {
-    called(Step::Find(address), Answer::Place(None))
+    called(ScriptStep::Find(address), Answer::Place(None))
 }
 
 /// These bytes, and which of them are known.
@@ -164,11 +164,11 @@ pub fn reads<const N: usize>(address: u64, bytes: [u8; N], known: [bool; N]) -> 
             is_known[i] = known[i];
         }
     }
-    called(Step::Read(address, N), Answer::Memory(out, is_known))
+    called(ScriptStep::Read(address, N), Answer::Memory(out, is_known))
 }
 
 pub fn read_fails(address: u64, len: usize, fault: SourceFault) -> Call {
-    called(Step::Read(address, len), Answer::Failed(fault))
+    called(ScriptStep::Read(address, len), Answer::Failed(fault))
 }
 
 /// These bytes of the file.
@@ -179,50 +179,50 @@ pub fn has_part<const N: usize>(at: u64, bytes: [u8; N]) -> Call {
             out[i] = bytes[i];
         }
     }
-    called(Step::Part(at, N), Answer::Bytes(out))
+    called(ScriptStep::Part(at, N), Answer::Bytes(out))
 }
 
 pub fn part_outside(at: u64, len: usize) -> Call {
-    called(Step::Part(at, len), Answer::Outside)
+    called(ScriptStep::Part(at, len), Answer::Outside)
 }
 
 pub fn part_fails(at: u64, len: usize, fault: SourceFault) -> Call {
-    called(Step::Part(at, len), Answer::Failed(fault))
+    called(ScriptStep::Part(at, len), Answer::Failed(fault))
 }
 
 /// The size of the file, and what was fetched aside so far.
 pub fn has_numbers(size: u64, aside: u128) -> Call {
-    called(Step::Numbers, Answer::Numbers { size, aside })
+    called(ScriptStep::Numbers, Answer::Numbers { size, aside })
 }
 
 pub fn has_records_left(count: u64) -> Call {
-    called(Step::RecordsLeft, Answer::RecordsLeft(count))
+    called(ScriptStep::RecordsLeft, Answer::RecordsLeft(count))
 }
 
 pub fn seeks(number: usize) -> Call {
-    called(Step::Seek(number), Answer::Done)
+    called(ScriptStep::Seek(number), Answer::Done)
 }
 
 /// An entry that is not there.
 pub fn cannot_seek(number: usize) -> Call {
-    called(Step::Seek(number), Answer::NoCall)
+    called(ScriptStep::Seek(number), Answer::NoCall)
 }
 
 pub fn counts(records: u64) -> Call {
-    called(Step::Records, Answer::Counted(records))
+    called(ScriptStep::Records, Answer::Counted(records))
 }
 
 pub fn count_fails(fault: ListFault) -> Call {
-    called(Step::Records, Answer::Fault(fault))
+    called(ScriptStep::Records, Answer::Fault(fault))
 }
 
 /// No Stream item was given last.
 pub fn cannot_count() -> Call {
-    called(Step::Records, Answer::NoCall)
+    called(ScriptStep::Records, Answer::NoCall)
 }
 
 /// An item, the end or a fault as an answer.
-pub fn answer_by(given: Result<Option<Given>, ListFault>) -> Answer {
+pub fn answer_by(given: Result<Option<GivenItem>, ListFault>) -> Answer {
     match given {
         Ok(Some(item)) => Answer::Item(item),
         Ok(None) => Answer::End,
@@ -277,37 +277,37 @@ fn answer_of<S: Store + Drop>(
     rt: &HostRuntime,
     lister: &mut Lister<S, Global>,
     sink: &mut StopAt,
-    step: Step,
+    step: ScriptStep,
 ) -> Result<Answer, AllocError> {
     let answer = match step {
-        Step::Entries => Answer::Entries(lister.header().number_of_streams),
-        Step::Next => answer_by(next_of(rt, lister)?),
-        Step::Skip => {
+        ScriptStep::Entries => Answer::Entries(lister.header().number_of_streams),
+        ScriptStep::Next => answer_by(next_of(rt, lister)?),
+        ScriptStep::Skip => {
             lister.skip_entry();
             Answer::Done
         }
-        Step::NewSink(stop_at) => {
+        ScriptStep::NewSink(stop_at) => {
             *sink = StopAt::new(stop_at);
             run(lister, sink)
         }
-        Step::SameSink => run(lister, sink),
-        Step::Check(stop_at) => {
+        ScriptStep::SameSink => run(lister, sink),
+        ScriptStep::Check(stop_at) => {
             *sink = StopAt::new(stop_at);
             check(lister, sink)
         }
-        Step::Room => Answer::Room {
+        ScriptStep::Room => Answer::Room {
             len: lister.map().len(),
             free: lister.map().free(),
         },
-        Step::Find(address) => Answer::Place(lister.map().find(address)),
-        Step::Read(address, len) => read(lister, address, len),
-        Step::Part(at, len) => read_part(lister, at, len),
-        Step::Numbers => Answer::Numbers {
+        ScriptStep::Find(address) => Answer::Place(lister.map().find(address)),
+        ScriptStep::Read(address, len) => read(lister, address, len),
+        ScriptStep::Part(at, len) => read_part(lister, at, len),
+        ScriptStep::Numbers => Answer::Numbers {
             size: lister.size(),
             aside: lister.counts().aside,
         },
-        Step::RecordsLeft => Answer::RecordsLeft(lister.records_left()),
-        Step::Seek(_) | Step::Records => Answer::NoCall,
+        ScriptStep::RecordsLeft => Answer::RecordsLeft(lister.records_left()),
+        ScriptStep::Seek(_) | ScriptStep::Records => Answer::NoCall,
     };
     Ok(answer)
 }

@@ -1,5 +1,5 @@
 //! Entries that a walker goes to.
-use crate::given::{Given, stream, thread};
+use crate::given::{GivenItem, stream, thread};
 use crate::opening::chosen;
 use crate::same::assert_same;
 use crate::script::{
@@ -39,8 +39,8 @@ fn first(entry: u32) -> Call {
 }
 
 fn second(entry: u32) -> Call {
-    let Given { what, name, .. } = thread(entry, 8);
-    gives(Given {
+    let GivenItem { what, name, .. } = thread(entry, 8);
+    gives(GivenItem {
         entry,
         index: 1,
         what,

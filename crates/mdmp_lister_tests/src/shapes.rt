@@ -1,10 +1,10 @@
 //! Where the records of a stream stand.
 use crate::same::assert_same;
-use mdmp_lister::{Fault, FaultKind, Kind, Shape, shape_of};
+use mdmp_lister::{Fault, FaultKind, Shape, StreamKind, shape_of};
 use mdmp_source::Location;
 
 /// The shape of a stream of so many bytes at 4, whose head is these bytes.
-fn shape(kind: Kind, size: u32, head: [u8; 16]) -> Result<Shape, Fault> {
+fn shape(kind: StreamKind, size: u32, head: [u8; 16]) -> Result<Shape, Fault> {
     let mut file = [0; 4096];
     for i in 0..16 {
         file[4 + i] = head[i];
@@ -45,14 +45,19 @@ fn bad(kind: FaultKind, offset: u64, size: u64) -> Result<Shape, Fault> {
 fn list_is_padded_where_four_bytes_are_left(rt: HostRuntime) {
     let one = head(1, 0, 0);
     for (kind, size, head, expected) in [
-        (Kind::Threads, 52, one, stands(4, 48, 1)),
-        (Kind::Threads, 56, one, stands(8, 48, 1)),
-        (Kind::Threads, 60, one, stands(4, 48, 1)),
-        (Kind::Threads, 51, one, bad(FaultKind::BadCount, 4, 1)),
-        (Kind::Threads, 3, one, bad(FaultKind::ShortStream, 4, 3)),
-        (Kind::Modules, 116, one, stands(8, 108, 1)),
-        (Kind::Memory, 24, one, stands(8, 16, 1)),
-        (Kind::Memory, 8, head(0, 0, 0), stands(8, 16, 0)),
+        (StreamKind::Threads, 52, one, stands(4, 48, 1)),
+        (StreamKind::Threads, 56, one, stands(8, 48, 1)),
+        (StreamKind::Threads, 60, one, stands(4, 48, 1)),
+        (StreamKind::Threads, 51, one, bad(FaultKind::BadCount, 4, 1)),
+        (
+            StreamKind::Threads,
+            3,
+            one,
+            bad(FaultKind::ShortStream, 4, 3),
+        ),
+        (StreamKind::Modules, 116, one, stands(8, 108, 1)),
+        (StreamKind::Memory, 24, one, stands(8, 16, 1)),
+        (StreamKind::Memory, 8, head(0, 0, 0), stands(8, 16, 0)),
     ] {
         assert_same(&rt, shape(kind, size, head), expected);
     }
@@ -62,15 +67,20 @@ fn list_is_padded_where_four_bytes_are_left(rt: HostRuntime) {
 fn single_records_have_no_count(rt: HostRuntime) {
     let any = head(9, 9, 9);
     for (kind, size, head, expected) in [
-        (Kind::Exception, 168, any, stands(0, 168, 1)),
+        (StreamKind::Exception, 168, any, stands(0, 168, 1)),
         (
-            Kind::Exception,
+            StreamKind::Exception,
             167,
             any,
             bad(FaultKind::ShortStream, 4, 167),
         ),
-        (Kind::System, 56, any, stands(0, 56, 1)),
-        (Kind::System, 55, any, bad(FaultKind::ShortStream, 4, 55)),
+        (StreamKind::System, 56, any, stands(0, 56, 1)),
+        (
+            StreamKind::System,
+            55,
+            any,
+            bad(FaultKind::ShortStream, 4, 55),
+        ),
     ] {
         assert_same(&rt, shape(kind, size, head), expected);
     }
@@ -79,42 +89,52 @@ fn single_records_have_no_count(rt: HostRuntime) {
 #[test]
 fn sized_lists_say_where_their_records_stand(rt: HostRuntime) {
     for (kind, size, head, expected) in [
-        (Kind::Unloaded, 2012, head(12, 1000, 2), stands(12, 1000, 2)),
-        (Kind::Unloaded, 44, head(20, 24, 1), stands(20, 24, 1)),
         (
-            Kind::Unloaded,
+            StreamKind::Unloaded,
+            2012,
+            head(12, 1000, 2),
+            stands(12, 1000, 2),
+        ),
+        (StreamKind::Unloaded, 44, head(20, 24, 1), stands(20, 24, 1)),
+        (
+            StreamKind::Unloaded,
             11,
             head(12, 24, 1),
             bad(FaultKind::ShortStream, 4, 11),
         ),
         (
-            Kind::Unloaded,
+            StreamKind::Unloaded,
             36,
             head(11, 24, 1),
             bad(FaultKind::BadHeaderSize, 4, 11),
         ),
         (
-            Kind::Unloaded,
+            StreamKind::Unloaded,
             36,
             head(37, 24, 0),
             bad(FaultKind::BadHeaderSize, 4, 37),
         ),
         (
-            Kind::Unloaded,
+            StreamKind::Unloaded,
             36,
             head(12, 23, 1),
             bad(FaultKind::BadEntrySize, 8, 23),
         ),
-        (Kind::Unloaded, 36, head(12, 23, 0), stands(12, 23, 0)),
+        (StreamKind::Unloaded, 36, head(12, 23, 0), stands(12, 23, 0)),
         (
-            Kind::Unloaded,
+            StreamKind::Unloaded,
             36,
             head(12, 24, 2),
             bad(FaultKind::BadCount, 12, 2),
         ),
-        (Kind::MemoryInfo, 64, head(16, 48, 1), stands(16, 48, 1)),
         (
-            Kind::MemoryInfo,
+            StreamKind::MemoryInfo,
+            64,
+            head(16, 48, 1),
+            stands(16, 48, 1),
+        ),
+        (
+            StreamKind::MemoryInfo,
             64,
             head(16, 47, 1),
             bad(FaultKind::BadEntrySize, 8, 47),
@@ -130,7 +150,7 @@ fn stream_of_no_bytes_is_too_short_wherever_it_is(rt: HostRuntime) {
         size: 0,
         rva: u32::MAX,
     };
-    let shape = shape_of(b"", nowhere, Kind::Threads);
+    let shape = shape_of(b"", nowhere, StreamKind::Threads);
     assert_same(&rt, shape, bad(FaultKind::ShortStream, 4294967295, 0));
 }
 
@@ -142,12 +162,22 @@ fn counts_are_compared_without_wrapping(rt: HostRuntime) {
     }
     let count = FaultKind::BadCount;
     for (kind, size, head, expected) in [
-        (Kind::MemoryInfo, 16, most, bad(count, 12, u64::MAX)),
-        (Kind::Memory64, 16, [0xff; 16], bad(count, 4, u64::MAX)),
-        (Kind::Threads, 4, [0xff; 16], bad(count, 4, 4294967295)),
-        (Kind::Memory64, 48, head(2, 0, 92), stands(16, 16, 2)),
+        (StreamKind::MemoryInfo, 16, most, bad(count, 12, u64::MAX)),
         (
-            Kind::Memory64,
+            StreamKind::Memory64,
+            16,
+            [0xff; 16],
+            bad(count, 4, u64::MAX),
+        ),
+        (
+            StreamKind::Threads,
+            4,
+            [0xff; 16],
+            bad(count, 4, 4294967295),
+        ),
+        (StreamKind::Memory64, 48, head(2, 0, 92), stands(16, 16, 2)),
+        (
+            StreamKind::Memory64,
             15,
             head(0, 0, 0),
             bad(FaultKind::ShortStream, 4, 15),

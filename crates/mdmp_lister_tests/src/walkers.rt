@@ -149,27 +149,27 @@ fn store_that_gives_few_bytes_a_call_gives_the_same_items(rt: HostRuntime) -> Re
 
 /// What came of a walk: why it was refused, or how many items it gave and the fault behind them.
 #[derive(Clone, Copy, Debug, PartialEq, Eq)]
-enum Outcome {
+enum WalkerOutcome {
     Refused(OpenFault),
     Walked(u64, Option<ListFault>),
 }
 
 /// That of a walk over a store of one system that gives a byte a call and fails at this one.
-fn outcome_of(rt: &HostRuntime, fail_at: u64) -> Outcome {
+fn outcome_of(rt: &HostRuntime, fail_at: u64) -> WalkerOutcome {
     let source = Source::new(PatchyStore::new(&SYSTEM, &[1], Some(fail_at)));
     let mut walker = match Walker::open(rt.alloc(), source, NAMED, Choice::All) {
         Ok(walker) => walker,
-        Err(refused) => return Outcome::Refused(refused.fault),
+        Err(refused) => return WalkerOutcome::Refused(refused.fault),
     };
     let mut items: u64 = 0;
     for _ in 0..4 {
         match step_of(&mut walker) {
             Ok(Some(_)) => items = items.saturating_add(1),
             Ok(None) => break,
-            Err(fault) => return Outcome::Walked(items, Some(fault)),
+            Err(fault) => return WalkerOutcome::Walked(items, Some(fault)),
         }
     }
-    Outcome::Walked(items, None)
+    WalkerOutcome::Walked(items, None)
 }
 
 #[test]
@@ -178,12 +178,12 @@ fn store_fails_at_each_call_in_turn(rt: HostRuntime) {
     for fail_at in 0..133 {
         let failed = SourceFault::Failed { at: fail_at };
         let expected = if fail_at < 44 {
-            Outcome::Refused(OpenFault::Source(failed))
+            WalkerOutcome::Refused(OpenFault::Source(failed))
         } else if fail_at < 132 {
             let kind = FaultKind::Source(failed);
-            Outcome::Walked(1, Some(fault(None, kind, fail_at, 0)))
+            WalkerOutcome::Walked(1, Some(fault(None, kind, fail_at, 0)))
         } else {
-            Outcome::Walked(2, None)
+            WalkerOutcome::Walked(2, None)
         };
         assert_same(&rt, outcome_of(&rt, fail_at), expected);
     }

@@ -1,6 +1,6 @@
 //! A walker that is opened, and its calls in a row.
-use crate::given::{Given, plain};
-use crate::script::{Answer, Call, LEAST, Step, answer_by};
+use crate::given::{GivenItem, plain};
+use crate::script::{Answer, Call, LEAST, ScriptStep, answer_by};
 use mdmp_lister::{Choice, Counts, Limits, ListFault, Step as Read, Walker};
 use mdmp_source::{MemoryStore, Source, Store};
 use std::alloc::{AllocError, Allocator, Global};
@@ -31,7 +31,7 @@ pub fn open<'a>(rt: &HostRuntime, file: &'a [u8], choice: Choice) -> Result<Walk
 pub fn next_of<S: Store + Drop, A: Allocator + Copy>(
     rt: &HostRuntime,
     walker: &mut Walker<S, A>,
-) -> Result<Result<Option<Given>, ListFault>, AllocError> {
+) -> Result<Result<Option<GivenItem>, ListFault>, AllocError> {
     match walker.next() {
         Ok(Some(item)) => Ok(Ok(Some(plain(rt, &item)?))),
         Ok(None) => Ok(Ok(None)),
@@ -86,17 +86,17 @@ fn count<S: Store + Drop, A: Allocator + Copy>(walker: &mut Walker<S, A>) -> Ans
 fn answer_of<S: Store + Drop, A: Allocator + Copy>(
     rt: &HostRuntime,
     walker: &mut Walker<S, A>,
-    step: Step,
+    step: ScriptStep,
 ) -> Result<Answer, AllocError> {
     let answer = match step {
-        Step::Entries => Answer::Entries(walker.header().number_of_streams),
-        Step::Next => answer_by(next_of(rt, walker)?),
-        Step::Skip => {
+        ScriptStep::Entries => Answer::Entries(walker.header().number_of_streams),
+        ScriptStep::Next => answer_by(next_of(rt, walker)?),
+        ScriptStep::Skip => {
             walker.skip_entry();
             Answer::Done
         }
-        Step::Seek(number) => seek(walker, number),
-        Step::Records => count(walker),
+        ScriptStep::Seek(number) => seek(walker, number),
+        ScriptStep::Records => count(walker),
         _ => Answer::NoCall,
     };
     Ok(answer)

@@ -6,14 +6,14 @@ use Rattle.mdmp_map.specs.declared.place.Place.{Place}
 use Rattle.mdmp_map.specs.declared.found.Found.{Found}
 use Rattle.mdmp_map.specs.declared.found.Found.TheVariants.{Held, Gap}
 use Rattle.mdmp_map.specs.Finding.{HasReach, IfHeld, IsFound}
-use Rattle.mdmp_map.specs.Ranges.{IsLeft, IsPlaced, IsWithin, first_range, place_of}
+use Rattle.mdmp_map.specs.Ranges.{IsGreatestLeft, IsPlaced, IsWithin, first_range, place_of}
 use Rattle.mdmp_map.specs.RangeLaws.{place-left, place-within}
-use Rattle.mdmp_map.proofs.Scanning.{place_of-IsLeft}
+use Rattle.mdmp_map.proofs.Scanning.{place_of-IsGreatestLeft}
 
 pub left_greatest : (ranges : List Range) (address : ℕ) (found : Option Place) → found ≡ place_of ranges address → All IsPlaced ranges
-    → IfSome found (λ place. (r : Range) → first_range ranges address ≡ Some r → IsLeft ranges address r place.left)
+    → IfSome found (λ place. (r : Range) → first_range ranges address ≡ Some r → IsGreatestLeft ranges address r place.left)
 left_greatest ranges address None is placed = tt
-left_greatest ranges address (Some place) is placed = place_of-IsLeft address place ranges placed is
+left_greatest ranges address (Some place) is placed = place_of-IsGreatestLeft address place ranges placed is
 
 pub some_left : (ranges : List Range) (address : ℕ) (found : Option Place) → found ≡ place_of ranges address → IfSome found (λ place. 0 < place.left)
 some_left ranges address None is = tt
@@ -28,7 +28,7 @@ pub held_reaches : (ranges : List Range) (address : ℕ) (found : Found) → IsF
     → IfHeld found (HasReach ranges address)
 held_reaches ranges address (Gap count) is placed = tt
 held_reaches ranges address (Held place) is placed = record {
-  left = place_of-IsLeft address place ranges placed is;
+  left = place_of-IsGreatestLeft address place ranges placed is;
   some = place-left ranges address place (sym is);
   within = λ size all. place-within ranges address size place all (sym is);
 }

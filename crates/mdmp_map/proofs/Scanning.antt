@@ -10,7 +10,7 @@ use Rattle.mdmp_map.specs.declared.range.Range.{Range}
 use Rattle.mdmp_map.specs.declared.place.Place.{Place}
 use Rattle.mdmp_map.specs.RangeLaws.{limit_past, limit_past-le, next_start-lt, next_start-le, holds_parts, first_range-holds, first_range-passes, first_range_holds}
 use Rattle.mdmp_map.specs.Finding.{place_in, scan_len}
-use Rattle.mdmp_map.specs.Ranges.{IsPlaced, IsLeft, address_end, range_end, holds, first_range, ranges_before, next_start, left_of, place_of}
+use Rattle.mdmp_map.specs.Ranges.{IsPlaced, IsGreatestLeft, address_end, range_end, holds, first_range, ranges_before, next_start, addresses_left, place_of}
 
 -- what is read past the end of a list
 abbrev pub no_range : Range
@@ -109,7 +109,7 @@ pub scan-place_of : (address : ℕ) (ranges : List Range) → scan address_end a
 scan-place_of address ranges =
     scan-option_map address_end address ranges
     ∙ option_map-same (λ r. place_in (lowest_start address_end address ranges) address r)
-    (λ r. record { offset = r.offset + (address - r.start); left = left_of ranges address r })
+    (λ r. record { offset = r.offset + (address - r.start); left = addresses_left ranges address r })
     (λ r. ap (λ n. record { offset = r.offset + (address - r.start); left = n - address })
     (sym (next_start-min (range_end r) address_end address (ranges_before ranges address))))
     (first_range ranges address)
@@ -214,10 +214,10 @@ stops limit address later r (q ∷ ranges) placed space is lowest below again = 
       ]
 ]
 
--- what `left_of` gives is the greatest count
-left_of-IsLeft : (address : ℕ) (r : Range) (ranges : List Range) → All IsPlaced ranges → first_range ranges address ≡ Some r
-    → IsLeft ranges address r (left_of ranges address r)
-left_of-IsLeft address r ranges placed is =
+-- what `addresses_left` gives is the greatest count
+addresses_left-IsGreatestLeft : (address : ℕ) (r : Range) (ranges : List Range) → All IsPlaced ranges → first_range ranges address ≡ Some r
+    → IsGreatestLeft ranges address r (addresses_left ranges address r)
+addresses_left-IsGreatestLeft address r ranges placed is =
     let limit : ℕ = min (range_end r) address_end in
     let reached : ℕ = lowest_start limit address ranges in
     let parts = holds_parts address r (first_range_holds address r ranges is) in
@@ -225,25 +225,25 @@ left_of-IsLeft address r ranges placed is =
     let at_most : reached ≤ limit = next_start-le limit address (ranges_before ranges address) in
     record {
       same = λ k lt. reaches limit address (address + k) r ranges is (omega arith) (omega (arith, lt, at_most)) (omega (arith, lt, at_most)) (omega (arith, lt));
-      greatest = λ m all. elim (cases_lt (left_of ranges address r) m) [
+      greatest = λ m all. elim (cases_lt (addresses_left ranges address r) m) [
         | inr within ↦ within
         | inl more ↦
             let again : first_range ranges reached ≡ Some r =
-            let e : address + left_of ranges address r ≡ reached = omega (arith, ahead) in
-            subst (λ n. first_range ranges n ≡ Some r) e (all (left_of ranges address r) more) in
+            let e : address + addresses_left ranges address r ≡ reached = omega (arith, ahead) in
+            subst (λ n. first_range ranges n ≡ Some r) e (all (addresses_left ranges address r) more) in
             let still = holds_parts reached r (first_range_holds reached r ranges again) in
             absurd (stops limit address reached r ranges placed (omega arith) is refl (omega (arith, still.0, still.2)) again)
       ];
     }
 
-pub place_of-IsLeft : (address : ℕ) (place : Place) (ranges : List Range) → All IsPlaced ranges → Some place ≡ place_of ranges address
-    → (r : Range) → first_range ranges address ≡ Some r → IsLeft ranges address r place.left
-place_of-IsLeft address place ranges placed found r is =
-    let expected : Place = record { offset = r.offset + (address - r.start); left = left_of ranges address r } in
+pub place_of-IsGreatestLeft : (address : ℕ) (place : Place) (ranges : List Range) → All IsPlaced ranges → Some place ≡ place_of ranges address
+    → (r : Range) → first_range ranges address ≡ Some r → IsGreatestLeft ranges address r place.left
+place_of-IsGreatestLeft address place ranges placed found r is =
+    let expected : Place = record { offset = r.offset + (address - r.start); left = addresses_left ranges address r } in
     let all : Some place ≡ Some expected =
-    found ∙ ap (option_map (λ q. record { offset = q.offset + (address - q.start); left = left_of ranges address q })) is in
+    found ∙ ap (option_map (λ q. record { offset = q.offset + (address - q.start); left = addresses_left ranges address q })) is in
     let same : place ≡ expected = cc in
-    subst (λ (p : Place). IsLeft ranges address r p.left) (sym same) (left_of-IsLeft address r ranges placed is)
+    subst (λ (p : Place). IsGreatestLeft ranges address r p.left) (sym same) (addresses_left-IsGreatestLeft address r ranges placed is)
 
 -- ---- how many ranges a scan looks at
 

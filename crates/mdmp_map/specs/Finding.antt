@@ -4,7 +4,7 @@ use Rattle.mdmp_map.specs.declared.range.Range.{Range}
 use Rattle.mdmp_map.specs.declared.place.Place.{Place}
 use Rattle.mdmp_map.specs.declared.found.Found.{Found}
 use Rattle.mdmp_map.specs.declared.found.Found.TheVariants.{Held, Gap}
-use Rattle.mdmp_map.specs.Ranges.{AreSorted, IsGap, IsLeft, IsWithin, first_range, place_of, range_end, ranges_before}
+use Rattle.mdmp_map.specs.Ranges.{AreSorted, IsGap, IsGreatestLeft, IsWithin, first_range, place_of, range_end, ranges_before}
 
 -- the place of an address in a range, where from limit on another comes first
 abbrev pub place_in : ℕ → ℕ → Range → Place
@@ -23,7 +23,7 @@ IfHeld (Gap count) P = Unit {0}
 -- what is left at the place of an address: the greatest count of addresses that the same range is the first to hold, and
 -- at least one; it lies in a file of any size in which the bytes of each range lie
 pub record HasReach (ranges : List Range) (address : ℕ) (place : Place) : Type 0 where
-  pub left : (r : Range) → first_range ranges address ≡ Some r → IsLeft ranges address r place.left
+  pub left : (r : Range) → first_range ranges address ≡ Some r → IsGreatestLeft ranges address r place.left
   pub some : 0 < place.left
   pub within : (size : ℕ) → All (IsWithin size) ranges → place.offset + place.left ≤ size
 

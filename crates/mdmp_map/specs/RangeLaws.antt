@@ -6,7 +6,7 @@ use Rattle.std.proofs.lemmas.Bool.Decides.{nat_tests}
 use Rattle.std.proofs.lemmas.List.Elements.{All-head, All-tail}
 use Rattle.mdmp_map.specs.declared.range.Range.{Range}
 use Rattle.mdmp_map.specs.declared.place.Place.{Place}
-use Rattle.mdmp_map.specs.Ranges.{IsWithin, address_end, range_end, holds, first_range, ranges_before, next_start, left_of, place_of}
+use Rattle.mdmp_map.specs.Ranges.{IsWithin, address_end, range_end, holds, first_range, ranges_before, next_start, addresses_left, place_of}
 
 -- ---- the first range that holds an address
 
@@ -77,9 +77,9 @@ mapped_from f (Some r) place is = (r, refl, cc)
 
 -- the range that gave a place
 pub place-first_range : (ranges : List Range) (address : ℕ) (place : Place) → place_of ranges address ≡ Some place
-    → (r : Range) × (first_range ranges address ≡ Some r) × (place ≡ record { offset = r.offset + (address - r.start); left = left_of ranges address r })
+    → (r : Range) × (first_range ranges address ≡ Some r) × (place ≡ record { offset = r.offset + (address - r.start); left = addresses_left ranges address r })
 place-first_range ranges address place is =
-    mapped_from (λ r. record { offset = r.offset + (address - r.start); left = left_of ranges address r }) (first_range ranges address) place is
+    mapped_from (λ r. record { offset = r.offset + (address - r.start); left = addresses_left ranges address r }) (first_range ranges address) place is
 
 nothing_mapped : {X Y : Type 0} (f : X → Y) (o : Option X) → None ≡ option_map f o → o ≡ None
 nothing_mapped f None is = refl
@@ -88,7 +88,7 @@ nothing_mapped f (Some x) is = absurd cc
 -- where there is no place, no range holds the address
 pub none_found : (ranges : List Range) (address : ℕ) → None ≡ place_of ranges address → first_range ranges address ≡ None
 none_found ranges address is =
-    nothing_mapped (λ r. record { offset = r.offset + (address - r.start); left = left_of ranges address r }) (first_range ranges address) is
+    nothing_mapped (λ r. record { offset = r.offset + (address - r.start); left = addresses_left ranges address r }) (first_range ranges address) is
 
 -- at least one address is left, the one that was looked up
 pub place-left : (ranges : List Range) (address : ℕ) (place : Place) → place_of ranges address ≡ Some place → 0 < place.left

@@ -2,7 +2,7 @@
 ghost use Rattle.std.specs.Prelude.{◌≡◌, ◌<◌, ◌+◌, All, IfSome, IsTrue, length};
 ghost use Rattle.mdmp_map.specs.declared.range.Range.{Range};
 ghost use Rattle.mdmp_map.specs.Finding.{IsFound, IsHalved, scan_len};
-ghost use Rattle.mdmp_map.specs.Ranges.{AreSorted, IsLeft, IsPlaced, first_range, place_of};
+ghost use Rattle.mdmp_map.specs.Ranges.{AreSorted, IsGreatestLeft, IsPlaced, first_range, place_of};
 
 use crate::found::Found;
 use crate::halves::halve;
@@ -22,7 +22,7 @@ pub fn place_of(ranges: &[Range], address: u64) -> Option<Place>
 
     // What is left is the greatest count of addresses that the same range is the first to hold.
     ensures left { IfSome result (λ place. (r : Range) → first_range ranges.now address ≡ Some r
-        → IsLeft ranges.now address r place.left) }
+        → IsGreatestLeft ranges.now address r place.left) }
 {
     scan_under::<Brand>(ranges, address, Blank::new(1)).place()
 }

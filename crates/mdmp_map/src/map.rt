@@ -3,7 +3,7 @@ ghost use Rattle.std.specs.Prelude.{◌≡◌, ◌≤◌, ◌<◌, ◌+◌, ◌-
 ghost use Rattle.mdmp_map.specs.declared.range.Range.{Range};
 ghost use Rattle.mdmp_map.specs.Map.{MapState, free_of};
 ghost use Rattle.mdmp_map.specs.Finding.{HasReach, IfHeld, IsFound, LooksAt};
-ghost use Rattle.mdmp_map.specs.Ranges.{AreSorted, IsGap, IsLeft, IsPlaced, IsWithin, first_range, place_of, range_end};
+ghost use Rattle.mdmp_map.specs.Ranges.{AreSorted, IsGap, IsGreatestLeft, IsPlaced, IsWithin, first_range, place_of, range_end};
 
 use crate::finding::search;
 use crate::found::Found;
@@ -99,7 +99,7 @@ impl<A: Allocator> AddressMap<A> {
 
         // What is left is the greatest count of addresses that the same range is the first to hold.
         ensures left { IfSome result (λ place. (r : Range) → first_range self.now.ranges address ≡ Some r
-            → IsLeft self.now.ranges address r place.left) }
+            → IsGreatestLeft self.now.ranges address r place.left) }
         ensures some { IfSome result (λ place. 0 < place.left) }
 
         // Where the bytes of each range lie in a file of that size, what is left does too.

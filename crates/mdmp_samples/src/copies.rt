@@ -1,6 +1,6 @@
 //! Streams of a dump, copied.
 
-use crate::digest::{Summary, summary_of};
+use crate::digest::{ByteSummary, summary_of};
 use crate::status::{DIFFERS, UNWRITTEN};
 use mdmp_lister::{Limits, TypeSet};
 use mdmp_source::{FileStore, WriteOut};
@@ -50,7 +50,7 @@ pub const CHOSEN: [Chosen; 6] = [
 /// Prints how long the copy of a dump's chosen streams is, and its SHA-256.
 pub fn tell_copy(rt: &HostRuntime, chosen: &Chosen) -> Result<(), u8> {
     let Chosen { dump, types } = chosen;
-    let Some(Summary { size, sha256 }) = copied(rt, *dump, *types) else {
+    let Some(ByteSummary { size, sha256 }) = copied(rt, *dump, *types) else {
         return Err(DIFFERS);
     };
     writeln!(
@@ -61,7 +61,7 @@ pub fn tell_copy(rt: &HostRuntime, chosen: &Chosen) -> Result<(), u8> {
 }
 
 /// What is told of the copy, or none where there is none, or its answer is not how many bytes went out.
-fn copied(rt: &HostRuntime, dump: &str, types: &[u32]) -> Option<Summary> {
+fn copied(rt: &HostRuntime, dump: &str, types: &[u32]) -> Option<ByteSummary> {
     let store = FileStore::open(rt, dump).ok()?;
     let types = TypeSet::new(types)?;
     let mut out = WriteOut::new(Vec::new(rt.alloc()));

@@ -5,7 +5,7 @@ use std::alloc::Global;
 
 /// What is told of bytes that are too many to print.
 #[derive(Drop)]
-pub struct Summary {
+pub struct ByteSummary {
     /// How many they are.
     pub size: u64,
     /// Their SHA-256, in hexadecimal digits.
@@ -13,8 +13,8 @@ pub struct Summary {
 }
 
 /// What is told of these bytes, or none where memory is wanting.
-pub fn summary_of(alloc: Global, bytes: &[u8]) -> Option<Summary> {
-    Some(Summary {
+pub fn summary_of(alloc: Global, bytes: &[u8]) -> Option<ByteSummary> {
+    Some(ByteSummary {
         size: bytes.len() as u64,
         sha256: hex::encode(alloc, Sha256::digest(bytes)).ok()?,
     })

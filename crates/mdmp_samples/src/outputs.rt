@@ -16,7 +16,7 @@ const LINES: [[&str; 3]; 3] = [
 
 /// What a command line ended with, and what it wrote to each output.
 #[derive(Drop)]
-struct Ended {
+struct CommandOutputs {
     status: u8,
     out: String,
     err: String,
@@ -25,7 +25,7 @@ struct Ended {
 /// Prints what some command lines write to each of their outputs.
 pub fn tell_outputs(rt: &HostRuntime) -> Result<(), u8> {
     for line in &LINES {
-        let Some(Ended { status, out, err }) = run_line(rt, line) else {
+        let Some(CommandOutputs { status, out, err }) = run_line(rt, line) else {
             return Err(DIFFERS);
         };
         writeln!(
@@ -37,13 +37,13 @@ pub fn tell_outputs(rt: &HostRuntime) -> Result<(), u8> {
     Ok(())
 }
 
-fn run_line(rt: &HostRuntime, line: &[&str]) -> Option<Ended> {
+fn run_line(rt: &HostRuntime, line: &[&str]) -> Option<CommandOutputs> {
     let args = texts_of(rt.alloc(), line).ok()?;
     let mut disk = SystemDisk::new(rt);
     let mut out = WriteOut::new(Vec::new(rt.alloc()));
     let mut err = WriteOut::new(Vec::new(rt.alloc()));
     let status = run_args(rt, &mut disk, rt.alloc(), Ok(args), &mut out, &mut err);
-    Some(Ended {
+    Some(CommandOutputs {
         status,
         out: String::from_utf8(out.into_inner()).ok()?,
         err: String::from_utf8(err.into_inner()).ok()?,

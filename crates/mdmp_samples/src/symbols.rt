@@ -1,6 +1,6 @@
 //! The symbol files that the modules of a dump name.
 
-use crate::digest::{Summary, summary_of};
+use crate::digest::{ByteSummary, summary_of};
 use crate::status::{DIFFERS, UNWRITTEN};
 use mdmp_source::WriteOut;
 use mdmp_tool::run_words;
@@ -14,7 +14,7 @@ pub fn tell_symbols(rt: &HostRuntime, dump: &str) -> Result<(), u8> {
     let status = run_words(rt, rt.alloc(), &["list", dump, "--pdb"], &mut out, &mut err);
     let text = out.into_inner();
     tell_pdb_lines(rt, &text)?;
-    let Some(Summary { size, sha256 }) = summary_of(rt.alloc(), &text) else {
+    let Some(ByteSummary { size, sha256 }) = summary_of(rt.alloc(), &text) else {
         return Err(DIFFERS);
     };
     writeln!(

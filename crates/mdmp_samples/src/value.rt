@@ -2,7 +2,7 @@
 
 use crate::status::{DIFFERS, UNWRITTEN};
 use mdmp_dump::{Stream, read_dump};
-use mdmp_lister::{Choice, Item, Kind, Limits, Lister, StreamItem};
+use mdmp_lister::{Choice, Item, Limits, Lister, StreamItem, StreamKind};
 use mdmp_source::{FileStore, Source};
 use std::alloc::Global;
 use std::io::Write;
@@ -16,14 +16,14 @@ enum Length {
 
 /// What is told of a stream, by the list and by the value.
 #[derive(Clone, Copy, PartialEq, Eq)]
-struct Told {
+struct StreamLength {
     stream_type: u32,
     length: Length,
 }
 
-impl Told {
-    fn records(stream_type: u32, count: usize) -> Told {
-        Told {
+impl StreamLength {
+    fn records(stream_type: u32, count: usize) -> StreamLength {
+        StreamLength {
             stream_type,
             length: Length::Records(count as u64),
         }
@@ -69,7 +69,7 @@ fn totals_of(rt: &HostRuntime, dump: &str) -> Option<Totals> {
 }
 
 /// The streams of a dump's value.
-fn told_by_value(rt: &HostRuntime, dump: &str) -> Option<Vec<Told, Global>> {
+fn told_by_value(rt: &HostRuntime, dump: &str) -> Option<Vec<StreamLength, Global>> {
     let source = Source::new(FileStore::open(rt, dump).ok()?);
     let limits = Limits::default();
     let value = read_dump(rt.alloc(), source, limits, Choice::All, u64::MAX).ok()?;
@@ -89,18 +89,18 @@ pub fn types_of(rt: &HostRuntime, dump: &str) -> Option<Vec<u32, Global>> {
     Some(types)
 }
 
-fn told_of(stream: &Stream<Global>) -> Told {
+fn told_of(stream: &Stream<Global>) -> StreamLength {
     match stream {
-        Stream::Unused => Told::records(0, 0),
-        Stream::Threads(threads) => Told::records(3, threads.as_slice().len()),
-        Stream::Modules(modules) => Told::records(4, modules.as_slice().len()),
-        Stream::Memory(ranges) => Told::records(5, ranges.as_slice().len()),
-        Stream::Exception(_) => Told::records(6, 1),
-        Stream::System(_) => Told::records(7, 1),
-        Stream::Memory64(ranges) => Told::records(9, ranges.as_slice().len()),
-        Stream::Unloaded(modules) => Told::records(14, modules.as_slice().len()),
-        Stream::MemoryInfo(regions) => Told::records(16, regions.as_slice().len()),
-        Stream::Raw(stream_type, bytes) => Told {
+        Stream::Unused => StreamLength::records(0, 0),
+        Stream::Threads(threads) => StreamLength::records(3, threads.as_slice().len()),
+        Stream::Modules(modules) => StreamLength::records(4, modules.as_slice().len()),
+        Stream::Memory(ranges) => StreamLength::records(5, ranges.as_slice().len()),
+        Stream::Exception(_) => StreamLength::records(6, 1),
+        Stream::System(_) => StreamLength::records(7, 1),
+        Stream::Memory64(ranges) => StreamLength::records(9, ranges.as_slice().len()),
+        Stream::Unloaded(modules) => StreamLength::records(14, modules.as_slice().len()),
+        Stream::MemoryInfo(regions) => StreamLength::records(16, regions.as_slice().len()),
+        Stream::Raw(stream_type, bytes) => StreamLength {
             stream_type: *stream_type,
             length: Length::Bytes(bytes.as_slice().len() as u64),
         },
@@ -108,7 +108,7 @@ fn told_of(stream: &Stream<Global>) -> Told {
 }
 
 /// The streams of a dump's list.
-fn told_by_list(rt: &HostRuntime, dump: &str) -> Option<Vec<Told, Global>> {
+fn told_by_list(rt: &HostRuntime, dump: &str) -> Option<Vec<StreamLength, Global>> {
     let source = Source::new(FileStore::open(rt, dump).ok()?);
     let mut lister = Lister::open(rt.alloc(), source, Limits::default(), Choice::All).ok()?;
     let mut streams = Vec::new(rt.alloc());
@@ -123,19 +123,19 @@ fn told_by_list(rt: &HostRuntime, dump: &str) -> Option<Vec<Told, Global>> {
 }
 
 /// A stream of which no record was listed yet. One whose records are never listed has its bytes.
-fn begun(stream: &StreamItem) -> Told {
+fn begun(stream: &StreamItem) -> StreamLength {
     let stream_type = stream.stream_type;
-    if stream_type == 0 || Kind::of_type(stream_type).is_some() {
-        return Told::records(stream_type, 0);
+    if stream_type == 0 || StreamKind::of_type(stream_type).is_some() {
+        return StreamLength::records(stream_type, 0);
     }
-    Told {
+    StreamLength {
         stream_type,
         length: Length::Bytes(u64::from(stream.location.size)),
     }
 }
 
 /// Another record of a stream, or none where its records are not listed.
-fn count_record(stream: &mut Told) -> Option<()> {
+fn count_record(stream: &mut StreamLength) -> Option<()> {
     match &mut stream.length {
         Length::Records(count) => {
             *count = count.saturating_add(1);

@@ -10,8 +10,8 @@ pub record BlockState : Type 0 where
   pub room : ℕ
 
 -- the bytes that it took are those of the inner output and those that are pending; it refuses where that one does
-abbrev pub state_of : BlockState → OutState
-state_of b = record { taken = append_known b.inner.taken b.pending; failures = b.inner.failures }
+abbrev pub output_state : BlockState → OutState
+output_state b = record { taken = append_known b.inner.taken b.pending; failures = b.inner.failures }
 
 -- bytes moved from the front of what was pending to the inner output
 pub record MovesFront (inner_before : OutState) (pending_before : List ℕ) (inner_after : OutState) (pending_after : List ℕ) : Type 0 where

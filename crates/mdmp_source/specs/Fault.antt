@@ -10,7 +10,7 @@ fault_at (ShortRead at) = at
 fault_at (Changed at) = at
 
 -- the cause of a fault of a fetch, of these two: the store failed, or it answered no bytes
-abbrev pub HasCause : SourceFault → Type 0 → Type 0 → Type 0
-HasCause (Failed at) failed empty = failed
-HasCause (ShortRead at) failed empty = empty
-HasCause (Changed at) failed empty = ⊥
+abbrev pub HasFetchCause : SourceFault → Type 0 → Type 0 → Type 0
+HasFetchCause (Failed at) failed empty = failed
+HasFetchCause (ShortRead at) failed empty = empty
+HasFetchCause (Changed at) failed empty = ⊥

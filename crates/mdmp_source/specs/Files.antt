@@ -4,14 +4,14 @@ use Rattle.std.specs.Prelude.{◌≡◌, ◌<◌, ◌+◌, ◌^◌, ℕ, List, N
 use Rattle.std.specs.Io.KnownBytes.{Consumes, IsAtEnd}
 
 -- a file that was sought to this place: the position is that, where positions are known
-abbrev pub IsSought : Option ℕ → Option ℕ → ℕ → Type 0
-IsSought before after at = IfSome before (λ _. after ≡ Some at)
+abbrev pub IsFileSought : Option ℕ → Option ℕ → ℕ → Type 0
+IsFileSought before after at = IfSome before (λ _. after ≡ Some at)
 
 -- `Ok(k)` is the answer of a read behind a seek to this place, both of which succeeded: `found` is the file between the
 -- two, `position` tells where it stands and `left` what it has left, where they are known
 abbrev pub ReadsAt : {F E : Type 0} → (F → Option ℕ) → (F → Option (List ℕ)) → F → ℕ → Result ℕ E → List ℕ → F → Type 0
 ReadsAt {F = F} position left before at result out after = IfOk result (λ k. (found : F)
-    × IsSought (position before) (position found) at
+    × IsFileSought (position before) (position found) at
     × Consumes (left found) (left after) (take k out)
     × (k ≡ 0 → 0 < length out → IsAtEnd (left after)))
 

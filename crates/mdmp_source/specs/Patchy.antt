@@ -12,8 +12,8 @@ pub record PatchyStoreState : Type 0 where
   pub counts : Tally
 
 -- the same as any store: it is reliable where no cap is 0 and no call fails
-abbrev pub state_of : PatchyStoreState → StoreState
-state_of s = record {
+abbrev pub patchy_state : PatchyStoreState → StoreState
+patchy_state s = record {
   content = Some s.bytes;
   size = length s.bytes;
   is_reliable = is_none s.fail_at && list_all (λ cap. nat_lt 0 cap) s.caps;

@@ -2,7 +2,7 @@
 use Rattle.std.specs.Prelude.{◌≡◌, ◌≤◌, ◌+◌, ℕ, None, Option, Some, Result, Ok, Err}
 use Rattle.mdmp_source.specs.Count.{raised, HasRisen}
 use Rattle.mdmp_source.specs.Store.{StoreState}
-use Rattle.mdmp_source.specs.Fault.{HasCause, fault_at}
+use Rattle.mdmp_source.specs.Fault.{HasFetchCause, fault_at}
 use Rattle.mdmp_source.specs.declared.fault.SourceFault.{SourceFault}
 use Rattle.mdmp_source.specs.declared.fault.SourceFault.TheVariants.{Failed, ShortRead, Changed}
 use Rattle.mdmp_source.specs.declared.store.Tally.{Tally}
@@ -47,7 +47,7 @@ FailsOnce (Err (Changed at)) old new = ⊥
 pub record IsTold (fault : SourceFault) (old new : SourceState) : Type 0 where
   pub last : new.fault ≡ Some fault
   pub place : fault_at fault ≡ new.store.counts.place
-  pub cause : HasCause fault
+  pub cause : HasFetchCause fault
       (HasRisen old.store.counts.failures new.store.counts.failures)
       (HasRisen old.store.counts.empties new.store.counts.empties)
 

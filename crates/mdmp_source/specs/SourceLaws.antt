@@ -1,7 +1,7 @@
 -- Fetches one after another.
 use Rattle.std.proofs.Common.{◌≤◌, ◌+◌, ◌∙◌, ℕ, arith}
 use Rattle.mdmp_source.specs.Count.{HasRisen}
-use Rattle.mdmp_source.specs.Fault.{HasCause}
+use Rattle.mdmp_source.specs.Fault.{HasFetchCause}
 use Rattle.mdmp_source.specs.Source.{SourceState, FetchesAtMost, IsTold}
 use Rattle.mdmp_source.specs.declared.fault.SourceFault.{SourceFault}
 use Rattle.mdmp_source.specs.declared.fault.SourceFault.TheVariants.{Failed, ShortRead, Changed}
@@ -26,8 +26,8 @@ risen_later : (a b c : ℕ) → a ≤ b → HasRisen b c → HasRisen a c
 risen_later a b c le risen = omega (arith, le, risen)
 
 cause_later : (fault : SourceFault) (n : ℕ) (a b c : SourceState) → FetchesAtMost n a b
-    → HasCause fault (HasRisen b.store.counts.failures c.store.counts.failures) (HasRisen b.store.counts.empties c.store.counts.empties)
-    → HasCause fault (HasRisen a.store.counts.failures c.store.counts.failures) (HasRisen a.store.counts.empties c.store.counts.empties)
+    → HasFetchCause fault (HasRisen b.store.counts.failures c.store.counts.failures) (HasRisen b.store.counts.empties c.store.counts.empties)
+    → HasFetchCause fault (HasRisen a.store.counts.failures c.store.counts.failures) (HasRisen a.store.counts.empties c.store.counts.empties)
 cause_later (Failed at) n a b c first cause = risen_later a.store.counts.failures b.store.counts.failures c.store.counts.failures first.failures cause
 cause_later (ShortRead at) n a b c first cause = risen_later a.store.counts.empties b.store.counts.empties c.store.counts.empties first.empties cause
 cause_later (Changed at) n a b c first cause = cause

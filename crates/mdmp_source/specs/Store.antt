@@ -57,8 +57,8 @@ place_after (Ok k) at asked before = if (k == 0) && nat_lt 0 asked then at else 
 place_after (Err e) at asked before = at
 
 -- the counts after a call at this place with this answer
-abbrev pub counted : {E : Type 0} → Tally → Result ℕ E → ℕ → ℕ → Tally
-counted before result at asked = record {
+abbrev pub tally_after : {E : Type 0} → Tally → Result ℕ E → ℕ → ℕ → Tally
+tally_after before result at asked = record {
   calls = raised before.calls 1;
   failures = raised_if (is_err result) before.failures;
   empties = raised_if (is_empty_answer result asked) before.empties;
@@ -67,4 +67,4 @@ counted before result at asked = record {
 
 -- the store after a call at this place with this answer: its content stays
 abbrev pub after_call : {E : Type 0} → StoreState → Result ℕ E → ℕ → ℕ → StoreState
-after_call before result at asked = record before { counts = counted before.counts result at asked }
+after_call before result at asked = record before { counts = tally_after before.counts result at asked }

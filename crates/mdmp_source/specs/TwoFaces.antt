@@ -11,8 +11,8 @@ pub record TwoFacesState : Type 0 where
   pub counts : Tally
 
 -- the same as any store: it never fails, and no content is known
-abbrev pub state_of : TwoFacesState → StoreState
-state_of s = record {
+abbrev pub two_faces_state : TwoFacesState → StoreState
+two_faces_state s = record {
   content = None;
   size = length s.first;
   is_reliable = true;

@@ -1,6 +1,6 @@
 //! An output that gathers small writes into blocks.
 ghost use Rattle.std.specs.Prelude.{◌≡◌, ◌≤◌, ◌<◌, ◌+◌, [], ◌↔◌, drop, IsOk, is_err, vec_len, vec_capacity};
-ghost use Rattle.mdmp_source.specs.Blocks.{BlockState, state_of, MovesFront};
+ghost use Rattle.mdmp_source.specs.Blocks.{BlockState, output_state, MovesFront};
 ghost use Rattle.mdmp_source.specs.Output.{refused_if};
 
 use crate::output::{Out, OutFailed, send};
@@ -93,7 +93,7 @@ impl<O: Out, A: Allocator> BlockOut<O, A> {
 }
 
 impl<O: Out, A: Allocator> Out for BlockOut<O, A> {
-    ghost state = { state_of };
+    ghost state = { output_state };
 
     fn write(&mut self, bytes: &[u8]) -> Result<usize, OutFailed> {
         if self.pending.len() == self.room {

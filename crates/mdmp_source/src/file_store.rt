@@ -57,7 +57,7 @@ impl<F: Read + Seek> Store for FileStore<F> {
     ghost use Rattle.std.specs.Prelude.{◌≡◌, ◌≢◌, ◌≤◌, IfOk, None, Some, false, length};
     ghost use Rattle.std.specs.Io.KnownBytes.{ReadConsumes};
     ghost use Rattle.mdmp_source.specs.Files.{ReadsAt, place_behind};
-    ghost use Rattle.mdmp_source.specs.Store.{StoreState, counted};
+    ghost use Rattle.mdmp_source.specs.Store.{StoreState, tally_after};
 
     ghost state = { λ s. record {
       content = None;
@@ -74,7 +74,7 @@ impl<F: Read + Seek> Store for FileStore<F> {
         ensures bound { IfOk result (λ k. k ≤ length out.new) }
         ensures state { self.new ≡ record self.old {
           file = self.new.file;
-          tally = counted self.old.tally result at (length out.new);
+          tally = tally_after self.old.tally result at (length out.new);
           place = place_behind at result;
         } }
         ensures sought { self.old.place ≢ Some at → ReadsAt F.stream_position F.remaining self.old.file at result out.new self.new.file }

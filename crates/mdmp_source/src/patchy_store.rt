@@ -55,10 +55,10 @@ impl<'a> PatchyStore<'a> {
 
 impl Store for PatchyStore<'_> {
     ghost use Rattle.std.specs.Prelude.{◌≡◌, ◌≤◌, ◌<◌, Some, IfOk, IsOk, IsTrue, is_err, length};
-    ghost use Rattle.mdmp_source.specs.Store.{GivesContent, GivesSome, counted};
-    ghost use Rattle.mdmp_source.specs.Patchy.{state_of, is_failing_call, given_count};
+    ghost use Rattle.mdmp_source.specs.Store.{GivesContent, GivesSome, tally_after};
+    ghost use Rattle.mdmp_source.specs.Patchy.{patchy_state, is_failing_call, given_count};
 
-    ghost state = { state_of };
+    ghost state = { patchy_state };
 
     fn size(&self) -> u64 {
         self.bytes.len() as u64
@@ -67,9 +67,9 @@ impl Store for PatchyStore<'_> {
     fn read_at(&mut self, at: u64, out: &mut [u8]) -> Result<usize, StoreFailed>
         ensures bound { IfOk result (λ k. k ≤ length out.new) }
         ensures bytes { GivesContent (Some self.old.bytes) at result out.new }
-        ensures state { self.new ≡ record self.old { counts = counted self.old.counts result at (length out.new) } }
-        ensures never_fails { IsTrue (state_of self.old).is_reliable → IsOk result }
-        ensures gives { IsTrue (state_of self.old).is_reliable → 0 < length out.new → GivesSome (Some self.old.bytes) at result }
+        ensures state { self.new ≡ record self.old { counts = tally_after self.old.counts result at (length out.new) } }
+        ensures never_fails { IsTrue (patchy_state self.old).is_reliable → IsOk result }
+        ensures gives { IsTrue (patchy_state self.old).is_reliable → 0 < length out.new → GivesSome (Some self.old.bytes) at result }
         // What this store says beside any other.
         ensures fails { is_err result ≡ is_failing_call self.old.fail_at self.old.counts.calls }
         ensures count { IfOk result (λ k. k ≡ given_count self.old at (length out.new)) }

@@ -4,7 +4,7 @@ ghost use Rattle.mdmp_source.specs.Count.{raised, HasRisen};
 ghost use Rattle.mdmp_source.specs.Range.{IsInside, IsObtained, bytes_at};
 ghost use Rattle.mdmp_source.specs.Store.{IsSizeOf, IsGood, IsOfBytes};
 ghost use Rattle.mdmp_source.specs.Source.{SourceState, FailsOnce, FetchesAtMost, IsTold, fault_of};
-ghost use Rattle.mdmp_source.specs.Fault.{fault_at, HasCause};
+ghost use Rattle.mdmp_source.specs.Fault.{fault_at, HasFetchCause};
 
 use crate::fault::SourceFault;
 use crate::store::Store;
@@ -128,7 +128,7 @@ impl<S: Store> Source<S> {
 fn fill<S: Store>(store: &mut S, at: u64, out: &mut [u8]) -> Result<(), SourceFault>
     requires { at + length out.old < 2 ^ 64 }
     ensures bytes { OnOk result (IfSome (S.state store.old).content (λ file. out.new ≡ bytes_at file at (length out.new))) }
-    ensures cause { IfErr result (λ fault. HasCause fault
+    ensures cause { IfErr result (λ fault. HasFetchCause fault
         (HasRisen (S.state store.old).counts.failures (S.state store.new).counts.failures)
         (HasRisen (S.state store.old).counts.empties (S.state store.new).counts.empties)) }
     ensures once { FailsOnce result (S.state store.old).counts (S.state store.new).counts }

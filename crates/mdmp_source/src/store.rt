@@ -21,7 +21,7 @@ pub struct Tally {
 
 impl Tally {
     ghost use Rattle.std.specs.Prelude.{◌≡◌};
-    ghost use Rattle.mdmp_source.specs.Store.{counted};
+    ghost use Rattle.mdmp_source.specs.Store.{tally_after};
 
     /// No calls yet.
     pub fn new() -> Self
@@ -37,7 +37,7 @@ impl Tally {
 
     /// Counts a call that was asked for `asked` bytes at the offset `at` and gave this answer.
     pub fn count(&mut self, answer: &Result<usize, StoreFailed>, at: u64, asked: usize)
-        ensures { self.new ≡ counted self.old answer.now at asked }
+        ensures { self.new ≡ tally_after self.old answer.now at asked }
     {
         self.calls = self.calls.saturating_add(1);
         match answer {

@@ -61,10 +61,10 @@ impl<'a> TwoFaces<'a> {
 impl Store for TwoFaces<'_> {
     ghost use Rattle.std.specs.Prelude.{◌≡◌, ◌≤◌, ◌-◌, IfOk, IsOk, length, min, take};
     ghost use Rattle.mdmp_source.specs.Range.{bytes_at};
-    ghost use Rattle.mdmp_source.specs.Store.{GivesContent, counted};
-    ghost use Rattle.mdmp_source.specs.TwoFaces.{state_of, face_of};
+    ghost use Rattle.mdmp_source.specs.Store.{GivesContent, tally_after};
+    ghost use Rattle.mdmp_source.specs.TwoFaces.{two_faces_state, face_of};
 
-    ghost state = { state_of };
+    ghost state = { two_faces_state };
 
     fn size(&self) -> u64 {
         self.first.len() as u64
@@ -72,8 +72,8 @@ impl Store for TwoFaces<'_> {
 
     fn read_at(&mut self, at: u64, out: &mut [u8]) -> Result<usize, StoreFailed>
         ensures bound { IfOk result (λ k. k ≤ length out.new) }
-        ensures bytes { GivesContent (state_of self.old).content at result out.new }
-        ensures state { self.new ≡ record self.old { counts = counted self.old.counts result at (length out.new) } }
+        ensures bytes { GivesContent (two_faces_state self.old).content at result out.new }
+        ensures state { self.new ≡ record self.old { counts = tally_after self.old.counts result at (length out.new) } }
         ensures never_fails { IsOk result }
         // What this store says beside any other.
         ensures count { IfOk result (λ k. k ≡ min (length out.new) (length self.old.first - at)) }

@@ -15,7 +15,7 @@ pub use crate::files::{
     crash_file, entry, faulty_file, file_of_numbers, file_of_parts, header_of, system_file,
 };
 pub use crate::memory_files::{
-    ABCD_RANGE, FourByteRange, NO_RANGE, Range, WXYZ_RANGE, endless_ranges_file, large_file,
+    ABCD_RANGE, FourByteRange, ListedRange, NO_RANGE, WXYZ_RANGE, endless_ranges_file, large_file,
     last_file, memory_file, short_threads_file, two_ranges_file, wide_file,
 };
 pub use crate::module_files::{CODEVIEW_RECORD, module_file};

@@ -106,14 +106,14 @@ pub fn endless_ranges_file(alloc: Global) -> Result<Vec<u8>, AllocError> {
 
 /// A range of a memory list: where it begins, how many bytes it has, and where they stand.
 #[derive(Clone, Copy)]
-pub struct Range {
+pub struct ListedRange {
     pub start: u64,
     pub size: u32,
     pub rva: u32,
 }
 
 /// A range without bytes.
-pub const NO_RANGE: Range = Range {
+pub const NO_RANGE: ListedRange = ListedRange {
     start: 0,
     size: 0,
     rva: 0,
@@ -122,7 +122,7 @@ pub const NO_RANGE: Range = Range {
 /// A file with a memory list of two ranges, and these bytes from 80 on.
 pub fn two_ranges_file(
     alloc: Global,
-    ranges: &[Range; 2],
+    ranges: &[ListedRange; 2],
     bytes: &[u8],
 ) -> Result<Vec<u8>, AllocError> {
     let mut file = file_of_numbers(alloc, 1, &[5, 36, 44, 2])?;

@@ -12,7 +12,7 @@ use Rattle.mdmp_source.specs.Store.{StoreState}
 use Rattle.mdmp_lister.specs.declared.choice.Choice.{Choice}
 use Rattle.mdmp_tool.proofs.Engining.{cause_from}
 use Rattle.mdmp_tool.specs.Causes.{HasOutCause}
-use Rattle.mdmp_tool.specs.Engines.{EndsAtFault, EndsFlushed, IsFirstPart, IsFlushed, IsQuiet, Pace, RefusesWithin, Runs, RunsThrough, StopsShort, Tells, UnlessEarly, Writes, at_the_end, directly, early_text, in_blocks, past_faults, refused, stands, up_to_a_fault}
+use Rattle.mdmp_tool.specs.Engines.{EndsAtFault, EndsFlushed, IsFirstPart, IsFlushed, IsQuiet, Pace, RefusesWithin, Runs, RunsThrough, StopsShort, Tells, UnlessEarly, WritesText, at_the_end, directly, early_text, in_blocks, past_faults, refused, stands, up_to_a_fault}
 
 -- ---- what has been taken, with nothing pending
 
@@ -130,16 +130,16 @@ at_fault past_faults P Q from ends = ends
 at_fault at_the_end P Q from ends = from ends
 
 -- whatever the answer, what was written is a prefix of the text
-Writes-prefix : {T : Type 0} (pace : Pace) (text : List ℕ) (a b : OutState) (r : Result T ToolFault) → Writes pace text a r b → TakesPrefix a.taken text b.taken
-Writes-prefix pace text a b (Ok x) put = all a.taken b.taken text put.took
-Writes-prefix pace text a b (Err (BadList f)) ends = let put = ended pace (PutsAll a text b) ends in all a.taken b.taken text put.took
-Writes-prefix pace text a b (Err (Opening f)) put = nothing a.taken b.taken text put.took
-Writes-prefix pace text a b (Err Memory) put = nothing a.taken b.taken text put.took
-Writes-prefix up_to_a_fault text a b (Err (Source f)) short = short.took
-Writes-prefix past_faults text a b (Err (Source f)) short = short.took
-Writes-prefix at_the_end text a b (Err (Source f)) short = none_of a.taken b.taken text short.took
-Writes-prefix pace text a b (Err Out) cut = cut.took
-Writes-prefix pace text a b (Err fault) never = absurd never
+WritesText-prefix : {T : Type 0} (pace : Pace) (text : List ℕ) (a b : OutState) (r : Result T ToolFault) → WritesText pace text a r b → TakesPrefix a.taken text b.taken
+WritesText-prefix pace text a b (Ok x) put = all a.taken b.taken text put.took
+WritesText-prefix pace text a b (Err (BadList f)) ends = let put = ended pace (PutsAll a text b) ends in all a.taken b.taken text put.took
+WritesText-prefix pace text a b (Err (Opening f)) put = nothing a.taken b.taken text put.took
+WritesText-prefix pace text a b (Err Memory) put = nothing a.taken b.taken text put.took
+WritesText-prefix up_to_a_fault text a b (Err (Source f)) short = short.took
+WritesText-prefix past_faults text a b (Err (Source f)) short = short.took
+WritesText-prefix at_the_end text a b (Err (Source f)) short = none_of a.taken b.taken text short.took
+WritesText-prefix pace text a b (Err Out) cut = cut.took
+WritesText-prefix pace text a b (Err fault) never = absurd never
 
 -- the count of refusals does not fall, and the loans stay
 record IsSince (before after : Refusals) : Type 0 where
@@ -167,7 +167,7 @@ Runs-flushed {T = T} F choice Ends pace text a b c old pending left r s none mov
   flush = record { none = none; moved = moved }
 
   cut : HasRefused a.failures c.failures → RefusesWithin a text c
-  cut risen = part_out a b c old pending left text flush risen (Writes-prefix pace text (with_pending a old) (with_pending b pending) r run.writes)
+  cut risen = part_out a b c old pending left text flush risen (WritesText-prefix pace text (with_pending a old) (with_pending b pending) r run.writes)
 
   put : (whole : List ℕ) → left ≡ [] → c.failures ≡ b.failures → PutsAll (with_pending a old) whole (with_pending b pending) → PutsAll a whole c
   put whole = all_out a b c old pending left whole flush

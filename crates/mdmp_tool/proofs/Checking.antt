@@ -14,7 +14,7 @@ use Rattle.mdmp_lister.specs.declared.fault.FaultKind.TheVariants as kinds
 use Rattle.mdmp_lister.specs.declared.fault.ListFault.{ListFault}
 use Rattle.mdmp_lister.specs.declared.sink.Stopped.{Stopped}
 use Rattle.mdmp_lister.specs.declared.verdict.Verdict.{Verdict}
-use Rattle.mdmp_lister.specs.Fault.{IsOfSource, IsToldBy, IsToldIn}
+use Rattle.mdmp_lister.specs.Fault.{IsOfSource, IsToldByFetch, IsToldIn}
 use Rattle.mdmp_lister.specs.Format.Listing.{Numbered, entries_from, entry_count, only_chosen, verdicts}
 use Rattle.mdmp_lister.specs.Sink.{Taken, TakenToStop}
 use Rattle.mdmp_dump.specs.Reading.{IsLastTold}
@@ -113,12 +113,12 @@ bad_entries F limit =
 
 -- ---- a fault of the store, as it is told
 
-last_told : (e : Entry) (s : SourceFault) (old new : SourceState) → IsToldBy e (kinds.Source s) old new → IsLastTold s old new
+last_told : (e : Entry) (s : SourceFault) (old new : SourceState) → IsToldByFetch e (kinds.Source s) old new → IsLastTold s old new
 last_told e (Changed at) old new told = told.0
 last_told e s old new told = told
 
 pub told-cause : (e : Entry) (f : ListFault) (s : SourceFault) (old new : SourceState) → f.kind ≡ kinds.Source s → IsToldIn e f old new → IsLastTold s old new
-told-cause e f s old new is told = last_told e s old new (subst (λ (kind : FaultKind). IsToldBy e kind old new) is told.by)
+told-cause e f s old new is told = last_told e s old new (subst (λ (kind : FaultKind). IsToldByFetch e kind old new) is told.by)
 
 pub told-source : {T : Type 0} (P : Result T ToolFault → Type 0) (fault : ListFault) (kind : FaultKind) → IsOfSource kind
     → ((s : SourceFault) → kind ≡ kinds.Source s → P (Err (Source s))) → P (Err (told_by kind fault))

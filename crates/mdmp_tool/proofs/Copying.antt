@@ -30,7 +30,7 @@ use Rattle.mdmp_dump.specs.InFile.{dump_in}
 use Rattle.mdmp_dump.specs.LaysOut.{LaysOut}
 use Rattle.mdmp_dump.specs.Opening.{HasSpentOpening}
 use Rattle.mdmp_dump.specs.Reading.{IsLastTold, IsOwn, MayBeTold, TellsOf, store_fault, store_fault_in}
-use Rattle.mdmp_dump.specs.Shape.{Shape}
+use Rattle.mdmp_dump.specs.Shape.{ViewShape}
 use Rattle.mdmp_writer.specs.Writing.{GoesOut}
 use Rattle.mdmp_tool.specs.declared.fault.ToolFault.{ToolFault}
 use Rattle.mdmp_tool.specs.declared.fault.ToolFault.TheVariants as tool
@@ -60,7 +60,7 @@ of_store (kinds.Source f) fault is = tt
 of_store kind fault is = none-some fault is
 
 -- over a view that never answers a fault no fault of the store is told
-pub reliable_copied : (shape : Shape) (before after : OutState) (r : Result ℕ ToolFault) → IsShapeCopied shape before r after → IsTrue shape.is_reliable → IsNoSourceFault r
+pub reliable_copied : (shape : ViewShape) (before after : OutState) (r : Result ℕ ToolFault) → IsShapeCopied shape before r after → IsTrue shape.is_reliable → IsNoSourceFault r
 reliable_copied shape before after (Err (tool.Source fault)) ends reliable = let never = ends.1 in cc
 reliable_copied shape before after r ends reliable = tt
 
@@ -104,7 +104,7 @@ unfolding costs_in
 unspent source choice = record { entries = 0; chosen_are = []; reached = []; few = omega arith; fetched = omega arith; of_file = λ F known. omega arith }
 
 -- what was written fits the shape
-pub shape_copied : (shape : Shape) (before after : OutState) (r : Result ℕ ToolFault) → IsShapeCopied shape before r after → IsOfShape shape r
+pub shape_copied : (shape : ViewShape) (before after : OutState) (r : Result ℕ ToolFault) → IsShapeCopied shape before r after → IsOfShape shape r
 shape_copied shape before after (Ok size) ends = ends.0
 shape_copied shape before after (Err (tool.Layout fault)) ends = ends.0
 shape_copied shape before after (Err tool.Out) ends = ends.0
@@ -135,7 +135,7 @@ cause_copied source w v first last r opened none moved told = tt
 -- ---- what is answered
 
 -- nothing is said of a view where there is none
-no_shape : Shape
+no_shape : ViewShape
 no_shape = record { header = record { version_high = 0; checksum = 0; time = 0; flags = 0 }; streams = []; costs = []; is_reliable = false; seen = None }
 
 -- a type is refused
@@ -154,7 +154,7 @@ Copies-not Z content file_size types limit before t is = record {
 
 module _ (Z : Type 0) (content : Option (List ℕ)) (file_size : ℕ) (types : List ℕ) (limit : ℕ) (before : OutState) (all : first_not_copied types ≡ None) where
   -- a view of the file was written
-  module _ (shape : Shape) (after : OutState) (laid_out : (F : List ℕ) → content ≡ Some F → LaysOut F (Types types) (dump_in {Z = Z} F (Types types)))
+  module _ (shape : ViewShape) (after : OutState) (laid_out : (F : List ℕ) → content ≡ Some F → LaysOut F (Types types) (dump_in {Z = Z} F (Types types)))
       (within : (F : List ℕ) → content ≡ Some F → view_refusal F (Types types) limit ≡ None) (long : file_size < 32 → ⊥) where
     copy : (r : Result ℕ ToolFault) (F : List ℕ) → content ≡ Some F → IsDumpCopied (dump_in {Z = Z} F (Types types)) before r after → IsCopy Z F types limit before r after
     copy r F known copied = record { within = within F known; laid_out = laid_out F known; copied = copied }

@@ -15,7 +15,7 @@ use Rattle.mdmp_tool.specs.declared.fault.ToolFault.TheVariants.{List as BadList
 use Rattle.mdmp_tool.proofs.Engining.{StopsShort-none, StopsShort-nothing}
 use Rattle.mdmp_tool.specs.HexRuns.{HexesMemory, HexesRun, run_hex_text}
 use Rattle.mdmp_tool.specs.HexText.{hex_text}
-use Rattle.mdmp_tool.specs.Telling.{list_told, told_by}
+use Rattle.mdmp_tool.specs.Telling.{listing_told, told_by}
 
 -- what was printed by the ranges of all items
 pub HexesRun-printed : (F : List ℕ) (ranges : List Range) (left : Run) (address count : ℕ) (before after : OutState) (r : Result (Unit {0}) ToolFault) → left.fault ≡ None → ranges ≡ ranges_of left.items
@@ -49,7 +49,7 @@ HexesRun-told F left address count before fault kind ends = by kind ends where
   by kinds.NameUnitsOutside ends = faulty (ends (λ x. x))
 
 pub HexesRun-faulty : (F : List ℕ) (left : Run) (address count : ℕ) (before : OutState) (fault : ListFault) → ((IsOfSource fault.kind → ⊥) → left.fault ≡ Some fault)
-    → HexesRun F left address count before (Err (list_told fault)) before
+    → HexesRun F left address count before (Err (listing_told fault)) before
 HexesRun-faulty F left address count before fault = HexesRun-told F left address count before fault fault.kind
 
 -- there was no memory for the bytes

@@ -9,28 +9,28 @@ use Rattle.mdmp_lister.specs.Format.Listing.{Run}
 use Rattle.mdmp_tool.specs.declared.fault.ToolFault.{ToolFault}
 use Rattle.mdmp_tool.specs.declared.fault.ToolFault.TheVariants.{List as BadList, Source, Out}
 use Rattle.mdmp_tool.proofs.Engining.{cause_from}
-use Rattle.mdmp_tool.specs.Engines.{IsBehind, Leaves, Writes, up_to_a_fault}
+use Rattle.mdmp_tool.specs.Engines.{IsBehind, Leaves, WritesText, up_to_a_fault}
 use Rattle.mdmp_tool.specs.Lines.{dump_line}
 use Rattle.mdmp_tool.specs.Text.{run_text}
 use Rattle.mdmp_tool.specs.Runs.{ListEnds, ListsRun, ListsFile}
 
-Writes-behind : (run : Run) (head text : List ℕ) (before now after : OutState) (r : Result (Unit {0}) ToolFault) → ListEnds run r
-    → PutsAll before head now → Writes up_to_a_fault text now r after → Writes up_to_a_fault (head ++ text) before r after
-Writes-behind run head text before now after (Ok x) ends first put = PutsAll-PutsAll before now after head text first put
-Writes-behind run head text before now after (Err (BadList f)) ends first put = PutsAll-PutsAll before now after head text first put
-Writes-behind run head text before now after (Err (Source f)) ends first short = record {
+WritesText-behind : (run : Run) (head text : List ℕ) (before now after : OutState) (r : Result (Unit {0}) ToolFault) → ListEnds run r
+    → PutsAll before head now → WritesText up_to_a_fault text now r after → WritesText up_to_a_fault (head ++ text) before r after
+WritesText-behind run head text before now after (Ok x) ends first put = PutsAll-PutsAll before now after head text first put
+WritesText-behind run head text before now after (Err (BadList f)) ends first put = PutsAll-PutsAll before now after head text first put
+WritesText-behind run head text before now after (Err (Source f)) ends first short = record {
   took = TakesPrefix-last before.taken now.taken after.taken head text first.took short.took;
   steady = short.steady ∙ first.steady;
 }
-Writes-behind run head text before now after (Err Out) ends first cut = PutsPrefix-last before now after head text first cut
-Writes-behind run head text before now after (Err f) ends first put = absurd ends
+WritesText-behind run head text before now after (Err Out) ends first cut = PutsPrefix-last before now after head text first cut
+WritesText-behind run head text before now after (Err f) ends first put = absurd ends
 
 -- the items behind the line of the header
 pub ListsFile-behind : (pdb : Bool) (F : List ℕ) (limit : ℕ) (h : Header) (run : Run) (before now after : OutState) (r : Result (Unit {0}) ToolFault)
     → PutsAll before (dump_line h) now → ListsRun pdb F limit run now r after → ListsFile pdb F limit h run before r after
 ListsFile-behind pdb F limit h run before now after r head listed = record {
   ends = listed.ends;
-  writes = Writes-behind run (dump_line h) (run_text pdb F limit run) before now after r listed.ends head listed.writes;
+  writes = WritesText-behind run (dump_line h) (run_text pdb F limit run) before now after r listed.ends head listed.writes;
 }
 
 -- the end of the items is that of all that is printed

@@ -12,7 +12,7 @@ use Rattle.mdmp_words.specs.declared.request.Print.{Print}
 use Rattle.mdmp_words.specs.declared.request.Print.TheVariants.{Check, List as Listing, Hex}
 use Rattle.mdmp_tool.specs.Causes.{HasOutCause}
 use Rattle.mdmp_tool.specs.Commands.{HasPrinted, HasRun}
-use Rattle.mdmp_tool.specs.Engines.{IsFlushed, Pace, RefusesWithin, RunsThrough, StopsShort, Tells, Writes, in_blocks}
+use Rattle.mdmp_tool.specs.Engines.{IsFlushed, Pace, RefusesWithin, RunsThrough, StopsShort, Tells, WritesText, in_blocks}
 use Rattle.mdmp_tool.proofs.BlockLemmas.{at_fault, quiet_from}
 
 -- ---- the loans stay
@@ -54,7 +54,7 @@ module _ (name : ℕ) (a b : OutState) where
   refuses_within text cut = record { within = cut.within; refused = more_refusals cut.refused }
 
   module _ {T : Type 0} (pace : Pace) where
-    writes_lent : (text : List ℕ) (r : Result T ToolFault) → Writes pace text (lent name a) r (lent name b) → Writes pace text a r b
+    writes_lent : (text : List ℕ) (r : Result T ToolFault) → WritesText pace text (lent name a) r (lent name b) → WritesText pace text a r b
     writes_lent text (Ok x) put = puts_all text put
     writes_lent text (Err (BadList f)) put = at_fault pace _ _ (puts_all text) put
     writes_lent text (Err (Opening f)) put = puts_all [] put

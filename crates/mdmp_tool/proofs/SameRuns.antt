@@ -9,7 +9,7 @@ use Rattle.mdmp_lister.specs.declared.fault.OpenFault.TheVariants as opening
 use Rattle.mdmp_lister.specs.declared.limits.Limits.{Limits}
 use Rattle.mdmp_lister.specs.Lister.{IsSameLister, ListerState, ReadsAside}
 use Rattle.mdmp_tool.specs.declared.fault.ToolFault.{ToolFault}
-use Rattle.mdmp_tool.specs.Engines.{EndsFlushed, IsEarly, IsSameRun, IsThrough}
+use Rattle.mdmp_tool.specs.Engines.{EndsFlushed, IsEarly, IsSameRun, IsReadThrough}
 use Rattle.mdmp_tool.specs.Telling.{opening_told}
 
 -- ---- a lister that a command was given
@@ -40,7 +40,7 @@ early_opening T fault = tt
 
 -- so it is where the flush was refused
 pub through_flushed : {T : Type 0} (limits : Limits) (old new : SourceState) (answer flushed : Result T ToolFault) (before after : OutState)
-    → EndsFlushed answer flushed before after → IsThrough limits old answer new → IsThrough limits old flushed new
-through_flushed limits old new answer flushed before after ends (IsThrough.listed is) = IsThrough.listed is
-through_flushed limits old new answer flushed before after (EndsFlushed.stands is same) (IsThrough.refused asked early most inside) = IsThrough.refused asked (subst IsEarly (sym is) early) most inside
-through_flushed limits old new answer flushed before after (EndsFlushed.refused is same) (IsThrough.refused asked early most inside) = IsThrough.refused asked (subst IsEarly (sym is) tt) most inside
+    → EndsFlushed answer flushed before after → IsReadThrough limits old answer new → IsReadThrough limits old flushed new
+through_flushed limits old new answer flushed before after ends (IsReadThrough.listed is) = IsReadThrough.listed is
+through_flushed limits old new answer flushed before after (EndsFlushed.stands is same) (IsReadThrough.refused asked early most inside) = IsReadThrough.refused asked (subst IsEarly (sym is) early) most inside
+through_flushed limits old new answer flushed before after (EndsFlushed.refused is same) (IsReadThrough.refused asked early most inside) = IsReadThrough.refused asked (subst IsEarly (sym is) tt) most inside

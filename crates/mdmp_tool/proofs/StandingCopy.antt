@@ -4,7 +4,7 @@ use Rattle.std.specs.Prelude.{Result, Ok, Err}
 use Rattle.std.proofs.lemmas.Option.{none-some}
 use Rattle.mdmp_source.specs.Output.{OutState, TakesPrefix}
 use Rattle.mdmp_source.specs.Store.{StoreState}
-use Rattle.mdmp_disk.specs.Disk.{FileAt, IsOpened, absent, bytes_of, present, unknown}
+use Rattle.mdmp_disk.specs.Disk.{FileAt, IsOpenedFile, absent, bytes_of_file, present, unknown}
 use Rattle.mdmp_tool.specs.declared.fault.ToolFault.{ToolFault}
 use Rattle.mdmp_tool.specs.declared.fault.ToolFault.TheVariants as tool
 use Rattle.mdmp_lister.specs.declared.limits.Limits.{Limits}
@@ -14,7 +14,7 @@ use Rattle.mdmp_tool.specs.Standing.{CopyStands, Knows, Stands}
 use Rattle.mdmp_tool.specs.Words.{CopiesTo, DiskChange, Outputs}
 
 -- a store over a file whose bytes are known has them
-content_known : (found : FileAt) (store : StoreState) (F : List ℕ) → bytes_of found ≡ Some F → IsOpened found store → store.content ≡ Some F
+content_known : (found : FileAt) (store : StoreState) (F : List ℕ) → bytes_of_file found ≡ Some F → IsOpenedFile found store → store.content ≡ Some F
 content_known unknown store F known opened = absurd (none-some F known)
 content_known absent store F known opened = absurd opened
 content_known (present file) store F known opened = opened.same_content ∙ known

@@ -34,7 +34,7 @@ use Rattle.mdmp_tool.specs.Causes.{HasSourceCause}
 use Rattle.mdmp_tool.specs.Engines.{EndsAtFault, IsBehind, Leaves, Pace, UnlessEarly, up_to_a_fault}
 use Rattle.mdmp_tool.specs.ItemLines.{item_line}
 use Rattle.mdmp_tool.specs.Runs.{ListsNext, PutsSymbols}
-use Rattle.mdmp_tool.specs.Telling.{list_told, told_by}
+use Rattle.mdmp_tool.specs.Telling.{listing_told, told_by}
 use Rattle.mdmp_tool.specs.Text.{inside_only, item_lines, next_lines, symbols_of, symbols_text}
 use Rattle.mdmp_tool.proofs.Checking.{told-cause}
 use Rattle.mdmp_tool.proofs.Engining.{StopsShort-nothing, cause_from}
@@ -109,7 +109,7 @@ module _ (pdb : Bool) (F : List ℕ) (limit : ℕ) (left : Run) (x : Item) (firs
 
 -- no item stood before the fault, or the store failed
 pub ListsNext-fault : (pdb : Bool) (F : List ℕ) (limit : ℕ) (left : Run) (now : OutState) (f : ListFault) → Gives left (Err f)
-    → ListsNext pdb F limit left now (Err (list_told f)) now
+    → ListsNext pdb F limit left now (Err (listing_told f)) now
 ListsNext-fault pdb F limit left now f gives = by f.kind gives where
   by : (kind : FaultKind) → ((IsOfSource kind → ⊥) → left ≡ only_fault f) → ListsNext pdb F limit left now (Err (told_by kind f)) now
   by (kinds.Source fault) gives = StopsShort-nothing now (next_lines pdb F limit left)
@@ -118,7 +118,7 @@ ListsNext-fault pdb F limit left now f gives = by f.kind gives where
 -- and no byte went out before it
 pub Leaves-listed : {T : Type 0} (pace : Pace) (untouched : Type 0) (e : Entry) (f : ListFault) (old new : SourceState) (out : OutState) → FetchesSome old new → IsToldIn e f old new
     → ((file : List ℕ) → IsGood old.store file → IsOfSource f.kind → ⊥) → FitsFile old.size f → UnlessEarly pace untouched → EndsAtFault pace (UnlessEarly pace untouched)
-    → Leaves {T = T} pace untouched old out (Err (list_told f)) new out
+    → Leaves {T = T} pace untouched old out (Err (listing_told f)) new out
 Leaves-listed {T} pace untouched e f old new out some told good fits quiet ends = by f.kind refl where
   by : (kind : FaultKind) → f.kind ≡ kind → Leaves {T = T} pace untouched old out (Err (told_by kind f)) new out
   by (kinds.Source fault) is = record {

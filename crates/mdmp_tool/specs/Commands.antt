@@ -11,8 +11,8 @@ use Rattle.mdmp_tool.specs.Causes.{IsNoSourceFault}
 use Rattle.mdmp_tool.specs.CheckRuns.{ChecksThrough}
 use Rattle.mdmp_tool.specs.CheckText.{bad_text}
 use Rattle.mdmp_tool.specs.Copying.{Copies, SpendsCopy, first_not_copied}
-use Rattle.mdmp_tool.specs.Engines.{IsThrough, Pace, Reads, Tells, at_the_end, in_blocks, past_faults, up_to_a_fault}
-use Rattle.mdmp_tool.specs.Faults.{fault_text, status_of}
+use Rattle.mdmp_tool.specs.Engines.{IsReadThrough, Pace, ReadsSource, Tells, at_the_end, in_blocks, past_faults, up_to_a_fault}
+use Rattle.mdmp_tool.specs.Faults.{fault_text, exit_status}
 use Rattle.mdmp_tool.specs.HexRuns.{HexesThrough}
 use Rattle.mdmp_tool.specs.Lines.{error_line}
 use Rattle.mdmp_tool.specs.Runs.{ListsThrough}
@@ -20,18 +20,18 @@ use Rattle.mdmp_tool.specs.Runs.{ListsThrough}
 -- ---- what is told of an answer
 
 -- a line was told: all of it, or the first part where the output refused
-abbrev pub IsTold : OutState → List ℕ → OutState → Type 0
-IsTold before text after = PutsAll before (error_line text) after ⊎ PutsPrefix before (error_line text) after
+abbrev pub IsLineTold : OutState → List ℕ → OutState → Type 0
+IsLineTold before text after = PutsAll before (error_line text) after ⊎ PutsPrefix before (error_line text) after
 
 -- status 0 where all went well, and nothing is told; or the fault is told, and the status is its own
 abbrev pub IsEnd : {T : Type 0} → Result T ToolFault → ℕ → OutState → OutState → Type 0
 IsEnd (Ok x) status before after = (status ≡ 0) × (after ≡ before)
-IsEnd (Err fault) status before after = (status ≡ status_of fault) × IsTold before (fault_text fault) after
+IsEnd (Err fault) status before after = (status ≡ exit_status fault) × IsLineTold before (fault_text fault) after
 
 -- of a check: where entries are bad the status is 1, and how many is told
 abbrev pub IsCheckEnd : Result ℕ ToolFault → ℕ → OutState → OutState → Type 0
 IsCheckEnd (Ok zero) status before after = (status ≡ 0) × (after ≡ before)
-IsCheckEnd (Ok (suc n)) status before after = (status ≡ 1) × IsTold before (bad_text (suc n)) after
+IsCheckEnd (Ok (suc n)) status before after = (status ≡ 1) × IsLineTold before (bad_text (suc n)) after
 IsCheckEnd (Err fault) status before after = IsEnd {T = ℕ} (Err fault) status before after
 
 -- ---- commands
@@ -43,8 +43,8 @@ pub record HasRun {T : Type 0} (limits : Limits) (End : Result T ToolFault → �
   pub ends : End answer status err_before err_after
   pub writes : (file : List ℕ) → old.store.content ≡ Some file → Through file before answer after
   pub tells : Tells in_blocks pace old.store old.size before answer after
-  pub reads : Reads old answer new
-  pub through : IsThrough limits old answer new
+  pub reads : ReadsSource old answer new
+  pub through : IsReadThrough limits old answer new
 
 -- a command that prints, over a source and through blocks, within these limits
 abbrev pub HasPrinted : Print → Limits → SourceState → OutState → OutState → ℕ → SourceState → OutState → OutState → Type 0
@@ -58,6 +58,6 @@ pub record HasCopied (Z : Type 0) (types : List ℕ) (limits : Limits) (old : So
   pub ends : IsEnd answer status err_before err_after
   pub copies : Copies Z old.store.content old.size types limits.name before answer after
   pub good : (file : List ℕ) → IsGood old.store file → IsNoSourceFault answer
-  pub reads : Reads old answer new
+  pub reads : ReadsSource old answer new
   pub unread : (t : ℕ) → first_not_copied types ≡ Some t → new ≡ old
   pub spends : SpendsCopy Z types limits.window old answer new

@@ -17,7 +17,7 @@ use Rattle.mdmp_dump.specs.FileRefusal.{view_refusal}
 use Rattle.mdmp_dump.specs.InFile.{dump_in}
 use Rattle.mdmp_dump.specs.LaysOut.{LaysOut}
 use Rattle.mdmp_dump.specs.Opening.{HasSpentOpening, opening_bound}
-use Rattle.mdmp_dump.specs.Shape.{IsViewOf, Shape}
+use Rattle.mdmp_dump.specs.Shape.{IsViewOf, ViewShape}
 use Rattle.mdmp_writer.specs.Layout.{layout_fault, shape_fault, size_answer, written_size}
 use Rattle.mdmp_writer.specs.Passes.{all_asks, all_costs}
 use Rattle.mdmp_writer.specs.Writing.{GoesOut}
@@ -30,12 +30,12 @@ use Rattle.mdmp_tool.specs.Engines.{StopsShort}
 -- ---- types
 
 -- comments, and numbers of the process: no offsets into the file
-abbrev pub is_plain : ℕ → Bool
-is_plain t = t == 10 || t == 11 || t == 15
+abbrev pub is_plain_type : ℕ → Bool
+is_plain_type t = t == 10 || t == 11 || t == 15
 
 -- streams of this type are copied: unused ones, those whose records are known, plain ones, and those of users
 abbrev pub is_copied : ℕ → Bool
-is_copied t = t == 0 || is_known t || is_plain t || nat_lt 65535 t
+is_copied t = t == 0 || is_known t || is_plain_type t || nat_lt 65535 t
 
 -- the first of some types whose streams are not copied
 unfoldable pub first_not_copied : List ℕ → Option ℕ
@@ -52,7 +52,7 @@ refused_type answer = None
 -- a view of this shape was written, whatever it gives: the size, or the reason why it can't be written, is that of the shape,
 -- and then nothing went out. It stops only where the output refused, or behind a fault of the view, which a reliable one has
 -- not, and then the output is not at fault.
-abbrev pub IsShapeCopied : Shape → OutState → Result ℕ ToolFault → OutState → Type 0
+abbrev pub IsShapeCopied : ViewShape → OutState → Result ℕ ToolFault → OutState → Type 0
 IsShapeCopied shape before (Ok size) after = (size_answer shape.streams ≡ Ok size) × (after.failures ≡ before.failures)
 IsShapeCopied shape before (Err (tool.Layout fault)) after = (size_answer shape.streams ≡ Err fault) × (after ≡ before)
 IsShapeCopied shape before (Err tool.Out) after = (shape_fault shape.streams ≡ None) × HasRefused before.failures after.failures
@@ -77,17 +77,17 @@ IsToldByView answer last = Unit {0}
 -- ---- of whatever file
 
 -- the fault is a record's: a part outside the file, or a name that is too long
-abbrev pub IsOfRecord : ReadFault → Type 0
-IsOfRecord (reads.PartOutside e k part offset size) = Unit {0}
-IsOfRecord (reads.NameTooLong e k length) = Unit {0}
-IsOfRecord fault = ⊥
+abbrev pub IsRecordRefusal : ReadFault → Type 0
+IsRecordRefusal (reads.PartOutside e k part offset size) = Unit {0}
+IsRecordRefusal (reads.NameTooLong e k length) = Unit {0}
+IsRecordRefusal fault = ⊥
 
 -- a file of `size` bytes that is refused may be, and what is told of it is its own: of its opening no count of ranges, of its
 -- listing no fault of the store, of a record its part or its name
 abbrev pub IsCopyRefusal : ℕ → Result ℕ ToolFault → Type 0
 IsCopyRefusal size (Err (tool.Opening fault)) = IsOfFile fault × IsBareRefusal size fault
 IsCopyRefusal size (Err (tool.List fault)) = IsListTold size fault
-IsCopyRefusal size (Err (tool.Reading fault)) = IsOfRecord fault
+IsCopyRefusal size (Err (tool.Reading fault)) = IsRecordRefusal fault
 IsCopyRefusal size answer = Unit {0}
 
 -- nothing went out where the file is refused, where its dump can't be written, without memory and where a type is not copied
@@ -98,14 +98,14 @@ IsQuietCopy (Err (tool.Source fault)) untouched = Unit {0}
 IsQuietCopy (Err fault) untouched = untouched
 
 -- the size, or the reason why there is none, is that of some view
-abbrev pub IsOfShape : Shape → Result ℕ ToolFault → Type 0
+abbrev pub IsOfShape : ViewShape → Result ℕ ToolFault → Type 0
 IsOfShape shape (Ok size) = size_answer shape.streams ≡ Ok size
 IsOfShape shape (Err (tool.Layout fault)) = size_answer shape.streams ≡ Err fault
 IsOfShape shape (Err tool.Out) = shape_fault shape.streams ≡ None
 IsOfShape shape answer = Unit {0}
 
 pub record HasShape (before : OutState) (answer : Result ℕ ToolFault) (after : OutState) : Type 0 where
-  pub shape : Shape
+  pub shape : ViewShape
   pub size : IsOfShape shape answer
   -- as many bytes went out as it answers, which begin with the header and the directory of that view
   pub out : IfOk answer (λ size. GoesOut shape size before after)
@@ -120,7 +120,7 @@ IsUnopened answer = Unit {0}
 -- what was fetched for a copy: to open a view of this shape the header, the directory and what a pass over each stream costs;
 -- to write it two passes more at most, and the bytes of names, parts and raw streams
 pub record HasSpent (Z : Type 0) (types : List ℕ) (window : ℕ) (old : SourceState) (answer : Result ℕ ToolFault) (new : SourceState) : Type 0 where
-  pub shape : Shape
+  pub shape : ViewShape
   pub size : IsOfShape shape answer
   -- the walk under the view, which was opened over that source through a window of so many bytes
   pub walk : WalkState

@@ -47,14 +47,14 @@ EndsAtFault at_the_end ends = ends
 
 -- the text was written, up to the fault of the listing that ends it or whole; nothing where the file is refused or memory is
 -- wanting; the first part of it behind a fault of the store, if it is printed early; else the first part up to a refusal
-abbrev pub Writes : {T : Type 0} → Pace → List ℕ → OutState → Result T ToolFault → OutState → Type 0
-Writes pace text before (Ok x) after = PutsAll before text after
-Writes pace text before (Err (BadList fault)) after = EndsAtFault pace (PutsAll before text after)
-Writes pace text before (Err (Opening fault)) after = PutsAll before [] after
-Writes pace text before (Err Memory) after = PutsAll before [] after
-Writes pace text before (Err (Source fault)) after = StopsShort before (early_text pace text) after
-Writes pace text before (Err Out) after = PutsPrefix before text after
-Writes pace text before (Err fault) after = ⊥
+abbrev pub WritesText : {T : Type 0} → Pace → List ℕ → OutState → Result T ToolFault → OutState → Type 0
+WritesText pace text before (Ok x) after = PutsAll before text after
+WritesText pace text before (Err (BadList fault)) after = EndsAtFault pace (PutsAll before text after)
+WritesText pace text before (Err (Opening fault)) after = PutsAll before [] after
+WritesText pace text before (Err Memory) after = PutsAll before [] after
+WritesText pace text before (Err (Source fault)) after = StopsShort before (early_text pace text) after
+WritesText pace text before (Err Out) after = PutsPrefix before text after
+WritesText pace text before (Err fault) after = ⊥
 
 -- ---- what a command is given
 
@@ -86,7 +86,7 @@ unless_refused (Some fault) text = []
 pub record Runs {T : Type 0} (F : List ℕ) (choice : Choice) (Ends : Result T ToolFault → Type 0) (pace : Pace) (text : List ℕ) (before : OutState)
     (answer : Result T ToolFault) (after : OutState) : Type 0 where
   pub says : Says F choice Ends answer
-  pub writes : Writes pace text before answer after
+  pub writes : WritesText pace text before answer after
 
 -- ---- the same through blocks
 
@@ -125,9 +125,9 @@ pub data Way : Type 0 where
   in_blocks : Way
 
 -- a file of so few bytes is told as that, unless the flush was refused
-abbrev pub IsShort : {T : Type 0} → Way → ℕ → Result T ToolFault → Type 0
-IsShort directly size answer = answer ≡ Err (Opening (TooShort size))
-IsShort in_blocks size answer = (answer ≡ Err (Opening (TooShort size))) ⊎ (answer ≡ Err Out)
+abbrev pub IsTooShort : {T : Type 0} → Way → ℕ → Result T ToolFault → Type 0
+IsTooShort directly size answer = answer ≡ Err (Opening (TooShort size))
+IsTooShort in_blocks size answer = (answer ≡ Err (Opening (TooShort size))) ⊎ (answer ≡ Err Out)
 
 -- nothing was written: the output is as it was; the one behind blocks took nothing and did not refuse
 abbrev pub IsUntouched : Way → OutState → OutState → Type 0
@@ -157,13 +157,13 @@ pub record Tells {T : Type 0} (way : Way) (pace : Pace) (store : StoreState) (si
   -- over a good store all bytes are obtained
   pub good : (file : List ℕ) → IsGood store file → IsNoSourceFault answer
   pub refusal : IsRefusal size answer
-  pub short : size < 32 → IsShort way size answer
+  pub short : size < 32 → IsTooShort way size answer
   pub quiet : IsQuiet pace answer (IsUntouched way before after)
   pub out_cause : HasOutCause before answer after
   pub changed : MayChange store.content answer
 
 -- and how it leaves its source
-pub record Reads {T : Type 0} (old : SourceState) (answer : Result T ToolFault) (new : SourceState) : Type 0 where
+pub record ReadsSource {T : Type 0} (old : SourceState) (answer : Result T ToolFault) (new : SourceState) : Type 0 where
   pub cause : HasSourceCause old answer new
   pub fetches : FetchesSome old new
 
@@ -194,9 +194,9 @@ IsEarly (Err (BadList fault)) = ⊥
 IsEarly answer = Unit {0}
 
 -- or it was refused, and so many entries of its directory were asked for
-pub data IsThrough {T : Type 0} (limits : Limits) (old : SourceState) (answer : Result T ToolFault) (new : SourceState) : Type 0 where
-  listed : HasListed limits old new → IsThrough limits old answer new
-  refused : (asked : ℕ) → IsEarly answer → FetchesAtMost (32 + 28 * asked) old new → 12 * asked ≤ old.size → IsThrough limits old answer new
+pub data IsReadThrough {T : Type 0} (limits : Limits) (old : SourceState) (answer : Result T ToolFault) (new : SourceState) : Type 0 where
+  listed : HasListed limits old new → IsReadThrough limits old answer new
+  refused : (asked : ℕ) → IsEarly answer → FetchesAtMost (32 + 28 * asked) old new → 12 * asked ≤ old.size → IsReadThrough limits old answer new
 
 -- what ends the part of a command behind the opening, over a file of `size` bytes: no fault of the opening, and of the listing
 -- only the file's own, if its pace lets one end it; where nothing was written the output is untouched, which is ⊥ where some
@@ -214,5 +214,5 @@ pub record Leaves {T : Type 0} (pace : Pace) (untouched : Type 0) (old : SourceS
     (after : OutState) : Type 0 where
   pub good : (file : List ℕ) → IsGood old.store file → IsNoSourceFault answer
   pub behind : IsBehind pace old.size answer untouched
-  pub reads : Reads old answer new
+  pub reads : ReadsSource old answer new
   pub out_cause : HasOutCause before answer after

@@ -15,7 +15,7 @@ use Rattle.mdmp_lister.specs.declared.fault.FaultKind.TheVariants as kinds
 use Rattle.mdmp_lister.specs.declared.fault.ListFault.{ListFault}
 use Rattle.mdmp_tool.specs.declared.fault.ToolFault.{ToolFault}
 use Rattle.mdmp_tool.specs.declared.fault.ToolFault.TheVariants as tool
-use Rattle.mdmp_tool.specs.Telling.{told}
+use Rattle.mdmp_tool.specs.Telling.{fault_as_told}
 use Rattle.mdmp_writer.specs.declared.fault.LayoutFault.{LayoutFault}
 use Rattle.mdmp_writer.specs.declared.fault.LayoutFault.TheVariants as layout
 use Rattle.mdmp_wire.specs.Digits.{hex}
@@ -32,8 +32,8 @@ own_status (tool.Memory) = 3
 own_status (tool.NotCopied t) = 2
 
 -- the exit status: 1 where the file is at fault, 2 where a type is not copied, 3 where its store, the output or memory is
-abbrev pub status_of : ToolFault → ℕ
-status_of fault = own_status (told fault)
+abbrev pub exit_status : ToolFault → ℕ
+exit_status fault = own_status (fault_as_told fault)
 
 -- ---- what a fault says
 
@@ -51,8 +51,8 @@ memory_text = codes "out of memory"
 abbrev pub version_text : ℕ → List ℕ
 version_text low = concat (codes "bad version 0x" ∷ hex 4 low ∷ [])
 
-abbrev pub ranges_text : ℕ → List ℕ
-ranges_text count = concat (codes "too many memory ranges: " ∷ decimal count ∷ [])
+abbrev pub too_many_ranges_text : ℕ → List ℕ
+too_many_ranges_text count = concat (codes "too many memory ranges: " ∷ decimal count ∷ [])
 
 abbrev pub opening_text : OpenFault → List ℕ
 opening_text (opening.TooShort size) = concat (codes "file of " ∷ decimal size ∷ codes " bytes is too short" ∷ [])
@@ -62,7 +62,7 @@ opening_text (opening.DirectoryOutside offset size) =
     concat (codes "directory outside the file: offset " ∷ decimal offset ∷ codes " size " ∷ decimal size ∷ [])
 opening_text (opening.Source fault) = source_text fault
 opening_text (opening.Memory) = memory_text
-opening_text (opening.TooManyRanges count) = ranges_text count
+opening_text (opening.TooManyRanges count) = too_many_ranges_text count
 
 -- what a kind of fault is called; a fault of the store has a text of its own
 abbrev pub kind_words : FaultKind → List ℕ
@@ -132,4 +132,4 @@ own_text (tool.Memory) = memory_text
 own_text (tool.NotCopied t) = not_copied_text t
 
 abbrev pub fault_text : ToolFault → List ℕ
-fault_text fault = own_text (told fault)
+fault_text fault = own_text (fault_as_told fault)

@@ -8,7 +8,7 @@ use Rattle.mdmp_lister.specs.Format.Refusal.{opening_fault}
 use Rattle.mdmp_lister.specs.Format.Ranges.{ranges_of}
 use Rattle.mdmp_tool.specs.declared.fault.ToolFault.{ToolFault}
 use Rattle.mdmp_tool.specs.declared.fault.ToolFault.TheVariants.{List as BadList, Source, Out, Memory}
-use Rattle.mdmp_tool.specs.Engines.{Runs, RunsThrough, Writes, at_the_end, unless_refused}
+use Rattle.mdmp_tool.specs.Engines.{Runs, RunsThrough, WritesText, at_the_end, unless_refused}
 use Rattle.mdmp_tool.specs.HexText.{hex_text}
 
 -- the text of so many addresses by some ranges was written; where the store failed nothing was
@@ -39,7 +39,7 @@ run_hex_text F run address length = unless_faulty run.fault (hex_text F (ranges_
 -- the bytes were printed by the ranges of a run, unless it has a fault
 pub record HexesRun (F : List ℕ) (run : Run) (address length : ℕ) (before : OutState) (answer : Result (Unit {0}) ToolFault) (after : OutState) : Type 0 where
   pub ends : HexEnds run answer
-  pub writes : Writes at_the_end (run_hex_text F run address length) before answer after
+  pub writes : WritesText at_the_end (run_hex_text F run address length) before answer after
 
 -- all that is printed of F: nothing where it is refused, or its memory lists have a fault
 abbrev pub file_hex_text : List ℕ → ℕ → ℕ → ℕ → List ℕ

@@ -8,7 +8,7 @@ use Rattle.mdmp_lister.specs.Lister.{ListerState, tail}
 use Rattle.mdmp_tool.specs.declared.fault.ToolFault.{ToolFault}
 use Rattle.mdmp_tool.specs.declared.fault.ToolFault.TheVariants.{List as BadList, Source, Out}
 use Rattle.mdmp_wire.specs.declared.header.Header.{Header}
-use Rattle.mdmp_tool.specs.Engines.{Runs, RunsThrough, StopsShort, Writes, up_to_a_fault}
+use Rattle.mdmp_tool.specs.Engines.{Runs, RunsThrough, StopsShort, WritesText, up_to_a_fault}
 use Rattle.mdmp_tool.specs.Lines.{dump_line}
 use Rattle.mdmp_tool.specs.Text.{run_text, list_text, next_lines}
 
@@ -23,13 +23,13 @@ ListEnds run (Err fault) = ⊥
 -- the items of a run over F were printed, all of them up to its fault or none
 pub record ListsRun (pdb : Bool) (F : List ℕ) (limit : ℕ) (run : Run) (before : OutState) (answer : Result (Unit {0}) ToolFault) (after : OutState) : Type 0 where
   pub ends : ListEnds run answer
-  pub writes : Writes up_to_a_fault (run_text pdb F limit run) before answer after
+  pub writes : WritesText up_to_a_fault (run_text pdb F limit run) before answer after
 
 -- the same behind the line of a header
 pub record ListsFile (pdb : Bool) (F : List ℕ) (limit : ℕ) (h : Header) (run : Run) (before : OutState) (answer : Result (Unit {0}) ToolFault)
     (after : OutState) : Type 0 where
   pub ends : ListEnds run answer
-  pub writes : Writes up_to_a_fault (dump_line h ++ run_text pdb F limit run) before answer after
+  pub writes : WritesText up_to_a_fault (dump_line h ++ run_text pdb F limit run) before answer after
 
 -- the line of a CodeView record was printed; or its bytes were not obtained, and nothing was; or the output refused in it
 abbrev pub PutsSymbols : List ℕ → OutState → Result (Unit {0}) ToolFault → OutState → Type 0

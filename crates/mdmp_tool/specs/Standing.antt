@@ -4,7 +4,7 @@ use Rattle.mdmp_lister.specs.declared.choice.Choice.TheVariants.{Types}
 use Rattle.mdmp_dump.specs.InFile.{dump_in}
 use Rattle.mdmp_dump.specs.LaysOut.{LaysOut}
 use Rattle.mdmp_writer.specs.Written.{written}
-use Rattle.mdmp_disk.specs.Disk.{DiskState, bytes_of}
+use Rattle.mdmp_disk.specs.Disk.{DiskState, bytes_of_file}
 use Rattle.mdmp_tool.specs.declared.fault.ToolFault.{ToolFault}
 use Rattle.mdmp_tool.specs.declared.fault.ToolFault.TheVariants.{Out, Source}
 use Rattle.mdmp_tool.specs.Commands.{IsEnd}
@@ -13,7 +13,7 @@ use Rattle.mdmp_tool.specs.Words.{DiskChange, Outputs}
 
 -- a disk that knows the bytes of the file of this name, and what files take that it makes
 pub record Knows (disk : DiskState) (name bytes : List ℕ) : Type 0 where
-  pub file : bytes_of (disk.files name) ≡ Some bytes
+  pub file : bytes_of_file (disk.files name) ≡ Some bytes
   pub blank : disk.blank ≡ Some []
 
 module _ (Z : Type 0) (F types : List ℕ) where
@@ -22,19 +22,19 @@ module _ (Z : Type 0) (F types : List ℕ) where
   IsWhole bytes = LaysOut F (Types types) (dump_in {Z = Z} F (Types types)) × (bytes ≡ Some (written (dump_in {Z = Z} F (Types types))))
 
   -- or a first part of them
-  abbrev pub IsPart : Option (List ℕ) → Type 0
-  IsPart bytes = LaysOut F (Types types) (dump_in {Z = Z} F (Types types)) × IsFirstPart bytes (written (dump_in {Z = Z} F (Types types)))
+  abbrev pub IsPartOfCopy : Option (List ℕ) → Type 0
+  IsPartOfCopy bytes = LaysOut F (Types types) (dump_in {Z = Z} F (Types types)) × IsFirstPart bytes (written (dump_in {Z = Z} F (Types types)))
 
   -- all went well, and they are whole; behind a fault of the output they are a first part, and behind one of the store too, or
   -- there are none; or it ended otherwise, and there are none
   abbrev pub Stands : Result ℕ ToolFault → Option (List ℕ) → Type 0
   Stands (Ok size) bytes = IsWhole bytes
-  Stands (Err Out) bytes = IsPart bytes
-  Stands (Err (Source fault)) bytes = (bytes ≡ Some []) ⊎ IsPart bytes
+  Stands (Err Out) bytes = IsPartOfCopy bytes
+  Stands (Err (Source fault)) bytes = (bytes ≡ Some []) ⊎ IsPartOfCopy bytes
   Stands (Err fault) bytes = bytes ≡ Some []
 
 -- that stands under the name of the copy, by the answer that is told
 pub record CopyStands (Z : Type 0) (F types target : List ℕ) (disk : DiskChange) (before : Outputs) (status : ℕ) (after : Outputs) : Type 0 where
   pub answer : Result ℕ ToolFault
   pub ends : IsEnd answer status before.err after.err
-  pub stands : Stands Z F types answer (bytes_of (disk.new.files target))
+  pub stands : Stands Z F types answer (bytes_of_file (disk.new.files target))

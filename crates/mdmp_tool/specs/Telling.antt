@@ -20,22 +20,22 @@ abbrev pub told_by : FaultKind → ListFault → ToolFault
 told_by (kinds.Source fault) f = tool.Source fault
 told_by kind f = tool.List f
 
-abbrev pub list_told : ListFault → ToolFault
-list_told f = told_by f.kind f
+abbrev pub listing_told : ListFault → ToolFault
+listing_told f = told_by f.kind f
 
 -- more bytes of parts than a dump may have are too many for the copy; a part outside the file and a name that is too long are
 -- told as what they are
 abbrev pub reading_told : ReadFault → ToolFault
 reading_told (reading.Opening fault) = opening_told fault
-reading_told (reading.List fault) = list_told fault
+reading_told (reading.List fault) = listing_told fault
 reading_told (reading.PartsTooLarge e k) = tool.Layout TooLarge
 reading_told reading.Memory = tool.Memory
 reading_told (reading.Source fault) = tool.Source fault
 reading_told fault = tool.Reading fault
 
 -- a fault of the store or want of memory is told as such, also where a fault of the file has it inside
-abbrev pub told : ToolFault → ToolFault
-told (tool.Opening fault) = opening_told fault
-told (tool.List fault) = list_told fault
-told (tool.Reading fault) = reading_told fault
-told fault = fault
+abbrev pub fault_as_told : ToolFault → ToolFault
+fault_as_told (tool.Opening fault) = opening_told fault
+fault_as_told (tool.List fault) = listing_told fault
+fault_as_told (tool.Reading fault) = reading_told fault
+fault_as_told fault = fault

@@ -4,11 +4,11 @@ use Rattle.std.specs.List.{concat}
 use denote.Ref.{Bor}
 use Rattle.mdmp_source.specs.Output.{OutState, PutsAll, PutsPrefix, unlent}
 use Rattle.mdmp_source.specs.Source.{SourceState}
-use Rattle.mdmp_disk.specs.Disk.{DiskState, FileAt, FileState, IsOpened, IsPresent, KeepsOthers, bytes_of, make_counted, open_counted, opened_once, present, refused_once}
+use Rattle.mdmp_disk.specs.Disk.{DiskState, FileAt, FileState, IsOpenedFile, IsPresent, KeepsOthers, bytes_of_file, make_counted, open_counted, opened_once, present, open_refused}
 use Rattle.mdmp_lister.specs.declared.limits.Limits.{Limits}
-use Rattle.mdmp_tool.specs.Commands.{HasCopied, HasPrinted, IsTold}
+use Rattle.mdmp_tool.specs.Commands.{HasCopied, HasPrinted, IsLineTold}
 use Rattle.mdmp_tool.specs.Copying.{first_not_copied}
-use Rattle.mdmp_tool.specs.Faults.{fault_text, status_of}
+use Rattle.mdmp_tool.specs.Faults.{fault_text, exit_status}
 use Rattle.mdmp_words.specs.Requests.{AsksFor, AsksNothing, IsValid}
 use Rattle.mdmp_tool.specs.declared.fault.ToolFault.{ToolFault}
 use Rattle.mdmp_tool.specs.declared.fault.ToolFault.TheVariants.{Memory, NotCopied, Out}
@@ -34,10 +34,10 @@ pub record DiskChange : Type 0 where
 pub record Refuses (wanted : ℕ) (text : List ℕ) (before : Outputs) (status : ℕ) (after : Outputs) : Type 0 where
   pub own : status ≡ wanted
   pub quiet : after.out ≡ before.out
-  pub told : IsTold before.err text after.err
+  pub told : IsLineTold before.err text after.err
 
 abbrev pub RefusesFault : ToolFault → Outputs → ℕ → Outputs → Type 0
-RefusesFault fault = Refuses (status_of fault) (fault_text fault)
+RefusesFault fault = Refuses (exit_status fault) (fault_text fault)
 
 -- a file of this name could not be opened, or made
 abbrev pub unopened_text : List ℕ → List ℕ
@@ -60,15 +60,15 @@ pub record Helps (text : List ℕ) (before : Outputs) (status : ℕ) (after : Ou
 
 -- or the output refused it, and that was told
 pub record HelpsInPart (text : List ℕ) (before : Outputs) (status : ℕ) (after : Outputs) : Type 0 where
-  pub own : status ≡ status_of Out
+  pub own : status ≡ exit_status Out
   pub cut : PutsPrefix before.out text after.out
-  pub told : IsTold before.err (fault_text Out) after.err
+  pub told : IsLineTold before.err (fault_text Out) after.err
 
 -- ---- commands
 
 -- a source over a file of which this is known, of which nothing was fetched
 pub record IsOver (file : FileAt) (source : SourceState) : Type 0 where
-  pub store : IsOpened file source.store
+  pub store : IsOpenedFile file source.store
   pub fetched : source.fetched ≡ 0
 
 -- no reliable file is known to be there, so its opening may be refused
@@ -85,7 +85,7 @@ pub record Prints (print : Print) (limits : Limits) (found : FileAt) (before : O
 -- how a command ends that prints this of the file of this name, within these limits: the disk was asked for that file,
 -- once, and for nothing else
 pub data EndsPrint (print : Print) (limits : Limits) (file : List ℕ) (disk : DiskChange) (before : Outputs) (status : ℕ) (after : Outputs) : Type 0 where
-  unopened : disk.new ≡ refused_once disk.old → MayRefuse (disk.old.files file) → Refuses 3 (unopened_text file) before status after
+  unopened : disk.new ≡ open_refused disk.old → MayRefuse (disk.old.files file) → Refuses 3 (unopened_text file) before status after
       → EndsPrint print limits file disk before status after
   wanting : disk.new ≡ opened_once disk.old → RefusesFault Memory before status after → EndsPrint print limits file disk before status after
   printed : disk.new ≡ opened_once disk.old → Prints print limits (disk.old.files file) before status after → EndsPrint print limits file disk before status after
@@ -99,7 +99,7 @@ pub record CopiesTo (Z : Type 0) (types : List ℕ) (limits : Limits) (file targ
   pub opened : IsOver (disk.old.files file) old
   pub vacant : IsPresent (disk.old.files target) → ⊥
   pub copied : HasCopied Z types limits old (record { taken = disk.old.blank; failures = unlent 0 }) before.err status new written after.err
-  pub holds : bytes_of (disk.new.files target) ≡ written.taken
+  pub holds : bytes_of_file (disk.new.files target) ≡ written.taken
   pub others : KeepsOthers disk.old target disk.new
   pub same_blank : disk.new.blank ≡ disk.old.blank
   pub counted : disk.new.requests ≡ make_counted true (open_counted true disk.old.requests)
@@ -110,9 +110,9 @@ pub record CopiesTo (Z : Type 0) (types : List ℕ) (limits : Limits) (file targ
 pub data EndsCopy (Z : Type 0) (types : List ℕ) (limits : Limits) (file target : List ℕ) (disk : DiskChange) (before : Outputs) (status : ℕ) (after : Outputs) : Type 0 where
   refused : (t : ℕ) → first_not_copied types ≡ Some t → disk.new ≡ disk.old → RefusesFault (NotCopied t) before status after
       → EndsCopy Z types limits file target disk before status after
-  unread : first_not_copied types ≡ None → disk.new ≡ refused_once disk.old → MayRefuse (disk.old.files file)
+  unread : first_not_copied types ≡ None → disk.new ≡ open_refused disk.old → MayRefuse (disk.old.files file)
       → Refuses 3 (unopened_text file) before status after → EndsCopy Z types limits file target disk before status after
-  unmade : first_not_copied types ≡ None → disk.new ≡ refused_once (opened_once disk.old) → Refuses 3 (unmade_text target) before status after
+  unmade : first_not_copied types ≡ None → disk.new ≡ open_refused (opened_once disk.old) → Refuses 3 (unmade_text target) before status after
       → EndsCopy Z types limits file target disk before status after
   copied : first_not_copied types ≡ None → CopiesTo Z types limits file target disk before status after → EndsCopy Z types limits file target disk before status after
 

@@ -2,13 +2,13 @@
 ghost use Rattle.std.specs.Prelude.{◌≡◌, ◌≤◌, ◌<◌, ◌+◌, ℕ, List, Some, []};
 ghost use Rattle.mdmp_map.specs.Ranges.{address_end};
 ghost use Rattle.mdmp_tool.specs.CheckRuns.{ChecksThrough};
-ghost use Rattle.mdmp_tool.specs.Engines.{IsFlushed, IsThrough, Reads, Tells, at_the_end, in_blocks, past_faults, up_to_a_fault};
+ghost use Rattle.mdmp_tool.specs.Engines.{IsFlushed, IsReadThrough, ReadsSource, Tells, at_the_end, in_blocks, past_faults, up_to_a_fault};
 ghost use Rattle.mdmp_tool.specs.HexRuns.{HexesThrough};
-ghost use Rattle.mdmp_words.specs.HexWords.{length_limit};
+ghost use Rattle.mdmp_words.specs.NumberWords.{length_limit};
 ghost use Rattle.mdmp_tool.specs.Runs.{ListsThrough};
 
 use crate::check::CheckEngine;
-use crate::engine::{Answered, run_in_blocks};
+use crate::engine::{RunAnswered, run_in_blocks};
 use crate::hex::HexEngine;
 use crate::list::ListEngine;
 use mdmp_lister::Limits;
@@ -23,13 +23,13 @@ pub fn check_in_blocks<S: Store + Drop, A: Allocator + Copy, O: Out, B: Allocato
     source: Source<S>,
     limits: Limits,
     blocks: &mut BlockOut<O, B>,
-) -> Answered<u64, S>
+) -> RunAnswered<u64, S>
     requires { blocks.old.pending ≡ [] }
     ensures checks { (file : List ℕ) → source.store.content ≡ Some file → ChecksThrough file limits.name blocks.old.inner result.answer blocks.new.inner }
     ensures flushed { IsFlushed result.answer blocks.new.pending }
     ensures tells { Tells in_blocks past_faults source.store source.size blocks.old.inner result.answer blocks.new.inner }
-    ensures reads { Reads source result.answer result.source }
-    ensures through { IsThrough limits source result.answer result.source }
+    ensures reads { ReadsSource source result.answer result.source }
+    ensures through { IsReadThrough limits source result.answer result.source }
 {
     run_in_blocks(CheckEngine, alloc, source, limits, blocks)
 }
@@ -43,13 +43,13 @@ pub fn list_in_blocks<S: Store + Drop, A: Allocator + Copy, O: Out, B: Allocator
     limits: Limits,
     pdb: bool,
     blocks: &mut BlockOut<O, B>,
-) -> Answered<(), S>
+) -> RunAnswered<(), S>
     requires { blocks.old.pending ≡ [] }
     ensures lists { (file : List ℕ) → source.store.content ≡ Some file → ListsThrough pdb file limits.name blocks.old.inner result.answer blocks.new.inner }
     ensures flushed { IsFlushed result.answer blocks.new.pending }
     ensures tells { Tells in_blocks up_to_a_fault source.store source.size blocks.old.inner result.answer blocks.new.inner }
-    ensures reads { Reads source result.answer result.source }
-    ensures through { IsThrough limits source result.answer result.source }
+    ensures reads { ReadsSource source result.answer result.source }
+    ensures through { IsReadThrough limits source result.answer result.source }
 {
     run_in_blocks(ListEngine { pdb }, alloc, source, limits, blocks)
 }
@@ -64,7 +64,7 @@ pub fn hex_in_blocks<S: Store + Drop, A: Allocator + Copy, O: Out, B: Allocator>
     address: u64,
     length: u32,
     blocks: &mut BlockOut<O, B>,
-) -> Answered<(), S>
+) -> RunAnswered<(), S>
     requires none { blocks.old.pending ≡ [] }
     requires within { address + length ≤ address_end }
     requires limited { length ≤ length_limit }
@@ -72,8 +72,8 @@ pub fn hex_in_blocks<S: Store + Drop, A: Allocator + Copy, O: Out, B: Allocator>
         → HexesThrough file limits.name address length blocks.old.inner result.answer blocks.new.inner }
     ensures flushed { IsFlushed result.answer blocks.new.pending }
     ensures tells { Tells in_blocks at_the_end source.store source.size blocks.old.inner result.answer blocks.new.inner }
-    ensures reads { Reads source result.answer result.source }
-    ensures through { IsThrough limits source result.answer result.source }
+    ensures reads { ReadsSource source result.answer result.source }
+    ensures through { IsReadThrough limits source result.answer result.source }
 {
     run_in_blocks(HexEngine { address, length }, alloc, source, limits, blocks)
 }

@@ -4,9 +4,9 @@ ghost use Rattle.mdmp_lister.specs.declared.choice.Choice.TheVariants.{All};
 ghost use Rattle.mdmp_lister.specs.Format.Listing.{verdicts};
 ghost use Rattle.mdmp_tool.specs.CheckRuns.{CheckEnds, Checks};
 ghost use Rattle.mdmp_tool.specs.CheckText.{verdict_lines};
-ghost use Rattle.mdmp_tool.specs.Engines.{IsOpened, IsSameRun, IsThrough, Leaves, Reads, Tells, Writes, directly, past_faults};
+ghost use Rattle.mdmp_tool.specs.Engines.{IsOpened, IsSameRun, IsReadThrough, Leaves, ReadsSource, Tells, WritesText, directly, past_faults};
 
-use crate::engine::{Answered, Engine, run, run_source};
+use crate::engine::{Engine, RunAnswered, run, run_source};
 use crate::fault::{ToolFault, told_list};
 use crate::verdict_lines::put_verdict_line;
 use mdmp_lister::{Choice, Limits, Lister, RunFault, Stopped, Verdict, VerdictSink};
@@ -36,11 +36,11 @@ pub fn check_source<S: Store + Drop, A: Allocator + Copy, O: Out>(
     source: Source<S>,
     limits: Limits,
     out: &mut O,
-) -> Answered<u64, S>
+) -> RunAnswered<u64, S>
     ensures checks { (file : List ℕ) → source.store.content ≡ Some file → Checks file limits.name (O.state out.old) result.answer (O.state out.new) }
     ensures tells { Tells directly past_faults source.store source.size (O.state out.old) result.answer (O.state out.new) }
-    ensures reads { Reads source result.answer result.source }
-    ensures through { IsThrough limits source result.answer result.source }
+    ensures reads { ReadsSource source result.answer result.source }
+    ensures through { IsReadThrough limits source result.answer result.source }
 {
     run_source(CheckEngine, alloc, source, limits, out)
 }
@@ -94,7 +94,7 @@ fn check_listed<S: Store + Drop, A: Allocator + Copy, O: Out>(
     ensures same_output { lines.new.out.ghost_name ≡ lines.old.out.ghost_name }
     ensures ends { (file : List ℕ) → lister.old.source.store.content ≡ Some file → CheckEnds file lister.old.limit result }
     ensures writes { (file : List ℕ) → lister.old.source.store.content ≡ Some file
-        → Writes past_faults (verdict_lines (verdicts file All lister.old.limit)) (O.state lines.old.out.now) result (O.state lines.new.out.now) }
+        → WritesText past_faults (verdict_lines (verdicts file All lister.old.limit)) (O.state lines.old.out.now) result (O.state lines.new.out.now) }
     ensures leaves { Leaves past_faults (O.state lines.new.out.now ≡ O.state lines.old.out.now) lister.old.source (O.state lines.old.out.now) result lister.new.source (O.state lines.new.out.now) }
     ensures same { IsSameRun lister.old lister.new }
 {

@@ -15,12 +15,12 @@ ghost use Rattle.mdmp_writer.specs.Passes.{all_asks, all_costs};
 ghost use Rattle.mdmp_writer.specs.Writing.{GoesOut};
 ghost use Rattle.mdmp_tool.specs.Causes.{IsNoSourceFault};
 ghost use Rattle.mdmp_tool.specs.Copying.{Copies, IsDumpCopied, IsShapeCopied, IsToldByView, SpendsCopy, first_not_copied, is_copied};
-ghost use Rattle.mdmp_tool.specs.Engines.{Reads};
+ghost use Rattle.mdmp_tool.specs.Engines.{ReadsSource};
 
-use crate::engine::Answered;
+use crate::engine::RunAnswered;
 use crate::fault::{ToolFault, told_reading};
 use mdmp_dump::{DumpView, FileView, ReadFault, ViewFault, ViewRefused};
-use mdmp_lister::{Choice, Kind, Limits, TypeSet};
+use mdmp_lister::{Choice, Limits, StreamKind, TypeSet};
 use mdmp_source::{Out, Source, Store};
 use mdmp_writer::{WriteFault, write_dump};
 use std::alloc::Allocator;
@@ -33,7 +33,7 @@ pub fn copied(stream_type: u32) -> bool
     ensures { result ≡ is_copied stream_type }
 {
     stream_type == 0
-        || Kind::of_type(stream_type).is_some()
+        || StreamKind::of_type(stream_type).is_some()
         || matches!(stream_type, 10 | 11 | 15)
         || stream_type > 0xffff
 }
@@ -82,15 +82,15 @@ pub fn copy_source<S: Store + Drop, A: Allocator + Copy, O: Out>(
     limits: Limits,
     types: TypeSet,
     out: &mut O,
-) -> Answered<u64, S>
+) -> RunAnswered<u64, S>
     ensures copies { Copies A source.store.content source.size types limits.name (O.state out.old) result.answer (O.state out.new) }
     ensures good { (file : List ℕ) → IsGood source.store file → IsNoSourceFault result.answer }
-    ensures reads { Reads source result.answer result.source }
+    ensures reads { ReadsSource source result.answer result.source }
     ensures unread { (t : ℕ) → first_not_copied types ≡ Some t → result.source ≡ source }
     ensures spends { SpendsCopy A types limits.window source result.answer result.source }
 {
     if let Some(stream_type) = first_not_copied(types.types()) {
-        return Answered {
+        return RunAnswered {
             answer: Err(ToolFault::NotCopied(stream_type)),
             source,
         };
@@ -101,11 +101,11 @@ pub fn copy_source<S: Store + Drop, A: Allocator + Copy, O: Out>(
                 mut view,
                 mut buffer,
             },
-        ) => Answered {
+        ) => RunAnswered {
             answer: write_copy(&mut view, out, &mut buffer),
             source: view.into_source(),
         },
-        Err(ViewRefused { fault, source }) => Answered {
+        Err(ViewRefused { fault, source }) => RunAnswered {
             answer: Err(told_reading(fault)),
             source,
         },

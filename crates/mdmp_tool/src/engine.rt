@@ -2,7 +2,7 @@
 ghost use Rattle.std.specs.Prelude.{◌≡◌, ◌<◌, ℕ, List, [], Some, Err};
 ghost use Rattle.mdmp_source.specs.Blocks.{MovesFront};
 ghost use Rattle.mdmp_lister.specs.Format.Refusal.{opening_fault};
-ghost use Rattle.mdmp_tool.specs.Engines.{EndsFlushed, IsFlushed, IsThrough, Reads, Runs, RunsThrough, Tells, directly, in_blocks, unless_refused};
+ghost use Rattle.mdmp_tool.specs.Engines.{EndsFlushed, IsFlushed, IsReadThrough, ReadsSource, Runs, RunsThrough, Tells, directly, in_blocks, unless_refused};
 
 use crate::fault::{ToolFault, told_opening};
 use mdmp_lister::{Choice, Limits, Lister};
@@ -11,7 +11,7 @@ use std::alloc::Allocator;
 
 /// What a run answered, and the source that it read.
 #[derive(Drop)]
-pub struct Answered<T: Copy, S: Store + Drop> {
+pub struct RunAnswered<T: Copy, S: Store + Drop> {
     /// What the run comes to where all was written, or why not.
     pub answer: Result<T, ToolFault>,
     /// The source, whose counts tell the cause of its faults.
@@ -23,7 +23,7 @@ pub(crate) trait Engine: Copy {
     ghost use Rattle.std.specs.Prelude.{◌≡◌, ℕ, List, Some, Result};
     ghost use Rattle.mdmp_lister.specs.declared.choice.Choice.{Choice};
     ghost use Rattle.mdmp_tool.specs.declared.fault.ToolFault.{ToolFault};
-    ghost use Rattle.mdmp_tool.specs.Engines.{IsOpened, IsSameRun, Leaves, Pace, Writes};
+    ghost use Rattle.mdmp_tool.specs.Engines.{IsOpened, IsSameRun, Leaves, Pace, WritesText};
 
     /// What it answers where all was printed.
     type Answer: Copy;
@@ -58,7 +58,7 @@ pub(crate) trait Engine: Copy {
         requires opened { IsOpened choice lister.old }
         ensures ends { (file : List ℕ) → lister.old.source.store.content ≡ Some file → Ends self.now file lister.old.limit result }
         ensures writes { (file : List ℕ) → lister.old.source.store.content ≡ Some file
-            → Writes pace (text self.now file lister.old.limit) (O.state out.old) result (O.state out.new) }
+            → WritesText pace (text self.now file lister.old.limit) (O.state out.old) result (O.state out.new) }
         ensures leaves { Leaves pace (O.state out.new ≡ O.state out.old) lister.old.source (O.state out.old) result lister.new.source (O.state out.new) }
         ensures same { IsSameRun lister.old lister.new };
 }
@@ -77,7 +77,13 @@ pub(crate) fn run<E: Engine, S: Store + Drop, A: Allocator + Copy, O: Out>(
         (O.state out.old) result (O.state out.new) }
     ensures tells { Tells directly E.pace (S.state store) (S.state store).size (O.state out.old) result (O.state out.new) }
 {
-    let Answered { answer, source: _ } = run_source(engine, alloc, Source::new(store), limits, out);
+    let RunAnswered { answer, source: _ } = run_source(
+        engine,
+        alloc,
+        Source::new(store),
+        limits,
+        out,
+    );
     answer
 }
 
@@ -90,19 +96,19 @@ pub(crate) fn run_source<E: Engine, S: Store + Drop, A: Allocator + Copy, O: Out
     source: Source<S>,
     limits: Limits,
     out: &mut O,
-) -> Answered<E::Answer, S>
+) -> RunAnswered<E::Answer, S>
     requires { E.can_put engine }
     ensures runs { (file : List ℕ) → source.store.content ≡ Some file
         → Runs file E.choice (E.Ends engine file limits.name) E.pace (unless_refused (opening_fault file E.choice) (E.text engine file limits.name))
         (O.state out.old) result.answer (O.state out.new) }
     ensures tells { Tells directly E.pace source.store source.size (O.state out.old) result.answer (O.state out.new) }
-    ensures reads { Reads source result.answer result.source }
-    ensures through { IsThrough limits source result.answer result.source }
+    ensures reads { ReadsSource source result.answer result.source }
+    ensures through { IsReadThrough limits source result.answer result.source }
 {
     let mut lister = match Lister::open(alloc, source, limits, engine.chosen()) {
         Ok(lister) => lister,
         Err(refused) => {
-            return Answered {
+            return RunAnswered {
                 answer: Err(told_opening(refused.fault)),
                 source: refused.source,
             };
@@ -111,7 +117,7 @@ pub(crate) fn run_source<E: Engine, S: Store + Drop, A: Allocator + Copy, O: Out
     let answer = engine.put(alloc, &mut lister, out);
     // The proof learns here within which bounds the lister stayed.
     let _counts = lister.counts();
-    Answered {
+    RunAnswered {
         answer,
         source: lister.into_source(),
     }
@@ -124,7 +130,7 @@ pub(crate) fn run_in_blocks<E: Engine, S: Store + Drop, A: Allocator + Copy, O: 
     source: Source<S>,
     limits: Limits,
     blocks: &mut BlockOut<O, B>,
-) -> Answered<E::Answer, S>
+) -> RunAnswered<E::Answer, S>
     requires can { E.can_put engine }
     requires none { blocks.old.pending ≡ [] }
     ensures runs { (file : List ℕ) → source.store.content ≡ Some file
@@ -132,8 +138,8 @@ pub(crate) fn run_in_blocks<E: Engine, S: Store + Drop, A: Allocator + Copy, O: 
         blocks.old.inner result.answer blocks.new.inner }
     ensures flushed { IsFlushed result.answer blocks.new.pending }
     ensures tells { Tells in_blocks E.pace source.store source.size blocks.old.inner result.answer blocks.new.inner }
-    ensures reads { Reads source result.answer result.source }
-    ensures through { IsThrough limits source result.answer result.source }
+    ensures reads { ReadsSource source result.answer result.source }
+    ensures through { IsReadThrough limits source result.answer result.source }
 {
     let answered = run_source(engine, alloc, source, limits, blocks);
     flushed(answered, blocks)
@@ -142,21 +148,21 @@ pub(crate) fn run_in_blocks<E: Engine, S: Store + Drop, A: Allocator + Copy, O: 
 /// Writes what is pending after a run, and answers what the run did, or the output's fault where the
 /// inner output refuses.
 fn flushed<T: Copy, S: Store + Drop, O: Out, B: Allocator>(
-    answered: Answered<T, S>,
+    answered: RunAnswered<T, S>,
     blocks: &mut BlockOut<O, B>,
-) -> Answered<T, S>
+) -> RunAnswered<T, S>
     ensures ends { EndsFlushed answered.answer result.answer blocks.old.inner blocks.new.inner }
     ensures moved { MovesFront blocks.old.inner blocks.old.pending blocks.new.inner blocks.new.pending }
     ensures flushed { IsFlushed result.answer blocks.new.pending }
     ensures source { result.source ≡ answered.source }
 {
-    let Answered { answer, source } = answered;
+    let RunAnswered { answer, source } = answered;
     if let Err(ToolFault::Out) = answer {
-        return Answered { answer, source };
+        return RunAnswered { answer, source };
     }
     match blocks.flush() {
-        Ok(()) => Answered { answer, source },
-        Err(OutFailed) => Answered {
+        Ok(()) => RunAnswered { answer, source },
+        Err(OutFailed) => RunAnswered {
             answer: Err(ToolFault::Out),
             source,
         },

@@ -1,7 +1,7 @@
 //! Why a command ends early.
 ghost use Rattle.std.specs.Prelude.{◌≡◌};
-ghost use Rattle.mdmp_tool.specs.Faults.{status_of};
-ghost use Rattle.mdmp_tool.specs.Telling.{list_told, opening_told, reading_told, told};
+ghost use Rattle.mdmp_tool.specs.Faults.{exit_status};
+ghost use Rattle.mdmp_tool.specs.Telling.{listing_told, opening_told, reading_told, fault_as_told};
 
 use mdmp_dump::ReadFault;
 use mdmp_lister::{FaultKind, ListFault, OpenFault};
@@ -33,9 +33,9 @@ pub enum ToolFault {
 /// is not copied, 3 where the file's store, the output or memory is, also where `Opening`, `List` or
 /// `Reading` has a fault of the store or want of memory inside.
 pub fn status(fault: &ToolFault) -> u8
-    ensures { result ≡ status_of fault.now }
+    ensures { result ≡ exit_status fault.now }
 {
-    match told(*fault) {
+    match fault_as_told(*fault) {
         ToolFault::Opening(_) | ToolFault::List(_) | ToolFault::Reading(_) | ToolFault::Layout(_) =>
             1,
         ToolFault::NotCopied(_) => 2,
@@ -44,8 +44,8 @@ pub fn status(fault: &ToolFault) -> u8
 }
 
 /// A fault as what it is: one of the store and want of memory as such.
-pub(crate) fn told(fault: ToolFault) -> ToolFault
-    ensures { result ≡ told fault }
+pub(crate) fn fault_as_told(fault: ToolFault) -> ToolFault
+    ensures { result ≡ fault_as_told fault }
 {
     match fault {
         ToolFault::Opening(fault) => told_opening(fault),
@@ -68,7 +68,7 @@ pub(crate) fn told_opening(fault: OpenFault) -> ToolFault
 
 /// A fault of the listing, as a command tells it.
 pub(crate) fn told_list(fault: ListFault) -> ToolFault
-    ensures { result ≡ list_told fault }
+    ensures { result ≡ listing_told fault }
 {
     match fault.kind {
         FaultKind::Source(fault) => ToolFault::Source(fault),

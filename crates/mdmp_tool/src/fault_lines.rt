@@ -3,9 +3,9 @@ ghost use Rattle.std.specs.Prelude.{◌≡◌};
 ghost use Rattle.mdmp_source.specs.Output.{Puts};
 ghost use Rattle.mdmp_tool.specs.Lines.{error_line};
 ghost use Rattle.mdmp_tool.specs.Pieces.{text_of};
-ghost use Rattle.mdmp_tool.specs.Faults.{source_text, output_text, memory_text, version_text, ranges_text, opening_text, list_fault_text, layout_text, part_text, long_name_text, reading_text, not_copied_text, fault_text};
+ghost use Rattle.mdmp_tool.specs.Faults.{source_text, output_text, memory_text, version_text, too_many_ranges_text, opening_text, list_fault_text, layout_text, part_text, long_name_text, reading_text, not_copied_text, fault_text};
 
-use crate::fault::{ToolFault, told};
+use crate::fault::{ToolFault, fault_as_told};
 use crate::line::put_error_line;
 use crate::pieces::Piece;
 use mdmp_dump::{PartName, ReadFault};
@@ -19,7 +19,7 @@ use mdmp_writer::LayoutFault;
 pub fn fault_line<O: Out>(fault: &ToolFault, out: &mut O) -> Result<(), OutFailed>
     ensures { Puts result (O.state out.old) (error_line (fault_text fault.now)) (O.state out.new) }
 {
-    match told(*fault) {
+    match fault_as_told(*fault) {
         ToolFault::Opening(fault) => put_opening_fault(&fault, out),
         ToolFault::List(fault) => put_list_fault(&fault, out),
         ToolFault::Reading(fault) => put_reading_fault(&fault, out),
@@ -72,7 +72,7 @@ fn put_bad_version<O: Out>(low: u16, out: &mut O) -> Result<(), OutFailed>
 }
 
 fn put_too_many_ranges<O: Out>(count: u128, out: &mut O) -> Result<(), OutFailed>
-    ensures { Puts result (O.state out.old) (error_line (ranges_text count)) (O.state out.new) }
+    ensures { Puts result (O.state out.old) (error_line (too_many_ranges_text count)) (O.state out.new) }
 {
     put_error_line(
         out,

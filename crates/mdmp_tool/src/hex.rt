@@ -2,11 +2,11 @@
 ghost use Rattle.std.specs.Prelude.{◌≡◌, ◌≤◌, ◌<◌, ◌+◌, ℕ, List, [], Some, None, length};
 ghost use Rattle.mdmp_map.specs.Ranges.{address_end};
 ghost use Rattle.mdmp_lister.specs.Format.Listing.{Run};
-ghost use Rattle.mdmp_tool.specs.Engines.{IsSameRun, IsThrough, Leaves, Reads, Tells, at_the_end, directly};
+ghost use Rattle.mdmp_tool.specs.Engines.{IsSameRun, IsReadThrough, Leaves, ReadsSource, Tells, at_the_end, directly};
 ghost use Rattle.mdmp_tool.specs.HexRuns.{Hexes, HexesMemory, HexesRun};
-ghost use Rattle.mdmp_words.specs.HexWords.{length_limit};
+ghost use Rattle.mdmp_words.specs.NumberWords.{length_limit};
 
-use crate::engine::{Answered, Engine, run, run_source};
+use crate::engine::{Engine, RunAnswered, run, run_source};
 use crate::fault::{ToolFault, told_list};
 use crate::hex_lines::put_hex_lines;
 use mdmp_lister::{Choice, Limits, Lister};
@@ -43,13 +43,13 @@ pub fn hex_source<S: Store + Drop, A: Allocator + Copy, O: Out>(
     address: u64,
     length: u32,
     out: &mut O,
-) -> Answered<(), S>
+) -> RunAnswered<(), S>
     requires within { address + length ≤ address_end }
     requires limited { length ≤ length_limit }
     ensures hexes { (file : List ℕ) → source.store.content ≡ Some file → Hexes file limits.name address length (O.state out.old) result.answer (O.state out.new) }
     ensures tells { Tells directly at_the_end source.store source.size (O.state out.old) result.answer (O.state out.new) }
-    ensures reads { Reads source result.answer result.source }
-    ensures through { IsThrough limits source result.answer result.source }
+    ensures reads { ReadsSource source result.answer result.source }
+    ensures through { IsReadThrough limits source result.answer result.source }
 {
     run_source(HexEngine { address, length }, alloc, source, limits, out)
 }

@@ -37,7 +37,7 @@ mod words;
 pub use crate::blocks::{check_in_blocks, hex_in_blocks, list_in_blocks};
 pub use crate::check::{check_source, run_check};
 pub use crate::copy::{copied, copy_source, run_copy};
-pub use crate::engine::Answered;
+pub use crate::engine::RunAnswered;
 pub use crate::fault::{ToolFault, status};
 pub use crate::fault_lines::fault_line;
 pub use crate::hex::{hex_source, run_hex};

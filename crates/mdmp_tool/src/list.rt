@@ -2,11 +2,11 @@
 ghost use Rattle.std.specs.Prelude.{◌≡◌, ℕ, List, None, Some, Ok, true, IfSome};
 ghost use Rattle.mdmp_source.specs.Range.{IsInside};
 ghost use Rattle.mdmp_lister.specs.Format.Listing.{Run};
-ghost use Rattle.mdmp_tool.specs.Engines.{IsSameRun, IsThrough, Leaves, Reads, Tells, directly, up_to_a_fault};
+ghost use Rattle.mdmp_tool.specs.Engines.{IsSameRun, IsReadThrough, Leaves, ReadsSource, Tells, directly, up_to_a_fault};
 ghost use Rattle.mdmp_tool.specs.Runs.{IsBehindNext, Lists, ListsFile, ListsNext, ListsRun, PutsSymbols};
 ghost use Rattle.mdmp_tool.specs.Text.{symbols_of, symbols_text};
 
-use crate::engine::{Answered, Engine, run, run_source};
+use crate::engine::{Engine, RunAnswered, run, run_source};
 use crate::fault::{ToolFault, told_list};
 use crate::item_lines::put_item_line;
 use crate::lines::put_dump_line;
@@ -42,11 +42,11 @@ pub fn list_source<S: Store + Drop, A: Allocator + Copy, O: Out>(
     limits: Limits,
     pdb: bool,
     out: &mut O,
-) -> Answered<(), S>
+) -> RunAnswered<(), S>
     ensures lists { (file : List ℕ) → source.store.content ≡ Some file → Lists pdb file limits.name (O.state out.old) result.answer (O.state out.new) }
     ensures tells { Tells directly up_to_a_fault source.store source.size (O.state out.old) result.answer (O.state out.new) }
-    ensures reads { Reads source result.answer result.source }
-    ensures through { IsThrough limits source result.answer result.source }
+    ensures reads { ReadsSource source result.answer result.source }
+    ensures through { IsReadThrough limits source result.answer result.source }
 {
     run_source(ListEngine { pdb }, alloc, source, limits, out)
 }

@@ -5,7 +5,7 @@ ghost use Rattle.mdmp_words.specs.Requests.{IsPrintable};
 
 use crate::blocks::{check_in_blocks, hex_in_blocks, list_in_blocks};
 use crate::copy::copy_source;
-use crate::engine::Answered;
+use crate::engine::RunAnswered;
 use crate::fault::{ToolFault, status};
 use crate::fault_lines::fault_line;
 use crate::verdict_lines::put_bad_entries;
@@ -40,21 +40,21 @@ pub fn print_told<S: Store + Drop, A: Allocator + Copy, O: Out, B: Allocator, E:
 {
     match print {
         Print::Check => {
-            let Answered { answer, source } = check_in_blocks(alloc, source, limits, blocks);
+            let RunAnswered { answer, source } = check_in_blocks(alloc, source, limits, blocks);
             Ended {
                 status: tell_check(answer, err),
                 source,
             }
         }
         Print::List { pdb } => {
-            let Answered { answer, source } = list_in_blocks(alloc, source, limits, pdb, blocks);
+            let RunAnswered { answer, source } = list_in_blocks(alloc, source, limits, pdb, blocks);
             Ended {
                 status: tell(answer, err),
                 source,
             }
         }
         Print::Hex(Span { address, length }) => {
-            let Answered { answer, source } = hex_in_blocks(
+            let RunAnswered { answer, source } = hex_in_blocks(
                 alloc, source, limits, address, length, blocks,
             );
             Ended {
@@ -77,7 +77,7 @@ pub fn copy_told<S: Store + Drop, A: Allocator + Copy, O: Out, E: Out>(
 ) -> Ended<S>
     ensures { HasCopied A types limits source (O.state out.old) (E.state err.old) result.status result.source (O.state out.new) (E.state err.new) }
 {
-    let Answered { answer, source } = copy_source(alloc, source, limits, types, out);
+    let RunAnswered { answer, source } = copy_source(alloc, source, limits, types, out);
     Ended {
         status: tell(answer, err),
         source,

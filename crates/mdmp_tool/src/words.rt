@@ -2,8 +2,8 @@
 ghost use Rattle.std.specs.Prelude.{codes, ◌≡◌, ◌⊎◌, ◌∷◌, []};
 ghost use Rattle.std.specs.List.{concat};
 ghost use Rattle.mdmp_source.specs.Output.{OutState};
-ghost use Rattle.mdmp_tool.specs.Commands.{IsTold};
-ghost use Rattle.mdmp_words.specs.Requests.{IsPrintable, IsValid, IsWithin};
+ghost use Rattle.mdmp_tool.specs.Commands.{IsLineTold};
+ghost use Rattle.mdmp_words.specs.Requests.{IsPrintable, IsValid, IsCommandWithin};
 ghost use Rattle.mdmp_disk.specs.Disk.{DiskState};
 ghost use Rattle.mdmp_disk.specs.System.{no_requests, system};
 ghost use Rattle.mdmp_disk.specs.declared.disk.Requests.{Requests};
@@ -102,7 +102,7 @@ fn run_request<D: Disk, A: Allocator + Copy, O: Out, E: Out>(
     out: &mut O,
     err: &mut E,
 ) -> u8
-    requires { IsWithin request.command }
+    requires { IsCommandWithin request.command }
     ensures { EndsCommand A request.entry.command request.entry.limits request.entry.file.now (record { old = D.state disk.old; new = D.state disk.new }) (record { out = O.state out.old; err = E.state err.old }) result (record { out = O.state out.new; err = E.state err.new }) }
 {
     let Request {
@@ -171,7 +171,7 @@ fn copy_file<D: Disk, A: Allocator + Copy, E: Out>(
 /// Tells that the words of a command line are bad, and answers the exit status.
 pub(crate) fn refuse_words<E: Out>(err: &mut E) -> u8
     ensures status { result ≡ 2 }
-    ensures told { IsTold (E.state err.old) (codes "bad command line") (E.state err.new) }
+    ensures told { IsLineTold (E.state err.old) (codes "bad command line") (E.state err.new) }
 {
     let _ = put_error_line(err, &[Piece::Text("bad command line")]);
     2
@@ -180,7 +180,7 @@ pub(crate) fn refuse_words<E: Out>(err: &mut E) -> u8
 /// Tells that a file could not be opened or made, and answers the exit status.
 fn refuse_name<E: Out>(why: &str, name: &str, err: &mut E) -> u8
     ensures status { result ≡ 3 }
-    ensures told { IsTold (E.state err.old) (concat (why.now ∷ name.now ∷ [])) (E.state err.new) }
+    ensures told { IsLineTold (E.state err.old) (concat (why.now ∷ name.now ∷ [])) (E.state err.new) }
 {
     let _ = put_error_line(err, &[Piece::Text(why), Piece::Text(name)]);
     3

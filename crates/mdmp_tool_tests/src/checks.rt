@@ -5,7 +5,7 @@
 use crate::same::assert_same_at;
 use mdmp_source::{BlockOut, MemoryStore, Source, Store};
 use mdmp_test_support::{Room, empty_out, text_in};
-use mdmp_tool::{Answered, Limits, ToolFault, check_in_blocks, check_source, run_check};
+use mdmp_tool::{Limits, RunAnswered, ToolFault, check_in_blocks, check_source, run_check};
 use std::alloc::{Allocator, Global};
 use std::process::Abort;
 use std::test::Fail;
@@ -47,7 +47,7 @@ pub fn check_store<S: Store + Drop, A: Allocator + Copy>(
 pub fn check_counted(alloc: Global, bytes: &[u8], room: Room) -> Result<(Checked, u128), Fail> {
     let mut out = empty_out(alloc, room)?;
     let source = Source::new(MemoryStore::new(bytes));
-    let Answered { answer, source } = check_source(alloc, source, Limits::default(), &mut out);
+    let RunAnswered { answer, source } = check_source(alloc, source, Limits::default(), &mut out);
     let text = text_in(alloc, &out)?;
     Ok((Checked { answer, text }, source.fetched()))
 }

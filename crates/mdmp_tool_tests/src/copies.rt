@@ -5,7 +5,7 @@
 use crate::same::assert_same_at;
 use mdmp_source::{Source, Store};
 use mdmp_test_support::{Room, empty_out};
-use mdmp_tool::{Answered, Limits, ToolFault, TypeSet, copy_source, run_copy};
+use mdmp_tool::{Limits, RunAnswered, ToolFault, TypeSet, copy_source, run_copy};
 use std::alloc::{Allocator, Global};
 use std::process::Abort;
 use std::test::Fail;
@@ -60,7 +60,13 @@ pub fn copy_calls<S: Store + Drop>(
 ) -> Result<(Wrote, u128), Fail> {
     let mut out = empty_out(alloc, ALL)?;
     let limits = Limits::default();
-    let Answered { answer, source } = copy_source(alloc, source, limits, chosen(types)?, &mut out);
+    let RunAnswered { answer, source } = copy_source(
+        alloc,
+        source,
+        limits,
+        chosen(types)?,
+        &mut out,
+    );
     let mut bytes = Vec::new(alloc);
     bytes.extend_from_slice(out.bytes())?;
     Ok((Wrote { answer, bytes }, source.calls()))

@@ -1,5 +1,5 @@
 //! `hex` over the memory lists of files.
-use crate::runs::{FOUR, Span, assert_printed, assert_row, hex, hex_counted};
+use crate::runs::{AddressSpan, FOUR, assert_printed, assert_row, hex, hex_counted};
 use crate::same::assert_same;
 use mdmp_test_support::{
     ABCD_RANGE, WIDE_TEXT, WXYZ_RANGE, last_file, memory_file, short_threads_file, wide_file,
@@ -41,7 +41,7 @@ fn run_hex_succeeds(rt: HostRuntime) -> Result<(), Fail> {
         (&threads, 0x10, 17, unknown),
     ];
     for (bytes, address, length, text) in rows {
-        let printed = hex(rt.alloc(), bytes, Span { address, length })?;
+        let printed = hex(rt.alloc(), bytes, AddressSpan { address, length })?;
         assert_row(&rt, address, &printed, None, text);
     }
     Ok(())
@@ -74,7 +74,7 @@ fn faulty_file_prints_nothing(rt: HostRuntime) -> Result<(), Fail> {
     ];
     for (bytes, fault) in rows {
         for length in [0u32, 4] {
-            let span = Span {
+            let span = AddressSpan {
                 address: 0x1000,
                 length,
             };

@@ -1,20 +1,20 @@
 //! The lines of `hex`.
-use crate::runs::{Span, assert_printed, assert_row, hex, hex_store};
+use crate::runs::{AddressSpan, assert_printed, assert_row, hex, hex_store};
 use mdmp_source::MemoryStore;
-use mdmp_test_support::{NO_RANGE, Range, Room, start_of, two_ranges_file};
+use mdmp_test_support::{ListedRange, NO_RANGE, Room, start_of, two_ranges_file};
 use mdmp_tool::{Limits, ToolFault};
 use std::test::Fail;
 
 /// A range whose bytes stand here.
-fn range(start: u64, size: u32, rva: u32) -> Range {
-    Range { start, size, rva }
+fn range(start: u64, size: u32, rva: u32) -> ListedRange {
+    ListedRange { start, size, rva }
 }
 
 #[test]
 fn lines_begin_at_the_address(rt: HostRuntime) -> Result<(), Fail> {
     let low = range(0x1000, 4, 80);
     let high = range(0x1002, 4, 84);
-    let rows: [([Range; 2], &[u8], u64, u32, &str); 6] = [
+    let rows: [([ListedRange; 2], &[u8], u64, u32, &str); 6] = [
         (
             [low, high],
             b"ABCDwxyz",
@@ -54,7 +54,7 @@ fn lines_begin_at_the_address(rt: HostRuntime) -> Result<(), Fail> {
     ];
     for (ranges, bytes, address, length, text) in rows {
         let file = two_ranges_file(rt.alloc(), &ranges, bytes)?;
-        let printed = hex(rt.alloc(), &file, Span { address, length })?;
+        let printed = hex(rt.alloc(), &file, AddressSpan { address, length })?;
         assert_row(&rt, address, &printed, None, text);
     }
     Ok(())
@@ -64,7 +64,7 @@ fn lines_begin_at_the_address(rt: HostRuntime) -> Result<(), Fail> {
 fn unknown_bytes_are_not_printed(rt: HostRuntime) -> Result<(), Fail> {
     let ranges = [range(10, 1, 80), range(12, 1, 82)];
     let file = two_ranges_file(rt.alloc(), &ranges, b"\x00\xff\x10")?;
-    let span = Span {
+    let span = AddressSpan {
         address: 10,
         length: 3,
     };
@@ -77,7 +77,7 @@ fn unknown_bytes_are_not_printed(rt: HostRuntime) -> Result<(), Fail> {
 fn lines_end_at_the_last_address(rt: HostRuntime) -> Result<(), Fail> {
     let ranges = [range(0xffffffffffffffe8, 24, 80), NO_RANGE];
     let file = two_ranges_file(rt.alloc(), &ranges, &[7; 24])?;
-    let span = Span {
+    let span = AddressSpan {
         address: 0xffffffffffffffe8,
         length: 24,
     };
@@ -94,7 +94,7 @@ fn output_that_refuses_has_the_first_part(rt: HostRuntime) -> Result<(), Fail> {
     let text = "0x0000000000000010: 41 ?? 43\n";
     let ranges = [range(0x10, 1, 80), range(0x12, 1, 82)];
     let file = two_ranges_file(rt.alloc(), &ranges, b"ABC")?;
-    let span = Span {
+    let span = AddressSpan {
         address: 0x10,
         length: 3,
     };

@@ -9,7 +9,7 @@ use mdmp_lister::{Choice, Lister};
 use mdmp_source::{BlockOut, MemoryStore, PatchyOut, Source, Store, write_all};
 use mdmp_test_support::{BY_SEVEN, Room, empty_out, text_in};
 use mdmp_tool::{
-    Answered, FaultKind, Limits, ListFault, ToolFault, fault_line, hex_in_blocks, hex_source,
+    FaultKind, Limits, ListFault, RunAnswered, ToolFault, fault_line, hex_in_blocks, hex_source,
     list_in_blocks, list_next, list_source, put_dump_line, run_hex, run_list,
 };
 use std::alloc::{Allocator, Global};
@@ -25,7 +25,7 @@ pub struct Printed {
 
 /// What a run printed, and the counts of its source.
 #[derive(Drop)]
-pub struct Counted {
+pub struct CountedRun {
     pub printed: Printed,
     pub calls: u128,
     pub fetched: u128,
@@ -33,13 +33,13 @@ pub struct Counted {
 
 /// Addresses that follow each other.
 #[derive(Clone, Copy)]
-pub struct Span {
+pub struct AddressSpan {
     pub address: u64,
     pub length: u32,
 }
 
 /// The four bytes at 0x1000.
-pub const FOUR: Span = Span {
+pub const FOUR: AddressSpan = AddressSpan {
     address: 0x1000,
     length: 4,
 };
@@ -90,11 +90,11 @@ fn printed_in(
 
 fn counted_in<S: Store + Drop>(
     alloc: Global,
-    answered: Answered<(), S>,
+    answered: RunAnswered<(), S>,
     out: &PatchyOut<Global>,
-) -> Result<Counted, Fail> {
-    let Answered { answer, source } = answered;
-    Ok(Counted {
+) -> Result<CountedRun, Fail> {
+    let RunAnswered { answer, source } = answered;
+    Ok(CountedRun {
         printed: printed_in(alloc, answer, out)?,
         calls: source.calls(),
         fetched: source.fetched(),
@@ -156,7 +156,7 @@ pub fn list_pdb<S: Store + Drop>(
 }
 
 /// Lists a file with the least window and no name, and counts what was read.
-pub fn list_counted(alloc: Global, bytes: &[u8], room: Room) -> Result<Counted, Fail> {
+pub fn list_counted(alloc: Global, bytes: &[u8], room: Room) -> Result<CountedRun, Fail> {
     let mut out = empty_out(alloc, room)?;
     let source = Source::new(MemoryStore::new(bytes));
     let answered = list_source(alloc, source, least(0)?, false, &mut out);
@@ -169,17 +169,17 @@ pub fn hex_store<S: Store + Drop, A: Allocator + Copy>(
     heap: A,
     store: S,
     limits: Limits,
-    span: Span,
+    span: AddressSpan,
     room: Room,
 ) -> Result<Printed, Fail> {
-    let Span { address, length } = limited(span)?;
+    let AddressSpan { address, length } = limited(span)?;
     let mut out = empty_out(alloc, room)?;
     let answer = run_hex(heap, store, limits, address, length, &mut out);
     printed_in(alloc, answer, &out)
 }
 
 /// Prints memory of a file, to an output that takes all.
-pub fn hex(alloc: Global, bytes: &[u8], span: Span) -> Result<Printed, Fail> {
+pub fn hex(alloc: Global, bytes: &[u8], span: AddressSpan) -> Result<Printed, Fail> {
     let limits = Limits::default();
     hex_store(
         alloc,
@@ -192,8 +192,8 @@ pub fn hex(alloc: Global, bytes: &[u8], span: Span) -> Result<Printed, Fail> {
 }
 
 /// Prints memory of a file, and counts what was read.
-pub fn hex_counted(alloc: Global, bytes: &[u8], span: Span) -> Result<Counted, Fail> {
-    let Span { address, length } = limited(span)?;
+pub fn hex_counted(alloc: Global, bytes: &[u8], span: AddressSpan) -> Result<CountedRun, Fail> {
+    let AddressSpan { address, length } = limited(span)?;
     let mut out = empty_out(alloc, BY_SEVEN)?;
     let source = Source::new(MemoryStore::new(bytes));
     let limits = Limits::default();
@@ -202,7 +202,7 @@ pub fn hex_counted(alloc: Global, bytes: &[u8], span: Span) -> Result<Counted, F
 }
 
 /// The addresses, where a command may be asked for them.
-fn limited(span: Span) -> Result<Span, Fail>
+fn limited(span: AddressSpan) -> Result<AddressSpan, Fail>
     ensures within { IfOk result (λ asked. asked.address + asked.length ≤ 2 ^ 64) }
     ensures limited { IfOk result (λ asked. asked.length ≤ 2 ^ 20) }
 {
@@ -214,7 +214,12 @@ fn limited(span: Span) -> Result<Span, Fail>
 }
 
 /// Lists a file in blocks of this many bytes.
-pub fn list_blocks(alloc: Global, bytes: &[u8], block: usize, room: Room) -> Result<Counted, Fail> {
+pub fn list_blocks(
+    alloc: Global,
+    bytes: &[u8],
+    block: usize,
+    room: Room,
+) -> Result<CountedRun, Fail> {
     if block == 0 {
         return Err(Fail::new("empty blocks"));
     }
@@ -229,11 +234,11 @@ pub fn list_blocks(alloc: Global, bytes: &[u8], block: usize, room: Room) -> Res
 pub fn hex_blocks(
     alloc: Global,
     bytes: &[u8],
-    span: Span,
+    span: AddressSpan,
     block: usize,
     room: Room,
-) -> Result<Counted, Fail> {
-    let Span { address, length } = limited(span)?;
+) -> Result<CountedRun, Fail> {
+    let AddressSpan { address, length } = limited(span)?;
     if block == 0 {
         return Err(Fail::new("empty blocks"));
     }

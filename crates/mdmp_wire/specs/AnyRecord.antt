@@ -22,12 +22,12 @@ name_rva (any.System system) = Some system.csd_version_rva
 name_rva _ = None
 
 -- the locations of its parts, in the order of its fields
-abbrev pub parts_of : AnyRecord → List Location
-parts_of (any.Thread thread) = thread.stack.memory ∷ thread.thread_context ∷ []
-parts_of (any.Module image) = image.cv_record ∷ image.misc_record ∷ []
-parts_of (any.Memory range) = range.memory ∷ []
-parts_of (any.Exception exception) = exception.thread_context ∷ []
-parts_of _ = []
+abbrev pub part_locations : AnyRecord → List Location
+part_locations (any.Thread thread) = thread.stack.memory ∷ thread.thread_context ∷ []
+part_locations (any.Module image) = image.cv_record ∷ image.misc_record ∷ []
+part_locations (any.Memory range) = range.memory ∷ []
+part_locations (any.Exception exception) = exception.thread_context ∷ []
+part_locations _ = []
 
 -- what it points at, in the order of its fields: a name stands before the parts
 abbrev pub slots_of : AnyRecord → List Slot

@@ -14,15 +14,15 @@ abbrev pub minidump_version : ℕ
 minidump_version = 0xA793
 
 -- what is wrong with a header, or none
-abbrev pub fault_of : Header → Option HeaderFault
-fault_of h =
+abbrev pub header_fault_of : Header → Option HeaderFault
+header_fault_of h =
     if not (h.signature == minidump_signature) then Some BadSignature
     else if not (h.version % 65536 == minidump_version) then Some (BadVersion (h.version % 65536))
     else None
 
 -- what is wrong with the header in the first 32 bytes, or none
 abbrev pub header_fault : List ℕ → Option HeaderFault
-header_fault F = fault_of (header_at F 0)
+header_fault F = header_fault_of (header_at F 0)
 
 -- F begins with the header h of a minidump
 pub record HasHeader (F : List ℕ) (h : Header) : Type 0 where

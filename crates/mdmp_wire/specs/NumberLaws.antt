@@ -88,15 +88,15 @@ pub u64_at-part : (n o : ℕ) (F : List ℕ) → 8 ≤ n → number_at (take n (
 u64_at-part n o F room = number_at-part n o 8 F room
 
 -- what a write of a whole number leaves in k bytes
-pub written : (k : ℕ) (old new bytes : List ℕ) → length old ≡ k → new ≡ bytes ++ drop k old → new ≡ bytes
-written k old new bytes len e =
+pub written_whole : (k : ℕ) (old new bytes : List ℕ) → length old ≡ k → new ≡ bytes ++ drop k old → new ≡ bytes
+written_whole k old new bytes len e =
     let none : drop k old ≡ [] = drop_all k old (omega arith) in
     rw none at e ∙ append-nil bytes
 
 pub written_back : (k n : ℕ) (old new : List ℕ) → length old ≡ k → new ≡ le k n ++ drop k old → n < 256 ^ k → number_at new 0 k ≡ n
 written_back k n old new len e fits =
     let whole : number_at (le k n ++ []) 0 k ≡ n = number_at-le k n [] fits in
-    rw (written k old new (le k n) len e, ← append-nil (le k n)) whole
+    rw (written_whole k old new (le k n) len e, ← append-nil (le k n)) whole
 
 -- ---- several numbers
 

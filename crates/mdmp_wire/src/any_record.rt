@@ -35,7 +35,7 @@ pub enum AnyRecord {
 }
 
 impl AnyRecord {
-    ghost use Rattle.mdmp_wire.specs.AnyRecord.{name_rva, parts_of, slots_of};
+    ghost use Rattle.mdmp_wire.specs.AnyRecord.{name_rva, part_locations, slots_of};
 
     /// Where its name stands, from the start of the file, if records of its kind have one: of a
     /// module and an unloaded module `ModuleNameRva`, of a system `CSDVersionRva`. 0 says that
@@ -56,7 +56,7 @@ impl AnyRecord {
     /// debug record, of a range of memory its bytes, of an exception its registers. The other
     /// kinds have no part: the bytes of a 64-bit range are located nowhere in its record.
     pub fn part(&self, which: usize) -> Option<Location>
-        ensures { result ≡ slice_get (parts_of self.now) which }
+        ensures { result ≡ slice_get (part_locations self.now) which }
     {
         match self {
             AnyRecord::Thread(thread) => [thread.stack.memory, thread.thread_context]

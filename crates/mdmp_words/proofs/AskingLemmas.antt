@@ -11,7 +11,7 @@ use Rattle.clap.specs.declared.parser.matches.ArgMatches.{ArgMatches}
 use Rattle.clap.specs.declared.parser.matches.ArgMatches.TheViews.{out-ArgMatches}
 use Rattle.clap.proofs.OnLiterals.{clap_on_literals}
 use Rattle.mdmp_words.specs.CommandLine.{commands}
-use Rattle.mdmp_words.specs.Requests.{AreRefused, AsksFor, AsksIn, IsTextOf, NamesBy, faults, plain, request_by, request_in, request_named}
+use Rattle.mdmp_words.specs.Requests.{AreRefused, AsksFor, AsksIn, IsTextOf, NamesBy, faults, plain_request, request_by, request_in, request_named}
 use Rattle.mdmp_words.specs.declared.request.Asked.{Asked}
 use Rattle.mdmp_words.specs.declared.request.Asked.TheVariants.{Run, Help, Refused, Bad, Memory}
 use Rattle.mdmp_words.specs.declared.request.Request.{Request}
@@ -37,13 +37,13 @@ tested word other value same unlike where_same where_unlike = go (bytes_eq word 
     go false decides = where_unlike (λ e. let h : false ≡ true = decides.1 e in cc)
 
 -- the request of a command, by its name
-pub named_by : (name : Text) (rows : List Row) (result : Option Request) → NamesBy name rows result → option_map plain result ≡ request_by name rows
+pub named_by : (name : Text) (rows : List Row) (result : Option Request) → NamesBy name rows result → option_map plain_request result ≡ request_by name rows
 named_by name rows result names =
     tested name (codes "check") _ _ _ names.checks
     (λ no_check. tested name (codes "list") _ _ _ names.lists
     (λ no_list. tested name (codes "hex") _ _ _ names.prints
     (λ no_hex. tested name (codes "copy") _ _ _ names.copies
-    (λ no_copy. ap (option_map plain) (names.others no_check no_list no_hex no_copy)))))
+    (λ no_copy. ap (option_map plain_request) (names.others no_check no_list no_hex no_copy)))))
 
 -- `clap` says of these commands which words it takes, and how it parts them
 are_free : is_simple_and_free commands ≡ true

@@ -7,7 +7,7 @@ use Rattle.std.specs.Result.{OkIff, result_ok}
 use Rattle.std.specs.Str.Parse.{AllDigits, IsNumeral, ParsesUnsigned, digits_value}
 use Rattle.std.proofs.lemmas.Bool.Decides.{Decides-and, Decides-ltb}
 use Rattle.std.proofs.lemmas.Str.Parse.{without_leading_plus_none}
-use Rattle.mdmp_words.specs.HexWords.{is_numeral, number_in}
+use Rattle.mdmp_words.specs.NumberWords.{is_numeral, number_in}
 
 all_digits : (base : ℕ) (word : List ℕ) → Decides (list_all (λ c. is_digit c base) word) (AllDigits base word)
 all_digits base [] = (λ _. tt, λ _. refl)

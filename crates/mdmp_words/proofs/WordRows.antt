@@ -1,8 +1,8 @@
 -- What the words of `hex` name, computed by the definitions.
 use Rattle.std.proofs.Common.{◌≡◌, ℕ, [], Option, Some, None, refl}
 use Rattle.std.specs.Prelude.{codes}
-use Rattle.mdmp_words.specs.declared.hex_words.Span.{Span}
-use Rattle.mdmp_words.specs.HexWords.{address_named, length_named, span_named}
+use Rattle.mdmp_words.specs.declared.number_words.Span.{Span}
+use Rattle.mdmp_words.specs.NumberWords.{address_named, length_named, span_named}
 
 abbrev span : ℕ → ℕ → Option Span
 span address length = Some (record { address = address; length = length })

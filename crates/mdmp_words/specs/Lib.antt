@@ -1,4 +1,4 @@
 pub mod CommandLine
-pub mod HexWords
+pub mod NumberWords
 pub mod OptionWords
 pub mod Requests

@@ -4,7 +4,7 @@ use Rattle.std.specs.Option.{option_and_then}
 use Rattle.mdmp_lister.specs.Format.Kind.{greatest_record}
 use Rattle.mdmp_lister.specs.Limits.{most_bytes}
 use Rattle.mdmp_lister.specs.declared.limits.Limits.{Limits}
-use Rattle.mdmp_words.specs.HexWords.{decimal_number}
+use Rattle.mdmp_words.specs.NumberWords.{decimal_number}
 
 -- ---- numbers
 
@@ -25,8 +25,8 @@ pub record Sizes : Type 0 where
   pub window : ℕ
   pub name : ℕ
 
-abbrev pub sizes_of : Limits → Sizes
-sizes_of limits = record { window = limits.window; name = limits.name }
+abbrev pub sizes_in_limits : Limits → Sizes
+sizes_in_limits limits = record { window = limits.window; name = limits.name }
 
 -- these sizes, where they are limits
 abbrev pub sizes_within : ℕ → ℕ → Option Sizes

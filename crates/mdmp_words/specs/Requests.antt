@@ -8,9 +8,9 @@ use Rattle.clap.specs.declared.error.kind.ErrorKind.{ErrorKind}
 use Rattle.clap.specs.declared.error.kind.ErrorKind.TheVariants.{DisplayHelp, DisplayVersion, OutOfMemory}
 use Rattle.mdmp_map.specs.Ranges.{address_end}
 use Rattle.mdmp_words.specs.CommandLine.{commands}
-use Rattle.mdmp_words.specs.HexWords.{length_limit, span_named}
-use Rattle.mdmp_words.specs.OptionWords.{Sizes, limits_named, sizes_of, types_named}
-use Rattle.mdmp_words.specs.declared.hex_words.Span.{Span}
+use Rattle.mdmp_words.specs.NumberWords.{length_limit, span_named}
+use Rattle.mdmp_words.specs.OptionWords.{Sizes, limits_named, sizes_in_limits, types_named}
+use Rattle.mdmp_words.specs.declared.number_words.Span.{Span}
 use Rattle.mdmp_words.specs.declared.request.Asked.{Asked}
 use Rattle.mdmp_words.specs.declared.request.Asked.TheVariants.{Run, Help, Refused, Bad, Memory}
 use Rattle.mdmp_words.specs.declared.request.Command.{Command}
@@ -43,10 +43,10 @@ abbrev pub plain_command : Command → PlainCommand
 plain_command (Printing print) = plain_print print
 plain_command (Copy target types) = copy target.now types
 
-abbrev pub plain : Request → Plain
-plain request = record {
+abbrev pub plain_request : Request → Plain
+plain_request request = record {
   file = request.file.now;
-  sizes = sizes_of request.limits;
+  sizes = sizes_in_limits request.limits;
   command = plain_command request.command;
 }
 
@@ -88,10 +88,10 @@ copy_named rows =
 
 -- the command of this name gives the request that its words ask for
 pub record NamesBy (name : Text) (rows : List Row) (result : Option Request) : Type 0 where
-  pub checks : name ≡ codes "check" → option_map plain result ≡ check_named rows
-  pub lists : name ≡ codes "list" → option_map plain result ≡ list_named rows
-  pub prints : name ≡ codes "hex" → option_map plain result ≡ hex_named rows
-  pub copies : name ≡ codes "copy" → option_map plain result ≡ copy_named rows
+  pub checks : name ≡ codes "check" → option_map plain_request result ≡ check_named rows
+  pub lists : name ≡ codes "list" → option_map plain_request result ≡ list_named rows
+  pub prints : name ≡ codes "hex" → option_map plain_request result ≡ hex_named rows
+  pub copies : name ≡ codes "copy" → option_map plain_request result ≡ copy_named rows
   pub others : name ≢ codes "check" → name ≢ codes "list" → name ≢ codes "hex" → name ≢ codes "copy" → result ≡ None
 
 -- ---- what the words of a command line ask for
@@ -119,7 +119,7 @@ faults words = fault_of commands words
 
 -- the answer to a command and its words: a request where they ask for one
 abbrev pub AsksIn : Option (Text × List Row) → Asked → Type 0
-AsksIn used (Run request) = request_in used ≡ Some (plain request)
+AsksIn used (Run request) = request_in used ≡ Some (plain_request request)
 AsksIn used (Help text) = ⊥
 AsksIn used (Refused text) = ⊥
 AsksIn used Bad = request_in used ≡ None
@@ -132,7 +132,7 @@ AreRefused words = (kind : ErrorKind) × IsAmong kind (faults words) × (kind �
 -- the answer to words: the request that they ask for, or that they ask for none, where they have no fault; help or the version
 -- where they wish for one; a text that refuses them where they have another fault; want of memory at any time
 abbrev pub AsksFor : List Text → Asked → Type 0
-AsksFor words (Run request) = (faults words ≡ []) × (request_named words ≡ Some (plain request))
+AsksFor words (Run request) = (faults words ≡ []) × (request_named words ≡ Some (plain_request request))
 AsksFor words (Help text) = IsAmong DisplayHelp (faults words) ⊎ IsAmong DisplayVersion (faults words)
 AsksFor words (Refused text) = AreRefused words
 AsksFor words Bad = (faults words ≡ []) × (request_named words ≡ None)
@@ -146,13 +146,13 @@ IsPrintable Check = Unit {0}
 IsPrintable (Listing pdb) = Unit {0}
 IsPrintable (Hex span) = (span.length ≤ length_limit) × (span.address + span.length ≤ address_end)
 
-abbrev pub IsWithin : Command → Type 0
-IsWithin (Printing print) = IsPrintable print
-IsWithin (Copy target types) = Unit {0}
+abbrev pub IsCommandWithin : Command → Type 0
+IsCommandWithin (Printing print) = IsPrintable print
+IsCommandWithin (Copy target types) = Unit {0}
 
 -- a request that is to be run can be
 abbrev pub IsValid : Asked → Type 0
-IsValid (Run request) = IsWithin request.command
+IsValid (Run request) = IsCommandWithin request.command
 IsValid (Help text) = Unit {0}
 IsValid (Refused text) = Unit {0}
 IsValid Bad = Unit {0}

@@ -2,10 +2,10 @@
 ghost use Rattle.std.specs.Prelude.{◌≡◌, [], IfSome, map, option_map};
 ghost use Rattle.clap.specs.Words.{all_of, first_of, found_of, rows_of, subcommand_rows_of};
 ghost use Rattle.clap.specs.Values.{kind_of};
-ghost use Rattle.mdmp_words.specs.Requests.{AsksFor, AsksIn, AsksNothing, IsTextOf, IsValid, IsWithin, NamesBy, check_named, copy_named, hex_named, is_set, list_named, named_over, plain, plain_command};
+ghost use Rattle.mdmp_words.specs.Requests.{AsksFor, AsksIn, AsksNothing, IsTextOf, IsValid, IsCommandWithin, NamesBy, check_named, copy_named, hex_named, is_set, list_named, named_over, plain_request, plain_command};
 
 use crate::command_line::command_line;
-use crate::hex_words::span_of;
+use crate::number_words::span_of;
 use crate::option_words::{limits_of, types_of};
 use crate::request::{Asked, Command, Print, Request};
 use clap::error::ErrorKind;
@@ -68,7 +68,7 @@ fn asked_by<'a>(matches: &ArgMatches<'a>) -> Asked<'a>
 /// The request of the command of this name.
 fn named_request<'a>(name: &str, matches: &ArgMatches<'a>) -> Option<Request<'a>>
     ensures named { NamesBy name.now (rows_of (found_of matches.now)) result }
-    ensures within { IfSome result (λ request. IsWithin request.command) }
+    ensures within { IfSome result (λ request. IsCommandWithin request.command) }
 {
     match name {
         "check" => check_request(matches),
@@ -80,31 +80,31 @@ fn named_request<'a>(name: &str, matches: &ArgMatches<'a>) -> Option<Request<'a>
 }
 
 fn check_request<'a>(matches: &ArgMatches<'a>) -> Option<Request<'a>>
-    ensures named { option_map plain result ≡ check_named (rows_of (found_of matches.now)) }
-    ensures within { IfSome result (λ request. IsWithin request.command) }
+    ensures named { option_map plain_request result ≡ check_named (rows_of (found_of matches.now)) }
+    ensures within { IfSome result (λ request. IsCommandWithin request.command) }
 {
     request_over(matches, "FILE", Command::Print(Print::Check))
 }
 
 fn list_request<'a>(matches: &ArgMatches<'a>) -> Option<Request<'a>>
-    ensures named { option_map plain result ≡ list_named (rows_of (found_of matches.now)) }
-    ensures within { IfSome result (λ request. IsWithin request.command) }
+    ensures named { option_map plain_request result ≡ list_named (rows_of (found_of matches.now)) }
+    ensures within { IfSome result (λ request. IsCommandWithin request.command) }
 {
     let pdb = is_set(matches, "pdb");
     request_over(matches, "FILE", Command::Print(Print::List { pdb }))
 }
 
 fn hex_request<'a>(matches: &ArgMatches<'a>) -> Option<Request<'a>>
-    ensures named { option_map plain result ≡ hex_named (rows_of (found_of matches.now)) }
-    ensures within { IfSome result (λ request. IsWithin request.command) }
+    ensures named { option_map plain_request result ≡ hex_named (rows_of (found_of matches.now)) }
+    ensures within { IfSome result (λ request. IsCommandWithin request.command) }
 {
     let span = span_of(word_of(matches, "ADDRESS")?, word_of(matches, "LENGTH")?)?;
     request_over(matches, "FILE", Command::Print(Print::Hex(span)))
 }
 
 fn copy_request<'a>(matches: &ArgMatches<'a>) -> Option<Request<'a>>
-    ensures named { option_map plain result ≡ copy_named (rows_of (found_of matches.now)) }
-    ensures within { IfSome result (λ request. IsWithin request.command) }
+    ensures named { option_map plain_request result ≡ copy_named (rows_of (found_of matches.now)) }
+    ensures within { IfSome result (λ request. IsCommandWithin request.command) }
 {
     let target = word_of(matches, "OUT")?;
     let types = types_of(words_of(matches, "TYPE")?)?;
@@ -113,7 +113,7 @@ fn copy_request<'a>(matches: &ArgMatches<'a>) -> Option<Request<'a>>
 
 /// A command over the file whose name stands under this id, within the limits that were given.
 fn request_over<'a>(matches: &ArgMatches<'a>, id: &str, command: Command<'a>) -> Option<Request<'a>>
-    ensures named { option_map plain result
+    ensures named { option_map plain_request result
         ≡ named_over (rows_of (found_of matches.now)) id.now (plain_command command.entry) }
     ensures same { IfSome result (λ request. request.command ≡ command.entry) }
 {

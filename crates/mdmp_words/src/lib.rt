@@ -9,10 +9,10 @@
 mod asking;
 mod command_line;
 mod help;
-mod hex_words;
+mod number_words;
 mod option_words;
 mod request;
 
 pub use crate::asking::request_of;
-pub use crate::hex_words::Span;
+pub use crate::number_words::Span;
 pub use crate::request::{Asked, Command, Print, Request};

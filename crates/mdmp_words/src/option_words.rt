@@ -1,8 +1,8 @@
 //! The words that say how a file is read, and which streams are copied.
 ghost use Rattle.std.specs.Prelude.{◌≡◌, option_map, map};
-ghost use Rattle.mdmp_words.specs.OptionWords.{decimal32_number, limits_named, number_or, sizes_of, types_named};
+ghost use Rattle.mdmp_words.specs.OptionWords.{decimal32_number, limits_named, number_or, sizes_in_limits, types_named};
 
-use crate::hex_words::decimal_of;
+use crate::number_words::decimal_of;
 use mdmp_lister::{Limits, TypeSet};
 
 /// The most types that can be named.
@@ -11,7 +11,7 @@ const MOST_TYPES: usize = 16;
 /// The limits that the words of `--window` and `--name` name, in bytes. Where one of them is not
 /// given, its default stands.
 pub(crate) fn limits_of(window: Option<&str>, name: Option<&str>) -> Option<Limits>
-    ensures { option_map sizes_of result
+    ensures { option_map sizes_in_limits result
         ≡ limits_named (option_map (λ w. w.now) window.entry) (option_map (λ w. w.now) name.entry) }
 {
     let usual = Limits::default();

@@ -1,5 +1,5 @@
 //! What the words of a command line ask for.
-use crate::hex_words::Span;
+use crate::number_words::Span;
 use mdmp_lister::{Limits, TypeSet};
 
 /// A command, and the file that it is about.

@@ -13,9 +13,9 @@ use Rattle.mdmp_dump.specs.declared.view.PartSize.{PartSize}
 use Rattle.mdmp_dump.specs.declared.view.PartSize.TheVariants as parts
 use Rattle.mdmp_dump.specs.Placed.{far_by, part_room, placed, placed_by, size_at, size_in}
 use Rattle.mdmp_dump.specs.Places.{up}
-use Rattle.mdmp_dump.specs.Shape.{GivesNone, Shape, StreamShape, body_by, body_of, far_of, is_far, room_of, type_told}
+use Rattle.mdmp_dump.specs.Shape.{GivesNone, ViewShape, StreamShape, body_by, body_of, far_of, is_far, room_of, type_told}
 use Rattle.mdmp_writer.specs.Layout.{block_size, blocks_size, fars_size, file_size, first_block}
-use Rattle.mdmp_writer.specs.Gather.{Gathered, HoldsMore, Puts, PutsDump, PutsSome, Writes, gathered}
+use Rattle.mdmp_writer.specs.Gather.{Gathered, HoldsMore, Gathers, PutsDump, PutsSome, Writes, gathered}
 use Rattle.mdmp_writer.specs.Writing.{GoesOut}
 use Rattle.mdmp_writer.specs.Written.{directory, header_of}
 use Rattle.mdmp_writer.proofs.Back.{length-header_bytes}
@@ -25,7 +25,7 @@ use Rattle.mdmp_writer.proofs.Sending.{holding, puts_flush, puts_held, puts_noth
 pub some_none : (a : Gathered) → PutsSome a 0 a
 some_none a = record { text = []; count = refl; puts = puts_nothing a }
 
-pub some_of : (a b : Gathered) (text : List ℕ) (n : ℕ) → Puts a text b → length text ≡ n → PutsSome a n b
+pub some_of : (a b : Gathered) (text : List ℕ) (n : ℕ) → Gathers a text b → length text ≡ n → PutsSome a n b
 some_of a b text n puts count = record { text = text; count = count; puts = puts }
 
 pub some_then : (a b c : Gathered) (m n : ℕ) → PutsSome a m b → PutsSome b n c → PutsSome a (m + n) c
@@ -174,8 +174,8 @@ raw_block s t is stray =
 -- ---- the whole
 
 -- a header and a directory, and as much behind them as all streams take
-pub dump_then : {T E : Type 0} (r : Result T E) (a b c d : Gathered) (shape : Shape) → Puts a (header_bytes (header_of shape.header (length shape.streams))) b
-    → Puts b (directory shape.streams (first_block shape.streams)) c → OnOk r (PutsSome c (blocks_size shape.streams + fars_size shape.streams) d) → OnOk r (PutsDump shape a d)
+pub dump_then : {T E : Type 0} (r : Result T E) (a b c d : Gathered) (shape : ViewShape) → Gathers a (header_bytes (header_of shape.header (length shape.streams))) b
+    → Gathers b (directory shape.streams (first_block shape.streams)) c → OnOk r (PutsSome c (blocks_size shape.streams + fars_size shape.streams) d) → OnOk r (PutsDump shape a d)
 dump_then (Ok x) a b c d shape head entries behind =
     let front = header_bytes (header_of shape.header (length shape.streams)) in
     let names = directory shape.streams (first_block shape.streams) in
@@ -197,8 +197,8 @@ dump_then (Ok x) a b c d shape head entries behind =
 dump_then (Err e) a b c d shape head entries behind = tt
 
 -- and it went out, where nothing was held before and nothing is held behind it
-pub dump_out : (shape : Shape) (size : ℕ) (before mid after : OutState) (held left : List ℕ) → size ≡ file_size shape.streams → PutsDump shape (gathered before []) (gathered mid held)
-    → Puts (gathered mid held) [] (gathered after left) → left ≡ [] → GoesOut shape size before after
+pub dump_out : (shape : ViewShape) (size : ℕ) (before mid after : OutState) (held left : List ℕ) → size ≡ file_size shape.streams → PutsDump shape (gathered before []) (gathered mid held)
+    → Gathers (gathered mid held) [] (gathered after left) → left ≡ [] → GoesOut shape size before after
 dump_out shape size before mid after held left is put flushed empty = record {
   text = put.some.text;
   count = put.some.count ∙ sym is;

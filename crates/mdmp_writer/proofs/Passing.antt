@@ -12,7 +12,7 @@ use Rattle.mdmp_dump.specs.declared.view.PartSize.TheVariants.{NoPart, Size, Abs
 use Rattle.mdmp_dump.specs.Placed.{bytes_in, fields_room, name_around, name_room, part_room, parts_by, room_by, size_at, size_in}
 use Rattle.mdmp_dump.specs.Places.{up}
 use Rattle.mdmp_dump.specs.Seen.{Seen}
-use Rattle.mdmp_dump.specs.Shape.{AreOf, IsSized, Shape, StreamShape, asks_of, cost_at, fars, is_far, room_of, rooms, seen_at, shape_of, stream_at, type_told, unused_shape}
+use Rattle.mdmp_dump.specs.Shape.{AreOf, IsSized, ViewShape, StreamShape, asks_of, cost_at, fars, is_far, room_of, rooms, seen_at, shape_seen, stream_at, type_told, unused_shape}
 use Rattle.mdmp_dump.specs.View.{DumpSeen}
 use Rattle.mdmp_writer.specs.Passes.{all_asks, all_block_asks, all_block_passes, all_costs, all_far_asks, all_far_passes, block_asks, block_passes, far_asks, far_passes, parts_asks, parts_passes, sum_below}
 use Rattle.mdmp_writer.specs.Written.{all_padded, padded, parts_of}
@@ -80,7 +80,7 @@ twice f zero = omega (arith, sum_none (λ k. f k + f k), sum_none f)
 twice f (suc n) = omega (arith, sum_suc (λ k. f k + f k) n, sum_suc f n, twice f n)
 
 -- so a dump costs twice its passes at most, and its bytes are asked for once
-pub passes_within : (s : Shape) → all_block_passes s + all_far_passes s ≤ 2 * all_costs s
+pub passes_within : (s : ViewShape) → all_block_passes s + all_far_passes s ≤ 2 * all_costs s
 passes_within s =
     let n = length s.streams in
     omega (
@@ -90,7 +90,7 @@ passes_within s =
       sum_within (λ (c : ℕ). c) 0 refl s.costs n,
     )
 
-pub asks_within : (s : Shape) → all_block_asks s + all_far_asks s ≤ all_asks s
+pub asks_within : (s : ViewShape) → all_block_asks s + all_far_asks s ≤ all_asks s
 asks_within s =
     let n = length s.streams in
     omega (
@@ -196,7 +196,7 @@ near_rooms (kinds.Known t) xs of none = nine_or t (t == 9) xs refl of none
 near_rooms (kinds.Raw t) xs of none = none
 
 -- where the names and parts of a stream take no room behind its body, none are written there
-pub no_second : (s : Shape) (x : DumpSeen) (k : ℕ) → s.streams ≡ map shape_of x.streams → AreOf (seen_at x k).kind (seen_at x k).records
+pub no_second : (s : ViewShape) (x : DumpSeen) (k : ℕ) → s.streams ≡ map shape_seen x.streams → AreOf (seen_at x k).kind (seen_at x k).records
     → room_of (stream_at s k) ≡ 0 → all_padded (parts_of (seen_at x k).records) ≡ []
 no_second s x k e of none =
     let y = seen_at x k in
@@ -210,8 +210,8 @@ pub near_room : (s : StreamShape) → s.parts ≡ 0 → room_of s ≡ 0
 near_room s none = near_if (is_far s.kind) s.parts none
 
 -- a stream of another known type costs a second pass, which asks for its names and parts
-pub near_passes : (s : Shape) (k t : ℕ) → (stream_at s k).kind ≡ kinds.Known t → (t == 9) ≡ false → parts_passes s k ≡ cost_at s k
+pub near_passes : (s : ViewShape) (k t : ℕ) → (stream_at s k).kind ≡ kinds.Known t → (t == 9) ≡ false → parts_passes s k ≡ cost_at s k
 near_passes s k t is near = ap (λ (o : Kind). if is_far o then 0 else cost_at s k) is ∙ ap (λ (b : Bool). if b then 0 else cost_at s k) near
 
-pub near_asks : (s : Shape) (k t : ℕ) → (stream_at s k).kind ≡ kinds.Known t → (t == 9) ≡ false → parts_asks s k ≡ (stream_at s k).bytes
+pub near_asks : (s : ViewShape) (k t : ℕ) → (stream_at s k).kind ≡ kinds.Known t → (t == 9) ≡ false → parts_asks s k ≡ (stream_at s k).bytes
 near_asks s k t is near = ap (λ (o : Kind). if is_far o then 0 else (stream_at s k).bytes) is ∙ ap (λ (b : Bool). if b then 0 else (stream_at s k).bytes) near

@@ -5,7 +5,7 @@ use Rattle.std.proofs.lemmas.Bool.{ne_eqb}
 use Rattle.std.proofs.lemmas.List.{length-map}
 use Rattle.std.proofs.lemmas.List.Elements.{recursion_from_All}
 use Rattle.mdmp_source.specs.declared.location.Location.{Location}
-use Rattle.mdmp_lister.specs.declared.kind.Kind.{Kind}
+use Rattle.mdmp_lister.specs.declared.kind.StreamKind.{StreamKind}
 use Rattle.mdmp_lister.specs.Format.Shape.{shape_of}
 use Rattle.mdmp_dump.specs.declared.dump.Stream.{Stream}
 use Rattle.mdmp_dump.specs.LaysOut.{HasRecords, StandsAt}
@@ -28,7 +28,7 @@ memory_text s = if is_far s.kind then ranges_text s.records else []
 
 -- the shape of a value's stream
 abbrev pub shape_in : {Z : Type 0} → Stream Z → StreamShape
-shape_in s = shapes.shape_of (stream_seen s)
+shape_in s = shapes.shape_seen (stream_seen s)
 
 -- what is written of a stream has the lengths that its shape tells, and is read again: its body stands at a place, its
 -- names and parts behind it, and its 64-bit memory elsewhere
@@ -62,7 +62,7 @@ module _ {X : Type 0} {size : ℕ} {see : X → Seen} {Fits : X → Type 0} {IsA
       omega (arith, length-append head body, len, rows-length size see Fits form.length_is at xs (recursion_from_All Fits xs fits), count)
 
   -- they are read again, where their parts stand at a place
-  unfoldable pub records_read : (F : List ℕ) (kind : Kind) (at first n place : ℕ) (head : List ℕ) (xs : List X) → length head ≡ first → n ≡ first + length (map see xs) * size
+  unfoldable pub records_read : (F : List ℕ) (kind : StreamKind) (at first n place : ℕ) (head : List ℕ) (xs : List X) → length head ≡ first → n ≡ first + length (map see xs) * size
       → shape_of F at n kind ≡ Ok (shape_from first size (length (map see xs))) → All Fits xs → 0 < place → place + rooms (map see xs) < 2 ^ 32
       → Stands F at (head ++ rows place (map see xs)) → Stands F place (all_padded (parts_of (map see xs))) → HasRecords F (record { size = n; rva = at }) kind (λ k o. IsAt F o) xs
   records_read F kind at first n place head xs len whole shaped fits pos low there behind = record {
@@ -74,7 +74,7 @@ module _ {X : Type 0} {size : ℕ} {see : X → Seen} {Fits : X → Type 0} {IsA
   }
 
   -- the same at their location
-  pub records_stand : (F : List ℕ) (kind : Kind) (at first n place : ℕ) (head : List ℕ) (xs : List X) → length head ≡ first → n ≡ first + length (map see xs) * size → 0 < n
+  pub records_stand : (F : List ℕ) (kind : StreamKind) (at first n place : ℕ) (head : List ℕ) (xs : List X) → length head ≡ first → n ≡ first + length (map see xs) * size → 0 < n
       → shape_of F at n kind ≡ Ok (shape_from first size (length (map see xs))) → All Fits xs → 0 < place → place + rooms (map see xs) < 2 ^ 32
       → Stands F at (head ++ rows place (map see xs)) → Stands F place (all_padded (parts_of (map see xs))) → HasRecords F (bytes_location n at) kind (λ k o. IsAt F o) xs
   records_stand F kind at first n place head xs len whole some shaped fits pos low there behind =

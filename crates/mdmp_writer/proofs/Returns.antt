@@ -8,7 +8,7 @@ use Rattle.mdmp_dump.specs.declared.fault.ReadFault.{ReadFault}
 use Rattle.mdmp_dump.specs.declared.fault.ReadFault.TheVariants as reads
 use Rattle.mdmp_dump.specs.Reading.{IsOwn, store_fault}
 use Rattle.mdmp_dump.specs.Refusal.{read_refusal}
-use Rattle.mdmp_dump.specs.Within.{IsWithin}
+use Rattle.mdmp_dump.specs.Within.{IsWithinLimits}
 use Rattle.mdmp_writer.specs.Layout.{layout_fault}
 use Rattle.mdmp_writer.specs.RoundTrip.{ComesBack, not_read}
 use Rattle.mdmp_writer.specs.Written.{written}
@@ -17,9 +17,9 @@ use Rattle.mdmp_writer.specs.Written.{written}
 no_store : (fault : ReadFault) → store_fault fault ≡ None → (told : SourceFault) × (store_fault fault ≡ Some told) → ⊥
 no_store fault none own = none-some own.0 (sym none ∙ own.1)
 
-module _ {Z : Type 0} (d : Dump Z) (names parts : ℕ) (writable : layout_fault d ≡ None) (reads_within : IsWithin names parts d → read_refusal (written d) All names parts ≡ None) where
+module _ {Z : Type 0} (d : Dump Z) (names parts : ℕ) (writable : layout_fault d ≡ None) (reads_within : IsWithinLimits names parts d → read_refusal (written d) All names parts ≡ None) where
   refused : (fault : ReadFault) → read_refusal (written d) All names parts ≡ Some fault
-      → (layout_fault d ≡ None) × (read_refusal (written d) All names parts ≡ Some fault) × (IsWithin names parts d → ⊥)
+      → (layout_fault d ≡ None) × (read_refusal (written d) All names parts ≡ Some fault) × (IsWithinLimits names parts d → ⊥)
   refused fault is = (writable, is, λ within. none-some fault (sym (reads_within within) ∙ is))
 
   pub not_back : (fault : ReadFault) → ((IsOwn fault → ⊥) → read_refusal (written d) All names parts ≡ Some fault) → store_fault fault ≡ None → ComesBack d names parts (Err (not_read fault))

@@ -16,13 +16,13 @@ use Rattle.mdmp_lister.specs.Format.Listing.{Numbered, entries_from, only_chosen
 use Rattle.mdmp_dump.specs.declared.dump.Stream.{Stream}
 use Rattle.mdmp_dump.specs.declared.dump.Dump.{Dump}
 use Rattle.mdmp_dump.specs.Fits.{StreamFits, Fits}
-use Rattle.mdmp_dump.specs.LaysOut.{IsStream, AreStreams, LaysOut}
+use Rattle.mdmp_dump.specs.LaysOut.{NamesStream, AreStreams, LaysOut}
 use Rattle.mdmp_dump.specs.Places.{up}
-use Rattle.mdmp_dump.specs.Shape.{StreamShape, body_of, far_of, shape_of}
+use Rattle.mdmp_dump.specs.Shape.{StreamShape, body_of, far_of, shape_seen}
 use Rattle.mdmp_dump.specs.View.{header_seen, kind_in, records_seen, stream_seen}
 use Rattle.mdmp_writer.specs.declared.fault.LayoutFault.TheVariants.{TooLarge}
 use Rattle.mdmp_writer.specs.Layout.{block_size, blocks_end, blocks_size, far_size, fars_size, fault_behind, file_size, first_block, first_misnamed, is_misnamed, is_too_large, layout_fault, written_size}
-use Rattle.mdmp_writer.specs.Written.{all_padded, block_text, blocks, body_text, directory, entry_of, far_text, fars, header_of, padding, parts_of, type_by, written}
+use Rattle.mdmp_writer.specs.Written.{all_padded, block_text, blocks, body_text, directory, written_entry, far_text, far_texts, header_of, padding, parts_of, type_by, written}
 use Rattle.mdmp_writer.proofs.Standing.{Stands, stands_whole, stands_first, stands_second, stands_inside, stands_room, stands_record}
 use Rattle.mdmp_writer.proofs.Back.{header_back, length-header_bytes, entry_back, length-entry_bytes}
 use Rattle.mdmp_writer.proofs.Placing.{length-padding}
@@ -46,24 +46,24 @@ pub length-directory : (ss : List StreamShape) (at : ℕ) → length (directory 
 unfolding directory
 length-directory [] at = refl
 length-directory (s ∷ ss) at =
-    omega (arith, length-append (entry_bytes (entry_of s at)) (directory ss (at + block_size s)), length-entry_bytes (entry_of s at), length-directory ss (at + block_size s))
+    omega (arith, length-append (entry_bytes (written_entry s at)) (directory ss (at + block_size s)), length-entry_bytes (written_entry s at), length-directory ss (at + block_size s))
 
 module _ {Z : Type 0} where
   -- the shapes of streams
   abbrev shapes : List (Stream Z) → List StreamShape
-  shapes ss = map shape_of (map stream_seen ss)
+  shapes ss = map shape_seen (map stream_seen ss)
 
   -- the streams that are not misnamed
   abbrev AreNamed : List (Stream Z) → Type 0
   AreNamed ss = Each (λ s. is_misnamed (kind_in s) ≡ false) ss
 
   length-shapes : (ss : List (Stream Z)) → length (shapes ss) ≡ length ss
-  length-shapes ss = length-map (map stream_seen ss) shape_of ∙ length-map ss (stream_seen {Z = Z})
+  length-shapes ss = length-map (map stream_seen ss) shape_seen ∙ length-map ss (stream_seen {Z = Z})
 
   -- ---- one stream
 
   block_read : (F : List ℕ) (s : Stream Z) (at far : ℕ) → StreamFits s → is_misnamed (kind_in s) ≡ false → 0 < at → at + block_size (shape_in s) < 2 ^ 32 → far + far_size (shape_in s) < 2 ^ 64
-      → Stands F at (block_text (stream_seen s) at far) → Stands F far (far_text (stream_seen s)) → (e : Entry) → e ≡ entry_of (shape_in s) at → IsStream F e s
+      → Stands F at (block_text (stream_seen s) at far) → Stands F far (far_text (stream_seen s)) → (e : Entry) → e ≡ written_entry (shape_in s) at → NamesStream F e s
   block_read F s at far fits named pos low near there beyond e is =
       let size = body_of (shape_in s) in
       let place = at + up size in
@@ -74,7 +74,7 @@ module _ {Z : Type 0} where
       let behind = stands_second F at (up size) place (b ++ padding size) parts len refl there in
       let memory = stands_first F far (memory_text (stream_seen s)) (padding (far_of (shape_in s))) beyond in
       let stands = (stream_read s fits).stands F at place far named pos refl (omega (arith, low)) (omega (arith, near)) begun behind memory in
-      subst (λ (x : Entry). IsStream F x s) (sym is) (record { type_is = (stream_read s fits).type_is; stands = stands })
+      subst (λ (x : Entry). NamesStream F x s) (sym is) (record { type_is = (stream_read s fits).type_is; stands = stands })
 
   -- ---- all of them
 
@@ -86,19 +86,19 @@ module _ {Z : Type 0} where
       let beyond = far + far_size (shape_in s) in
       omega (arith, length-append (block_text (stream_seen s) at far) (blocks (map stream_seen ss) next beyond), length-block s at far fits.0, length-blocks ss next beyond fits.1)
 
-  pub length-fars : (ss : List (Stream Z)) → Each StreamFits ss → length (fars (map stream_seen ss)) ≡ fars_size (shapes ss)
-  unfolding fars fars_size
-  length-fars [] fits = refl
-  length-fars (s ∷ ss) fits = omega (arith, length-append (far_text (stream_seen s)) (fars (map stream_seen ss)), length-far s fits.0, length-fars ss fits.1)
+  pub length-far_texts : (ss : List (Stream Z)) → Each StreamFits ss → length (far_texts (map stream_seen ss)) ≡ fars_size (shapes ss)
+  unfolding far_texts fars_size
+  length-far_texts [] fits = refl
+  length-far_texts (s ∷ ss) fits = omega (arith, length-append (far_text (stream_seen s)) (far_texts (map stream_seen ss)), length-far s fits.0, length-far_texts ss fits.1)
 
   streams_read : (F : List ℕ) (ss : List (Stream Z)) (e at far : ℕ) → Each StreamFits ss → AreNamed ss → 0 < at → at + blocks_size (shapes ss) < 2 ^ 32 → far + fars_size (shapes ss) < 2 ^ 64
-      → (header_at F 0).stream_directory_rva ≡ 32 → Stands F (32 + 12 * e) (directory (shapes ss) at) → Stands F at (blocks (map stream_seen ss) at far) → Stands F far (fars (map stream_seen ss))
+      → (header_at F 0).stream_directory_rva ≡ 32 → Stands F (32 + 12 * e) (directory (shapes ss) at) → Stands F at (blocks (map stream_seen ss) at far) → Stands F far (far_texts (map stream_seen ss))
       → AreStreams F (entries_from F (length ss) e) ss
-  unfolding directory blocks fars blocks_size fars_size entries_from
+  unfolding directory blocks far_texts blocks_size fars_size entries_from
   streams_read F [] e at far fits named pos low near base there begun beyond = tt
   streams_read F (s ∷ ss) e at far fits named pos low near base there begun beyond =
       let shape = shape_in s in
-      let entry = entry_of shape at in
+      let entry = written_entry shape at in
       let bytes = entry_bytes entry in
       let rest = directory (shapes ss) (at + block_size shape) in
       let small : type_by (kind_in s) < 2 ^ 32 = omega (arith, (stream_read s fits.0).type_is, (stream_read s fits.0).type_fits) in
@@ -110,11 +110,11 @@ module _ {Z : Type 0} where
       let others = blocks (map stream_seen ss) (at + block_size shape) (far + far_size shape) in
       let memory = far_text (stream_seen s) in
       let first = block_read F s at far fits.0 named.0 pos (omega (arith, low)) (omega (arith, near)) (stands_first F at block others begun)
-      (stands_first F far memory (fars (map stream_seen ss)) beyond) (listing.entry_of F e) named_by in
+      (stands_first F far memory (far_texts (map stream_seen ss)) beyond) (listing.entry_of F e) named_by in
       let later = streams_read F ss (e + 1) (at + block_size shape) (far + far_size shape) fits.1 named.1 (omega (arith, pos)) (omega (arith, low)) (omega (arith, near)) base
       (stands_second F (32 + 12 * e) 12 (32 + 12 * (e + 1)) bytes rest (length-entry_bytes entry) (omega arith) there)
       (stands_second F at (block_size shape) (at + block_size shape) block others (length-block s at far fits.0) refl begun)
-      (stands_second F far (far_size shape) (far + far_size shape) memory (fars (map stream_seen ss)) (length-far s fits.0) refl beyond) in
+      (stands_second F far (far_size shape) (far + far_size shape) memory (far_texts (map stream_seen ss)) (length-far s fits.0) refl beyond) in
       (first, later)
 
   named_from : (k : ℕ) (ss : List (Stream Z)) → first_misnamed k (shapes ss) ≡ None → AreNamed ss
@@ -139,7 +139,7 @@ module _ {Z : Type 0} where
       let hb = header_bytes h in
       let dir = directory told at in
       let bl = blocks (map stream_seen ss) at far in
-      let fr = fars (map stream_seen ss) in
+      let fr = far_texts (map stream_seen ss) in
       let all_fit = recursion_from_All StreamFits ss fits.streams in
       let layout = layout_good told (first_misnamed 0 told) good in
       let sizes = or_parts (nat_le (2 ^ 32) far) (nat_le (2 ^ 64) (file_size told)) layout.1 in
@@ -194,7 +194,7 @@ module _ {Z : Type 0} where
       let hb = header_bytes h in
       let dir = directory told at in
       let bl = blocks (map stream_seen ss) at far in
-      let fr = fars (map stream_seen ss) in
+      let fr = far_texts (map stream_seen ss) in
       let all_fit = recursion_from_All StreamFits ss fits.streams in
       omega (
         arith,
@@ -204,5 +204,5 @@ module _ {Z : Type 0} where
         length-header_bytes h,
         length-directory told at,
         length-blocks ss at far all_fit,
-        length-fars ss all_fit,
+        length-far_texts ss all_fit,
       )

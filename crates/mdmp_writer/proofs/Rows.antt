@@ -13,7 +13,7 @@ use Rattle.mdmp_dump.specs.Shape.{StreamShape, rooms, fars as memory_in}
 use Rattle.mdmp_dump.specs.Value.{select}
 use Rattle.mdmp_writer.specs.declared.fault.LayoutFault.TheVariants.{RawKnownType, TooLarge}
 use Rattle.mdmp_writer.specs.Layout.{written_size, blocks_size, fars_size, first_misnamed, shape_fault, layout_fault}
-use Rattle.mdmp_writer.specs.Written.{all_padded, rows, parts_of, ranges_text, blocks, fars, directory, written}
+use Rattle.mdmp_writer.specs.Written.{all_padded, rows, parts_of, ranges_text, blocks, far_texts, directory, written}
 use Rattle.mdmp_writer.proofs.Dumps as dumps
 
 -- what stands in the six streams' file: those of the two other files, with places of their own
@@ -56,92 +56,92 @@ module _ (Z : Type 0) where
 
   -- the values of files that were written, written again
   system-written : written system_dump ≡ system_file
-  unfolding number_at le rooms memory_in all_padded rows parts_of ranges_text blocks fars directory blocks_size fars_size first_misnamed
+  unfolding number_at le rooms memory_in all_padded rows parts_of ranges_text blocks far_texts directory blocks_size fars_size first_misnamed
   system-written = refl
 
   crash-written : written crash_dump ≡ crash_file
-  unfolding number_at le rooms memory_in all_padded rows parts_of ranges_text blocks fars directory blocks_size fars_size first_misnamed
+  unfolding number_at le rooms memory_in all_padded rows parts_of ranges_text blocks far_texts directory blocks_size fars_size first_misnamed
   crash-written = refl
 
   system-size : written_size system_dump ≡ 136
-  unfolding number_at le rooms memory_in all_padded rows parts_of ranges_text blocks fars directory blocks_size fars_size first_misnamed
+  unfolding number_at le rooms memory_in all_padded rows parts_of ranges_text blocks far_texts directory blocks_size fars_size first_misnamed
   system-size = refl
 
   crash-size : written_size crash_dump ≡ 292
-  unfolding number_at le rooms memory_in all_padded rows parts_of ranges_text blocks fars directory blocks_size fars_size first_misnamed
+  unfolding number_at le rooms memory_in all_padded rows parts_of ranges_text blocks far_texts directory blocks_size fars_size first_misnamed
   crash-size = refl
 
   six-size : written_size six_streams ≡ 444
-  unfolding number_at le rooms memory_in all_padded rows parts_of ranges_text blocks fars directory blocks_size fars_size first_misnamed
+  unfolding number_at le rooms memory_in all_padded rows parts_of ranges_text blocks far_texts directory blocks_size fars_size first_misnamed
   six-size = refl
 
   six-written : written six_streams ≡ six_file
-  unfolding number_at le rooms memory_in all_padded rows parts_of ranges_text blocks fars directory blocks_size fars_size first_misnamed
+  unfolding number_at le rooms memory_in all_padded rows parts_of ranges_text blocks far_texts directory blocks_size fars_size first_misnamed
   six-written = refl
 
   -- two of six streams, written
   selected-written : written (select six_streams (3 ∷ 6 ∷ [])) ≡ crash_file
-  unfolding number_at le rooms memory_in all_padded rows parts_of ranges_text blocks fars directory blocks_size fars_size first_misnamed
+  unfolding number_at le rooms memory_in all_padded rows parts_of ranges_text blocks far_texts directory blocks_size fars_size first_misnamed
   selected-written = refl
 
   -- a module's name stands before its parts, and behind the stream
   module-written : written (dump_of (streams.Modules (dumps.module_of 0x1000 (Bytes (codes "xyz")) (Absent 5) ∷ []) ∷ [])) ≡ module_file
-  unfolding number_at le rooms memory_in all_padded rows parts_of ranges_text blocks fars directory blocks_size fars_size first_misnamed
+  unfolding number_at le rooms memory_in all_padded rows parts_of ranges_text blocks far_texts directory blocks_size fars_size first_misnamed
   module-written = refl
 
   -- a thread whose stack stays absent
   absent_stack-written : written absent_stack ≡ absent_stack_file ++ zeros 3
-  unfolding number_at le rooms memory_in all_padded rows parts_of ranges_text blocks fars directory blocks_size fars_size first_misnamed
+  unfolding number_at le rooms memory_in all_padded rows parts_of ranges_text blocks far_texts directory blocks_size fars_size first_misnamed
   absent_stack-written = refl
 
   -- a dump without streams
   empty-written : written (dump_of []) ≡ head 0 32
-  unfolding number_at le rooms memory_in all_padded rows parts_of ranges_text blocks fars directory blocks_size fars_size first_misnamed
+  unfolding number_at le rooms memory_in all_padded rows parts_of ranges_text blocks far_texts directory blocks_size fars_size first_misnamed
   empty-written = refl
 
   unused-written : written (dump_of (streams.Unused ∷ [])) ≡ head 1 32 ++ zeros 12
-  unfolding number_at le rooms memory_in all_padded rows parts_of ranges_text blocks fars directory blocks_size fars_size first_misnamed
+  unfolding number_at le rooms memory_in all_padded rows parts_of ranges_text blocks far_texts directory blocks_size fars_size first_misnamed
   unused-written = refl
 
   -- raw bytes that are none
   no_bytes-written : written (dump_of (streams.Raw 10 [] ∷ [])) ≡ head 1 32 ++ entry 10 0 0
-  unfolding number_at le rooms memory_in all_padded rows parts_of ranges_text blocks fars directory blocks_size fars_size first_misnamed
+  unfolding number_at le rooms memory_in all_padded rows parts_of ranges_text blocks far_texts directory blocks_size fars_size first_misnamed
   no_bytes-written = refl
 
   raw-written : written (dump_of (streams.Raw 10 (1 ∷ 2 ∷ 3 ∷ 4 ∷ 5 ∷ []) ∷ [])) ≡ head 1 32 ++ entry 10 5 44 ++ 1 ∷ 2 ∷ 3 ∷ 4 ∷ 5 ∷ zeros 3
-  unfolding number_at le rooms memory_in all_padded rows parts_of ranges_text blocks fars directory blocks_size fars_size first_misnamed
+  unfolding number_at le rooms memory_in all_padded rows parts_of ranges_text blocks far_texts directory blocks_size fars_size first_misnamed
   raw-written = refl
 
   -- a stream that stands twice is written twice
   repeated-written : written_size (dump_of (streams.Raw 10 (1 ∷ []) ∷ streams.Raw 10 (1 ∷ []) ∷ [])) ≡ 64
-  unfolding number_at le rooms memory_in all_padded rows parts_of ranges_text blocks fars directory blocks_size fars_size first_misnamed
+  unfolding number_at le rooms memory_in all_padded rows parts_of ranges_text blocks far_texts directory blocks_size fars_size first_misnamed
   repeated-written = refl
 
   -- 64-bit memory stands behind all streams, and a list of none names the place
   memory64-written : written (dump_of (streams.Memory64 (record { start = 0x1000; bytes = codes "ABCD" } ∷ record { start = 0x2000; bytes = codes "E" } ∷ []) ∷ streams.Memory64 [] ∷ [])) ≡ head 2 32 ++ entry 9 48 56 ++ entry 9 16 104 ++ le 8 2 ++ le 8 120 ++ le 8 0x1000 ++ le 8 4 ++ le 8 0x2000 ++ le 8 1 ++ le 8 0 ++ le 8 128 ++ codes "ABCDE" ++ zeros 3
-  unfolding number_at le rooms memory_in all_padded rows parts_of ranges_text blocks fars directory blocks_size fars_size first_misnamed
+  unfolding number_at le rooms memory_in all_padded rows parts_of ranges_text blocks far_texts directory blocks_size fars_size first_misnamed
   memory64-written = refl
 
   -- raw bytes of a known type
   raw_threads : layout_fault (dump_of (streams.Raw 3 [] ∷ [])) ≡ Some (RawKnownType 0)
-  unfolding number_at le rooms memory_in all_padded rows parts_of ranges_text blocks fars directory blocks_size fars_size first_misnamed
+  unfolding number_at le rooms memory_in all_padded rows parts_of ranges_text blocks far_texts directory blocks_size fars_size first_misnamed
   raw_threads = refl
 
   raw_unused : layout_fault (dump_of (streams.Unused ∷ streams.Raw 0 (1 ∷ []) ∷ [])) ≡ Some (RawKnownType 1)
-  unfolding number_at le rooms memory_in all_padded rows parts_of ranges_text blocks fars directory blocks_size fars_size first_misnamed
+  unfolding number_at le rooms memory_in all_padded rows parts_of ranges_text blocks far_texts directory blocks_size fars_size first_misnamed
   raw_unused = refl
 
   crash-fault : layout_fault crash_dump ≡ None
-  unfolding number_at le rooms memory_in all_padded rows parts_of ranges_text blocks fars directory blocks_size fars_size first_misnamed
+  unfolding number_at le rooms memory_in all_padded rows parts_of ranges_text blocks far_texts directory blocks_size fars_size first_misnamed
   crash-fault = refl
 
   -- a stream of each kind
   each-size : length (written each_kind) ≡ written_size each_kind
-  unfolding number_at le rooms memory_in all_padded rows parts_of ranges_text blocks fars directory blocks_size fars_size first_misnamed
+  unfolding number_at le rooms memory_in all_padded rows parts_of ranges_text blocks far_texts directory blocks_size fars_size first_misnamed
   each-size = refl
 
   each-fault : layout_fault each_kind ≡ None
-  unfolding number_at le rooms memory_in all_padded rows parts_of ranges_text blocks fars directory blocks_size fars_size first_misnamed
+  unfolding number_at le rooms memory_in all_padded rows parts_of ranges_text blocks far_texts directory blocks_size fars_size first_misnamed
   each-fault = refl
 
 -- ---- by sizes alone

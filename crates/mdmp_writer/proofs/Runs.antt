@@ -2,12 +2,12 @@
 use Rattle.std.proofs.Common.{◌≡◌, ◌∙◌, ℕ, List, [], ◌++◌, ap, sym, subst, append_assoc, append-nil, Option, None, Some, Err, Ok, Bool}
 use Rattle.mdmp_source.specs.Output.{OutState, Takes, TakesPrefix}
 use Rattle.mdmp_dump.specs.declared.dump.Dump.{Dump}
-use Rattle.mdmp_dump.specs.Shape.{Shape, StreamShape}
+use Rattle.mdmp_dump.specs.Shape.{ViewShape, StreamShape}
 use Rattle.mdmp_dump.specs.View.{dump_seen}
 use Rattle.mdmp_writer.specs.declared.fault.LayoutFault.{LayoutFault}
 use Rattle.mdmp_writer.specs.declared.fault.WriteFault.{WriteFault}
 use Rattle.mdmp_writer.specs.declared.fault.WriteFault.TheVariants.{Layout, Out, View}
-use Rattle.mdmp_writer.specs.Gather.{Gathered, Puts, PutsPrefix, gathered}
+use Rattle.mdmp_writer.specs.Gather.{Gathered, Gathers, GathersPrefix, gathered}
 use Rattle.mdmp_writer.specs.Layout.{file_size, layout_fault, shape_fault, shapes_in, size_answer, size_or}
 use Rattle.mdmp_writer.specs.Cause.{HasCause}
 use Rattle.mdmp_writer.specs.Writing.{IsWritingOf, IsWritingOfDump}
@@ -16,12 +16,12 @@ use Rattle.mdmp_writer.proofs.Sending.{puts_flush}
 
 -- ---- what went out, where nothing was held at first
 
-pub all_out : (before after : OutState) (mid : Gathered) (held text : List ℕ) → held ≡ [] → Puts (gathered before []) text mid → Puts mid [] (gathered after held) → Takes before.taken text after.taken
+pub all_out : (before after : OutState) (mid : Gathered) (held text : List ℕ) → held ≡ [] → Gathers (gathered before []) text mid → Gathers mid [] (gathered after held) → Takes before.taken text after.taken
 all_out before after mid held text none put flushed =
     let whole = puts_flush (gathered before []) mid (gathered after held) text put flushed in
     subst (λ (t : List ℕ). Takes before.taken t after.taken) (sym (whole.whole ∙ ap (λ (h : List ℕ). whole.sent ++ h) none ∙ append-nil whole.sent)) whole.took
 
-pub cut_out : (before : OutState) (after : Gathered) (text : List ℕ) → PutsPrefix (gathered before []) text after → TakesPrefix before.taken text after.taken
+pub cut_out : (before : OutState) (after : Gathered) (text : List ℕ) → GathersPrefix (gathered before []) text after → TakesPrefix before.taken text after.taken
 cut_out before after text cut = record {
   sent = cut.puts.sent;
   rest = after.held ++ cut.rest;
@@ -37,7 +37,7 @@ size_of_shape ss n none is = ap (size_or (file_size ss)) none ∙ ap Ok (sym is)
 pub fault_of_shape : (ss : List StreamShape) (fault : LayoutFault) → shape_fault ss ≡ Some fault → size_answer ss ≡ Err fault
 fault_of_shape ss fault is = ap (size_or (file_size ss)) is
 
-pub stopped : (s : Shape) (fault : WriteFault) (before mid after : OutState) (reliable : Bool) → shape_fault s.streams ≡ None → reliable ≡ s.is_reliable → mid.failures ≡ before.failures
+pub stopped : (s : ViewShape) (fault : WriteFault) (before mid after : OutState) (reliable : Bool) → shape_fault s.streams ≡ None → reliable ≡ s.is_reliable → mid.failures ≡ before.failures
     → HasCause {T = Unit {0}} reliable (Err fault) mid after → IsWritingOf s (Err fault) before after
 stopped s Out before mid after reliable none is steady cause = (none, rw steady at cause)
 stopped s (View fault) before mid after reliable none is steady cause = (none, rw is at cause.0, cause.1 ∙ steady)

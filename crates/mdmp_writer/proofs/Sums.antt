@@ -5,40 +5,40 @@ use Rattle.std.proofs.lemmas.List.{drop_more}
 use Rattle.std.proofs.lemmas.Option.{none-some}
 use Rattle.std.proofs.Math.ListN.{drop_of_length-le}
 use Rattle.std.proofs.lemmas.Bool.{or_left, or_right, or_from, or_parts, le-leb, leb-false, lt-leb}
-use Rattle.mdmp_dump.specs.Shape.{Shape, StreamShape, stream_at, unused_shape}
+use Rattle.mdmp_dump.specs.Shape.{ViewShape, StreamShape, stream_at, unused_shape}
 use Rattle.mdmp_writer.specs.declared.fault.LayoutFault.TheVariants.{TooLarge}
 use Rattle.mdmp_writer.specs.Layout.{block_size, blocks_end, blocks_size, fault_behind, file_size, is_too_large, shape_fault, far_size, fars_size, first_misnamed, is_misnamed, IsRoom}
 
-pub next_stream : (s : Shape) (k : ℕ) → k < length s.streams → drop k s.streams ≡ stream_at s k ∷ drop (k + 1) s.streams
+pub next_stream : (s : ViewShape) (k : ℕ) → k < length s.streams → drop k s.streams ≡ stream_at s k ∷ drop (k + 1) s.streams
 next_stream s k fewer = drop_more s.streams k unused_shape fewer
 
-pub blocks_next : (s : Shape) (k : ℕ) → k < length s.streams → blocks_size (drop k s.streams) ≡ block_size (stream_at s k) + blocks_size (drop (k + 1) s.streams)
+pub blocks_next : (s : ViewShape) (k : ℕ) → k < length s.streams → blocks_size (drop k s.streams) ≡ block_size (stream_at s k) + blocks_size (drop (k + 1) s.streams)
 unfolding blocks_size
 blocks_next s k fewer = ap blocks_size (next_stream s k fewer)
 
-pub fars_next : (s : Shape) (k : ℕ) → k < length s.streams → fars_size (drop k s.streams) ≡ far_size (stream_at s k) + fars_size (drop (k + 1) s.streams)
+pub fars_next : (s : ViewShape) (k : ℕ) → k < length s.streams → fars_size (drop k s.streams) ≡ far_size (stream_at s k) + fars_size (drop (k + 1) s.streams)
 unfolding fars_size
 fars_next s k fewer = ap fars_size (next_stream s k fewer)
 
-pub blocks_none : (s : Shape) (k : ℕ) → length s.streams ≤ k → blocks_size (drop k s.streams) ≡ 0
+pub blocks_none : (s : ViewShape) (k : ℕ) → length s.streams ≤ k → blocks_size (drop k s.streams) ≡ 0
 unfolding blocks_size
 blocks_none s k past = ap blocks_size (drop_of_length-le s.streams past)
 
-pub fars_none : (s : Shape) (k : ℕ) → length s.streams ≤ k → fars_size (drop k s.streams) ≡ 0
+pub fars_none : (s : ViewShape) (k : ℕ) → length s.streams ≤ k → fars_size (drop k s.streams) ≡ 0
 unfolding fars_size
 fars_none s k past = ap fars_size (drop_of_length-le s.streams past)
 
 -- ---- the first stream that is misnamed
 
-pub misnamed_here : (s : Shape) (k : ℕ) → k < length s.streams → is_misnamed (stream_at s k).kind ≡ true → first_misnamed k (drop k s.streams) ≡ Some k
+pub misnamed_here : (s : ViewShape) (k : ℕ) → k < length s.streams → is_misnamed (stream_at s k).kind ≡ true → first_misnamed k (drop k s.streams) ≡ Some k
 unfolding first_misnamed
 misnamed_here s k fewer is = ap (first_misnamed k) (next_stream s k fewer) ∙ (rw is refl)
 
-pub misnamed_later : (s : Shape) (k : ℕ) → k < length s.streams → is_misnamed (stream_at s k).kind ≡ false → first_misnamed k (drop k s.streams) ≡ first_misnamed (k + 1) (drop (k + 1) s.streams)
+pub misnamed_later : (s : ViewShape) (k : ℕ) → k < length s.streams → is_misnamed (stream_at s k).kind ≡ false → first_misnamed k (drop k s.streams) ≡ first_misnamed (k + 1) (drop (k + 1) s.streams)
 unfolding first_misnamed
 misnamed_later s k fewer is = ap (first_misnamed k) (next_stream s k fewer) ∙ (rw is refl)
 
-pub misnamed_none : (s : Shape) (k : ℕ) → length s.streams ≤ k → first_misnamed k (drop k s.streams) ≡ None
+pub misnamed_none : (s : ViewShape) (k : ℕ) → length s.streams ≤ k → first_misnamed k (drop k s.streams) ≡ None
 unfolding first_misnamed
 misnamed_none s k past = ap (first_misnamed k) (drop_of_length-le s.streams past)
 
@@ -54,7 +54,7 @@ pub not_too_large : (ss : List StreamShape) → blocks_end ss < 2 ^ 32 → file_
 not_too_large ss low short = or_from _ _ (lt-leb (2 ^ 32) (blocks_end ss) low) (lt-leb (2 ^ 64) (file_size ss) short)
 
 -- a stream that takes too much is too large, and so are all
-pub past_room : (s : Shape) (k blocks far : ℕ) → k < length s.streams → blocks + blocks_size (drop k s.streams) ≡ blocks_end s.streams
+pub past_room : (s : ViewShape) (k blocks far : ℕ) → k < length s.streams → blocks + blocks_size (drop k s.streams) ≡ blocks_end s.streams
     → far + fars_size (drop k s.streams) ≡ fars_size s.streams → IsRoom (stream_at s k) None → IsTrue (is_too_large s.streams)
 past_room s k blocks far fewer b f (inl past) = too_large_blocks s.streams (omega (arith, b, past, blocks_next s k fewer))
 past_room s k blocks far fewer b f (inr past) = too_large_file s.streams (omega (arith, f, past, fars_next s k fewer))
@@ -74,7 +74,7 @@ far_within (s ∷ ss) zero = omega arith
 far_within (s ∷ ss) (suc k) = omega (arith, far_within ss k)
 
 -- a stream stands below the end of all
-pub ends_below : (s : Shape) (k at : ℕ) → k < length s.streams → at + blocks_size (drop k s.streams) ≡ blocks_end s.streams → at + block_size (stream_at s k) ≤ blocks_end s.streams
+pub ends_below : (s : ViewShape) (k at : ℕ) → k < length s.streams → at + blocks_size (drop k s.streams) ≡ blocks_end s.streams → at + block_size (stream_at s k) ≤ blocks_end s.streams
 ends_below s k at fewer e = omega (arith, e, blocks_next s k fewer)
 
 -- ---- what can be written

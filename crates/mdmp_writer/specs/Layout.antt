@@ -5,12 +5,12 @@ use Rattle.mdmp_dump.specs.declared.dump.Dump.{Dump}
 use Rattle.mdmp_dump.specs.declared.view.Kind.{Kind}
 use Rattle.mdmp_dump.specs.declared.view.Kind.TheVariants as kinds
 use Rattle.mdmp_dump.specs.Places.{up}
-use Rattle.mdmp_dump.specs.Shape.{StreamShape, body_of, room_of, far_of, shape_of}
+use Rattle.mdmp_dump.specs.Shape.{StreamShape, body_of, room_of, far_of, shape_seen}
 use Rattle.mdmp_dump.specs.View.{DumpSeen, dump_seen}
 use Rattle.mdmp_writer.specs.declared.fault.LayoutFault.{LayoutFault}
 use Rattle.mdmp_writer.specs.declared.fault.LayoutFault.TheVariants.{RawKnownType, TooLarge}
-use Rattle.mdmp_writer.specs.declared.layout.Ends.{Ends}
-use Rattle.mdmp_writer.specs.declared.layout.Room.{Room}
+use Rattle.mdmp_writer.specs.declared.layout.LayoutEnds.{LayoutEnds}
+use Rattle.mdmp_writer.specs.declared.layout.StreamRoom.{StreamRoom}
 
 -- ---- sizes
 
@@ -81,19 +81,19 @@ abbrev pub size_answer : List StreamShape → Result ℕ LayoutFault
 size_answer ss = size_or (file_size ss) (shape_fault ss)
 
 -- what a stream takes, or that this is too much
-abbrev pub IsRoom : StreamShape → Option Room → Type 0
+abbrev pub IsRoom : StreamShape → Option StreamRoom → Type 0
 IsRoom s (Some room) = (room.block ≡ block_size s) × (room.far ≡ far_size s)
 IsRoom s None = (2 ^ 32 ≤ block_size s) ⊎ (2 ^ 64 ≤ far_size s)
 
 -- where the streams end, and the file
-pub record AreEnds (ss : List StreamShape) (ends : Ends) : Type 0 where
+pub record AreEnds (ss : List StreamShape) (ends : LayoutEnds) : Type 0 where
   pub blocks : ends.blocks ≡ blocks_end ss
   pub file : ends.file ≡ file_size ss
 
 -- ---- of a dump
 
 abbrev pub shapes_in : DumpSeen → List StreamShape
-shapes_in x = map shape_of x.streams
+shapes_in x = map shape_seen x.streams
 
 module _ {Z : Type 0} where
   -- how many bytes it has as it is written

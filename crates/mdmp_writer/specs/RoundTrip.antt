@@ -5,7 +5,7 @@ use Rattle.mdmp_dump.specs.declared.dump.Dump.{Dump}
 use Rattle.mdmp_dump.specs.declared.fault.ReadFault.{ReadFault}
 use Rattle.mdmp_dump.specs.declared.fault.ReadFault.TheVariants as reads
 use Rattle.mdmp_dump.specs.Refusal.{read_refusal}
-use Rattle.mdmp_dump.specs.Within.{IsWithin}
+use Rattle.mdmp_dump.specs.Within.{IsWithinLimits}
 use Rattle.mdmp_writer.specs.declared.round_trip.RoundTripFault.{RoundTripFault}
 use Rattle.mdmp_writer.specs.declared.round_trip.RoundTripFault.TheVariants as backs
 use Rattle.mdmp_writer.specs.declared.round_trip.ToMemoryFault.{ToMemoryFault}
@@ -30,5 +30,5 @@ module _ {Z : Type 0} where
   ComesBack d name_limit part_limit (Ok back) = (layout_fault d ≡ None) × (back ≡ d)
   ComesBack d name_limit part_limit (Err (backs.Layout fault)) = layout_fault d ≡ Some fault
   ComesBack d name_limit part_limit (Err (backs.Read fault)) =
-      (layout_fault d ≡ None) × (read_refusal (written d) All name_limit part_limit ≡ Some fault) × (IsWithin name_limit part_limit d → ⊥)
+      (layout_fault d ≡ None) × (read_refusal (written d) All name_limit part_limit ≡ Some fault) × (IsWithinLimits name_limit part_limit d → ⊥)
   ComesBack d name_limit part_limit (Err backs.Memory) = layout_fault d ≡ None

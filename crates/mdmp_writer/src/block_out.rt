@@ -16,7 +16,7 @@ use crate::fault::WriteFault;
 use crate::gather::Gather;
 use crate::parts_out::put_parts;
 use crate::pieces::{put_padded, put_padding};
-use crate::place::{Place, up};
+use crate::place::{StreamPlace, up};
 use crate::sizes::count_of;
 use mdmp_dump::{DumpView, Kind, PartSize};
 use mdmp_source::Out;
@@ -91,7 +91,7 @@ fn put_records<V: DumpView, O: Out>(
     stream: u64,
     stream_type: u32,
     body: u64,
-    place: Place,
+    place: StreamPlace,
 ) -> Result<(), WriteFault>
     requires stream { stream < length (V.shape view.old).streams }
     requires kind { (stream_at (V.shape view.old) stream).kind ≡ Known stream_type }
@@ -108,7 +108,7 @@ fn put_records<V: DumpView, O: Out>(
     ensures moves { V.Moves view.old view.new }
 {
     let count = count_of(stream_type, body);
-    let behind = Place {
+    let behind = StreamPlace {
         at: place.at + up(body),
         far: place.far,
     };
@@ -153,7 +153,7 @@ pub(crate) fn put_block<V: DumpView, O: Out>(
     out: &mut O,
     gather: &mut Gather<'_>,
     stream: u64,
-    place: Place,
+    place: StreamPlace,
 ) -> Result<(), WriteFault>
     requires stream { stream < length (V.shape view.old).streams }
     requires room { place.at + block_size (stream_at (V.shape view.old) stream) < 2 ^ 32 }

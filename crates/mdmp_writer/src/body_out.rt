@@ -10,11 +10,11 @@ ghost use Rattle.mdmp_writer.specs.Written.{head_by_kind, head_text, rows};
 
 use crate::fault::WriteFault;
 use crate::gather::Gather;
-use crate::place::Place;
+use crate::place::StreamPlace;
 use crate::record_bytes::put_record;
 use crate::rows_out::put_rows;
 use mdmp_dump::DumpView;
-use mdmp_lister::{Form, Kind};
+use mdmp_lister::{Form, StreamKind};
 use mdmp_source::Out;
 use mdmp_wire::{Memory64List, MemoryInfoList, UnloadedList};
 
@@ -23,7 +23,7 @@ use mdmp_wire::{Memory64List, MemoryInfoList, UnloadedList};
 fn put_kind_head<O: Out>(
     out: &mut O,
     gather: &mut Gather<'_>,
-    kind: Kind,
+    kind: StreamKind,
     count: u64,
     far: u64,
 ) -> Result<(), WriteFault>
@@ -80,7 +80,7 @@ fn put_head<O: Out>(
     ensures cause { (reliable : Bool) → HasCause reliable result (O.state out.old) (O.state out.new) }
     ensures told { (last : Option ViewFault) → IsToldBy result last }
 {
-    match Kind::of_type(stream_type) {
+    match StreamKind::of_type(stream_type) {
         Some(kind) => put_kind_head(out, gather, kind, count, far),
         None => Ok(()),
     }
@@ -95,7 +95,7 @@ pub(crate) fn put_body<V: DumpView, O: Out>(
     stream: u64,
     stream_type: u32,
     count: u64,
-    place: Place,
+    place: StreamPlace,
 ) -> Result<(), WriteFault>
     requires stream { stream < length (V.shape view.old).streams }
     requires count { count ≡ (stream_at (V.shape view.old) stream).records }

@@ -9,13 +9,13 @@ ghost use Rattle.mdmp_writer.specs.Layout.{AreEnds, blocks_end, blocks_size, far
 ghost use Rattle.mdmp_writer.specs.Cause.{HasCause, IsToldBy};
 ghost use Rattle.mdmp_writer.specs.Passes.{all_asks, all_costs};
 ghost use Rattle.mdmp_writer.specs.Writing.{GoesOut, IsWritingOf, IsWritingOfDump};
-ghost use Rattle.mdmp_writer.specs.Written.{blocks, fars, text_of};
+ghost use Rattle.mdmp_writer.specs.Written.{blocks, far_texts, seen_text};
 
 use crate::fault::WriteFault;
 use crate::gather::Gather;
 use crate::head_out::{put_directory, put_header};
-use crate::layout::{Ends, layout};
-use crate::place::Place;
+use crate::layout::{LayoutEnds, layout};
+use crate::place::StreamPlace;
 use crate::streams_out::{put_blocks, put_fars};
 use mdmp_dump::DumpView;
 use mdmp_source::Out;
@@ -63,13 +63,13 @@ fn put_dump<V: DumpView, O: Out>(
     view: &mut V,
     out: &mut O,
     gather: &mut Gather<'_>,
-    ends: Ends,
+    ends: LayoutEnds,
 ) -> Result<(), WriteFault>
     requires fault { shape_fault (V.shape view.old).streams ≡ None }
     requires ends { AreEnds (V.shape view.old).streams ends }
     ensures shape { V.shape view.new ≡ V.shape view.old }
     ensures writes { (x : DumpSeen) → (V.shape view.old).seen ≡ Some x → AllAreKnown x
-        → Writes result (gathered (O.state out.old) gather.old) (text_of x) (gathered (O.state out.new) gather.new) }
+        → Writes result (gathered (O.state out.old) gather.old) (seen_text x) (gathered (O.state out.new) gather.new) }
     ensures out { OnOk result (PutsDump (V.shape view.old) (gathered (O.state out.old) gather.old) (gathered (O.state out.new) gather.new)) }
     ensures cause { HasCause (V.shape view.old).is_reliable result (O.state out.old) (O.state out.new) }
     ensures passed { (V.spent view.new).passed ≤ (V.spent view.old).passed + 2 * all_costs (V.shape view.old) }
@@ -83,7 +83,7 @@ fn put_dump<V: DumpView, O: Out>(
     match put_header(out, gather, header, streams) {
         Ok(()) => match put_directory(view, out, gather, first) {
             Ok(()) => {
-                let place = Place {
+                let place = StreamPlace {
                     at: first,
                     far: ends.blocks,
                 };
@@ -100,14 +100,14 @@ fn put_streams<V: DumpView, O: Out>(
     view: &mut V,
     out: &mut O,
     gather: &mut Gather<'_>,
-    first: Place,
+    first: StreamPlace,
 ) -> Result<(), WriteFault>
     requires fault { shape_fault (V.shape view.old).streams ≡ None }
     requires at { first.at ≡ first_block (V.shape view.old).streams }
     requires far { first.far ≡ blocks_end (V.shape view.old).streams }
     ensures shape { V.shape view.new ≡ V.shape view.old }
     ensures writes { (x : DumpSeen) → (V.shape view.old).seen ≡ Some x → AllAreKnown x
-        → Writes result (gathered (O.state out.old) gather.old) (blocks x.streams first.at first.far ++ fars x.streams) (gathered (O.state out.new) gather.new) }
+        → Writes result (gathered (O.state out.old) gather.old) (blocks x.streams first.at first.far ++ far_texts x.streams) (gathered (O.state out.new) gather.new) }
     ensures some { OnOk result (PutsSome (gathered (O.state out.old) gather.old) (blocks_size (V.shape view.old).streams + fars_size (V.shape view.old).streams) (gathered (O.state out.new) gather.new)) }
     ensures cause { HasCause (V.shape view.old).is_reliable result (O.state out.old) (O.state out.new) }
     ensures passed { (V.spent view.new).passed ≤ (V.spent view.old).passed + 2 * all_costs (V.shape view.old) }

@@ -2,7 +2,7 @@
 ghost use Rattle.std.specs.Prelude.{◌≡◌, ◌≤◌, ◌<◌, ◌+◌, ◌-◌, ◌++◌, ℕ, List, [], length, take, drop, get_or, min, nat_lt, Bool, Option, IsTrue, Some, IfErr, IfOk, OnOk, MatchResult};
 ghost use Rattle.mdmp_source.specs.Output.{refused_if};
 ghost use Rattle.mdmp_dump.specs.declared.view.ViewFault.{ViewFault};
-ghost use Rattle.mdmp_writer.specs.Gather.{gathered, HoldsMore, Puts, Writes};
+ghost use Rattle.mdmp_writer.specs.Gather.{gathered, HoldsMore, Gathers, Writes};
 ghost use Rattle.mdmp_writer.specs.Cause.{HasCause, IsToldBy};
 
 use crate::fault::WriteFault;
@@ -41,7 +41,7 @@ impl<'b> Gather<'b> {
 
     /// Sends what is held to the output. Where that refuses, what it did not take is still held.
     pub(crate) fn flush<O: Out>(&mut self, out: &mut O) -> Result<(), WriteFault>
-        ensures puts { Puts (gathered (O.state out.old) self.old) [] (gathered (O.state out.new) self.new) }
+        ensures puts { Gathers (gathered (O.state out.old) self.old) [] (gathered (O.state out.new) self.new) }
         ensures empties { OnOk result (self.new ≡ []) }
         ensures cause { (reliable : Bool) → HasCause reliable result (O.state out.old) (O.state out.new) }
         ensures told { (last : Option ViewFault) → IsToldBy result last }
@@ -124,7 +124,7 @@ fn send_front<O: Out>(out: &mut O, buffer: &mut [u8], held: usize) -> usize
     requires { held ≤ length buffer.old }
     ensures len { length buffer.new ≡ length buffer.old }
     ensures bound { result ≤ held }
-    ensures puts { Puts (gathered (O.state out.old) (take held buffer.old)) [] (gathered (O.state out.new) (take result buffer.new)) }
+    ensures puts { Gathers (gathered (O.state out.old) (take held buffer.old)) [] (gathered (O.state out.new) (take result buffer.new)) }
     ensures failures { (O.state out.new).failures ≡ refused_if (nat_lt 0 result) (O.state out.old).failures }
 {
     let sent = send(out, &buffer[..held]);

@@ -6,7 +6,7 @@ ghost use Rattle.mdmp_wire.specs.Header.{header_bytes};
 ghost use Rattle.mdmp_writer.specs.Gather.{gathered, Writes};
 ghost use Rattle.mdmp_writer.specs.Layout.{blocks_end, file_size, first_block};
 ghost use Rattle.mdmp_writer.specs.Cause.{HasCause, IsToldBy};
-ghost use Rattle.mdmp_writer.specs.Written.{directory, entry_of, header_of, type_by};
+ghost use Rattle.mdmp_writer.specs.Written.{directory, written_entry, header_of, type_by};
 
 use crate::fault::WriteFault;
 use crate::gather::Gather;
@@ -57,7 +57,7 @@ fn entry_for<V: DumpView>(view: &mut V, stream: u64, at: u64) -> Entry
     requires place { at < 2 ^ 32 }
     requires body { body_of (stream_at (V.shape view.old) stream) < 2 ^ 32 }
     ensures shape { V.shape view.new ≡ V.shape view.old }
-    ensures entry { result ≡ entry_of (stream_at (V.shape view.old) stream) at }
+    ensures entry { result ≡ written_entry (stream_at (V.shape view.old) stream) at }
     ensures spent { V.spent view.new ≡ V.spent view.old }
     ensures moves { V.Moves view.old view.new }
 {

@@ -7,11 +7,11 @@ ghost use Rattle.mdmp_writer.specs.Layout.{AreEnds, block_size, far_size, first_
 use crate::fault::LayoutFault;
 use crate::place::up;
 use mdmp_dump::{DumpView, Kind};
-use mdmp_lister::Kind as ListKind;
+use mdmp_lister::StreamKind as StreamKind;
 
 /// What a stream takes.
 #[derive(Clone, Copy)]
-pub(crate) struct Room {
+pub(crate) struct StreamRoom {
     /// Its body and behind it its names and parts.
     pub block: u64,
     /// Its 64-bit memory, which stands behind all streams.
@@ -20,7 +20,7 @@ pub(crate) struct Room {
 
 /// Where what is written ends.
 #[derive(Clone, Copy)]
-pub(crate) struct Ends {
+pub(crate) struct LayoutEnds {
     /// The streams; the 64-bit memory stands behind them.
     pub blocks: u64,
     /// The file.
@@ -44,7 +44,7 @@ pub fn written_size<V: DumpView>(view: &mut V) -> Result<u64, LayoutFault>
 }
 
 /// Where what is written ends, or why it can't be written.
-pub(crate) fn layout<V: DumpView>(view: &mut V) -> Result<Ends, LayoutFault>
+pub(crate) fn layout<V: DumpView>(view: &mut V) -> Result<LayoutEnds, LayoutFault>
     ensures shape { V.shape view.new ≡ V.shape view.old }
     ensures cursor { V.cursor view.new ≡ V.cursor view.old }
     ensures ends { MatchResult result
@@ -70,7 +70,9 @@ fn is_misnamed(kind: Kind) -> bool
     match kind {
         Kind::Unused => false,
         Kind::Known(_) => false,
-        Kind::Raw(stream_type) => { stream_type == 0 || ListKind::of_type(stream_type).is_some() },
+        Kind::Raw(stream_type) => {
+            stream_type == 0 || StreamKind::of_type(stream_type).is_some()
+        },
     }
 }
 
@@ -96,13 +98,13 @@ pub(crate) fn is_far(kind: Kind) -> bool
 {
     match kind {
         Kind::Unused => false,
-        Kind::Known(stream_type) => stream_type == ListKind::Memory64.stream_type(),
+        Kind::Known(stream_type) => stream_type == StreamKind::Memory64.stream_type(),
         Kind::Raw(_) => false,
     }
 }
 
 /// What a stream takes that is not too much.
-pub(crate) fn room_for<V: DumpView>(view: &mut V, stream: u64) -> Room
+pub(crate) fn room_for<V: DumpView>(view: &mut V, stream: u64) -> StreamRoom
     requires stream { stream < length (V.shape view.old).streams }
     requires block { block_size (stream_at (V.shape view.old) stream) < 2 ^ 33 }
     requires far { far_size (stream_at (V.shape view.old) stream) < 2 ^ 64 }
@@ -115,12 +117,12 @@ pub(crate) fn room_for<V: DumpView>(view: &mut V, stream: u64) -> Room
     let body = up(view.body_size(stream));
     let parts = view.parts_size(stream);
     if is_far(view.kind(stream)) {
-        Room {
+        StreamRoom {
             block: body,
             far: up(parts),
         }
     } else {
-        Room {
+        StreamRoom {
             block: body + parts,
             far: 0,
         }
@@ -128,7 +130,7 @@ pub(crate) fn room_for<V: DumpView>(view: &mut V, stream: u64) -> Room
 }
 
 /// What a stream takes, or none where that is too much.
-fn room_if<V: DumpView>(view: &mut V, stream: u64) -> Option<Room>
+fn room_if<V: DumpView>(view: &mut V, stream: u64) -> Option<StreamRoom>
     requires stream { stream < length (V.shape view.old).streams }
     ensures shape { V.shape view.new ≡ V.shape view.old }
     ensures cursor { V.cursor view.new ≡ V.cursor view.old }
@@ -164,7 +166,7 @@ fn directory_end(streams: u64) -> Option<u64>
 }
 
 /// Where the streams and the file end, or none where that is past the greatest address.
-fn find_ends<V: DumpView>(view: &mut V) -> Option<Ends>
+fn find_ends<V: DumpView>(view: &mut V) -> Option<LayoutEnds>
     ensures shape { V.shape view.new ≡ V.shape view.old }
     ensures cursor { V.cursor view.new ≡ V.cursor view.old }
     ensures ends { MatchOption result
@@ -197,7 +199,7 @@ fn find_ends<V: DumpView>(view: &mut V) -> Option<Ends>
     if far > u64::MAX - blocks {
         return None;
     }
-    Some(Ends {
+    Some(LayoutEnds {
         blocks,
         file: blocks + far,
     })

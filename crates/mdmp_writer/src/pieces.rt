@@ -2,7 +2,7 @@
 ghost use Rattle.std.specs.Prelude.{◌≡◌, ◌<◌, ◌≤◌, ◌+◌, ℕ, List, [], Some, length, take, drop, get_or, Bool, Option, IfOk, OnOk, MatchResult};
 ghost use Rattle.mdmp_dump.specs.declared.view.ViewFault.{ViewFault};
 ghost use Rattle.mdmp_dump.specs.Placed.{part_room, size_in};
-ghost use Rattle.mdmp_writer.specs.Gather.{gathered, Puts, PutsSome, Writes};
+ghost use Rattle.mdmp_writer.specs.Gather.{gathered, Gathers, PutsSome, Writes};
 ghost use Rattle.mdmp_writer.specs.Cause.{HasCause, IsToldBy};
 ghost use Rattle.mdmp_writer.specs.Written.{padded, padding};
 
@@ -27,8 +27,8 @@ fn fetch_more<V: DumpView, O: Out>(
     ensures bound { IfOk result (λ k. (0 < k) × (k ≤ most) × (V.cursor view.new ≡ V.cursor view.old)) }
     ensures puts { MatchResult result
         (λ k. (parts : List (List ℕ)) → (V.cursor view.old).parts ≡ Some parts
-        → Puts (gathered (O.state out.old) gather.old) (take k (drop at (get_or parts which []))) (gathered (O.state out.new) gather.new))
-        (λ _. Puts (gathered (O.state out.old) gather.old) [] (gathered (O.state out.new) gather.new)) }
+        → Gathers (gathered (O.state out.old) gather.old) (take k (drop at (get_or parts which []))) (gathered (O.state out.new) gather.new))
+        (λ _. Gathers (gathered (O.state out.old) gather.old) [] (gathered (O.state out.new) gather.new)) }
     ensures some { IfOk result (λ k. PutsSome (gathered (O.state out.old) gather.old) k (gathered (O.state out.new) gather.new)) }
     ensures cause { HasCause (V.shape view.old).is_reliable result (O.state out.old) (O.state out.new) }
     ensures passed { (V.spent view.new).passed ≤ (V.spent view.old).passed }

@@ -2,7 +2,7 @@
 ghost use Rattle.std.specs.Prelude.{◌≡◌, ◌≤◌, ◌<◌, ◌+◌, ◌*◌, ℕ};
 ghost use Rattle.mdmp_dump.specs.Shape.{head_of, row_of};
 
-use mdmp_lister::Kind;
+use mdmp_lister::StreamKind;
 
 /// How many records of this size have so many bytes.
 fn rows_in(bytes: u64, size: u32) -> u64
@@ -18,7 +18,7 @@ pub(crate) fn count_of(stream_type: u32, body: u64) -> u64
     ensures bound { result ≤ body }
     ensures count { (n : ℕ) → body ≡ head_of stream_type + n * row_of stream_type → result ≡ n }
 {
-    match Kind::of_type(stream_type) {
+    match StreamKind::of_type(stream_type) {
         Some(kind) => {
             let head = u64::from(kind.form().head_cost());
             rows_in(body.saturating_sub(head), kind.record_size())

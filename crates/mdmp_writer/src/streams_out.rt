@@ -6,14 +6,14 @@ ghost use Rattle.mdmp_writer.specs.Gather.{gathered, PutsSome, Writes};
 ghost use Rattle.mdmp_writer.specs.Layout.{blocks_end, blocks_size, fars_size, file_size, first_block};
 ghost use Rattle.mdmp_writer.specs.Cause.{HasCause, IsToldBy};
 ghost use Rattle.mdmp_writer.specs.Passes.{all_block_asks, all_block_passes, all_far_asks, all_far_passes};
-ghost use Rattle.mdmp_writer.specs.Written.{blocks, fars};
+ghost use Rattle.mdmp_writer.specs.Written.{blocks, far_texts};
 
 use crate::block_out::put_block;
 use crate::far_out::put_far;
 use crate::fault::WriteFault;
 use crate::gather::Gather;
 use crate::layout::room_for;
-use crate::place::Place;
+use crate::place::StreamPlace;
 use mdmp_dump::DumpView;
 use mdmp_source::Out;
 
@@ -22,7 +22,7 @@ pub(crate) fn put_blocks<V: DumpView, O: Out>(
     view: &mut V,
     out: &mut O,
     gather: &mut Gather<'_>,
-    first: Place,
+    first: StreamPlace,
 ) -> Result<(), WriteFault>
     requires at { first.at ≡ first_block (V.shape view.old).streams }
     requires far { first.far ≡ blocks_end (V.shape view.old).streams }
@@ -42,7 +42,7 @@ pub(crate) fn put_blocks<V: DumpView, O: Out>(
     let mut far = first.far;
     for stream in 0..view.streams() {
         let room = room_for(view, stream);
-        match put_block(view, out, gather, stream, Place { at, far }) {
+        match put_block(view, out, gather, stream, StreamPlace { at, far }) {
             Ok(()) => {
                 at += room.block;
                 far += room.far;
@@ -63,7 +63,7 @@ pub(crate) fn put_fars<V: DumpView, O: Out>(
     requires short { file_size (V.shape view.old).streams < 2 ^ 64 }
     ensures shape { V.shape view.new ≡ V.shape view.old }
     ensures writes { (x : DumpSeen) → (V.shape view.old).seen ≡ Some x
-        → Writes result (gathered (O.state out.old) gather.old) (fars x.streams) (gathered (O.state out.new) gather.new) }
+        → Writes result (gathered (O.state out.old) gather.old) (far_texts x.streams) (gathered (O.state out.new) gather.new) }
     ensures some { OnOk result (PutsSome (gathered (O.state out.old) gather.old) (fars_size (V.shape view.old).streams) (gathered (O.state out.new) gather.new)) }
     ensures cause { HasCause (V.shape view.old).is_reliable result (O.state out.old) (O.state out.new) }
     ensures passed { (V.spent view.new).passed ≤ (V.spent view.old).passed + all_far_passes (V.shape view.old) }

@@ -2,12 +2,12 @@
 ghost use Rattle.std.specs.Prelude.{All};
 ghost use Rattle.mdmp_map.specs.Ranges.{IsPlaced};
 
-use super::{Row, place};
+use super::{PlaceRow, place};
 use mdmp_map::{Place, Range, Search, place_of};
 use std::process::Abort;
 
 /// These ranges place each address as its row says.
-fn assert_places(rt: &impl Abort, ranges: &[Range], rows: &[Row])
+fn assert_places(rt: &impl Abort, ranges: &[Range], rows: &[PlaceRow])
     requires { All IsPlaced ranges.now }
 {
     for (address, expected) in rows {

@@ -54,14 +54,14 @@ fn gap_among_five<G: Ledger, A: Allocator>(
 }
 
 /// What is answered of an address: where it stands, the same or how far nothing is held, and this alone.
-type Answers = (Option<Place>, Found, u128);
+type StepAnswers = (Option<Place>, Found, u128);
 
 /// The answers under a ledger that nothing reads.
 fn answers_under<G: Ledger, A: Allocator>(
     map: &AddressMap<A>,
     address: u64,
     blank: Blank,
-) -> Answers
+) -> StepAnswers
     requires five { length map.now.ranges ≡ 5 }
     requires sorted { AreSorted map.now.ranges }
     requires name { blank.name ≡ G.name }
@@ -79,7 +79,7 @@ fn answers_in_four_steps<A: Allocator>(
     rt: &impl Abort,
     map: &AddressMap<A>,
     address: u64,
-) -> Answers {
+) -> StepAnswers {
     assert!(rt; map.len() == 5);
     assert!(rt; map.is_sorted());
     answers_under::<Brand, A>(map, address, Blank::new(1))

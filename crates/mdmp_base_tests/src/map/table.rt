@@ -15,7 +15,7 @@ const FAR: u8 = 16;
 
 /// What is answered of an address: where it stands, the same with its steps counted, and how far
 /// nothing is held.
-type Answers = (Option<Place>, Option<Place>, u128);
+type TableAnswers = (Option<Place>, Option<Place>, u128);
 
 /// One of 18 ranges, of one to three bytes that begin below 6.
 fn range_of(number: u8, offset: u16) -> Range
@@ -51,7 +51,7 @@ fn free_from(ranges: &[Range], address: u8) -> u128
 }
 
 /// What is to be found.
-fn expected(ranges: &[Range], address: u8) -> Answers
+fn expected(ranges: &[Range], address: u8) -> TableAnswers
     requires { All IsPlaced ranges.now }
 {
     let place = place_of(ranges, u64::from(address));
@@ -72,7 +72,7 @@ fn find_under<G: Ledger, A: Allocator>(
 }
 
 /// What the map finds.
-fn found<A: Allocator>(map: &AddressMap<A>, address: u64) -> Answers {
+fn found<A: Allocator>(map: &AddressMap<A>, address: u64) -> TableAnswers {
     let counted = find_under::<Brand, A>(map, address, Blank::new(1));
     let gap = map.gap(address).min(u128::from(FAR));
     (map.find(address), counted, gap)

@@ -10,7 +10,7 @@ const SYMBOL_FILE: [u8; 30] =
 /// What a record tells, to be compared: by the macro, since the prover cannot hand on a `Uuid` to a
 /// call in a test that does not name it.
 #[derive(Clone, Copy, Debug, PartialEq)]
-enum Told<'a> {
+enum CodeViewTold<'a> {
     Rsds {
         guid: Uuid,
         age: u32,
@@ -27,7 +27,7 @@ enum Told<'a> {
 }
 
 /// What a record of `size` bytes tells, of which these are the first 24 and some of the rest.
-fn read<'a>(rt: &impl Abort, head: &[u8], rest: &'a [u8], size: u32) -> Told<'a> {
+fn read<'a>(rt: &impl Abort, head: &[u8], rest: &'a [u8], size: u32) -> CodeViewTold<'a> {
     // The macro, as a call without a contract would not tell the call below of it.
     assert_eq!(rt; head.len(), (size as usize).min(24));
     match CodeView::read(head, rest, size) {
@@ -36,14 +36,14 @@ fn read<'a>(rt: &impl Abort, head: &[u8], rest: &'a [u8], size: u32) -> Told<'a>
             age,
             name,
             ended,
-        } => Told::Rsds {
+        } => CodeViewTold::Rsds {
             guid,
             age,
             name,
             ended,
         },
-        CodeView::Other { signature, size } => Told::Other { signature, size },
-        CodeView::Short { size } => Told::Short { size },
+        CodeView::Other { signature, size } => CodeViewTold::Other { signature, size },
+        CodeView::Short { size } => CodeViewTold::Short { size },
     }
 }
 
@@ -57,7 +57,7 @@ fn symbol_file_is_named_up_to_its_zero_byte(rt: HostRuntime) {
         (3, b"a.p".as_slice(), false),
         (0, b"".as_slice(), false),
     ] {
-        let expected = Told::Rsds {
+        let expected = CodeViewTold::Rsds {
             guid,
             age: 1,
             name,
@@ -75,7 +75,7 @@ fn symbol_file_is_named_up_to_its_zero_byte(rt: HostRuntime) {
 #[test]
 fn short_codeview_is_told_by_its_size(rt: HostRuntime) {
     for size in [3, 23] {
-        let expected = Told::Short { size };
+        let expected = CodeViewTold::Short { size };
         assert_eq!(rt;
             read(&rt, &SYMBOL_FILE[..size as usize], b"", size),
             expected
@@ -87,7 +87,7 @@ fn short_codeview_is_told_by_its_size(rt: HostRuntime) {
 fn other_codeview_is_told_by_its_signature(rt: HostRuntime) {
     let mut bytes = SYMBOL_FILE;
     bytes[0] = 0x4e;
-    let expected = Told::Other {
+    let expected = CodeViewTold::Other {
         signature: *b"NSDS",
         size: 30,
     };

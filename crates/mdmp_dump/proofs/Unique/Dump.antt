@@ -18,7 +18,7 @@ use Rattle.mdmp_dump.specs.System.{IsSystem}
 use Rattle.mdmp_dump.specs.Thread.{IsThread}
 use Rattle.mdmp_dump.specs.Unloaded.{IsUnloaded}
 use Rattle.mdmp_dump.specs.Value.{type_of}
-use Rattle.mdmp_dump.specs.LaysOut.{StandsAt, IsStream, AreStreams, LaysOut}
+use Rattle.mdmp_dump.specs.LaysOut.{StandsAt, NamesStream, AreStreams, LaysOut}
 use Rattle.mdmp_dump.proofs.Unique.Exception.{exception_unique}
 use Rattle.mdmp_dump.proofs.Unique.Memory.{memory_unique}
 use Rattle.mdmp_dump.proofs.Unique.Memory64.{memory64_unique}
@@ -68,7 +68,7 @@ module _ {Z : Type 0} where
   stands_unique F l (streams.Raw t xs) (streams.Raw u ys) p q same raw = let bytes = sym p.bytes_are ∙ q.bytes_are in λ i. streams.Raw (same i) (bytes i)
   stands_unique F l s t p q same raw = absurd (unequal _ _ (code_same raw same) refl)
 
-  stream_unique : (F : List ℕ) (e : Entry) (s t : Stream Z) → IsStream F e s → IsStream F e t → s ≡ t
+  stream_unique : (F : List ℕ) (e : Entry) (s t : Stream Z) → NamesStream F e s → NamesStream F e t → s ≡ t
   stream_unique F e s t p q =
       let same = sym p.type_is ∙ q.type_is in
       let raw = sym (raw_told F e.location s p.stands) ∙ ap is_raw_type same ∙ raw_told F e.location t q.stands in

@@ -1,7 +1,7 @@
 -- The records of a stream are those of one list.
 use Rattle.std.proofs.Common.{◌≡◌, ℕ, ◌+◌, ◌*◌, List, [], ◌∷◌, length, refl, ap, sym, subst, ◌∙◌, arith}
 use Rattle.mdmp_source.specs.declared.location.Location.{Location}
-use Rattle.mdmp_lister.specs.declared.kind.Kind.{Kind}
+use Rattle.mdmp_lister.specs.declared.kind.StreamKind.{StreamKind}
 use Rattle.mdmp_lister.specs.declared.shape.Shape.{Shape}
 use Rattle.mdmp_dump.specs.LaysOut.{EachFrom, HasRecords}
 
@@ -18,7 +18,7 @@ each_unique IsAt one at stride k (x ∷ xs) (y ∷ ys) len p q =
     let tail = each_unique IsAt one at stride (k + 1) xs ys (omega (arith, len)) p.1 q.1 in
     λ i. head i ∷ tail i
 
-pub records_unique : {X : Type 0} {F : List ℕ} {l : Location} {kind : Kind} (IsAt : ℕ → ℕ → X → Type 0) → IsUnique IsAt → (xs ys : List X) → HasRecords F l kind IsAt xs → HasRecords F l kind IsAt ys → xs ≡ ys
+pub records_unique : {X : Type 0} {F : List ℕ} {l : Location} {kind : StreamKind} (IsAt : ℕ → ℕ → X → Type 0) → IsUnique IsAt → (xs ys : List X) → HasRecords F l kind IsAt xs → HasRecords F l kind IsAt ys → xs ≡ ys
 records_unique {l = l} IsAt one xs ys p q =
     let shape : q.shape ≡ p.shape = cc (p.shaped, q.shaped) in
     let count : q.shape.count ≡ p.shape.count = ap (λ (s : Shape). s.count) shape in
@@ -26,5 +26,5 @@ records_unique {l = l} IsAt one xs ys p q =
     each_unique IsAt one (l.rva + p.shape.first) p.shape.stride 0 xs ys (sym p.count ∙ sym count ∙ q.count) p.each each
 
 -- the same of a stream that is one record
-pub record_unique : {X : Type 0} {F : List ℕ} {l : Location} {kind : Kind} (IsAt : ℕ → ℕ → X → Type 0) → IsUnique IsAt → (x y : X) → HasRecords F l kind IsAt (x ∷ []) → HasRecords F l kind IsAt (y ∷ []) → x ≡ y
+pub record_unique : {X : Type 0} {F : List ℕ} {l : Location} {kind : StreamKind} (IsAt : ℕ → ℕ → X → Type 0) → IsUnique IsAt → (x y : X) → HasRecords F l kind IsAt (x ∷ []) → HasRecords F l kind IsAt (y ∷ []) → x ≡ y
 record_unique IsAt one x y p q = let e = records_unique IsAt one (x ∷ []) (y ∷ []) p q in cc e

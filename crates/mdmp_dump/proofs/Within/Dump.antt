@@ -6,7 +6,7 @@ use Rattle.std.proofs.lemmas.List.Sums.{sum_by-cons}
 use Rattle.mdmp_source.specs.declared.location.Location.{Location}
 use Rattle.mdmp_wire.specs.declared.entry.Entry.{Entry}
 use Rattle.mdmp_lister.specs.declared.choice.Choice.{Choice}
-use Rattle.mdmp_lister.specs.declared.kind.Kind.TheVariants as kinds
+use Rattle.mdmp_lister.specs.declared.kind.StreamKind.TheVariants as kinds
 use Rattle.mdmp_lister.specs.Format.Kind.{kind_of}
 use Rattle.mdmp_lister.specs.Format.Listing.{Numbered, Run, chosen, entry_listing, listing}
 use Rattle.mdmp_lister.specs.Format.Numbers.{good_count, range_count, ranges_in, ranges_of_all}
@@ -20,7 +20,7 @@ use Rattle.mdmp_dump.specs.Left.{run_of}
 use Rattle.mdmp_dump.specs.Refusal.{opened_refusal, read_refusal, run_refusal}
 use Rattle.mdmp_dump.specs.declared.system.System.{System}
 use Rattle.mdmp_dump.specs.Value.{type_of}
-use Rattle.mdmp_dump.specs.Within.{IsNameWithin, IsWithin, NamesWithin, memory_ranges, part_bytes}
+use Rattle.mdmp_dump.specs.Within.{IsNameWithin, IsWithinLimits, NamesWithin, memory_ranges, part_bytes}
 use Rattle.mdmp_dump.proofs.Within.Exception.{exception_taken}
 use Rattle.mdmp_dump.proofs.Within.Memory.{memory_taken}
 use Rattle.mdmp_dump.proofs.Within.Memory64.{memory64_taken}
@@ -103,7 +103,7 @@ module _ {Z : Type 0} (F : List ℕ) where
       rw (long, lays.header.signature, lays.header.version, inside, short) refl
 
   -- the file of a dump within limits has no refusal
-  pub unrefused : (choice : Choice) (name_limit part_limit : ℕ) (d : Dump Z) → LaysOut F choice d → IsWithin name_limit part_limit d
+  pub unrefused : (choice : Choice) (name_limit part_limit : ℕ) (d : Dump Z) → LaysOut F choice d → IsWithinLimits name_limit part_limit d
       → read_refusal F choice name_limit part_limit ≡ None
   unrefused choice name_limit part_limit d lays within =
       let run = streams_taken name_limit (chosen F choice) d.streams lays.streams within.names in

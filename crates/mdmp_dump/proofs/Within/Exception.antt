@@ -2,7 +2,7 @@
 use Rattle.std.proofs.Common.{ℕ, List, length, refl}
 use Rattle.mdmp_wire.specs.Exception.{exception_at}
 use Rattle.mdmp_lister.specs.declared.item.Item.TheVariants as items
-use Rattle.mdmp_lister.specs.declared.kind.Kind.TheVariants as kinds
+use Rattle.mdmp_lister.specs.declared.kind.StreamKind.TheVariants as kinds
 use Rattle.mdmp_lister.specs.Format.Item.{exception_item}
 use Rattle.mdmp_dump.specs.declared.fault.PartName.TheVariants.{Context}
 use Rattle.mdmp_dump.specs.Exception.{IsException}

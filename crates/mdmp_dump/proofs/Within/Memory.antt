@@ -2,7 +2,7 @@
 use Rattle.std.proofs.Common.{ℕ, List, length, refl}
 use Rattle.mdmp_wire.specs.Descriptor.{descriptor_at}
 use Rattle.mdmp_lister.specs.declared.item.Item.TheVariants as items
-use Rattle.mdmp_lister.specs.declared.kind.Kind.TheVariants as kinds
+use Rattle.mdmp_lister.specs.declared.kind.StreamKind.TheVariants as kinds
 use Rattle.mdmp_lister.specs.Format.Item.{range_item}
 use Rattle.mdmp_dump.specs.declared.fault.PartName.TheVariants as names
 use Rattle.mdmp_dump.specs.Memory.{IsMemory}

@@ -3,7 +3,7 @@ use Rattle.std.proofs.Common.{◌≡◌, ℕ, List, length, ap, refl}
 use Rattle.mdmp_wire.specs.Descriptor64.{descriptor64_at}
 use Rattle.mdmp_wire.specs.declared.descriptor64.Descriptor64.{Descriptor64}
 use Rattle.mdmp_lister.specs.declared.item.Item.TheVariants as items
-use Rattle.mdmp_lister.specs.declared.kind.Kind.TheVariants as kinds
+use Rattle.mdmp_lister.specs.declared.kind.StreamKind.TheVariants as kinds
 use Rattle.mdmp_lister.specs.Format.Item.{range64_item, range_offset}
 use Rattle.mdmp_dump.specs.declared.fault.PartName.TheVariants.{Memory}
 use Rattle.mdmp_dump.specs.Memory64.{IsMemory64}

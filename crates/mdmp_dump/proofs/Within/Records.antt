@@ -7,11 +7,11 @@ use Rattle.mdmp_source.specs.Range.{is_inside}
 use Rattle.mdmp_source.specs.declared.location.Location.{Location}
 use Rattle.mdmp_lister.specs.declared.fault.Fault.{Fault}
 use Rattle.mdmp_lister.specs.declared.item.Item.{Item}
-use Rattle.mdmp_lister.specs.declared.kind.Kind.{Kind}
+use Rattle.mdmp_lister.specs.declared.kind.StreamKind.{StreamKind}
 use Rattle.mdmp_lister.specs.declared.shape.Shape.{Shape}
 use Rattle.mdmp_lister.specs.Format.Item.{item_at}
 use Rattle.mdmp_lister.specs.Format.Kind.{kind_of}
-use Rattle.mdmp_lister.specs.Format.Listing.{Numbered, body_of, entry_listing, items_from, item_then, stream_item}
+use Rattle.mdmp_lister.specs.Format.Listing.{Numbered, entry_body, entry_listing, items_from, item_then, stream_item}
 use Rattle.mdmp_lister.specs.Format.Shape.{location_fault, record_count}
 use Rattle.mdmp_dump.specs.LaysOut.{EachFrom, HasBytes, HasRecords}
 use Rattle.mdmp_dump.specs.Refusal.{Take, item_steps, stream_steps}
@@ -20,13 +20,13 @@ use Rattle.mdmp_dump.proofs.Within.Steps.{IsTaken, none_taken, one_taken}
 use Rattle.mdmp_dump.proofs.Within.Runs.{IsRunTaken, item_taken, nothing_taken}
 
 -- the item of a record is given, and asks for so many bytes
-pub record IsItemTaken (F : List ℕ) (limit e k at o : ℕ) (kind : Kind) (bytes : ℕ) : Type 0 where
+pub record IsItemTaken (F : List ℕ) (limit e k at o : ℕ) (kind : StreamKind) (bytes : ℕ) : Type 0 where
   pub item : Item
   pub given : item_at F limit e k at o kind ≡ Ok item
   pub steps : IsTaken (item_steps (length F) item) bytes
 
 -- that of each of these values, where it fits the limits, which asks for the value's bytes
-abbrev pub AreTaken : {X : Type 0} → List ℕ → ℕ → ℕ → ℕ → Kind → (ℕ → ℕ → X → Type 0) → (X → Type 0) → (X → ℕ) → Type 0
+abbrev pub AreTaken : {X : Type 0} → List ℕ → ℕ → ℕ → ℕ → StreamKind → (ℕ → ℕ → X → Type 0) → (X → Type 0) → (X → ℕ) → Type 0
 AreTaken {X} F limit e at kind IsAt Fits bytes = (k o : ℕ) (x : X) → IsAt k o x → Fits x → IsItemTaken F limit e k at o kind (bytes x)
 
 -- a location that lies inside has no fault, whatever the type
@@ -36,7 +36,7 @@ inside_placed t at z inside = rw inside (by (t == 0) _) where
   by true f = refl
   by false f = refl
 
-module _ {X : Type 0} (F : List ℕ) (limit e at : ℕ) (kind : Kind) (IsAt : ℕ → ℕ → X → Type 0) (Fits : X → Type 0) (bytes : X → ℕ) (are : AreTaken F limit e at kind IsAt Fits bytes) where
+module _ {X : Type 0} (F : List ℕ) (limit e at : ℕ) (kind : StreamKind) (IsAt : ℕ → ℕ → X → Type 0) (Fits : X → Type 0) (bytes : X → ℕ) (are : AreTaken F limit e at kind IsAt Fits bytes) where
   -- the items of records that stand one behind the other
   items_taken : (shape : Shape) (k : ℕ) (xs : List X) → EachFrom IsAt (at + shape.first) shape.stride k xs → All Fits xs
       → IsRunTaken (length F) (items_from F limit e at kind shape (length xs) k) (sum_by bytes xs)
@@ -51,7 +51,7 @@ module _ {X : Type 0} (F : List ℕ) (limit e at : ℕ) (kind : Kind) (IsAt : �
 -- ---- streams
 
 -- a stream of a known kind is not asked for as bytes
-known_unasked : (size e t : ℕ) (at : Location) (kind : Kind) → kind_of t ≡ Some kind → stream_steps size e t at ≡ []
+known_unasked : (size e t : ℕ) (at : Location) (kind : StreamKind) → kind_of t ≡ Some kind → stream_steps size e t at ≡ []
 known_unasked size e t at kind known = rw known (by (not (t == 0)) (is_inside at.rva at.size size)) where
   by : (used inside : Bool) → (if used && false && inside then Take e 0 at.size ∷ [] else []) ≡ []
   by true inside = refl
@@ -62,10 +62,10 @@ pub sum_by-none : {X : Type 0} (xs : List X) → sum_by (λ x. 0) xs ≡ 0
 sum_by-none [] = refl
 sum_by-none (x ∷ xs) = sum_by-none xs
 
-module _ {X : Type 0} (F : List ℕ) (at : Location) (kind : Kind) (IsAt : ℕ → ℕ → X → Type 0) (xs : List X) (has : HasRecords F at kind IsAt xs) (t : ℕ) (known : kind_of t ≡ Some kind) where
+module _ {X : Type 0} (F : List ℕ) (at : Location) (kind : StreamKind) (IsAt : ℕ → ℕ → X → Type 0) (xs : List X) (has : HasRecords F at kind IsAt xs) (t : ℕ) (known : kind_of t ≡ Some kind) where
   -- what an entry of this type gives behind its Stream item
   body_taken : (limit e : ℕ) (Fits : X → Type 0) (bytes : X → ℕ) → AreTaken F limit e at.rva kind IsAt Fits bytes → All Fits xs
-      → IsRunTaken (length F) (body_of F limit (record { number = e; entry = record { stream_type = t; location = at } })) (sum_by bytes xs)
+      → IsRunTaken (length F) (entry_body F limit (record { number = e; entry = record { stream_type = t; location = at } })) (sum_by bytes xs)
   body_taken limit e Fits bytes are fit =
       rw (inside_placed t at (length F) has.inside, known, has.shaped, has.count) (items_taken F limit e at.rva kind IsAt Fits bytes are has.shape 0 xs has.each fit)
 
@@ -93,7 +93,7 @@ pub raw_taken : (F : List ℕ) (limit e : ℕ) (at : Location) (t : ℕ) (bytes 
 raw_taken F limit e at t bytes has =
     let entry : Numbered = record { number = e; entry = record { stream_type = t; location = at } } in
     let asked : IsTaken (item_steps (length F) (stream_item entry)) at.size = rw (has.used, has.opaque, has.inside) (one_taken e 0 at.size) in
-    let behind : IsRunTaken (length F) (body_of F limit entry) 0 = rw (inside_placed t at (length F) has.inside, has.opaque) nothing_taken in
+    let behind : IsRunTaken (length F) (entry_body F limit entry) 0 = rw (inside_placed t at (length F) has.inside, has.opaque) nothing_taken in
     let size : length bytes ≡ at.size = ap length (sym has.bytes_are) ∙ length-array_at F at.rva at.size has.inside in
     let total : at.size + 0 ≡ length bytes = omega (arith, size) in
     subst (λ (n : ℕ). IsRunTaken (length F) (entry_listing F limit entry) n) total (item_taken asked behind)

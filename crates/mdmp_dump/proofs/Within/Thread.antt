@@ -2,7 +2,7 @@
 use Rattle.std.proofs.Common.{ℕ, ◌+◌, List, length, refl}
 use Rattle.mdmp_wire.specs.Thread.{thread_at}
 use Rattle.mdmp_lister.specs.declared.item.Item.TheVariants as items
-use Rattle.mdmp_lister.specs.declared.kind.Kind.TheVariants as kinds
+use Rattle.mdmp_lister.specs.declared.kind.StreamKind.TheVariants as kinds
 use Rattle.mdmp_lister.specs.Format.Item.{thread_item}
 use Rattle.mdmp_dump.specs.declared.fault.PartName.TheVariants.{Stack, Context}
 use Rattle.mdmp_dump.specs.Thread.{IsThread}

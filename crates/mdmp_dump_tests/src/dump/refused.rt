@@ -2,7 +2,7 @@
 use super::built::read;
 use crate::files::{LEAST, named};
 use crate::same::assert_same;
-use mdmp_dump::{Answered, PartName, ReadFault, read_dump, read_source};
+use mdmp_dump::{PartName, ReadAnswered, ReadFault, read_dump, read_source};
 use mdmp_lister::{Choice, FaultKind, Limits, ListFault, OpenFault};
 use mdmp_source::{PatchyStore, Source, SourceFault};
 use mdmp_test_support::{ABSENT_STACK, COMMENT, CRASH, FAULTY, MEMORY64, file_of_numbers};
@@ -161,7 +161,13 @@ fn source_of_a_file_comes_back(rt: HostRuntime) -> Result<(), Fail> {
     let file = file_of_numbers(rt.alloc(), 2, &CRASH)?;
     for (call, place, calls) in [(3, Some(108), 4), (7, None, 7)] {
         let source = Source::new(PatchyStore::new(&file, &[4096], Some(call)));
-        let Answered { answer, source } = read_source(rt.alloc(), source, LEAST, Choice::All, 14);
+        let ReadAnswered { answer, source } = read_source(
+            rt.alloc(),
+            source,
+            LEAST,
+            Choice::All,
+            14,
+        );
         assert_same(&rt, answer.err().and_then(place_of), place);
         assert_same(&rt, source.calls(), calls);
     }

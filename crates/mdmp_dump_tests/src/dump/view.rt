@@ -13,18 +13,18 @@ use std::test::Fail;
 
 /// What is told of a stream.
 #[derive(Clone, Copy, Debug, PartialEq, Eq)]
-pub struct Told {
+pub struct StreamTold {
     kind: Kind,
     body: u64,
     parts: u64,
 }
 
 /// What is told of a stream, if there is one with this number.
-pub fn told_of<V: DumpView>(view: &mut V, stream: u64) -> Option<Told> {
+pub fn told_of<V: DumpView>(view: &mut V, stream: u64) -> Option<StreamTold> {
     if stream >= view.streams() {
         return None;
     }
-    Some(Told {
+    Some(StreamTold {
         kind: view.kind(stream),
         body: view.body_size(stream),
         parts: view.parts_size(stream),
@@ -138,7 +138,7 @@ fn streams_are_told_by_their_kinds_and_sizes(rt: HostRuntime) -> Result<(), Fail
         (4, Kind::Known(5), 4, 0),
         (5, Kind::Raw(12), 4, 0),
     ] {
-        let told = Told { kind, body, parts };
+        let told = StreamTold { kind, body, parts };
         assert_eq!(rt; told_of(&mut view, stream), Some(told), "{stream}");
     }
     assert_same(&rt, told_of(&mut view, 6), None);
@@ -150,7 +150,7 @@ fn memory_of_64_bits_is_told_by_its_bytes(rt: HostRuntime) -> Result<(), Fail> {
     let mut file = MEMORY64.to_vec(rt.alloc())?;
     file.extend_from_slice(b"GH")?;
     let dump = read(rt.alloc(), &file, LEAST, 8)?;
-    let told = Told {
+    let told = StreamTold {
         kind: Kind::Known(9),
         body: 48,
         parts: 8,

@@ -15,14 +15,14 @@ use std::test::Fail;
 
 /// Why a file gives no view, what was fetched of it by then, and why the source that comes back gives none.
 #[derive(Clone, Copy, Debug, PartialEq, Eq)]
-struct Refusal {
+struct RefusedView {
     fault: ReadFault,
     fetched: u128,
     again: Option<ReadFault>,
 }
 
 /// Opens a view of all entries, and another one over the source that comes back.
-fn refusal_of<S: Store + Drop>(alloc: Global, store: S) -> Option<Refusal> {
+fn refusal_of<S: Store + Drop>(alloc: Global, store: S) -> Option<RefusedView> {
     let source = Source::new(store);
     let ViewRefused { fault, source } = FileView::open_source(
         alloc,
@@ -32,7 +32,7 @@ fn refusal_of<S: Store + Drop>(alloc: Global, store: S) -> Option<Refusal> {
     ).err()?;
     let fetched = source.fetched();
     let again = FileView::open(alloc, source, LEAST, Choice::All).err();
-    Some(Refusal {
+    Some(RefusedView {
         fault,
         fetched,
         again,
@@ -41,7 +41,7 @@ fn refusal_of<S: Store + Drop>(alloc: Global, store: S) -> Option<Refusal> {
 
 /// Asserts that a file is refused for this, which is why it gives no value either, and its source comes back.
 fn assert_refused(rt: &impl Abort, alloc: Global, file: &[u8], fault: ReadFault, fetched: u128) {
-    let expected = Refusal {
+    let expected = RefusedView {
         fault,
         fetched,
         again: Some(fault),

@@ -17,13 +17,13 @@ use std::test::Fail;
 
 /// A view that only tells sizes: of a stream of raw bytes, and of one of 64-bit memory in one range.
 #[derive(Drop)]
-struct Sizes {
+struct SizesView {
     stream_type: u32,
     raw: u64,
     far: u64,
 }
 
-impl DumpView for Sizes {
+impl DumpView for SizesView {
     type Memory = Global;
 
     ghost shape = { λ v. record {
@@ -113,7 +113,7 @@ fn no_bytes() -> ViewFault
 /// How large a dump of a raw stream of so many bytes and of so much 64-bit memory is. Its streams end
 /// 88 bytes behind the raw ones, up to a multiple of 4.
 fn size_by(stream_type: u32, raw: u64, far: u64) -> Result<u64, LayoutFault> {
-    written_size(&mut Sizes {
+    written_size(&mut SizesView {
         stream_type,
         raw,
         far,
@@ -168,7 +168,7 @@ fn file_ends_below_2_to_the_64(rt: HostRuntime) {
 
 #[test]
 fn dump_that_is_too_large_is_not_begun(rt: HostRuntime) -> Result<(), Fail> {
-    let mut view = Sizes {
+    let mut view = SizesView {
         stream_type: 10,
         raw: 1 << 32,
         far: 0,

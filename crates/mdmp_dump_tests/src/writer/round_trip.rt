@@ -115,30 +115,34 @@ fn dump_that_is_not_written_is_not_read_back(rt: HostRuntime) -> Result<(), Fail
 
 /// What a dump comes to in memory: how many bytes, and whether it is read back.
 #[derive(Clone, Copy, Debug, PartialEq, Eq)]
-struct Outcome {
+struct RoundTripOutcome {
     stored: Result<usize, ToMemoryFault>,
     fault: Option<RoundTripFault>,
 }
 
 /// What the dump of a file comes to in a heap of so many bytes, if that is read there.
-fn outcome_in(rt: &HostRuntime, size: usize, file: &[u8]) -> Result<Option<Outcome>, Fail> {
+fn outcome_in(
+    rt: &HostRuntime,
+    size: usize,
+    file: &[u8],
+) -> Result<Option<RoundTripOutcome>, Fail> {
     let heap = LocalHeap::new(rt.alloc(), size)?;
     let Ok(dump) = read(&heap, file, LEAST, 14) else {
         return Ok(None);
     };
     let stored = stored(&heap, &dump).map(|bytes| bytes.len());
     let fault = read_back(&heap, &dump, LEAST, 14).err();
-    Ok(Some(Outcome { stored, fault }))
+    Ok(Some(RoundTripOutcome { stored, fault }))
 }
 
 #[test]
 fn want_of_memory_for_the_bytes_is_told(rt: HostRuntime) -> Result<(), Fail> {
     let file = file_of_numbers(rt.alloc(), 2, &CRASH)?;
-    let wanting = Outcome {
+    let wanting = RoundTripOutcome {
         stored: Err(ToMemoryFault::Memory),
         fault: Some(RoundTripFault::Memory),
     };
-    let enough = Outcome {
+    let enough = RoundTripOutcome {
         stored: Ok(292),
         fault: None,
     };

@@ -41,17 +41,17 @@ impl Calls {
 /// A view that gives what another one gives, but where a call fails; its content counts as unknown.
 /// It counts how often each of its first six streams was begun.
 #[derive(Drop)]
-struct Watched<V: DumpView> {
+struct WatchedView<V: DumpView> {
     inner: V,
     calls: Calls,
     last: Option<ViewFault>,
     begun: [u32; 6],
 }
 
-impl<V: DumpView> Watched<V> {
+impl<V: DumpView> WatchedView<V> {
     /// A view that fails at this call, counted from 0.
     fn new(inner: V, fail_at: u64) -> Self {
-        Watched {
+        WatchedView {
             inner,
             calls: Calls { made: 0, fail_at },
             last: None,
@@ -60,7 +60,7 @@ impl<V: DumpView> Watched<V> {
     }
 }
 
-impl<V: DumpView> DumpView for Watched<V> {
+impl<V: DumpView> DumpView for WatchedView<V> {
     type Memory = V::Memory;
 
     ghost shape = { λ v. record (V.shape v.inner) { is_reliable = false; seen = None } };
@@ -151,7 +151,7 @@ fn assert_first_parts(
     room: usize,
 ) -> Result<(), Fail> {
     for fail_at in 0..1000 {
-        let mut view = Watched::new(dump.view(), fail_at);
+        let mut view = WatchedView::new(dump.view(), fail_at);
         let mut out = open_out(alloc)?;
         let answer = write_view(&mut view, &mut out, room);
         if answer.is_ok() {
@@ -189,7 +189,7 @@ fn fault_in_64_bit_memory_leaves_a_first_part(rt: HostRuntime) -> Result<(), Fai
 
 /// Writes a dump, and tells how often each of its first six streams was begun.
 fn begun_by(alloc: Global, dump: &Dump<Global>) -> Result<[u32; 6], Fail> {
-    let mut view = Watched::new(dump.view(), u64::MAX);
+    let mut view = WatchedView::new(dump.view(), u64::MAX);
     let mut out = open_out(alloc)?;
     write_view(&mut view, &mut out, 64).map_err(|_| "a dump that is written")?;
     Ok(view.begun)

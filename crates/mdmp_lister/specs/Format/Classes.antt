@@ -5,7 +5,7 @@ use Rattle.mdmp_wire.specs.declared.entry.Entry.{Entry}
 use Rattle.mdmp_lister.specs.declared.item.Item.{Item}
 use Rattle.mdmp_lister.specs.declared.item.Item.TheVariants as items
 use Rattle.mdmp_lister.specs.declared.item.StreamItem.{StreamItem}
-use Rattle.mdmp_lister.specs.declared.kind.Kind.{Kind}
+use Rattle.mdmp_lister.specs.declared.kind.StreamKind.{StreamKind}
 use Rattle.mdmp_lister.specs.declared.name.Name.{Name}
 use Rattle.mdmp_lister.specs.Format.Item.{item_of, kind_told, plain}
 use Rattle.mdmp_lister.specs.Format.Kind.{kind_of}
@@ -15,7 +15,7 @@ abbrev pub IsStream : Item → Type 0
 IsStream item = (x : StreamItem) × (item ≡ items.Stream x)
 
 -- the item of some record of a stream of this kind, in a file of z bytes: so each of its parts has the class of its location
-pub record IsRecordOf (z : ℕ) (kind : Option Kind) (item : Item) : Type 0 where
+pub record IsRecordOf (z : ℕ) (kind : Option StreamKind) (item : Item) : Type 0 where
   pub entry : ℕ
   pub index : ℕ
   pub offset : ℕ

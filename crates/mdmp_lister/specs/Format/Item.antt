@@ -21,8 +21,8 @@ use Rattle.mdmp_wire.specs.Descriptor.{descriptor_at}
 use Rattle.mdmp_wire.specs.declared.descriptor.Descriptor.{Descriptor}
 use Rattle.mdmp_wire.specs.Descriptor64.{descriptor64_at}
 use Rattle.mdmp_wire.specs.declared.descriptor64.Descriptor64.{Descriptor64}
-use Rattle.mdmp_lister.specs.declared.kind.Kind.{Kind}
-use Rattle.mdmp_lister.specs.declared.kind.Kind.TheVariants as kinds
+use Rattle.mdmp_lister.specs.declared.kind.StreamKind.{StreamKind}
+use Rattle.mdmp_lister.specs.declared.kind.StreamKind.TheVariants as kinds
 use Rattle.mdmp_lister.specs.declared.fault.Fault.{Fault}
 use Rattle.mdmp_lister.specs.declared.name.Name.{Name}
 use Rattle.mdmp_lister.specs.declared.name.Name.TheVariants as names
@@ -126,7 +126,7 @@ range64_item z e k fields offset = record {
 -- ---- items of any kind
 
 -- the record of this kind that stands at o
-abbrev pub record_at : Kind → List ℕ → ℕ → AnyRecord
+abbrev pub record_at : StreamKind → List ℕ → ℕ → AnyRecord
 record_at kinds.Threads F o = any.Thread (thread_at F o)
 record_at kinds.Modules F o = any.Module (module_at F o)
 record_at kinds.Memory F o = any.Memory (descriptor_at F o)
@@ -137,7 +137,7 @@ record_at kinds.Unloaded F o = any.Unloaded (unloaded_at F o)
 record_at kinds.MemoryInfo F o = any.MemoryInfo (memory_info_at F o)
 
 -- the kind of the streams that have such records
-abbrev pub kind_told : AnyRecord → Kind
+abbrev pub kind_told : AnyRecord → StreamKind
 kind_told (any.Thread fields) = kinds.Threads
 kind_told (any.Module fields) = kinds.Modules
 kind_told (any.Memory fields) = kinds.Memory
@@ -164,12 +164,12 @@ name_of F limit None = Ok names.None
 name_of F limit (Some rva) = name_at F rva limit
 
 -- where the bytes of record k of the stream of this kind at `at` stand, of a kind whose records do not say so
-abbrev pub offset_in : List ℕ → ℕ → ℕ → Kind → ℕ
+abbrev pub offset_in : List ℕ → ℕ → ℕ → StreamKind → ℕ
 offset_in F at k kinds.Memory64 = range_offset F at k
 offset_in F at k kind = 0
 
 -- the item of the record at o, or the fault of its name: the stream of this kind begins at `at`
-abbrev pub item_at : List ℕ → ℕ → ℕ → ℕ → ℕ → ℕ → Kind → Result Item Fault
+abbrev pub item_at : List ℕ → ℕ → ℕ → ℕ → ℕ → ℕ → StreamKind → Result Item Fault
 item_at F limit e k at o kind =
     let fields = record_at kind F o in
     named (name_of F limit (name_rva fields)) (λ name. item_of (length F) e k (offset_in F at k kind) fields name)

@@ -4,17 +4,17 @@ use Rattle.std.proofs.Common.{◌∙◌, ap, arith, refl}
 use Rattle.std.proofs.lemmas.Bool.{eqb-true}
 use Rattle.mdmp_lister.specs.declared.form.Form.{Form}
 use Rattle.mdmp_lister.specs.declared.form.Form.TheVariants as forms
-use Rattle.mdmp_lister.specs.declared.kind.Kind.{Kind}
-use Rattle.mdmp_lister.specs.declared.kind.Kind.TheVariants as kinds
+use Rattle.mdmp_lister.specs.declared.kind.StreamKind.{StreamKind}
+use Rattle.mdmp_lister.specs.declared.kind.StreamKind.TheVariants as kinds
 use Rattle.mdmp_lister.specs.Format.Kind.{greatest_record, kind_of, record_size, type_of_kind}
 use Rattle.mdmp_lister.specs.Format.Shape.{head_cost}
 
 -- the kind of its type is that kind
-pub kind_of-type : (kind : Kind) → kind_of (type_of_kind kind) ≡ Some kind
+pub kind_of-type : (kind : StreamKind) → kind_of (type_of_kind kind) ≡ Some kind
 kind_of-type kinds.Threads = refl
 kind_of-type _ = refl
 
-of_row : (t : ℕ) (one kind : Kind) (others : Option Kind) (b : Bool) → (t == type_of_kind one) ≡ b → (others ≡ Some kind → t ≡ type_of_kind kind)
+of_row : (t : ℕ) (one kind : StreamKind) (others : Option StreamKind) (b : Bool) → (t == type_of_kind one) ≡ b → (others ≡ Some kind → t ≡ type_of_kind kind)
     → (if b then Some one else others) ≡ Some kind → t ≡ type_of_kind kind
 of_row t one kind others true is next same =
     let kinds_are : one ≡ kind = cc same in
@@ -22,17 +22,17 @@ of_row t one kind others true is next same =
 of_row t one kind others false is next same = next same
 
 -- a type whose records are known is that of its kind
-pub type_of-kind : (t : ℕ) (kind : Kind) → kind_of t ≡ Some kind → t ≡ type_of_kind kind
+pub type_of-kind : (t : ℕ) (kind : StreamKind) → kind_of t ≡ Some kind → t ≡ type_of_kind kind
 type_of-kind t kind =
     of_row t kinds.Threads kind _ _ refl (of_row t kinds.Modules kind _ _ refl (of_row t kinds.Memory kind _ _ refl
     (of_row t kinds.Exception kind _ _ refl (of_row t kinds.System kind _ _ refl (of_row t kinds.Memory64 kind _ _ refl
     (of_row t kinds.Unloaded kind _ _ refl (of_row t kinds.MemoryInfo kind None _ refl (λ none. absurd (cc none)))))))))
 
-pub least_record : (kind : Kind) → 0 < record_size kind
+pub least_record : (kind : StreamKind) → 0 < record_size kind
 least_record kinds.Threads = omega arith
 least_record _ = omega arith
 
-pub most_record : (kind : Kind) → record_size kind ≤ greatest_record
+pub most_record : (kind : StreamKind) → record_size kind ≤ greatest_record
 most_record kinds.Threads = omega arith
 most_record _ = omega arith
 

@@ -4,7 +4,7 @@ use Rattle.std.specs.List.{list_any}
 use Rattle.mdmp_wire.specs.declared.entry.Entry.{Entry}
 use Rattle.mdmp_wire.specs.Header.{header_at}
 use Rattle.mdmp_wire.specs.Entry.{entry_at}
-use Rattle.mdmp_lister.specs.declared.kind.Kind.{Kind}
+use Rattle.mdmp_lister.specs.declared.kind.StreamKind.{StreamKind}
 use Rattle.mdmp_lister.specs.declared.fault.Fault.{Fault}
 use Rattle.mdmp_lister.specs.declared.fault.ListFault.{ListFault}
 use Rattle.mdmp_lister.specs.declared.item.Item.{Item}
@@ -101,24 +101,24 @@ item_then e k (Ok item) rest = with_item item rest
 item_then e k (Err f) rest = only_fault (list_fault e (Some k) f)
 
 -- n items of entry e, from item k on
-abbrev pub items_from : List ℕ → ℕ → ℕ → ℕ → Kind → Shape → ℕ → ℕ → Run
+abbrev pub items_from : List ℕ → ℕ → ℕ → ℕ → StreamKind → Shape → ℕ → ℕ → Run
 items_from F limit e at kind shape zero k = nothing
 items_from F limit e at kind shape (suc n) k =
     item_then e k (item_at F limit e k at (at + shape.first + k * shape.stride) kind) (items_from F limit e at kind shape n (k + 1))
 
 -- the records of a stream of this shape, or the fault of its shape
-abbrev pub shaped : List ℕ → ℕ → ℕ → ℕ → Kind → Result Shape Fault → Run
+abbrev pub shaped : List ℕ → ℕ → ℕ → ℕ → StreamKind → Result Shape Fault → Run
 shaped F limit e at kind (Ok shape) = items_from F limit e at kind shape shape.count 0
 shaped F limit e at kind (Err f) = only_fault (list_fault e None f)
 
 -- the records of a stream of a known kind: an unused entry has none, and neither has an opaque stream
-abbrev pub records_of : List ℕ → ℕ → ℕ → ℕ → ℕ → Option Kind → Run
+abbrev pub records_of : List ℕ → ℕ → ℕ → ℕ → ℕ → Option StreamKind → Run
 records_of F limit e at size (Some kind) = shaped F limit e at kind (shape_of F at size kind)
 records_of F limit e at size None = nothing
 
 -- what stands behind the Stream item of an entry: the fault of its location, or its records
-abbrev pub body_of : List ℕ → ℕ → Numbered → Run
-body_of F limit x = behind (location_fault (length F) x.entry) where
+abbrev pub entry_body : List ℕ → ℕ → Numbered → Run
+entry_body F limit x = behind (location_fault (length F) x.entry) where
   behind : Option Fault → Run
   behind (Some f) = only_fault (list_fault x.number None f)
   behind None = records_of F limit x.number x.entry.location.rva x.entry.location.size (kind_of x.entry.stream_type)
@@ -128,7 +128,7 @@ stream_item x = Stream (record { entry = x.number; stream_type = x.entry.stream_
 
 -- all that an entry gives
 abbrev pub entry_listing : List ℕ → ℕ → Numbered → Run
-entry_listing F limit x = with_item (stream_item x) (body_of F limit x)
+entry_listing F limit x = with_item (stream_item x) (entry_body F limit x)
 
 -- ---- a whole listing
 

@@ -3,7 +3,7 @@ use Rattle.std.specs.Prelude.{ℕ, ◌&&◌, List, [], ◌∷◌, ◌++◌, leng
 use Rattle.mdmp_source.specs.Range.{is_inside}
 use Rattle.mdmp_wire.specs.declared.entry.Entry.{Entry}
 use Rattle.mdmp_lister.specs.declared.choice.Choice.{Choice}
-use Rattle.mdmp_lister.specs.declared.kind.Kind.{Kind}
+use Rattle.mdmp_lister.specs.declared.kind.StreamKind.{StreamKind}
 use Rattle.mdmp_lister.specs.declared.fault.Fault.{Fault}
 use Rattle.mdmp_lister.specs.declared.fault.FaultKind.{FaultKind}
 use Rattle.mdmp_lister.specs.declared.fault.FaultKind.TheVariants.{NameLengthOutside, NameOdd, NameUnitsOutside, Source}
@@ -23,15 +23,15 @@ abbrev pub is_listed : ℕ → Entry → Bool
 is_listed size e = is_known e.stream_type && is_inside e.location.rva e.location.size size
 
 -- those of some entries whose records are read
-abbrev pub listed : ℕ → List Numbered → List Numbered
-listed size entries = filter (λ x. is_listed size x.entry) entries
+abbrev pub listed_entries : ℕ → List Numbered → List Numbered
+listed_entries size entries = filter (λ x. is_listed size x.entry) entries
 
 abbrev pub sizes_of : List Numbered → List ℕ
 sizes_of entries = map (λ x. x.entry.location.size) entries
 
 -- the sizes of the chosen streams of known types that lie inside
 abbrev pub listed_sizes : List ℕ → Choice → List ℕ
-listed_sizes F choice = sizes_of (listed (length F) (chosen F choice))
+listed_sizes F choice = sizes_of (listed_entries (length F) (chosen F choice))
 
 -- how many bytes they have together
 abbrev pub listed_bytes : List ℕ → Choice → ℕ
@@ -50,7 +50,7 @@ ranges_if F e true = good_count (record_count F e)
 ranges_if F e false = 0
 
 -- how many an entry of this kind gives
-abbrev pub ranges_in : List ℕ → Entry → Option Kind → ℕ
+abbrev pub ranges_in : List ℕ → Entry → Option StreamKind → ℕ
 ranges_in F e (Some kind) = ranges_if F e (lists_ranges kind)
 ranges_in F e None = 0
 
@@ -85,28 +85,28 @@ maybe_name (Source f) = 1
 maybe_name kind = faulty_name kind
 
 -- what a lister answers to a request for the next item: an item, the end or a fault
-abbrev pub Answer : Type 0
-Answer = Result (Option Item) ListFault
+abbrev pub NextAnswer : Type 0
+NextAnswer = Result (Option Item) ListFault
 
 -- how many names an answer reaches at least. A fault that is answered again is no answer of its own
-abbrev pub names_in : Answer → ℕ
+abbrev pub names_in : NextAnswer → ℕ
 names_in (Ok (Some item)) = names_of item
 names_in (Ok None) = 0
 names_in (Err f) = faulty_name f.kind
 
 -- and how many at most
-abbrev pub most_names_in : Answer → ℕ
+abbrev pub most_names_in : NextAnswer → ℕ
 most_names_in (Err f) = maybe_name f.kind
 most_names_in answer = names_in answer
 
 -- how many names some answers have reached, each fault once, and none of them one of the store
-abbrev pub names_reached : List Answer → ℕ
+abbrev pub names_reached : List NextAnswer → ℕ
 names_reached answers = sum_by names_in answers
 
 -- the answers by which a run is given
-abbrev pub end_of : Option ListFault → Answer
+abbrev pub end_of : Option ListFault → NextAnswer
 end_of (Some f) = Err f
 end_of None = Ok None
 
-abbrev pub answers_of : Run → List Answer
+abbrev pub answers_of : Run → List NextAnswer
 answers_of run = map (λ x. Ok (Some x)) run.items ++ end_of run.fault ∷ []

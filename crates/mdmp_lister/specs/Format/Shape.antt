@@ -9,7 +9,7 @@ use Rattle.mdmp_wire.specs.MemoryInfoList.{memory_info_list_at, memory_info_list
 use Rattle.mdmp_wire.specs.UnloadedList.{unloaded_list_at, unloaded_list_size}
 use Rattle.mdmp_lister.specs.declared.form.Form.{Form}
 use Rattle.mdmp_lister.specs.declared.form.Form.TheVariants as forms
-use Rattle.mdmp_lister.specs.declared.kind.Kind.{Kind}
+use Rattle.mdmp_lister.specs.declared.kind.StreamKind.{StreamKind}
 use Rattle.mdmp_lister.specs.declared.shape.Shape.{Shape}
 use Rattle.mdmp_lister.specs.declared.fault.Fault.{Fault}
 use Rattle.mdmp_lister.specs.declared.fault.FaultKind.TheVariants.{StreamOutside, ShortStream, BadHeaderSize, BadEntrySize, BadCount}
@@ -70,17 +70,17 @@ shape_behind_head F at size record_size forms.Sized64 =
     sized at size (head_cost forms.Sized64) record_size head.size_of_header head.size_of_entry head.number_of_entries
 
 -- the shape of a stream of this form, whose records have so many bytes each
-abbrev pub shape_by : List ℕ → ℕ → ℕ → ℕ → Form → Result Shape Fault
-shape_by F at size record_size form =
+abbrev pub shape_by_form : List ℕ → ℕ → ℕ → ℕ → Form → Result Shape Fault
+shape_by_form F at size record_size form =
     if nat_lt size (head_size form record_size) then Err (record { kind = ShortStream; offset = at; size = size })
     else shape_behind_head F at size record_size form
 
 -- the shape of a stream of this kind
-unfoldable pub shape_of : List ℕ → ℕ → ℕ → Kind → Result Shape Fault
-shape_of F at size kind = shape_by F at size (record_size kind) (form_of kind)
+unfoldable pub shape_of : List ℕ → ℕ → ℕ → StreamKind → Result Shape Fault
+shape_of F at size kind = shape_by_form F at size (record_size kind) (form_of kind)
 
 -- the records of a stream of `size` bytes lie inside it, and no two overlap: a law of every shape
-pub record FitsIn (size : ℕ) (kind : Kind) (shape : Shape) : Type 0 where
+pub record FitsIn (size : ℕ) (kind : StreamKind) (shape : Shape) : Type 0 where
   pub records : shape.first + shape.count * shape.stride ≤ size
   pub stride : 0 < shape.count → record_size kind ≤ shape.stride
 
@@ -98,7 +98,7 @@ pub record IsRangeListIn (size record_size : ℕ) (shape : Shape) : Type 0 where
   pub stride : shape.stride ≡ record_size
 
 -- a stream of this shape lies inside a file of z bytes
-pub record IsShapedIn (z : ℕ) (stream : Location) (kind : Kind) (shape : Shape) : Type 0 where
+pub record IsShapedIn (z : ℕ) (stream : Location) (kind : StreamKind) (shape : Shape) : Type 0 where
   pub inside : IsInside stream.rva stream.size z
   pub fits : FitsIn stream.size kind shape
 
@@ -117,7 +117,7 @@ records_in (Ok shape) = Ok shape.count
 records_in (Err fault) = Err fault
 
 -- an unused entry has none, and neither has an opaque stream
-abbrev pub known_count : List ℕ → ℕ → ℕ → Option Kind → Result ℕ Fault
+abbrev pub known_count : List ℕ → ℕ → ℕ → Option StreamKind → Result ℕ Fault
 known_count F at size (Some kind) = records_in (shape_of F at size kind)
 known_count F at size None = Ok 0
 

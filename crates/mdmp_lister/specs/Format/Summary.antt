@@ -5,8 +5,8 @@ use Rattle.mdmp_lister.specs.declared.item.Item.{Item}
 use Rattle.mdmp_lister.specs.declared.item.Item.TheVariants as items
 use Rattle.mdmp_lister.specs.declared.item.RangeItem.{RangeItem}
 use Rattle.mdmp_lister.specs.declared.item.StreamItem.{StreamItem}
-use Rattle.mdmp_lister.specs.declared.kind.Kind.{Kind}
-use Rattle.mdmp_lister.specs.declared.kind.Kind.TheVariants as kinds
+use Rattle.mdmp_lister.specs.declared.kind.StreamKind.{StreamKind}
+use Rattle.mdmp_lister.specs.declared.kind.StreamKind.TheVariants as kinds
 use Rattle.mdmp_lister.specs.declared.name.Name.{Name}
 use Rattle.mdmp_lister.specs.declared.name.Name.TheVariants as names
 use Rattle.mdmp_lister.specs.Format.Kind.{record_size}
@@ -24,7 +24,7 @@ pub record Summary : Type 0 where
   pub range : Option RangeItem
 
 -- that of a record of this kind
-abbrev pub summary_by : ℕ → Kind → Name → Option RangeItem → Summary
+abbrev pub summary_by : ℕ → StreamKind → Name → Option RangeItem → Summary
 summary_by e kind name range = record { entry = e; stream = None; bytes = record_size kind; name = name; range = range }
 
 abbrev pub summary_of : Item → Summary

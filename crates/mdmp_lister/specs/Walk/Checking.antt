@@ -110,15 +110,15 @@ module _ {S A : Type 0} where
         → current_of old file ≡ with_item (step_item old.meter.source.size new.name.items step) (current_of new file)
 
   -- a record was read, or a fault stands in its place
-  abbrev pub RecordRead : Walk S A → Result Step ListFault → Walk S A → Type 0
-  RecordRead old (Ok step) new = StepTaken old (Ok (Some step)) new × RecordGiven old step new
-  RecordRead old (Err f) new = StepTaken old (Err f) new
+  abbrev pub RecordWasRead : Walk S A → Result Step ListFault → Walk S A → Type 0
+  RecordWasRead old (Ok step) new = StepTaken old (Ok (Some step)) new × RecordGiven old step new
+  RecordWasRead old (Err f) new = StepTaken old (Err f) new
 
   -- the next record of the current entry was read, or none is left
   abbrev pub RecordTaken : Walk S A → Result (Option Step) ListFault → Walk S A → Type 0
   RecordTaken old (Ok None) new = (new ≡ old) × IsThrough old.stage
-  RecordTaken old (Ok (Some step)) new = RecordRead old (Ok step) new
-  RecordTaken old (Err f) new = RecordRead old (Err f) new
+  RecordTaken old (Ok (Some step)) new = RecordWasRead old (Ok step) new
+  RecordTaken old (Err f) new = RecordWasRead old (Err f) new
 
   -- ---- what is read of the current entry, beside the map
 

@@ -2,7 +2,7 @@
 use Rattle.std.specs.Prelude.{◌≡◌, ◌≤◌, ◌+◌, ◌-◌, ℕ, List, Option, Some, None, Result, Ok, Err, if◌then◌else◌}
 use Rattle.mdmp_wire.specs.declared.entry.Entry.{Entry}
 use Rattle.mdmp_lister.specs.declared.fault.ListFault.{ListFault}
-use Rattle.mdmp_lister.specs.declared.kind.Kind.{Kind}
+use Rattle.mdmp_lister.specs.declared.kind.StreamKind.{StreamKind}
 use Rattle.mdmp_lister.specs.declared.stage.Stage.{Stage}
 use Rattle.mdmp_lister.specs.declared.stage.Stage.TheVariants.{Head, Records}
 use Rattle.mdmp_lister.specs.declared.step.Step.{Step}
@@ -14,7 +14,7 @@ use Rattle.mdmp_lister.specs.Format.Listing.{chosen_from}
 use Rattle.mdmp_lister.specs.Format.Kind.{kind_of, lists_ranges}
 
 -- how many of n records of this kind tell a range: all or none
-abbrev pub ranges_by : Kind → ℕ → ℕ
+abbrev pub ranges_by : StreamKind → ℕ → ℕ
 ranges_by kind n = if lists_ranges kind then n else 0
 
 -- how many ranges the records that are left of an entry tell, once its head was read

@@ -21,9 +21,9 @@ abbrev pub stop_in : Position → Stage → Option (Option ListFault)
 stop_in (Sought at) stage = None
 stop_in _ stage = stop_of stage
 
-abbrev pub records_in : Position → Stage → ℕ
-records_in (Sought at) stage = 0
-records_in _ stage = records_left_in stage
+abbrev pub records_at_position : Position → Stage → ℕ
+records_at_position (Sought at) stage = 0
+records_at_position _ stage = records_left_in stage
 
 -- how far the current entry was given; nothing is left of it where another is sought
 abbrev pub standing_in : Position → Stage → Standing

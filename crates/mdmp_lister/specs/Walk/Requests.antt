@@ -88,7 +88,7 @@ module _ {S A : Type 0} where
 
   -- the head of the current entry was read, or has a fault: what was fetched of it came off what was unread, and where the
   -- file is known the stage tells how many records the entry has
-  pub record Counted (old new : Walk S A) : Type 0 where
+  pub record HeadCounted (old new : Walk S A) : Type 0 where
     pub books : Books 1 (unread_bytes old - unread_bytes new) old.meter new.meter
     pub of_file : (file : List ℕ) → old.meter.source.store.content ≡ Some file → IsCounted (records_told file (record { number = old.next - 1; entry = old.current })) new.stage
     pub unchanged : StaysUnchanged new.stage

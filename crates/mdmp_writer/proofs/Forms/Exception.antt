@@ -7,7 +7,7 @@ use Rattle.mdmp_wire.specs.Number.{number_at, le, les, zeros}
 use Rattle.mdmp_wire.specs.NumberLaws.{length-les, number_at-le, number_at-past, numbers_at-les, numbers_at-past}
 use Rattle.mdmp_wire.specs.Exception.{exception_at, exception_at-part, exception_bytes}
 use Rattle.mdmp_wire.specs.Location.{location_bytes}
-use Rattle.mdmp_lister.specs.declared.kind.Kind.TheVariants as kinds
+use Rattle.mdmp_lister.specs.declared.kind.StreamKind.TheVariants as kinds
 use Rattle.mdmp_lister.specs.Format.Shape.{shape_of}
 use Rattle.mdmp_dump.specs.declared.exception.Exception.{Exception}
 use Rattle.mdmp_dump.specs.Exception.{ExceptionFits, IsException, exception_record, exception_seen}

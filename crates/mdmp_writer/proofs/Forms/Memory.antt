@@ -6,7 +6,7 @@ use Rattle.mdmp_wire.specs.declared.descriptor.Descriptor.{Descriptor}
 use Rattle.mdmp_wire.specs.Number.{number_at, le}
 use Rattle.mdmp_wire.specs.NumberLaws.{number_at-le, length-le}
 use Rattle.mdmp_wire.specs.Descriptor.{descriptor_at, descriptor_at-part, descriptor_bytes}
-use Rattle.mdmp_lister.specs.declared.kind.Kind.TheVariants as kinds
+use Rattle.mdmp_lister.specs.declared.kind.StreamKind.TheVariants as kinds
 use Rattle.mdmp_lister.specs.Format.Shape.{shape_of}
 use Rattle.mdmp_dump.specs.declared.memory.MemoryRange.{MemoryRange}
 use Rattle.mdmp_dump.specs.Memory.{IsMemory, MemoryFits, memory_record, memory_seen}

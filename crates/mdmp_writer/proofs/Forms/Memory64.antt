@@ -10,7 +10,7 @@ use Rattle.mdmp_wire.specs.NumberLaws.{number_at-le}
 use Rattle.mdmp_wire.specs.Descriptor64.{descriptor64_at, descriptor64_at-part, descriptor64_bytes}
 use Rattle.mdmp_wire.specs.declared.memory64_list.Memory64List.{Memory64List}
 use Rattle.mdmp_wire.specs.Memory64List.{memory64_list_at, memory64_list_at-part, memory64_list_bytes}
-use Rattle.mdmp_lister.specs.declared.kind.Kind.TheVariants as kinds
+use Rattle.mdmp_lister.specs.declared.kind.StreamKind.TheVariants as kinds
 use Rattle.mdmp_lister.specs.Format.Shape.{shape_of}
 use Rattle.mdmp_lister.specs.Format.Item.{range_offset, sizes_before}
 use Rattle.mdmp_dump.specs.declared.memory64.Memory64Range.{Memory64Range}

@@ -7,7 +7,7 @@ use Rattle.mdmp_wire.specs.NumberLaws.{number_at-le}
 use Rattle.mdmp_wire.specs.MemoryInfo.{memory_info_at, memory_info_at-part, memory_info_bytes}
 use Rattle.mdmp_wire.specs.declared.memory_info_list.MemoryInfoList.{MemoryInfoList}
 use Rattle.mdmp_wire.specs.MemoryInfoList.{memory_info_list_at, memory_info_list_at-part, memory_info_list_bytes}
-use Rattle.mdmp_lister.specs.declared.kind.Kind.TheVariants as kinds
+use Rattle.mdmp_lister.specs.declared.kind.StreamKind.TheVariants as kinds
 use Rattle.mdmp_lister.specs.Format.Shape.{shape_of}
 use Rattle.mdmp_dump.specs.MemoryInfo.{MemoryInfoFits, memory_info_seen}
 use Rattle.mdmp_dump.specs.declared.dump.Stream.TheVariants as streams

@@ -8,7 +8,7 @@ use Rattle.mdmp_wire.specs.Number.{number_at, le}
 use Rattle.mdmp_wire.specs.NumberLaws.{number_at-le, length-le}
 use Rattle.mdmp_wire.specs.Module.{module_at, module_at-part, module_bytes}
 use Rattle.mdmp_wire.specs.Version.{version_at, version_bytes}
-use Rattle.mdmp_lister.specs.declared.kind.Kind.TheVariants as kinds
+use Rattle.mdmp_lister.specs.declared.kind.StreamKind.TheVariants as kinds
 use Rattle.mdmp_lister.specs.Format.Shape.{shape_of}
 use Rattle.mdmp_dump.specs.declared.module.Module.{Module}
 use Rattle.mdmp_dump.specs.Module.{IsModule, ModuleFits, VersionFits, module_record, module_seen}

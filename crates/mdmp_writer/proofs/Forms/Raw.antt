@@ -3,7 +3,7 @@ use Rattle.std.proofs.Common.{◌≡◌, ◌<◌, ◌^◌, ℕ, List, [], ◌∷
 use Rattle.std.specs.Prelude.{false, is_some, ◌==◌}
 use Rattle.std.proofs.lemmas.Bool.{or_parts, true≢false}
 use Rattle.mdmp_wire.specs.Number.{array_at}
-use Rattle.mdmp_lister.specs.declared.kind.Kind.{Kind}
+use Rattle.mdmp_lister.specs.declared.kind.StreamKind.{StreamKind}
 use Rattle.mdmp_lister.specs.Format.Kind.{kind_of}
 use Rattle.mdmp_dump.specs.declared.dump.Stream.TheVariants as streams
 use Rattle.mdmp_dump.specs.LaysOut.{HasBytes}
@@ -13,7 +13,7 @@ use Rattle.mdmp_writer.specs.Written.{all_padded, parts_of}
 use Rattle.mdmp_writer.proofs.Standing.{Stands, stands_inside}
 use Rattle.mdmp_writer.proofs.ReadBack.{IsReadBack, located}
 
-none_known : (o : Option Kind) → is_some o ≡ false → o ≡ None
+none_known : (o : Option StreamKind) → is_some o ≡ false → o ≡ None
 none_known None unknown = refl
 none_known (Some k) unknown = absurd (true≢false unknown)
 

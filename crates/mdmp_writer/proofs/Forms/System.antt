@@ -6,7 +6,7 @@ use Rattle.mdmp_wire.specs.declared.system.SystemRecord.{SystemRecord}
 use Rattle.mdmp_wire.specs.Number.{array_at, le, number_at}
 use Rattle.mdmp_wire.specs.NumberLaws.{number_at-le}
 use Rattle.mdmp_wire.specs.System.{system_at, system_at-part, system_bytes}
-use Rattle.mdmp_lister.specs.declared.kind.Kind.TheVariants as kinds
+use Rattle.mdmp_lister.specs.declared.kind.StreamKind.TheVariants as kinds
 use Rattle.mdmp_lister.specs.Format.Shape.{shape_of}
 use Rattle.mdmp_dump.specs.declared.system.System.{System}
 use Rattle.mdmp_dump.specs.Name.{IsName}

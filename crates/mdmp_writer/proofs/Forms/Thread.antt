@@ -6,7 +6,7 @@ use Rattle.mdmp_wire.specs.declared.thread.ThreadRecord.{ThreadRecord}
 use Rattle.mdmp_wire.specs.Number.{number_at, le}
 use Rattle.mdmp_wire.specs.NumberLaws.{number_at-le, length-le}
 use Rattle.mdmp_wire.specs.Thread.{thread_at, thread_at-part, thread_bytes}
-use Rattle.mdmp_lister.specs.declared.kind.Kind.TheVariants as kinds
+use Rattle.mdmp_lister.specs.declared.kind.StreamKind.TheVariants as kinds
 use Rattle.mdmp_lister.specs.Format.Shape.{shape_of}
 use Rattle.mdmp_dump.specs.declared.thread.Thread.{Thread}
 use Rattle.mdmp_dump.specs.Part.{IsPart}

@@ -7,7 +7,7 @@ use Rattle.mdmp_wire.specs.NumberLaws.{number_at-le}
 use Rattle.mdmp_wire.specs.Unloaded.{unloaded_at, unloaded_at-part, unloaded_bytes}
 use Rattle.mdmp_wire.specs.declared.unloaded_list.UnloadedList.{UnloadedList}
 use Rattle.mdmp_wire.specs.UnloadedList.{unloaded_list_at, unloaded_list_at-part, unloaded_list_bytes}
-use Rattle.mdmp_lister.specs.declared.kind.Kind.TheVariants as kinds
+use Rattle.mdmp_lister.specs.declared.kind.StreamKind.TheVariants as kinds
 use Rattle.mdmp_lister.specs.Format.Shape.{shape_of}
 use Rattle.mdmp_dump.specs.declared.unloaded.Unloaded.{Unloaded}
 use Rattle.mdmp_dump.specs.Name.{IsName}

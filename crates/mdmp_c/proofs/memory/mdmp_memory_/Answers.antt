@@ -27,8 +27,8 @@ returns-in-Err-list_ranges c =
     let told = memory_told-fault file c.args.limits.now.name name choice f c.memory_lists.ensures c.in-Some.ensures.2 (c.in-Ok.ensures.opens file good.known) fault in
     let status = ap status_of told ∙ status-file f.kind of_file in
     faulty valid c.if-out-known.false (some_fault _ status) record {
-      status_is = c.refuse-in-Err-list_ranges.ensures.status ∙ ap status_of c.list_fault.ensures ∙ status-file f.kind of_file;
-      fault_is = c.refuse-in-Err-list_ranges.ensures.fault ∙ c.list_fault.ensures ∙ sym told;
+      status_is = c.refuse-in-Err-list_ranges.ensures.status ∙ ap status_of c.plain_list_fault.ensures ∙ status-file f.kind of_file;
+      fault_is = c.refuse-in-Err-list_ranges.ensures.fault ∙ c.plain_list_fault.ensures ∙ sym told;
       out = refl;
       known = refl;
     }

@@ -2,7 +2,7 @@ use Rattle.std.proofs.Common.{◌≡◌, ◌∙◌, List, [], ◌∷◌, length,
 use Rattle.mdmp_lister.specs.Format.Listing.{Numbered}
 use Rattle.mdmp_wire.specs.declared.entry.Entry.{Entry}
 use Rattle.mdmp_dump.specs.declared.pass.Pass.{Pass}
-use Rattle.mdmp_dump.specs.EntryWalk.{Begins, WalkState, entry_at, no_entry, raw_part}
+use Rattle.mdmp_dump.specs.EntryWalk.{Begins, WalkState, chosen_entry, no_entry, raw_part}
 use Rattle.mdmp_dump.specs.FoundRecord.{IsPartIn, no_part}
 use Rattle.mdmp_dump.proofs.FaultsTold.{begin_refused, going_on, same_count, tells_change}
 use Rattle.mdmp_dump.proofs.FileViews.{raw_parts}
@@ -26,10 +26,10 @@ returns-then-now-count-clause-tells g c =
     elim c.then-now-count.branch [
       | then-now-count-via-then-now-count v ↦ v.if-now-count.true same
       | then-now-count-via-else-now-count+then-not-lies_inside v ↦
-          let inside = raw_inside g.row.A.Denot F (entry_at w c.args.stream) c.args.count (c.requires.counted F known) in
+          let inside = raw_inside g.row.A.Denot F (chosen_entry w c.args.stream) c.args.count (c.requires.counted F known) in
           let file : c.begin.new.self.source.store.content ≡ Some F = begins.pays.same.fetches.fetches.same_content ∙ known in
           let size : v.size.result ≡ length F = rw file at v.size.ensures.content in
-          let part : c.raw_part-raw.result ≡ raw_part (entry_at w c.args.stream).entry = c.raw_part-raw.ensures ∙ ap raw_part c.entry-entry.ensures.value in
+          let part : c.raw_part-raw.result ≡ raw_part (chosen_entry w c.args.stream).entry = c.raw_part-raw.ensures ∙ ap raw_part c.entry-entry.ensures.value in
           let lies : IsPartIn v.size.result c.raw_part-raw.result.size c.raw_part-raw.result.at = rw (size, part) inside in
           let yes : v.lies_inside.result ≡ true = v.lies_inside.ensures.1 lies in
           let no : v.lies_inside.result ≡ false = v.if-not-lies_inside.true in
@@ -43,9 +43,9 @@ returns-clause-begins g c =
     let w = c.args.walk.now in
     let begins = subst (λ (v : WalkState). Begins v c.args.stream (Ok c.in-Ok.now) c.begin.new.self) c.entry-entry.ensures.same c.in-Ok.ensures in
     let chosen = begins.pays.same.chosen in
-    let here : entry_at c.begin.new.self c.args.stream ≡ entry_at w c.args.stream = ap (λ (xs : List Numbered). get_or xs c.args.stream no_entry) chosen in
-    let part : c.raw_part-raw.result ≡ raw_part (entry_at w c.args.stream).entry = c.raw_part-raw.ensures ∙ ap raw_part c.entry-entry.ensures.value in
-    let rva : c.entry-entry.result.location.rva ≡ (entry_at w c.args.stream).entry.location.rva = ap (λ (e : Entry). e.location.rva) c.entry-entry.ensures.value in
+    let here : chosen_entry c.begin.new.self c.args.stream ≡ chosen_entry w c.args.stream = ap (λ (xs : List Numbered). get_or xs c.args.stream no_entry) chosen in
+    let part : c.raw_part-raw.result ≡ raw_part (chosen_entry w c.args.stream).entry = c.raw_part-raw.ensures ∙ ap raw_part c.entry-entry.ensures.value in
+    let rva : c.entry-entry.result.location.rva ≡ (chosen_entry w c.args.stream).entry.location.rva = ap (λ (e : Entry). e.location.rva) c.entry-entry.ensures.value in
     let count : c.in-Ok.now ≡ c.args.count = omega (arith, c.if-now-count.false) in
     let size : c.size.result ≡ c.begin.new.self.source.size = c.size.ensures.value in
     let inside : IsPartIn c.begin.new.self.source.size c.raw_part-raw.result.size c.raw_part-raw.result.at = rw (← size) (c.lies_inside.ensures.0 (search rules)) in (

@@ -1,6 +1,6 @@
 use Rattle.std.proofs.Common.{◌≡◌, ◌*◌, arith, subst, sym}
 use Rattle.mdmp_dump.specs.declared.stream_walk.Walked.{Walked}
-use Rattle.mdmp_dump.specs.EntryWalk.{Pays, entry_at, listed, name_cost}
+use Rattle.mdmp_dump.specs.EntryWalk.{Pays, chosen_entry, listed, name_cost}
 use Rattle.mdmp_dump.specs.FileView.{kind_at}
 use Rattle.mdmp_dump.specs.Shape.{GivesNone}
 use Rattle.mdmp_dump.proofs.WalkedOver.{unbegun_paid, walking_begins, walking_ends, walking_fetches, walking_goes, walking_paid, walking_refused, walking_unbegun}
@@ -36,7 +36,7 @@ pub returns-clause-pays : goal.returns-clause-pays
 returns-clause-pays g c =
     let all : c.loop-index.index ≡ c.in-Ok.count = omega (arith, c.loop-index-test.false, c.loop-index.auto.index-end) in
     let w = c.args.walk.now in
-    let e = (entry_at w c.args.stream).entry in
+    let e = (chosen_entry w c.args.stream).entry in
     subst (λ n. Pays (listed e) (n * name_cost e.stream_type) w c.loop-index.walk) all c.loop-index.invariant.pays
 
 pub returns-clause-of_file : goal.returns-clause-of_file

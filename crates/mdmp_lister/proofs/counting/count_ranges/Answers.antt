@@ -1,6 +1,6 @@
 use Rattle.std.proofs.Common.{◌≡◌, ◌≤◌, ◌<◌, ◌+◌, ◌∙◌, ℕ, None, Some, Err, true, arith, rules, sym, get_or, subst, length}
 use Rattle.mdmp_wire.specs.declared.entry.Entry.{Entry}
-use Rattle.mdmp_lister.specs.Heading.{ahead_of}
+use Rattle.mdmp_lister.specs.StreamHead.{ahead_of}
 use Rattle.mdmp_lister.specs.Format.Listing.{entry_count, is_chosen}
 use Rattle.mdmp_lister.specs.Meter.{Books}
 use Rattle.mdmp_lister.proofs.Entries.{ranges-chosen, ranges-other, ranges-end}

@@ -1,7 +1,7 @@
 use Rattle.std.proofs.Common.{◌≡◌, ◌≤◌, ◌+◌, ◌*◌, ◌^◌, ℕ, List, None, Some, take}
 use Rattle.mdmp_lister.specs.Format.Numbers.{range_count, ranges_of_all}
 use Rattle.mdmp_lister.specs.Format.Listing.{chosen_from}
-use Rattle.mdmp_lister.specs.Heading.{heads_ahead}
+use Rattle.mdmp_lister.specs.StreamHead.{heads_ahead}
 use Rattle.mdmp_lister.specs.Meter.{Books}
 use Rattle.mdmp_lister.specs.Fault.{IsCaused}
 use Rattle.mdmp_lister.proofs.counting.count_ranges.Given as goal

@@ -1,5 +1,5 @@
 use Rattle.std.proofs.Common.{◌≡◌, ◌∙◌, ◌*◌, true, false, ap, sym, rules}
-use Rattle.mdmp_wire.specs.HeaderFault.{fault_of}
+use Rattle.mdmp_wire.specs.HeaderFault.{header_fault_of}
 use Rattle.mdmp_source.specs.Range.{is_inside}
 use Rattle.mdmp_lister.proofs.Refusals.{header_at-fetched, directory_refusal-fetched, directory_refusal-inside, directory_refusal-outside}
 use Rattle.mdmp_lister.proofs.opening.header_in.Goals as goal
@@ -52,5 +52,5 @@ returns c =
       refusal = search rules;
       long = λ told same. cc;
       read = search rules;
-      checked = ap fault_of c.in-Ok.ensures.1.fields ∙ c.in-Ok.ensures.0;
+      checked = ap header_fault_of c.in-Ok.ensures.1.fields ∙ c.in-Ok.ensures.0;
     }

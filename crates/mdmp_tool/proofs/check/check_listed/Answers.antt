@@ -9,7 +9,7 @@ use Rattle.mdmp_source.specs.Output.{PutsAll}
 use Rattle.mdmp_tool.specs.declared.fault.ToolFault.{ToolFault}
 use Rattle.mdmp_tool.specs.CheckText.{bad_count, verdict_lines}
 use Rattle.mdmp_tool.specs.CheckRuns.{CheckEnds}
-use Rattle.mdmp_tool.specs.Engines.{Leaves, Writes, past_faults}
+use Rattle.mdmp_tool.specs.Engines.{Leaves, WritesText, past_faults}
 use Rattle.mdmp_tool.proofs.Checking.{PutsPrefix-first, StopsShort-first, bad-taken, bad_entries, lines-stopped, lines-taken, name-stopped, name-taken, told-cause, told-source}
 use Rattle.mdmp_tool.proofs.SameRuns.{run_list, run_none}
 use Rattle.mdmp_tool.proofs.check.check_listed.Goals as goal
@@ -66,7 +66,7 @@ returns-in-Err-At-clause-writes g c = λ file known.
     let first = rw c.requires.opened.choice_is at (checks.of_file file known) in
     let put = lines-taken (λ lines. g.O.Out.state lines.out.now) (λ lines. lines.bad) (λ lines. lines.out.ghost_name) checks.judged _ _ (rw c.in-Err-At.field-0-is at checks.handed) in
     let told = (c.in-Err-At.ensures.told c.in-Err-At.fault c.in-Err-At.field-0-is).0 in
-    rw c.told_list.ensures (told-source (λ (r : Result ℕ ToolFault). Writes past_faults (verdict_lines (verdicts file All limit)) before r after) c.in-Err-At.fault c.in-Err-At.fault.kind told
+    rw c.told_list.ensures (told-source (λ (r : Result ℕ ToolFault). WritesText past_faults (verdict_lines (verdicts file All limit)) before r after) c.in-Err-At.fault c.in-Err-At.fault.kind told
     (λ s is. StopsShort-first (verdicts file All limit) checks.judged first.0 before after first.1 put))
 
 pub returns-in-Err-At-clause-leaves : goal.returns-in-Err-At-clause-leaves

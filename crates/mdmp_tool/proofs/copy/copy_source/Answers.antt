@@ -1,9 +1,9 @@
 use Rattle.std.proofs.Common.{◌≡◌, ◌+◌, ◌*◌, ◌∙◌, ap, arith, sum, sym}
 use Rattle.mdmp_lister.specs.declared.choice.Choice.TheVariants.{Types}
 use Rattle.mdmp_dump.specs.FileView.{file_shape}
-use Rattle.mdmp_dump.specs.FileViewLaws.{opening_told}
+use Rattle.mdmp_dump.specs.FileViewLaws.{opening_cost_told}
 use Rattle.mdmp_dump.specs.Opening.{entries_in, opened_by}
-use Rattle.mdmp_dump.specs.Shape.{Shape}
+use Rattle.mdmp_dump.specs.Shape.{ViewShape}
 use Rattle.mdmp_dump.proofs.Taking.{FetchesSome_then}
 use Rattle.mdmp_tool.specs.Copying.{first_not_copied, spent, unopened}
 use Rattle.mdmp_tool.proofs.Engining.{may_change}
@@ -61,9 +61,9 @@ returns-in-Ok-clause-spends g c =
     let after = c.write_copy.new.view in
     let written = c.write_copy.ensures in
     let shape = file_shape g.row.A.Denot view.walk view.counts.items view.rooms.items in
-    let later : opened_by after ≡ 32 + 12 * entries_in after + sum (file_shape g.row.A.Denot after.walk after.counts.items after.rooms.items).costs = opening_told g.row.A.Denot after.walk after.counts.items after.rooms.items in
-    let first : opened_by view ≡ 32 + 12 * entries_in view + sum shape.costs = opening_told g.row.A.Denot view.walk view.counts.items view.rooms.items in
-    let costs : sum (file_shape g.row.A.Denot after.walk after.counts.items after.rooms.items).costs ≡ sum shape.costs = ap (λ (s : Shape). sum s.costs) written.shape in
+    let later : opened_by after ≡ 32 + 12 * entries_in after + sum (file_shape g.row.A.Denot after.walk after.counts.items after.rooms.items).costs = opening_cost_told g.row.A.Denot after.walk after.counts.items after.rooms.items in
+    let first : opened_by view ≡ 32 + 12 * entries_in view + sum shape.costs = opening_cost_told g.row.A.Denot view.walk view.counts.items view.rooms.items in
+    let costs : sum (file_shape g.row.A.Denot after.walk after.counts.items after.rooms.items).costs ≡ sum shape.costs = ap (λ (s : ViewShape). sum s.costs) written.shape in
     let entries : entries_in after ≡ entries_in view = ap (λ h. h.number_of_streams) written.moves.header in
     spent (record {
       shape = shape;

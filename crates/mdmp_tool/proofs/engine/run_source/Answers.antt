@@ -5,7 +5,7 @@ use Rattle.mdmp_lister.specs.Counts.{AreHeld, AreSpent}
 use Rattle.mdmp_lister.specs.declared.counts.Counts.{Counts}
 use Rattle.mdmp_lister.specs.Lister.{Rooms}
 use Rattle.mdmp_tool.specs.Causes.{MayChange}
-use Rattle.mdmp_tool.specs.Engines.{IsBehind, IsThrough}
+use Rattle.mdmp_tool.specs.Engines.{IsBehind, IsReadThrough}
 use Rattle.mdmp_tool.proofs.SameRuns.{early_opening}
 use Rattle.mdmp_tool.proofs.engine.run_source.Goals as goal
 
@@ -43,14 +43,14 @@ returns-clause-reads g c =
 pub returns-in-Err-clause-through : goal.returns-in-Err-clause-through
 returns-in-Err-clause-through g c =
     let back = c.in-Err.ensures.handed_back in
-    rw c.told_opening.ensures (IsThrough.refused back.asked (early_opening g.row.E-Answer.Denot c.in-Err.refused.fault) back.bound back.inside)
+    rw c.told_opening.ensures (IsReadThrough.refused back.asked (early_opening g.row.E-Answer.Denot c.in-Err.refused.fault) back.bound back.inside)
 
 pub returns-clause-through : goal.returns-clause-through
 returns-clause-through g c =
     let new = c.in-Ok.ensures.new.list in
     let same = c.put-answer.ensures.same in
     let counts = c.counts-counts.ensures in
-    rw c.into_source.ensures.value (IsThrough.listed (record {
+    rw c.into_source.ensures.value (IsReadThrough.listed (record {
       lister = c.put-answer.new.lister;
       window = ap (λ (r : Rooms). r.window) same.rooms ∙ new.window_room;
       limit = same.limit ∙ new.limit_is;

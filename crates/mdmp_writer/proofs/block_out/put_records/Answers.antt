@@ -1,6 +1,6 @@
 use Rattle.std.proofs.Common.{◌≡◌, ◌+◌, ◌*◌, ◌∙◌, ◌++◌, ℕ, Some, ap, length, refl, sym, true}
 use Rattle.mdmp_dump.specs.Places.{up}
-use Rattle.mdmp_dump.specs.Shape.{Shape, body_of, head_of, room_of, row_of, seen_at, stream_at}
+use Rattle.mdmp_dump.specs.Shape.{ViewShape, body_of, head_of, room_of, row_of, seen_at, stream_at}
 use Rattle.mdmp_dump.specs.View.{DumpSeen}
 use Rattle.mdmp_writer.specs.Gather.{gathered}
 use Rattle.mdmp_writer.specs.Layout.{block_size}
@@ -36,13 +36,13 @@ returns-in-Ok-put_padding-clause-writes g c x known =
     (is_block g (goal.at.returns-in-Ok-put_padding-clause-writes g c).After-put_body x known)
     (writes_then c.put_stream_parts.result _ _ _ (_ ++ zeros) (all_padded (parts_of (seen_at x c.args.stream).records))
     (puts_puts _ _ _ _ zeros (c.in-Ok.ensures.writes x known) c.in-Ok-put_padding.ensures.writes)
-    (c.put_stream_parts.ensures.writes x (ap (λ (s : Shape). s.seen) c.put_body.ensures.shape ∙ known)))
+    (c.put_stream_parts.ensures.writes x (ap (λ (s : ViewShape). s.seen) c.put_body.ensures.shape ∙ known)))
 
 pub returns-in-Ok-put_padding-clause-cause : goal.returns-in-Ok-put_padding-clause-cause
 returns-in-Ok-put_padding-clause-cause g c =
     let state = g.O.Out.state in
     cause_after c.put_stream_parts.result (state c.args.out.now) (state c.put_padding.new.out) (state c.put_stream_parts.new.out) _ _
-    (c.in-Ok-put_padding.ensures.cause true ∙ c.in-Ok.ensures.cause) (ap (λ (s : Shape). s.is_reliable) c.put_body.ensures.shape) c.put_stream_parts.ensures.cause
+    (c.in-Ok-put_padding.ensures.cause true ∙ c.in-Ok.ensures.cause) (ap (λ (s : ViewShape). s.is_reliable) c.put_body.ensures.shape) c.put_stream_parts.ensures.cause
 
 pub returns-in-Err-put_padding-clause-writes : goal.returns-in-Err-put_padding-clause-writes
 returns-in-Err-put_padding-clause-writes g c x known =
@@ -65,4 +65,4 @@ returns-in-Ok-put_padding-clause-some g c =
     let whole : c.args.body + rest ≡ up (body_of s) = length-padding c.args.body ∙ ap up c.requires.body in
     let front = some_then _ _ _ c.args.body rest (some_is _ _ _ c.args.body body (c.in-Ok.ensures.some c.requires.kind)) (some_of _ _ (padding c.args.body) rest c.in-Ok-put_padding.ensures.writes refl) in
     ok_then c.put_stream_parts.result _ _ _ (c.args.body + rest) (room_of s) (block_size s) (ap (λ (m : ℕ). m + room_of s) whole) front
-    (ok_is c.put_stream_parts.result _ _ _ _ (ap (λ (u : Shape). room_of (stream_at u c.args.stream)) c.put_body.ensures.shape) c.put_stream_parts.ensures.some)
+    (ok_is c.put_stream_parts.result _ _ _ _ (ap (λ (u : ViewShape). room_of (stream_at u c.args.stream)) c.put_body.ensures.shape) c.put_stream_parts.ensures.some)

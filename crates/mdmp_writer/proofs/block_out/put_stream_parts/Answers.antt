@@ -2,8 +2,8 @@ use Rattle.std.proofs.Common.{◌≡◌, ◌∙◌, List, ℕ, sym, ap, subst, a
 use Rattle.std.proofs.lemmas.Bool.{ne_eqb}
 use Rattle.mdmp_dump.specs.declared.view.Kind.{Kind}
 use Rattle.mdmp_dump.specs.declared.view.Kind.TheVariants.{Known}
-use Rattle.mdmp_dump.specs.Shape.{Shape, Spent, cost_at, is_far, room_of, stream_at}
-use Rattle.mdmp_writer.specs.Gather.{Puts, gathered}
+use Rattle.mdmp_dump.specs.Shape.{ViewShape, Spent, cost_at, is_far, room_of, stream_at}
+use Rattle.mdmp_writer.specs.Gather.{Gathers, gathered}
 use Rattle.mdmp_writer.proofs.Counting.{ok_is, some_is, some_none}
 use Rattle.mdmp_writer.proofs.Passing.{near_asks, near_passes, near_room, no_second}
 use Rattle.mdmp_writer.proofs.Sending.{puts_nothing}
@@ -16,7 +16,7 @@ returns-then-stream_type-eq9-clause-writes g c x known =
     let before = gathered (g.O.Out.state c.args.out.now) c.args.gather.now in
     let is : (stream_at s k).kind ≡ Known 9 = c.requires.kind ∙ ap Known c.if-stream_type-eq9.true in
     let none : room_of (stream_at s k) ≡ 0 = ap (λ (o : Kind). if is_far o then 0 else (stream_at s k).parts) is in
-    subst (λ (t : List ℕ). Puts before t before)
+    subst (λ (t : List ℕ). Gathers before t before)
     (sym (no_second s x k (g.met.V.DumpView.sound c.args.view.now x known) (g.met.V.DumpView.kinds c.args.view.now x k known) none)) (puts_nothing before)
 
 pub returns-then-parts-eq0-clause-writes : goal.returns-then-parts-eq0-clause-writes
@@ -25,11 +25,11 @@ returns-then-parts-eq0-clause-writes g c x known =
     let k = c.args.stream in
     let before = gathered (g.O.Out.state c.args.out.now) c.args.gather.now in
     let none : room_of (stream_at s k) ≡ 0 = near_room (stream_at s k) (omega (arith, c.parts_size-parts.ensures.size, c.if-parts-eq0.true)) in
-    subst (λ (t : List ℕ). Puts before t before)
+    subst (λ (t : List ℕ). Gathers before t before)
     (sym (no_second s x k (g.met.V.DumpView.sound c.args.view.now x known) (g.met.V.DumpView.kinds c.args.view.now x k known) none)) (puts_nothing before)
 
 pub returns-clause-writes : goal.returns-clause-writes
-returns-clause-writes g c x known = c.put_second_pass.ensures.writes x (ap (λ (t : Shape). t.seen) c.parts_size-parts.ensures.shape ∙ known)
+returns-clause-writes g c x known = c.put_second_pass.ensures.writes x (ap (λ (t : ViewShape). t.seen) c.parts_size-parts.ensures.shape ∙ known)
 
 pub returns-clause-passed : goal.returns-clause-passed
 returns-clause-passed g c =
@@ -39,7 +39,7 @@ returns-clause-passed g c =
       arith,
       c.put_second_pass.ensures.passed,
       ap (λ (t : Spent). t.passed) c.parts_size-parts.ensures.spent,
-      ap (λ (t : Shape). cost_at t k) c.parts_size-parts.ensures.shape,
+      ap (λ (t : ViewShape). cost_at t k) c.parts_size-parts.ensures.shape,
       near_passes s k c.args.stream_type c.requires.kind (ne_eqb c.args.stream_type 9 c.if-stream_type-eq9.false),
     )
 
@@ -51,7 +51,7 @@ returns-clause-asked g c =
       arith,
       c.put_second_pass.ensures.asked,
       ap (λ (t : Spent). t.asked) c.parts_size-parts.ensures.spent,
-      ap (λ (t : Shape). (stream_at t k).bytes) c.parts_size-parts.ensures.shape,
+      ap (λ (t : ViewShape). (stream_at t k).bytes) c.parts_size-parts.ensures.shape,
       near_asks s k c.args.stream_type c.requires.kind (ne_eqb c.args.stream_type 9 c.if-stream_type-eq9.false),
     )
 
@@ -70,4 +70,4 @@ returns-then-parts-eq0-clause-some g c =
 
 pub returns-clause-some : goal.returns-clause-some
 returns-clause-some g c =
-    ok_is c.put_second_pass.result _ _ _ _ (ap (λ (t : Shape). room_of (stream_at t c.args.stream)) c.parts_size-parts.ensures.shape) c.put_second_pass.ensures.some
+    ok_is c.put_second_pass.result _ _ _ _ (ap (λ (t : ViewShape). room_of (stream_at t c.args.stream)) c.parts_size-parts.ensures.shape) c.put_second_pass.ensures.some

@@ -1,5 +1,5 @@
 use Rattle.std.proofs.Common.{◌∙◌, ◌*◌, refl, sym, ap, true}
-use Rattle.mdmp_dump.specs.Shape.{Cursor, Shape, head_of, row_of, seen_at}
+use Rattle.mdmp_dump.specs.Shape.{StreamCursor, ViewShape, head_of, row_of, seen_at}
 use Rattle.mdmp_writer.specs.Written.{head_text, rows}
 use Rattle.mdmp_writer.proofs.Blocks.{begun_seen, known_count}
 use Rattle.mdmp_writer.proofs.Causes.{cause_after}
@@ -13,16 +13,16 @@ returns-in-Ok-put_head-clause-writes g c x known =
     let k = c.args.stream in
     let xs = (seen_at x k).records in
     writes_then c.put_rows.result _ _ _ (head_text c.args.stream_type c.args.count c.args.place.far) (rows c.args.place.at xs) c.in-Ok-put_head.ensures.writes
-    (c.put_rows.ensures.writes xs (ap (λ (u : Cursor). u.seen) c.in-Ok.ensures.begins ∙ begun_seen s x k known)
+    (c.put_rows.ensures.writes xs (ap (λ (u : StreamCursor). u.seen) c.in-Ok.ensures.begins ∙ begun_seen s x k known)
     (sym (known_count s x k c.args.count (g.met.V.DumpView.sound c.args.view.now x known) c.requires.count)))
 
 pub returns-in-Ok-put_head-clause-cause : goal.returns-in-Ok-put_head-clause-cause
 returns-in-Ok-put_head-clause-cause g c =
     let state = g.O.Out.state in
     cause_after c.put_rows.result (state c.args.out.now) (state c.put_head.new.out) (state c.put_rows.new.out) _ _ (c.in-Ok-put_head.ensures.cause true)
-    (ap (λ (s : Shape). s.is_reliable) c.rewind.ensures.shape) c.put_rows.ensures.cause
+    (ap (λ (s : ViewShape). s.is_reliable) c.rewind.ensures.shape) c.put_rows.ensures.cause
 
 pub returns-in-Ok-put_head-clause-some : goal.returns-in-Ok-put_head-clause-some
 returns-in-Ok-put_head-clause-some g c is =
     let t = c.args.stream_type in
-    ok_then c.put_rows.result _ _ _ (head_of t) (c.args.count * row_of t) _ refl c.in-Ok-put_head.ensures.some (c.put_rows.ensures.some t (ap (λ (u : Cursor). u.kind) c.in-Ok.ensures.begins ∙ is))
+    ok_then c.put_rows.result _ _ _ (head_of t) (c.args.count * row_of t) _ refl c.in-Ok-put_head.ensures.some (c.put_rows.ensures.some t (ap (λ (u : StreamCursor). u.kind) c.in-Ok.ensures.begins ∙ is))

@@ -1,9 +1,9 @@
 use Rattle.std.proofs.Common.{◌≡◌, ◌+◌, ◌*◌, ◌++◌, ◌∙◌, ap, arith, sym, length, refl, Some, Err, true}
 use Rattle.mdmp_wire.specs.Header.{header_bytes}
-use Rattle.mdmp_dump.specs.Shape.{Shape}
+use Rattle.mdmp_dump.specs.Shape.{ViewShape}
 use Rattle.mdmp_dump.specs.View.{DumpSeen}
 use Rattle.mdmp_writer.specs.Layout.{blocks_end, blocks_size, fars_size, first_block}
-use Rattle.mdmp_writer.specs.Written.{blocks, directory, fars, header_of, text_of}
+use Rattle.mdmp_writer.specs.Written.{blocks, directory, far_texts, header_of, seen_text}
 use Rattle.mdmp_writer.proofs.Causes.{cause_after}
 use Rattle.mdmp_writer.proofs.Counting.{dump_then, ok_is}
 use Rattle.mdmp_writer.proofs.Sending.{cut_before, cut_behind, cut_same, puts_puts, writes_same, writes_then}
@@ -14,31 +14,31 @@ use Rattle.mdmp_writer.proofs.dump_out.put_dump.Goals as goal
 
 -- what is written, in the order of the calls
 is_text : (g : Over) (c : After-put_header g) (x : DumpSeen) → (g.V.DumpView.shape c.args.view.now).seen ≡ Some x
-    → text_of x ≡ header_bytes (header_of c.header-header.result c.streams-streams.result) ++ directory (g.V.DumpView.shape c.streams-streams.new.self).streams (32 + 12 * c.streams-streams.result)
-    ++ (blocks x.streams (32 + 12 * c.streams-streams.result) c.args.ends.blocks ++ fars x.streams)
+    → seen_text x ≡ header_bytes (header_of c.header-header.result c.streams-streams.result) ++ directory (g.V.DumpView.shape c.streams-streams.new.self).streams (32 + 12 * c.streams-streams.result)
+    ++ (blocks x.streams (32 + 12 * c.streams-streams.result) c.args.ends.blocks ++ far_texts x.streams)
 is_text g c x known =
     let s = g.V.DumpView.shape c.streams-streams.new.self in
     let same : s ≡ g.V.DumpView.shape c.args.view.now = c.streams-streams.ensures.shape ∙ c.header-header.ensures.shape in
-    let here : s.seen ≡ Some x = ap (λ (t : Shape). t.seen) same ∙ known in
-    let count : c.streams-streams.result ≡ length s.streams = c.streams-streams.ensures.count ∙ ap (λ (t : Shape). length t.streams) (sym c.streams-streams.ensures.shape) in
+    let here : s.seen ≡ Some x = ap (λ (t : ViewShape). t.seen) same ∙ known in
+    let count : c.streams-streams.result ≡ length s.streams = c.streams-streams.ensures.count ∙ ap (λ (t : ViewShape). length t.streams) (sym c.streams-streams.ensures.shape) in
     let first = 32 + 12 * c.streams-streams.result in
     let at : first ≡ first_block s.streams = omega (arith, count) in
-    let far : c.args.ends.blocks ≡ blocks_end s.streams = c.requires.ends.blocks ∙ ap (λ (t : Shape). blocks_end t.streams) (sym same) in
+    let far : c.args.ends.blocks ≡ blocks_end s.streams = c.requires.ends.blocks ∙ ap (λ (t : ViewShape). blocks_end t.streams) (sym same) in
     text_parts s x c.header-header.result c.streams-streams.result first c.args.ends.blocks (g.met.V.DumpView.sound c.streams-streams.new.self x here) (c.header-header.ensures.header x known) count at far
 
 pub returns-in-Ok-put_directory-clause-writes : goal.returns-in-Ok-put_directory-clause-writes
 returns-in-Ok-put_directory-clause-writes g c x known all =
     let head = header_bytes (header_of c.header-header.result c.streams-streams.result) in
     let entries = directory (g.V.DumpView.shape c.streams-streams.new.self).streams (32 + 12 * c.streams-streams.result) in
-    let rest = blocks x.streams (32 + 12 * c.streams-streams.result) c.args.ends.blocks ++ fars x.streams in
+    let rest = blocks x.streams (32 + 12 * c.streams-streams.result) c.args.ends.blocks ++ far_texts x.streams in
     writes_same c.put_streams.result _ _ _ _ (is_text g (goal.at.returns-in-Ok-put_directory-clause-writes g c).After-put_header x known)
     (writes_then c.put_streams.result _ _ _ (head ++ entries) rest (puts_puts _ _ _ head entries c.in-Ok.ensures.writes c.in-Ok-put_directory.ensures.writes)
-    (c.put_streams.ensures.writes x (ap (λ (t : Shape). t.seen) (c.put_directory.ensures.shape ∙ c.streams-streams.ensures.shape ∙ c.header-header.ensures.shape) ∙ known) all))
+    (c.put_streams.ensures.writes x (ap (λ (t : ViewShape). t.seen) (c.put_directory.ensures.shape ∙ c.streams-streams.ensures.shape ∙ c.header-header.ensures.shape) ∙ known) all))
 
 pub returns-in-Ok-put_directory-clause-cause : goal.returns-in-Ok-put_directory-clause-cause
 returns-in-Ok-put_directory-clause-cause g c =
     cause_after c.put_streams.result _ _ _ _ _ (c.in-Ok-put_directory.ensures.cause true ∙ c.in-Ok.ensures.cause true)
-    (ap (λ (t : Shape). t.is_reliable) (c.put_directory.ensures.shape ∙ c.streams-streams.ensures.shape ∙ c.header-header.ensures.shape)) c.put_streams.ensures.cause
+    (ap (λ (t : ViewShape). t.is_reliable) (c.put_directory.ensures.shape ∙ c.streams-streams.ensures.shape ∙ c.header-header.ensures.shape)) c.put_streams.ensures.cause
 
 pub returns-in-Err-put_directory-clause-writes : goal.returns-in-Err-put_directory-clause-writes
 returns-in-Err-put_directory-clause-writes g c x known all =
@@ -62,10 +62,10 @@ returns-in-Ok-put_directory-clause-out g c =
     let old = g.V.DumpView.shape c.args.view.now in
     let s = g.V.DumpView.shape c.streams-streams.new.self in
     let same : s ≡ old = c.streams-streams.ensures.shape ∙ c.header-header.ensures.shape in
-    let count : c.streams-streams.result ≡ length old.streams = c.streams-streams.ensures.count ∙ ap (λ (t : Shape). length t.streams) c.header-header.ensures.shape in
+    let count : c.streams-streams.result ≡ length old.streams = c.streams-streams.ensures.count ∙ ap (λ (t : ViewShape). length t.streams) c.header-header.ensures.shape in
     let first = 32 + 12 * c.streams-streams.result in
     let at : first ≡ first_block old.streams = omega (arith, count) in
-    let entries = rw (ap (λ (t : Shape). t.streams) same, at) at c.in-Ok-put_directory.ensures.writes in
+    let entries = rw (ap (λ (t : ViewShape). t.streams) same, at) at c.in-Ok-put_directory.ensures.writes in
     let head = rw (c.header-header.ensures.told, count) at c.in-Ok.ensures.writes in
-    let behind = ap (λ (t : Shape). blocks_size t.streams + fars_size t.streams) (c.put_directory.ensures.shape ∙ same) in
+    let behind = ap (λ (t : ViewShape). blocks_size t.streams + fars_size t.streams) (c.put_directory.ensures.shape ∙ same) in
     dump_then c.put_streams.result _ _ _ _ old head entries (ok_is c.put_streams.result _ _ _ _ behind c.put_streams.ensures.some)

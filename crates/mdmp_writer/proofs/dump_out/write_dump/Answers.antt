@@ -1,7 +1,7 @@
 use Rattle.std.proofs.Common.{◌≡◌, ◌∙◌, ap, refl, subst, Some, true}
 use Rattle.mdmp_dump.specs.View.{dump_seen}
-use Rattle.mdmp_dump.specs.Shape.{Shape}
-use Rattle.mdmp_writer.specs.Gather.{Puts, PutsPrefix, gathered}
+use Rattle.mdmp_dump.specs.Shape.{ViewShape}
+use Rattle.mdmp_writer.specs.Gather.{Gathers, GathersPrefix, gathered}
 use Rattle.mdmp_writer.specs.Written.{written}
 use Rattle.mdmp_writer.proofs.Blocks.{dump_records_known}
 use Rattle.mdmp_writer.proofs.Counting.{dump_out}
@@ -17,8 +17,8 @@ returns-in-Ok-flush-clause-ends g c = (size_of_shape _ _ c.in-Ok.ensures.ends.0 
 
 pub returns-in-Ok-flush-clause-writes : goal.returns-in-Ok-flush-clause-writes
 returns-in-Ok-flush-clause-writes g c d is =
-    let here : (g.V.DumpView.shape c.layout.new.view).seen ≡ Some (dump_seen d) = ap (λ (t : Shape). t.seen) c.layout.ensures.shape ∙ is in
-    let put = subst (λ h. Puts (gathered (g.O.Out.state c.args.out.now) h) (written d) (gathered (g.O.Out.state c.put_dump.new.out) c.put_dump.new.gather)) c.new-gather.ensures (c.in-Ok-put_dump.ensures.writes (dump_seen d) here (dump_records_known d)) in
+    let here : (g.V.DumpView.shape c.layout.new.view).seen ≡ Some (dump_seen d) = ap (λ (t : ViewShape). t.seen) c.layout.ensures.shape ∙ is in
+    let put = subst (λ h. Gathers (gathered (g.O.Out.state c.args.out.now) h) (written d) (gathered (g.O.Out.state c.put_dump.new.out) c.put_dump.new.gather)) c.new-gather.ensures (c.in-Ok-put_dump.ensures.writes (dump_seen d) here (dump_records_known d)) in
     all_of_dump d _ _ (g.O.Out.state c.args.out.now) (g.O.Out.state c.flush.new.out) (g.met.V.DumpView.sound c.args.view.now (dump_seen d) is) c.in-Ok.ensures.ends.0 c.in-Ok.ensures.ends.1.file
     (all_out (g.O.Out.state c.args.out.now) (g.O.Out.state c.flush.new.out) _ c.flush.new.self (written d) c.in-Ok-flush.ensures.empties put c.in-Ok-flush.ensures.puts)
 
@@ -28,15 +28,15 @@ returns-in-Err-flush-clause-ends g c =
 
 pub returns-in-Err-flush-clause-writes : goal.returns-in-Err-flush-clause-writes
 returns-in-Err-flush-clause-writes g c d is =
-    let here : (g.V.DumpView.shape c.layout.new.view).seen ≡ Some (dump_seen d) = ap (λ (t : Shape). t.seen) c.layout.ensures.shape ∙ is in
-    let put = subst (λ h. Puts (gathered (g.O.Out.state c.args.out.now) h) (written d) (gathered (g.O.Out.state c.put_dump.new.out) c.put_dump.new.gather)) c.new-gather.ensures (c.in-Ok-put_dump.ensures.writes (dump_seen d) here (dump_records_known d)) in
+    let here : (g.V.DumpView.shape c.layout.new.view).seen ≡ Some (dump_seen d) = ap (λ (t : ViewShape). t.seen) c.layout.ensures.shape ∙ is in
+    let put = subst (λ h. Gathers (gathered (g.O.Out.state c.args.out.now) h) (written d) (gathered (g.O.Out.state c.put_dump.new.out) c.put_dump.new.gather)) c.new-gather.ensures (c.in-Ok-put_dump.ensures.writes (dump_seen d) here (dump_records_known d)) in
     cut_of_dump d _ c.in-Err-flush.fault (g.O.Out.state c.args.out.now) (g.O.Out.state c.put_dump.new.out) (g.O.Out.state c.flush.new.out) true (g.met.V.DumpView.sound c.args.view.now (dump_seen d) is) c.in-Ok.ensures.ends.0 (c.in-Err-flush.ensures.cause true)
     (cut_out (g.O.Out.state c.args.out.now) (gathered (g.O.Out.state c.flush.new.out) c.flush.new.self) (written d) (puts_all _ _ (written d) (puts_flush _ _ _ (written d) put c.in-Err-flush.ensures.puts)))
 
 pub returns-in-Err-put_dump-clause-writes : goal.returns-in-Err-put_dump-clause-writes
 returns-in-Err-put_dump-clause-writes g c d is =
-    let here : (g.V.DumpView.shape c.layout.new.view).seen ≡ Some (dump_seen d) = ap (λ (t : Shape). t.seen) c.layout.ensures.shape ∙ is in
-    let cut = subst (λ h. PutsPrefix (gathered (g.O.Out.state c.args.out.now) h) (written d) (gathered (g.O.Out.state c.put_dump.new.out) c.put_dump.new.gather)) c.new-gather.ensures (c.in-Err-put_dump.ensures.writes (dump_seen d) here (dump_records_known d)) in
+    let here : (g.V.DumpView.shape c.layout.new.view).seen ≡ Some (dump_seen d) = ap (λ (t : ViewShape). t.seen) c.layout.ensures.shape ∙ is in
+    let cut = subst (λ h. GathersPrefix (gathered (g.O.Out.state c.args.out.now) h) (written d) (gathered (g.O.Out.state c.put_dump.new.out) c.put_dump.new.gather)) c.new-gather.ensures (c.in-Err-put_dump.ensures.writes (dump_seen d) here (dump_records_known d)) in
     cut_of_dump d _ c.in-Err-put_dump.fault (g.O.Out.state c.args.out.now) (g.O.Out.state c.args.out.now) (g.O.Out.state c.put_dump.new.out) (g.V.DumpView.shape c.layout.new.view).is_reliable (g.met.V.DumpView.sound c.args.view.now (dump_seen d) is) c.in-Ok.ensures.ends.0 c.in-Err-put_dump.ensures.cause
     (cut_out (g.O.Out.state c.args.out.now) (gathered (g.O.Out.state c.put_dump.new.out) c.put_dump.new.gather) (written d) cut)
 

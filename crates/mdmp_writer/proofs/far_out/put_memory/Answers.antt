@@ -1,6 +1,6 @@
 use Rattle.std.proofs.Common.{◌≡◌, ◌∙◌, ◌<◌, ◌-◌, ◌^◌, arith, length, refl, sym, ap}
 use Rattle.mdmp_dump.specs.Places.{up}
-use Rattle.mdmp_dump.specs.Shape.{Cursor, far_of, seen_at, stream_at}
+use Rattle.mdmp_dump.specs.Shape.{StreamCursor, far_of, seen_at, stream_at}
 use Rattle.mdmp_writer.specs.Gather.{gathered}
 use Rattle.mdmp_writer.specs.Layout.{far_size}
 use Rattle.mdmp_writer.specs.Written.{padding, ranges_text}
@@ -17,7 +17,7 @@ returns-in-Ok-put_ranges-clause-writes g c x known =
     let k = c.args.stream in
     let xs = (seen_at x k).records in
     let sound = g.met.V.DumpView.sound c.args.view.now x known in
-    let put = c.in-Ok-put_ranges.ensures.writes xs (ap (λ (u : Cursor). u.seen) c.in-Ok.ensures.begins ∙ begun_seen s x k known) (sym (known_count s x k c.args.count sound c.requires.count)) in
+    let put = c.in-Ok-put_ranges.ensures.writes xs (ap (λ (u : StreamCursor). u.seen) c.in-Ok.ensures.begins ∙ begun_seen s x k known) (sym (known_count s x k c.args.count sound c.requires.count)) in
     writes_same c.put_padding.result (gathered (state c.args.out.now) c.args.gather.now) (gathered (state c.put_padding.new.out) c.put_padding.new.gather) _ _
     (far_known s x k c.args.size sound c.requires.kind c.requires.size)
     (writes_then c.put_padding.result _ _ _ (ranges_text xs) (padding c.args.size) put c.put_padding.ensures.writes)
@@ -28,7 +28,7 @@ returns-in-Err-put_ranges-clause-writes g c x known =
     let k = c.args.stream in
     let xs = (seen_at x k).records in
     let sound = g.met.V.DumpView.sound c.args.view.now x known in
-    let cut = c.in-Err-put_ranges.ensures.writes xs (ap (λ (u : Cursor). u.seen) c.in-Ok.ensures.begins ∙ begun_seen s x k known) (sym (known_count s x k c.args.count sound c.requires.count)) in
+    let cut = c.in-Err-put_ranges.ensures.writes xs (ap (λ (u : StreamCursor). u.seen) c.in-Ok.ensures.begins ∙ begun_seen s x k known) (sym (known_count s x k c.args.count sound c.requires.count)) in
     cut_same _ _ _ _ (far_known s x k c.args.size sound c.requires.kind c.requires.size) (cut_before _ _ (ranges_text xs) (padding c.args.size) cut)
 
 pub put_ranges-requires-clause-stray : goal.put_ranges-requires-clause-stray

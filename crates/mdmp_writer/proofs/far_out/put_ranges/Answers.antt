@@ -1,7 +1,7 @@
 use Rattle.std.proofs.Common.{◌≡◌, ◌∙◌, Err, arith, refl, sym, ap}
 use Rattle.mdmp_dump.specs.declared.view.Fields.{Fields}
 use Rattle.mdmp_dump.specs.Placed.{far_room, size_at, size_in}
-use Rattle.mdmp_dump.specs.Shape.{Cursor, Shape, type_told}
+use Rattle.mdmp_dump.specs.Shape.{StreamCursor, ViewShape, type_told}
 use Rattle.mdmp_writer.specs.Written.{ranges_text}
 use Rattle.mdmp_writer.proofs.Causes.{cause_after}
 use Rattle.mdmp_writer.proofs.Counting.{come_begin, come_next, come_none, far_of_range, known_type, some_is}
@@ -37,7 +37,7 @@ pub returns-in-Err-put_part-clause-cause : goal.returns-in-Err-put_part-clause-c
 returns-in-Err-put_part-clause-cause g c =
     let state = g.O.Out.state in
     cause_after (Err c.in-Err-put_part.fault) (state c.args.out.now) (state c.loop-left.out) (state c.put_part.new.out) _ _ c.loop-left.invariant.steady
-    (ap (λ (s : Shape). s.is_reliable) (c.next_record.ensures.shape ∙ c.loop-left.invariant.shape)) c.in-Err-put_part.ensures.cause
+    (ap (λ (s : ViewShape). s.is_reliable) (c.next_record.ensures.shape ∙ c.loop-left.invariant.shape)) c.in-Err-put_part.ensures.cause
 
 pub loop-left-preserved : goal.loop-left-preserved
 loop-left-preserved g c =
@@ -54,7 +54,7 @@ loop-left-preserved g c =
       moves = g.met.V.DumpView.follows _ _ _ c.loop-left.invariant.moves (g.met.V.DumpView.follows _ _ _ c.in-Ok.ensures.moves c.in-Ok-put_part.ensures.moves);
       ranges = λ xs known len.
           let n = next_of old new c.in-Ok.fields c.loop-left.left _ (c.loop-left.invariant.ranges xs known len) gives in
-          ranges_put _ _ _ _ new now c.in-Ok.fields _ c.loop-left.left n (omega arith) (ap (λ (k : Cursor). k.seen) stays)
+          ranges_put _ _ _ _ new now c.in-Ok.fields _ c.loop-left.left n (omega arith) (ap (λ (k : StreamCursor). k.seen) stays)
           (c.in-Ok-put_part.ensures.writes n.first.parts n.parts (n.sized 0 ∙ ap (λ (h : Fields). size_in (size_at h 0)) n.same ∙ sym c.size.ensures));
       kind = rw stays (gives.stays ∙ c.loop-left.invariant.kind);
       come = λ known low.

@@ -1,7 +1,7 @@
 use Rattle.std.proofs.Common.{◌≡◌, ◌<◌, ◌≤◌, ◌+◌, ◌^◌, ◌∙◌, ap, arith, refl, sym, subst, length, ℕ, true}
-use Rattle.mdmp_dump.specs.Shape.{Shape, body_of, stream_at}
+use Rattle.mdmp_dump.specs.Shape.{ViewShape, body_of, stream_at}
 use Rattle.mdmp_writer.specs.Layout.{block_size, far_size}
-use Rattle.mdmp_writer.specs.Written.{entry_of}
+use Rattle.mdmp_writer.specs.Written.{written_entry}
 use Rattle.mdmp_writer.proofs.Sending.{left_begin, left_none}
 use Rattle.mdmp_writer.proofs.Streaming.{directory_none, entry_cut, entry_put}
 use Rattle.mdmp_writer.proofs.Sums.{blocks_next, ends_below, far_within}
@@ -22,27 +22,27 @@ room_for-room-requires-clause-block g c =
     let s = g.V.DumpView.shape c.args.view.now in
     let k = c.loop-stream.stream in
     let fewer : k < length s.streams = omega (arith, c.loop-stream-test.true, c.streams-stream-end.ensures.count) in
-    subst (λ (t : Shape). block_size (stream_at t k) < 2 ^ 33) (sym c.loop-stream.invariant.shape) (omega (arith, ends_below s k c.loop-stream.at fewer c.loop-stream.invariant.at, c.requires.low))
+    subst (λ (t : ViewShape). block_size (stream_at t k) < 2 ^ 33) (sym c.loop-stream.invariant.shape) (omega (arith, ends_below s k c.loop-stream.at fewer c.loop-stream.invariant.at, c.requires.low))
 
 pub room_for-room-requires-clause-far : goal.room_for-room-requires-clause-far
 room_for-room-requires-clause-far g c =
     let s = g.V.DumpView.shape c.args.view.now in
     let k = c.loop-stream.stream in
-    subst (λ (t : Shape). far_size (stream_at t k) < 2 ^ 64) (sym c.loop-stream.invariant.shape) (omega (arith, far_within s.streams k, c.requires.short))
+    subst (λ (t : ViewShape). far_size (stream_at t k) < 2 ^ 64) (sym c.loop-stream.invariant.shape) (omega (arith, far_within s.streams k, c.requires.short))
 
 pub entry_for-entry-requires-clause-body : goal.entry_for-entry-requires-clause-body
 entry_for-entry-requires-clause-body g c =
     let s = g.V.DumpView.shape c.args.view.now in
     let k = c.loop-stream.stream in
     let fewer : k < length s.streams = omega (arith, c.loop-stream-test.true, c.streams-stream-end.ensures.count) in
-    subst (λ (t : Shape). body_of (stream_at t k) < 2 ^ 32) (sym (c.room_for-room.ensures.shape ∙ c.loop-stream.invariant.shape)) (omega (arith, ends_below s k c.loop-stream.at fewer c.loop-stream.invariant.at, c.requires.low))
+    subst (λ (t : ViewShape). body_of (stream_at t k) < 2 ^ 32) (sym (c.room_for-room.ensures.shape ∙ c.loop-stream.invariant.shape)) (omega (arith, ends_below s k c.loop-stream.at fewer c.loop-stream.invariant.at, c.requires.low))
 
 pub overflow_add-at : goal.overflow_add-at
 overflow_add-at g c =
     let s = g.V.DumpView.shape c.args.view.now in
     let k = c.loop-stream.stream in
     let fewer : k < length s.streams = omega (arith, c.loop-stream-test.true, c.streams-stream-end.ensures.count) in
-    let room : c.room_for-room.result.block ≡ block_size (stream_at s k) = c.room_for-room.ensures.room.0 ∙ ap (λ (t : Shape). block_size (stream_at t k)) c.loop-stream.invariant.shape in
+    let room : c.room_for-room.result.block ≡ block_size (stream_at s k) = c.room_for-room.ensures.room.0 ∙ ap (λ (t : ViewShape). block_size (stream_at t k)) c.loop-stream.invariant.shape in
     omega (arith, room, ends_below s k c.loop-stream.at fewer c.loop-stream.invariant.at, c.requires.low)
 
 pub returns-in-Err-clause-writes : goal.returns-in-Err-clause-writes
@@ -51,7 +51,7 @@ returns-in-Err-clause-writes g c =
     let k = c.loop-stream.stream in
     let at = c.loop-stream.at in
     let fewer : k < length s.streams = omega (arith, c.loop-stream-test.true, c.streams-stream-end.ensures.count) in
-    let is : c.entry_for-entry.result ≡ entry_of (stream_at s k) at = c.entry_for-entry.ensures.entry ∙ ap (λ (t : Shape). entry_of (stream_at t k) at) (c.room_for-room.ensures.shape ∙ c.loop-stream.invariant.shape) in
+    let is : c.entry_for-entry.result ≡ written_entry (stream_at s k) at = c.entry_for-entry.ensures.entry ∙ ap (λ (t : ViewShape). written_entry (stream_at t k) at) (c.room_for-room.ensures.shape ∙ c.loop-stream.invariant.shape) in
     entry_cut s k at c.entry_for-entry.result _ _ _ _ fewer is c.loop-stream.invariant.left c.in-Err.ensures.writes
 
 pub loop-stream-preserved : goal.loop-stream-preserved
@@ -60,8 +60,8 @@ loop-stream-preserved g c =
     let k = c.loop-stream.stream in
     let at = c.loop-stream.at in
     let fewer : k < length s.streams = omega (arith, c.loop-stream-test.true, c.streams-stream-end.ensures.count) in
-    let is : c.entry_for-entry.result ≡ entry_of (stream_at s k) at = c.entry_for-entry.ensures.entry ∙ ap (λ (t : Shape). entry_of (stream_at t k) at) (c.room_for-room.ensures.shape ∙ c.loop-stream.invariant.shape) in
-    let room : c.room_for-room.result.block ≡ block_size (stream_at s k) = c.room_for-room.ensures.room.0 ∙ ap (λ (t : Shape). block_size (stream_at t k)) c.loop-stream.invariant.shape in
+    let is : c.entry_for-entry.result ≡ written_entry (stream_at s k) at = c.entry_for-entry.ensures.entry ∙ ap (λ (t : ViewShape). written_entry (stream_at t k) at) (c.room_for-room.ensures.shape ∙ c.loop-stream.invariant.shape) in
+    let room : c.room_for-room.result.block ≡ block_size (stream_at s k) = c.room_for-room.ensures.room.0 ∙ ap (λ (t : ViewShape). block_size (stream_at t k)) c.loop-stream.invariant.shape in
     record {
       shape = c.entry_for-entry.ensures.shape ∙ c.room_for-room.ensures.shape ∙ c.loop-stream.invariant.shape;
       spent = c.entry_for-entry.ensures.spent ∙ c.room_for-room.ensures.spent ∙ c.loop-stream.invariant.spent;

@@ -1,5 +1,5 @@
 use Rattle.std.proofs.Common.{◌≡◌, ◌<◌, ◌≤◌, ◌+◌, ◌∙◌, arith, subst, length, None, Some}
-use Rattle.mdmp_dump.specs.Shape.{Shape, stream_at}
+use Rattle.mdmp_dump.specs.Shape.{ViewShape, stream_at}
 use Rattle.mdmp_writer.specs.Layout.{IsRoom, blocks_end, file_size}
 use Rattle.mdmp_writer.proofs.Sums.{blocks_next, fars_next, blocks_none, fars_none, too_large_blocks, too_large_file, not_too_large, past_room}
 use Rattle.mdmp_writer.proofs.layout.find_ends.Goals as goal
@@ -9,7 +9,7 @@ returns-then-room-from-clause-ends g c =
     let s = g.V.DumpView.shape c.args.view.now in
     let k = c.loop-stream.stream in
     let fewer : k < length s.streams = omega (arith, c.loop-stream-test.true, c.streams-count.ensures.count) in
-    let is : IsRoom (stream_at s k) (Some c.in-Some-room_if.room) = subst (λ (t : Shape). IsRoom (stream_at t k) (Some c.in-Some-room_if.room)) c.loop-stream.invariant.shape c.in-Some-room_if.ensures.room in
+    let is : IsRoom (stream_at s k) (Some c.in-Some-room_if.room) = subst (λ (t : ViewShape). IsRoom (stream_at t k) (Some c.in-Some-room_if.room)) c.loop-stream.invariant.shape c.in-Some-room_if.ensures.room in
     too_large_blocks s.streams (omega (arith, is.0, blocks_next s k fewer, c.loop-stream.invariant.blocks, c.from.ensures, c.if-room-from.true))
 
 pub returns-then-room-far-clause-ends : goal.returns-then-room-far-clause-ends
@@ -17,7 +17,7 @@ returns-then-room-far-clause-ends g c =
     let s = g.V.DumpView.shape c.args.view.now in
     let k = c.loop-stream.stream in
     let fewer : k < length s.streams = omega (arith, c.loop-stream-test.true, c.streams-count.ensures.count) in
-    let is : IsRoom (stream_at s k) (Some c.in-Some-room_if.room) = subst (λ (t : Shape). IsRoom (stream_at t k) (Some c.in-Some-room_if.room)) c.loop-stream.invariant.shape c.in-Some-room_if.ensures.room in
+    let is : IsRoom (stream_at s k) (Some c.in-Some-room_if.room) = subst (λ (t : ViewShape). IsRoom (stream_at t k) (Some c.in-Some-room_if.room)) c.loop-stream.invariant.shape c.in-Some-room_if.ensures.room in
     too_large_file s.streams (omega (arith, is.1, fars_next s k fewer, c.loop-stream.invariant.far, c.if-room-far.true))
 
 pub returns-in-None-room_if-clause-ends : goal.returns-in-None-room_if-clause-ends
@@ -26,14 +26,14 @@ returns-in-None-room_if-clause-ends g c =
     let k = c.loop-stream.stream in
     let fewer : k < length s.streams = omega (arith, c.loop-stream-test.true, c.streams-count.ensures.count) in
     past_room s k c.loop-stream.blocks c.loop-stream.far fewer c.loop-stream.invariant.blocks c.loop-stream.invariant.far
-    (subst (λ (t : Shape). IsRoom (stream_at t k) None) c.loop-stream.invariant.shape c.in-None-room_if.ensures.room)
+    (subst (λ (t : ViewShape). IsRoom (stream_at t k) None) c.loop-stream.invariant.shape c.in-None-room_if.ensures.room)
 
 pub loop-stream-preserved : goal.loop-stream-preserved
 loop-stream-preserved g c =
     let s = g.V.DumpView.shape c.args.view.now in
     let k = c.loop-stream.stream in
     let fewer : k < length s.streams = omega (arith, c.loop-stream-test.true, c.streams-count.ensures.count) in
-    let is : IsRoom (stream_at s k) (Some c.in-Some-room_if.room) = subst (λ (t : Shape). IsRoom (stream_at t k) (Some c.in-Some-room_if.room)) c.loop-stream.invariant.shape c.in-Some-room_if.ensures.room in
+    let is : IsRoom (stream_at s k) (Some c.in-Some-room_if.room) = subst (λ (t : ViewShape). IsRoom (stream_at t k) (Some c.in-Some-room_if.room)) c.loop-stream.invariant.shape c.in-Some-room_if.ensures.room in
     record {
       shape = c.room_if.ensures.shape ∙ c.loop-stream.invariant.shape;
       cursor = c.room_if.ensures.cursor ∙ c.loop-stream.invariant.cursor;

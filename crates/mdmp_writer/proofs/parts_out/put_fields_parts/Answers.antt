@@ -1,8 +1,8 @@
 use Rattle.std.proofs.Common.{◌∙◌, ◌+◌, List, ℕ, arith, refl, sym, ap, subst}
 use Rattle.mdmp_dump.specs.declared.view.Fields.{Fields}
 use Rattle.mdmp_dump.specs.Placed.{name_room, part_room, size_at, size_in}
-use Rattle.mdmp_dump.specs.Shape.{Cursor}
-use Rattle.mdmp_writer.specs.Gather.{Puts, gathered}
+use Rattle.mdmp_dump.specs.Shape.{StreamCursor}
+use Rattle.mdmp_writer.specs.Gather.{Gathers, gathered}
 use Rattle.mdmp_writer.proofs.Padded.{exception_text, memory_text, module_text, name_text, no_text, system_text, unloaded_text}
 use Rattle.mdmp_writer.proofs.Sending.{cut_before, cut_same, puts_nothing, writes_same, writes_then}
 use Rattle.mdmp_writer.proofs.Counting.{ok_then, some_none}
@@ -38,7 +38,7 @@ returns-in-Ok-clause-writes g c x known sized same =
     let size = λ (k : ℕ). sized k ∙ ap (λ (h : Fields). size_in (size_at h k)) same in
     writes_same c.put_two-in-Ok.result (gathered (state c.args.out.now) c.args.gather.now) (gathered (state c.put_two-in-Ok.new.out) c.put_two-in-Ok.new.gather) _ _ (module_text _ x c.args.fields.now same c.in-Module.is)
     (writes_then c.put_two-in-Ok.result _ _ _ (name_text x c.args.fields.now) _ (c.in-Ok.ensures.writes x.parts known (size 0))
-    (c.put_two-in-Ok.ensures.writes x.parts (ap (λ (k : Cursor). k.parts) c.in-Ok.ensures.cursor ∙ known) (size 1) (size 2)))
+    (c.put_two-in-Ok.ensures.writes x.parts (ap (λ (k : StreamCursor). k.parts) c.in-Ok.ensures.cursor ∙ known) (size 1) (size 2)))
 
 pub returns-in-Err-clause-writes : goal.returns-in-Err-clause-writes
 returns-in-Err-clause-writes g c x known sized same =
@@ -47,12 +47,12 @@ returns-in-Err-clause-writes g c x known sized same =
 
 pub returns-in-Memory64-clause-writes : goal.returns-in-Memory64-clause-writes
 returns-in-Memory64-clause-writes g c x known sized same =
-    subst (λ (t : List ℕ). Puts (gathered (g.O.Out.state c.args.out.now) c.args.gather.now) t (gathered (g.O.Out.state c.args.out.now) c.args.gather.now))
+    subst (λ (t : List ℕ). Gathers (gathered (g.O.Out.state c.args.out.now) c.args.gather.now) t (gathered (g.O.Out.state c.args.out.now) c.args.gather.now))
     (sym (no_text x c.args.fields.now _ same c.in-Memory64.is refl)) (puts_nothing _)
 
 pub returns-in-MemoryInfo-clause-writes : goal.returns-in-MemoryInfo-clause-writes
 returns-in-MemoryInfo-clause-writes g c x known sized same =
-    subst (λ (t : List ℕ). Puts (gathered (g.O.Out.state c.args.out.now) c.args.gather.now) t (gathered (g.O.Out.state c.args.out.now) c.args.gather.now))
+    subst (λ (t : List ℕ). Gathers (gathered (g.O.Out.state c.args.out.now) c.args.gather.now) t (gathered (g.O.Out.state c.args.out.now) c.args.gather.now))
     (sym (no_text x c.args.fields.now _ same c.in-MemoryInfo.is refl)) (puts_nothing _)
 
 pub returns-in-Thread-clause-some : goal.returns-in-Thread-clause-some

@@ -1,7 +1,7 @@
 use Rattle.std.proofs.Common.{◌≡◌, ◌<◌, ◌-◌, ◌^◌, ◌∙◌, List, Err, arith, refl, sym, ap}
 use Rattle.mdmp_dump.specs.Placed.{fields_room}
 use Rattle.mdmp_dump.specs.Seen.{Seen}
-use Rattle.mdmp_dump.specs.Shape.{Cursor, Shape}
+use Rattle.mdmp_dump.specs.Shape.{StreamCursor, ViewShape}
 use Rattle.mdmp_writer.specs.Written.{all_padded, parts_of}
 use Rattle.mdmp_writer.proofs.Causes.{cause_after}
 use Rattle.mdmp_writer.proofs.Counting.{come_begin, come_next, come_none}
@@ -36,7 +36,7 @@ pub returns-in-Err-put_fields_parts-clause-cause : goal.returns-in-Err-put_field
 returns-in-Err-put_fields_parts-clause-cause g c =
     let state = g.O.Out.state in
     cause_after (Err c.in-Err-put_fields_parts.fault) (state c.args.out.now) (state c.loop-left.out) (state c.put_fields_parts.new.out) _ _ c.loop-left.invariant.steady
-    (ap (λ (s : Shape). s.is_reliable) (c.next_record.ensures.shape ∙ c.loop-left.invariant.shape)) c.in-Err-put_fields_parts.ensures.cause
+    (ap (λ (s : ViewShape). s.is_reliable) (c.next_record.ensures.shape ∙ c.loop-left.invariant.shape)) c.in-Err-put_fields_parts.ensures.cause
 
 pub loop-left-preserved : goal.loop-left-preserved
 loop-left-preserved g c =
@@ -55,7 +55,7 @@ loop-left-preserved g c =
       moves = g.met.V.DumpView.follows _ _ _ c.loop-left.invariant.moves (g.met.V.DumpView.follows _ _ _ c.in-Ok.ensures.moves c.in-Ok-put_fields_parts.ensures.moves);
       parts = λ xs known len.
           let n = next_of old new c.in-Ok.fields c.loop-left.left _ (c.loop-left.invariant.parts xs known len) gives in
-          parts_put _ _ _ _ new now c.in-Ok.fields _ c.loop-left.left n (omega arith) (ap (λ (k : Cursor). k.seen) stays)
+          parts_put _ _ _ _ new now c.in-Ok.fields _ c.loop-left.left n (omega arith) (ap (λ (k : StreamCursor). k.seen) stays)
           (c.in-Ok-put_fields_parts.ensures.writes n.first n.parts n.sized n.same);
       come = rw stays (come_next _ _ _ _ old.room (fields_room c.in-Ok.fields) new.room (gives.room low).left c.loop-left.invariant.come c.in-Ok-put_fields_parts.ensures.some);
       last = λ none. rw stays ((gives.room low).last (omega (arith, none, gives.records, c.loop-left.invariant.count)));

@@ -1,5 +1,5 @@
 use Rattle.std.proofs.Common.{◌∙◌, [], get_or, arith, ap}
-use Rattle.mdmp_dump.specs.Shape.{Cursor}
+use Rattle.mdmp_dump.specs.Shape.{StreamCursor}
 use Rattle.mdmp_writer.proofs.Sending.{cut_none, cut_at, puts_piece}
 use Rattle.mdmp_writer.proofs.Counting.{some_is, some_then}
 use Rattle.mdmp_writer.proofs.pieces.put_part.Goals as goal
@@ -19,7 +19,7 @@ loop-at-preserved g c =
       asked = omega (arith, so_far.asked, more.asked);
       moves = g.met.V.DumpView.follows _ _ _ so_far.moves more.moves;
       puts = λ ps known. puts_piece _ _ _ (get_or ps c.args.which []) c.loop-at.at c.in-Ok-fetch_more.count (so_far.puts ps known)
-          (more.puts ps (ap (λ (k : Cursor). k.parts) so_far.cursor ∙ known));
+          (more.puts ps (ap (λ (k : StreamCursor). k.parts) so_far.cursor ∙ known));
       some = some_then _ _ _ c.loop-at.at c.in-Ok-fetch_more.count so_far.some more.some;
       steady = more.cause ∙ so_far.steady;
     }

@@ -1,12 +1,12 @@
 use Rattle.std.proofs.Common.{◌∙◌, ap, [], Some, List, ℕ}
 use Rattle.mdmp_source.specs.Output.{OutState}
-use Rattle.mdmp_dump.specs.Shape.{Shape}
+use Rattle.mdmp_dump.specs.Shape.{ViewShape}
 use Rattle.mdmp_dump.specs.ShapeLaws.{held}
 use Rattle.mdmp_writer.proofs.round_trip.to_memory.Goals as goal
 
 pub returns-in-Ok-write_dump : goal.returns-in-Ok-write_dump
 returns-in-Ok-write_dump g c =
     let d = c.args.dump.now in
-    let is = c.in-Ok-write_dump.ensures.writes d (ap (λ (s : Shape). s.seen) (c.written_size.ensures.shape ∙ c.view-view.ensures.shape)) in
+    let is = c.in-Ok-write_dump.ensures.writes d (ap (λ (s : ViewShape). s.seen) (c.written_size.ensures.shape ∙ c.view-view.ensures.shape)) in
     let empty = ap (λ (o : OutState). o.taken) c.new-out.ensures ∙ ap Some c.in-Ok-with_capacity.ensures.items in
     (is.0, ap (held {X = List ℕ} []) (c.into_inner.ensures ∙ is.2 [] empty))

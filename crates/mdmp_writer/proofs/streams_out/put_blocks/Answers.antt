@@ -1,5 +1,5 @@
 use Rattle.std.proofs.Common.{◌≡◌, ◌<◌, ◌≤◌, ◌+◌, ◌^◌, ◌∙◌, ℕ, ap, arith, refl, sym, subst, length}
-use Rattle.mdmp_dump.specs.Shape.{Shape, Spent, stream_at}
+use Rattle.mdmp_dump.specs.Shape.{ViewShape, Spent, stream_at}
 use Rattle.mdmp_writer.specs.Layout.{block_size, blocks_size, far_size}
 use Rattle.mdmp_writer.specs.Passes.{block_asks, block_passes}
 use Rattle.mdmp_writer.proofs.Counting.{come_begin, come_next, come_none, some_is}
@@ -27,20 +27,20 @@ room_for-room-requires-clause-block g c =
     let s = g.V.DumpView.shape c.args.view.now in
     let k = c.loop-stream.stream in
     let fewer : k < length s.streams = omega (arith, c.loop-stream-test.true, c.streams-stream-end.ensures.count) in
-    subst (λ (t : Shape). block_size (stream_at t k) < 2 ^ 33) (sym c.loop-stream.invariant.shape) (omega (arith, ends_below s k c.loop-stream.at fewer c.loop-stream.invariant.at, c.requires.low))
+    subst (λ (t : ViewShape). block_size (stream_at t k) < 2 ^ 33) (sym c.loop-stream.invariant.shape) (omega (arith, ends_below s k c.loop-stream.at fewer c.loop-stream.invariant.at, c.requires.low))
 
 pub room_for-room-requires-clause-far : goal.room_for-room-requires-clause-far
 room_for-room-requires-clause-far g c =
     let s = g.V.DumpView.shape c.args.view.now in
     let k = c.loop-stream.stream in
-    subst (λ (t : Shape). far_size (stream_at t k) < 2 ^ 64) (sym c.loop-stream.invariant.shape) (omega (arith, far_within s.streams k, c.requires.short))
+    subst (λ (t : ViewShape). far_size (stream_at t k) < 2 ^ 64) (sym c.loop-stream.invariant.shape) (omega (arith, far_within s.streams k, c.requires.short))
 
 pub put_block-requires-clause-room : goal.put_block-requires-clause-room
 put_block-requires-clause-room g c =
     let s = g.V.DumpView.shape c.args.view.now in
     let k = c.loop-stream.stream in
     let fewer : k < length s.streams = omega (arith, c.loop-stream-test.true, c.streams-stream-end.ensures.count) in
-    subst (λ (t : Shape). c.loop-stream.at + block_size (stream_at t k) < 2 ^ 32) (sym (c.room_for-room.ensures.shape ∙ c.loop-stream.invariant.shape)) (omega (arith, ends_below s k c.loop-stream.at fewer c.loop-stream.invariant.at, c.requires.low))
+    subst (λ (t : ViewShape). c.loop-stream.at + block_size (stream_at t k) < 2 ^ 32) (sym (c.room_for-room.ensures.shape ∙ c.loop-stream.invariant.shape)) (omega (arith, ends_below s k c.loop-stream.at fewer c.loop-stream.invariant.at, c.requires.low))
 
 pub returns-in-Err-clause-writes : goal.returns-in-Err-clause-writes
 returns-in-Err-clause-writes g c x known all =
@@ -48,27 +48,27 @@ returns-in-Err-clause-writes g c x known all =
     let k = c.loop-stream.stream in
     let fewer : k < length s.streams = omega (arith, c.loop-stream-test.true, c.streams-stream-end.ensures.count) in
     block_cut s x k c.loop-stream.at c.loop-stream.far _ _ _ _ (g.met.V.DumpView.sound c.args.view.now x known) fewer (c.loop-stream.invariant.left x known all)
-    (c.in-Err.ensures.writes x (ap (λ (t : Shape). t.seen) (c.room_for-room.ensures.shape ∙ c.loop-stream.invariant.shape) ∙ known) (all k))
+    (c.in-Err.ensures.writes x (ap (λ (t : ViewShape). t.seen) (c.room_for-room.ensures.shape ∙ c.loop-stream.invariant.shape) ∙ known) (all k))
 
 pub loop-stream-preserved : goal.loop-stream-preserved
 loop-stream-preserved g c =
     let s = g.V.DumpView.shape c.args.view.now in
     let k = c.loop-stream.stream in
     let fewer : k < length s.streams = omega (arith, c.loop-stream-test.true, c.streams-stream-end.ensures.count) in
-    let block : c.room_for-room.result.block ≡ block_size (stream_at s k) = c.room_for-room.ensures.room.0 ∙ ap (λ (t : Shape). block_size (stream_at t k)) c.loop-stream.invariant.shape in
-    let far : c.room_for-room.result.far ≡ far_size (stream_at s k) = c.room_for-room.ensures.room.1 ∙ ap (λ (t : Shape). far_size (stream_at t k)) c.loop-stream.invariant.shape in
+    let block : c.room_for-room.result.block ≡ block_size (stream_at s k) = c.room_for-room.ensures.room.0 ∙ ap (λ (t : ViewShape). block_size (stream_at t k)) c.loop-stream.invariant.shape in
+    let far : c.room_for-room.result.far ≡ far_size (stream_at s k) = c.room_for-room.ensures.room.1 ∙ ap (λ (t : ViewShape). far_size (stream_at t k)) c.loop-stream.invariant.shape in
     record {
       shape = c.put_block.ensures.shape ∙ c.room_for-room.ensures.shape ∙ c.loop-stream.invariant.shape;
-      passed = omega (arith, c.loop-stream.invariant.passed, c.in-Ok.ensures.passed, ap (λ (t : Shape). block_passes t k) (c.room_for-room.ensures.shape ∙ c.loop-stream.invariant.shape), sum_next (block_passes s) k, ap (λ (t : Spent). t.passed) c.room_for-room.ensures.spent);
-      asked = omega (arith, c.loop-stream.invariant.asked, c.in-Ok.ensures.asked, ap (λ (t : Shape). block_asks t k) (c.room_for-room.ensures.shape ∙ c.loop-stream.invariant.shape), sum_next (block_asks s) k, ap (λ (t : Spent). t.asked) c.room_for-room.ensures.spent);
+      passed = omega (arith, c.loop-stream.invariant.passed, c.in-Ok.ensures.passed, ap (λ (t : ViewShape). block_passes t k) (c.room_for-room.ensures.shape ∙ c.loop-stream.invariant.shape), sum_next (block_passes s) k, ap (λ (t : Spent). t.passed) c.room_for-room.ensures.spent);
+      asked = omega (arith, c.loop-stream.invariant.asked, c.in-Ok.ensures.asked, ap (λ (t : ViewShape). block_asks t k) (c.room_for-room.ensures.shape ∙ c.loop-stream.invariant.shape), sum_next (block_asks s) k, ap (λ (t : Spent). t.asked) c.room_for-room.ensures.spent);
       moves = g.met.V.DumpView.follows _ _ _ c.loop-stream.invariant.moves (g.met.V.DumpView.follows _ _ _ c.room_for-room.ensures.moves c.in-Ok.ensures.moves);
       steady = c.in-Ok.ensures.cause ∙ c.loop-stream.invariant.steady;
       at = omega (arith, block, blocks_next s k fewer, c.loop-stream.invariant.at);
       far = omega (arith, far, fars_next s k fewer, c.loop-stream.invariant.far);
       come = come_next _ _ _ _ _ (block_size (stream_at s k)) _ (blocks_next s k fewer) c.loop-stream.invariant.come
-          (some_is _ _ _ _ (ap (λ (t : Shape). block_size (stream_at t k)) (c.room_for-room.ensures.shape ∙ c.loop-stream.invariant.shape)) c.in-Ok.ensures.some);
+          (some_is _ _ _ _ (ap (λ (t : ViewShape). block_size (stream_at t k)) (c.room_for-room.ensures.shape ∙ c.loop-stream.invariant.shape)) c.in-Ok.ensures.some);
       left = λ x known all. block_put s x k c.loop-stream.at c.loop-stream.far _ _ _ _ _ _ (g.met.V.DumpView.sound c.args.view.now x known) fewer (ap (λ (n : ℕ). c.loop-stream.at + n) block) (ap (λ (n : ℕ). c.loop-stream.far + n) far)
-          (c.loop-stream.invariant.left x known all) (c.in-Ok.ensures.writes x (ap (λ (t : Shape). t.seen) (c.room_for-room.ensures.shape ∙ c.loop-stream.invariant.shape) ∙ known) (all k));
+          (c.loop-stream.invariant.left x known all) (c.in-Ok.ensures.writes x (ap (λ (t : ViewShape). t.seen) (c.room_for-room.ensures.shape ∙ c.loop-stream.invariant.shape) ∙ known) (all k));
     }
 
 pub returns-clause-writes : goal.returns-clause-writes
@@ -82,7 +82,7 @@ overflow_add-at g c =
     let s = g.V.DumpView.shape c.args.view.now in
     let k = c.loop-stream.stream in
     let fewer : k < length s.streams = omega (arith, c.loop-stream-test.true, c.streams-stream-end.ensures.count) in
-    let block : c.room_for-room.result.block ≡ block_size (stream_at s k) = c.room_for-room.ensures.room.0 ∙ ap (λ (t : Shape). block_size (stream_at t k)) c.loop-stream.invariant.shape in
+    let block : c.room_for-room.result.block ≡ block_size (stream_at s k) = c.room_for-room.ensures.room.0 ∙ ap (λ (t : ViewShape). block_size (stream_at t k)) c.loop-stream.invariant.shape in
     omega (arith, block, ends_below s k c.loop-stream.at fewer c.loop-stream.invariant.at, c.requires.low)
 
 pub overflow_add-far : goal.overflow_add-far
@@ -90,7 +90,7 @@ overflow_add-far g c =
     let s = g.V.DumpView.shape c.args.view.now in
     let k = c.loop-stream.stream in
     let fewer : k < length s.streams = omega (arith, c.loop-stream-test.true, c.streams-stream-end.ensures.count) in
-    let far : c.room_for-room.result.far ≡ far_size (stream_at s k) = c.room_for-room.ensures.room.1 ∙ ap (λ (t : Shape). far_size (stream_at t k)) c.loop-stream.invariant.shape in
+    let far : c.room_for-room.result.far ≡ far_size (stream_at s k) = c.room_for-room.ensures.room.1 ∙ ap (λ (t : ViewShape). far_size (stream_at t k)) c.loop-stream.invariant.shape in
     omega (arith, far, fars_next s k fewer, c.loop-stream.invariant.far, c.requires.short)
 
 pub returns-in-Err-clause-passed : goal.returns-in-Err-clause-passed
@@ -98,14 +98,14 @@ returns-in-Err-clause-passed g c =
     let s = g.V.DumpView.shape c.args.view.now in
     let k = c.loop-stream.stream in
     let fewer : k < length s.streams = omega (arith, c.loop-stream-test.true, c.streams-stream-end.ensures.count) in
-    omega (arith, c.loop-stream.invariant.passed, c.in-Err.ensures.passed, ap (λ (t : Shape). block_passes t k) (c.room_for-room.ensures.shape ∙ c.loop-stream.invariant.shape), ap (λ (t : Spent). t.passed) c.room_for-room.ensures.spent, sum_with (block_passes s) k (length s.streams) fewer)
+    omega (arith, c.loop-stream.invariant.passed, c.in-Err.ensures.passed, ap (λ (t : ViewShape). block_passes t k) (c.room_for-room.ensures.shape ∙ c.loop-stream.invariant.shape), ap (λ (t : Spent). t.passed) c.room_for-room.ensures.spent, sum_with (block_passes s) k (length s.streams) fewer)
 
 pub returns-in-Err-clause-asked : goal.returns-in-Err-clause-asked
 returns-in-Err-clause-asked g c =
     let s = g.V.DumpView.shape c.args.view.now in
     let k = c.loop-stream.stream in
     let fewer : k < length s.streams = omega (arith, c.loop-stream-test.true, c.streams-stream-end.ensures.count) in
-    omega (arith, c.loop-stream.invariant.asked, c.in-Err.ensures.asked, ap (λ (t : Shape). block_asks t k) (c.room_for-room.ensures.shape ∙ c.loop-stream.invariant.shape), ap (λ (t : Spent). t.asked) c.room_for-room.ensures.spent, sum_with (block_asks s) k (length s.streams) fewer)
+    omega (arith, c.loop-stream.invariant.asked, c.in-Err.ensures.asked, ap (λ (t : ViewShape). block_asks t k) (c.room_for-room.ensures.shape ∙ c.loop-stream.invariant.shape), ap (λ (t : Spent). t.asked) c.room_for-room.ensures.spent, sum_with (block_asks s) k (length s.streams) fewer)
 
 pub returns-in-Err-clause-moves : goal.returns-in-Err-clause-moves
 returns-in-Err-clause-moves g c = g.met.V.DumpView.follows _ _ _ c.loop-stream.invariant.moves (g.met.V.DumpView.follows _ _ _ c.room_for-room.ensures.moves c.in-Err.ensures.moves)

@@ -1,5 +1,5 @@
 use Rattle.std.proofs.Common.{◌<◌, ◌≤◌, ◌^◌, ◌∙◌, ap, arith, refl, sym, subst, length}
-use Rattle.mdmp_dump.specs.Shape.{Shape, Spent, body_of, stream_at}
+use Rattle.mdmp_dump.specs.Shape.{ViewShape, Spent, body_of, stream_at}
 use Rattle.mdmp_writer.specs.Layout.{far_size, fars_size}
 use Rattle.mdmp_writer.specs.Passes.{far_asks, far_passes}
 use Rattle.mdmp_writer.proofs.Counting.{come_begin, come_next, come_none, some_is}
@@ -24,14 +24,14 @@ pub put_far-requires-clause-room : goal.put_far-requires-clause-room
 put_far-requires-clause-room g c =
     let s = g.V.DumpView.shape c.args.view.now in
     let k = c.loop-stream.stream in
-    subst (λ (t : Shape). far_size (stream_at t k) < 2 ^ 64) (sym c.loop-stream.invariant.shape) (omega (arith, far_within s.streams k, c.requires.short))
+    subst (λ (t : ViewShape). far_size (stream_at t k) < 2 ^ 64) (sym c.loop-stream.invariant.shape) (omega (arith, far_within s.streams k, c.requires.short))
 
 pub returns-in-Err-clause-writes : goal.returns-in-Err-clause-writes
 returns-in-Err-clause-writes g c x known =
     let s = g.V.DumpView.shape c.args.view.now in
     let k = c.loop-stream.stream in
     let fewer : k < length s.streams = omega (arith, c.loop-stream-test.true, c.streams-stream-end.ensures.count) in
-    far_cut s x k _ _ _ _ (g.met.V.DumpView.sound c.args.view.now x known) fewer (c.loop-stream.invariant.left x known) (c.in-Err.ensures.writes x (ap (λ (t : Shape). t.seen) c.loop-stream.invariant.shape ∙ known))
+    far_cut s x k _ _ _ _ (g.met.V.DumpView.sound c.args.view.now x known) fewer (c.loop-stream.invariant.left x known) (c.in-Err.ensures.writes x (ap (λ (t : ViewShape). t.seen) c.loop-stream.invariant.shape ∙ known))
 
 pub loop-stream-preserved : goal.loop-stream-preserved
 loop-stream-preserved g c =
@@ -40,13 +40,13 @@ loop-stream-preserved g c =
     let fewer : k < length s.streams = omega (arith, c.loop-stream-test.true, c.streams-stream-end.ensures.count) in
     record {
       shape = c.put_far.ensures.shape ∙ c.loop-stream.invariant.shape;
-      passed = omega (arith, c.loop-stream.invariant.passed, c.in-Ok.ensures.passed, ap (λ (t : Shape). far_passes t k) c.loop-stream.invariant.shape, sum_next (far_passes s) k);
-      asked = omega (arith, c.loop-stream.invariant.asked, c.in-Ok.ensures.asked, ap (λ (t : Shape). far_asks t k) c.loop-stream.invariant.shape, sum_next (far_asks s) k);
+      passed = omega (arith, c.loop-stream.invariant.passed, c.in-Ok.ensures.passed, ap (λ (t : ViewShape). far_passes t k) c.loop-stream.invariant.shape, sum_next (far_passes s) k);
+      asked = omega (arith, c.loop-stream.invariant.asked, c.in-Ok.ensures.asked, ap (λ (t : ViewShape). far_asks t k) c.loop-stream.invariant.shape, sum_next (far_asks s) k);
       moves = g.met.V.DumpView.follows _ _ _ c.loop-stream.invariant.moves c.in-Ok.ensures.moves;
       steady = c.in-Ok.ensures.cause ∙ c.loop-stream.invariant.steady;
       come = come_next _ _ _ _ _ (far_size (stream_at s k)) _ (fars_next s k fewer) c.loop-stream.invariant.come
-          (some_is _ _ _ _ (ap (λ (t : Shape). far_size (stream_at t k)) (c.loop-stream.invariant.shape)) c.in-Ok.ensures.some);
-      left = λ x known. far_put s x k _ _ _ _ (g.met.V.DumpView.sound c.args.view.now x known) fewer (c.loop-stream.invariant.left x known) (c.in-Ok.ensures.writes x (ap (λ (t : Shape). t.seen) c.loop-stream.invariant.shape ∙ known));
+          (some_is _ _ _ _ (ap (λ (t : ViewShape). far_size (stream_at t k)) (c.loop-stream.invariant.shape)) c.in-Ok.ensures.some);
+      left = λ x known. far_put s x k _ _ _ _ (g.met.V.DumpView.sound c.args.view.now x known) fewer (c.loop-stream.invariant.left x known) (c.in-Ok.ensures.writes x (ap (λ (t : ViewShape). t.seen) c.loop-stream.invariant.shape ∙ known));
     }
 
 pub returns-clause-writes : goal.returns-clause-writes
@@ -59,21 +59,21 @@ pub put_far-requires-clause-body : goal.put_far-requires-clause-body
 put_far-requires-clause-body g c =
     let s = g.V.DumpView.shape c.args.view.now in
     let k = c.loop-stream.stream in
-    subst (λ (t : Shape). body_of (stream_at t k) < 2 ^ 32) (sym c.loop-stream.invariant.shape) (omega (arith, block_within s.streams k, c.requires.low))
+    subst (λ (t : ViewShape). body_of (stream_at t k) < 2 ^ 32) (sym c.loop-stream.invariant.shape) (omega (arith, block_within s.streams k, c.requires.low))
 
 pub returns-in-Err-clause-passed : goal.returns-in-Err-clause-passed
 returns-in-Err-clause-passed g c =
     let s = g.V.DumpView.shape c.args.view.now in
     let k = c.loop-stream.stream in
     let fewer : k < length s.streams = omega (arith, c.loop-stream-test.true, c.streams-stream-end.ensures.count) in
-    omega (arith, c.loop-stream.invariant.passed, c.in-Err.ensures.passed, ap (λ (t : Shape). far_passes t k) c.loop-stream.invariant.shape, sum_with (far_passes s) k (length s.streams) fewer)
+    omega (arith, c.loop-stream.invariant.passed, c.in-Err.ensures.passed, ap (λ (t : ViewShape). far_passes t k) c.loop-stream.invariant.shape, sum_with (far_passes s) k (length s.streams) fewer)
 
 pub returns-in-Err-clause-asked : goal.returns-in-Err-clause-asked
 returns-in-Err-clause-asked g c =
     let s = g.V.DumpView.shape c.args.view.now in
     let k = c.loop-stream.stream in
     let fewer : k < length s.streams = omega (arith, c.loop-stream-test.true, c.streams-stream-end.ensures.count) in
-    omega (arith, c.loop-stream.invariant.asked, c.in-Err.ensures.asked, ap (λ (t : Shape). far_asks t k) c.loop-stream.invariant.shape, sum_with (far_asks s) k (length s.streams) fewer)
+    omega (arith, c.loop-stream.invariant.asked, c.in-Err.ensures.asked, ap (λ (t : ViewShape). far_asks t k) c.loop-stream.invariant.shape, sum_with (far_asks s) k (length s.streams) fewer)
 
 pub returns-in-Err-clause-moves : goal.returns-in-Err-clause-moves
 returns-in-Err-clause-moves g c = g.met.V.DumpView.follows _ _ _ c.loop-stream.invariant.moves c.in-Err.ensures.moves

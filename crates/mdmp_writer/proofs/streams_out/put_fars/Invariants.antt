@@ -3,7 +3,7 @@ use Rattle.mdmp_dump.specs.View.{DumpSeen}
 use Rattle.mdmp_writer.specs.Gather.{gathered, IsLeft}
 use Rattle.mdmp_writer.specs.Layout.{fars_size}
 use Rattle.mdmp_writer.specs.Passes.{far_asks, far_passes, sum_below}
-use Rattle.mdmp_writer.specs.Written.{fars}
+use Rattle.mdmp_writer.specs.Written.{far_texts}
 use Rattle.mdmp_writer.proofs.Counting.{IsToCome}
 use Rattle.mdmp_writer.proofs.streams_out.put_fars.Given as goal
 
@@ -16,5 +16,5 @@ invariant-loop-stream g l = record {
   steady : (g.O.Out.state l.out).failures ≡ (g.O.Out.state l.fn.out).failures;
   come : IsToCome (gathered (g.O.Out.state l.fn.out) l.fn.gather) (fars_size (g.V.DumpView.shape l.fn.view).streams) (fars_size (drop l.stream (g.V.DumpView.shape l.fn.view).streams)) (gathered (g.O.Out.state l.out) l.gather);
   left : (x : DumpSeen) → (g.V.DumpView.shape l.fn.view).seen ≡ Some x
-      → IsLeft (gathered (g.O.Out.state l.fn.out) l.fn.gather) (fars x.streams) (gathered (g.O.Out.state l.out) l.gather) (fars (drop l.stream x.streams));
+      → IsLeft (gathered (g.O.Out.state l.fn.out) l.fn.gather) (far_texts x.streams) (gathered (g.O.Out.state l.out) l.gather) (far_texts (drop l.stream x.streams));
 }

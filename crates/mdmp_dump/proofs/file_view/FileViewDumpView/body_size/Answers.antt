@@ -1,7 +1,7 @@
 use Rattle.std.proofs.Common.{◌≡◌, ◌∙◌, get_or, ap, subst, sym, arith}
 use Rattle.std.proofs.lemmas.List.{get_or_read}
 use Rattle.mdmp_wire.specs.declared.entry.Entry.{Entry}
-use Rattle.mdmp_dump.specs.EntryWalk.{WalkState, entry_at, kind_by}
+use Rattle.mdmp_dump.specs.EntryWalk.{WalkState, chosen_entry, kind_by}
 use Rattle.mdmp_dump.specs.FileView.{IsView}
 use Rattle.mdmp_dump.specs.declared.view.Kind.TheVariants as kinds
 use Rattle.mdmp_dump.specs.Shape.{body_by}
@@ -38,7 +38,7 @@ returns-in-Unused-clause-size g c =
     let body = body_told g.row.A.Denot s.limit s.walk s.counts.items s.rooms.items s.sound.counted s.sound.roomed s.sound.of_file k inside in
     let n = get_or s.counts.items k 0 in
     let r = get_or s.rooms.items k 0 in
-    unused_body (entry_at s.walk k) n r (ap (λ (e : Entry). kind_by e.stream_type) (sym entry) ∙ sym c.in-Unused.ensures) ∙ body
+    unused_body (chosen_entry s.walk k) n r (ap (λ (e : Entry). kind_by e.stream_type) (sym entry) ∙ sym c.in-Unused.ensures) ∙ body
 
 pub returns-in-Known-clause-size : goal.returns-in-Known-clause-size
 returns-in-Known-clause-size g c =
@@ -51,7 +51,7 @@ returns-in-Known-clause-size g c =
     let n = get_or s.counts.items k 0 in
     let r = get_or s.rooms.items k 0 in
     let t = c.in-Known.stream_type in
-    known_body (entry_at s.walk k) t n r c.records_size.result (ap (λ (e : Entry). kind_by e.stream_type) (sym entry) ∙ sym c.in-Known.ensures)
+    known_body (chosen_entry s.walk k) t n r c.records_size.result (ap (λ (e : Entry). kind_by e.stream_type) (sym entry) ∙ sym c.in-Known.ensures)
     (c.records_size.ensures.value ∙ ap (λ m. body_by (kinds.Known t) m 0) count) (omega (arith, c.records_size.ensures.bound))
     ∙ body
 
@@ -65,6 +65,6 @@ returns-in-Raw-clause-size g c =
     let body = body_told g.row.A.Denot s.limit s.walk s.counts.items s.rooms.items s.sound.counted s.sound.roomed s.sound.of_file k inside in
     let n = get_or s.counts.items k 0 in
     let r = get_or s.rooms.items k 0 in
-    raw_body (entry_at s.walk k) c.in-Raw.field-0 n r c.from.result (ap (λ (e : Entry). kind_by e.stream_type) (sym entry) ∙ sym c.in-Raw.ensures)
+    raw_body (chosen_entry s.walk k) c.in-Raw.field-0 n r c.from.result (ap (λ (e : Entry). kind_by e.stream_type) (sym entry) ∙ sym c.in-Raw.ensures)
     (c.from.ensures ∙ ap (λ (e : Entry). e.location.size) entry) (omega arith)
     ∙ body

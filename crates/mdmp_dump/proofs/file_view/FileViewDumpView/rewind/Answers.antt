@@ -2,8 +2,8 @@ use Rattle.std.proofs.Common.{◌≡◌, ◌∙◌, ◌<◌, ◌+◌, ◌-◌, �
 use Rattle.std.proofs.lemmas.List.{get_or_read}
 use Rattle.mdmp_wire.specs.declared.entry.Entry.{Entry}
 use Rattle.mdmp_dump.specs.declared.pass.Pass.{Pass}
-use Rattle.mdmp_dump.specs.EntryWalk.{Pays, WalkState, entry_at, listed, pass_cost}
-use Rattle.mdmp_dump.specs.FileView.{Tells, first_pass, opening_cost, pass_cursor}
+use Rattle.mdmp_dump.specs.EntryWalk.{Pays, WalkState, chosen_entry, listed, pass_cost}
+use Rattle.mdmp_dump.specs.FileView.{TellsViewFault, first_pass, opening_cost, pass_cursor}
 use Rattle.mdmp_dump.proofs.KnownViews.{cost_told, inside_view, pass_begins}
 use Rattle.mdmp_dump.proofs.Moving.{reliable_err, view_begun, view_unbegun}
 use Rattle.mdmp_dump.proofs.file_view.FileViewDumpView.rewind.Goals as goal
@@ -60,10 +60,10 @@ invariant_of-self g c =
     let r = c.index-room.result.now in
     let count : n ≡ get_or s.counts.items k 0 = get_or_read s.counts.items _ _ (omega (arith, inside, s.sound.counted)) c.index-count.ensures 0 in
     let room : r ≡ get_or s.rooms.items k 0 = get_or_read s.rooms.items _ _ (omega (arith, inside, s.sound.roomed)) c.index-room.ensures 0 in
-    let cost : c.from.result ≡ pass_cost (entry_at w k).entry n = c.from.ensures ∙ c.cost_of-cost.ensures ∙ ap (λ (e : Entry). pass_cost e n) c.entry.ensures.value in
-    let sum_is : opening_cost w s.counts.items + c.saturating_add-self.result + s.asked < 2 ^ 128 - 1 → c.saturating_add-self.result ≡ s.passed + pass_cost (entry_at w k).entry n = λ low. omega (arith, low, c.saturating_add-self.ensures, cost) in
-    let pays = subst (λ (u : WalkState). Pays (listed (entry_at u k).entry) 0 u v) c.entry.ensures.same c.in-Ok.ensures.pays in
-    let tells = subst (λ (u : WalkState). Tells u (Ok c.in-Ok.pass) v) c.entry.ensures.same c.in-Ok.ensures.tells in
+    let cost : c.from.result ≡ pass_cost (chosen_entry w k).entry n = c.from.ensures ∙ c.cost_of-cost.ensures ∙ ap (λ (e : Entry). pass_cost e n) c.entry.ensures.value in
+    let sum_is : opening_cost w s.counts.items + c.saturating_add-self.result + s.asked < 2 ^ 128 - 1 → c.saturating_add-self.result ≡ s.passed + pass_cost (chosen_entry w k).entry n = λ low. omega (arith, low, c.saturating_add-self.ensures, cost) in
+    let pays = subst (λ (u : WalkState). Pays (listed (chosen_entry u k).entry) 0 u v) c.entry.ensures.same c.in-Ok.ensures.pays in
+    let tells = subst (λ (u : WalkState). TellsViewFault u (Ok c.in-Ok.pass) v) c.entry.ensures.same c.in-Ok.ensures.tells in
     let first = c.in-Ok.ensures.begins.1 ∙ ap (λ (u : WalkState). first_pass u k n r) c.entry.ensures.same in
     record { sound = view_begun g.row.A.Denot s.limit w s.counts.items s.rooms.items s.pass s.passed s.asked s.last s.sound v pays.same k n r _ inside count room pays sum_is c.in-Ok.pass first c.in-Ok.ensures.begins.0 tells }
 
@@ -78,10 +78,10 @@ invariant_of-self-in-Err g c =
     let r = c.index-room.result.now in
     let count : n ≡ get_or s.counts.items k 0 = get_or_read s.counts.items _ _ (omega (arith, inside, s.sound.counted)) c.index-count.ensures 0 in
     let room : r ≡ get_or s.rooms.items k 0 = get_or_read s.rooms.items _ _ (omega (arith, inside, s.sound.roomed)) c.index-room.ensures 0 in
-    let cost : c.from.result ≡ pass_cost (entry_at w k).entry n = c.from.ensures ∙ c.cost_of-cost.ensures ∙ ap (λ (e : Entry). pass_cost e n) c.entry.ensures.value in
-    let sum_is : opening_cost w s.counts.items + c.saturating_add-self.result + s.asked < 2 ^ 128 - 1 → c.saturating_add-self.result ≡ s.passed + pass_cost (entry_at w k).entry n = λ low. omega (arith, low, c.saturating_add-self.ensures, cost) in
-    let pays = subst (λ (u : WalkState). Pays (listed (entry_at u k).entry) 0 u v) c.entry.ensures.same c.in-Err.ensures.pays in
-    let tells = subst (λ (u : WalkState). Tells {T = Pass} u (Err c.in-Err.fault) v) c.entry.ensures.same c.in-Err.ensures.tells in
+    let cost : c.from.result ≡ pass_cost (chosen_entry w k).entry n = c.from.ensures ∙ c.cost_of-cost.ensures ∙ ap (λ (e : Entry). pass_cost e n) c.entry.ensures.value in
+    let sum_is : opening_cost w s.counts.items + c.saturating_add-self.result + s.asked < 2 ^ 128 - 1 → c.saturating_add-self.result ≡ s.passed + pass_cost (chosen_entry w k).entry n = λ low. omega (arith, low, c.saturating_add-self.ensures, cost) in
+    let pays = subst (λ (u : WalkState). Pays (listed (chosen_entry u k).entry) 0 u v) c.entry.ensures.same c.in-Err.ensures.pays in
+    let tells = subst (λ (u : WalkState). TellsViewFault {T = Pass} u (Err c.in-Err.fault) v) c.entry.ensures.same c.in-Err.ensures.tells in
     record { sound = view_unbegun g.row.A.Denot s.limit w s.counts.items s.rooms.items s.pass s.passed s.asked s.last s.sound v pays.same k n r _ inside count room pays sum_is c.in-Err.fault tells }
 
 pub returns-in-Ok-clause-begins : goal.returns-in-Ok-clause-begins
@@ -95,10 +95,10 @@ returns-in-Ok-clause-begins g c =
     let r = c.index-room.result.now in
     let count : n ≡ get_or s.counts.items k 0 = get_or_read s.counts.items _ _ (omega (arith, inside, s.sound.counted)) c.index-count.ensures 0 in
     let room : r ≡ get_or s.rooms.items k 0 = get_or_read s.rooms.items _ _ (omega (arith, inside, s.sound.roomed)) c.index-room.ensures 0 in
-    let cost : c.from.result ≡ pass_cost (entry_at w k).entry n = c.from.ensures ∙ c.cost_of-cost.ensures ∙ ap (λ (e : Entry). pass_cost e n) c.entry.ensures.value in
-    let sum_is : opening_cost w s.counts.items + c.saturating_add-self.result + s.asked < 2 ^ 128 - 1 → c.saturating_add-self.result ≡ s.passed + pass_cost (entry_at w k).entry n = λ low. omega (arith, low, c.saturating_add-self.ensures, cost) in
-    let pays = subst (λ (u : WalkState). Pays (listed (entry_at u k).entry) 0 u v) c.entry.ensures.same c.in-Ok.ensures.pays in
-    let tells = subst (λ (u : WalkState). Tells u (Ok c.in-Ok.pass) v) c.entry.ensures.same c.in-Ok.ensures.tells in
+    let cost : c.from.result ≡ pass_cost (chosen_entry w k).entry n = c.from.ensures ∙ c.cost_of-cost.ensures ∙ ap (λ (e : Entry). pass_cost e n) c.entry.ensures.value in
+    let sum_is : opening_cost w s.counts.items + c.saturating_add-self.result + s.asked < 2 ^ 128 - 1 → c.saturating_add-self.result ≡ s.passed + pass_cost (chosen_entry w k).entry n = λ low. omega (arith, low, c.saturating_add-self.ensures, cost) in
+    let pays = subst (λ (u : WalkState). Pays (listed (chosen_entry u k).entry) 0 u v) c.entry.ensures.same c.in-Ok.ensures.pays in
+    let tells = subst (λ (u : WalkState). TellsViewFault u (Ok c.in-Ok.pass) v) c.entry.ensures.same c.in-Ok.ensures.tells in
     let first = c.in-Ok.ensures.begins.1 ∙ ap (λ (u : WalkState). first_pass u k n r) c.entry.ensures.same in
     ap (pass_cursor g.row.A.Denot v) first
     ∙ pass_begins g.row.A.Denot s.limit w s.counts.items s.rooms.items s.sound.counted s.sound.roomed s.sound.of_file k inside v n r pays.same.fetches.fetches.same_content pays.same.chosen pays.same.choice count room
@@ -114,9 +114,9 @@ returns-in-Ok-clause-passed g c =
     let r = c.index-room.result.now in
     let count : n ≡ get_or s.counts.items k 0 = get_or_read s.counts.items _ _ (omega (arith, inside, s.sound.counted)) c.index-count.ensures 0 in
     let room : r ≡ get_or s.rooms.items k 0 = get_or_read s.rooms.items _ _ (omega (arith, inside, s.sound.roomed)) c.index-room.ensures 0 in
-    let cost : c.from.result ≡ pass_cost (entry_at w k).entry n = c.from.ensures ∙ c.cost_of-cost.ensures ∙ ap (λ (e : Entry). pass_cost e n) c.entry.ensures.value in
-    let sum_is : opening_cost w s.counts.items + c.saturating_add-self.result + s.asked < 2 ^ 128 - 1 → c.saturating_add-self.result ≡ s.passed + pass_cost (entry_at w k).entry n = λ low. omega (arith, low, c.saturating_add-self.ensures, cost) in
-    let told = cost_told g.row.A.Denot s.limit w s.counts.items s.rooms.items s.sound.counted s.sound.roomed s.sound.of_file k inside ∙ ap (λ m. pass_cost (entry_at w k).entry m) (sym count) in
+    let cost : c.from.result ≡ pass_cost (chosen_entry w k).entry n = c.from.ensures ∙ c.cost_of-cost.ensures ∙ ap (λ (e : Entry). pass_cost e n) c.entry.ensures.value in
+    let sum_is : opening_cost w s.counts.items + c.saturating_add-self.result + s.asked < 2 ^ 128 - 1 → c.saturating_add-self.result ≡ s.passed + pass_cost (chosen_entry w k).entry n = λ low. omega (arith, low, c.saturating_add-self.ensures, cost) in
+    let told = cost_told g.row.A.Denot s.limit w s.counts.items s.rooms.items s.sound.counted s.sound.roomed s.sound.of_file k inside ∙ ap (λ m. pass_cost (chosen_entry w k).entry m) (sym count) in
     omega (arith, told, cost, c.saturating_add-self.ensures)
 
 pub returns-in-Err-clause-passed : goal.returns-in-Err-clause-passed
@@ -130,9 +130,9 @@ returns-in-Err-clause-passed g c =
     let r = c.index-room.result.now in
     let count : n ≡ get_or s.counts.items k 0 = get_or_read s.counts.items _ _ (omega (arith, inside, s.sound.counted)) c.index-count.ensures 0 in
     let room : r ≡ get_or s.rooms.items k 0 = get_or_read s.rooms.items _ _ (omega (arith, inside, s.sound.roomed)) c.index-room.ensures 0 in
-    let cost : c.from.result ≡ pass_cost (entry_at w k).entry n = c.from.ensures ∙ c.cost_of-cost.ensures ∙ ap (λ (e : Entry). pass_cost e n) c.entry.ensures.value in
-    let sum_is : opening_cost w s.counts.items + c.saturating_add-self.result + s.asked < 2 ^ 128 - 1 → c.saturating_add-self.result ≡ s.passed + pass_cost (entry_at w k).entry n = λ low. omega (arith, low, c.saturating_add-self.ensures, cost) in
-    let told = cost_told g.row.A.Denot s.limit w s.counts.items s.rooms.items s.sound.counted s.sound.roomed s.sound.of_file k inside ∙ ap (λ m. pass_cost (entry_at w k).entry m) (sym count) in
+    let cost : c.from.result ≡ pass_cost (chosen_entry w k).entry n = c.from.ensures ∙ c.cost_of-cost.ensures ∙ ap (λ (e : Entry). pass_cost e n) c.entry.ensures.value in
+    let sum_is : opening_cost w s.counts.items + c.saturating_add-self.result + s.asked < 2 ^ 128 - 1 → c.saturating_add-self.result ≡ s.passed + pass_cost (chosen_entry w k).entry n = λ low. omega (arith, low, c.saturating_add-self.ensures, cost) in
+    let told = cost_told g.row.A.Denot s.limit w s.counts.items s.rooms.items s.sound.counted s.sound.roomed s.sound.of_file k inside ∙ ap (λ m. pass_cost (chosen_entry w k).entry m) (sym count) in
     omega (arith, told, cost, c.saturating_add-self.ensures)
 
 pub returns-in-Err-clause-reliable : goal.returns-in-Err-clause-reliable
@@ -146,8 +146,8 @@ returns-in-Err-clause-reliable g c =
     let r = c.index-room.result.now in
     let count : n ≡ get_or s.counts.items k 0 = get_or_read s.counts.items _ _ (omega (arith, inside, s.sound.counted)) c.index-count.ensures 0 in
     let room : r ≡ get_or s.rooms.items k 0 = get_or_read s.rooms.items _ _ (omega (arith, inside, s.sound.roomed)) c.index-room.ensures 0 in
-    let cost : c.from.result ≡ pass_cost (entry_at w k).entry n = c.from.ensures ∙ c.cost_of-cost.ensures ∙ ap (λ (e : Entry). pass_cost e n) c.entry.ensures.value in
-    let sum_is : opening_cost w s.counts.items + c.saturating_add-self.result + s.asked < 2 ^ 128 - 1 → c.saturating_add-self.result ≡ s.passed + pass_cost (entry_at w k).entry n = λ low. omega (arith, low, c.saturating_add-self.ensures, cost) in
-    let pays = subst (λ (u : WalkState). Pays (listed (entry_at u k).entry) 0 u v) c.entry.ensures.same c.in-Err.ensures.pays in
-    let tells = subst (λ (u : WalkState). Tells {T = Pass} u (Err c.in-Err.fault) v) c.entry.ensures.same c.in-Err.ensures.tells in
+    let cost : c.from.result ≡ pass_cost (chosen_entry w k).entry n = c.from.ensures ∙ c.cost_of-cost.ensures ∙ ap (λ (e : Entry). pass_cost e n) c.entry.ensures.value in
+    let sum_is : opening_cost w s.counts.items + c.saturating_add-self.result + s.asked < 2 ^ 128 - 1 → c.saturating_add-self.result ≡ s.passed + pass_cost (chosen_entry w k).entry n = λ low. omega (arith, low, c.saturating_add-self.ensures, cost) in
+    let pays = subst (λ (u : WalkState). Pays (listed (chosen_entry u k).entry) 0 u v) c.entry.ensures.same c.in-Err.ensures.pays in
+    let tells = subst (λ (u : WalkState). TellsViewFault {T = Pass} u (Err c.in-Err.fault) v) c.entry.ensures.same c.in-Err.ensures.tells in
     λ reliable. reliable_err g.row.A.Denot s.limit w s.counts.items s.rooms.items s.pass s.passed s.asked s.last s.sound v pays.same c.in-Err.fault tells reliable

@@ -6,7 +6,7 @@ use Rattle.mdmp_source.specs.declared.location.Extent.TheVariants as classes
 use Rattle.mdmp_wire.specs.Descriptor.{descriptor_at}
 use Rattle.mdmp_lister.specs.declared.item.Item.{Item}
 use Rattle.mdmp_lister.specs.declared.item.RangeItem.{RangeItem}
-use Rattle.mdmp_lister.specs.declared.kind.Kind.TheVariants as kinds
+use Rattle.mdmp_lister.specs.declared.kind.StreamKind.TheVariants as kinds
 use Rattle.mdmp_lister.specs.Format.Item.{item_at, range_extent_of, range_item}
 use Rattle.mdmp_dump.specs.declared.fault.PartName.TheVariants.{Memory}
 use Rattle.mdmp_dump.specs.declared.fault.ReadFault.{ReadFault}
@@ -14,10 +14,10 @@ use Rattle.mdmp_dump.specs.declared.fault.ReadFault.TheVariants as wanting
 use Rattle.mdmp_dump.specs.declared.memory.MemoryRange.{MemoryRange}
 use Rattle.mdmp_dump.specs.declared.part.Part.TheVariants as parts
 use Rattle.mdmp_dump.specs.declared.reader.Reader.{Reader}
-use Rattle.mdmp_dump.specs.declared.row.Found.{Found}
+use Rattle.mdmp_dump.specs.declared.row.ToldRecord.{ToldRecord}
 use Rattle.mdmp_dump.specs.Memory.{IsMemory, present_steps, range_told}
 use Rattle.mdmp_dump.specs.Part.{IsPart}
-use Rattle.mdmp_dump.specs.Reading.{HasBytesAt, Takes}
+use Rattle.mdmp_dump.specs.Reading.{HasBytesAt, TakesSteps}
 use Rattle.mdmp_dump.specs.Refusal.{part_steps}
 use Rattle.mdmp_dump.specs.TellingLaws.{found_at, made_found}
 use Rattle.mdmp_dump.proofs.Budget.{part-present}
@@ -32,20 +32,20 @@ present_range z e k offset len classes.Absent present = absurd (present refl)
 present_range z e k offset len _ present = refl
 
 module _ {S A T : Type 0} (z e k offset len : ℕ) (extent : Extent) (old : Reader S A) where
-  takes_none : (x : T) → extent ≡ classes.Absent → Takes (present_steps z e k offset len extent) old (Ok x) old
+  takes_none : (x : T) → extent ≡ classes.Absent → TakesSteps (present_steps z e k offset len extent) old (Ok x) old
   takes_none x absent = rw absent (Takes_none old x)
 
   takes_range : (result : Result T ReadFault) (new : Reader S A) → (extent ≡ classes.Absent → ⊥)
-      → Takes (part_steps e k Memory offset len (range_extent_of offset len z)) old result new → Takes (present_steps z e k offset len extent) old result new
+      → TakesSteps (part_steps e k Memory offset len (range_extent_of offset len z)) old result new → TakesSteps (present_steps z e k offset len extent) old result new
   takes_range result new present takes = rw (← present_range z e k offset len extent present) takes
 
 -- ---- the range
 
 module _ (F : List ℕ) (limit e k at o : ℕ) (item : Item) (given : item_at F limit e k at o kinds.Memory ≡ Ok item) where
-  module _ (found : Found RangeItem) (tells : range_told item ≡ Some found) where
+  module _ (found : ToldRecord RangeItem) (tells : range_told item ≡ Some found) where
     -- the item that the descriptor at o makes
     same : found.fields ≡ range_item (length F) e k (descriptor_at F o)
-    same = ap (λ (x : Found RangeItem). x.fields)
+    same = ap (λ (x : ToldRecord RangeItem). x.fields)
         (made_found kinds.Memory F limit e k at o item given range_told (found_at e k (range_item (length F) e k (descriptor_at F o))) found (λ n. refl) tells)
 
     extent_is : extent_of (descriptor_at F o).memory (length F) ≡ found.fields.extent

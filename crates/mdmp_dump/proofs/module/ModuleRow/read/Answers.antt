@@ -1,19 +1,19 @@
 -- A module's CodeView record is taken, and then its miscellaneous debug record.
 use Rattle.std.proofs.Common.{ℕ, ◌≡◌, List, Some, Err, rules, refl, ap, subst, ◌∙◌, sym}
-use Rattle.mdmp_lister.specs.declared.kind.Kind.TheVariants.{Modules}
+use Rattle.mdmp_lister.specs.declared.kind.StreamKind.TheVariants.{Modules}
 use Rattle.mdmp_source.specs.Extent.{extent_of}
 use Rattle.mdmp_wire.specs.Module.{module_at}
 use Rattle.mdmp_wire.specs.declared.module.ModuleRecord.{ModuleRecord}
 use Rattle.mdmp_dump.specs.Name.{IsName}
 use Rattle.mdmp_dump.specs.Part.{IsPart}
 use Rattle.mdmp_dump.specs.declared.fault.PartName.TheVariants.{Misc}
-use Rattle.mdmp_dump.specs.declared.row.Found.{Found}
+use Rattle.mdmp_dump.specs.declared.row.ToldRecord.{ToldRecord}
 use Rattle.mdmp_dump.specs.declared.module.Module.{Module}
 use Rattle.mdmp_dump.specs.Refusal.{location_steps}
 use Rattle.mdmp_dump.specs.TellingLaws.{found_at, made_found}
 use Rattle.mdmp_dump.specs.Module.{IsModule, module_record, module_told}
 use Rattle.mdmp_dump.proofs.Names.{made_named}
-use Rattle.mdmp_dump.proofs.Taking.{Takes-known, Takes_as, Takes_fault, Takes_fault_as, Takes_then_at, row_refused}
+use Rattle.mdmp_dump.proofs.Taking.{TakesSteps-known, Takes_as, Takes_fault, Takes_fault_as, Takes_then_at, row_refused}
 use Rattle.mdmp_dump.proofs.module.ModuleRow.read.Goals as goal
 
 -- a module with the fields of the record at o, its name and its parts
@@ -49,8 +49,8 @@ returns g c =
       stands = λ file limit e k at o item known given tells named.
           let taken : c.take.result ≡ c.args.name.now = cc in
           let found = made_found Modules file limit e k at o item given module_told (found_at e k (module_at file o)) _ (λ n. refl) tells in
-          module_of file o _ c.args.fields (ap (λ (x : Found ModuleRecord). x.fields) found) refl
+          module_of file o _ c.args.fields (ap (λ (x : ToldRecord ModuleRecord). x.fields) found) refl
           (made_named Modules file limit e k at o item given _ _ refl (λ n. refl) (named ∙ ap Some (sym taken)))
           (c.in_ok-codeview.ensures.of_file file known)
-          (c.in_ok-misc.ensures.of_file file (Takes-known _ _ _ _ c.in_ok-codeview.ensures.takes file known));
+          (c.in_ok-misc.ensures.of_file file (TakesSteps-known _ _ _ _ c.in_ok-codeview.ensures.takes file known));
     }

@@ -1,10 +1,10 @@
 -- The fields and the name of a system.
 use Rattle.std.proofs.Common.{ℕ, ◌≡◌, List, Some, refl, ap, subst, ◌∙◌, sym}
-use Rattle.mdmp_lister.specs.declared.kind.Kind.TheVariants.{System}
+use Rattle.mdmp_lister.specs.declared.kind.StreamKind.TheVariants.{System}
 use Rattle.mdmp_wire.specs.System.{system_at}
 use Rattle.mdmp_wire.specs.declared.system.SystemRecord.{SystemRecord}
 use Rattle.mdmp_dump.specs.Name.{IsName}
-use Rattle.mdmp_dump.specs.declared.row.Found.{Found}
+use Rattle.mdmp_dump.specs.declared.row.ToldRecord.{ToldRecord}
 use Rattle.mdmp_dump.specs.declared.system.System as declared
 use Rattle.mdmp_dump.specs.TellingLaws.{found_at, made_found}
 use Rattle.mdmp_dump.specs.System.{IsSystem, system_record, system_told}
@@ -23,6 +23,6 @@ returns g c = record {
   stands = λ file limit e k at o item known given tells named.
       let taken : c.take.result ≡ c.args.name.now = cc in
       let found = made_found System file limit e k at o item given system_told (found_at e k (system_at file o)) _ (λ n. refl) tells in
-      system_of file o _ c.args.fields (ap (λ (x : Found SystemRecord). x.fields) found) refl
+      system_of file o _ c.args.fields (ap (λ (x : ToldRecord SystemRecord). x.fields) found) refl
       (made_named System file limit e k at o item given _ _ refl (λ n. refl) (named ∙ ap Some (sym taken)));
 }

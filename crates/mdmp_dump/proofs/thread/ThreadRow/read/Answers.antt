@@ -1,17 +1,17 @@
 -- A thread's stack is taken, and then its registers.
 use Rattle.std.proofs.Common.{ℕ, ◌≡◌, List, Err, rules, refl, ap, subst}
-use Rattle.mdmp_lister.specs.declared.kind.Kind.TheVariants.{Threads}
+use Rattle.mdmp_lister.specs.declared.kind.StreamKind.TheVariants.{Threads}
 use Rattle.mdmp_source.specs.Extent.{extent_of}
 use Rattle.mdmp_wire.specs.Thread.{thread_at}
 use Rattle.mdmp_wire.specs.declared.thread.ThreadRecord.{ThreadRecord}
 use Rattle.mdmp_dump.specs.Part.{IsPart}
 use Rattle.mdmp_dump.specs.declared.fault.PartName.TheVariants.{Context}
-use Rattle.mdmp_dump.specs.declared.row.Found.{Found}
+use Rattle.mdmp_dump.specs.declared.row.ToldRecord.{ToldRecord}
 use Rattle.mdmp_dump.specs.declared.thread.Thread.{Thread}
 use Rattle.mdmp_dump.specs.Refusal.{location_steps}
 use Rattle.mdmp_dump.specs.TellingLaws.{found_at, made_found}
 use Rattle.mdmp_dump.specs.Thread.{IsThread, thread_record, thread_told}
-use Rattle.mdmp_dump.proofs.Taking.{Takes-known, Takes_as, Takes_fault, Takes_fault_as, Takes_then_at, row_refused}
+use Rattle.mdmp_dump.proofs.Taking.{TakesSteps-known, Takes_as, Takes_fault, Takes_fault_as, Takes_then_at, row_refused}
 use Rattle.mdmp_dump.proofs.thread.ThreadRow.read.Goals as goal
 
 -- a thread with the fields of the record at o, and its parts
@@ -44,7 +44,7 @@ returns g c =
       takes = Takes_then_at _ _ context _ _ _ _ c.in_ok-stack.ensures.takes (Takes_as _ _ _ _ _ c.in_ok-context.ensures.takes);
       stands = λ file limit e k at o item known given tells named.
           let found = made_found Threads file limit e k at o item given thread_told (found_at e k (thread_at file o)) _ (λ n. refl) tells in
-          thread_of file o _ c.args.fields (ap (λ (x : Found ThreadRecord). x.fields) found) refl
+          thread_of file o _ c.args.fields (ap (λ (x : ToldRecord ThreadRecord). x.fields) found) refl
           (c.in_ok-stack.ensures.of_file file known)
-          (c.in_ok-context.ensures.of_file file (Takes-known _ _ _ _ c.in_ok-stack.ensures.takes file known));
+          (c.in_ok-context.ensures.of_file file (TakesSteps-known _ _ _ _ c.in_ok-stack.ensures.takes file known));
     }

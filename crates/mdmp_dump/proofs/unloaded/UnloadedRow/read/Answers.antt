@@ -1,10 +1,10 @@
 -- The fields and the name of an unloaded module.
 use Rattle.std.proofs.Common.{ℕ, ◌≡◌, List, Some, refl, ap, subst, ◌∙◌, sym}
-use Rattle.mdmp_lister.specs.declared.kind.Kind.TheVariants as kinds
+use Rattle.mdmp_lister.specs.declared.kind.StreamKind.TheVariants as kinds
 use Rattle.mdmp_wire.specs.Unloaded.{unloaded_at}
 use Rattle.mdmp_wire.specs.declared.unloaded.UnloadedRecord.{UnloadedRecord}
 use Rattle.mdmp_dump.specs.Name.{IsName}
-use Rattle.mdmp_dump.specs.declared.row.Found.{Found}
+use Rattle.mdmp_dump.specs.declared.row.ToldRecord.{ToldRecord}
 use Rattle.mdmp_dump.specs.declared.unloaded.Unloaded.{Unloaded}
 use Rattle.mdmp_dump.specs.TellingLaws.{found_at, made_found}
 use Rattle.mdmp_dump.specs.Unloaded.{IsUnloaded, unloaded_record, unloaded_told}
@@ -23,6 +23,6 @@ returns g c = record {
   stands = λ file limit e k at o item known given tells named.
       let taken : c.take.result ≡ c.args.name.now = cc in
       let found = made_found kinds.Unloaded file limit e k at o item given unloaded_told (found_at e k (unloaded_at file o)) _ (λ n. refl) tells in
-      unloaded_of file o _ c.args.fields (ap (λ (x : Found UnloadedRecord). x.fields) found) refl
+      unloaded_of file o _ c.args.fields (ap (λ (x : ToldRecord UnloadedRecord). x.fields) found) refl
       (made_named kinds.Unloaded file limit e k at o item given _ _ refl (λ n. refl) (named ∙ ap Some (sym taken)));
 }

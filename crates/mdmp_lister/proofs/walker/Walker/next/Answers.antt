@@ -1,6 +1,6 @@
 use Rattle.std.proofs.Common.{◌≡◌, None, Some, Ok, Err, refl, subst, sym}
 use Rattle.mdmp_lister.specs.declared.position.Position.TheVariants.{Within}
-use Rattle.mdmp_lister.specs.Lister.{AnswersNext, Leaves, ListerState}
+use Rattle.mdmp_lister.specs.Lister.{AnswersNext, NextLeaves, ListerState}
 use Rattle.mdmp_lister.specs.Meter.{counts_of}
 use Rattle.mdmp_lister.specs.Step.{stream_told}
 use Rattle.mdmp_lister.specs.Walk.Positions.{AnsweredFrom, mark_by, position_by}
@@ -48,7 +48,7 @@ returns-in-Ok-Some g c =
         refl,
         λ _. tt,
         record {
-          list = subst (λ (v : ListerState). Leaves (walked_by p w) (Ok (Some x)) v) (sym (walked_by-behind (stream_told s) n)) (item_leaves w n s x told sound p placed e);
+          list = subst (λ (v : ListerState). NextLeaves (walked_by p w) (Ok (Some x)) v) (sym (walked_by-behind (stream_told s) n)) (item_leaves w n s x told sound p placed e);
           position = rw begins refl;
           mark = rw begins refl;
           spent = request_spent w n c.self.inside.mark c.self.invariant.within p (Ok (Some s)) e;

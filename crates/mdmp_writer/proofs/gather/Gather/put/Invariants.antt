@@ -1,5 +1,5 @@
 use Rattle.std.proofs.Common.{◌≡◌, ◌≤◌, ◌-◌, length, take}
-use Rattle.mdmp_writer.specs.Gather.{gathered, Puts}
+use Rattle.mdmp_writer.specs.Gather.{gathered, Gathers}
 use Rattle.mdmp_writer.proofs.gather.Gather.put.Given as goal
 
 abbrev pub invariant-loop-at : goal.invariant-loop-at
@@ -7,7 +7,7 @@ invariant-loop-at g l =
     let state = g.O.Out.state in
     record {
       within : l.at ≤ length l.bytes;
-      puts : Puts (gathered (state l.fn.out) l.fn.self) (take l.at l.bytes) (gathered (state l.out) l.self);
+      puts : Gathers (gathered (state l.fn.out) l.fn.self) (take l.at l.bytes) (gathered (state l.out) l.self);
       steady : (state l.out).failures ≡ (state l.fn.out).failures;
     }
 

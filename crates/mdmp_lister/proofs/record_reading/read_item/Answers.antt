@@ -4,7 +4,7 @@ use Rattle.mdmp_wire.specs.AnyRecord.{name_rva}
 use Rattle.mdmp_lister.specs.Fault.{source_of}
 use Rattle.mdmp_lister.specs.Following.{of_name}
 use Rattle.mdmp_lister.proofs.Fetches.{IsCaused_later}
-use Rattle.mdmp_lister.proofs.recording.read_item.Goals as goal
+use Rattle.mdmp_lister.proofs.record_reading.read_item.Goals as goal
 
 pub returns-in-Ok-clause-some : goal.returns-in-Ok-clause-some
 returns-in-Ok-clause-some g c =

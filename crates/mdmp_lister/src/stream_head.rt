@@ -6,7 +6,7 @@ ghost use Rattle.mdmp_lister.specs.Fetching.{BeginsStream, IsHeadOf, ReadsHead, 
 ghost use Rattle.mdmp_lister.specs.Following.{IsSomeHead, IsSomeShape};
 ghost use Rattle.mdmp_lister.specs.Format.Kind.{form_of, greatest_record, record_size};
 ghost use Rattle.mdmp_lister.specs.Format.Numbers.{maybe_name};
-ghost use Rattle.mdmp_lister.specs.Heading.{IsShort};
+ghost use Rattle.mdmp_lister.specs.StreamHead.{IsShort};
 ghost use Rattle.mdmp_lister.specs.Format.Shape.{head_cost, head_size, shape_of};
 ghost use Rattle.mdmp_lister.specs.Fault.{Answers};
 
@@ -14,7 +14,7 @@ use crate::fault::{Fault, FaultKind, faulted};
 use crate::fetching::{fetch_front, first_of};
 use crate::form::Form;
 use crate::holding::hold;
-use crate::kind::Kind;
+use crate::kind::StreamKind;
 use crate::meter::Meter;
 use crate::shape::{Shape, counted, ranges64, single, sized, widened};
 use mdmp_source::{Location, Store, Window};
@@ -35,7 +35,7 @@ pub(crate) struct Head {
 const GREATEST_HEAD: usize = 16;
 
 /// A stream that is too short for its head, or for its one record, has that fault.
-fn check_head(at: Location, kind: Kind) -> Result<(), Fault>
+fn check_head(at: Location, kind: StreamKind) -> Result<(), Fault>
     ensures room { IfOk result (λ _. head_size (form_of kind) (record_size kind) ≤ at.size) }
     ensures short { IfErr result (IsShort at kind) }
 {
@@ -49,13 +49,13 @@ fn check_head(at: Location, kind: Kind) -> Result<(), Fault>
 /// What the head of a stream says, by its bytes, or the fault that it shows: a bad header size, a bad
 /// entry size, a bad count.
 #[tactic(auto, using(crate::proofs::Paying::few_records), unfolding(crate::specs::Format::Shape::shape_of, crate::specs::Following::IsSomeHead))]
-fn head_of(bytes: &[u8], at: Location, kind: Kind) -> Result<Head, Fault>
+fn head_of(bytes: &[u8], at: Location, kind: StreamKind) -> Result<Head, Fault>
     requires bytes { length bytes.now ≡ head_cost (form_of kind) }
     requires room { head_size (form_of kind) (record_size kind) ≤ at.size }
     ensures shape { (file : List ℕ) → bytes.now ≡ bytes_at file at.rva (length bytes.now)
         → Answers (shape_of file at.rva at.size kind) (λ head. head.shape) result }
     ensures base { (file : List ℕ) → bytes.now ≡ bytes_at file at.rva (length bytes.now)
-        → kind ≡ Kind.Memory64 → IfOk result (λ head. head.base ≡ number_at file (at.rva + 8) 8) }
+        → kind ≡ StreamKind.Memory64 → IfOk result (λ head. head.base ≡ number_at file (at.rva + 8) 8) }
     ensures head { IfOk result (IsHeadOf at.size kind) }
     // A fault is neither one of the store nor one of a name.
     ensures fault { IfErr result (λ fault. maybe_name fault.kind ≡ 0) }
@@ -97,13 +97,13 @@ fn head_of(bytes: &[u8], at: Location, kind: Kind) -> Result<Head, Fault>
 pub(crate) fn fetch_head<S: Store>(
     meter: &mut Meter<S>,
     at: Location,
-    kind: Kind,
+    kind: StreamKind,
 ) -> Result<Head, Fault>
     requires { IsInside at.rva at.size meter.old.source.size }
     ensures shape { (file : List ℕ) → meter.old.source.store.content ≡ Some file
         → Answers (shape_of file at.rva at.size kind) (λ head. head.shape) result }
     ensures base { (file : List ℕ) → meter.old.source.store.content ≡ Some file
-        → kind ≡ Kind.Memory64 → IfOk result (λ head. head.base ≡ number_at file (at.rva + 8) 8) }
+        → kind ≡ StreamKind.Memory64 → IfOk result (λ head. head.base ≡ number_at file (at.rva + 8) 8) }
     ensures head { IfOk result (IsHeadOf at.size kind) }
     ensures reads { ReadsHead at.size kind result meter.old meter.new }
 {
@@ -124,14 +124,14 @@ pub(crate) fn begin_stream<S: Store, A: Allocator>(
     meter: &mut Meter<S>,
     window: &mut Window<A>,
     at: Location,
-    kind: Kind,
+    kind: StreamKind,
 ) -> Result<Head, Fault>
     requires inside { IsInside at.rva at.size meter.old.source.size }
     requires room { greatest_record ≤ window.old.room }
     ensures shape { (file : List ℕ) → meter.old.source.store.content ≡ Some file
         → Answers (shape_of file at.rva at.size kind) (λ head. head.shape) result }
     ensures base { (file : List ℕ) → meter.old.source.store.content ≡ Some file
-        → kind ≡ Kind.Memory64 → IfOk result (λ head. head.base ≡ number_at file (at.rva + 8) 8) }
+        → kind ≡ StreamKind.Memory64 → IfOk result (λ head. head.base ≡ number_at file (at.rva + 8) 8) }
     ensures head { IfOk result (IsHeadOf at.size kind) }
     ensures begins { BeginsStream at result meter.old meter.new window.old window.new }
     ensures some { IsSomeShape at kind (shape_told result) }

@@ -2,12 +2,12 @@ use Rattle.std.proofs.Common.{◌≡◌, ◌∙◌, ◌+◌, ◌*◌, ◌++◌, 
 use Rattle.std.specs.List.{range_with_len}
 use Rattle.std.proofs.lemmas.List.FromFn.{length-map-range_with_len, map-range_with_len_more}
 use Rattle.mdmp_wire.specs.Entry.{entry_at}
-use Rattle.mdmp_c.specs.declared.heading.StreamRow.{StreamRow}
+use Rattle.mdmp_c.specs.declared.header_rows.StreamRow.{StreamRow}
 use Rattle.mdmp_c.specs.Directory.{stream_row}
 use Rattle.mdmp_c.specs.Giving.{put_front, told_count}
 use Rattle.mdmp_c.proofs.Directories.{entry_inside}
 use Rattle.mdmp_c.proofs.Gathered.{put_front-nothing}
-use Rattle.mdmp_c.proofs.heading.fill_streams.Goals as goal
+use Rattle.mdmp_c.proofs.header_rows.fill_streams.Goals as goal
 
 pub get_at-entry-requires : goal.get_at-entry-requires
 get_at-entry-requires c = entry_inside c.args.at c.args.count c.loop-number.number (length c.args.file.now) c.requires c.loop-number-test.true

@@ -6,28 +6,28 @@ use Rattle.mdmp_wire.specs.declared.entry.Entry.{Entry}
 use Rattle.mdmp_lister.specs.declared.choice.Choice.{Choice}
 use Rattle.mdmp_lister.specs.declared.fault.Fault.{Fault}
 use Rattle.mdmp_lister.specs.declared.fault.FaultKind.TheVariants.{ShortStream}
-use Rattle.mdmp_lister.specs.declared.kind.Kind.{Kind}
+use Rattle.mdmp_lister.specs.declared.kind.StreamKind.{StreamKind}
 use Rattle.mdmp_lister.specs.Format.Listing.{is_chosen}
 use Rattle.mdmp_lister.specs.Format.Kind.{form_of, kind_of, lists_ranges, record_size}
 use Rattle.mdmp_lister.specs.Format.Shape.{head_cost, head_size}
 
 -- a stream of this kind is too short for its head, or for its one record, and has this fault
-pub record IsShort (at : Location) (kind : Kind) (fault : Fault) : Type 0 where
+pub record IsShort (at : Location) (kind : StreamKind) (fault : Fault) : Type 0 where
   pub less : at.size < head_size (form_of kind) (record_size kind)
   pub is : fault ≡ record { kind = ShortStream; offset = at.rva; size = at.size }
 
 -- the bytes that are fetched of a head, of a stream of so many bytes: none of one that is too short
-abbrev pub head_spent : ℕ → Kind → ℕ
+abbrev pub head_spent : ℕ → StreamKind → ℕ
 head_spent size kind = if nat_lt size (head_size (form_of kind) (record_size kind)) then 0 else head_cost (form_of kind)
 
 -- those of an entry of this kind in a file of z bytes: none of a stream that does not lie inside
-abbrev pub head_inside : ℕ → Entry → Kind → ℕ
+abbrev pub head_inside : ℕ → Entry → StreamKind → ℕ
 head_inside z e kind = if is_inside e.location.rva e.location.size z then head_spent e.location.size kind else 0
 
 -- ---- as a file is opened
 
 -- the heads of memory lists, and no others
-abbrev pub ahead_by : ℕ → Entry → Option Kind → ℕ
+abbrev pub ahead_by : ℕ → Entry → Option StreamKind → ℕ
 ahead_by z e (Some kind) = if lists_ranges kind then head_inside z e kind else 0
 ahead_by z e None = 0
 

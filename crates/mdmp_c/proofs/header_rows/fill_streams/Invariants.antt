@@ -3,7 +3,7 @@ use Rattle.std.specs.List.{range_with_len}
 use Rattle.mdmp_wire.specs.Entry.{entry_at}
 use Rattle.mdmp_c.specs.Directory.{stream_row}
 use Rattle.mdmp_c.specs.Giving.{put_front}
-use Rattle.mdmp_c.proofs.heading.fill_streams.Given as goal
+use Rattle.mdmp_c.proofs.header_rows.fill_streams.Given as goal
 
 -- the first entries stand in the array
 abbrev pub invariant-loop-number : goal.invariant-loop-number

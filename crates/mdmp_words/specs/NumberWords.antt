@@ -5,7 +5,7 @@ use Rattle.std.specs.Char.{is_digit}
 use Rattle.std.specs.Option.{option_and_then}
 use Rattle.std.specs.Str.Parse.{digits_value}
 use Rattle.mdmp_map.specs.Ranges.{address_end}
-use Rattle.mdmp_words.specs.declared.hex_words.Span.{Span}
+use Rattle.mdmp_words.specs.declared.number_words.Span.{Span}
 
 -- ---- numbers
 

@@ -1,7 +1,7 @@
 use Rattle.std.proofs.Common.{◌≡◌, arith, take}
 use Rattle.mdmp_source.specs.Range.{bytes_at}
 use Rattle.mdmp_lister.proofs.RecordItems.{kind_told-at, record-fetched}
-use Rattle.mdmp_lister.proofs.recording.read_record.Goals as goal
+use Rattle.mdmp_lister.proofs.record_reading.read_record.Goals as goal
 
 pub returns-clause-kind : goal.returns-clause-kind
 returns-clause-kind g c = rw c.record_of.ensures (kind_told-at c.args.kind _ 0)

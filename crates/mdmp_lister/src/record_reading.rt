@@ -13,7 +13,7 @@ ghost use Rattle.mdmp_lister.specs.Step.{step_item};
 use crate::fault::Fault;
 use crate::fetching::{NameRead, read_name};
 use crate::holding::hold;
-use crate::kind::Kind;
+use crate::kind::StreamKind;
 use crate::meter::Meter;
 use crate::step::{RecordRead, Step};
 use mdmp_source::{SourceFault, Store, Window};
@@ -24,19 +24,19 @@ use mdmp_wire::{
 use std::alloc::Allocator;
 
 /// The record of these bytes, of a stream of this kind.
-fn record_of(kind: Kind, bytes: &[u8]) -> AnyRecord
+fn record_of(kind: StreamKind, bytes: &[u8]) -> AnyRecord
     requires { length bytes.now ≡ record_size kind }
     ensures { result ≡ record_at kind bytes.now 0 }
 {
     match kind {
-        Kind::Threads => AnyRecord::Thread(ThreadRecord::read(bytes)),
-        Kind::Modules => AnyRecord::Module(ModuleRecord::read(bytes)),
-        Kind::Memory => AnyRecord::Memory(Descriptor::read(bytes)),
-        Kind::Exception => AnyRecord::Exception(ExceptionRecord::read(bytes)),
-        Kind::System => AnyRecord::System(SystemRecord::read(bytes)),
-        Kind::Memory64 => AnyRecord::Memory64(Descriptor64::read(bytes)),
-        Kind::Unloaded => AnyRecord::Unloaded(UnloadedRecord::read(bytes)),
-        Kind::MemoryInfo => AnyRecord::MemoryInfo(MemoryInfoRecord::read(bytes)),
+        StreamKind::Threads => AnyRecord::Thread(ThreadRecord::read(bytes)),
+        StreamKind::Modules => AnyRecord::Module(ModuleRecord::read(bytes)),
+        StreamKind::Memory => AnyRecord::Memory(Descriptor::read(bytes)),
+        StreamKind::Exception => AnyRecord::Exception(ExceptionRecord::read(bytes)),
+        StreamKind::System => AnyRecord::System(SystemRecord::read(bytes)),
+        StreamKind::Memory64 => AnyRecord::Memory64(Descriptor64::read(bytes)),
+        StreamKind::Unloaded => AnyRecord::Unloaded(UnloadedRecord::read(bytes)),
+        StreamKind::MemoryInfo => AnyRecord::MemoryInfo(MemoryInfoRecord::read(bytes)),
     }
 }
 
@@ -44,7 +44,7 @@ fn record_of(kind: Kind, bytes: &[u8]) -> AnyRecord
 fn read_record<S: Store, A: Allocator>(
     meter: &mut Meter<S>,
     window: &mut Window<A>,
-    kind: Kind,
+    kind: StreamKind,
     at: u64,
 ) -> Result<AnyRecord, SourceFault>
     requires { IsAhead meter.old.source at (record_size kind) window.old }
@@ -65,7 +65,7 @@ pub(crate) fn read_item<S: Store, A: Allocator>(
     meter: &mut Meter<S>,
     window: &mut Window<A>,
     buffer: &mut [u8],
-    kind: Kind,
+    kind: StreamKind,
     entry: u32,
     index: u64,
     at: u64,
@@ -74,7 +74,7 @@ pub(crate) fn read_item<S: Store, A: Allocator>(
     requires ahead { IsAhead meter.old.source at (record_size kind) window.old }
     requires small { length buffer.old < 2 ^ 32 }
     ensures item { (file : List ℕ) → meter.old.source.store.content ≡ Some file → (stream : ℕ)
-        → (kind ≡ Kind.Memory64 → offset ≡ range_offset file stream index)
+        → (kind ≡ StreamKind.Memory64 → offset ≡ range_offset file stream index)
         → Answers (item_at file (length buffer.new) entry index stream at kind) (step_item meter.old.source.size buffer.new) result }
     ensures tells { IfOk result (TellsRecord (length buffer.new) kind) }
     ensures length { length buffer.new ≡ length buffer.old }

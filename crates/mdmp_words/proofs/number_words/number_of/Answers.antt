@@ -1,7 +1,7 @@
 use Rattle.std.proofs.Common.{◌≢◌, ◌∙◌, get_or, arith}
 use Rattle.std.proofs.lemmas.Str.Pattern.{starts_char}
 use Rattle.mdmp_words.proofs.WordLemmas.{read_number}
-use Rattle.mdmp_words.proofs.hex_words.number_of.Goals as goal
+use Rattle.mdmp_words.proofs.number_words.number_of.Goals as goal
 
 pub returns : goal.returns
 returns c =
