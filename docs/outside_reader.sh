@@ -3,12 +3,12 @@
 # finds in the dump and in the file that was written: LLVM's obj2yaml, which prints a dump's records,
 # names and bytes, and no place where they stand.
 #
-# It wants obj2yaml of LLVM 19 (Debian: llvm-19), and the program of crates/mdmp_rewrite, which
+# It wants obj2yaml of LLVM 19 (Debian: llvm-19), and the program of crates/mdmp_example_rewrite, which
 # 'rt run' leaves in that folder's out/. Both have another place in OBJ2YAML and REWRITE.
 set -eu
 cd "$(dirname "$0")/.."
 obj2yaml=${OBJ2YAML:-/usr/lib/llvm-19/bin/obj2yaml}
-rewrite=${REWRITE:-crates/mdmp_rewrite/out/mdmp_rewrite}
+rewrite=${REWRITE:-crates/mdmp_example_rewrite/out/mdmp_example_rewrite}
 folder=$(mktemp -d)
 trap 'rm -r "$folder"' EXIT
 status=0

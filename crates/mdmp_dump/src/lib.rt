@@ -20,6 +20,8 @@
 //! }
 //! ```
 //!
+//! `crates/mdmp_example_modules` is the whole of it, and is run.
+//!
 //! A [`DumpView`] is a dump given a record at a time, so that what takes one, as a writer does, need
 //! not hold it: of each stream the records, with 0 for their locations, and behind each the bytes of
 //! its name and its parts. [`Dump::view`] is that of a value, a [`ValueView`], which never answers a

@@ -5,7 +5,7 @@
 //! chosen entry, or at the first [`ListFault`], which names the entry, the item and the bytes that
 //! are bad.
 //! The definitions in `specs/Format` say exactly which items those are: `Listing.antt` first, and
-//! under it `StreamKind` and `Shape` (which streams have records, and where those stand), `Item` (what a
+//! under it `Kind` and `Shape` (which streams have records, and where those stand), `Item` (what a
 //! record gives), `Name` and `Refusal` (which files can't be listed at all).
 //!
 //! [`Lister`] lists a file through a window, one item at a time or all of them into a [`Sink`], or hands
@@ -27,6 +27,8 @@
 //!     if let Item::Module(module) = item { .. }
 //! }
 //! ```
+//!
+//! `crates/mdmp_lister_tests` lists files so.
 #![tactic(auto)]
 
 mod addressing;

@@ -16,6 +16,8 @@
 //! let place = map.find(0x1004); // offset 48, 12 left
 //! let gap = map.gap(0xff8); // 8
 //! ```
+//!
+//! `crates/mdmp_base_tests` makes these calls.
 #![tactic(auto)]
 
 mod finding;

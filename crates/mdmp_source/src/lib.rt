@@ -15,6 +15,8 @@
 //! let mut signature = [0; 4];
 //! source.fetch(0, &mut signature)?;
 //! ```
+//!
+//! `crates/mdmp_base_tests` fetches so, and `crates/mdmp_example_modules` opens a file of the system.
 #![tactic(auto)]
 
 mod block_out;

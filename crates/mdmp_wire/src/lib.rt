@@ -14,6 +14,8 @@
 //! let entry = Entry::read(&directory[..Entry::SIZE]);
 //! let name = UnitsRef::over(&units).to_utf8(alloc)?;
 //! ```
+//!
+//! `crates/mdmp_base_tests` makes these calls, and `crates/mdmp_example_modules` prints names.
 #![tactic(auto)]
 
 mod any_record;

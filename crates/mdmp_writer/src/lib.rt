@@ -12,6 +12,8 @@
 //! let size = write_dump(&mut dump.view(), &mut out, &mut buffer)?;
 //! ```
 //!
+//! `crates/mdmp_example_rewrite` is the whole of it, and is run.
+//!
 //! [`to_memory`] gives a dump's bytes in memory, and [`write_and_read`] reads them back: what comes back is
 //! the dump. A stream whose records are not known is written as its bytes, and offsets in them are not
 //! moved.
