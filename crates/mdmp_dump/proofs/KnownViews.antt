@@ -8,7 +8,6 @@ use Rattle.mdmp_lister.specs.Format.Listing.{Numbered, chosen}
 use Rattle.mdmp_dump.specs.declared.dump.Dump.{Dump}
 use Rattle.mdmp_dump.specs.declared.dump.Stream.{Stream}
 use Rattle.mdmp_dump.specs.declared.dump.Stream.TheVariants as streams
-use Rattle.mdmp_dump.specs.declared.view.HeaderFields.{HeaderFields}
 use Rattle.mdmp_dump.specs.EntryWalk.{WalkState, chosen_entry, kind_by, no_entry, pass_cost}
 use Rattle.mdmp_dump.specs.FileView.{IsViewed, cursor_by, file_shape, first_pass, header_fields, known_shape, pass_cursor, shape_by, stream_in, stream_of}
 use Rattle.mdmp_dump.specs.InFile.{dump_in, stream_named}

@@ -1,7 +1,7 @@
 -- What the opening of a file tells of the dump that it lays out.
 use Rattle.std.proofs.Common.{◌≡◌, ◌≤◌, ◌*◌, ℕ, List, length, Option, Some, None, Err, Bool, true, false, nat_lt, if◌then◌else◌, arith, ltb-false, refl, subst}
 use Rattle.std.proofs.lemmas.Grind.{common_steps}
-use Rattle.std.specs.Prelude.{IfSome, IsTrue, Ok, Result}
+use Rattle.std.specs.Prelude.{IfSome, IsTrue}
 use Rattle.mdmp_source.specs.Range.{is_inside}
 use Rattle.mdmp_source.specs.Source.{SourceState, FetchesAtMost}
 use Rattle.mdmp_source.specs.Store.{IsGood}

@@ -46,16 +46,16 @@ name_most (Absent n) = omega arith
 
 -- the bytes of what the records of each kind have are within its room
 module _ (p : PartAt) where
-  pub part_room_most : size_in p.size + 0 + 0 ≤ part_room p.size + 0
+  pub part_room_most : size_in p.size + 0 + 0 ≤ part_room p.size + 0 + 0 + 0
   part_room_most = omega (arith, part_most p.size)
 
-  pub name_room_most : size_in p.size + 0 + 0 ≤ name_room p.size + 0
+  pub name_room_most : size_in p.size + 0 + 0 ≤ name_room p.size + 0 + 0 + 0
   name_room_most = omega (arith, name_most p.size)
 
   pub far_room_most : size_in p.size + 0 + 0 ≤ 0 + size_in p.size
   far_room_most = omega arith
 
-  pub thread_room_most : (q : PartAt) → size_in p.size + size_in q.size + 0 ≤ part_room p.size + part_room q.size + 0
+  pub thread_room_most : (q : PartAt) → size_in p.size + size_in q.size + 0 ≤ part_room p.size + part_room q.size + 0 + 0
   thread_room_most q = omega (arith, part_most p.size, part_most q.size)
 
   pub module_room_most : (q r : PartAt) → size_in p.size + size_in q.size + size_in r.size ≤ name_room p.size + part_room q.size + part_room r.size + 0

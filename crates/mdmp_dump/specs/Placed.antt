@@ -1,12 +1,14 @@
 -- A record that a view gives, as it is written: one rule for all kinds.
 use Rattle.std.specs.Prelude.{ℕ, ◌+◌, List, [], ◌∷◌, ◌++◌, get_or}
 use Rattle.mdmp_source.specs.declared.location.Location.{Location}
-use Rattle.mdmp_wire.specs.AnyRecord.{any_bytes}
+use Rattle.mdmp_wire.specs.AnyRecord.{any_bytes, slots_of}
 use Rattle.mdmp_wire.specs.Number.{le, zeros}
 use Rattle.mdmp_dump.specs.declared.view.PartSize.{PartSize}
 use Rattle.mdmp_dump.specs.declared.view.PartSize.TheVariants.{NoPart, Size, Absent}
 use Rattle.mdmp_wire.specs.declared.any_record.AnyRecord.{AnyRecord}
 use Rattle.mdmp_wire.specs.declared.any_record.AnyRecord.TheVariants as any
+use Rattle.mdmp_wire.specs.declared.slot.Slot.{Slot}
+use Rattle.mdmp_wire.specs.declared.slot.Slot.TheVariants as slots
 use Rattle.mdmp_dump.specs.declared.view.Fields.{Fields}
 use Rattle.mdmp_dump.specs.Seen.{Seen, nowhere}
 use Rattle.mdmp_dump.specs.Places.{up, bytes_location}
@@ -79,29 +81,34 @@ placed f at = placed_by f.wire f at
 abbrev pub seen_row : Seen → ℕ → List ℕ
 seen_row s at = any_bytes (placed s.fields at)
 
+-- what slot k of a record is for
+abbrev pub slot_at : AnyRecord → ℕ → Slot
+slot_at w k = get_or (slots_of w) k slots.Empty
+
+-- what is written of it
+abbrev pub slot_text : Slot → PartSize → List ℕ → List ℕ
+slot_text slots.Empty size bytes = []
+slot_text slots.Name size bytes = name_around size bytes
+slot_text slots.Part size bytes = bytes
+
 abbrev pub parts_by : AnyRecord → Seen → List (List ℕ)
-parts_by (any.Thread r) s = bytes_in s 0 ∷ bytes_in s 1 ∷ []
-parts_by (any.Module r) s = name_around (size_at s.fields 0) (bytes_in s 0) ∷ bytes_in s 1 ∷ bytes_in s 2 ∷ []
-parts_by (any.Memory r) s = bytes_in s 0 ∷ []
-parts_by (any.Exception r) s = bytes_in s 0 ∷ []
-parts_by (any.System r) s = name_around (size_at s.fields 0) (bytes_in s 0) ∷ []
-parts_by (any.Memory64 r) s = []
-parts_by (any.Unloaded r) s = name_around (size_at s.fields 0) (bytes_in s 0) ∷ []
-parts_by (any.MemoryInfo r) s = []
+parts_by w s =
+    slot_text (slot_at w 0) (size_at s.fields 0) (bytes_in s 0)
+    ∷ slot_text (slot_at w 1) (size_at s.fields 1) (bytes_in s 1)
+    ∷ slot_text (slot_at w 2) (size_at s.fields 2) (bytes_in s 2) ∷ []
 
 abbrev pub seen_parts : Seen → List (List ℕ)
 seen_parts s = parts_by s.fields.wire s
 
--- the room that the parts of a record take
+-- the room that a slot takes
+abbrev pub slot_room : Slot → PartSize → ℕ
+slot_room slots.Empty size = 0
+slot_room slots.Name size = name_room size
+slot_room slots.Part size = part_room size
+
+-- the room that the name and parts of a record take
 abbrev pub room_by : AnyRecord → Fields → ℕ
-room_by (any.Thread r) f = part_room (size_at f 0) + part_room (size_at f 1)
-room_by (any.Module r) f = name_room (size_at f 0) + part_room (size_at f 1) + part_room (size_at f 2)
-room_by (any.Memory r) f = part_room (size_at f 0)
-room_by (any.Exception r) f = part_room (size_at f 0)
-room_by (any.System r) f = name_room (size_at f 0)
-room_by (any.Memory64 r) f = 0
-room_by (any.Unloaded r) f = name_room (size_at f 0)
-room_by (any.MemoryInfo r) f = 0
+room_by w f = slot_room (slot_at w 0) (size_at f 0) + slot_room (slot_at w 1) (size_at f 1) + slot_room (slot_at w 2) (size_at f 2)
 
 abbrev pub fields_room : Fields → ℕ
 fields_room f = room_by f.wire f

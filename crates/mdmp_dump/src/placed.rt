@@ -1,12 +1,12 @@
 //! A record as it is written, with the places of its name and parts.
 ghost use Rattle.std.specs.Prelude.{◌≡◌, ◌+◌, ◌<◌, ◌≤◌, ◌^◌};
 ghost use Rattle.mdmp_dump.specs.Places.{up};
-ghost use Rattle.mdmp_dump.specs.Placed.{address_of, far_room, fields_room, location_of, name_room, part_room, placed, size_in};
+ghost use Rattle.mdmp_dump.specs.Placed.{address_of, far_room, fields_room, location_of, name_room, part_room, placed, size_in, slot_room};
 
 use crate::view::{Fields, PartSize};
 use mdmp_source::Location;
 use mdmp_wire::{
-    AnyRecord, Descriptor, ExceptionRecord, ModuleRecord, SystemRecord, ThreadRecord,
+    AnyRecord, Descriptor, ExceptionRecord, ModuleRecord, Slot, SystemRecord, ThreadRecord,
     UnloadedRecord,
 };
 
@@ -30,16 +30,8 @@ impl Fields {
         ensures bound { result ≤ 2 ^ 70 }
     {
         let [first, second, third] = self.parts;
-        match self.wire {
-            AnyRecord::Thread(_) => part_room(first) + part_room(second),
-            AnyRecord::Module(_) => name_room(first) + part_room(second) + part_room(third),
-            AnyRecord::Memory(_) => part_room(first),
-            AnyRecord::Exception(_) => part_room(first),
-            AnyRecord::System(_) => name_room(first),
-            AnyRecord::Memory64(_) => 0,
-            AnyRecord::Unloaded(_) => name_room(first),
-            AnyRecord::MemoryInfo(_) => 0,
-        }
+        let [one, two, three] = self.wire.slots();
+        slot_room(one, first) + slot_room(two, second) + slot_room(three, third)
     }
 
     /// The record as it is written, where its name and its parts stand one behind the other from an
@@ -150,6 +142,18 @@ fn name_room(name: PartSize) -> u128
         PartSize::NoPart => 0,
         PartSize::Size(size) => up(4 + u128::from(size) + 2),
         PartSize::Absent(_) => 0,
+    }
+}
+
+/// What a slot takes.
+fn slot_room(slot: Slot, part: PartSize) -> u128
+    ensures same { result ≡ slot_room slot part }
+    ensures bound { result ≤ 2 ^ 64 + 8 }
+{
+    match slot {
+        Slot::Empty => 0,
+        Slot::Name => name_room(part),
+        Slot::Part => part_room(part),
     }
 }
 

@@ -1,5 +1,5 @@
 -- Texts that are not known, by how many bytes they have.
-use Rattle.std.proofs.Common.{◌≡◌, ◌≤◌, ◌<◌, ◌+◌, ◌-◌, ◌*◌, ℕ, Bool, true, false, List, [], ◌++◌, if◌then◌else◌, Option, Result, Ok, Err, length, take, drop, arith, refl, ap, subst, sym, ◌∙◌, length-append, length-drop, length-take}
+use Rattle.std.proofs.Common.{◌≡◌, ◌≤◌, ◌+◌, ◌*◌, ℕ, Bool, true, false, List, [], ◌++◌, if◌then◌else◌, Option, Result, Ok, Err, length, take, drop, arith, refl, ap, subst, sym, ◌∙◌, length-append, length-drop, length-take}
 use Rattle.std.specs.Prelude.{OnOk}
 use Rattle.std.proofs.Math.Seq.{take-add}
 use Rattle.mdmp_source.specs.Output.{OutState}

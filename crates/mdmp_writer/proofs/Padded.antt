@@ -1,16 +1,12 @@
 -- Parts that stand one behind the other, each padded.
-use Rattle.std.proofs.Common.{◌≡◌, ◌+◌, ℕ, List, [], ◌∷◌, ◌++◌, length, refl, ap, sym, ◌∙◌, append_assoc, append-nil, arith, length-append}
-use Rattle.mdmp_wire.specs.declared.any_record.AnyRecord.{AnyRecord}
-use Rattle.mdmp_wire.specs.declared.any_record.AnyRecord.TheVariants as any
-use Rattle.mdmp_wire.specs.declared.descriptor.Descriptor.{Descriptor}
-use Rattle.mdmp_wire.specs.declared.exception.ExceptionRecord.{ExceptionRecord}
-use Rattle.mdmp_wire.specs.declared.module.ModuleRecord.{ModuleRecord}
-use Rattle.mdmp_wire.specs.declared.system.SystemRecord.{SystemRecord}
-use Rattle.mdmp_wire.specs.declared.unloaded.UnloadedRecord.{UnloadedRecord}
+use Rattle.std.proofs.Common.{◌≡◌, ◌+◌, ℕ, List, [], ◌∷◌, ◌++◌, get_or, length, refl, ap, sym, ◌∙◌, append_assoc, append-nil, arith, length-append}
+use Rattle.mdmp_wire.specs.declared.slot.Slot.{Slot}
+use Rattle.mdmp_wire.specs.declared.slot.Slot.TheVariants.{Empty}
+use Rattle.mdmp_wire.specs.AnyRecord.{slots_of}
 use Rattle.mdmp_wire.specs.Number.{le, zeros}
 use Rattle.mdmp_wire.specs.NumberLaws.{length-le}
 use Rattle.mdmp_dump.specs.declared.view.Fields.{Fields}
-use Rattle.mdmp_dump.specs.Placed.{bytes_in, name_around, parts_by, seen_parts, size_at}
+use Rattle.mdmp_dump.specs.Placed.{bytes_in, parts_by, seen_parts, size_at, slot_text}
 use Rattle.mdmp_dump.specs.Seen.{Seen}
 use Rattle.mdmp_writer.specs.Written.{all_padded, padded, padding, parts_of}
 
@@ -19,21 +15,9 @@ unfolding all_padded
 all_padded-append [] qs = refl
 all_padded-append (p ∷ ps) qs = rw (append_assoc (padded p) (all_padded ps) (all_padded qs)) (ap (λ t. padded p ++ t) (all_padded-append ps qs))
 
-pub two_padded : (a b : List ℕ) → all_padded (a ∷ b ∷ []) ≡ padded a ++ padded b
+pub three_padded : (a b c : List ℕ) → all_padded (a ∷ b ∷ c ∷ []) ≡ padded a ++ padded b ++ padded c
 unfolding all_padded
-two_padded a b = ap (λ (t : List ℕ). padded a ++ t) (append-nil (padded b))
-
-one_padded : (a : List ℕ) → all_padded (a ∷ []) ≡ padded a
-unfolding all_padded
-one_padded a = append-nil (padded a)
-
-more_padded : (a : List ℕ) (ps : List (List ℕ)) → all_padded (a ∷ ps) ≡ padded a ++ all_padded ps
-unfolding all_padded
-more_padded a ps = refl
-
-none_padded : all_padded [] ≡ []
-unfolding all_padded
-none_padded = refl
+three_padded a b c = ap (λ (t : List ℕ). padded a ++ (padded b ++ t)) (append-nil (padded c)) ∙ sym (append_assoc (padded a) (padded b) (padded c))
 
 -- ---- names
 
@@ -47,38 +31,19 @@ around_units n b e =
     ∙ ap (λ (x : List ℕ). x ++ padding (4 + n + 2)) (sym (append_assoc (le 4 n) b (zeros 2)))
     ∙ ap (λ (k : ℕ). le 4 n ++ b ++ zeros 2 ++ padding k) (sym (length-around n b e))
 
--- a name as it is written
-abbrev pub name_text : Seen → Fields → List ℕ
-name_text x f = padded (name_around (size_at f 0) (bytes_in x 0))
-
 -- ---- the parts of a record, by its fields
 
-parts_as : (w : AnyRecord) (x : Seen) (f : Fields) → x.fields ≡ f → f.wire ≡ w → all_padded (seen_parts x) ≡ all_padded (parts_by w x)
-parts_as w x f same is = ap (λ (v : AnyRecord). all_padded (parts_by v x)) (ap (λ (h : Fields). h.wire) same ∙ is)
+-- a slot as it is written, of a record whose slots are these
+abbrev pub text_at : List Slot → Seen → Fields → ℕ → List ℕ
+text_at slots x f k = padded (slot_text (get_or slots k Empty) (size_at f k) (bytes_in x k))
 
-name_as : (x : Seen) (f : Fields) → x.fields ≡ f → padded (name_around (size_at x.fields 0) (bytes_in x 0)) ≡ name_text x f
-name_as x f same = ap (λ (h : Fields). padded (name_around (size_at h 0) (bytes_in x 0))) same
-
-pub memory_text : (r : Descriptor) (x : Seen) (f : Fields) → x.fields ≡ f → f.wire ≡ any.Memory r → all_padded (seen_parts x) ≡ padded (bytes_in x 0)
-memory_text r x f same is = parts_as (any.Memory r) x f same is ∙ one_padded (bytes_in x 0)
-
-pub exception_text : (r : ExceptionRecord) (x : Seen) (f : Fields) → x.fields ≡ f → f.wire ≡ any.Exception r → all_padded (seen_parts x) ≡ padded (bytes_in x 0)
-exception_text r x f same is = parts_as (any.Exception r) x f same is ∙ one_padded (bytes_in x 0)
-
-pub system_text : (r : SystemRecord) (x : Seen) (f : Fields) → x.fields ≡ f → f.wire ≡ any.System r → all_padded (seen_parts x) ≡ name_text x f
-system_text r x f same is = parts_as (any.System r) x f same is ∙ one_padded (name_around (size_at x.fields 0) (bytes_in x 0)) ∙ name_as x f same
-
-pub unloaded_text : (r : UnloadedRecord) (x : Seen) (f : Fields) → x.fields ≡ f → f.wire ≡ any.Unloaded r → all_padded (seen_parts x) ≡ name_text x f
-unloaded_text r x f same is = parts_as (any.Unloaded r) x f same is ∙ one_padded (name_around (size_at x.fields 0) (bytes_in x 0)) ∙ name_as x f same
-
-pub module_text : (r : ModuleRecord) (x : Seen) (f : Fields) → x.fields ≡ f → f.wire ≡ any.Module r
-    → all_padded (seen_parts x) ≡ name_text x f ++ all_padded (bytes_in x 1 ∷ bytes_in x 2 ∷ [])
-module_text r x f same is =
-    parts_as (any.Module r) x f same is ∙ more_padded (name_around (size_at x.fields 0) (bytes_in x 0)) (bytes_in x 1 ∷ bytes_in x 2 ∷ [])
-    ∙ ap (λ (t : List ℕ). t ++ all_padded (bytes_in x 1 ∷ bytes_in x 2 ∷ [])) (name_as x f same)
-
-pub no_text : (x : Seen) (f : Fields) (w : AnyRecord) → x.fields ≡ f → f.wire ≡ w → parts_by w x ≡ [] → all_padded (seen_parts x) ≡ []
-no_text x f w same is none = parts_as w x f same is ∙ ap all_padded none ∙ none_padded
+pub fields_text : (slots : List Slot) (x : Seen) (f : Fields) → slots ≡ slots_of f.wire → x.fields ≡ f
+    → all_padded (seen_parts x) ≡ text_at slots x f 0 ++ text_at slots x f 1 ++ text_at slots x f 2
+fields_text slots x f are same =
+    let text = λ (l : List Slot) (k : ℕ). slot_text (get_or l k Empty) (size_at f k) (bytes_in x k) in
+    ap (λ (h : Fields). all_padded (parts_by h.wire (record x { fields = h }))) same
+    ∙ ap (λ (l : List Slot). all_padded (text l 0 ∷ text l 1 ∷ text l 2 ∷ [])) (sym are)
+    ∙ three_padded (text slots 0) (text slots 1) (text slots 2)
 
 -- ---- the parts of records
 

@@ -5,11 +5,13 @@ use Rattle.std.proofs.lemmas.List.{nil_from_length}
 use Rattle.std.proofs.lemmas.List.Sums.{sum_by-cons}
 use Rattle.mdmp_wire.specs.declared.any_record.AnyRecord.{AnyRecord}
 use Rattle.mdmp_wire.specs.declared.any_record.AnyRecord.TheVariants as any
+use Rattle.mdmp_wire.specs.declared.slot.Slot.{Slot}
+use Rattle.mdmp_wire.specs.declared.slot.Slot.TheVariants as slots
 use Rattle.mdmp_dump.specs.declared.view.Kind.{Kind}
 use Rattle.mdmp_dump.specs.declared.view.Kind.TheVariants as kinds
 use Rattle.mdmp_dump.specs.declared.view.PartSize.{PartSize}
 use Rattle.mdmp_dump.specs.declared.view.PartSize.TheVariants.{NoPart, Size, Absent}
-use Rattle.mdmp_dump.specs.Placed.{bytes_in, fields_room, name_around, name_room, part_room, parts_by, room_by, size_at, size_in}
+use Rattle.mdmp_dump.specs.Placed.{bytes_in, fields_room, name_around, name_room, part_room, parts_by, room_by, size_at, size_in, slot_at, slot_room, slot_text}
 use Rattle.mdmp_dump.specs.Places.{up}
 use Rattle.mdmp_dump.specs.Seen.{Seen}
 use Rattle.mdmp_dump.specs.Shape.{AreOf, IsSized, ViewShape, StreamShape, asks_of, cost_at, fars, is_far, room_of, rooms, seen_at, shape_seen, stream_at, type_told, unused_shape}
@@ -114,35 +116,20 @@ name_empty NoPart b none = refl
 name_empty (Size n) b none = absurd (let h : up (4 + n + 2) ≡ 0 = none in omega (arith, h))
 name_empty (Absent n) b none = refl
 
-one_empty : (a : List ℕ) → padded a ≡ [] → all_padded (a ∷ []) ≡ []
-unfolding all_padded
-one_empty a e = rw e refl
-
-two_empty : (a b : List ℕ) → padded a ≡ [] → padded b ≡ [] → all_padded (a ∷ b ∷ []) ≡ []
-unfolding all_padded
-two_empty a b e f = rw (e, f) refl
-
 three_empty : (a b d : List ℕ) → padded a ≡ [] → padded b ≡ [] → padded d ≡ [] → all_padded (a ∷ b ∷ d ∷ []) ≡ []
 unfolding all_padded
 three_empty a b d e f h = rw (e, f, h) refl
 
-nothing_empty : all_padded [] ≡ []
-unfolding all_padded
-nothing_empty = refl
+slot_empty : (s : Slot) (p : PartSize) (b : List ℕ) → length b ≡ size_in p → slot_room s p ≡ 0 → padded (slot_text s p b) ≡ []
+slot_empty slots.Empty p b sized none = refl
+slot_empty slots.Name p b sized none = name_empty p b none
+slot_empty slots.Part p b sized none = part_empty p b sized none
 
 -- of a record
 parts_empty : (w : AnyRecord) (x : Seen) → IsSized x → room_by w x.fields ≡ 0 → all_padded (parts_by w x) ≡ []
-parts_empty (any.Thread r) x sized none =
-    two_empty (bytes_in x 0) (bytes_in x 1) (part_empty (size_at x.fields 0) (bytes_in x 0) (sized 0) (omega (arith, none))) (part_empty (size_at x.fields 1) (bytes_in x 1) (sized 1) (omega (arith, none)))
-parts_empty (any.Module r) x sized none =
-    three_empty (name_around (size_at x.fields 0) (bytes_in x 0)) (bytes_in x 1) (bytes_in x 2) (name_empty (size_at x.fields 0) (bytes_in x 0) (omega (arith, none)))
-    (part_empty (size_at x.fields 1) (bytes_in x 1) (sized 1) (omega (arith, none))) (part_empty (size_at x.fields 2) (bytes_in x 2) (sized 2) (omega (arith, none)))
-parts_empty (any.Memory r) x sized none = one_empty (bytes_in x 0) (part_empty (size_at x.fields 0) (bytes_in x 0) (sized 0) none)
-parts_empty (any.Exception r) x sized none = one_empty (bytes_in x 0) (part_empty (size_at x.fields 0) (bytes_in x 0) (sized 0) none)
-parts_empty (any.System r) x sized none = one_empty (name_around (size_at x.fields 0) (bytes_in x 0)) (name_empty (size_at x.fields 0) (bytes_in x 0) none)
-parts_empty (any.Memory64 r) x sized none = nothing_empty
-parts_empty (any.Unloaded r) x sized none = one_empty (name_around (size_at x.fields 0) (bytes_in x 0)) (name_empty (size_at x.fields 0) (bytes_in x 0) none)
-parts_empty (any.MemoryInfo r) x sized none = nothing_empty
+parts_empty w x sized none =
+    let empty = λ (k : ℕ). slot_empty (slot_at w k) (size_at x.fields k) (bytes_in x k) (sized k) in
+    three_empty _ _ _ (empty 0 (omega (arith, none))) (empty 1 (omega (arith, none))) (empty 2 (omega (arith, none)))
 
 rooms_first : (x : Seen) (xs : List Seen) → rooms (x ∷ xs) ≡ fields_room x.fields + rooms xs
 unfolding rooms

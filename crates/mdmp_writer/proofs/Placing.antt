@@ -15,10 +15,14 @@ use Rattle.mdmp_dump.specs.declared.part.Part.TheVariants.{Bytes, Absent}
 use Rattle.mdmp_dump.specs.LaysOut.{EachFrom}
 use Rattle.mdmp_dump.specs.Name.{IsName, NameFits}
 use Rattle.mdmp_dump.specs.Part.{IsPart, PartFits}
-use Rattle.mdmp_dump.specs.Placed.{address_of, fields_room, location_of, name_around, name_room, part_room, seen_parts, seen_row}
+use Rattle.mdmp_dump.specs.declared.view.PartSize.{PartSize}
+use Rattle.mdmp_dump.specs.declared.view.PartSize.TheVariants.{Size}
+use Rattle.mdmp_wire.specs.declared.slot.Slot.{Slot}
+use Rattle.mdmp_wire.specs.declared.slot.Slot.TheVariants as slots
+use Rattle.mdmp_dump.specs.Placed.{address_of, bytes_in, fields_room, location_of, name_around, name_room, part_room, seen_parts, seen_row, size_at, size_in, slot_at, slot_room, slot_text}
 use Rattle.mdmp_dump.specs.Places.{up}
 use Rattle.mdmp_dump.specs.Seen.{Seen, bytes_of, name_size, size_of, unit_bytes}
-use Rattle.mdmp_dump.specs.Shape.{rooms}
+use Rattle.mdmp_dump.specs.Shape.{IsSized, rooms}
 use Rattle.mdmp_writer.specs.Written.{all_padded, padded, padding, parts_of, rows}
 use Rattle.mdmp_writer.proofs.Standing.{Stands, stands_same, stands_first, stands_second, stands_inside, stands_le, stands_room, stands_bytes, stands_number}
 use Rattle.mdmp_writer.proofs.Padded.{all_padded-append, length-around}
@@ -42,6 +46,21 @@ length-nothing = refl
 
 pub length-last : (p : List ℕ) → length (all_padded (p ∷ [])) ≡ up (length p)
 length-last p = omega (arith, length-all_padded p [], length-nothing)
+
+-- what a slot is for takes its room
+slot_length : (s : Slot) (p : PartSize) (b : List ℕ) → length b ≡ size_in p → up (length (slot_text s p b)) ≡ slot_room s p
+slot_length slots.Empty p b sized = refl
+slot_length slots.Name (Size n) b sized = ap up (length-around n b sized)
+slot_length slots.Name p b sized = refl
+slot_length slots.Part (Size n) b sized = ap up sized
+slot_length slots.Part p b sized = ap up sized
+
+-- and so do the name and parts of a record
+pub sized_room : (s : Seen) → IsSized s → length (all_padded (seen_parts s)) ≡ fields_room s.fields
+sized_room s sized =
+    let text = λ (k : ℕ). slot_text (slot_at s.fields.wire k) (size_at s.fields k) (bytes_in s k) in
+    let len = λ (k : ℕ). slot_length (slot_at s.fields.wire k) (size_at s.fields k) (bytes_in s k) (sized k) in
+    omega (arith, length-all_padded (text 0) (text 1 ∷ text 2 ∷ []), length-all_padded (text 1) (text 2 ∷ []), length-last (text 2), len 0, len 1, len 2)
 
 -- the first of some parts, and the others behind it
 pub stands_part : (F : List ℕ) (at : ℕ) (p : List ℕ) (ps : List (List ℕ)) → Stands F at (all_padded (p ∷ ps)) → Stands F at p

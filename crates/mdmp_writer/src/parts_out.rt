@@ -1,6 +1,6 @@
 //! The names and parts of records to an output.
 ghost use Rattle.std.specs.Prelude.{◌≡◌, ◌<◌, ◌≤◌, ◌+◌, ◌-◌, ◌^◌, ◌++◌, ℕ, List, [], ◌∷◌, Some, length, get_or, OnOk};
-ghost use Rattle.mdmp_dump.specs.Placed.{fields_bytes, fields_room, name_around, name_room, part_room, seen_parts, size_at, size_in};
+ghost use Rattle.mdmp_dump.specs.Placed.{fields_bytes, fields_room, name_around, name_room, seen_parts, size_at, size_in, slot_room, slot_text};
 ghost use Rattle.mdmp_dump.specs.Places.{up};
 ghost use Rattle.mdmp_dump.specs.Seen.{Seen};
 ghost use Rattle.mdmp_dump.specs.Shape.{IsSized};
@@ -15,7 +15,7 @@ use crate::pieces::{put_padded, put_padding, put_part};
 use crate::record_bytes::put_record;
 use mdmp_dump::{DumpView, Fields, PartSize};
 use mdmp_source::Out;
-use mdmp_wire::AnyRecord;
+use mdmp_wire::Slot;
 
 /// Writes the units of a name, of so many bytes, and the zeros behind them: two, and those up to a
 /// multiple of 4.
@@ -23,15 +23,16 @@ fn put_units<V: DumpView, O: Out>(
     view: &mut V,
     out: &mut O,
     gather: &mut Gather<'_>,
+    which: usize,
     size: u64,
 ) -> Result<(), WriteFault>
-    requires within { size ≤ (V.cursor view.old).sizes 0 }
+    requires within { size ≤ (V.cursor view.old).sizes which }
     requires room { 4 + size + 2 < 2 ^ 64 }
     ensures shape { V.shape view.new ≡ V.shape view.old }
     ensures cursor { OnOk result (V.cursor view.new ≡ V.cursor view.old) }
-    ensures writes { (parts : List (List ℕ)) → (V.cursor view.old).parts ≡ Some parts → length (get_or parts 0 []) ≡ size
+    ensures writes { (parts : List (List ℕ)) → (V.cursor view.old).parts ≡ Some parts → length (get_or parts which []) ≡ size
         → Writes result (gathered (O.state out.old) gather.old)
-        (get_or parts 0 [] ++ zeros 2 ++ padding (4 + size + 2)) (gathered (O.state out.new) gather.new) }
+        (get_or parts which [] ++ zeros 2 ++ padding (4 + size + 2)) (gathered (O.state out.new) gather.new) }
     ensures some { OnOk result (PutsSome (gathered (O.state out.old) gather.old) (up (4 + size + 2) - 4) (gathered (O.state out.new) gather.new)) }
     ensures cause { HasCause (V.shape view.old).is_reliable result (O.state out.old) (O.state out.new) }
     ensures passed { (V.spent view.new).passed ≤ (V.spent view.old).passed }
@@ -39,7 +40,7 @@ fn put_units<V: DumpView, O: Out>(
     ensures told { IsToldBy result (V.spent view.new).fault }
     ensures moves { V.Moves view.old view.new }
 {
-    match put_part(view, out, gather, 0, size) {
+    match put_part(view, out, gather, which, size) {
         Ok(()) => match put_record(out, gather, &0u16) {
             Ok(()) => put_padding(out, gather, 4 + size + 2),
             Err(fault) => Err(fault),
@@ -53,14 +54,15 @@ fn put_name<V: DumpView, O: Out>(
     view: &mut V,
     out: &mut O,
     gather: &mut Gather<'_>,
+    which: usize,
     name: PartSize,
 ) -> Result<(), WriteFault>
-    requires within { size_in name ≤ (V.cursor view.old).sizes 0 }
+    requires within { size_in name ≤ (V.cursor view.old).sizes which }
     requires room { name_room name < 2 ^ 32 }
     ensures shape { V.shape view.new ≡ V.shape view.old }
     ensures cursor { OnOk result (V.cursor view.new ≡ V.cursor view.old) }
-    ensures writes { (parts : List (List ℕ)) → (V.cursor view.old).parts ≡ Some parts → length (get_or parts 0 []) ≡ size_in name
-        → Writes result (gathered (O.state out.old) gather.old) (padded (name_around name (get_or parts 0 []))) (gathered (O.state out.new) gather.new) }
+    ensures writes { (parts : List (List ℕ)) → (V.cursor view.old).parts ≡ Some parts → length (get_or parts which []) ≡ size_in name
+        → Writes result (gathered (O.state out.old) gather.old) (padded (name_around name (get_or parts which []))) (gathered (O.state out.new) gather.new) }
     ensures some { OnOk result (PutsSome (gathered (O.state out.old) gather.old) (name_room name) (gathered (O.state out.new) gather.new)) }
     ensures cause { HasCause (V.shape view.old).is_reliable result (O.state out.old) (O.state out.new) }
     ensures passed { (V.spent view.new).passed ≤ (V.spent view.old).passed }
@@ -71,41 +73,39 @@ fn put_name<V: DumpView, O: Out>(
     match name {
         PartSize::NoPart => Ok(()),
         PartSize::Size(size) => match put_record(out, gather, &(size as u32)) {
-            Ok(()) => put_units(view, out, gather, size),
+            Ok(()) => put_units(view, out, gather, which, size),
             Err(fault) => Err(fault),
         },
         PartSize::Absent(_) => Ok(()),
     }
 }
 
-/// Writes two parts.
-fn put_two<V: DumpView, O: Out>(
+/// Writes what a slot is for, of this size: a name with its length, or a part, and the zeros behind it.
+fn put_slot<V: DumpView, O: Out>(
     view: &mut V,
     out: &mut O,
     gather: &mut Gather<'_>,
     which: usize,
-    first: PartSize,
-    second: PartSize,
+    slot: Slot,
+    part: PartSize,
 ) -> Result<(), WriteFault>
-    requires which { which < 8 }
-    requires first { size_in first ≤ (V.cursor view.old).sizes which }
-    requires second { size_in second ≤ (V.cursor view.old).sizes (which + 1) }
+    requires within { size_in part ≤ (V.cursor view.old).sizes which }
+    requires room { slot_room slot part < 2 ^ 32 }
     ensures shape { V.shape view.new ≡ V.shape view.old }
     ensures cursor { OnOk result (V.cursor view.new ≡ V.cursor view.old) }
-    ensures writes { (parts : List (List ℕ)) → (V.cursor view.old).parts ≡ Some parts
-        → length (get_or parts which []) ≡ size_in first → length (get_or parts (which + 1) []) ≡ size_in second
-        → Writes result (gathered (O.state out.old) gather.old)
-        (all_padded (get_or parts which [] ∷ get_or parts (which + 1) [] ∷ [])) (gathered (O.state out.new) gather.new) }
-    ensures some { OnOk result (PutsSome (gathered (O.state out.old) gather.old) (part_room first + part_room second) (gathered (O.state out.new) gather.new)) }
+    ensures writes { (parts : List (List ℕ)) → (V.cursor view.old).parts ≡ Some parts → length (get_or parts which []) ≡ size_in part
+        → Writes result (gathered (O.state out.old) gather.old) (padded (slot_text slot part (get_or parts which []))) (gathered (O.state out.new) gather.new) }
+    ensures some { OnOk result (PutsSome (gathered (O.state out.old) gather.old) (slot_room slot part) (gathered (O.state out.new) gather.new)) }
     ensures cause { HasCause (V.shape view.old).is_reliable result (O.state out.old) (O.state out.new) }
     ensures passed { (V.spent view.new).passed ≤ (V.spent view.old).passed }
-    ensures asked { (V.spent view.new).asked ≤ (V.spent view.old).asked + size_in first + size_in second }
+    ensures asked { (V.spent view.new).asked ≤ (V.spent view.old).asked + size_in part }
     ensures told { IsToldBy result (V.spent view.new).fault }
     ensures moves { V.Moves view.old view.new }
 {
-    match put_padded(view, out, gather, which, first) {
-        Ok(()) => put_padded(view, out, gather, which + 1, second),
-        Err(fault) => Err(fault),
+    match slot {
+        Slot::Empty => Ok(()),
+        Slot::Name => put_name(view, out, gather, which, part),
+        Slot::Part => put_padded(view, out, gather, which, part),
     }
 }
 
@@ -130,18 +130,13 @@ fn put_fields_parts<V: DumpView, O: Out>(
     ensures moves { V.Moves view.old view.new }
 {
     let [first, second, third] = fields.parts;
-    match fields.wire {
-        AnyRecord::Thread(_) => put_two(view, out, gather, 0, first, second),
-        AnyRecord::Module(_) => match put_name(view, out, gather, first) {
-            Ok(()) => put_two(view, out, gather, 1, second, third),
+    let [one, two, three] = fields.wire.slots();
+    match put_slot(view, out, gather, 0, one, first) {
+        Ok(()) => match put_slot(view, out, gather, 1, two, second) {
+            Ok(()) => put_slot(view, out, gather, 2, three, third),
             Err(fault) => Err(fault),
         },
-        AnyRecord::Memory(_) => put_padded(view, out, gather, 0, first),
-        AnyRecord::Exception(_) => put_padded(view, out, gather, 0, first),
-        AnyRecord::System(_) => put_name(view, out, gather, first),
-        AnyRecord::Memory64(_) => Ok(()),
-        AnyRecord::Unloaded(_) => put_name(view, out, gather, first),
-        AnyRecord::MemoryInfo(_) => Ok(()),
+        Err(fault) => Err(fault),
     }
 }
 

@@ -1,5 +1,5 @@
 //! Files that change while a view of them is opened or written.
-use super::{Outcome, Written, reads_to_open, reads_to_write, written_by_turns};
+use super::{ViewOutcome, Written, reads_to_open, reads_to_write, written_by_turns};
 use crate::files::NAMED;
 use mdmp_test_support::{SIX, file_of_numbers};
 use std::alloc::Global;
@@ -20,13 +20,13 @@ fn changed(alloc: Global, six: &[u8], at: usize, byte: u8) -> Result<Vec<u8, Glo
 fn assert_length(rt: &impl Abort, turn: u64, written: &Written) {
     let bytes = written.bytes.len() as u64;
     match written.outcome {
-        Outcome::Refused(_) => assert_eq!(rt; bytes, 0, "at {turn}"),
-        Outcome::Wrote(size) => assert_eq!(rt;
+        ViewOutcome::Refused(_) => assert_eq!(rt; bytes, 0, "at {turn}"),
+        ViewOutcome::Wrote(size) => assert_eq!(rt;
             (bytes, size),
             (written.told, written.told),
             "at {turn}"
         ),
-        Outcome::Stopped(_) => assert!(rt; bytes < written.told, "at {turn}"),
+        ViewOutcome::Stopped(_) => assert!(rt; bytes < written.told, "at {turn}"),
     }
 }
 

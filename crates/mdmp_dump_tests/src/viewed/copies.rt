@@ -1,5 +1,5 @@
 //! What is written through a view is what is written of the value.
-use super::{Outcome, choice_of, write_over};
+use super::{ViewOutcome, choice_of, write_over};
 use crate::dump::built::read_chosen;
 use crate::dump::view::told_of;
 use crate::files::{NAMED, named};
@@ -38,15 +38,15 @@ fn by_value(
     alloc: Global,
     value: Result<Dump<Global>, ReadFault>,
     room: usize,
-) -> Result<(Outcome, Vec<u8, Global>), Fail> {
+) -> Result<(ViewOutcome, Vec<u8, Global>), Fail> {
     let dump = match value {
         Ok(dump) => dump,
-        Err(fault) => return Ok((Outcome::Refused(fault), Vec::new(alloc))),
+        Err(fault) => return Ok((ViewOutcome::Refused(fault), Vec::new(alloc))),
     };
     let mut out = open_out(alloc)?;
     let outcome = match write_value(&dump, &mut out, room) {
-        Ok(size) => Outcome::Wrote(size),
-        Err(fault) => Outcome::Stopped(fault),
+        Ok(size) => ViewOutcome::Wrote(size),
+        Err(fault) => ViewOutcome::Stopped(fault),
     };
     Ok((outcome, out.bytes().to_vec(alloc)?))
 }
@@ -195,7 +195,7 @@ fn fault_of_the_listing_is_that_of_the_value(rt: HostRuntime) -> Result<(), Fail
 fn type_that_has_no_place_is_not_written(rt: HostRuntime) -> Result<(), Fail> {
     let six = file_of_numbers(rt.alloc(), 6, &SIX)?;
     let written = write_over(rt.alloc(), MemoryStore::new(&six), NAMED, &[200000], 1)?;
-    assert_same(&rt, written.outcome, Outcome::Wrote(32));
+    assert_same(&rt, written.outcome, ViewOutcome::Wrote(32));
     assert_same(&rt, written.bytes.as_slice(), header_of(0, 32).as_slice());
     Ok(())
 }

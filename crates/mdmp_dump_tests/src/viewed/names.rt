@@ -1,5 +1,5 @@
 //! Names through a view.
-use super::{Outcome, write_over};
+use super::{ViewOutcome, write_over};
 use crate::dump::built::read;
 use crate::files::named;
 use crate::same::assert_same;
@@ -17,15 +17,15 @@ const EIGHT: Limits = Limits {
 };
 
 /// What comes of writing an unloaded module whose name, at 80, is these bytes.
-fn outcome_of(rt: &HostRuntime, name: &[u8]) -> Result<(Outcome, Vec<u8, Global>), Fail> {
+fn outcome_of(rt: &HostRuntime, name: &[u8]) -> Result<(ViewOutcome, Vec<u8, Global>), Fail> {
     let file = named(rt, name)?;
     let written = write_over(rt.alloc(), MemoryStore::new(&file), EIGHT, &[14], 5)?;
     Ok((written.outcome, written.bytes))
 }
 
 /// A fault of the name of the unloaded module.
-fn fault(kind: FaultKind, offset: u64, size: u64) -> Outcome {
-    Outcome::Refused(ReadFault::List(ListFault {
+fn fault(kind: FaultKind, offset: u64, size: u64) -> ViewOutcome {
+    ViewOutcome::Refused(ReadFault::List(ListFault {
         entry: 0,
         index: Some(0),
         kind,
@@ -38,7 +38,7 @@ fn fault(kind: FaultKind, offset: u64, size: u64) -> Outcome {
 fn name_of_the_limit_is_written(rt: HostRuntime) -> Result<(), Fail> {
     let name = b"\x08\0\0\0a\0b\0c\0d\0";
     let (outcome, bytes) = outcome_of(&rt, name)?;
-    assert_same(&rt, outcome, Outcome::Wrote(96));
+    assert_same(&rt, outcome, ViewOutcome::Wrote(96));
     // Behind the record its length, its units, the zero that ends it, and two bytes up to a multiple of 4.
     let mut expected = named(&rt, name)?;
     expected.resize(96, 0)?;
@@ -54,7 +54,7 @@ fn name_of_two_bytes_more_is_too_long(rt: HostRuntime) -> Result<(), Fail> {
         index: 0,
         length: 10,
     };
-    assert_same(&rt, outcome, Outcome::Refused(long));
+    assert_same(&rt, outcome, ViewOutcome::Refused(long));
     assert_same(&rt, bytes.len(), 0);
     Ok(())
 }
@@ -62,7 +62,7 @@ fn name_of_two_bytes_more_is_too_long(rt: HostRuntime) -> Result<(), Fail> {
 #[test]
 fn name_of_no_bytes_is_written_in_eight(rt: HostRuntime) -> Result<(), Fail> {
     let (outcome, bytes) = outcome_of(&rt, b"\0\0\0\0")?;
-    assert_same(&rt, outcome, Outcome::Wrote(88));
+    assert_same(&rt, outcome, ViewOutcome::Wrote(88));
     let mut expected = named(&rt, b"\0\0\0\0")?;
     expected.resize(88, 0)?;
     assert_same(&rt, bytes.as_slice(), expected.as_slice());
@@ -75,14 +75,14 @@ fn name_that_is_not_there_is_not_written(rt: HostRuntime) -> Result<(), Fail> {
     numbers[11] = 0;
     let file = file_of_numbers(rt.alloc(), 1, &numbers)?;
     let written = write_over(rt.alloc(), MemoryStore::new(&file), EIGHT, &[14], 5)?;
-    assert_same(&rt, written.outcome, Outcome::Wrote(80));
+    assert_same(&rt, written.outcome, ViewOutcome::Wrote(80));
     assert_same(&rt, written.bytes.as_slice(), file.as_slice());
     Ok(())
 }
 
 #[test]
 fn bad_names_are_refused(rt: HostRuntime) -> Result<(), Fail> {
-    let rows: [(&[u8], Outcome); 4] = [
+    let rows: [(&[u8], ViewOutcome); 4] = [
         (b"\x03\0\0\0abc", fault(FaultKind::NameOdd, 80, 3)),
         (b"\x04\0\0\0abc", fault(FaultKind::NameUnitsOutside, 84, 4)),
         (b"\x04\0\0", fault(FaultKind::NameLengthOutside, 80, 4)),
@@ -110,7 +110,7 @@ fn first_fault_of_a_name_is_that_of_the_value(rt: HostRuntime) -> Result<(), Fai
         let (outcome, _) = outcome_of(&rt, name)?;
         assert_eq!(rt;
             Some(outcome),
-            value.err().map(|fault| Outcome::Refused(fault)),
+            value.err().map(|fault| ViewOutcome::Refused(fault)),
             "{name:?}"
         );
     }

@@ -1,5 +1,5 @@
 //! What is written through a view of small files, and what it holds, fetches and counts.
-use super::{Outcome, reads_to_open, write_over, written_by_turns};
+use super::{ViewOutcome, reads_to_open, write_over, written_by_turns};
 use crate::files::{LEAST, NAMED};
 use crate::same::assert_same;
 use mdmp_dump::{PartName, ReadFault, ViewFault};
@@ -17,7 +17,7 @@ fn open_succeeds(rt: HostRuntime) -> Result<(), Fail> {
     let parts: [&[u8]; 3] = [&header_of(1, 32), &entry(4, 328, 44), &list];
     let file = file_of_parts(rt.alloc(), &parts, 372)?;
     let written = write_over(rt.alloc(), MemoryStore::new(&file), LEAST, &[4], 168)?;
-    assert_same(&rt, written.outcome, Outcome::Wrote(372));
+    assert_same(&rt, written.outcome, ViewOutcome::Wrote(372));
     assert_same(&rt, written.bytes.as_slice(), file.as_slice());
     let counts = written.counts;
     assert!(rt; counts.held <= 168 + 24, "held {}", counts.held);
@@ -37,7 +37,7 @@ fn chosen_streams_are_written_from_the_room_of_the_directory(rt: HostRuntime) ->
     let six = file_of_numbers(rt.alloc(), 6, &SIX)?;
     let crash = file_of_numbers(rt.alloc(), 2, &CRASH)?;
     let written = write_over(rt.alloc(), MemoryStore::new(&six), LEAST, &[3, 6], 168)?;
-    assert_same(&rt, written.outcome, Outcome::Wrote(292));
+    assert_same(&rt, written.outcome, ViewOutcome::Wrote(292));
     assert_same(&rt, written.bytes.as_slice(), crash.as_slice());
     let counts = written.counts;
     assert!(rt; counts.held <= 312, "held {}", counts.held);
@@ -75,7 +75,7 @@ fn part_that_is_cut_off_gives_no_view(rt: HostRuntime) -> Result<(), Fail> {
         size: 1,
     };
     let written = write_over(rt.alloc(), MemoryStore::new(&file), LEAST, &[3], 168)?;
-    assert_same(&rt, written.outcome, Outcome::Refused(context));
+    assert_same(&rt, written.outcome, ViewOutcome::Refused(context));
     Ok(())
 }
 
@@ -99,7 +99,7 @@ fn list_that_has_become_shorter_is_told_as_changed(rt: HostRuntime) -> Result<()
     assert_same(
         &rt,
         written.outcome,
-        Outcome::Stopped(WriteFault::View(changed)),
+        ViewOutcome::Stopped(WriteFault::View(changed)),
     );
     Ok(())
 }

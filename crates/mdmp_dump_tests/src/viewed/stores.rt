@@ -1,5 +1,5 @@
 //! Views over stores that fail, and outputs that refuse.
-use super::{Outcome, write_over};
+use super::{ViewOutcome, write_over};
 use crate::dump::view::first_or_fault;
 use crate::files::{LEAST, NAMED};
 use crate::same::assert_same;
@@ -14,10 +14,10 @@ use std::process::Abort;
 use std::test::Fail;
 
 /// The fault of the store that an outcome tells.
-fn store_fault(outcome: Outcome) -> Option<SourceFault> {
+fn store_fault(outcome: ViewOutcome) -> Option<SourceFault> {
     match outcome {
-        Outcome::Refused(ReadFault::Opening(OpenFault::Source(fault))) => Some(fault),
-        Outcome::Refused(
+        ViewOutcome::Refused(ReadFault::Opening(OpenFault::Source(fault))) => Some(fault),
+        ViewOutcome::Refused(
             ReadFault::List(
                 ListFault {
                     kind: FaultKind::Source(fault),
@@ -25,7 +25,7 @@ fn store_fault(outcome: Outcome) -> Option<SourceFault> {
                 },
             ),
         ) => Some(fault),
-        Outcome::Stopped(WriteFault::View(ViewFault::Source(fault))) => Some(fault),
+        ViewOutcome::Stopped(WriteFault::View(ViewFault::Source(fault))) => Some(fault),
         _ => None,
     }
 }
@@ -43,7 +43,7 @@ fn calls_that_fail(
     for fail_at in 0..4000 {
         let store = PatchyStore::new(file, &[1], Some(fail_at));
         let written = write_over(alloc, store, limits, &[3, 6], room)?;
-        if written.outcome == Outcome::Wrote(expected.len() as u64) {
+        if written.outcome == ViewOutcome::Wrote(expected.len() as u64) {
             assert_same(rt, written.bytes.as_slice(), expected);
             return Ok(fail_at);
         }
@@ -76,7 +76,7 @@ fn store_of_few_bytes_a_call_gives_the_same_bytes(rt: HostRuntime) -> Result<(),
     for room in [1, 7, 4096] {
         let store = PatchyStore::new(&six, &[1, 3], None);
         let written = write_over(rt.alloc(), store, NAMED, &[], room)?;
-        assert_same(&rt, written.outcome, Outcome::Wrote(444));
+        assert_same(&rt, written.outcome, ViewOutcome::Wrote(444));
         assert_same(&rt, written.bytes.as_slice(), six.as_slice());
     }
     Ok(())

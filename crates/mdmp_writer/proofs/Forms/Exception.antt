@@ -13,11 +13,12 @@ use Rattle.mdmp_dump.specs.declared.exception.Exception.{Exception}
 use Rattle.mdmp_dump.specs.Exception.{ExceptionFits, IsException, exception_record, exception_seen}
 use Rattle.mdmp_dump.specs.Part.{IsPart}
 use Rattle.mdmp_dump.specs.Placed.{location_of}
-use Rattle.mdmp_dump.specs.Seen.{bytes_of, size_of}
+use Rattle.mdmp_dump.specs.Seen.{size_of}
 use Rattle.mdmp_dump.specs.declared.dump.Stream.TheVariants as streams
+use Rattle.mdmp_dump.specs.ShapeLaws.{part_sized, three_sized}
 use Rattle.mdmp_writer.proofs.Standing.{stands_record}
 use Rattle.mdmp_writer.proofs.Back.{LocationFits, location_back}
-use Rattle.mdmp_writer.proofs.Placing.{IsForm, is_part, length-last, location_fits, part_roomed, stands_part, length-parts}
+use Rattle.mdmp_writer.proofs.Placing.{IsForm, is_part, length-parts, location_fits, sized_room, stands_part}
 use Rattle.mdmp_writer.proofs.ReadBack.{IsReadBack, length-listed, records_stand}
 
 module _ {Z : Type 0} where
@@ -53,7 +54,7 @@ module _ {Z : Type 0} where
   exception_form : IsForm {X = Exception Z} 168 exception_seen ExceptionFits IsException
   exception_form = record {
     length_is = λ x at f. length-exception x _ f;
-    room_is = λ x. omega (arith, length-last (bytes_of x.context), part_roomed x.context);
+    room_is = λ x. sized_room (exception_seen x) (three_sized (exception_seen x).fields.wire _ _ _ _ _ _ (part_sized x.context) refl refl);
     reads = λ F o at x f pos low row parts.
         let context = location_of (size_of x.context) at in
         let back = exception_back x context f (location_fits at x.context f.context (omega (arith, low))) in

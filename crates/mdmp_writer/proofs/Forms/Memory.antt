@@ -12,11 +12,12 @@ use Rattle.mdmp_dump.specs.declared.memory.MemoryRange.{MemoryRange}
 use Rattle.mdmp_dump.specs.Memory.{IsMemory, MemoryFits, memory_record, memory_seen}
 use Rattle.mdmp_dump.specs.Part.{IsPart}
 use Rattle.mdmp_dump.specs.Placed.{location_of}
-use Rattle.mdmp_dump.specs.Seen.{bytes_of, size_of}
+use Rattle.mdmp_dump.specs.Seen.{size_of}
 use Rattle.mdmp_dump.specs.declared.dump.Stream.TheVariants as streams
+use Rattle.mdmp_dump.specs.ShapeLaws.{part_sized, three_sized}
 use Rattle.mdmp_writer.proofs.Standing.{stands_record}
 use Rattle.mdmp_writer.proofs.Back.{LocationFits, location_back}
-use Rattle.mdmp_writer.proofs.Placing.{IsForm, is_part, length-last, location_fits, part_roomed, stands_part, length-parts}
+use Rattle.mdmp_writer.proofs.Placing.{IsForm, is_part, length-parts, location_fits, sized_room, stands_part}
 use Rattle.mdmp_writer.specs.Written.{rows}
 use Rattle.mdmp_writer.proofs.ReadBack.{IsReadBack, length-listed, records_stand}
 use Rattle.mdmp_writer.proofs.Heads.{counted_shape}
@@ -33,7 +34,7 @@ module _ {Z : Type 0} where
   memory_form : IsForm {X = MemoryRange Z} 16 memory_seen MemoryFits IsMemory
   memory_form = record {
     length_is = λ x at f. length-memory x _;
-    room_is = λ x. omega (arith, length-last (bytes_of x.bytes), part_roomed x.bytes);
+    room_is = λ x. sized_room (memory_seen x) (three_sized (memory_seen x).fields.wire _ _ _ _ _ _ (part_sized x.bytes) refl refl);
     reads = λ F o at x f pos low row parts.
         let bytes = location_of (size_of x.bytes) at in
         let back = memory_back x bytes f (location_fits at x.bytes f.bytes (omega (arith, low))) in

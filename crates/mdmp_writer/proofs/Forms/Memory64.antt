@@ -18,8 +18,9 @@ use Rattle.mdmp_dump.specs.Memory64.{Memory64Fits, memory64_record, memory64_see
 use Rattle.mdmp_dump.specs.declared.dump.Stream.TheVariants as streams
 use Rattle.mdmp_dump.specs.LaysOut.{EachFrom, HasRecords}
 use Rattle.mdmp_dump.specs.Shape.{fars, rooms}
+use Rattle.mdmp_dump.specs.ShapeLaws.{three_sized}
 use Rattle.mdmp_writer.proofs.Standing.{stands_record, Stands, stands_bytes, stands_first, stands_inside, stands_second}
-use Rattle.mdmp_writer.proofs.Placing.{IsForm, length-nothing, length-parts, rows-length}
+use Rattle.mdmp_writer.proofs.Placing.{IsForm, length-parts, rows-length, sized_room}
 use Rattle.mdmp_writer.specs.Written.{all_padded, parts_of, ranges_text, rows}
 use Rattle.mdmp_writer.proofs.ReadBack.{IsReadBack, located, records_read}
 use Rattle.mdmp_writer.proofs.Heads.{shape_from}
@@ -83,7 +84,7 @@ module _ {Z : Type 0} where
   memory64_form : IsForm {X = Memory64Range Z} 16 memory64_seen RangeFits (λ F o x. descriptor64_at F o ≡ memory64_record x)
   memory64_form = record {
     length_is = λ x at f. length-memory64 x;
-    room_is = λ x. length-nothing;
+    room_is = λ x. sized_room (memory64_seen x) (three_sized (memory64_seen x).fields.wire _ _ _ _ _ _ refl refl refl);
     reads = λ F o at x f pos low row parts. stands_record descriptor64_at 16 descriptor64_at-part F o _ _ (length-memory64 x) (memory64_back x f) row;
   }
 

@@ -11,8 +11,9 @@ use Rattle.mdmp_lister.specs.declared.kind.StreamKind.TheVariants as kinds
 use Rattle.mdmp_lister.specs.Format.Shape.{shape_of}
 use Rattle.mdmp_dump.specs.MemoryInfo.{MemoryInfoFits, memory_info_seen}
 use Rattle.mdmp_dump.specs.declared.dump.Stream.TheVariants as streams
+use Rattle.mdmp_dump.specs.ShapeLaws.{three_sized}
 use Rattle.mdmp_writer.proofs.Standing.{stands_record, Stands, stands_first}
-use Rattle.mdmp_writer.proofs.Placing.{IsForm, length-nothing, length-parts}
+use Rattle.mdmp_writer.proofs.Placing.{IsForm, length-parts, sized_room}
 use Rattle.mdmp_writer.specs.Written.{rows}
 use Rattle.mdmp_writer.proofs.ReadBack.{IsReadBack, length-listed, records_stand}
 use Rattle.mdmp_writer.proofs.Heads.{shape_from, sized_shape}
@@ -54,7 +55,7 @@ length-memory_info x = refl
 memory_info_form : IsForm 48 memory_info_seen MemoryInfoFits (λ F o x. memory_info_at F o ≡ x)
 memory_info_form = record {
   length_is = λ x at f. length-memory_info x;
-  room_is = λ x. length-nothing;
+  room_is = λ x. sized_room (memory_info_seen x) (three_sized (memory_info_seen x).fields.wire _ _ _ _ _ _ refl refl refl);
   reads = λ F o at x f pos low row parts. stands_record memory_info_at 48 memory_info_at-part F o _ _ (length-memory_info x) (memory_info_back x f) row;
 }
 

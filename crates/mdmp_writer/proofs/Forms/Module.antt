@@ -1,5 +1,5 @@
 -- A list of modules is written, and read again.
-use Rattle.std.proofs.Common.{◌≡◌, ◌<◌, ◌^◌, ◌+◌, ℕ, [], ◌∷◌, length, refl, ap, sym, subst, ◌∙◌, arith, ◌*◌, List, map}
+use Rattle.std.proofs.Common.{◌≡◌, ◌<◌, ◌^◌, ◌+◌, ℕ, [], length, refl, ap, sym, subst, ◌∙◌, arith, ◌*◌, List, map}
 use Rattle.std.specs.Prelude.{All}
 use Rattle.mdmp_source.specs.declared.location.Location.{Location}
 use Rattle.mdmp_wire.specs.declared.module.ModuleRecord.{ModuleRecord}
@@ -15,11 +15,12 @@ use Rattle.mdmp_dump.specs.Module.{IsModule, ModuleFits, VersionFits, module_rec
 use Rattle.mdmp_dump.specs.Name.{IsName}
 use Rattle.mdmp_dump.specs.Part.{IsPart}
 use Rattle.mdmp_dump.specs.Placed.{address_of, location_of, name_room, part_room}
-use Rattle.mdmp_dump.specs.Seen.{bytes_of, name_size, size_of}
+use Rattle.mdmp_dump.specs.Seen.{name_size, size_of}
 use Rattle.mdmp_dump.specs.declared.dump.Stream.TheVariants as streams
+use Rattle.mdmp_dump.specs.ShapeLaws.{name_sized, part_sized, three_sized}
 use Rattle.mdmp_writer.proofs.Standing.{stands_record}
 use Rattle.mdmp_writer.proofs.Back.{LocationFits, location_back}
-use Rattle.mdmp_writer.proofs.Placing.{IsForm, address_fits, behind_name, behind_part, is_name, is_part, length-all_padded, length-last, location_fits, name_roomed, name_text, part_roomed, stands_part, length-parts}
+use Rattle.mdmp_writer.proofs.Placing.{IsForm, address_fits, behind_name, behind_part, is_name, is_part, length-parts, location_fits, sized_room, stands_part}
 use Rattle.mdmp_writer.specs.Written.{rows}
 use Rattle.mdmp_writer.proofs.ReadBack.{IsReadBack, length-listed, records_stand}
 use Rattle.mdmp_writer.proofs.Heads.{counted_shape}
@@ -66,19 +67,7 @@ module _ {Z : Type 0} where
   module_form : IsForm {X = Module Z} 108 module_seen ModuleFits IsModule
   module_form = record {
     length_is = λ x at f. length-module x _ _ _;
-    room_is = λ x.
-        let name = name_text x.name in
-        let codeview = bytes_of x.codeview in
-        let misc = bytes_of x.misc in
-        omega (
-          arith,
-          length-all_padded name (codeview ∷ misc ∷ []),
-          length-all_padded codeview (misc ∷ []),
-          length-last misc,
-          name_roomed x.name,
-          part_roomed x.codeview,
-          part_roomed x.misc,
-        );
+    room_is = λ x. sized_room (module_seen x) (three_sized (module_seen x).fields.wire _ _ _ _ _ _ (name_sized x.name) (part_sized x.codeview) (part_sized x.misc));
     reads = λ F o at x f pos low row parts.
         let place = at + name_room (name_size x.name) in
         let next = place + part_room (size_of x.codeview) in

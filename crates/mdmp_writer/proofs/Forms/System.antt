@@ -14,8 +14,9 @@ use Rattle.mdmp_dump.specs.Placed.{address_of}
 use Rattle.mdmp_dump.specs.Seen.{name_size}
 use Rattle.mdmp_dump.specs.System.{IsSystem, SystemFits, system_record, system_seen}
 use Rattle.mdmp_dump.specs.declared.dump.Stream.TheVariants as streams
+use Rattle.mdmp_dump.specs.ShapeLaws.{name_sized, three_sized}
 use Rattle.mdmp_writer.proofs.Standing.{stands_record}
-use Rattle.mdmp_writer.proofs.Placing.{IsForm, address_fits, is_name, length-last, name_roomed, name_text, stands_part, length-parts}
+use Rattle.mdmp_writer.proofs.Placing.{IsForm, address_fits, is_name, length-parts, sized_room, stands_part}
 use Rattle.mdmp_writer.proofs.ReadBack.{IsReadBack, length-listed, records_stand}
 
 module _ {Z : Type 0} where
@@ -44,7 +45,7 @@ module _ {Z : Type 0} where
   system_form : IsForm {X = System Z} 56 system_seen SystemFits IsSystem
   system_form = record {
     length_is = λ x at f. length-system x _ f;
-    room_is = λ x. omega (arith, length-last (name_text x.name), name_roomed x.name);
+    room_is = λ x. sized_room (system_seen x) (three_sized (system_seen x).fields.wire _ _ _ _ _ _ (name_sized x.name) refl refl);
     reads = λ F o at x f pos low row parts.
         let name = address_of (name_size x.name) at in
         let back = system_back x name f (address_fits at x.name (omega (arith, low))) in

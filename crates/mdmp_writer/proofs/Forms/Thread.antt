@@ -1,5 +1,5 @@
 -- A list of threads is written, and read again.
-use Rattle.std.proofs.Common.{◌≡◌, ◌+◌, [], ◌∷◌, length, refl, ap, sym, subst, ◌∙◌, arith, ◌*◌, List, map}
+use Rattle.std.proofs.Common.{◌≡◌, ◌+◌, [], length, refl, ap, sym, subst, ◌∙◌, arith, ◌*◌, List, map}
 use Rattle.std.specs.Prelude.{All}
 use Rattle.mdmp_source.specs.declared.location.Location.{Location}
 use Rattle.mdmp_wire.specs.declared.thread.ThreadRecord.{ThreadRecord}
@@ -11,12 +11,13 @@ use Rattle.mdmp_lister.specs.Format.Shape.{shape_of}
 use Rattle.mdmp_dump.specs.declared.thread.Thread.{Thread}
 use Rattle.mdmp_dump.specs.Part.{IsPart}
 use Rattle.mdmp_dump.specs.Placed.{location_of, part_room}
-use Rattle.mdmp_dump.specs.Seen.{bytes_of, size_of}
+use Rattle.mdmp_dump.specs.Seen.{size_of}
 use Rattle.mdmp_dump.specs.Thread.{IsThread, ThreadFits, thread_record, thread_seen}
 use Rattle.mdmp_dump.specs.declared.dump.Stream.TheVariants as streams
+use Rattle.mdmp_dump.specs.ShapeLaws.{part_sized, three_sized}
 use Rattle.mdmp_writer.proofs.Standing.{stands_record}
 use Rattle.mdmp_writer.proofs.Back.{LocationFits, location_back}
-use Rattle.mdmp_writer.proofs.Placing.{IsForm, behind_part, is_part, length-all_padded, length-last, location_fits, part_roomed, stands_part, length-parts}
+use Rattle.mdmp_writer.proofs.Placing.{IsForm, behind_part, is_part, length-parts, location_fits, sized_room, stands_part}
 use Rattle.mdmp_writer.specs.Written.{rows}
 use Rattle.mdmp_writer.proofs.ReadBack.{IsReadBack, length-listed, records_stand}
 use Rattle.mdmp_writer.proofs.Heads.{counted_shape}
@@ -42,10 +43,7 @@ module _ {Z : Type 0} where
   thread_form : IsForm {X = Thread Z} 48 thread_seen ThreadFits IsThread
   thread_form = record {
     length_is = λ x at f. length-thread x _ _;
-    room_is = λ x.
-        let stack = bytes_of x.stack in
-        let context = bytes_of x.context in
-        omega (arith, length-all_padded stack (context ∷ []), length-last context, part_roomed x.stack, part_roomed x.context);
+    room_is = λ x. sized_room (thread_seen x) (three_sized (thread_seen x).fields.wire _ _ _ _ _ _ (part_sized x.stack) (part_sized x.context) refl);
     reads = λ F o at x f pos low row parts.
         let place = at + part_room (size_of x.stack) in
         let stack = location_of (size_of x.stack) at in

@@ -15,8 +15,9 @@ use Rattle.mdmp_dump.specs.Placed.{address_of}
 use Rattle.mdmp_dump.specs.Seen.{name_size}
 use Rattle.mdmp_dump.specs.Unloaded.{IsUnloaded, UnloadedFits, unloaded_record, unloaded_seen}
 use Rattle.mdmp_dump.specs.declared.dump.Stream.TheVariants as streams
+use Rattle.mdmp_dump.specs.ShapeLaws.{name_sized, three_sized}
 use Rattle.mdmp_writer.proofs.Standing.{stands_record, Stands, stands_first}
-use Rattle.mdmp_writer.proofs.Placing.{IsForm, address_fits, is_name, length-last, name_roomed, name_text, stands_part, length-parts}
+use Rattle.mdmp_writer.proofs.Placing.{IsForm, address_fits, is_name, length-parts, sized_room, stands_part}
 use Rattle.mdmp_writer.specs.Written.{rows}
 use Rattle.mdmp_writer.proofs.ReadBack.{IsReadBack, length-listed, records_stand}
 use Rattle.mdmp_writer.proofs.Heads.{shape_from, sized_shape}
@@ -57,7 +58,7 @@ module _ {Z : Type 0} where
   unloaded_form : IsForm {X = Unloaded Z} 24 unloaded_seen UnloadedFits IsUnloaded
   unloaded_form = record {
     length_is = λ x at f. length-unloaded x _;
-    room_is = λ x. omega (arith, length-last (name_text x.name), name_roomed x.name);
+    room_is = λ x. sized_room (unloaded_seen x) (three_sized (unloaded_seen x).fields.wire _ _ _ _ _ _ (name_sized x.name) refl refl);
     reads = λ F o at x f pos low row parts.
         let name = address_of (name_size x.name) at in
         let back = unloaded_back x name f (address_fits at x.name (omega (arith, low))) in

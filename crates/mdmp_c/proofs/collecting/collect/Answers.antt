@@ -12,14 +12,14 @@ use Rattle.mdmp_c.proofs.collecting.collect.Goals as goal
 pub loop-item-init : goal.loop-item-init
 loop-item-init g c = record {
   source = search rules;
-  collected = λ file good run known. (run, (known, HasCollected-nothing g.T.Row.row_of run c.args.out.now));
+  collected = λ file good run known. (run, (known, HasCollected-nothing g.T.PlainRow.row_of run c.args.out.now));
 }
 
 pub returns-in-Ok-None : goal.returns-in-Ok-None
 returns-in-Ok-None g c = λ file good run known.
     let so_far = c.loop-item.invariant.collected file good run known in
     let end : so_far.0 ≡ nothing = rw c.in-Ok-None.field-0-is at (c.in-Ok-None.ensures.gives so_far.0 so_far.1.0) in
-    Collects-end g.T.Row.row_of run so_far.0 _ None _ _ so_far.1.1 end
+    Collects-end g.T.PlainRow.row_of run so_far.0 _ None _ _ so_far.1.1 end
 
 pub loop-item-preserved-in-Some : goal.loop-item-preserved-in-Some
 loop-item-preserved-in-Some g c =
@@ -33,7 +33,7 @@ loop-item-preserved-in-Some g c =
             tail before.0,
             (
               rw (c.in-Ok-Some.is, c.in-Ok-Some.field-0-is, before.1.0) at holds.list.left,
-              HasCollected-taken g.T.Row.row_of run before.0 _ _ _ _ _ (plain c.in-Ok-Some.item) c.in-Some.row before.1.1 first (sym c.of.ensures ∙ c.in-Some.is)
+              HasCollected-taken g.T.PlainRow.row_of run before.0 _ _ _ _ _ (plain c.in-Ok-Some.item) c.in-Some.row before.1.1 first (sym c.of.ensures ∙ c.in-Some.is)
                   c.saturating_add-count.ensures c.put.ensures,
             ),
           );
@@ -51,7 +51,7 @@ loop-item-preserved g c =
             tail before.0,
             (
               rw (c.in-Ok-Some.is, c.in-Ok-Some.field-0-is, before.1.0) at holds.list.left,
-              HasCollected-passed g.T.Row.row_of run before.0 _ _ _ (plain c.in-Ok-Some.item) before.1.1 first (sym c.of.ensures ∙ c.in_default.is),
+              HasCollected-passed g.T.PlainRow.row_of run before.0 _ _ _ (plain c.in-Ok-Some.item) before.1.1 first (sym c.of.ensures ∙ c.in_default.is),
             ),
           );
     }
@@ -62,4 +62,4 @@ returns-in-Err g c = λ file good run known.
     let fetched = c.loop-item.invariant.source.fetches in
     let now : IsGood c.loop-item.lister.source.store file = IsGood-later file _ _ _ fetched good in
     let end : so_far.0 ≡ only_fault c.in-Err.fault = c.in-Err.ensures.gives so_far.0 so_far.1.0 (c.in-Err.ensures.good file now) in
-    Collects-end g.T.Row.row_of run so_far.0 _ (Some c.in-Err.fault) _ _ so_far.1.1 end
+    Collects-end g.T.PlainRow.row_of run so_far.0 _ (Some c.in-Err.fault) _ _ so_far.1.1 end

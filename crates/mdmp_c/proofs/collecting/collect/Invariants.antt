@@ -10,7 +10,7 @@ abbrev pub invariant-loop-item : goal.invariant-loop-item
 invariant-loop-item g l = record {
   source : FetchesSome l.initial.lister.source l.lister.source;
   collected : (file : List ℕ) → IsGood l.initial.lister.source.store file → (run : Run) → l.initial.lister.left ≡ Some run
-      → (left : Run) × ((l.lister.left ≡ Some left) × HasCollected g.T.Row.row_of run left l.count l.initial.out l.out);
+      → (left : Run) × ((l.lister.left ≡ Some left) × HasCollected g.T.PlainRow.row_of run left l.count l.initial.out l.out);
 }
 
 abbrev pub decreases-loop-item : goal.decreases-loop-item

@@ -15,8 +15,8 @@ returns-in-Err g c =
     let file = c.args.file.now in
     let good : IsGood c.new-source.result.store file = search rules in
     let valid : AreLimits c.args.limits.now = c.in-Some.ensures.0 in
-    Ends-refused (IsTable g.T.Row.row_of file c.args.choice c.args.limits.now.name) file c.args.choice (AreLimits c.args.limits.now)
-    (no_rows g.T.Row.row_of file c.args.choice c.args.limits.now.name (AreLimits c.args.limits.now)) c.in-Err.refused.fault _ _ _ _ _ valid
+    Ends-refused (IsTable g.T.PlainRow.row_of file c.args.choice c.args.limits.now.name) file c.args.choice (AreLimits c.args.limits.now)
+    (no_rows g.T.PlainRow.row_of file c.args.choice c.args.limits.now.name (AreLimits c.args.limits.now)) c.in-Err.refused.fault _ _ _ _ _ valid
     (c.in-Err.ensures.opens file good.known) (c.in-Err.ensures.good file good)
     (c.refuse-in-Err.ensures.status ∙ ap status_of c.open_fault.ensures) c.refuse-in-Err.ensures.count
     (c.refuse-in-Err.ensures.fault ∙ c.open_fault.ensures) refl
@@ -34,9 +34,9 @@ returns g c =
     let rows = c.collect-collected.ensures file now run left in
     let name : c.in-Some.limits.name ≡ c.args.limits.now.name = c.in-Some.ensures.2 in
     let told = subst
-    (λ (n : ℕ). Collects g.T.Row.row_of (listing file choice n) c.collect-collected.result.count c.collect-collected.result.fault c.args.out.now c.collect-collected.new.out)
+    (λ (n : ℕ). Collects g.T.PlainRow.row_of (listing file choice n) c.collect-collected.result.count c.collect-collected.result.fault c.args.out.now c.collect-collected.new.out)
     name rows in
     rw c.tell.ensures.count
-    (Ends-collected g.T.Row.row_of file choice c.args.limits.now.name (AreLimits c.args.limits.now) c.tell.result c.collect-collected.result.count
+    (Ends-collected g.T.PlainRow.row_of file choice c.args.limits.now.name (AreLimits c.args.limits.now) c.tell.result c.collect-collected.result.count
     c.collect-collected.result.fault c.tell.new.fault c.args.out.now c.collect-collected.new.out valid (c.in-Ok.ensures.opens file good.known) told
     (λ n is. subst (λ (m : ℕ). c.tell.result ≡ (if nat_lt m n then 4 else status_of (list_told c.collect-collected.result.fault))) c.collect-collected.auto.out (rw c.list_end.ensures at (c.tell.ensures.status n is))) (c.tell.ensures.fault ∙ c.list_end.ensures))

@@ -13,7 +13,7 @@ use Rattle.mdmp_writer.proofs.parts_out.put_name.Goals as goal
 pub returns-in-Ok-clause-writes : goal.returns-in-Ok-clause-writes
 returns-in-Ok-clause-writes g c ps known len =
     let state = g.O.Out.state in
-    let b = get_or ps 0 [] in
+    let b = get_or ps c.args.which [] in
     let n = c.in-Size.size in
     let size : length b ≡ n = rw c.in-Size.is at len in
     rw c.in-Size.is
@@ -27,7 +27,7 @@ returns-in-Ok-clause-cause g c =
 
 pub returns-in-Err-clause-writes : goal.returns-in-Err-clause-writes
 returns-in-Err-clause-writes g c ps known len =
-    let b = get_or ps 0 [] in
+    let b = get_or ps c.args.which [] in
     let n = c.in-Size.size in
     let size : length b ≡ n = rw c.in-Size.is at len in
     rw c.in-Size.is (cut_same _ _ _ _ (sym (around_units n b size)) (cut_before _ _ (le 4 n) (b ++ zeros 2 ++ padding (4 + n + 2)) c.in-Err.ensures.writes))

@@ -11,7 +11,7 @@ use Rattle.mdmp_writer.proofs.parts_out.put_units.Goals as goal
 
 pub returns-in-Ok-put_record-clause-writes : goal.returns-in-Ok-put_record-clause-writes
 returns-in-Ok-put_record-clause-writes g c ps known len =
-    let b = get_or ps 0 [] in
+    let b = get_or ps c.args.which [] in
     writes_then c.put_padding.result _ _ _ (b ++ zeros 2) (padding (4 + c.args.size + 2))
     (puts_puts _ _ _ b (zeros 2) (c.in-Ok.ensures.writes ps known len) c.in-Ok-put_record.ensures.writes) c.put_padding.ensures.writes
 
@@ -23,7 +23,7 @@ returns-in-Ok-put_record-clause-cause g c =
 
 pub returns-in-Err-put_record-clause-writes : goal.returns-in-Err-put_record-clause-writes
 returns-in-Err-put_record-clause-writes g c ps known len =
-    let b = get_or ps 0 [] in
+    let b = get_or ps c.args.which [] in
     cut_before _ _ (b ++ zeros 2) (padding (4 + c.args.size + 2)) (cut_behind _ _ _ b (zeros 2) (c.in-Ok.ensures.writes ps known len) c.in-Err-put_record.ensures.writes)
 
 pub returns-in-Ok-put_record-clause-some : goal.returns-in-Ok-put_record-clause-some
