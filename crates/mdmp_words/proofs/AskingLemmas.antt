@@ -1,8 +1,5 @@
 -- From what a parse gives to what the words ask for.
-use Rattle.std.proofs.Common.{◌≡◌, ◌≢◌, ◌∙◌, sym, ap, subst, inl, inr, refl, Bool, true, false, cond, List, [], ◌∷◌, Option, Some, None, option_map, Bor, map, length, codes}
-use Rattle.std.specs.Bool.{Decides}
-use Rattle.std.specs.Str.{bytes_eq}
-use Rattle.std.proofs.lemmas.Slice.Eq.{bytes_eq-Decides}
+use Rattle.std.proofs.Common.{◌≡◌, ◌∙◌, sym, ap, subst, inl, inr, refl, true, List, [], ◌∷◌, Option, Some, None, option_map, Bor, map, length}
 use Rattle.clap.specs.Faults.{fault_of, is_simple_and_free}
 use Rattle.clap.specs.Words.{App, HasKind, HasMatchesOf, IsAmong, Row, Text, is_simple, kind_of, subcommand_name_of, subcommand_of, subcommand_rows_of}
 use Rattle.clap.specs.declared.error.Error.{Error}
@@ -11,10 +8,9 @@ use Rattle.clap.specs.declared.parser.matches.ArgMatches.{ArgMatches}
 use Rattle.clap.specs.declared.parser.matches.ArgMatches.TheViews.{out-ArgMatches}
 use Rattle.clap.proofs.OnLiterals.{clap_on_literals}
 use Rattle.mdmp_words.specs.CommandLine.{commands}
-use Rattle.mdmp_words.specs.Requests.{AreRefused, AsksFor, AsksIn, IsTextOf, NamesBy, faults, plain_request, request_by, request_in, request_named}
+use Rattle.mdmp_words.specs.Requests.{AreRefused, AsksFor, AsksIn, IsTextOf, faults, request_in, request_named}
 use Rattle.mdmp_words.specs.declared.request.Asked.{Asked}
 use Rattle.mdmp_words.specs.declared.request.Asked.TheVariants.{Run, Help, Refused, Bad, Memory}
-use Rattle.mdmp_words.specs.declared.request.Request.{Request}
 
 -- two parts of what may be there
 both : {X A B : Type 0} (f : X → A) (g : X → B) (x : Option X) (a : A) (b : B) → Some a ≡ option_map f x →
@@ -26,24 +22,6 @@ both f g (Some x) a b first second = cc
 pub used : (matches : ArgMatches) (name : Text) (rows : List Row) → Some name ≡ subcommand_name_of matches →
     Some rows ≡ option_map (λ p. p.1) (subcommand_rows_of matches) → subcommand_rows_of matches ≡ Some (name, rows)
 used matches name rows named parted = both _ _ (out-ArgMatches matches).subcommand name rows named parted
-
--- a value that is one where two words are equal, and another where they are not
-tested : {X : Type 0} (word other : Text) (value same unlike : X) → (word ≡ other → value ≡ same) → (word ≢ other → value ≡ unlike) →
-    value ≡ cond (bytes_eq word other) same unlike
-tested word other value same unlike where_same where_unlike = go (bytes_eq word other) (bytes_eq-Decides word other)
-  where
-    go : (test : Bool) → Decides test (word ≡ other) → value ≡ cond test same unlike
-    go true decides = where_same (decides.0 refl)
-    go false decides = where_unlike (λ e. let h : false ≡ true = decides.1 e in cc)
-
--- the request of a command, by its name
-pub named_by : (name : Text) (rows : List Row) (result : Option Request) → NamesBy name rows result → option_map plain_request result ≡ request_by name rows
-named_by name rows result names =
-    tested name (codes "check") _ _ _ names.checks
-    (λ no_check. tested name (codes "list") _ _ _ names.lists
-    (λ no_list. tested name (codes "hex") _ _ _ names.prints
-    (λ no_hex. tested name (codes "copy") _ _ _ names.copies
-    (λ no_copy. ap (option_map plain_request) (names.others no_check no_list no_hex no_copy)))))
 
 -- `clap` says of these commands which words it takes, and how it parts them
 are_free : is_simple_and_free commands ≡ true

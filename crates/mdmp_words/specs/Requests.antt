@@ -86,17 +86,9 @@ copy_named rows =
     (all_of (codes "TYPE") rows))
     (first_of (codes "OUT") rows)
 
--- the command of this name gives the request that its words ask for
-pub record NamesBy (name : Text) (rows : List Row) (result : Option Request) : Type 0 where
-  pub checks : name ≡ codes "check" → option_map plain_request result ≡ check_named rows
-  pub lists : name ≡ codes "list" → option_map plain_request result ≡ list_named rows
-  pub prints : name ≡ codes "hex" → option_map plain_request result ≡ hex_named rows
-  pub copies : name ≡ codes "copy" → option_map plain_request result ≡ copy_named rows
-  pub others : name ≢ codes "check" → name ≢ codes "list" → name ≢ codes "hex" → name ≢ codes "copy" → result ≡ None
-
 -- ---- what the words of a command line ask for
 
--- the request of the command of this name
+-- the request that the words of the command of this name ask for
 abbrev pub request_by : Text → List Row → Option Plain
 request_by name rows =
     if bytes_eq name (codes "check") then check_named rows

@@ -2,7 +2,7 @@
 ghost use Rattle.std.specs.Prelude.{◌≡◌, [], IfSome, map, option_map};
 ghost use Rattle.clap.specs.Words.{all_of, first_of, found_of, rows_of, subcommand_rows_of};
 ghost use Rattle.clap.specs.Values.{kind_of};
-ghost use Rattle.mdmp_words.specs.Requests.{AsksFor, AsksIn, AsksNothing, IsTextOf, IsValid, IsCommandWithin, NamesBy, check_named, copy_named, hex_named, is_set, list_named, named_over, plain_request, plain_command};
+ghost use Rattle.mdmp_words.specs.Requests.{AsksFor, AsksIn, AsksNothing, IsTextOf, IsValid, IsCommandWithin, check_named, copy_named, hex_named, is_set, list_named, named_over, plain_request, plain_command, request_by};
 
 use crate::command_line::command_line;
 use crate::number_words::span_of;
@@ -67,7 +67,7 @@ fn asked_by<'a>(matches: &ArgMatches<'a>) -> Asked<'a>
 
 /// The request of the command of this name.
 fn named_request<'a>(name: &str, matches: &ArgMatches<'a>) -> Option<Request<'a>>
-    ensures named { NamesBy name.now (rows_of (found_of matches.now)) result }
+    ensures named { option_map plain_request result ≡ request_by name.now (rows_of (found_of matches.now)) }
     ensures within { IfSome result (λ request. IsCommandWithin request.command) }
 {
     match name {
