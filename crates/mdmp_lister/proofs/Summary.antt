@@ -38,7 +38,7 @@ range_told z e k offset (any.Memory64 fields) = Some (range64_item z e k fields 
 range_told z e k offset fields = None
 
 pub summary_of-item_of : (z e k offset : ℕ) (fields : AnyRecord) (name : Name)
-    → summary_of (item_of z e k offset fields name) ≡ summary_by e (kind_told fields) (name_kept (name_rva fields) name) (range_told z e k offset fields)
+    → summary_of (item_of z e k offset fields name) ≡ summary_by e k (kind_told fields) (name_kept (name_rva fields) name) (range_told z e k offset fields)
 summary_of-item_of z e k offset (any.Memory fields) name = refl
 summary_of-item_of z e k offset _ name = refl
 
@@ -82,10 +82,10 @@ name_kept-read (Some rva) buffer name of = refl
 name_kept-read None buffer name of = rw of refl
 
 pub summary_of-read : (z : ℕ) (buffer : List ℕ) (r : RecordRead) → IsNameOf (name_rva r.fields) r.name
-    → summary_of (step_item z buffer (step.Record r)) ≡ summary_by r.entry (kind_told r.fields) (name_read buffer r.name) (range_told z r.entry r.index r.offset r.fields)
+    → summary_of (step_item z buffer (step.Record r)) ≡ summary_by r.entry r.index (kind_told r.fields) (name_read buffer r.name) (range_told z r.entry r.index r.offset r.fields)
 summary_of-read z buffer r of =
     summary_of-item_of z r.entry r.index r.offset r.fields (name_read buffer r.name)
-    ∙ ap (λ (n : Name). summary_by r.entry (kind_told r.fields) n (range_told z r.entry r.index r.offset r.fields)) (name_kept-read (name_rva r.fields) buffer r.name of)
+    ∙ ap (λ (n : Name). summary_by r.entry r.index (kind_told r.fields) n (range_told z r.entry r.index r.offset r.fields)) (name_kept-read (name_rva r.fields) buffer r.name of)
 
 stream_of-step : (z : ℕ) (buffer : List ℕ) (s : Step) → (summary_of (step_item z buffer s)).stream ≡ stream_told s
 stream_of-step z buffer (step.Stream x) = refl

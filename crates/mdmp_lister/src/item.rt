@@ -223,3 +223,55 @@ pub enum Item<'a> {
     /// A range of memory.
     Range(RangeItem),
 }
+
+/// The name of an item of a kind without names.
+static NO_NAME: Name<'static> = Name::None;
+
+impl<'a> Item<'a> {
+    ghost use Rattle.std.specs.Prelude.{◌≡◌};
+    ghost use Rattle.mdmp_lister.specs.Format.Summary.{summary_of};
+
+    /// The number of its entry in the directory, from 0.
+    pub fn entry(&self) -> u32
+        ensures { result ≡ (summary_of self.now).entry }
+    {
+        match self {
+            Item::Stream(StreamItem { entry, .. })
+            | Item::Thread(ThreadItem { entry, .. })
+            | Item::Module(ModuleItem { entry, .. })
+            | Item::Unloaded(UnloadedItem { entry, .. })
+            | Item::Exception(ExceptionItem { entry, .. })
+            | Item::System(SystemItem { entry, .. })
+            | Item::MemoryInfo(MemoryInfoItem { entry, .. })
+            | Item::Range(RangeItem { entry, .. }) => *entry,
+        }
+    }
+
+    /// The index of its record in the stream, from 0; that of an entry of the directory is 0.
+    pub fn index(&self) -> u64
+        ensures { result ≡ (summary_of self.now).index }
+    {
+        match self {
+            Item::Stream(_) => 0,
+            Item::Thread(ThreadItem { index, .. })
+            | Item::Module(ModuleItem { index, .. })
+            | Item::Unloaded(UnloadedItem { index, .. })
+            | Item::Exception(ExceptionItem { index, .. })
+            | Item::System(SystemItem { index, .. })
+            | Item::MemoryInfo(MemoryInfoItem { index, .. })
+            | Item::Range(RangeItem { index, .. }) => *index,
+        }
+    }
+
+    /// Its name; that of a kind without names is `Name::None`.
+    pub fn name(&self) -> &Name<'a>
+        ensures { result.now ≡ (summary_of self.now).name }
+    {
+        match self {
+            Item::Module(ModuleItem { name, .. })
+            | Item::Unloaded(UnloadedItem { name, .. })
+            | Item::System(SystemItem { name, .. }) => name,
+            _ => &NO_NAME,
+        }
+    }
+}

@@ -153,63 +153,47 @@ pub fn plain_name(rt: &HostRuntime, name: &Name<'_>) -> Result<Named, AllocError
 
 /// An item as a plain value.
 pub fn plain(rt: &HostRuntime, item: &Item<'_>) -> Result<GivenItem, AllocError> {
+    let name = plain_name(rt, item.name())?;
+    Ok(with_name(item.entry(), item.index(), what_of(item), name))
+}
+
+/// The telling numbers of an item.
+fn what_of(item: &Item<'_>) -> What {
     match item {
-        Item::Stream(item) => {
-            let location = item.location;
-            let stream_type = item.stream_type;
-            Ok(stream(item.entry, stream_type, location.size, location.rva))
-        }
-        Item::Thread(item) => {
-            let what = What::Thread {
-                id: item.fields.thread_id,
-                stack: item.stack,
-                context: item.context,
-            };
-            Ok(nameless(item.entry, item.index, what))
-        }
-        Item::Module(item) => {
-            let what = What::Module {
-                base: item.fields.base_of_image,
-                codeview: item.codeview,
-                misc: item.misc,
-            };
-            let name = plain_name(rt, &item.name)?;
-            Ok(with_name(item.entry, item.index, what, name))
-        }
-        Item::Unloaded(item) => {
-            let base = item.fields.base_of_image;
-            let name = plain_name(rt, &item.name)?;
-            Ok(with_name(item.entry, item.index, What::Unloaded { base }, name))
-        }
-        Item::Exception(item) => {
-            let what = What::Exception {
-                thread: item.fields.thread_id,
-                code: item.fields.exception_code,
-                context: item.context,
-            };
-            Ok(nameless(item.entry, item.index, what))
-        }
-        Item::System(item) => {
-            let what = What::System {
-                processors: item.fields.number_of_processors,
-                build: item.fields.build_number,
-            };
-            let name = plain_name(rt, &item.name)?;
-            Ok(with_name(item.entry, item.index, what, name))
-        }
-        Item::MemoryInfo(item) => {
-            let what = What::MemoryInfo(item.fields);
-            Ok(nameless(item.entry, item.index, what))
-        }
-        Item::Range(item) => {
-            let what = What::Range {
-                start: item.start,
-                size: item.size,
-                extent: item.extent,
-                offset: item.offset,
-            };
-            Ok(nameless(item.entry, item.index, what))
-        }
+        Item::Stream(item) => What::Stream {
+            stream_type: item.stream_type,
+            size: item.location.size,
+            rva: item.location.rva,
+        },
+        Item::Thread(item) => What::Thread {
+            id: item.fields.thread_id,
+            stack: item.stack,
+            context: item.context,
+        },
+        Item::Module(item) => What::Module {
+            base: item.fields.base_of_image,
+            codeview: item.codeview,
+            misc: item.misc,
+        },
+        Item::Unloaded(item) => What::Unloaded {
+            base: item.fields.base_of_image,
+        },
+        Item::Exception(item) => What::Exception {
+            thread: item.fields.thread_id,
+            code: item.fields.exception_code,
+            context: item.context,
+        },
+        Item::System(item) => What::System {
+            processors: item.fields.number_of_processors,
+            build: item.fields.build_number,
+        },
+        Item::MemoryInfo(item) => What::MemoryInfo(item.fields),
+        Item::Range(item) => What::Range {
+            start: item.start,
+            size: item.size,
+            extent: item.extent,
+            offset: item.offset,
+        },
     }
 }
 

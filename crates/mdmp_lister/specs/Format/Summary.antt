@@ -14,6 +14,8 @@ use Rattle.mdmp_lister.specs.Format.Kind.{record_size}
 pub record Summary : Type 0 where
   -- the number of its entry
   pub entry : ℕ
+  -- the index of its record in the stream, and 0 of a Stream item
+  pub index : ℕ
   -- the entry itself, of a Stream item
   pub stream : Option StreamItem
   -- how many bytes its record has; the descriptors of both memory lists have as many
@@ -24,18 +26,18 @@ pub record Summary : Type 0 where
   pub range : Option RangeItem
 
 -- that of a record of this kind
-abbrev pub summary_by : ℕ → StreamKind → Name → Option RangeItem → Summary
-summary_by e kind name range = record { entry = e; stream = None; bytes = record_size kind; name = name; range = range }
+abbrev pub summary_by : ℕ → ℕ → StreamKind → Name → Option RangeItem → Summary
+summary_by e k kind name range = record { entry = e; index = k; stream = None; bytes = record_size kind; name = name; range = range }
 
 abbrev pub summary_of : Item → Summary
-summary_of (items.Stream x) = record { entry = x.entry; stream = Some x; bytes = 0; name = names.None; range = None }
-summary_of (items.Thread x) = summary_by x.entry kinds.Threads names.None None
-summary_of (items.Module x) = summary_by x.entry kinds.Modules x.name None
-summary_of (items.Unloaded x) = summary_by x.entry kinds.Unloaded x.name None
-summary_of (items.Exception x) = summary_by x.entry kinds.Exception names.None None
-summary_of (items.System x) = summary_by x.entry kinds.System x.name None
-summary_of (items.MemoryInfo x) = summary_by x.entry kinds.MemoryInfo names.None None
-summary_of (items.Range x) = summary_by x.entry kinds.Memory names.None (Some x)
+summary_of (items.Stream x) = record { entry = x.entry; index = 0; stream = Some x; bytes = 0; name = names.None; range = None }
+summary_of (items.Thread x) = summary_by x.entry x.index kinds.Threads names.None None
+summary_of (items.Module x) = summary_by x.entry x.index kinds.Modules x.name None
+summary_of (items.Unloaded x) = summary_by x.entry x.index kinds.Unloaded x.name None
+summary_of (items.Exception x) = summary_by x.entry x.index kinds.Exception names.None None
+summary_of (items.System x) = summary_by x.entry x.index kinds.System x.name None
+summary_of (items.MemoryInfo x) = summary_by x.entry x.index kinds.MemoryInfo names.None None
+summary_of (items.Range x) = summary_by x.entry x.index kinds.Memory names.None (Some x)
 
 -- ---- what follows where a Stream item, which begins an entry, was given or not
 
