@@ -8,7 +8,7 @@ use Rattle.mdmp_source.specs.declared.location.Location.{Location}
 use Rattle.mdmp_wire.specs.declared.entry.Entry.{Entry}
 use Rattle.mdmp_lister.specs.declared.fault.Fault.{Fault}
 use Rattle.mdmp_lister.specs.declared.fetching.NameRead.{NameRead}
-use Rattle.mdmp_lister.specs.declared.stream_head.Head.{Head}
+use Rattle.mdmp_lister.specs.declared.head.Head.{Head}
 use Rattle.mdmp_lister.specs.declared.kind.StreamKind.{StreamKind}
 use Rattle.mdmp_lister.specs.declared.kind.StreamKind.TheVariants.{Memory64}
 use Rattle.mdmp_lister.specs.declared.shape.Shape.{Shape}

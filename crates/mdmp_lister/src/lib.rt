@@ -40,6 +40,7 @@ mod counts;
 mod fault;
 mod fetching;
 mod form;
+mod head;
 mod holding;
 mod item;
 mod kind;

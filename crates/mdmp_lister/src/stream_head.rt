@@ -1,95 +1,24 @@
 //! The head of a stream, read through a source.
-ghost use Rattle.std.specs.Prelude.{◌≡◌, ◌≤◌, ◌+◌, ℕ, List, Some, length, IfErr, IfOk};
-ghost use Rattle.mdmp_source.specs.Range.{IsInside, bytes_at};
+ghost use Rattle.std.specs.Prelude.{◌≡◌, ◌≤◌, ◌+◌, ℕ, List, Some, IfOk};
+ghost use Rattle.mdmp_source.specs.Range.{IsInside};
 ghost use Rattle.mdmp_wire.specs.Number.{number_at};
 ghost use Rattle.mdmp_lister.specs.Fetching.{BeginsStream, IsHeadOf, ReadsHead, shape_told};
-ghost use Rattle.mdmp_lister.specs.Following.{IsSomeHead, IsSomeShape};
-ghost use Rattle.mdmp_lister.specs.Format.Kind.{form_of, greatest_record, record_size};
-ghost use Rattle.mdmp_lister.specs.Format.Numbers.{maybe_name};
-ghost use Rattle.mdmp_lister.specs.StreamHead.{IsShort};
-ghost use Rattle.mdmp_lister.specs.Format.Shape.{head_cost, head_size, shape_of};
+ghost use Rattle.mdmp_lister.specs.Following.{IsSomeShape};
+ghost use Rattle.mdmp_lister.specs.Format.Kind.{greatest_record};
+ghost use Rattle.mdmp_lister.specs.Format.Shape.{shape_of};
 ghost use Rattle.mdmp_lister.specs.Fault.{Answers};
 
-use crate::fault::{Fault, FaultKind, faulted};
-use crate::fetching::{fetch_front, first_of};
-use crate::form::Form;
+use crate::fault::Fault;
+use crate::fetching::fetch_front;
+use crate::head::{Head, check_head, head_of};
 use crate::holding::hold;
 use crate::kind::StreamKind;
 use crate::meter::Meter;
-use crate::shape::{Shape, counted, ranges64, single, sized, widened};
 use mdmp_source::{Location, Store, Window};
-use mdmp_wire::Memory64List;
 use std::alloc::Allocator;
-
-/// What the head of a stream says.
-#[derive(Clone, Copy, Debug, PartialEq, Eq)]
-pub(crate) struct Head {
-    /// Where its records stand.
-    pub shape: Shape,
-    /// Where the bytes of the first range of a 64-bit memory list stand, an offset from the start of
-    /// the file; of any other stream 0.
-    pub base: u64,
-}
 
 /// How many bytes of a head are fetched at most, of any form.
 const GREATEST_HEAD: usize = 16;
-
-/// A stream that is too short for its head, or for its one record, has that fault.
-fn check_head(at: Location, kind: StreamKind) -> Result<(), Fault>
-    ensures room { IfOk result (λ _. head_size (form_of kind) (record_size kind) ≤ at.size) }
-    ensures short { IfErr result (IsShort at kind) }
-{
-    if at.size < kind.form().head_size(kind.record_size()) {
-        let start = u64::from(at.rva);
-        return faulted(FaultKind::ShortStream, start, u64::from(at.size));
-    }
-    Ok(())
-}
-
-/// What the head of a stream says, by its bytes, or the fault that it shows: a bad header size, a bad
-/// entry size, a bad count.
-#[tactic(auto, using(crate::proofs::Paying::few_records), unfolding(crate::specs::Format::Shape::shape_of, crate::specs::Following::IsSomeHead))]
-fn head_of(bytes: &[u8], at: Location, kind: StreamKind) -> Result<Head, Fault>
-    requires bytes { length bytes.now ≡ head_cost (form_of kind) }
-    requires room { head_size (form_of kind) (record_size kind) ≤ at.size }
-    ensures shape { (file : List ℕ) → bytes.now ≡ bytes_at file at.rva (length bytes.now)
-        → Answers (shape_of file at.rva at.size kind) (λ head. head.shape) result }
-    ensures base { (file : List ℕ) → bytes.now ≡ bytes_at file at.rva (length bytes.now)
-        → kind ≡ StreamKind.Memory64 → IfOk result (λ head. head.base ≡ number_at file (at.rva + 8) 8) }
-    ensures head { IfOk result (IsHeadOf at.size kind) }
-    // A fault is neither one of the store nor one of a name.
-    ensures fault { IfErr result (λ fault. maybe_name fault.kind ≡ 0) }
-    ensures some { IsSomeHead at.rva at.size (record_size kind) (form_of kind) (shape_told result) }
-{
-    let form = kind.form();
-    let size = kind.record_size();
-    match form {
-        Form::Counted => {
-            let shape = counted(at, size, first_of(bytes))?;
-            Ok(Head { shape, base: 0 })
-        }
-        Form::Single => {
-            let shape = single(size);
-            Ok(Head { shape, base: 0 })
-        }
-        Form::Ranges64 => {
-            let head: Memory64List = first_of(bytes);
-            let shape = ranges64(at, size, head)?;
-            let base = head.base_rva;
-            Ok(Head { shape, base })
-        }
-        Form::Sized32 => {
-            let head = widened(first_of(bytes));
-            let shape = sized(at, form.head_cost(), size, head)?;
-            Ok(Head { shape, base: 0 })
-        }
-        Form::Sized64 => {
-            let head = first_of(bytes);
-            let shape = sized(at, form.head_cost(), size, head)?;
-            Ok(Head { shape, base: 0 })
-        }
-    }
-}
 
 /// What the head of a stream says, fetched past the window, or the first fault of the stream: too
 /// short for its head, a bad header size, a bad entry size, a bad count.

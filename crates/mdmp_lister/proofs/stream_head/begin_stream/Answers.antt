@@ -2,7 +2,7 @@ use Rattle.std.proofs.Common.{rules, ◌≤◌, Ok, Err, Result, refl}
 use Rattle.std.specs.Prelude.{IfErr}
 use Rattle.std.specs.Result.{IsErr}
 use Rattle.mdmp_lister.specs.declared.fault.Fault.{Fault}
-use Rattle.mdmp_lister.specs.declared.stream_head.Head.{Head}
+use Rattle.mdmp_lister.specs.declared.head.Head.{Head}
 use Rattle.mdmp_lister.specs.declared.kind.StreamKind.{StreamKind}
 use Rattle.mdmp_source.specs.declared.location.Location.{Location}
 use Rattle.mdmp_lister.specs.Fault.{IsOfSource}

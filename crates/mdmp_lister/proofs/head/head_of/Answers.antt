@@ -1,7 +1,7 @@
 use Rattle.std.proofs.Common.{arith, rules}
 use Rattle.mdmp_lister.specs.Format.Shape.{FitsIn}
 use Rattle.mdmp_lister.proofs.Paying.{few_records}
-use Rattle.mdmp_lister.proofs.stream_head.head_of.Goals as goal
+use Rattle.mdmp_lister.proofs.head.head_of.Goals as goal
 
 pub returns-in_ok-shape-in-Sized64-clause-head : goal.returns-in_ok-shape-in-Sized64-clause-head
 returns-in_ok-shape-in-Sized64-clause-head c =
