@@ -25,7 +25,7 @@ use Rattle.mdmp_dump.specs.declared.row.ToldRecord.{ToldRecord}
 use Rattle.mdmp_dump.specs.Left.{IsGiven, AreAllGiven, RowGiven, left_from, run_of}
 use Rattle.mdmp_dump.specs.Reading.{AreRows, HasOneRecord, IsFoundOrBehind, IsLeftBehind, IsNextStream, IsOwn, NoRowFirst, IsRecordFound, IsRow, IsRowRead, IsToldOf, TakesSteps, Settles, name_steps_of, owed, refusal_found, refusal_in, store_fault_in}
 use Rattle.mdmp_dump.specs.LaysOut.{HasRecords}
-use Rattle.mdmp_dump.specs.Telling.{ItemTells}
+use Rattle.mdmp_dump.specs.Telling.{ItemTells, record_told}
 use Rattle.mdmp_lister.specs.declared.shape.Shape.{Shape}
 use Rattle.mdmp_lister.proofs.Heads.{listed-inside}
 use Rattle.mdmp_dump.proofs.Budget.{inside_is}
@@ -73,7 +73,7 @@ refused-by : (fault : ReadFault) (left : ℕ) (steps : List ReadStep) (last : Op
 unfolding first_refusal
 refused-by fault left steps last = refl
 
-module _ {X : Type 0} (file : List ℕ) (limit : ℕ) (x : Numbered) (k : ℕ) (xs : List Numbered) (kind : StreamKind) (told : Item → Option (ToldRecord X))
+module _ {X : Type 0} (file : List ℕ) (limit : ℕ) (x : Numbered) (k : ℕ) (xs : List Numbered) (kind : StreamKind) (told : Item → Option X)
     (steps : ℕ → ToldRecord X → List ReadStep) (law : ItemTells kind told steps) (known : kind_of x.entry.stream_type ≡ Some kind) (left : ℕ)
     (item : Item) (first : slice_get (left_from file limit x k xs).items 0 ≡ Some item) where
   abbrev pub run_first : Run
@@ -82,12 +82,12 @@ module _ {X : Type 0} (file : List ℕ) (limit : ℕ) (x : Numbered) (k : ℕ) (
   given : (IsStreamItem item → ⊥) → RowGiven file limit x k xs kind item
   given other = row_given file limit x k xs kind item known other first
 
-  told_by : (other : IsStreamItem item → ⊥) → (found : ToldRecord X) × ((told item ≡ Some found) × (item_steps (length file) item ≡ name_steps_of item ++ steps (length file) found))
+  told_by : (other : IsStreamItem item → ⊥) → (found : ToldRecord X) × ((record_told told item ≡ Some found) × (item_steps (length file) item ≡ name_steps_of item ++ steps (length file) found))
   told_by other = law file limit x.number k x.entry.location.rva _ item (given other).is_item
 
   -- what the first item tells is found, and what it asks is owed
-  pub found-given : {Z : Type 0} (result : Result (Told X Z) ReadFault) → IsToldOf told item result
-      → IfOk result (λ t. IsFoundOrBehind file limit x k xs kind told t (Some (tail run_first)))
+  pub found-given : {Z : Type 0} (result : Result (Told X Z) ReadFault) → IsToldOf (record_told told) item result
+      → IfOk result (λ t. IsFoundOrBehind file limit x k xs kind (record_told told) t (Some (tail run_first)))
       × Settles (owed file left None (Some run_first)) result (λ t. refusal_found file left steps t (Some (tail run_first)))
   found-given (Ok (tolds.Record found name)) is =
       let by = told_by is.0 in
@@ -104,7 +104,7 @@ module _ {X : Type 0} (file : List ℕ) (limit : ℕ) (x : Numbered) (k : ℕ) (
       let by = told_by is.0 in
       absurd (let e : Some by.0 ≡ None = sym by.1.0 ∙ is.1 in cc e)
   found-given {Z = Z} (Err fault) is = (tt, settled fault is) where
-    settled : (fault : ReadFault) → IsToldOf {Z = Z} told item (Err fault) → (IsOwn fault → ⊥) → owed file left None (Some run_first) ≡ Some fault
+    settled : (fault : ReadFault) → IsToldOf {Z = Z} (record_told told) item (Err fault) → (IsOwn fault → ⊥) → owed file left None (Some run_first) ≡ Some fault
     settled faults.Memory is own = absurd (own tt)
     settled fault is own =
         let by = told_by is.0 in

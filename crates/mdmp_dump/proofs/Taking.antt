@@ -22,7 +22,7 @@ use Rattle.mdmp_dump.specs.declared.row.ToldRecord.{ToldRecord}
 use Rattle.mdmp_dump.specs.Reading.{Fetches, IsLastTold, IsReadRefusal, IsRowRead, IsToldOf, Settles, TakesSteps, name_steps_of, store_fault, store_fault_in}
 use Rattle.mdmp_dump.specs.Refusal.{Refuse, ReadStep, first_refusal, name_steps}
 use Rattle.mdmp_dump.specs.declared.reader.Told.{Told}
-use Rattle.mdmp_lister.specs.declared.item.Item.TheVariants as items
+use Rattle.mdmp_lister.specs.Format.Summary.{summary_of}
 use Rattle.mdmp_lister.specs.declared.name.Name.{Name}
 use Rattle.mdmp_lister.specs.declared.name.Name.TheVariants.{Long}
 
@@ -83,10 +83,7 @@ long_only size e k (Long bytes) fault is =
 long_only size e k _ fault is = absurd (cc)
 
 name_only : (size : ℕ) (item : Item) (fault : ReadFault) → name_steps_of item ≡ Refuse fault ∷ [] → (store_fault fault ≡ None) × IsReadRefusal size fault
-name_only size (items.Module x) fault is = long_only size x.entry x.index x.name fault is
-name_only size (items.Unloaded x) fault is = long_only size x.entry x.index x.name fault is
-name_only size (items.System x) fault is = long_only size x.entry x.index x.name fault is
-name_only size _ fault is = absurd (cc)
+name_only size item fault is = let x = summary_of item in long_only size x.entry x.index x.name fault is
 
 module _ {X Z : Type 0} (told : Item → Option (ToldRecord X)) (item : Item) (a b : SourceState) (some : FetchesSome a b) where
   refused : (fault : ReadFault) → name_steps_of item ≡ Refuse fault ∷ [] → Fetches {T = Told X Z} (Err fault) a b

@@ -51,9 +51,9 @@ module _ {Z : Type 0} where
     pub information_count : length x.exception_information ≡ 15
     pub context : PartFits x.context
 
--- what an item tells of such a record, but for its name
-abbrev pub exception_told : Item → Option (ToldRecord ExceptionRecord)
-exception_told (items.Exception x) = Some (record { place = record { entry = x.entry; index = x.index }; fields = x.fields })
+-- what an item tells of such a record, but for its place and its name
+abbrev pub exception_told : Item → Option ExceptionRecord
+exception_told (items.Exception x) = Some x.fields
 exception_told item = None
 
 -- the registers of its thread are taken

@@ -37,9 +37,9 @@ module _ {Z : Type 0} where
     pub start : x.start < 2 ^ 64
     pub bytes : PartFits x.bytes
 
--- what an item tells of such a record, but for its name
-abbrev pub range_told : Item → Option (ToldRecord RangeItem)
-range_told (items.Range x) = Some (record { place = record { entry = x.entry; index = x.index }; fields = x })
+-- what an item tells of such a record, but for its place and its name
+abbrev pub range_told : Item → Option RangeItem
+range_told (items.Range x) = Some x
 range_told item = None
 
 -- its bytes are taken, unless they are absent

@@ -74,9 +74,9 @@ module _ {Z : Type 0} where
     pub reserved0 : x.reserved0 < 2 ^ 64
     pub reserved1 : x.reserved1 < 2 ^ 64
 
--- what an item tells of such a record, but for its name
-abbrev pub module_told : Item → Option (ToldRecord ModuleRecord)
-module_told (items.Module x) = Some (record { place = record { entry = x.entry; index = x.index }; fields = x.fields })
+-- what an item tells of such a record, but for its place and its name
+abbrev pub module_told : Item → Option ModuleRecord
+module_told (items.Module x) = Some x.fields
 module_told item = None
 
 -- its CodeView record is taken, and then its miscellaneous debug record

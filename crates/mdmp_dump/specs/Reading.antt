@@ -117,10 +117,7 @@ pub record HasBytesAt (F : List ℕ) (at size : ℕ) (bytes : List ℕ) : Type 0
 
 -- the name of an item is refused where it is too long
 abbrev pub name_steps_of : Item → List ReadStep
-name_steps_of (items.Module x) = name_steps x.entry x.index x.name
-name_steps_of (items.Unloaded x) = name_steps x.entry x.index x.name
-name_steps_of (items.System x) = name_steps x.entry x.index x.name
-name_steps_of item = []
+name_steps_of item = let x = summary_of item in name_steps x.entry x.index x.name
 
 -- no record is the first of these items
 abbrev pub NoRowFirst : Run → Type 0

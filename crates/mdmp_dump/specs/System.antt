@@ -6,7 +6,6 @@ use Rattle.mdmp_dump.specs.declared.system.System.{System}
 use Rattle.mdmp_dump.specs.Name.{IsName, NameFits}
 use Rattle.mdmp_lister.specs.declared.item.Item.{Item}
 use Rattle.mdmp_lister.specs.declared.item.Item.TheVariants as items
-use Rattle.mdmp_dump.specs.declared.row.ToldRecord.{ToldRecord}
 use Rattle.mdmp_wire.specs.declared.any_record.AnyRecord.TheVariants as any
 use Rattle.mdmp_dump.specs.Seen.{Seen, seen, name_size, unit_bytes}
 use Rattle.mdmp_dump.specs.declared.view.PartSize.TheVariants.{NoPart}
@@ -55,7 +54,7 @@ module _ {Z : Type 0} where
     pub reserved2 : x.reserved2 < 2 ^ 16
     pub cpu : length x.cpu ≡ 24
 
--- what an item tells of such a record, but for its name
-abbrev pub system_told : Item → Option (ToldRecord SystemRecord)
-system_told (items.System x) = Some (record { place = record { entry = x.entry; index = x.index }; fields = x.fields })
+-- what an item tells of such a record, but for its place and its name
+abbrev pub system_told : Item → Option SystemRecord
+system_told (items.System x) = Some x.fields
 system_told item = None

@@ -1,14 +1,23 @@
 -- What the item of a record of each kind tells a reader.
-use Rattle.std.proofs.Common.{◌≡◌, ℕ, List, ◌++◌, length, Ok}
+use Rattle.std.specs.Prelude.{◌≡◌, ℕ, List, ◌++◌, length, Option, Some, Ok, option_map}
 use Rattle.mdmp_lister.specs.declared.item.Item.{Item}
 use Rattle.mdmp_lister.specs.declared.kind.StreamKind.{StreamKind}
 use Rattle.mdmp_lister.specs.Format.Item.{item_at}
-use Rattle.std.specs.Prelude.{Option, Some}
+use Rattle.mdmp_lister.specs.Format.Summary.{summary_of}
 use Rattle.mdmp_dump.specs.Reading.{name_steps_of}
 use Rattle.mdmp_dump.specs.Refusal.{ReadStep, item_steps}
+use Rattle.mdmp_dump.specs.declared.row.RecordPlace.{RecordPlace}
 use Rattle.mdmp_dump.specs.declared.row.ToldRecord.{ToldRecord}
 
+-- which record of the file an item is of
+abbrev pub item_place : Item → RecordPlace
+item_place item = record { entry = (summary_of item).entry; index = (summary_of item).index }
+
+-- what an item tells of a record that it tells so
+abbrev pub record_told : {X : Type 0} → (Item → Option X) → Item → Option (ToldRecord X)
+record_told told item = option_map (λ fields. record { place = item_place item; fields = fields }) (told item)
+
 -- the item of a record of this kind tells it, and asks for its name and then for its parts
-abbrev pub ItemTells : {X : Type 0} → StreamKind → (Item → Option (ToldRecord X)) → (ℕ → ToldRecord X → List ReadStep) → Type 0
+abbrev pub ItemTells : {X : Type 0} → StreamKind → (Item → Option X) → (ℕ → ToldRecord X → List ReadStep) → Type 0
 ItemTells {X} kind told steps = (file : List ℕ) (limit e k at o : ℕ) (item : Item) → item_at file limit e k at o kind ≡ Ok item
-    → (found : ToldRecord X) × ((told item ≡ Some found) × (item_steps (length file) item ≡ name_steps_of item ++ steps (length file) found))
+    → (found : ToldRecord X) × ((record_told told item ≡ Some found) × (item_steps (length file) item ≡ name_steps_of item ++ steps (length file) found))

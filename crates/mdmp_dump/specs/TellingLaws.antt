@@ -21,7 +21,7 @@ use Rattle.mdmp_dump.specs.declared.fault.PartName.TheVariants.{Memory}
 use Rattle.mdmp_dump.specs.declared.row.ToldRecord.{ToldRecord}
 use Rattle.mdmp_dump.specs.Reading.{name_steps_of}
 use Rattle.mdmp_dump.specs.Refusal.{ReadStep, item_steps, part_steps}
-use Rattle.mdmp_dump.specs.Telling.{ItemTells}
+use Rattle.mdmp_dump.specs.Telling.{ItemTells, record_told}
 use Rattle.mdmp_dump.specs.Exception.{exception_steps, exception_told}
 use Rattle.mdmp_dump.specs.Memory.{memory_steps, present_steps, range_told}
 use Rattle.mdmp_dump.specs.Memory64.{memory64_steps}
@@ -51,19 +51,19 @@ module _ (kind : StreamKind) (file : List ℕ) (limit e k at o : ℕ) where
     pub item_made : (n : Name) × ((name_of file limit (name_rva (record_at kind file o)) ≡ Ok n) × (made n ≡ item))
     item_made = named_given (name_of file limit (name_rva (record_at kind file o))) made item is
 
-    module _ {X : Type 0} (told : Item → Option (ToldRecord X)) (found : ToldRecord X) where
+    module _ {X : Type 0} (told : Item → Option X) (found : ToldRecord X) where
       -- it tells what it does with any name
       pub made_tells : (steps : ℕ → ToldRecord X → List ReadStep)
-          → ((n : Name) → (told (made n) ≡ Some found) × (item_steps (length file) (made n) ≡ name_steps_of (made n) ++ steps (length file) found))
-          → (one : ToldRecord X) × ((told item ≡ Some one) × (item_steps (length file) item ≡ name_steps_of item ++ steps (length file) one))
+          → ((n : Name) → (record_told told (made n) ≡ Some found) × (item_steps (length file) (made n) ≡ name_steps_of (made n) ++ steps (length file) found))
+          → (one : ToldRecord X) × ((record_told told item ≡ Some one) × (item_steps (length file) item ≡ name_steps_of item ++ steps (length file) one))
       made_tells steps any =
-          subst (λ (x : Item). (one : ToldRecord X) × ((told x ≡ Some one) × (item_steps (length file) x ≡ name_steps_of x ++ steps (length file) one)))
+          subst (λ (x : Item). (one : ToldRecord X) × ((record_told told x ≡ Some one) × (item_steps (length file) x ≡ name_steps_of x ++ steps (length file) one)))
           item_made.1.1 (found, any item_made.0)
 
       -- which is one thing
-      pub made_found : (other : ToldRecord X) → ((n : Name) → told (made n) ≡ Some found) → told item ≡ Some other → other ≡ found
+      pub made_found : (other : ToldRecord X) → ((n : Name) → record_told told (made n) ≡ Some found) → record_told told item ≡ Some other → other ≡ found
       made_found other any tells =
-          let same : told (made item_made.0) ≡ told item = ap told item_made.1.1 in
+          let same : record_told told (made item_made.0) ≡ record_told told item = ap (record_told told) item_made.1.1 in
           let first = any item_made.0 in
           cc
 

@@ -51,9 +51,9 @@ module _ {Z : Type 0} where
     pub stack : PartFits x.stack
     pub context : PartFits x.context
 
--- what an item tells of such a record, but for its name
-abbrev pub thread_told : Item → Option (ToldRecord ThreadRecord)
-thread_told (items.Thread x) = Some (record { place = record { entry = x.entry; index = x.index }; fields = x.fields })
+-- what an item tells of such a record, but for its place and its name
+abbrev pub thread_told : Item → Option ThreadRecord
+thread_told (items.Thread x) = Some x.fields
 thread_told item = None
 
 -- its stack is taken, and then its registers

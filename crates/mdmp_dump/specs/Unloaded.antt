@@ -6,7 +6,6 @@ use Rattle.mdmp_dump.specs.declared.unloaded.Unloaded.{Unloaded}
 use Rattle.mdmp_dump.specs.Name.{IsName, NameFits}
 use Rattle.mdmp_lister.specs.declared.item.Item.{Item}
 use Rattle.mdmp_lister.specs.declared.item.Item.TheVariants as items
-use Rattle.mdmp_dump.specs.declared.row.ToldRecord.{ToldRecord}
 use Rattle.mdmp_wire.specs.declared.any_record.AnyRecord.TheVariants as any
 use Rattle.mdmp_dump.specs.Seen.{Seen, seen, name_size, unit_bytes}
 use Rattle.mdmp_dump.specs.declared.view.PartSize.TheVariants.{NoPart}
@@ -39,7 +38,7 @@ module _ {Z : Type 0} where
     pub time_date_stamp : x.time_date_stamp < 2 ^ 32
     pub name : NameFits x.name
 
--- what an item tells of such a record, but for its name
-abbrev pub unloaded_told : Item → Option (ToldRecord UnloadedRecord)
-unloaded_told (items.Unloaded x) = Some (record { place = record { entry = x.entry; index = x.index }; fields = x.fields })
+-- what an item tells of such a record, but for its place and its name
+abbrev pub unloaded_told : Item → Option UnloadedRecord
+unloaded_told (items.Unloaded x) = Some x.fields
 unloaded_told item = None

@@ -9,7 +9,7 @@ use crate::fits::Fitting;
 use crate::given::{Given, bytes_of, nowhere, size_of};
 use crate::part::Part;
 use crate::reader::Reader;
-use crate::row::{RecordPlace, Row, ToldRecord};
+use crate::row::{RecordPlace, Row};
 use crate::view::{Fields, PartSize};
 use mdmp_lister::Item;
 use mdmp_source::Store;
@@ -76,15 +76,9 @@ impl<S: Store + Drop, A: Allocator + Copy> Row<S, A> for Exception<A> {
 
     ghost IsAt = { λ file at k. IsException file };
 
-    fn find(item: &Item<'_>) -> Option<ToldRecord<ExceptionRecord>> {
+    fn find(item: &Item<'_>) -> Option<ExceptionRecord> {
         match item {
-            Item::Exception(exception) => Some(ToldRecord {
-                place: RecordPlace {
-                    entry: exception.entry,
-                    index: exception.index,
-                },
-                fields: exception.fields,
-            }),
+            Item::Exception(exception) => Some(exception.fields),
             _ => None,
         }
     }

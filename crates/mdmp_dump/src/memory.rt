@@ -8,7 +8,7 @@ use crate::fits::Fitting;
 use crate::given::{Given, bytes_of, nowhere, size_of};
 use crate::part::Part;
 use crate::reader::{Reader, absent};
-use crate::row::{RecordPlace, Row, ToldRecord};
+use crate::row::{RecordPlace, Row};
 use crate::view::{Fields, PartSize};
 use mdmp_lister::{Item, RangeItem};
 use mdmp_source::{Extent, Store};
@@ -45,15 +45,9 @@ impl<S: Store + Drop, A: Allocator + Copy> Row<S, A> for MemoryRange<A> {
 
     ghost IsAt = { λ file at k. IsMemory file };
 
-    fn find(item: &Item<'_>) -> Option<ToldRecord<RangeItem>> {
+    fn find(item: &Item<'_>) -> Option<RangeItem> {
         match item {
-            Item::Range(range) => Some(ToldRecord {
-                place: RecordPlace {
-                    entry: range.entry,
-                    index: range.index,
-                },
-                fields: *range,
-            }),
+            Item::Range(range) => Some(*range),
             _ => None,
         }
     }

@@ -9,7 +9,7 @@ use crate::fault::{PartName, ReadFault};
 use crate::fits::Fitting;
 use crate::given::Given;
 use crate::reader::Reader;
-use crate::row::{RecordPlace, Row, ToldRecord};
+use crate::row::{RecordPlace, Row};
 use crate::view::{Fields, PartSize};
 use mdmp_lister::{Item, RangeItem};
 use mdmp_source::Store;
@@ -45,15 +45,9 @@ impl<S: Store + Drop, A: Allocator + Copy> Row<S, A> for Memory64Range<A> {
 
     ghost IsAt = { λ file. IsMemory64 file };
 
-    fn find(item: &Item<'_>) -> Option<ToldRecord<RangeItem>> {
+    fn find(item: &Item<'_>) -> Option<RangeItem> {
         match item {
-            Item::Range(range) => Some(ToldRecord {
-                place: RecordPlace {
-                    entry: range.entry,
-                    index: range.index,
-                },
-                fields: *range,
-            }),
+            Item::Range(range) => Some(*range),
             _ => None,
         }
     }

@@ -9,7 +9,7 @@ use crate::fault::ReadFault;
 use crate::fits::Fitting;
 use crate::given::Given;
 use crate::reader::Reader;
-use crate::row::{RecordPlace, Row, ToldRecord};
+use crate::row::{RecordPlace, Row};
 use crate::view::{Fields, PartSize};
 use mdmp_lister::Item;
 use mdmp_source::Store;
@@ -41,15 +41,9 @@ impl<S: Store + Drop, A: Allocator + Copy> Row<S, A> for MemoryInfoRecord {
 
     ghost IsAt = { λ file at k o row. memory_info_at file o ≡ row };
 
-    fn find(item: &Item<'_>) -> Option<ToldRecord<MemoryInfoRecord>> {
+    fn find(item: &Item<'_>) -> Option<MemoryInfoRecord> {
         match item {
-            Item::MemoryInfo(region) => Some(ToldRecord {
-                place: RecordPlace {
-                    entry: region.entry,
-                    index: region.index,
-                },
-                fields: region.fields,
-            }),
+            Item::MemoryInfo(region) => Some(region.fields),
             _ => None,
         }
     }

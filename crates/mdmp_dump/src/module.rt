@@ -8,7 +8,7 @@ use crate::fits::{Fitting, name_fits};
 use crate::given::{Given, bytes_of, name_size, nowhere, size_of, unit_bytes};
 use crate::part::Part;
 use crate::reader::Reader;
-use crate::row::{RecordPlace, Row, ToldRecord};
+use crate::row::{RecordPlace, Row};
 use crate::view::Fields;
 use mdmp_lister::Item;
 use mdmp_source::Store;
@@ -89,15 +89,9 @@ impl<S: Store + Drop, A: Allocator + Copy> Row<S, A> for Module<A> {
 
     ghost IsAt = { λ file at k. IsModule file };
 
-    fn find(item: &Item<'_>) -> Option<ToldRecord<ModuleRecord>> {
+    fn find(item: &Item<'_>) -> Option<ModuleRecord> {
         match item {
-            Item::Module(module) => Some(ToldRecord {
-                place: RecordPlace {
-                    entry: module.entry,
-                    index: module.index,
-                },
-                fields: module.fields,
-            }),
+            Item::Module(module) => Some(module.fields),
             _ => None,
         }
     }

@@ -7,7 +7,6 @@ ghost use Rattle.mdmp_lister.specs.Format.Item.{plain, range_extent_of};
 ghost use Rattle.mdmp_lister.specs.Format.Name.{plain_name};
 ghost use Rattle.mdmp_lister.specs.Format.Kind.{kind_of};
 ghost use Rattle.mdmp_lister.specs.Format.Listing.{Numbered, Run};
-ghost use Rattle.mdmp_lister.specs.Format.Summary.{summary_of};
 ghost use Rattle.mdmp_dump.specs.LaysOut.{HasRecords};
 ghost use Rattle.mdmp_dump.specs.Left.{left_from};
 ghost use Rattle.mdmp_dump.specs.Part.{IsPart};
@@ -28,11 +27,11 @@ ghost use Rattle.mdmp_dump.specs.Reading.{
   Settles,
   TakesSteps,
   next_behind,
-  name_steps_of,
   owed,
   refusal_found,
 };
 ghost use Rattle.mdmp_dump.specs.Refusal.{Take, location_steps, name_steps, part_steps};
+ghost use Rattle.mdmp_dump.specs.Telling.{record_told};
 ghost use Rattle.mdmp_dump.specs.declared.part.Part.TheVariants as parts;
 
 use crate::bytes::Bytes;
@@ -170,7 +169,7 @@ impl<S: Store + Drop, A: Allocator + Copy> Reader<S, A> {
         ensures left { self.new.left ≡ self.old.left }
         ensures of_file { (file : List ℕ) (limit : ℕ) (x : Numbered) (k : ℕ) (xs : List Numbered) → self.old.lister.source.store.content ≡ Some file
             → self.old.lister.left ≡ Some (left_from file limit x k xs) → kind_of x.entry.stream_type ≡ Some T.kind
-            → IfOk result (λ told. IsFoundOrBehind file limit x k xs T.kind T.told told self.new.lister.left)
+            → IfOk result (λ told. IsFoundOrBehind file limit x k xs T.kind (record_told T.told) told self.new.lister.left)
             × Settles (owed file self.old.left None self.old.lister.left) result (λ told. refusal_found file self.new.left T.steps told self.new.lister.left) }
         ensures going { IfOk result (λ told. IsToldGoing self.old.lister told self.new.lister) }
     {
@@ -268,37 +267,31 @@ fn told_of<S: Store + Drop, A: Allocator + Copy, T: Row<S, A>>(
     alloc: A,
     item: &Item<'_>,
 ) -> Result<Told<T::Fields, A>, ReadFault>
-    ensures { IsToldOf T.told (plain item.now) result }
+    ensures { IsToldOf (record_told T.told) (plain item.now) result }
 {
     if let Item::Stream(stream) = item {
         return Ok(Told::Behind(Some(*stream)));
     }
     match T::find(item) {
-        Some(found) => Ok(Told::Record(found, name_of(alloc, item)?)),
+        Some(fields) => {
+            let place = RecordPlace {
+                entry: item.entry(),
+                index: item.index(),
+            };
+            let name = owned_name(alloc, place, item.name())?;
+            Ok(Told::Record(ToldRecord { place, fields }, name))
+        }
         None => Ok(Told::Behind(None)),
-    }
-}
-
-/// The name of an item, in memory of its own.
-fn name_of<A: Allocator>(alloc: A, item: &Item<'_>) -> Result<Option<Units<A>>, ReadFault>
-    ensures { IsNameTaken (name_steps_of (plain item.now)) (summary_of (plain item.now)).name result }
-{
-    match item {
-        Item::Module(module) => owned_name(alloc, module.entry, module.index, &module.name),
-        Item::Unloaded(module) => owned_name(alloc, module.entry, module.index, &module.name),
-        Item::System(system) => owned_name(alloc, system.entry, system.index, &system.name),
-        _ => Ok(None),
     }
 }
 
 /// A name in memory of its own.
 fn owned_name<A: Allocator>(
     alloc: A,
-    entry: u32,
-    index: u64,
+    place: RecordPlace,
     name: &Name<'_>,
 ) -> Result<Option<Units<A>>, ReadFault>
-    ensures { IsNameTaken (name_steps entry index (plain_name name.now)) (plain_name name.now) result }
+    ensures { IsNameTaken (name_steps place.entry place.index (plain_name name.now)) (plain_name name.now) result }
 {
     match name {
         Name::None => Ok(None),
@@ -307,8 +300,8 @@ fn owned_name<A: Allocator>(
             Err(AllocError) => Err(ReadFault::Memory),
         },
         Name::Long(length) => Err(ReadFault::NameTooLong {
-            entry,
-            index,
+            entry: place.entry,
+            index: place.index,
             length: *length,
         }),
     }

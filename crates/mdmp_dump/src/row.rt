@@ -5,7 +5,7 @@ ghost use Rattle.mdmp_lister.specs.declared.item.Item.{Item};
 ghost use Rattle.mdmp_lister.specs.declared.kind.StreamKind.{StreamKind};
 ghost use Rattle.mdmp_dump.specs.Reading.{IsRowRead};
 ghost use Rattle.mdmp_dump.specs.Refusal.{ReadStep};
-ghost use Rattle.mdmp_dump.specs.Telling.{ItemTells};
+ghost use Rattle.mdmp_dump.specs.Telling.{ItemTells, record_told};
 ghost use Rattle.mdmp_dump.specs.declared.row.ToldRecord.{ToldRecord};
 
 use crate::fault::ReadFault;
@@ -40,7 +40,7 @@ pub(crate) trait Row<S: Store + Drop, A: Allocator + Copy>: Drop + Sized {
     ghost kind: { StreamKind };
 
     // What this item tells, if it is of this kind.
-    ghost told: { Item → Option (ToldRecord Self.Fields) };
+    ghost told: { Item → Option Self.Fields };
 
     // What its parts ask of a reader of a file of so many bytes.
     ghost steps: { ℕ → ToldRecord Self.Fields → List ReadStep };
@@ -49,7 +49,7 @@ pub(crate) trait Row<S: Store + Drop, A: Allocator + Copy>: Drop + Sized {
     ghost IsAt: { List ℕ → ℕ → ℕ → ℕ → Self → Type 0 };
 
     /// What this item tells, if it is of this kind.
-    fn find(item: &Item<'_>) -> Option<ToldRecord<Self::Fields>>
+    fn find(item: &Item<'_>) -> Option<Self::Fields>
         ensures { result ≡ told (plain item.now) };
 
     /// The value of this record, of this name, which it takes if it has one, and with its parts.
@@ -59,7 +59,7 @@ pub(crate) trait Row<S: Store + Drop, A: Allocator + Copy>: Drop + Sized {
         fields: Self::Fields,
         name: &mut Option<Units<A>>,
     ) -> Result<Self, ReadFault>
-        ensures { IsRowRead kind told steps IsAt reader.old (record { place = place; fields = fields }) name.old result reader.new };
+        ensures { IsRowRead kind (record_told told) steps IsAt reader.old (record { place = place; fields = fields }) name.old result reader.new };
 
     // The item of a record of this kind tells it, and asks for its name and then for its parts.
     ghost tells: { ItemTells kind told steps };

@@ -8,7 +8,7 @@ use crate::fault::ReadFault;
 use crate::fits::{Fitting, name_fits};
 use crate::given::{Given, name_size, unit_bytes};
 use crate::reader::Reader;
-use crate::row::{RecordPlace, Row, ToldRecord};
+use crate::row::{RecordPlace, Row};
 use crate::view::{Fields, PartSize};
 use mdmp_lister::Item;
 use mdmp_source::Store;
@@ -83,15 +83,9 @@ impl<S: Store + Drop, A: Allocator + Copy> Row<S, A> for System<A> {
 
     ghost IsAt = { λ file at k. IsSystem file };
 
-    fn find(item: &Item<'_>) -> Option<ToldRecord<SystemRecord>> {
+    fn find(item: &Item<'_>) -> Option<SystemRecord> {
         match item {
-            Item::System(system) => Some(ToldRecord {
-                place: RecordPlace {
-                    entry: system.entry,
-                    index: system.index,
-                },
-                fields: system.fields,
-            }),
+            Item::System(system) => Some(system.fields),
             _ => None,
         }
     }

@@ -8,7 +8,7 @@ use crate::fits::Fitting;
 use crate::given::{Given, bytes_of, nowhere, size_of};
 use crate::part::Part;
 use crate::reader::Reader;
-use crate::row::{RecordPlace, Row, ToldRecord};
+use crate::row::{RecordPlace, Row};
 use crate::view::{Fields, PartSize};
 use mdmp_lister::Item;
 use mdmp_source::Store;
@@ -63,15 +63,9 @@ impl<S: Store + Drop, A: Allocator + Copy> Row<S, A> for Thread<A> {
 
     ghost IsAt = { λ file at k. IsThread file };
 
-    fn find(item: &Item<'_>) -> Option<ToldRecord<ThreadRecord>> {
+    fn find(item: &Item<'_>) -> Option<ThreadRecord> {
         match item {
-            Item::Thread(thread) => Some(ToldRecord {
-                place: RecordPlace {
-                    entry: thread.entry,
-                    index: thread.index,
-                },
-                fields: thread.fields,
-            }),
+            Item::Thread(thread) => Some(thread.fields),
             _ => None,
         }
     }

@@ -8,7 +8,7 @@ use crate::fault::ReadFault;
 use crate::fits::{Fitting, name_fits};
 use crate::given::{Given, name_size, unit_bytes};
 use crate::reader::Reader;
-use crate::row::{RecordPlace, Row, ToldRecord};
+use crate::row::{RecordPlace, Row};
 use crate::view::{Fields, PartSize};
 use mdmp_lister::Item;
 use mdmp_source::Store;
@@ -54,15 +54,9 @@ impl<S: Store + Drop, A: Allocator + Copy> Row<S, A> for Unloaded<A> {
 
     ghost IsAt = { λ file at k. IsUnloaded file };
 
-    fn find(item: &Item<'_>) -> Option<ToldRecord<UnloadedRecord>> {
+    fn find(item: &Item<'_>) -> Option<UnloadedRecord> {
         match item {
-            Item::Unloaded(module) => Some(ToldRecord {
-                place: RecordPlace {
-                    entry: module.entry,
-                    index: module.index,
-                },
-                fields: module.fields,
-            }),
+            Item::Unloaded(module) => Some(module.fields),
             _ => None,
         }
     }

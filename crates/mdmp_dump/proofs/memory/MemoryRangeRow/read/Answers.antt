@@ -19,6 +19,7 @@ use Rattle.mdmp_dump.specs.Memory.{IsMemory, present_steps, range_told}
 use Rattle.mdmp_dump.specs.Part.{IsPart}
 use Rattle.mdmp_dump.specs.Reading.{HasBytesAt, TakesSteps}
 use Rattle.mdmp_dump.specs.Refusal.{part_steps}
+use Rattle.mdmp_dump.specs.Telling.{record_told}
 use Rattle.mdmp_dump.specs.TellingLaws.{found_at, made_found}
 use Rattle.mdmp_dump.proofs.Budget.{part-present}
 use Rattle.mdmp_dump.proofs.Taking.{Takes_as, Takes_fault_as, Takes_memory, Takes_none, row_refused}
@@ -42,7 +43,7 @@ module _ {S A T : Type 0} (z e k offset len : ℕ) (extent : Extent) (old : Read
 -- ---- the range
 
 module _ (F : List ℕ) (limit e k at o : ℕ) (item : Item) (given : item_at F limit e k at o kinds.Memory ≡ Ok item) where
-  module _ (found : ToldRecord RangeItem) (tells : range_told item ≡ Some found) where
+  module _ (found : ToldRecord RangeItem) (tells : record_told range_told item ≡ Some found) where
     -- the item that the descriptor at o makes
     same : found.fields ≡ range_item (length F) e k (descriptor_at F o)
     same = ap (λ (x : ToldRecord RangeItem). x.fields)

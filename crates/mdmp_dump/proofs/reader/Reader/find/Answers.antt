@@ -2,6 +2,7 @@ use Rattle.std.proofs.Common.{◌≡◌, refl, Some}
 use Rattle.mdmp_lister.specs.Lister.{tail}
 use Rattle.mdmp_lister.specs.FaultLaws.{next_fits}
 use Rattle.mdmp_dump.specs.Left.{left_from}
+use Rattle.mdmp_dump.specs.Telling.{record_told}
 use Rattle.mdmp_dump.proofs.Settled.{end-given, fault-owed, found-given}
 use Rattle.mdmp_dump.proofs.Taking.{Fetches_listed, Fetches_told}
 use Rattle.mdmp_dump.proofs.reader.Reader.find.Goals as goal
@@ -30,4 +31,4 @@ returns-in-Err-clause-fetches g c =
 
 pub returns-in-Ok-Some-clause-fetches : goal.returns-in-Ok-Some-clause-fetches
 returns-in-Ok-Some-clause-fetches g c =
-    Fetches_told g.T.Row.told _ _ _ (record { count = _; fetches = c.next.follows.holds-at-none.list.fetches }) c.told_of.result c.told_of.ensures
+    Fetches_told (record_told g.T.Row.told) _ _ _ (record { count = _; fetches = c.next.follows.holds-at-none.list.fetches }) c.told_of.result c.told_of.ensures
