@@ -28,7 +28,7 @@ use Rattle.mdmp_lister.specs.FaultLaws.{follows_fits}
 use Rattle.mdmp_lister.specs.Lister.{IsSameLister, ListerState, cursor_in, is_of_source, tail}
 use Rattle.mdmp_lister.specs.Stage.{stop_after}
 use Rattle.mdmp_lister.specs.Walk.Paying.{entry_cost, entry_cost_by}
-use Rattle.mdmp_lister.specs.Following.{Standing}
+use Rattle.mdmp_lister.specs.Following.{IsBegun, Standing, begun as unread_head}
 use Rattle.mdmp_lister.specs.Step.{TellsAnswer}
 use Rattle.mdmp_lister.specs.Walker.{CountsRecords, GivesEntry, IsSought, IsSoughtAt, StepLeaves, WalkerLeaves, WalkerState, is_failed, records_answer, seeks}
 use Rattle.mdmp_dump.specs.declared.fault.ReadFault.TheVariants as faults
@@ -117,6 +117,7 @@ pub record IsAtEntry (x : Numbered) (old new : WalkerState) : Type 0 where
   pub paid : new.list.counts.names + 1 < 2 ^ 128 → new.list.counts.fetched ≤ bytes_allowed old
   pub stop : new.list.stop ≡ None
   pub position : new.position ≡ Begun
+  pub standing : new.list.standing ≡ unread_head
   pub left : (F : List ℕ) → old.list.source.store.content ≡ Some F → x.entry ≡ entry_of F x.number
       → new.list.left ≡ Some (left_from F 0 x 0 (chosen_from F old.list.choice (x.number + 1)))
 
@@ -166,6 +167,7 @@ module _ (x : Numbered) (old : WalkerState) (kept : IsKept old) (new : WalkerSta
             omega (arith, most, names);
         stop = l.stop;
         position = leaves.position;
+        standing = leaves.begins;
         left = λ F known is.
             let all : left ≡ Some (run_of F 0 (record { number = x.number; entry = entry_of F x.number } ∷ chosen_from F old.list.choice (x.number + 1))) = sought ∙ (rw (known, kept.limit) refl) in
             l.left ∙ (rw all refl) ∙ ap Some (sought_tail F x (chosen_from F old.list.choice (x.number + 1)) is);
@@ -259,6 +261,7 @@ module _ (number : ℕ) (e : Entry) (old mid new : WalkerState) (at : slice_get 
         };
         begun = tt;
         of_file = λ F known not. absurd (not own);
+        counts = tt;
         fetches = λ none. absurd (let some = own.1 in cc (some, ended, none));
         told = (f, refl);
         failed = ended;
@@ -370,6 +373,14 @@ module _ (x : Numbered) (old mid new : WalkerState) (kept : IsKept old) (at : Is
       pays = paid_at x old mid new kept at (Ok count) counts stream is fresh;
       begun = (current_new x old mid new kept at (Ok count) counts ∙ sym is, left_new, counts.few);
       of_file = λ F known. subst (λ (y : Numbered). record_count F y.entry ≡ Ok count) (sym is) (count_is F known);
+      counts = (
+        new.list.standing,
+        (
+          subst (λ (z : ℕ). IsBegun z (chosen_entry (state_of old) stream).entry (Ok new.list.standing)) at.fetches.fetches.same_size
+              (subst (λ (e : Entry). IsBegun mid.list.source.size e (Ok new.list.standing)) (at.current ∙ ap (λ (y : Numbered). y.entry) (sym is)) (counts.begins at.standing)),
+          counts.stands,
+        ),
+      );
       fetches = λ none. Fetches_only count old.list.source new.list.source (fetched x old mid new kept at (Ok count) counts);
       told = tt;
       failed = ap ended_with counts.stop;
@@ -404,6 +415,7 @@ module _ (x : Numbered) (old mid new : WalkerState) (kept : IsKept old) (at : Is
       of_file = λ F known own.
           let told = answered F (at.fetches.fetches.same_content ∙ known) (own_store_fault f.kind own) in
           (f, (subst (λ (y : Numbered). records_told F y ≡ Err f) (current_is x old mid new kept at (Err f) counts ∙ sym is) told, refl));
+      counts = tt;
       fetches = λ none. fetches_err old.list.source mid.list.source new.list.source at.fetches {U = ℕ} (faults.List f) (record {
         fetches = record { count = _; fetches = counts.fetches };
         told = last_told mid.list.current f.kind mid.list.source new.list.source (counts.told at.stop).0.by counts.unchanged;

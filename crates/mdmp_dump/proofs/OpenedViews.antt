@@ -11,9 +11,9 @@ use Rattle.mdmp_lister.specs.Format.Listing.{Numbered, chosen, entry_count}
 use Rattle.mdmp_lister.specs.Format.Refusal.{directory_refusal}
 use Rattle.mdmp_lister.specs.Opening.{IsHandedBackBare}
 use Rattle.mdmp_dump.specs.declared.fault.ReadFault.{ReadFault}
-use Rattle.mdmp_dump.specs.EntryWalk.{IsOpenedWalk, WalkState, kind_by}
+use Rattle.mdmp_dump.specs.EntryWalk.{IsOpenedWalk, MayCount, WalkState, chosen_entry, kind_by}
 use Rattle.mdmp_dump.specs.FileRefusal.{run_told, view_refusal}
-use Rattle.mdmp_dump.specs.FileView.{AreBare, AreWalked, IsViewPaid, IsView, IsViewed, PaysAll, PaysSome, costs_in, file_shape, kind_at, opening_cost, pass_cost_in, room_told, shape_by}
+use Rattle.mdmp_dump.specs.FileView.{AreBare, AreCounted, AreWalked, IsViewPaid, IsView, IsViewed, PaysAll, PaysSome, costs_in, file_shape, kind_at, opening_cost, pass_cost_in, room_told, shape_by}
 use Rattle.mdmp_dump.specs.InFile.{dump_in, stream_named}
 use Rattle.mdmp_dump.specs.Left.{run_of}
 use Rattle.mdmp_dump.specs.Opening.{HasSpentOpening, opening_bound}
@@ -85,6 +85,10 @@ module _ (Z : Type 0) (source : SourceState) (window limit : ℕ) (choice : Choi
     ended = λ told ended. absurd (let none = going in cc);
     steady = λ F good. going;
   }
+
+  pub view_counted : AreCounted w.source.size w counts → AreCounted source.size v counts
+  view_counted fits k inside =
+      subst (λ (z : ℕ). MayCount z (chosen_entry v k).entry (get_or counts k 0)) opened.fetches.fetches.same_size (rw (entry_stays w v pays.same k) (fits k inside))
 
   pub view_quiet : (F : List ℕ) → source.store.content ≡ Some F → view_refusal F choice limit ≡ None
   view_quiet F known = quiet_file F (opened.fetches.fetches.same_content ∙ known)

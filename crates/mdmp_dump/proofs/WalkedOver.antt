@@ -9,10 +9,10 @@ use Rattle.mdmp_dump.specs.declared.found_record.FoundRecord.{FoundRecord}
 use Rattle.mdmp_dump.specs.declared.view.Fields.{Fields}
 use Rattle.mdmp_dump.specs.declared.view.Kind.{Kind}
 use Rattle.mdmp_dump.specs.declared.view.Kind.TheVariants.{Known}
-use Rattle.mdmp_dump.specs.EntryWalk.{Begins, FindsRow, GivesNext, IsSameWalk, Pays, WalkState, chosen_entry, kind_by, listed, name_cost, no_entry, pass_cost}
+use Rattle.mdmp_dump.specs.EntryWalk.{Begins, FindsRow, GivesNext, IsSameWalk, MayCount, Pays, WalkState, chosen_entry, kind_by, listed, name_cost, no_entry, pass_cost}
 use Rattle.mdmp_dump.specs.FileRefusal.{body_told, entry_told, run_told}
 use Rattle.mdmp_dump.specs.Left.{run_of}
-use Rattle.mdmp_dump.specs.FileView.{AreBare, AreWalked, HasWalked, PaysAll, PaysSome, PaysUpTo, costs_in, count_in, kind_at, room_told, stream_of}
+use Rattle.mdmp_dump.specs.FileView.{AreBare, AreCounted, AreWalked, HasWalked, PaysAll, PaysSome, PaysUpTo, costs_in, count_in, kind_at, room_told, stream_of}
 use Rattle.mdmp_dump.specs.FoundRecord.{fields_of}
 use Rattle.mdmp_dump.specs.InFile.{stream_named}
 use Rattle.mdmp_dump.specs.Placed.{far_room, fields_room}
@@ -59,6 +59,7 @@ pub record IsWalking (Z : Type 0) (limit : ℕ) (old : WalkState) (k count : ℕ
   pub current : now.current ≡ chosen_entry old k
   pub left : index + now.left ≡ count
   pub few : count < 2 ^ 32
+  pub counts : MayCount old.source.size (chosen_entry old k).entry count
   pub going : now.failed ≡ None
   pub bare : GivesNone (kind_at old k) index → room ≡ 0
   pub of_file : (F : List ℕ) → old.source.store.content ≡ Some F → IsWalkedTo Z F limit (chosen_entry old k) count index room
@@ -81,6 +82,7 @@ module _ (Z : Type 0) (limit : ℕ) (old : WalkState) (k : ℕ) where
     current = begins.begun.0;
     left = omega (arith, begins.begun.1);
     few = begins.begun.2;
+    counts = begins.counts;
     going = begins.failed;
     bare = λ none. refl;
     of_file = λ F known. record {
@@ -131,6 +133,7 @@ module _ (Z : Type 0) (limit : ℕ) (old : WalkState) (k : ℕ) where
           current = gives.goes.0 ∙ walking.current;
           left = omega (arith, walking.left, gives.goes.1);
           few = walking.few;
+          counts = walking.counts;
           going = gives.failed;
           bare = λ none. absurd (found_none (kind_at old k) (type_told f.wire) index (sym (ap (λ (x : Numbered). kind_by x.entry.stream_type) walking.current) ∙ gives.found.kind_is) none);
           of_file = λ F known.
@@ -177,6 +180,7 @@ pub record AreWalking (Z : Type 0) (limit : ℕ) (old now : WalkState) (counts r
   pub counted : length counts ≡ k
   pub roomed : length rooms ≡ k
   pub going : now.failed ≡ None
+  pub counts_fit : AreCounted old.source.size old counts
   pub bare : AreBare (kind_at old) counts rooms
   pub of_file : (F : List ℕ) → old.source.store.content ≡ Some F → AreWalked Z F limit old counts rooms
 
@@ -221,6 +225,7 @@ module _ (Z : Type 0) (limit : ℕ) (old : WalkState) where
     counted = refl;
     roomed = refl;
     going = going;
+    counts_fit = λ k inside. absurd (let h : k < 0 = inside in omega (arith, h));
     bare = λ k none. refl;
     of_file = λ F known. record {
       counted = λ k inside. absurd (let h : k < 0 = inside in omega (arith, h));
@@ -255,15 +260,18 @@ module _ (Z : Type 0) (limit : ℕ) (old : WalkState) where
     entry_here : chosen_entry now k ≡ chosen_entry old (length counts)
     entry_here = entry_now ∙ ap (chosen_entry old) (sym walking.counted)
 
-    pub one_walked : (n r : ℕ) → Pays (listed (chosen_entry now k).entry) (n * name_cost (chosen_entry now k).entry.stream_type) now next → next.failed ≡ None → (GivesNone (kind_at now k) n → r ≡ 0)
+    pub one_walked : (n r : ℕ) → Pays (listed (chosen_entry now k).entry) (n * name_cost (chosen_entry now k).entry.stream_type) now next → next.failed ≡ None → MayCount now.source.size (chosen_entry now k).entry n → (GivesNone (kind_at now k) n → r ≡ 0)
         → ((F : List ℕ) → now.source.store.content ≡ Some F → HasWalked Z F limit now k (Ok (record { count = n; room = r }))) → (counts_new rooms_new : List ℕ) → counts_new ≡ counts ++ n ∷ [] → rooms_new ≡ rooms ++ r ∷ []
         → AreWalking Z limit old next counts_new rooms_new (k + 1)
-    one_walked n r pays going bare of counts_new rooms_new pushed also =
+    one_walked n r pays going fits bare of counts_new rooms_new pushed also =
         record {
           pays = one_pays n pays counts_new pushed;
           counted = ap (λ (ns : List ℕ). length ns) pushed ∙ length-append counts (n ∷ []) ∙ ap (λ (i : ℕ). i + 1) walking.counted;
           roomed = ap (λ (ns : List ℕ). length ns) also ∙ length-append rooms (r ∷ []) ∙ ap (λ (i : ℕ). i + 1) walking.roomed;
           going = going;
+          counts_fit =
+              let size : MayCount old.source.size (chosen_entry now k).entry n = subst (λ (z : ℕ). MayCount z (chosen_entry now k).entry n) walking.pays.same.fetches.fetches.same_size fits in
+              rw pushed (each_push (λ i m. MayCount old.source.size (chosen_entry old i).entry m) counts n walking.counts_fit (subst (λ (x : Numbered). MayCount old.source.size x.entry n) entry_here size));
           bare = rw (pushed, also)
               (bare_push (kind_at old) counts rooms n r (walking.roomed ∙ sym walking.counted) walking.bare
               (λ none. bare (subst (λ (x : Numbered). GivesNone (kind_by x.entry.stream_type) n) (sym entry_here) none)));

@@ -12,6 +12,7 @@ use Rattle.mdmp_lister.specs.declared.fault.ListFault.{ListFault}
 use Rattle.mdmp_lister.specs.declared.item.Item.{Item}
 use Rattle.mdmp_lister.specs.declared.kind.StreamKind.{StreamKind}
 use Rattle.mdmp_lister.specs.declared.shape.Shape.{Shape}
+use Rattle.mdmp_lister.specs.Following.{IsBegun, Standing, records_by}
 use Rattle.mdmp_lister.specs.Format.Item.{item_at}
 use Rattle.mdmp_lister.specs.Format.Kind.{is_known, kind_of}
 use Rattle.mdmp_lister.specs.Format.Listing.{Numbered, chosen, list_fault, records_told}
@@ -131,10 +132,15 @@ abbrev pub ended_by : {T : Type 0} → Result T ReadFault → Option SourceFault
 ended_by (Err (faults.List fault)) = store_fault_in fault.kind
 ended_by result = None
 
+-- an entry of a file of z bytes may have so many records, whatever these are: as many as what is read of its head counts
+abbrev pub MayCount : ℕ → Entry → ℕ → Type 0
+MayCount z e count = (standing : Standing) × (IsBegun z e (Ok standing) × (count ≡ records_by standing))
+
 pub record Begins (old : WalkState) (stream : ℕ) (result : Result ℕ ReadFault) (new : WalkState) : Type 0 where
   pub pays : Pays (listed (chosen_entry old stream).entry) 0 old new
   pub begun : IfOk result (λ count. (new.current ≡ chosen_entry old stream) × (new.left ≡ count) × (count < 2 ^ 32))
   pub of_file : (file : List ℕ) → old.source.store.content ≡ Some file → IsCountOf file (chosen_entry old stream) result
+  pub counts : IfOk result (MayCount old.source.size (chosen_entry old stream).entry)
   pub fetches : old.failed ≡ None → Fetches result old.source new.source
   -- each fault is one of the listing
   pub told : IfErr result (λ fault. (told : ListFault) × (fault ≡ faults.List told))

@@ -19,7 +19,7 @@ use Rattle.mdmp_dump.specs.declared.view.Kind.{Kind}
 use Rattle.mdmp_dump.specs.declared.view.Kind.TheVariants as kinds
 use Rattle.mdmp_dump.specs.declared.view.ViewFault.{ViewFault}
 use Rattle.mdmp_dump.specs.declared.view.ViewFault.TheVariants as view
-use Rattle.mdmp_dump.specs.EntryWalk.{IsSameWalk, Pays, WalkState, chosen_entry, kind_by, listed, name_cost, pass_cost, raw_part}
+use Rattle.mdmp_dump.specs.EntryWalk.{IsSameWalk, MayCount, Pays, WalkState, chosen_entry, kind_by, listed, name_cost, pass_cost, raw_part}
 use Rattle.mdmp_dump.specs.FileRefusal.{body_told, entry_told, view_refusal}
 use Rattle.mdmp_dump.specs.FoundRecord.{AreIn, no_part}
 use Rattle.mdmp_dump.specs.InFile.{dump_in, stream_named}
@@ -237,6 +237,10 @@ module _ (Z : Type 0) where
     pub counted : (k : ℕ) → k < length counts → record_count F (chosen_entry w k).entry ≡ Ok (get_or counts k 0)
     pub roomed : (k : ℕ) → k < length counts → get_or rooms k 0 ≡ room_told (stream_of {Z = Z} F w k)
     pub quiet : (k : ℕ) → k < length counts → entry_told F limit (chosen_entry w k) ≡ None
+
+-- each of the streams of a walk over a file of z bytes has as many records as what was read of its head counts
+abbrev pub AreCounted : ℕ → WalkState → List ℕ → Type 0
+AreCounted z w counts = (k : ℕ) → k < length counts → MayCount z (chosen_entry w k).entry (get_or counts k 0)
 
 -- of streams of these kinds, with so many records each, those of which none is given have no names and parts
 abbrev pub AreBare : (ℕ → Kind) → List ℕ → List ℕ → Type 0

@@ -6,7 +6,7 @@ use Rattle.mdmp_source.specs.declared.store.Store.{Ghosts}
 use Rattle.mdmp_lister.specs.declared.choice.Choice.{Choice}
 use Rattle.mdmp_lister.specs.Format.Listing.{Numbered, chosen, entry_count}
 use Rattle.mdmp_dump.specs.declared.file_view.FileView.{FileView}
-use Rattle.mdmp_dump.specs.FileView.{costs_in, opening_cost, pass_cost_in}
+use Rattle.mdmp_dump.specs.FileView.{AreCounted, costs_in, opening_cost, pass_cost_in}
 
 -- ---- what a known file costs
 
@@ -57,6 +57,8 @@ module _ {S A : Type 0} {G : Ghosts S} where
   -- it was opened over a source through a window of so many bytes, for this choice of the entries, and nothing was asked of it yet
   pub record IsNewView (source : SourceState) (window : ℕ) (choice : Choice) (v : FileView S A G) : Type 0 where
     pub choice_is : v.walk.choice ≡ choice
+    -- of each stream it keeps as many records as what was read of its head counts, whatever the file holds
+    pub counted : AreCounted source.size v.walk v.counts.items
     pub fetches : FetchesSome source (source_in v)
     pub start : started_by v ≡ source.fetched
     pub held : held_by v ≡ window + 24 * entries_in v

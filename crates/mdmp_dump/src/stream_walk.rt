@@ -1,7 +1,7 @@
 //! The walk over all streams of a file, as a view of it is opened.
 ghost use Rattle.std.specs.Prelude.{◌≡◌, ◌≤◌, ◌<◌, ◌*◌, ℕ, List, length, None, Some, Err, IfErr, IfOk, MatchResult, vec_len};
-ghost use Rattle.mdmp_dump.specs.EntryWalk.{Pays, chosen_entry, listed, name_cost};
-ghost use Rattle.mdmp_dump.specs.FileView.{AreBare, AreWalked, HasWalked, PaysAll, PaysSome, PaysUpTo, kind_at};
+ghost use Rattle.mdmp_dump.specs.EntryWalk.{MayCount, Pays, chosen_entry, listed, name_cost};
+ghost use Rattle.mdmp_dump.specs.FileView.{AreBare, AreCounted, AreWalked, HasWalked, PaysAll, PaysSome, PaysUpTo, kind_at};
 ghost use Rattle.mdmp_dump.specs.Shape.{GivesNone};
 ghost use Rattle.mdmp_dump.specs.FileRefusal.{IsOfWalk, run_told};
 ghost use Rattle.mdmp_dump.specs.Left.{run_of};
@@ -32,6 +32,7 @@ fn walk_stream<S: Store + Drop, A: Allocator + Copy>(
         (λ walked. Pays (listed (chosen_entry walk.old stream).entry) (walked.count * name_cost (chosen_entry walk.old stream).entry.stream_type) walk.old walk.new)
         (λ _. PaysUpTo stream walk.old walk.new) }
     ensures goes { IfOk result (λ _. walk.new.failed ≡ None) }
+    ensures counts { IfOk result (λ walked. MayCount walk.old.source.size (chosen_entry walk.old stream).entry walked.count) }
     ensures bare { IfOk result (λ walked. GivesNone (kind_at walk.old stream) walked.count → walked.room ≡ 0) }
     ensures told { IfErr result IsOfWalk }
     ensures of_file { (file : List ℕ) → walk.old.source.store.content ≡ Some file → HasWalked A file limit walk.old stream result }
@@ -69,6 +70,7 @@ pub(crate) fn walk_all<S: Store + Drop, A: Allocator + Copy>(
     ensures pays { MatchResult result (λ kept. PaysAll kept.counts.items walk.old walk.new) (λ _. PaysSome walk.old walk.new) }
     ensures counts { IfOk result (λ kept. (length kept.counts.items ≡ length walk.old.chosen) × (length kept.rooms.items ≡ length walk.old.chosen)) }
     ensures goes { IfOk result (λ _. walk.new.failed ≡ None) }
+    ensures counted { IfOk result (λ kept. AreCounted walk.old.source.size walk.old kept.counts.items) }
     ensures bare { IfOk result (λ kept. AreBare (kind_at walk.old) kept.counts.items kept.rooms.items) }
     ensures told { IfErr result IsOfWalk }
     ensures of_file { (file : List ℕ) → walk.old.source.store.content ≡ Some file

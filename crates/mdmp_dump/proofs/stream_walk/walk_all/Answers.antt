@@ -22,7 +22,7 @@ loop-stream-preserved g c =
     let inside : c.loop-stream.stream < length c.args.walk.now.chosen = omega (arith, c.loop-stream-test.true, c.streams-streams.ensures) in
     let of = c.in-Ok-walk_stream.ensures in
     record {
-      walking = one_walked g.row.A.Denot c.args.limit c.args.walk.now c.loop-stream.walk c.loop-stream.counts.items c.loop-stream.rooms.items c.loop-stream.stream c.loop-stream.invariant.walking inside c.walk_stream.new.walk c.in-Ok-walk_stream.walked.count c.in-Ok-walk_stream.walked.room of.pays of.goes of.bare of.of_file
+      walking = one_walked g.row.A.Denot c.args.limit c.args.walk.now c.loop-stream.walk c.loop-stream.counts.items c.loop-stream.rooms.items c.loop-stream.stream c.loop-stream.invariant.walking inside c.walk_stream.new.walk c.in-Ok-walk_stream.walked.count c.in-Ok-walk_stream.walked.room of.pays of.goes of.counts of.bare of.of_file
           c.push_reserved.new.self.items c.push_reserved-in-Ok-walk_stream.new.self.items c.push_reserved.ensures.items c.push_reserved-in-Ok-walk_stream.ensures.items;
       room = (omega (arith, c.loop-stream.invariant.room, c.push_reserved.ensures.capacity), omega (arith, c.loop-stream.invariant.room, c.push_reserved-in-Ok-walk_stream.ensures.capacity));
     }

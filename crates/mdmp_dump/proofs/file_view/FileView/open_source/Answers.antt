@@ -3,7 +3,7 @@ use Rattle.std.proofs.Common.{◌≡◌, ◌∙◌, ◌<◌, ◌^◌, ℕ, arith
 use Rattle.mdmp_source.specs.Store.{IsSizeOf}
 use Rattle.mdmp_dump.proofs.Laid.{viewed_lays}
 use Rattle.mdmp_dump.proofs.Opened.{tells_of}
-use Rattle.mdmp_dump.proofs.OpenedViews.{held_whole, is_view, run_refused, view_cost, view_fetches, view_of, view_quiet, view_reliable, view_start, walk_spent}
+use Rattle.mdmp_dump.proofs.OpenedViews.{held_whole, is_view, run_refused, view_cost, view_counted, view_fetches, view_of, view_quiet, view_reliable, view_start, walk_spent}
 use Rattle.mdmp_dump.proofs.Refusals.{walk_refusal}
 use Rattle.mdmp_dump.proofs.Taking.{fetches_err}
 use Rattle.mdmp_dump.proofs.file_view.FileView.open_source.Goals as goal
@@ -43,6 +43,7 @@ returns-in-Ok-walk_all-clause-new g c =
     let light : c.in-Ok.walk.held < 2 ^ 64 = omega (arith, c.in-Ok.ensures.opened.held, entries, c.args.limits.window_most) in
     record {
       choice_is = of.pays.same.choice ∙ c.in-Ok.ensures.opened.choice_is;
+      counted = view_counted g.row.A.Denot c.args.source c.args.limits.window c.args.limits.name c.args.choice c.in-Ok.walk c.walk_all.new.walk c.in-Ok-walk_all.field-0.counts.items c.in-Ok-walk_all.field-0.rooms.items c.in-Ok.ensures.opened c.in-Ok.ensures.of_file sized c.size-size.ensures.bytes of.pays of.counts.0 of.counts.1 of.goes light of.of_file of.bare of.counted;
       fetches = view_fetches g.row.A.Denot c.args.source c.args.limits.window c.args.limits.name c.args.choice c.in-Ok.walk c.walk_all.new.walk c.in-Ok-walk_all.field-0.counts.items c.in-Ok-walk_all.field-0.rooms.items c.in-Ok.ensures.opened c.in-Ok.ensures.of_file sized c.size-size.ensures.bytes of.pays of.counts.0 of.counts.1 of.goes light of.of_file of.bare;
       start = view_start g.row.A.Denot c.args.source c.args.limits.window c.args.limits.name c.args.choice c.in-Ok.walk c.walk_all.new.walk c.in-Ok-walk_all.field-0.counts.items c.in-Ok-walk_all.field-0.rooms.items c.in-Ok.ensures.opened c.in-Ok.ensures.of_file sized c.size-size.ensures.bytes of.pays of.counts.0 of.counts.1 of.goes light of.of_file of.bare;
       held = held_whole g.row.A.Denot c.args.source c.args.limits.window c.args.limits.name c.args.choice c.in-Ok.walk c.walk_all.new.walk c.in-Ok-walk_all.field-0.counts.items c.in-Ok-walk_all.field-0.rooms.items c.in-Ok.ensures.opened c.in-Ok.ensures.of_file sized c.size-size.ensures.bytes of.pays of.counts.0 of.counts.1 of.goes light of.of_file of.bare;
