@@ -1,20 +1,18 @@
 -- What is told where parts are taken, or too many of them are wanted.
-use Rattle.std.proofs.Common.{Bool, true, false, nat_lt, if◌then◌else◌, lt-ltb, le-ltb, ◌≡◌, ◌≤◌, ◌<◌, ◌+◌, ◌-◌, ◌∙◌, ℕ, List, ◌∷◌, ◌++◌, length, Option, Some, None, Result, Ok, Err, arith, ap, refl, subst, sym, inl, inr, take, drop, [], ◌==◌, ◌||◌, ne_eqb}
+use Rattle.std.proofs.Common.{Bool, true, false, nat_lt, if◌then◌else◌, lt-ltb, le-ltb, ◌≡◌, ◌≤◌, ◌<◌, ◌+◌, ◌-◌, ◌∙◌, ℕ, List, ◌∷◌, ◌++◌, length, Option, Some, None, Result, Ok, Err, arith, ap, refl, subst, sym, inl, inr, take, drop, [], ◌==◌}
 use Rattle.std.specs.Prelude.{IfErr}
 use Rattle.mdmp_source.specs.Source.{SourceState, FetchesAtMost, IsTold}
 use Rattle.mdmp_source.specs.Range.{IsInside, bytes_at, is_inside}
 use Rattle.mdmp_wire.specs.Number.{array_at}
 use Rattle.mdmp_source.specs.Store.{IsGood}
 use Rattle.std.proofs.Math.Seq.{take-append_seam}
-use Rattle.std.proofs.lemmas.Bool.{eqb-true, lt-leb}
-use Rattle.std.proofs.lemmas.List.{nil_from_length}
+use Rattle.std.proofs.lemmas.Bool.{eqb-true}
 use Rattle.std.specs.Prelude.{IsTrue}
 use Rattle.mdmp_source.specs.declared.fault.SourceFault.{SourceFault}
 use Rattle.mdmp_source.specs.declared.fault.SourceFault.TheVariants.{Failed, ShortRead, Changed}
 use Rattle.mdmp_lister.proofs.Fetches.{FetchesAtMost-none}
 use Rattle.mdmp_dump.specs.declared.fault.ReadFault.{ReadFault}
 use Rattle.mdmp_dump.specs.declared.fault.ReadFault.TheVariants as faults
-use Rattle.mdmp_source.specs.Extent.{extent_of}
 use Rattle.mdmp_source.specs.declared.location.Extent.{Extent}
 use Rattle.mdmp_source.specs.declared.location.Extent.TheVariants.{Empty, Absent, Inside, Outside}
 use Rattle.mdmp_source.specs.declared.location.Location.{Location}
@@ -22,9 +20,9 @@ use Rattle.mdmp_lister.specs.Format.Item.{range_extent_of}
 use Rattle.mdmp_dump.specs.declared.fault.PartName.{PartName}
 use Rattle.mdmp_dump.specs.declared.part.Part.TheVariants as parts
 use Rattle.mdmp_dump.specs.declared.reader.Reader.{Reader}
-use Rattle.mdmp_dump.specs.Part.{IsPart, part_in}
-use Rattle.mdmp_dump.specs.Reading.{Fetches, HasBytesAt, IsReadRefusal, TakesSteps, store_fault}
-use Rattle.mdmp_dump.specs.Refusal.{Refuse, ReadStep, Take, first_refusal, location_steps, part_steps}
+use Rattle.mdmp_dump.specs.Part.{part_in}
+use Rattle.mdmp_dump.specs.Reading.{AreBytesOf, Fetches, HasBytesAt, IsReadRefusal, TakesSteps, store_fault}
+use Rattle.mdmp_dump.specs.Refusal.{Refuse, ReadStep, Take, first_refusal, part_steps}
 use Rattle.mdmp_dump.proofs.Refusal.{refusal_moved}
 
 -- nothing was fetched, and no fault of the store is told
@@ -80,67 +78,36 @@ pub array_is : (file : List ℕ) (at size : ℕ) → array_at file at size ≡ b
 unfolding array_at
 array_is file at size = refl
 
--- ---- places outside the file
-
-or-none : (a b : Bool) → a ≡ false → b ≡ false → (a || b) ≡ false
-or-none a b first second = rw (first, second) refl
-
--- bytes that begin behind the end of the file
-pub behind-outside : (at size z : ℕ) → (size ≡ 0 → ⊥) → z < at → is_inside at size z ≡ false
-behind-outside at size z some over = or-none _ _ (ne_eqb size 0 some) (lt-leb (at + size) z (omega (arith, over)))
-
--- the class of some bytes outside the file
-pub outside-is : (at size z : ℕ) → (size ≡ 0 → ⊥) → is_inside at size z ≡ false → range_extent_of at size z ≡ Outside
-outside-is at size z some out = by (size == 0) (is_inside at size z) (ne_eqb size 0 some) out where
-  by : (a i : Bool) → a ≡ false → i ≡ false → (if a then Empty else if i then Inside else Outside) ≡ Outside
-  by a i none out = rw (none, out) refl
+-- ---- parts
 
 refused-first : (fault : ReadFault) (left : ℕ) (rest : List ReadStep) (last : Option ReadFault) → first_refusal left 0 (Refuse fault ∷ rest) last ≡ Some fault
 unfolding first_refusal
 refused-first fault left rest last = refl
 
--- they are refused
-pub outside-refused : {S A T : Type 0} (old : Reader S A) (e k : ℕ) (part : PartName) (at size z : ℕ) → (size ≡ 0 → ⊥) → is_inside at size z ≡ false
-    → TakesSteps {T = T} (part_steps e k part at size (range_extent_of at size z)) old (Err (faults.PartOutside e k part at size)) old
-outside-refused {T = T} old e k part at size z some out =
-    subst (λ (x : Extent). TakesSteps {T = T} (part_steps e k part at size x) old (Err (faults.PartOutside e k part at size)) old) (sym (outside-is at size z some out)) (record {
-      same = refl;
-      fetches = Fetches-none _ old.lister.source refl tt;
-      settles = λ rest last own. refused-first (faults.PartOutside e k part at size) old.left rest last;
-    })
+-- bytes outside the file are refused
+pub outside-refused : {S A T : Type 0} (old : Reader S A) (e k : ℕ) (part : PartName) (at size : ℕ)
+    → TakesSteps {T = T} (part_steps e k part at size Outside) old (Err (faults.PartOutside e k part at size)) old
+outside-refused old e k part at size = record {
+  same = refl;
+  fetches = Fetches-none _ old.lister.source refl tt;
+  settles = λ rest last own. refused-first (faults.PartOutside e k part at size) old.left rest last;
+}
 
--- no bytes are those of any place
-pub none-at : (file : List ℕ) (at size : ℕ) (bytes : List ℕ) → size ≡ 0 → bytes ≡ [] → HasBytesAt file at size bytes
-none-at file at size bytes none is = rw (none, is) (record { len = refl; inside = refl; same = array_is file at 0 })
+-- the bytes that were taken of a location of this class are its part
+pub bytes-part : {Z : Type 0} (F : List ℕ) (at : Location) (class : Extent) (bytes : List ℕ) → (class ≡ Absent → ⊥)
+    → AreBytesOf F at.rva at.size class bytes → part_in {Z = Z} F at class ≡ Some (parts.Bytes bytes)
+bytes-part F at Empty bytes here are = ap (λ (x : List ℕ). Some (parts.Bytes x)) (sym are)
+bytes-part F at Absent bytes here are = absurd (here refl)
+bytes-part F at Inside bytes here are = ap (λ (x : List ℕ). Some (parts.Bytes x)) are.same
+bytes-part F at Outside bytes here are = absurd are
 
--- ---- parts that a location names
+-- those of a range, which is never absent, are those of its place; no bytes are those of any place
+pub range-bytes : (F : List ℕ) (offset size : ℕ) (bytes : List ℕ) → AreBytesOf F offset size (range_extent_of offset size (length F)) bytes → HasBytesAt F offset size bytes
+range-bytes F offset size bytes are = by (size == 0) (is_inside offset size (length F)) refl are where
+  none-at : size ≡ 0 → bytes ≡ [] → HasBytesAt F offset size bytes
+  none-at none is = rw (none, is) (record { len = refl; inside = refl; same = array_is F offset 0 })
 
--- its class is that of the bytes, unless it is absent
-pub extent-present : (at : Location) (z : ℕ) → (extent_of at z ≡ Absent → ⊥) → range_extent_of at.rva at.size z ≡ extent_of at z
-extent-present at z present = by (at.size == 0) (at.rva == 0) (is_inside at.rva at.size z) present where
-  by : (a b i : Bool) → ((if a then Empty else if b then Absent else if i then Inside else Outside) ≡ Absent → ⊥)
-      → (if a then Empty else if i then Inside else Outside) ≡ (if a then Empty else if b then Absent else if i then Inside else Outside)
-  by true b i here = refl
-  by false true i here = absurd (here refl)
-  by false false i here = refl
-
--- and its bytes are the part
-pub part-present : {Z : Type 0} (file : List ℕ) (at : Location) (bytes : List ℕ) → (extent_of at (length file) ≡ Absent → ⊥)
-    → HasBytesAt file at.rva at.size bytes → IsPart {Z = Z} file at (parts.Bytes bytes)
-part-present {Z = Z} file at bytes present has = by (at.size == 0) (at.rva == 0) (is_inside at.rva at.size (length file)) refl refl present where
-  by : (a b i : Bool) → (at.size == 0) ≡ a → is_inside at.rva at.size (length file) ≡ i
-      → ((if a then Empty else if b then Absent else if i then Inside else Outside) ≡ Absent → ⊥)
-      → part_in {Z = Z} file at (if a then Empty else if b then Absent else if i then Inside else Outside) ≡ Some (parts.Bytes bytes)
-  by true b i none in_file here =
-      let empty : bytes ≡ [] = nil_from_length bytes (omega (arith, has.len, eqb-true at.size 0 none)) in
-      ap (λ (x : List ℕ). Some (parts.Bytes x)) (sym empty)
-  by false true i some in_file here = absurd (here refl)
-  by false false true some in_file here = ap (λ (x : List ℕ). Some (parts.Bytes x)) has.same
-  by false false false some in_file here = absurd (cc (has.inside, in_file))
-
--- what they ask is what the location asks
-pub takes-present : {S A T : Type 0} (old : Reader S A) (result : Result T ReadFault) (new : Reader S A) (e k : ℕ) (part : PartName) (at : Location) (z : ℕ)
-    → (extent_of at z ≡ Absent → ⊥) → TakesSteps (part_steps e k part at.rva at.size (range_extent_of at.rva at.size z)) old result new
-    → TakesSteps (location_steps e k part at (extent_of at z)) old result new
-takes-present old result new e k part at z present takes =
-    subst (λ (x : Extent). TakesSteps (part_steps e k part at.rva at.size x) old result new) (extent-present at z present) takes
+  by : (a i : Bool) → (size == 0) ≡ a → AreBytesOf F offset size (if a then Empty else if i then Inside else Outside) bytes → HasBytesAt F offset size bytes
+  by true i none are = none-at (eqb-true size 0 none) are
+  by false true some are = are
+  by false false some are = absurd are

@@ -1,5 +1,6 @@
 pub mod Begun
 pub mod Budget
+pub mod Classed
 pub mod DumpRows
 pub mod Costs
 pub mod EntryBegun

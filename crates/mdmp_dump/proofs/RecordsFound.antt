@@ -57,7 +57,7 @@ use Rattle.mdmp_dump.specs.Shape.{type_told}
 use Rattle.mdmp_dump.specs.Walking.{HasLeft, IsFar, IsKept, current_entry, ended_with, left_by, records_to_give, state_of}
 use Rattle.mdmp_dump.proofs.EntryBegun.{last_told, left_begun, left_stopped, no_store_fault, own_store_fault, paid_by, plain_stream, walk_same}
 use Rattle.std.proofs.lemmas.Bool.Decides.{nat_tests}
-use Rattle.mdmp_dump.proofs.Laid.{range_inside}
+use Rattle.mdmp_dump.proofs.Classed.{extent_in, range_in}
 use Rattle.mdmp_dump.proofs.Within.Part.{extent-inside}
 use Rattle.mdmp_dump.proofs.Left.{row_given}
 use Rattle.mdmp_dump.proofs.Limits.{refused_under}
@@ -110,22 +110,6 @@ told_kind : (far : Bool) (z e k offset : ℕ) (w : AnyRecord) (name : Name) → 
 told_kind far z e k offset (any.Memory r) name is = ap (λ (b : Bool). Some (range_kind b)) is
 told_kind far z e k offset (any.Memory64 r) name is = ap (λ (b : Bool). Some (range_kind b)) is
 told_kind far z e k offset w name is = refl
-
-some_in : (size : ℕ) (b : Bool) (rest : Extent) → (size == 0) ≡ b → (if b then Empty else rest) ≡ Inside → 0 < size
-some_in size true rest none is = absurd (cc is)
-some_in size false rest some is = grind (arith, nat_tests, some)
-
-extent_in : (at : Location) (z : ℕ) → extent_of at z ≡ Inside → (0 < at.size) × (at.rva + at.size ≤ z)
-extent_in at z is =
-    let some = some_in at.size (at.size == 0) _ refl is in
-    let inside = extent-inside at z is in
-    (some, grind (arith, nat_tests, some, inside))
-
-range_in : (offset size z : ℕ) → range_extent_of offset size z ≡ Inside → (0 < size) × (offset + size ≤ z)
-range_in offset size z is =
-    let some = some_in size (size == 0) _ refl is in
-    let inside = range_inside offset size z (λ out. cc (is, out)) in
-    (some, grind (arith, nat_tests, some, inside))
 
 -- where a record is told in a file whose size has 64 bits, so are its places
 told_placed : (z : ℕ) → z ≤ 2 ^ 64 - 1 → (e k offset : ℕ) (w : AnyRecord) (name : Name) → IfSome (summary_of (item_of z e k offset w name)).range (IsRangeIn (2 ^ 64 - 1))

@@ -74,7 +74,7 @@ unfolding first_refusal
 refused-by fault left steps last = refl
 
 module _ {X : Type 0} (file : List ℕ) (limit : ℕ) (x : Numbered) (k : ℕ) (xs : List Numbered) (kind : StreamKind) (told : Item → Option X)
-    (steps : ℕ → ToldRecord X → List ReadStep) (law : ItemTells kind told steps) (known : kind_of x.entry.stream_type ≡ Some kind) (left : ℕ)
+    (steps : ToldRecord X → List ReadStep) (law : ItemTells kind told steps) (known : kind_of x.entry.stream_type ≡ Some kind) (left : ℕ)
     (item : Item) (first : slice_get (left_from file limit x k xs).items 0 ≡ Some item) where
   abbrev pub run_first : Run
   run_first = left_from file limit x k xs
@@ -82,7 +82,7 @@ module _ {X : Type 0} (file : List ℕ) (limit : ℕ) (x : Numbered) (k : ℕ) (
   given : (IsStreamItem item → ⊥) → RowGiven file limit x k xs kind item
   given other = row_given file limit x k xs kind item known other first
 
-  told_by : (other : IsStreamItem item → ⊥) → (found : ToldRecord X) × ((record_told told item ≡ Some found) × (item_steps (length file) item ≡ name_steps_of item ++ steps (length file) found))
+  told_by : (other : IsStreamItem item → ⊥) → (found : ToldRecord X) × ((record_told told item ≡ Some found) × (item_steps (length file) item ≡ name_steps_of item ++ steps found))
   told_by other = law file limit x.number k x.entry.location.rva _ item (given other).is_item
 
   -- what the first item tells is found, and what it asks is owed
@@ -92,7 +92,7 @@ module _ {X : Type 0} (file : List ℕ) (limit : ℕ) (x : Numbered) (k : ℕ) (
   found-given (Ok (tolds.Record found name)) is =
       let by = told_by is.0 in
       let same : by.0 ≡ found = let e : Some by.0 ≡ Some found = sym by.1.0 ∙ is.1.0 in cc e in
-      let asked : item_steps (length file) item ≡ steps (length file) found = by.1.1 ∙ (rw (is.1.1.0, same) refl) in (
+      let asked : item_steps (length file) item ≡ steps found = by.1.1 ∙ (rw (is.1.1.0, same) refl) in (
         record { item = item; given = given is.0; told = is.1.0; named = is.1.1.1; rest = ap (λ (r : Run). Some r) (given is.0).rest },
         item-owed file left run_first item first ∙ ap (λ (s : List ReadStep). refusal_in file left s (Some (tail run_first))) asked,
       )
@@ -108,25 +108,24 @@ module _ {X : Type 0} (file : List ℕ) (limit : ℕ) (x : Numbered) (k : ℕ) (
     settled faults.Memory is own = absurd (own tt)
     settled fault is own =
         let by = told_by is.0 in
-        let asked : item_steps (length file) item ≡ Refuse fault ∷ steps (length file) by.0 = by.1.1 ∙ ap (λ (s : List ReadStep). s ++ steps (length file) by.0) is.1 in
+        let asked : item_steps (length file) item ≡ Refuse fault ∷ steps by.0 = by.1.1 ∙ ap (λ (s : List ReadStep). s ++ steps by.0) is.1 in
         item-owed file left run_first item first ∙ (rw asked (refused-by fault left _ _))
 
 -- ---- its parts
 
 module _ {S A X T : Type 0} (file : List ℕ) (limit : ℕ) (x : Numbered) (k : ℕ) (xs : List Numbered) (kind : StreamKind) (told : Item → Option (ToldRecord X))
-    (steps : ℕ → ToldRecord X → List ReadStep) (IsAt : List ℕ → ℕ → ℕ → ℕ → T → Type 0) (old : Option ReadFault) (mid : Reader S A) (found : ToldRecord X) (name : Option (List ℕ))
-    (is : IsRecordFound file limit x k xs kind told found name mid.lister.left) (owes : old ≡ refusal_in file mid.left (steps (length file) found) mid.lister.left)
-    (size : mid.lister.source.size ≡ length file) (known : mid.lister.source.store.content ≡ Some file) (new : Reader S A) where
+    (steps : ToldRecord X → List ReadStep) (IsAt : List ℕ → ℕ → ℕ → ℕ → T → Type 0) (old : Option ReadFault) (mid : Reader S A) (found : ToldRecord X) (name : Option (List ℕ))
+    (is : IsRecordFound file limit x k xs kind told found name mid.lister.left) (owes : old ≡ refusal_in file mid.left (steps found) mid.lister.left)
+    (known : mid.lister.source.store.content ≡ Some file) (new : Reader S A) where
   abbrev left_behind : Run
   left_behind = left_from file limit x (k + 1) xs
 
-  settled : {result : Result T ReadFault} → TakesSteps (steps mid.lister.source.size found) mid result new → Settles old result (λ _. owed file new.left None (Some left_behind))
+  settled : {result : Result T ReadFault} → TakesSteps (steps found) mid result new → Settles old result (λ _. owed file new.left None (Some left_behind))
   settled {result = result} takes =
-      let at_size = subst (λ (z : ℕ). (rest : List ReadStep) (last : Option ReadFault) → Settles (first_refusal mid.left 0 (steps z found ++ rest) last) result (λ _. first_refusal new.left 0 rest last)) size takes.settles in
-      let same : old ≡ first_refusal mid.left 0 (steps (length file) found ++ flat_map (item_steps (length file)) left_behind.items) (option_map faults.List left_behind.fault) = owes ∙ (rw is.rest refl) in
-      subst (λ (o : Option ReadFault). Settles o result (λ _. owed file new.left None (Some left_behind))) (sym same) (at_size _ _)
+      let same : old ≡ first_refusal mid.left 0 (steps found ++ flat_map (item_steps (length file)) left_behind.items) (option_map faults.List left_behind.fault) = owes ∙ (rw is.rest refl) in
+      subst (λ (o : Option ReadFault). Settles o result (λ _. owed file new.left None (Some left_behind))) (sym same) (takes.settles _ _)
 
-  left-read : {result : Result T ReadFault} → TakesSteps (steps mid.lister.source.size found) mid result new → new.lister.left ≡ Some left_behind
+  left-read : {result : Result T ReadFault} → TakesSteps (steps found) mid result new → new.lister.left ≡ Some left_behind
   left-read takes = ap (λ (l : ListerState). l.left) takes.same ∙ is.rest
 
   -- the row is that of the record, and the next one stands behind it

@@ -179,19 +179,12 @@ module _ {S A : Type 0} where
       settles = λ rest last other. takes.settles rest last other;
     }
 
-    -- what is asked behind may be said of the size of the file, which stays
-    pub Takes_then_at : (more : ℕ → List ReadStep) (x : T) (result : Result U ReadFault) (mid new : Reader S A)
-        → TakesSteps steps old (Ok x) mid → TakesSteps (more mid.lister.source.size) mid result new → TakesSteps (steps ++ more old.lister.source.size) old result new
-    Takes_then_at more x result mid new first then =
-        Takes_then (more old.lister.source.size) x result mid new first
-        (subst (λ (size : ℕ). TakesSteps (more size) mid result new) (TakesSteps-size steps old mid (Ok x) first) then)
-
   -- ---- records
 
   -- a record whose name and parts are refused is not read
-  pub row_refused : {X T : Type 0} (kind : StreamKind) (told : Item → Option (ToldRecord X)) (steps : ℕ → ToldRecord X → List ReadStep) (IsAt : List ℕ → ℕ → ℕ → ℕ → T → Type 0)
+  pub row_refused : {X T : Type 0} (kind : StreamKind) (told : Item → Option (ToldRecord X)) (steps : ToldRecord X → List ReadStep) (IsAt : List ℕ → ℕ → ℕ → ℕ → T → Type 0)
       (old : Reader S A) (found : ToldRecord X) (name : Option (List ℕ)) (result : Result T ReadFault) (fault : ReadFault) (new : Reader S A)
-      → result ≡ Err fault → TakesSteps {T = T} (steps old.lister.source.size found) old (Err fault) new → IsRowRead kind told steps IsAt old found name result new
+      → result ≡ Err fault → TakesSteps {T = T} (steps found) old (Err fault) new → IsRowRead kind told steps IsAt old found name result new
   row_refused kind told steps IsAt old found name result fault new is takes =
       subst (λ r. IsRowRead kind told steps IsAt old found name r new) (sym is)
       (record { takes = takes; stands = λ file limit e k at o item known given tells named. tt })

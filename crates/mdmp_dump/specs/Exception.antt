@@ -6,9 +6,9 @@ use Rattle.mdmp_wire.specs.Exception.{exception_at}
 use Rattle.mdmp_dump.specs.declared.exception.Exception.{Exception}
 use Rattle.mdmp_dump.specs.Part.{IsPart, PartFits}
 use Rattle.mdmp_lister.specs.declared.item.Item.{Item}
+use Rattle.mdmp_lister.specs.declared.item.ExceptionItem.{ExceptionItem}
 use Rattle.mdmp_lister.specs.declared.item.Item.TheVariants as items
 use Rattle.mdmp_dump.specs.declared.row.ToldRecord.{ToldRecord}
-use Rattle.mdmp_source.specs.Extent.{extent_of}
 use Rattle.mdmp_dump.specs.Refusal.{ReadStep, location_steps}
 use Rattle.mdmp_dump.specs.declared.fault.PartName.TheVariants.{Context}
 use Rattle.mdmp_wire.specs.declared.any_record.AnyRecord.TheVariants as any
@@ -52,10 +52,10 @@ module _ {Z : Type 0} where
     pub context : PartFits x.context
 
 -- what an item tells of such a record, but for its place and its name
-abbrev pub exception_told : Item → Option ExceptionRecord
-exception_told (items.Exception x) = Some x.fields
+abbrev pub exception_told : Item → Option ExceptionItem
+exception_told (items.Exception x) = Some x
 exception_told item = None
 
 -- the registers of its thread are taken
-abbrev pub exception_steps : ℕ → ToldRecord ExceptionRecord → List ReadStep
-exception_steps size x = location_steps x.place.entry x.place.index Context x.fields.thread_context (extent_of x.fields.thread_context size)
+abbrev pub exception_steps : ToldRecord ExceptionItem → List ReadStep
+exception_steps x = location_steps x.place.entry x.place.index Context x.fields.fields.thread_context x.fields.context

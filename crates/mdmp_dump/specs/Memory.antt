@@ -9,9 +9,6 @@ use Rattle.mdmp_lister.specs.declared.item.Item.{Item}
 use Rattle.mdmp_lister.specs.declared.item.Item.TheVariants as items
 use Rattle.mdmp_dump.specs.declared.row.ToldRecord.{ToldRecord}
 use Rattle.mdmp_lister.specs.declared.item.RangeItem.{RangeItem}
-use Rattle.mdmp_source.specs.declared.location.Extent.{Extent}
-use Rattle.mdmp_source.specs.declared.location.Extent.TheVariants as classes
-use Rattle.mdmp_lister.specs.Format.Item.{range_extent_of}
 use Rattle.mdmp_dump.specs.Refusal.{ReadStep, part_steps}
 use Rattle.mdmp_dump.specs.declared.fault.PartName.TheVariants.{Memory}
 use Rattle.mdmp_wire.specs.declared.any_record.AnyRecord.TheVariants as any
@@ -42,10 +39,6 @@ abbrev pub range_told : Item → Option RangeItem
 range_told (items.Range x) = Some x
 range_told item = None
 
--- its bytes are taken, unless they are absent
-abbrev pub present_steps : ℕ → ℕ → ℕ → ℕ → ℕ → Extent → List ReadStep
-present_steps size e k offset len classes.Absent = []
-present_steps size e k offset len extent = part_steps e k Memory offset len (range_extent_of offset len size)
-
-abbrev pub memory_steps : ℕ → ToldRecord RangeItem → List ReadStep
-memory_steps size x = present_steps size x.place.entry x.place.index x.fields.offset x.fields.size x.fields.extent
+-- its bytes are taken, of either memory list
+abbrev pub range_steps : ToldRecord RangeItem → List ReadStep
+range_steps x = part_steps x.place.entry x.place.index Memory x.fields.offset x.fields.size x.fields.extent

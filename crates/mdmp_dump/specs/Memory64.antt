@@ -4,12 +4,8 @@ use Rattle.mdmp_source.specs.Range.{is_inside}
 use Rattle.mdmp_wire.specs.Number.{array_at}
 use Rattle.mdmp_wire.specs.declared.descriptor64.Descriptor64.{Descriptor64}
 use Rattle.mdmp_wire.specs.Descriptor64.{descriptor64_at}
-use Rattle.mdmp_lister.specs.Format.Item.{range_extent_of, range_offset}
+use Rattle.mdmp_lister.specs.Format.Item.{range_offset}
 use Rattle.mdmp_dump.specs.declared.memory64.Memory64Range.{Memory64Range}
-use Rattle.mdmp_lister.specs.declared.item.RangeItem.{RangeItem}
-use Rattle.mdmp_dump.specs.declared.row.ToldRecord.{ToldRecord}
-use Rattle.mdmp_dump.specs.Refusal.{ReadStep, part_steps}
-use Rattle.mdmp_dump.specs.declared.fault.PartName.TheVariants.{Memory}
 use Rattle.mdmp_wire.specs.declared.any_record.AnyRecord.TheVariants as any
 use Rattle.mdmp_dump.specs.Seen.{Seen, seen}
 use Rattle.mdmp_dump.specs.declared.view.PartSize.TheVariants.{NoPart, Size}
@@ -33,8 +29,3 @@ module _ {Z : Type 0} where
   -- its start fits its field
   abbrev pub Memory64Fits : Memory64Range Z → Type 0
   Memory64Fits x = x.start < 2 ^ 64
-
--- its bytes are taken
-abbrev pub memory64_steps : ℕ → ToldRecord RangeItem → List ReadStep
-memory64_steps size x =
-    part_steps x.place.entry x.place.index Memory x.fields.offset x.fields.size (range_extent_of x.fields.offset x.fields.size size)

@@ -8,8 +8,8 @@ use Rattle.mdmp_dump.specs.Name.{IsName, NameFits}
 use Rattle.mdmp_dump.specs.Part.{IsPart, PartFits}
 use Rattle.mdmp_lister.specs.declared.item.Item.{Item}
 use Rattle.mdmp_lister.specs.declared.item.Item.TheVariants as items
+use Rattle.mdmp_dump.specs.declared.module.ToldModule.{ToldModule}
 use Rattle.mdmp_dump.specs.declared.row.ToldRecord.{ToldRecord}
-use Rattle.mdmp_source.specs.Extent.{extent_of}
 use Rattle.mdmp_dump.specs.Refusal.{ReadStep, location_steps}
 use Rattle.mdmp_dump.specs.declared.fault.PartName.TheVariants.{CodeView, Misc}
 use Rattle.mdmp_wire.specs.declared.any_record.AnyRecord.TheVariants as any
@@ -75,12 +75,12 @@ module _ {Z : Type 0} where
     pub reserved1 : x.reserved1 < 2 ^ 64
 
 -- what an item tells of such a record, but for its place and its name
-abbrev pub module_told : Item → Option ModuleRecord
-module_told (items.Module x) = Some x.fields
+abbrev pub module_told : Item → Option ToldModule
+module_told (items.Module x) = Some (record { fields = x.fields; codeview = x.codeview; misc = x.misc })
 module_told item = None
 
 -- its CodeView record is taken, and then its miscellaneous debug record
-abbrev pub module_steps : ℕ → ToldRecord ModuleRecord → List ReadStep
-module_steps size x =
-    location_steps x.place.entry x.place.index CodeView x.fields.cv_record (extent_of x.fields.cv_record size)
-    ++ location_steps x.place.entry x.place.index Misc x.fields.misc_record (extent_of x.fields.misc_record size)
+abbrev pub module_steps : ToldRecord ToldModule → List ReadStep
+module_steps x =
+    location_steps x.place.entry x.place.index CodeView x.fields.fields.cv_record x.fields.codeview
+    ++ location_steps x.place.entry x.place.index Misc x.fields.fields.misc_record x.fields.misc

@@ -39,6 +39,8 @@ use Rattle.mdmp_dump.specs.Left.{StandBehind, IsGiven, RowGiven, left_from}
 use Rattle.mdmp_dump.specs.Name.{name_told}
 use Rattle.mdmp_dump.specs.Refusal.{ReadStep, Refuse, first_refusal, item_steps, name_steps, stream_steps}
 use Rattle.mdmp_source.specs.Range.{is_inside}
+use Rattle.mdmp_source.specs.declared.location.Extent.{Extent}
+use Rattle.mdmp_source.specs.declared.location.Extent.TheVariants as classes
 use Rattle.mdmp_wire.specs.Number.{array_at}
 
 -- ---- faults
@@ -113,6 +115,12 @@ pub record HasBytesAt (F : List ℕ) (at size : ℕ) (bytes : List ℕ) : Type 0
   pub inside : IsTrue (is_inside at size (length F))
   pub same : array_at F at size ≡ bytes
 
+-- these were taken of a part of this class
+abbrev pub AreBytesOf : List ℕ → ℕ → ℕ → Extent → List ℕ → Type 0
+AreBytesOf F at size classes.Inside bytes = HasBytesAt F at size bytes
+AreBytesOf F at size classes.Outside bytes = ⊥
+AreBytesOf F at size class bytes = bytes ≡ []
+
 -- ---- items
 
 -- the name of an item is refused where it is too long
@@ -184,9 +192,9 @@ IsGoingOn old (nexts.Row row) new = ListingGoesOn old new
 IsGoingOn old (nexts.Behind next) new = IsGoing old next new
 
 -- the value of a record was read, with its name and its parts, of an item that told the record
-pub record IsRowRead {S A X T : Type 0} (kind : StreamKind) (told : Item → Option (ToldRecord X)) (steps : ℕ → ToldRecord X → List ReadStep) (IsAt : List ℕ → ℕ → ℕ → ℕ → T → Type 0)
+pub record IsRowRead {S A X T : Type 0} (kind : StreamKind) (told : Item → Option (ToldRecord X)) (steps : ToldRecord X → List ReadStep) (IsAt : List ℕ → ℕ → ℕ → ℕ → T → Type 0)
     (old : Reader S A) (found : ToldRecord X) (name : Option (List ℕ)) (result : Result T ReadFault) (new : Reader S A) : Type 0 where
-  pub takes : TakesSteps (steps old.lister.source.size found) old result new
+  pub takes : TakesSteps (steps found) old result new
   pub stands : (file : List ℕ) (limit e k at o : ℕ) (item : Item) → old.lister.source.store.content ≡ Some file
       → item_at file limit e k at o kind ≡ Ok item → told item ≡ Some found → name_told (summary_of item).name ≡ Some name
       → IfOk result (IsAt file at k o)
@@ -212,8 +220,8 @@ IsFoundOrBehind F limit x k xs kind found (tolds.Record record_is name) left = I
 IsFoundOrBehind F limit x k xs kind found (tolds.Behind next) left = IsGiven F x k × IsLeftBehind F limit xs next left
 
 -- the first refusal where the parts of a record that was told are still to come
-abbrev pub refusal_found : {X Z : Type 0} → List ℕ → ℕ → (ℕ → ToldRecord X → List ReadStep) → Told X Z → Option Run → Option ReadFault
-refusal_found F left steps (tolds.Record found name) run = refusal_in F left (steps (length F) found) run
+abbrev pub refusal_found : {X Z : Type 0} → List ℕ → ℕ → (ToldRecord X → List ReadStep) → Told X Z → Option Run → Option ReadFault
+refusal_found F left steps (tolds.Record found name) run = refusal_in F left (steps found) run
 refusal_found F left steps (tolds.Behind next) run = owed F left next run
 
 -- a name was taken, whose steps are these, or is refused as they say

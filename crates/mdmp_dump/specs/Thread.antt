@@ -6,9 +6,9 @@ use Rattle.mdmp_wire.specs.Thread.{thread_at}
 use Rattle.mdmp_dump.specs.declared.thread.Thread.{Thread}
 use Rattle.mdmp_dump.specs.Part.{IsPart, PartFits}
 use Rattle.mdmp_lister.specs.declared.item.Item.{Item}
+use Rattle.mdmp_lister.specs.declared.item.ThreadItem.{ThreadItem}
 use Rattle.mdmp_lister.specs.declared.item.Item.TheVariants as items
 use Rattle.mdmp_dump.specs.declared.row.ToldRecord.{ToldRecord}
-use Rattle.mdmp_source.specs.Extent.{extent_of}
 use Rattle.mdmp_dump.specs.Refusal.{ReadStep, location_steps}
 use Rattle.mdmp_dump.specs.declared.fault.PartName.TheVariants.{Stack, Context}
 use Rattle.mdmp_wire.specs.declared.any_record.AnyRecord.TheVariants as any
@@ -52,12 +52,12 @@ module _ {Z : Type 0} where
     pub context : PartFits x.context
 
 -- what an item tells of such a record, but for its place and its name
-abbrev pub thread_told : Item → Option ThreadRecord
-thread_told (items.Thread x) = Some x.fields
+abbrev pub thread_told : Item → Option ThreadItem
+thread_told (items.Thread x) = Some x
 thread_told item = None
 
 -- its stack is taken, and then its registers
-abbrev pub thread_steps : ℕ → ToldRecord ThreadRecord → List ReadStep
-thread_steps size x =
-    location_steps x.place.entry x.place.index Stack x.fields.stack.memory (extent_of x.fields.stack.memory size)
-    ++ location_steps x.place.entry x.place.index Context x.fields.thread_context (extent_of x.fields.thread_context size)
+abbrev pub thread_steps : ToldRecord ThreadItem → List ReadStep
+thread_steps x =
+    location_steps x.place.entry x.place.index Stack x.fields.fields.stack.memory x.fields.stack
+    ++ location_steps x.place.entry x.place.index Context x.fields.fields.thread_context x.fields.context

@@ -11,7 +11,7 @@ use crate::part::Part;
 use crate::reader::Reader;
 use crate::row::{RecordPlace, Row};
 use crate::view::{Fields, PartSize};
-use mdmp_lister::Item;
+use mdmp_lister::{ExceptionItem, Item};
 use mdmp_source::Store;
 use mdmp_wire::{AnyRecord, ExceptionRecord, Units};
 use std::alloc::Allocator;
@@ -66,7 +66,7 @@ impl<A: Allocator> Fitting for Exception<A> {
 }
 
 impl<S: Store + Drop, A: Allocator + Copy> Row<S, A> for Exception<A> {
-    type Fields = ExceptionRecord;
+    type Fields = ExceptionItem;
 
     ghost kind = { kinds.Exception };
 
@@ -76,9 +76,9 @@ impl<S: Store + Drop, A: Allocator + Copy> Row<S, A> for Exception<A> {
 
     ghost IsAt = { λ file at k. IsException file };
 
-    fn find(item: &Item<'_>) -> Option<ExceptionRecord> {
+    fn find(item: &Item<'_>) -> Option<ExceptionItem> {
         match item {
-            Item::Exception(exception) => Some(exception.fields),
+            Item::Exception(exception) => Some(*exception),
             _ => None,
         }
     }
@@ -86,18 +86,20 @@ impl<S: Store + Drop, A: Allocator + Copy> Row<S, A> for Exception<A> {
     fn read(
         reader: &mut Reader<S, A>,
         place: RecordPlace,
-        fields: ExceptionRecord,
+        fields: ExceptionItem,
         name: &mut Option<Units<A>>,
     ) -> Result<Self, ReadFault> {
-        let context = reader.part(place, PartName::Context, fields.thread_context)?;
-        let exception_information = fields.exception_information;
+        let exception = fields.fields;
+        let at = exception.thread_context;
+        let context = reader.part(place, PartName::Context, at, fields.context)?;
+        let exception_information = exception.exception_information;
         Ok(Exception {
-            thread_id: fields.thread_id,
-            exception_code: fields.exception_code,
-            exception_flags: fields.exception_flags,
-            exception_record: fields.exception_record,
-            exception_address: fields.exception_address,
-            number_parameters: fields.number_parameters,
+            thread_id: exception.thread_id,
+            exception_code: exception.exception_code,
+            exception_flags: exception.exception_flags,
+            exception_record: exception.exception_record,
+            exception_address: exception.exception_address,
+            number_parameters: exception.number_parameters,
             exception_information,
             context,
         })

@@ -1,6 +1,6 @@
 //! A range of memory of a dump.
 ghost use Rattle.mdmp_lister.specs.declared.kind.StreamKind.TheVariants as kinds;
-ghost use Rattle.mdmp_dump.specs.Memory.{IsMemory, MemoryFits, memory_seen, memory_steps, range_told};
+ghost use Rattle.mdmp_dump.specs.Memory.{IsMemory, MemoryFits, memory_seen, range_steps, range_told};
 ghost use Rattle.mdmp_dump.specs.TellingLaws.{memory_tells};
 
 use crate::fault::{PartName, ReadFault};
@@ -41,7 +41,7 @@ impl<S: Store + Drop, A: Allocator + Copy> Row<S, A> for MemoryRange<A> {
 
     ghost told = { range_told };
 
-    ghost steps = { memory_steps };
+    ghost steps = { range_steps };
 
     ghost IsAt = { λ file at k. IsMemory file };
 
@@ -67,7 +67,13 @@ impl<S: Store + Drop, A: Allocator + Copy> Row<S, A> for MemoryRange<A> {
                 })
             }
             _ => {
-                let bytes = reader.bytes_at(place, PartName::Memory, fields.offset, fields.size)?;
+                let bytes = reader.bytes_at(
+                    place,
+                    PartName::Memory,
+                    fields.offset,
+                    fields.size,
+                    fields.extent,
+                )?;
                 Ok(MemoryRange {
                     start: fields.start,
                     bytes: Part::Bytes(bytes),

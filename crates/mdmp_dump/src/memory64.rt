@@ -1,7 +1,7 @@
 //! A range of a 64-bit memory list of a dump.
 ghost use Rattle.mdmp_lister.specs.declared.kind.StreamKind.TheVariants as kinds;
-ghost use Rattle.mdmp_dump.specs.Memory.{range_told};
-ghost use Rattle.mdmp_dump.specs.Memory64.{IsMemory64, Memory64Fits, memory64_seen, memory64_steps};
+ghost use Rattle.mdmp_dump.specs.Memory.{range_steps, range_told};
+ghost use Rattle.mdmp_dump.specs.Memory64.{IsMemory64, Memory64Fits, memory64_seen};
 ghost use Rattle.mdmp_dump.specs.TellingLaws.{memory64_tells};
 
 use crate::bytes::Bytes;
@@ -41,7 +41,7 @@ impl<S: Store + Drop, A: Allocator + Copy> Row<S, A> for Memory64Range<A> {
 
     ghost told = { range_told };
 
-    ghost steps = { memory64_steps };
+    ghost steps = { range_steps };
 
     ghost IsAt = { λ file. IsMemory64 file };
 
@@ -58,7 +58,13 @@ impl<S: Store + Drop, A: Allocator + Copy> Row<S, A> for Memory64Range<A> {
         fields: RangeItem,
         name: &mut Option<Units<A>>,
     ) -> Result<Self, ReadFault> {
-        let bytes = reader.bytes_at(place, PartName::Memory, fields.offset, fields.size)?;
+        let bytes = reader.bytes_at(
+            place,
+            PartName::Memory,
+            fields.offset,
+            fields.size,
+            fields.extent,
+        )?;
         Ok(Memory64Range {
             start: fields.start,
             bytes,

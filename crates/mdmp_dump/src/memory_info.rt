@@ -37,7 +37,7 @@ impl<S: Store + Drop, A: Allocator + Copy> Row<S, A> for MemoryInfoRecord {
 
     ghost told = { memory_info_told };
 
-    ghost steps = { λ z x. [] };
+    ghost steps = { λ x. [] };
 
     ghost IsAt = { λ file at k o row. memory_info_at file o ≡ row };
 

@@ -11,7 +11,7 @@ use crate::reader::Reader;
 use crate::row::{RecordPlace, Row};
 use crate::view::Fields;
 use mdmp_lister::Item;
-use mdmp_source::Store;
+use mdmp_source::{Extent, Store};
 use mdmp_wire::{AnyRecord, ModuleRecord, Units, VersionInfo};
 use std::alloc::Allocator;
 
@@ -39,6 +39,17 @@ pub struct Module<A: Allocator> {
     pub reserved0: u64,
     /// `Reserved1`.
     pub reserved1: u64,
+}
+
+/// What the item of a module tells of it, but for its place and its name.
+#[derive(Clone, Copy)]
+pub(crate) struct ToldModule {
+    /// The record as it stands in the file.
+    pub(crate) fields: ModuleRecord,
+    /// What its `CvRecord` names.
+    pub(crate) codeview: Extent,
+    /// What its `MiscRecord` names.
+    pub(crate) misc: Extent,
 }
 
 impl Fitting for VersionInfo {
@@ -79,7 +90,7 @@ impl<A: Allocator> Fitting for Module<A> {
 }
 
 impl<S: Store + Drop, A: Allocator + Copy> Row<S, A> for Module<A> {
-    type Fields = ModuleRecord;
+    type Fields = ToldModule;
 
     ghost kind = { kinds.Modules };
 
@@ -89,9 +100,13 @@ impl<S: Store + Drop, A: Allocator + Copy> Row<S, A> for Module<A> {
 
     ghost IsAt = { λ file at k. IsModule file };
 
-    fn find(item: &Item<'_>) -> Option<ModuleRecord> {
+    fn find(item: &Item<'_>) -> Option<ToldModule> {
         match item {
-            Item::Module(module) => Some(module.fields),
+            Item::Module(module) => Some(ToldModule {
+                fields: module.fields,
+                codeview: module.codeview,
+                misc: module.misc,
+            }),
             _ => None,
         }
     }
@@ -99,22 +114,23 @@ impl<S: Store + Drop, A: Allocator + Copy> Row<S, A> for Module<A> {
     fn read(
         reader: &mut Reader<S, A>,
         place: RecordPlace,
-        fields: ModuleRecord,
+        fields: ToldModule,
         name: &mut Option<Units<A>>,
     ) -> Result<Self, ReadFault> {
-        let codeview = reader.part(place, PartName::CodeView, fields.cv_record)?;
-        let misc = reader.part(place, PartName::Misc, fields.misc_record)?;
+        let module = fields.fields;
+        let codeview = reader.part(place, PartName::CodeView, module.cv_record, fields.codeview)?;
+        let misc = reader.part(place, PartName::Misc, module.misc_record, fields.misc)?;
         Ok(Module {
-            base_of_image: fields.base_of_image,
-            size_of_image: fields.size_of_image,
-            checksum: fields.checksum,
-            time_date_stamp: fields.time_date_stamp,
+            base_of_image: module.base_of_image,
+            size_of_image: module.size_of_image,
+            checksum: module.checksum,
+            time_date_stamp: module.time_date_stamp,
             name: name.take(),
-            version_info: fields.version_info,
+            version_info: module.version_info,
             codeview,
             misc,
-            reserved0: fields.reserved0,
-            reserved1: fields.reserved1,
+            reserved0: module.reserved0,
+            reserved1: module.reserved1,
         })
     }
 

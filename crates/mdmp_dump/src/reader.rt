@@ -1,16 +1,17 @@
 //! A lister that is read into values.
-ghost use Rattle.std.specs.Prelude.{◌≡◌, ◌<◌, ◌∷◌, [], ℕ, List, length, Option, Some, None, Ok, IfOk, MatchResult};
-ghost use Rattle.mdmp_source.specs.Extent.{extent_of};
+ghost use Rattle.std.specs.Prelude.{◌≡◌, ◌≤◌, ◌<◌, ◌+◌, ◌∷◌, [], ℕ, List, length, Option, Some, None, Ok, IfOk, MatchResult};
 ghost use Rattle.mdmp_source.specs.Range.{IsInside};
+ghost use Rattle.mdmp_source.specs.declared.location.Extent.TheVariants as classes;
 ghost use Rattle.mdmp_source.specs.Store.{IsSizeOf};
-ghost use Rattle.mdmp_lister.specs.Format.Item.{plain, range_extent_of};
+ghost use Rattle.mdmp_lister.specs.Format.Item.{plain};
 ghost use Rattle.mdmp_lister.specs.Format.Name.{plain_name};
 ghost use Rattle.mdmp_lister.specs.Format.Kind.{kind_of};
 ghost use Rattle.mdmp_lister.specs.Format.Listing.{Numbered, Run};
 ghost use Rattle.mdmp_dump.specs.LaysOut.{HasRecords};
 ghost use Rattle.mdmp_dump.specs.Left.{left_from};
-ghost use Rattle.mdmp_dump.specs.Part.{IsPart};
+ghost use Rattle.mdmp_dump.specs.Part.{part_in};
 ghost use Rattle.mdmp_dump.specs.Reading.{
+  AreBytesOf,
   Fetches,
   HasBytesAt,
   HasOneRecord,
@@ -31,7 +32,7 @@ ghost use Rattle.mdmp_dump.specs.Reading.{
   refusal_found,
 };
 ghost use Rattle.mdmp_dump.specs.Refusal.{Take, location_steps, name_steps, part_steps};
-ghost use Rattle.mdmp_dump.specs.Telling.{record_told};
+ghost use Rattle.mdmp_dump.specs.Telling.{FoundHasClasses, record_told};
 ghost use Rattle.mdmp_dump.specs.declared.part.Part.TheVariants as parts;
 
 use crate::bytes::Bytes;
@@ -40,7 +41,7 @@ use crate::part::{Part, PositiveSize};
 use crate::records::Records;
 use crate::row::{RecordPlace, Row, ToldRecord};
 use mdmp_lister::{Item, Lister, Name, StreamItem};
-use mdmp_source::{Extent, Location, Store, inside};
+use mdmp_source::{Extent, Location, Store};
 use mdmp_wire::Units;
 use std::alloc::{AllocError, Allocator};
 
@@ -99,48 +100,51 @@ impl<S: Store + Drop, A: Allocator + Copy> Reader<S, A> {
         Ok(Bytes::new(bytes))
     }
 
-    /// The bytes of a part at an offset, unless that or its end lies outside the file.
+    /// The bytes of a part at an offset, of this class: none where it is empty.
     pub(crate) fn bytes_at(
         &mut self,
         place: RecordPlace,
         name: PartName,
         offset: u128,
         size: u64,
+        class: Extent,
     ) -> Result<Bytes<A>, ReadFault>
-        ensures takes { TakesSteps (part_steps place.entry place.index name offset size (range_extent_of offset size self.old.lister.source.size)) self.old result self.new }
-        ensures of_file { (file : List ℕ) → self.old.lister.source.store.content ≡ Some file → IfOk result (HasBytesAt file offset size) }
+        requires inside { class ≡ classes.Inside → offset + size ≤ self.old.lister.source.size }
+        ensures takes { TakesSteps (part_steps place.entry place.index name offset size class) self.old result self.new }
+        ensures of_file { (file : List ℕ) → self.old.lister.source.store.content ≡ Some file → IfOk result (AreBytesOf file offset size class) }
     {
-        if size == 0 {
-            return Ok(Bytes::new(Vec::new(self.alloc)));
-        }
-        let file_size = self.lister.size();
-        if offset > u128::from(file_size) || !inside(offset as u64, size, file_size) {
-            return Err(ReadFault::PartOutside {
+        // Its answer has 64 bits, and is the length of the file.
+        let _size = self.lister.size();
+        match class {
+            Extent::Inside => self.bytes(place, offset as u64, size),
+            Extent::Outside => Err(ReadFault::PartOutside {
                 entry: place.entry,
                 index: place.index,
                 part: name,
                 offset,
                 size,
-            });
+            }),
+            Extent::Empty | Extent::Absent => Ok(Bytes::new(Vec::new(self.alloc))),
         }
-        self.bytes(place, offset as u64, size)
     }
 
-    /// The part that a location names.
+    /// The part that a location of this class names.
     pub(crate) fn part(
         &mut self,
         place: RecordPlace,
         name: PartName,
         location: Location,
+        class: Extent,
     ) -> Result<Part<A>, ReadFault>
-        ensures takes { TakesSteps (location_steps place.entry place.index name location (extent_of location self.old.lister.source.size)) self.old result self.new }
-        ensures of_file { (file : List ℕ) → self.old.lister.source.store.content ≡ Some file → IfOk result (IsPart file location) }
+        requires inside { class ≡ classes.Inside → location.rva + location.size ≤ self.old.lister.source.size }
+        ensures takes { TakesSteps (location_steps place.entry place.index name location class) self.old result self.new }
+        ensures of_file { (file : List ℕ) → self.old.lister.source.store.content ≡ Some file → IfOk result (λ part. part_in file location class ≡ Some part) }
     {
         let size = u64::from(location.size);
-        match location.classify(self.lister.size()) {
+        match class {
             Extent::Absent => absent(size),
             _ => {
-                let bytes = self.bytes_at(place, name, u128::from(location.rva), size)?;
+                let bytes = self.bytes_at(place, name, u128::from(location.rva), size, class)?;
                 Ok(Part::Bytes(bytes))
             }
         }
@@ -172,6 +176,7 @@ impl<S: Store + Drop, A: Allocator + Copy> Reader<S, A> {
             → IfOk result (λ told. IsFoundOrBehind file limit x k xs T.kind (record_told T.told) told self.new.lister.left)
             × Settles (owed file self.old.left None self.old.lister.left) result (λ told. refusal_found file self.new.left T.steps told self.new.lister.left) }
         ensures going { IfOk result (λ told. IsToldGoing self.old.lister told self.new.lister) }
+        ensures classed { IfOk result (FoundHasClasses T.told self.new.lister.source.size) }
     {
         let alloc = self.alloc;
         match self.lister.next() {
@@ -191,7 +196,7 @@ impl<S: Store + Drop, A: Allocator + Copy> Reader<S, A> {
             → IfOk result (λ next. IsNext file limit x k xs T.kind (T.IsAt file x.entry.location.rva) next self.new.lister.left)
             × Settles (owed file self.old.left None self.old.lister.left) result (λ next. owed file self.new.left (next_behind next) self.new.lister.left) }
     {
-        // Its answer is the length of the file: what a record's parts ask is told by that.
+        // Its answer is the length of the file.
         let _size = self.lister.size();
         match self.find::<T>()? {
             Told::Record(found, mut name) => {

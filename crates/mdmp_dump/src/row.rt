@@ -5,7 +5,7 @@ ghost use Rattle.mdmp_lister.specs.declared.item.Item.{Item};
 ghost use Rattle.mdmp_lister.specs.declared.kind.StreamKind.{StreamKind};
 ghost use Rattle.mdmp_dump.specs.Reading.{IsRowRead};
 ghost use Rattle.mdmp_dump.specs.Refusal.{ReadStep};
-ghost use Rattle.mdmp_dump.specs.Telling.{ItemTells, record_told};
+ghost use Rattle.mdmp_dump.specs.Telling.{HasClasses, ItemTells, record_told};
 ghost use Rattle.mdmp_dump.specs.declared.row.ToldRecord.{ToldRecord};
 
 use crate::fault::ReadFault;
@@ -33,7 +33,7 @@ pub(crate) struct ToldRecord<F: Copy> {
 
 /// A value that a record of one kind of stream is read into.
 pub(crate) trait Row<S: Store + Drop, A: Allocator + Copy>: Drop + Sized {
-    /// What a record of the kind tells.
+    /// What a record of the kind tells, with the class of each of its parts.
     type Fields: Copy + Drop;
 
     // The kind of the streams that have such records.
@@ -42,8 +42,8 @@ pub(crate) trait Row<S: Store + Drop, A: Allocator + Copy>: Drop + Sized {
     // What this item tells, if it is of this kind.
     ghost told: { Item → Option Self.Fields };
 
-    // What its parts ask of a reader of a file of so many bytes.
-    ghost steps: { ℕ → ToldRecord Self.Fields → List ReadStep };
+    // What its parts ask of a reader.
+    ghost steps: { ToldRecord Self.Fields → List ReadStep };
 
     // The value is that of the record with an index that stands at an offset of a file, of the stream at another.
     ghost IsAt: { List ℕ → ℕ → ℕ → ℕ → Self → Type 0 };
@@ -59,6 +59,7 @@ pub(crate) trait Row<S: Store + Drop, A: Allocator + Copy>: Drop + Sized {
         fields: Self::Fields,
         name: &mut Option<Units<A>>,
     ) -> Result<Self, ReadFault>
+        requires { HasClasses told reader.old.lister.source.size fields }
         ensures { IsRowRead kind (record_told told) steps IsAt reader.old (record { place = place; fields = fields }) name.old result reader.new };
 
     // The item of a record of this kind tells it, and asks for its name and then for its parts.

@@ -79,7 +79,7 @@ impl<S: Store + Drop, A: Allocator + Copy> Row<S, A> for System<A> {
 
     ghost told = { system_told };
 
-    ghost steps = { λ z x. [] };
+    ghost steps = { λ x. [] };
 
     ghost IsAt = { λ file at k. IsSystem file };
 

@@ -10,7 +10,7 @@ use crate::part::Part;
 use crate::reader::Reader;
 use crate::row::{RecordPlace, Row};
 use crate::view::{Fields, PartSize};
-use mdmp_lister::Item;
+use mdmp_lister::{Item, ThreadItem};
 use mdmp_source::Store;
 use mdmp_wire::{AnyRecord, Descriptor, ThreadRecord, Units};
 use std::alloc::Allocator;
@@ -53,7 +53,7 @@ impl<A: Allocator> Fitting for Thread<A> {
 }
 
 impl<S: Store + Drop, A: Allocator + Copy> Row<S, A> for Thread<A> {
-    type Fields = ThreadRecord;
+    type Fields = ThreadItem;
 
     ghost kind = { kinds.Threads };
 
@@ -63,9 +63,9 @@ impl<S: Store + Drop, A: Allocator + Copy> Row<S, A> for Thread<A> {
 
     ghost IsAt = { λ file at k. IsThread file };
 
-    fn find(item: &Item<'_>) -> Option<ThreadRecord> {
+    fn find(item: &Item<'_>) -> Option<ThreadItem> {
         match item {
-            Item::Thread(thread) => Some(thread.fields),
+            Item::Thread(thread) => Some(*thread),
             _ => None,
         }
     }
@@ -73,18 +73,24 @@ impl<S: Store + Drop, A: Allocator + Copy> Row<S, A> for Thread<A> {
     fn read(
         reader: &mut Reader<S, A>,
         place: RecordPlace,
-        fields: ThreadRecord,
+        fields: ThreadItem,
         name: &mut Option<Units<A>>,
     ) -> Result<Self, ReadFault> {
-        let stack = reader.part(place, PartName::Stack, fields.stack.memory)?;
-        let context = reader.part(place, PartName::Context, fields.thread_context)?;
+        let thread = fields.fields;
+        let stack = reader.part(place, PartName::Stack, thread.stack.memory, fields.stack)?;
+        let context = reader.part(
+            place,
+            PartName::Context,
+            thread.thread_context,
+            fields.context,
+        )?;
         Ok(Thread {
-            thread_id: fields.thread_id,
-            suspend_count: fields.suspend_count,
-            priority_class: fields.priority_class,
-            priority: fields.priority,
-            teb: fields.teb,
-            stack_start: fields.stack.start_of_memory_range,
+            thread_id: thread.thread_id,
+            suspend_count: thread.suspend_count,
+            priority_class: thread.priority_class,
+            priority: thread.priority,
+            teb: thread.teb,
+            stack_start: thread.stack.start_of_memory_range,
             stack,
             context,
         })

@@ -50,7 +50,7 @@ impl<S: Store + Drop, A: Allocator + Copy> Row<S, A> for Unloaded<A> {
 
     ghost told = { unloaded_told };
 
-    ghost steps = { λ z x. [] };
+    ghost steps = { λ x. [] };
 
     ghost IsAt = { λ file at k. IsUnloaded file };
 

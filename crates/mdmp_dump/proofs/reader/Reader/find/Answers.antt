@@ -3,6 +3,7 @@ use Rattle.mdmp_lister.specs.Lister.{tail}
 use Rattle.mdmp_lister.specs.FaultLaws.{next_fits}
 use Rattle.mdmp_dump.specs.Left.{left_from}
 use Rattle.mdmp_dump.specs.Telling.{record_told}
+use Rattle.mdmp_dump.proofs.Classed.{found_classed}
 use Rattle.mdmp_dump.proofs.Settled.{end-given, fault-owed, found-given}
 use Rattle.mdmp_dump.proofs.Taking.{Fetches_listed, Fetches_told}
 use Rattle.mdmp_dump.proofs.reader.Reader.find.Goals as goal
@@ -32,3 +33,9 @@ returns-in-Err-clause-fetches g c =
 pub returns-in-Ok-Some-clause-fetches : goal.returns-in-Ok-Some-clause-fetches
 returns-in-Ok-Some-clause-fetches g c =
     Fetches_told (record_told g.T.Row.told) _ _ _ (record { count = _; fetches = c.next.follows.holds-at-none.list.fetches }) c.told_of.result c.told_of.ensures
+
+pub returns-in-Ok-Some-clause-classed : goal.returns-in-Ok-Some-clause-classed
+returns-in-Ok-Some-clause-classed g c =
+    let list = c.next.follows.holds-at-none.list in
+    let classed = rw (c.in-Ok-Some.is, c.in-Ok-Some.field-0-is) at list.classed in
+    found_classed g.T.Row.told _ c.next.follows.lender-at-none.current _ c.told_of.result (rw (← list.fetches.same_size) at classed) c.told_of.ensures

@@ -1,4 +1,4 @@
-use Rattle.std.proofs.Common.{rules, ◌≡◌, ◌∙◌, length, Err}
+use Rattle.std.proofs.Common.{rules, ◌≡◌, ◌∙◌, Err}
 use Rattle.mdmp_dump.specs.Telling.{record_told}
 use Rattle.mdmp_dump.proofs.Settled.{row-read, row-refused}
 use Rattle.mdmp_dump.proofs.Taking.{fetches_err, fetches_ok}
@@ -16,8 +16,7 @@ returns-in_err-read-in-Record-clause-of_file g c = λ file limit x k xs known le
     let is : c.from_residual-in_err-read-in-Record.result ≡ Err fault = search rules in
     let found = rw c.in-Record.is at (c.in_ok-found.ensures.of_file file limit x k xs known left kind) in
     let first = c.in_ok-found.ensures.fetches.fetches.fetches in
-    let size : c.find.new.self.lister.source.size ≡ length file = first.same_size ∙ (rw (known, c.size-size.ensures.value) at c.size-size.ensures.content) in
-    rw is (tt, row-refused file limit x k xs g.T.Row.kind (record_told g.T.Row.told) g.T.Row.steps g.T.Row.IsAt _ c.find.new.self c.in-Record.found c.in-Record.name found.0 found.1 size (first.same_content ∙ known) c.read.new.reader fault c.in_err-read-in-Record.ensures)
+    rw is (tt, row-refused file limit x k xs g.T.Row.kind (record_told g.T.Row.told) g.T.Row.steps g.T.Row.IsAt _ c.find.new.self c.in-Record.found c.in-Record.name found.0 found.1 (first.same_content ∙ known) c.read.new.reader fault c.in_err-read-in-Record.ensures)
 
 pub returns-in_ok-read-in-Record-clause-fetches : goal.returns-in_ok-read-in-Record-clause-fetches
 returns-in_ok-read-in-Record-clause-fetches g c =
@@ -27,5 +26,7 @@ pub returns-in_ok-read-in-Record-clause-of_file : goal.returns-in_ok-read-in-Rec
 returns-in_ok-read-in-Record-clause-of_file g c = λ file limit x k xs known left kind.
     let found = rw c.in-Record.is at (c.in_ok-found.ensures.of_file file limit x k xs known left kind) in
     let first = c.in_ok-found.ensures.fetches.fetches.fetches in
-    let size : c.find.new.self.lister.source.size ≡ length file = first.same_size ∙ (rw (known, c.size-size.ensures.value) at c.size-size.ensures.content) in
-    row-read file limit x k xs g.T.Row.kind (record_told g.T.Row.told) g.T.Row.steps g.T.Row.IsAt _ c.find.new.self c.in-Record.found c.in-Record.name found.0 found.1 size (first.same_content ∙ known) c.read.new.reader c.in_ok-read-in-Record.field-0 c.in_ok-read-in-Record.ensures
+    row-read file limit x k xs g.T.Row.kind (record_told g.T.Row.told) g.T.Row.steps g.T.Row.IsAt _ c.find.new.self c.in-Record.found c.in-Record.name found.0 found.1 (first.same_content ∙ known) c.read.new.reader c.in_ok-read-in-Record.field-0 c.in_ok-read-in-Record.ensures
+
+pub read-requires : goal.read-requires
+read-requires g c = rw c.in-Record.is at c.in_ok-found.ensures.classed
