@@ -21,7 +21,7 @@ use Rattle.mdmp_lister.specs.declared.meter.MeterCounts.{MeterCounts}
 use Rattle.mdmp_lister.specs.declared.position.Position.TheVariants.{Begun, Sought}
 use Rattle.mdmp_lister.specs.declared.step.Step.{Step}
 use Rattle.mdmp_lister.specs.Format.Item.{plain}
-use Rattle.mdmp_lister.specs.Format.Kind.{is_known}
+use Rattle.mdmp_lister.specs.Format.Kind.{is_known, kind_of}
 use Rattle.mdmp_lister.specs.Format.Listing.{Numbered, Run, chosen_from, count_listed, entry_of, listing_sought, only_chosen, records_told, stream_item}
 use Rattle.mdmp_lister.specs.Format.Shape.{record_count}
 use Rattle.mdmp_lister.specs.FaultLaws.{follows_fits}
@@ -35,7 +35,7 @@ use Rattle.mdmp_dump.specs.declared.fault.ReadFault.TheVariants as faults
 use Rattle.mdmp_dump.specs.EntryWalk.{Begins, IsSameWalk, Pays, WalkState, chosen_entry, listed, numbered}
 use Rattle.mdmp_dump.specs.Left.{left_from, run_of}
 use Rattle.mdmp_dump.specs.Reading.{IsLastTold, store_fault_in}
-use Rattle.mdmp_dump.specs.Walking.{IsFar, IsKept, bytes_allowed, current_entry, ended_with, left_by, records_to_give, state_of}
+use Rattle.mdmp_dump.specs.Walking.{IsFar, IsKept, bytes_allowed, current_entry, ended_with, left_by, lists_memory64, records_to_give, state_of}
 use Rattle.mdmp_dump.proofs.Left.{begun}
 use Rattle.mdmp_dump.proofs.Taking.{FetchesSome_none, FetchesSome_then, Fetches_only, fetches_err}
 
@@ -427,5 +427,5 @@ module _ (x : Numbered) (old mid new : WalkerState) (kept : IsKept old) (at : Is
       repeats = λ fault told. never x old mid new kept at (Err f) counts stream is fresh fault told;
     }
 
-  pub far_counted : (result : Result ℕ ListFault) → CountsRecords mid result new → IsFar new.list (x.entry.stream_type == 9)
-  far_counted result counts some = ap (λ (e : Entry). e.stream_type == 9) (sym (counts.current ∙ at.current))
+  pub far_counted : (result : Result ℕ ListFault) → CountsRecords mid result new → IsFar new.list (lists_memory64 (kind_of x.entry.stream_type))
+  far_counted result counts some = ap (λ (e : Entry). lists_memory64 (kind_of e.stream_type)) (sym (counts.current ∙ at.current))

@@ -29,7 +29,7 @@ use Rattle.mdmp_lister.specs.declared.name.Name.{Name}
 use Rattle.mdmp_lister.specs.declared.shape.Shape.{Shape}
 use Rattle.mdmp_lister.specs.Format.Classes.{IsClassed, IsRecordOf, IsStream}
 use Rattle.mdmp_lister.specs.Format.Item.{item_at, item_of, kind_told, name_of, named, offset_in, plain, range_extent_of, record_at}
-use Rattle.mdmp_lister.specs.Format.Kind.{HasNoNames, is_memory64, kind_of, type_of_kind}
+use Rattle.mdmp_lister.specs.Format.Kind.{HasNoNames, has_names, is_memory64, kind_of, type_of_kind}
 use Rattle.mdmp_lister.specs.Format.KindLaws.{type_of-kind}
 use Rattle.mdmp_lister.specs.Format.Listing.{Numbered, Run, items_from, joined, list_fault, only_fault, with_item}
 use Rattle.mdmp_lister.specs.Format.Ranges.{IsPlacedIn, IsRangeIn}
@@ -45,7 +45,7 @@ use Rattle.mdmp_dump.specs.declared.fault.ReadFault.{ReadFault}
 use Rattle.mdmp_dump.specs.declared.fault.ReadFault.TheVariants as faults
 use Rattle.mdmp_dump.specs.declared.found_record.FoundRecord.{FoundRecord}
 use Rattle.mdmp_dump.specs.declared.view.Kind.TheVariants as view
-use Rattle.mdmp_dump.specs.EntryWalk.{FindsNext, FindsRow, GivesNext, IsFoundIn, IsRowFound, Pays, ended_by, kind_by, name_cost, row_told}
+use Rattle.mdmp_dump.specs.EntryWalk.{FindsNext, FindsRow, GivesNext, IsFoundIn, IsRowFound, Pays, ended_by, kind_by, name_cost, name_cost_by, row_told}
 use Rattle.mdmp_dump.specs.FileRefusal.{IsOfWalk}
 use Rattle.mdmp_dump.specs.Finding.{FindsRecord, FindsSeen, IsFittingOf, IsFoundInside, IsOfPlaces, IsOfRecord, range_kind, record_kind, seen_in}
 use Rattle.mdmp_dump.specs.FoundRecord.{AreIn}
@@ -54,7 +54,7 @@ use Rattle.mdmp_dump.specs.Reading.{IsLastTold, IsReadRefusal, store_fault}
 use Rattle.mdmp_dump.specs.Refusal.{item_steps}
 use Rattle.mdmp_dump.specs.Seen.{Seen}
 use Rattle.mdmp_dump.specs.Shape.{type_told}
-use Rattle.mdmp_dump.specs.Walking.{HasLeft, IsFar, IsKept, current_entry, ended_with, left_by, records_to_give, state_of}
+use Rattle.mdmp_dump.specs.Walking.{HasLeft, IsFar, IsKept, current_entry, ended_with, left_by, lists_memory64, records_to_give, state_of}
 use Rattle.mdmp_dump.proofs.EntryBegun.{last_told, left_begun, left_stopped, no_store_fault, own_store_fault, paid_by, plain_stream, walk_same}
 use Rattle.std.proofs.lemmas.Bool.Decides.{nat_tests}
 use Rattle.mdmp_dump.proofs.Classed.{extent_in, range_in}
@@ -66,39 +66,24 @@ use Rattle.mdmp_dump.proofs.Taking.{Fetches_only}
 -- ---- types and kinds
 
 pub names_or_none : (t : ℕ) → HasNoNames (kind_of t) ⊎ (name_cost t ≡ 4)
-names_or_none t = by (kind_of t) refl where
-  cost : (kind : StreamKind) → HasNoNames (Some kind) ⊎ (name_cost (type_of_kind kind) ≡ 4)
-  cost kinds.Modules = inr refl
-  cost kinds.System = inr refl
-  cost kinds.Unloaded = inr refl
-  cost kind = inl refl
+names_or_none t = by (kind_of t) where
+  named : (has : Bool) (cost : ℕ) → cost ≡ (if has then 4 else 0) → (has ≡ false) ⊎ (cost ≡ 4)
+  named true cost is = inr is
+  named false cost is = inl refl
 
-  of_type : (kind : StreamKind) → kind_of t ≡ Some kind → HasNoNames (Some kind) ⊎ (name_cost (type_of_kind kind) ≡ 4) → HasNoNames (kind_of t) ⊎ (name_cost t ≡ 4)
-  of_type kind is (inl none) = inl (rw is none)
-  of_type kind is (inr some) = inr (ap name_cost (type_of-kind t kind is) ∙ some)
-
-  by : (kind : Option StreamKind) → kind_of t ≡ kind → HasNoNames (kind_of t) ⊎ (name_cost t ≡ 4)
-  by None is = inl (rw is tt)
-  by (Some kind) is = of_type kind is (cost kind)
+  by : (kind : Option StreamKind) → HasNoNames kind ⊎ (name_cost_by kind ≡ 4)
+  by None = inl tt
+  by (Some kind) = named (has_names kind) _ refl
 
 -- the kind of a view, of the records of such a stream
 known_by : (t : ℕ) (w : AnyRecord) → kind_of t ≡ Some (kind_told w) → kind_by t ≡ view.Known (type_told w)
-known_by t w is = ap kind_by (type_of-kind t (kind_told w) is) ∙ of_wire w where
-  of_wire : (w : AnyRecord) → kind_by (type_of_kind (kind_told w)) ≡ view.Known (type_told w)
-  of_wire (any.Thread r) = refl
-  of_wire (any.Module r) = refl
-  of_wire (any.Memory r) = refl
-  of_wire (any.Exception r) = refl
-  of_wire (any.System r) = refl
-  of_wire (any.Memory64 r) = refl
-  of_wire (any.Unloaded r) = refl
-  of_wire (any.MemoryInfo r) = refl
+known_by t w is = ap kind_by (type_of-kind t (kind_told w) is) ∙ of_kind (kind_told w) where
+  of_kind : (kind : StreamKind) → kind_by (type_of_kind kind) ≡ view.Known (type_of_kind kind)
+  of_kind kinds.Threads = refl
+  of_kind _ = refl
 
-pub far_by_type : (t : ℕ) (kind : StreamKind) → kind_of t ≡ Some kind → is_memory64 kind ≡ (t == 9)
-far_by_type t kind is = of_kind kind ∙ ap (λ (n : ℕ). n == 9) (sym (type_of-kind t kind is)) where
-  of_kind : (kind : StreamKind) → is_memory64 kind ≡ (type_of_kind kind == 9)
-  of_kind kinds.Memory64 = refl
-  of_kind kind = refl
+pub far_by_type : (t : ℕ) (kind : StreamKind) → kind_of t ≡ Some kind → is_memory64 kind ≡ lists_memory64 (kind_of t)
+far_by_type t kind is = sym (ap lists_memory64 is)
 
 -- ---- an item, by the record that it tells
 
@@ -134,7 +119,7 @@ record_classed z e item none (inl stream) = absurd (no_stream item none stream)
 record_classed z e item none (inr is) = is
 
 -- what is found of it is of its stream's kind
-pub found_in : (z t : ℕ) (far : Bool) (item : Item) (f : FoundRecord) → far ≡ (t == 9) → IsRecordOf z (kind_of t) (plain item) → IsFittingOf (record_kind far item) f → AreIn z f.parts → IsFoundIn z t f
+pub found_in : (z t : ℕ) (far : Bool) (item : Item) (f : FoundRecord) → far ≡ lists_memory64 (kind_of t) → IsRecordOf z (kind_of t) (plain item) → IsFittingOf (record_kind far item) f → AreIn z f.parts → IsFoundIn z t f
 found_in z t far item f is_far is fits inside =
     let by_kind : far ≡ is_memory64 (kind_told is.fields) = is_far ∙ sym (far_by_type t (kind_told is.fields) is.known) in
     let told : record_kind far item ≡ Some (kind_told is.fields) =
@@ -391,7 +376,7 @@ module _ (old new : WalkerState) (kept : IsKept old) (left : 0 < records_to_give
           ),
         )
 
-    module _ (limit : ℕ) (far : Bool) (is_far : far ≡ (old.list.current.stream_type == 9)) (result : Result FoundRecord ReadFault) (finds : IsFoundInside F far (plain item) limit result) where
+    module _ (limit : ℕ) (far : Bool) (is_far : far ≡ lists_memory64 (kind_of old.list.current.stream_type)) (result : Result FoundRecord ReadFault) (finds : IsFoundInside F far (plain item) limit result) where
       abbrev offset : ℕ
       offset = old.list.current.location.rva + given.shape.first + had.0 * given.shape.stride
 
@@ -418,7 +403,7 @@ module _ (old new : WalkerState) (kept : IsKept old) (left : 0 < records_to_give
   kept_record gives = kept_by old new kept stays (λ F known some. left_behind gives F (sym stays.fetches.fetches.same_content ∙ known))
 
   pub far_record : (far : Bool) → IsFar old.list far → IsFar new.list far
-  far_record far is some = is left ∙ ap (λ (e : Entry). e.stream_type == 9) (sym stays.current)
+  far_record far is some = is left ∙ ap (λ (e : Entry). lists_memory64 (kind_of e.stream_type)) (sym stays.current)
 
   module _ (gives : (left : Run) → old.list.left ≡ Some left → slice_get left.items 0 ≡ Some (plain item)) (far : Bool) (is_far : IsFar old.list far) (limit size : ℕ) (size_is : size ≡ old.list.source.size)
       (sized : IsSizeOf old.list.source.store.content size) (bytes : IsOfBytes old.list.source.store.content) where

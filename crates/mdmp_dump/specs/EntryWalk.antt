@@ -1,5 +1,5 @@
 -- A walk over the chosen entries of a file, a record at a time, which reads no name.
-use Rattle.std.specs.Prelude.{◌≡◌, ◌≤◌, ◌<◌, ◌+◌, ◌*◌, ◌^◌, ℕ, List, [], ◌∷◌, length, get_or, Option, Some, None, Result, Ok, Err, ◌==◌, ◌||◌, if◌then◌else◌, IfErr, IfOk, IsOk, MatchResult}
+use Rattle.std.specs.Prelude.{◌≡◌, ◌≤◌, ◌<◌, ◌+◌, ◌*◌, ◌^◌, ℕ, List, [], ◌∷◌, length, get_or, Option, Some, None, Result, Ok, Err, ◌==◌, if◌then◌else◌, IfErr, IfOk, IsOk, MatchResult}
 use Rattle.mdmp_source.specs.Source.{SourceState, FetchesSome}
 use Rattle.mdmp_source.specs.Store.{IsGood}
 use Rattle.mdmp_source.specs.declared.fault.SourceFault.{SourceFault}
@@ -14,7 +14,7 @@ use Rattle.mdmp_lister.specs.declared.kind.StreamKind.{StreamKind}
 use Rattle.mdmp_lister.specs.declared.shape.Shape.{Shape}
 use Rattle.mdmp_lister.specs.Following.{IsBegun, Standing, records_by}
 use Rattle.mdmp_lister.specs.Format.Item.{item_at}
-use Rattle.mdmp_lister.specs.Format.Kind.{is_known, kind_of}
+use Rattle.mdmp_lister.specs.Format.Kind.{has_names, is_known, kind_of}
 use Rattle.mdmp_lister.specs.Format.Listing.{Numbered, chosen, list_fault, records_told}
 use Rattle.mdmp_lister.specs.Format.Shape.{record_count, shape_of}
 use Rattle.mdmp_dump.specs.declared.fault.ReadFault.{ReadFault}
@@ -40,9 +40,14 @@ use Rattle.mdmp_dump.specs.Shape.{type_told}
 abbrev pub kind_by : ℕ → Kind
 kind_by t = if t == 0 then kinds.Unused else (if is_known t then kinds.Known t else kinds.Raw t)
 
--- what the name of a record of it costs, where it may have one: the 4 bytes of its length
+-- what the name of a record of this kind costs, where such records have names: the 4 bytes of its length
+abbrev pub name_cost_by : Option StreamKind → ℕ
+name_cost_by (Some kind) = if has_names kind then 4 else 0
+name_cost_by None = 0
+
+-- the same of a stream of this type
 abbrev pub name_cost : ℕ → ℕ
-name_cost t = if t == 4 || t == 7 || t == 14 then 4 else 0
+name_cost t = name_cost_by (kind_of t)
 
 -- the bytes of a stream that are passed over
 abbrev pub listed : Entry → ℕ

@@ -59,14 +59,14 @@ each_of kind see each (x ∷ xs) = (each x, each_of kind see each xs)
 module _ {Z : Type 0} where
   stream_kinds : (s : Stream Z) → AreOf (kind_in s) (records_seen s)
   stream_kinds streams.Unused = tt
-  stream_kinds (streams.Threads ts) = each_of (Known 3) thread_seen (λ t. three_of (thread_seen t).fields.wire _ _ _ _ _ _ (part_sized t.stack) (part_sized t.context) refl) ts
-  stream_kinds (streams.Modules ms) = each_of (Known 4) module_seen (λ m. three_of (module_seen m).fields.wire _ _ _ _ _ _ (name_sized m.name) (part_sized m.codeview) (part_sized m.misc)) ms
-  stream_kinds (streams.Memory ms) = each_of (Known 5) memory_seen (λ m. three_of (memory_seen m).fields.wire _ _ _ _ _ _ (part_sized m.bytes) refl refl) ms
+  stream_kinds (streams.Threads ts) = each_of _ thread_seen (λ t. three_of (thread_seen t).fields.wire _ _ _ _ _ _ (part_sized t.stack) (part_sized t.context) refl) ts
+  stream_kinds (streams.Modules ms) = each_of _ module_seen (λ m. three_of (module_seen m).fields.wire _ _ _ _ _ _ (name_sized m.name) (part_sized m.codeview) (part_sized m.misc)) ms
+  stream_kinds (streams.Memory ms) = each_of _ memory_seen (λ m. three_of (memory_seen m).fields.wire _ _ _ _ _ _ (part_sized m.bytes) refl refl) ms
   stream_kinds (streams.Exception x) = (three_of (exception_seen x).fields.wire _ _ _ _ _ _ (part_sized x.context) refl refl, tt)
   stream_kinds (streams.System s) = (three_of (system_seen s).fields.wire _ _ _ _ _ _ (name_sized s.name) refl refl, tt)
-  stream_kinds (streams.Memory64 ms) = each_of (Known 9) memory64_seen (λ m. three_of (memory64_seen m).fields.wire _ _ _ _ _ _ refl refl refl) ms
-  stream_kinds (streams.Unloaded us) = each_of (Known 14) unloaded_seen (λ u. three_of (unloaded_seen u).fields.wire _ _ _ _ _ _ (name_sized u.name) refl refl) us
-  stream_kinds (streams.MemoryInfo rs) = each_of (Known 16) memory_info_seen (λ r. three_of (memory_info_seen r).fields.wire _ _ _ _ _ _ refl refl refl) rs
+  stream_kinds (streams.Memory64 ms) = each_of _ memory64_seen (λ m. three_of (memory64_seen m).fields.wire _ _ _ _ _ _ refl refl refl) ms
+  stream_kinds (streams.Unloaded us) = each_of _ unloaded_seen (λ u. three_of (unloaded_seen u).fields.wire _ _ _ _ _ _ (name_sized u.name) refl refl) us
+  stream_kinds (streams.MemoryInfo rs) = each_of _ memory_info_seen (λ r. three_of (memory_info_seen r).fields.wire _ _ _ _ _ _ refl refl refl) rs
   stream_kinds (streams.Raw t bytes) = tt
 
   streams_kinds : (ss : List (Stream Z)) (k : ℕ) → AreOf (get_or (map stream_seen ss) k unused_seen).kind (get_or (map stream_seen ss) k unused_seen).records

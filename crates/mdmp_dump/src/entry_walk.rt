@@ -1,13 +1,14 @@
 //! A walk over the streams of a file, a record at a time.
-ghost use Rattle.std.specs.Prelude.{◌≡◌, ◌≤◌, ◌<◌, ◌+◌, ◌^◌, ◌==◌, ℕ, List, IfErr, IfOk, MatchResult, length, slice_get, None, Some, Err, OnOk};
+ghost use Rattle.std.specs.Prelude.{◌≡◌, ◌≤◌, ◌<◌, ◌+◌, ◌^◌, ℕ, List, IfErr, IfOk, MatchResult, length, slice_get, None, Some, Err, OnOk};
 ghost use Rattle.mdmp_source.specs.Count.{raised};
 ghost use Rattle.mdmp_source.specs.Range.{IsInside, bytes_at};
 ghost use Rattle.mdmp_source.specs.Store.{IsOfBytes, IsSizeOf};
 ghost use Rattle.mdmp_lister.specs.Format.Refusal.{directory_refusal};
 ghost use Rattle.mdmp_dump.specs.EntryWalk.{Begins, GivesNext, IsOpenedWalk, WalkReadsAside, chosen_entry};
+ghost use Rattle.mdmp_lister.specs.Format.Kind.{kind_of};
 ghost use Rattle.mdmp_lister.specs.Format.Listing.{entry_of};
 ghost use Rattle.mdmp_lister.specs.Lister.{IsSameLister};
-ghost use Rattle.mdmp_dump.specs.Walking.{IsFar, IsKept, IsPlace, IsPlaceOf, chosen_of, records_to_give, state_of};
+ghost use Rattle.mdmp_dump.specs.Walking.{IsFar, IsKept, IsPlace, IsPlaceOf, chosen_of, lists_memory64, records_to_give, state_of};
 ghost use Rattle.mdmp_dump.specs.FileRefusal.{IsViewRefusal, view_refusal};
 ghost use Rattle.mdmp_dump.specs.Opening.{HasSpentOpening};
 ghost use Rattle.mdmp_dump.specs.Reading.{Fetches, IsOwn, TellsOf};
@@ -16,7 +17,7 @@ use crate::fault::ReadFault;
 use crate::found_record::{FoundRecord, found_item};
 use crate::given::nowhere;
 use crate::read::refusal;
-use mdmp_lister::{Choice, Limits, OpenFault, Walker};
+use mdmp_lister::{Choice, Limits, OpenFault, StreamKind, Walker};
 use mdmp_source::{Source, SourceFault, Store};
 use mdmp_wire::{Entry, Header};
 use std::alloc::Allocator;
@@ -49,15 +50,15 @@ pub(crate) struct EntryWalk<S: Store + Drop, A: Allocator + Copy> {
 }
 
 impl<S: Store + Drop, A: Allocator + Copy> Model for EntryWalk<S, A> {
-    ghost use Rattle.std.specs.Prelude.{◌==◌};
+    ghost use Rattle.mdmp_lister.specs.Format.Kind.{kind_of};
     ghost use Rattle.mdmp_dump.specs.EntryWalk.{WalkState};
-    ghost use Rattle.mdmp_dump.specs.Walking.{IsStanding, state_of};
+    ghost use Rattle.mdmp_dump.specs.Walking.{IsStanding, lists_memory64, state_of};
 
     ghost Value = { WalkState };
 
     ghost view = { λ w. state_of w.walker };
 
-    ghost invariant = { λ w. IsStanding w.walker w.place (w.begun.stream_type == 9) };
+    ghost invariant = { λ w. IsStanding w.walker w.place (lists_memory64 (kind_of w.begun.stream_type)) };
 }
 
 impl<S: Store + Drop, A: Allocator + Copy> EntryWalk<S, A> {
@@ -196,6 +197,16 @@ impl<S: Store + Drop, A: Allocator + Copy> EntryWalk<S, A> {
     }
 }
 
+/// Whether a stream of this type is a list of 64-bit memory.
+fn lists_memory64(stream_type: u32) -> bool
+    ensures { result ≡ lists_memory64 (kind_of stream_type) }
+{
+    match StreamKind::of_type(stream_type) {
+        Some(kind) => kind.is_memory64(),
+        None => false,
+    }
+}
+
 /// The place of the entry of a stream, found from one that is known.
 fn place_of<S: Store + Drop, A: Allocator + Copy>(
     walker: &Walker<S, A>,
@@ -239,7 +250,7 @@ fn begin_entry<S: Store + Drop, A: Allocator + Copy>(
     ensures begins { (stream : ℕ) (e : Entry) → slice_get walker.old.list.entries number ≡ Some e
         → chosen_entry (state_of walker.old) stream ≡ record { number = number; entry = e } → Begins (state_of walker.old) stream result (state_of walker.new) }
     ensures kept { IsKept walker.new }
-    ensures far { (e : Entry) → slice_get walker.old.list.entries number ≡ Some e → IsFar walker.new.list (e.stream_type == 9) }
+    ensures far { (e : Entry) → slice_get walker.old.list.entries number ≡ Some e → IsFar walker.new.list (lists_memory64 (kind_of e.stream_type)) }
     ensures same { IsSameLister walker.old.list walker.new.list }
 {
     walker.seek_entry(number);
@@ -260,18 +271,18 @@ fn found_next<S: Store + Drop, A: Allocator + Copy>(
     limit: u32,
 ) -> Result<FoundRecord, ReadFault>
     requires left { 0 < records_to_give walker.old.list }
-    requires far { IsFar walker.old.list (begun.stream_type == 9) }
+    requires far { IsFar walker.old.list (lists_memory64 (kind_of begun.stream_type)) }
     requires kept { IsKept walker.old }
     ensures gives { GivesNext (state_of walker.old) limit result (state_of walker.new) }
     ensures kept { IsKept walker.new }
-    ensures far { IsFar walker.new.list (begun.stream_type == 9) }
+    ensures far { IsFar walker.new.list (lists_memory64 (kind_of begun.stream_type)) }
     ensures same { IsSameLister walker.old.list walker.new.list }
 {
     let size = walker.size();
     match walker.next() {
         Ok(Some(item)) => found_item(
             &item,
-            begun.stream_type == 9,
+            lists_memory64(begun.stream_type),
             begun.location.rva,
             limit,
             size,

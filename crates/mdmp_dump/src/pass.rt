@@ -53,10 +53,9 @@ pub(crate) fn kind_of(stream_type: u32) -> Kind
 fn name_cost(stream_type: u32) -> u64
     ensures { result ≡ name_cost stream_type }
 {
-    if stream_type == 4 || stream_type == 7 || stream_type == 14 {
-        4
-    } else {
-        0
+    match StreamKind::of_type(stream_type) {
+        Some(kind) if kind.has_names() => 4,
+        _ => 0,
     }
 }
 

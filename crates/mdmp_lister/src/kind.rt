@@ -1,6 +1,6 @@
 //! Which streams have records here: the type, the form and the records of each.
 ghost use Rattle.std.specs.Prelude.{◌≡◌, ◌≤◌, ◌<◌};
-ghost use Rattle.mdmp_lister.specs.Format.Kind.{form_of, greatest_record, kind_of, lists_ranges, record_size, type_of_kind};
+ghost use Rattle.mdmp_lister.specs.Format.Kind.{form_of, greatest_record, has_names, is_memory64, kind_of, lists_ranges, record_size, type_of_kind};
 ghost use Rattle.mdmp_lister.specs.Walk.Owing.{ranges_by};
 
 use crate::form::Form;
@@ -95,6 +95,23 @@ impl StreamKind {
             StreamKind::MemoryInfo => MemoryInfoRecord::SIZE,
         };
         size as u32
+    }
+
+    /// Whether its records have names.
+    pub fn has_names(self) -> bool
+        ensures { result ≡ has_names self }
+    {
+        matches!(
+            self,
+            StreamKind::Modules | StreamKind::System | StreamKind::Unloaded
+        )
+    }
+
+    /// Whether the bytes of its ranges follow one another, and no record says where its own stand.
+    pub fn is_memory64(self) -> bool
+        ensures { result ≡ is_memory64 self }
+    {
+        matches!(self, StreamKind::Memory64)
     }
 
     /// Whether its records are ranges of memory.

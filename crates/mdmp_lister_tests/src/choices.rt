@@ -81,3 +81,21 @@ fn kind_tells_its_head_and_its_records(rt: HostRuntime) {
         assert_same(&rt, kind.record_size(), record);
     }
 }
+
+#[test]
+fn kind_tells_its_names_and_its_64_bit_memory(rt: HostRuntime) {
+    let rows = [
+        (StreamKind::Threads, false, false),
+        (StreamKind::Modules, true, false),
+        (StreamKind::Memory, false, false),
+        (StreamKind::Exception, false, false),
+        (StreamKind::System, true, false),
+        (StreamKind::Memory64, false, true),
+        (StreamKind::Unloaded, true, false),
+        (StreamKind::MemoryInfo, false, false),
+    ];
+    for (kind, has_names, is_memory64) in rows {
+        assert_same(&rt, kind.has_names(), has_names);
+        assert_same(&rt, kind.is_memory64(), is_memory64);
+    }
+}

@@ -7,7 +7,7 @@ use Rattle.mdmp_source.specs.declared.location.Location.{Location}
 use Rattle.mdmp_wire.specs.declared.entry.Entry.{Entry}
 use Rattle.mdmp_lister.specs.declared.choice.Choice.{Choice}
 use Rattle.mdmp_lister.specs.declared.kind.StreamKind.TheVariants as kinds
-use Rattle.mdmp_lister.specs.Format.Kind.{kind_of}
+use Rattle.mdmp_lister.specs.Format.Kind.{kind_of, type_of_kind}
 use Rattle.mdmp_lister.specs.Format.Listing.{Numbered, Run, chosen, entry_listing, listing}
 use Rattle.mdmp_lister.specs.Format.Numbers.{good_count, range_count, ranges_in, ranges_of_all}
 use Rattle.mdmp_lister.specs.Format.Refusal.{most_ranges, opening_fault}
@@ -47,20 +47,20 @@ module _ {Z : Type 0} (F : List ℕ) where
   stands_taken : (limit e : ℕ) (at : Location) (s : Stream Z) → StandsAt F at s → NamesWithin limit s
       → IsRunTaken (length F) (entry_listing F limit (record { number = e; entry = entry_of_stream at s })) (part_bytes s)
   stands_taken limit e at streams.Unused has names = item_taken none_taken nothing_taken
-  stands_taken limit e at (streams.Threads xs) has names = entry_taken F at kinds.Threads _ xs has 3 refl limit e _ _ (thread_taken F limit e at.rva) (λ k d lt. tt) _ refl
-  stands_taken limit e at (streams.Modules xs) has names = entry_taken F at kinds.Modules _ xs has 4 refl limit e _ _ (module_taken F limit e at.rva) names _ refl
-  stands_taken limit e at (streams.Memory xs) has names = entry_taken F at kinds.Memory _ xs has 5 refl limit e _ _ (memory_taken F limit e at.rva) (λ k d lt. tt) _ refl
-  stands_taken limit e at (streams.Exception x) has names = entry_taken F at kinds.Exception _ (x ∷ []) has 6 refl limit e _ _ (exception_taken F limit e at.rva) (λ k d lt. tt) _ (omega arith)
-  stands_taken limit e at (streams.System x) has names = entry_taken F at kinds.System _ (x ∷ []) has 7 refl limit e _ _ (system_taken F limit e at.rva) (All-cons (λ (y : System Z). IsNameWithin limit y.name) x [] names (λ k d lt. absurd (omega (arith, lt)))) _ refl
-  stands_taken limit e at (streams.Memory64 xs) has names = entry_taken F at kinds.Memory64 _ xs has 9 refl limit e _ _ (memory64_taken F limit e at.rva) (λ k d lt. tt) _ refl
-  stands_taken limit e at (streams.Unloaded xs) has names = entry_taken F at kinds.Unloaded _ xs has 14 refl limit e _ _ (unloaded_taken F limit e at.rva) names _ (sum_by-none xs)
-  stands_taken limit e at (streams.MemoryInfo xs) has names = entry_unasked F at kinds.MemoryInfo _ xs has 16 refl limit e (λ k o. record { item = _; given = refl; steps = none_taken })
+  stands_taken limit e at (streams.Threads xs) has names = entry_taken F at kinds.Threads _ xs has _ refl limit e _ _ (thread_taken F limit e at.rva) (λ k d lt. tt) _ refl
+  stands_taken limit e at (streams.Modules xs) has names = entry_taken F at kinds.Modules _ xs has _ refl limit e _ _ (module_taken F limit e at.rva) names _ refl
+  stands_taken limit e at (streams.Memory xs) has names = entry_taken F at kinds.Memory _ xs has _ refl limit e _ _ (memory_taken F limit e at.rva) (λ k d lt. tt) _ refl
+  stands_taken limit e at (streams.Exception x) has names = entry_taken F at kinds.Exception _ (x ∷ []) has _ refl limit e _ _ (exception_taken F limit e at.rva) (λ k d lt. tt) _ (omega arith)
+  stands_taken limit e at (streams.System x) has names = entry_taken F at kinds.System _ (x ∷ []) has _ refl limit e _ _ (system_taken F limit e at.rva) (All-cons (λ (y : System Z). IsNameWithin limit y.name) x [] names (λ k d lt. absurd (omega (arith, lt)))) _ refl
+  stands_taken limit e at (streams.Memory64 xs) has names = entry_taken F at kinds.Memory64 _ xs has _ refl limit e _ _ (memory64_taken F limit e at.rva) (λ k d lt. tt) _ refl
+  stands_taken limit e at (streams.Unloaded xs) has names = entry_taken F at kinds.Unloaded _ xs has _ refl limit e _ _ (unloaded_taken F limit e at.rva) names _ (sum_by-none xs)
+  stands_taken limit e at (streams.MemoryInfo xs) has names = entry_unasked F at kinds.MemoryInfo _ xs has _ refl limit e (λ k o. record { item = _; given = refl; steps = none_taken })
   stands_taken limit e at (streams.Raw t bytes) has names = raw_taken F limit e at t bytes has
 
   -- and it has the stream's ranges
   stands_ranged : (at : Location) (s : Stream Z) → StandsAt F at s → ranges_in F (entry_of_stream at s) (kind_of (type_of s)) ≡ memory_ranges s
-  stands_ranged at (streams.Memory xs) has = ap good_count (records_counted F at kinds.Memory _ xs has 5 refl)
-  stands_ranged at (streams.Memory64 xs) has = ap good_count (records_counted F at kinds.Memory64 _ xs has 9 refl)
+  stands_ranged at (streams.Memory xs) has = ap good_count (records_counted F at kinds.Memory _ xs has (type_of_kind kinds.Memory) refl)
+  stands_ranged at (streams.Memory64 xs) has = ap good_count (records_counted F at kinds.Memory64 _ xs has (type_of_kind kinds.Memory64) refl)
   stands_ranged at (streams.Raw t bytes) has = rw has.opaque refl
   stands_ranged at s has = refl
 

@@ -1,5 +1,7 @@
 use Rattle.std.proofs.Common.{Ok, refl, Some, subst, sym}
-use Rattle.std.specs.Prelude.{◌==◌, IsTrue}
+use Rattle.std.specs.Prelude.{IsTrue}
+use Rattle.mdmp_lister.specs.Format.Kind.{kind_of}
+use Rattle.mdmp_dump.specs.Walking.{lists_memory64}
 use Rattle.std.proofs.lemmas.Option.{slice_get-get_or}
 use Rattle.mdmp_lister.specs.declared.position.Position.{Position}
 use Rattle.mdmp_lister.specs.Walker.{begins}
@@ -46,7 +48,7 @@ returns-in-Err-records-clause-begins g c = λ stream e at is.
     begins_refused _ old c.next_step.new.self c.records.new.self c.requires.kept begun c.in-Err-records.fault c.in-Err-records.ensures.counts c.in-Err-records.ensures.of_file stream is fresh
 
 pub returns-in-Err-clause-far : goal.returns-in-Err-clause-far
-returns-in-Err-clause-far g c = λ e at. far_stopped c.next_step.new.self.list (e.stream_type == 9) (step_stopped c.seek_entry.new.self c.next_step.new.self c.in-Err.fault c.in-Err.ensures.leaves)
+returns-in-Err-clause-far g c = λ e at. far_stopped c.next_step.new.self.list (lists_memory64 (kind_of e.stream_type)) (step_stopped c.seek_entry.new.self c.next_step.new.self c.in-Err.fault c.in-Err.ensures.leaves)
 
 pub returns-in-Ok-records-clause-far : goal.returns-in-Ok-records-clause-far
 returns-in-Ok-records-clause-far g c = λ e at.
@@ -59,4 +61,4 @@ returns-in-Ok-records-clause-far g c = λ e at.
 pub returns-in-Err-records-clause-far : goal.returns-in-Err-records-clause-far
 returns-in-Err-records-clause-far g c = λ e at.
     let new = c.records.new.self.list in
-    far_stopped new (e.stream_type == 9) (left_stopped new.passed new.stop (Some c.in-Err-records.fault) new.records c.in-Err-records.ensures.counts.stop)
+    far_stopped new (lists_memory64 (kind_of e.stream_type)) (left_stopped new.passed new.stop (Some c.in-Err-records.fault) new.records c.in-Err-records.ensures.counts.stop)

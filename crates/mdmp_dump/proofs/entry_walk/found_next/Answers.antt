@@ -1,5 +1,6 @@
-use Rattle.std.proofs.Common.{◌≡◌, ◌≤◌, ◌^◌, ◌-◌, arith, slice_get, Err, Ok, Some}
-use Rattle.std.specs.Prelude.{◌==◌}
+use Rattle.std.proofs.Common.{◌≡◌, ◌∙◌, ◌≤◌, ◌^◌, ◌-◌, arith, slice_get, Err, Ok, Some}
+use Rattle.mdmp_lister.specs.Format.Kind.{kind_of}
+use Rattle.mdmp_dump.specs.Walking.{lists_memory64}
 use Rattle.mdmp_lister.specs.Format.Item.{plain}
 use Rattle.mdmp_lister.specs.Format.Listing.{Run}
 use Rattle.mdmp_lister.specs.Walker.{WalkerLeaves}
@@ -19,7 +20,7 @@ returns-in-Ok-Some-clause-gives g c =
     let item = c.in-Ok-Some.item in
     let leaves : WalkerLeaves old (Ok (Some item)) c.next.follows.lender-at-none = rw (c.in-Ok-Some.is, c.in-Ok-Some.field-0-is) at c.next.follows.holds-at-none in
     let gives : (left : Run) → old.list.left ≡ Some left → slice_get left.items 0 ≡ Some (plain item) = λ left is. rw c.in-Ok-Some.field-0-is at (c.in-Ok-Some.ensures.gives left is) in
-    gives_next old c.next.follows.lender-at-none c.requires.kept c.requires.left item leaves gives (c.args.begun.stream_type == 9) c.requires.far c.args.limit c.size-size.result c.size-size.ensures.value
+    gives_next old c.next.follows.lender-at-none c.requires.kept c.requires.left item leaves gives c.lists_memory64.result (λ some. c.lists_memory64.ensures ∙ c.requires.far some) c.args.limit c.size-size.result c.size-size.ensures.value
     c.size-size.ensures.content c.size-size.ensures.bytes c.found_item.result c.found_item.ensures.finds c.found_item.ensures.fits c.found_item.ensures.inside
 
 pub returns-in-Ok-Some-clause-kept : goal.returns-in-Ok-Some-clause-kept
@@ -34,7 +35,7 @@ pub returns-in-Ok-Some-clause-far : goal.returns-in-Ok-Some-clause-far
 returns-in-Ok-Some-clause-far g c =
     let old = c.args.walker.now in
     let leaves : WalkerLeaves old (Ok (Some c.in-Ok-Some.item)) c.next.follows.lender-at-none = rw (c.in-Ok-Some.is, c.in-Ok-Some.field-0-is) at c.next.follows.holds-at-none in
-    far_record old c.next.follows.lender-at-none c.requires.kept c.requires.left c.in-Ok-Some.item leaves (c.args.begun.stream_type == 9) c.requires.far
+    far_record old c.next.follows.lender-at-none c.requires.kept c.requires.left c.in-Ok-Some.item leaves (lists_memory64 (kind_of c.args.begun.stream_type)) c.requires.far
 
 pub returns-in-Err-clause-gives : goal.returns-in-Err-clause-gives
 returns-in-Err-clause-gives g c =
