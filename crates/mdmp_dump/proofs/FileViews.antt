@@ -4,7 +4,6 @@ use Rattle.std.proofs.lemmas.Bool.Decides.{nat_tests}
 use Rattle.std.proofs.Math.ListN.{get_or-map}
 use Rattle.std.specs.Prelude.{None}
 use Rattle.mdmp_wire.specs.declared.any_record.AnyRecord.{AnyRecord}
-use Rattle.mdmp_wire.specs.declared.any_record.AnyRecord.TheVariants as any
 use Rattle.mdmp_lister.specs.Format.Listing.{Numbered}
 use Rattle.mdmp_dump.specs.declared.pass.Pass.{Pass}
 use Rattle.mdmp_dump.specs.declared.found_record.FoundRecord.{FoundRecord}
@@ -17,27 +16,14 @@ use Rattle.mdmp_dump.specs.FileView.{bytes_by, costs_in, first_pass, greatest, r
 use Rattle.mdmp_dump.specs.FoundRecord.{AreIn, IsPartIn, fields_of, no_part}
 use Rattle.mdmp_dump.specs.Placed.{far_by, far_room, fields_bytes, fields_room, room_by, size_at, size_in}
 use Rattle.mdmp_dump.specs.Shape.{StreamCursor, GivesRecord, StreamShape, TakesOff, begun, body_by, body_of, far_of, is_far, raw_sizes, room_of, told, type_told, unused_shape}
+use Rattle.mdmp_dump.proofs.Values.{HasOneRoom, one_room}
 
 -- a record takes room in one way alone
 far_alone : (w : AnyRecord) (f : Fields) → is_far (kinds.Known (type_told w)) ≡ false → far_by w f ≡ 0
-far_alone (any.Thread r) f e = refl
-far_alone (any.Module r) f e = refl
-far_alone (any.Memory r) f e = refl
-far_alone (any.Exception r) f e = refl
-far_alone (any.System r) f e = refl
-far_alone (any.Memory64 r) f e = absurd (let h : true ≡ false = e in cc)
-far_alone (any.Unloaded r) f e = refl
-far_alone (any.MemoryInfo r) f e = refl
+far_alone w f near = subst (λ (far : Bool). HasOneRoom far w f) near (one_room w f)
 
 near_alone : (w : AnyRecord) (f : Fields) → is_far (kinds.Known (type_told w)) ≡ true → room_by w f ≡ 0
-near_alone (any.Thread r) f e = absurd (let h : false ≡ true = e in cc)
-near_alone (any.Module r) f e = absurd (let h : false ≡ true = e in cc)
-near_alone (any.Memory r) f e = absurd (let h : false ≡ true = e in cc)
-near_alone (any.Exception r) f e = absurd (let h : false ≡ true = e in cc)
-near_alone (any.System r) f e = absurd (let h : false ≡ true = e in cc)
-near_alone (any.Memory64 r) f e = refl
-near_alone (any.Unloaded r) f e = absurd (let h : false ≡ true = e in cc)
-near_alone (any.MemoryInfo r) f e = absurd (let h : false ≡ true = e in cc)
+near_alone w f far = subst (λ (b : Bool). HasOneRoom b w f) far (one_room w f)
 
 -- what is left of a room that is told
 left_by : Bool → ℕ → ℕ

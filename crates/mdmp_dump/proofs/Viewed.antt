@@ -55,7 +55,7 @@ use Rattle.mdmp_dump.proofs.Laid.{unused_by}
 use Rattle.mdmp_dump.proofs.Refusals.{counted_placed, known_counted, shape_counted}
 use Rattle.mdmp_dump.proofs.Streams.{one_single}
 use Rattle.mdmp_dump.proofs.Unrefused.{rows_count}
-use Rattle.mdmp_dump.proofs.Values.{HasOneRoom, one_room}
+use Rattle.mdmp_dump.proofs.Values.{HasOneRoom, record_room}
 use Rattle.mdmp_dump.proofs.Within.Part.{length-array_at}
 
 -- ---- records one behind the other
@@ -175,7 +175,7 @@ rooms_most (x ∷ xs) (suc k) =
 
 -- one more record, which takes room in one way alone
 module _ (xs : List Seen) (k met q : ℕ) (within : k < length xs) where
-  step_by : (far : Bool) → HasOneRoom far (get_or xs k nothing_seen) → met ≡ told (if far then fars (take k xs) else rooms (take k xs))
+  step_by : (far : Bool) → HasOneRoom far (get_or xs k nothing_seen).fields.wire (get_or xs k nothing_seen).fields → met ≡ told (if far then fars (take k xs) else rooms (take k xs))
       → q ≡ told (told (met + fields_room (get_or xs k nothing_seen).fields) + far_room (get_or xs k nothing_seen).fields)
       → q ≡ told (if far then fars (take (k + 1) xs) else rooms (take (k + 1) xs))
   step_by true one is next =
@@ -430,6 +430,7 @@ module _ (Z : Type 0) (F : List ℕ) (x : Numbered) (n : ℕ) (counts : record_c
       → q ≡ told (told (met + fields_room (seen_record (stream_named {Z = Z} F x.entry) k).fields) + far_room (seen_record (stream_named {Z = Z} F x.entry) k).fields)
       → q ≡ told (parts_in (kind_in (stream_named {Z = Z} F x.entry)) (take (k + 1) (records_seen (stream_named {Z = Z} F x.entry))))
   rooms_step k met q within is next =
+      let s : Stream Z = stream_named {Z = Z} F x.entry in
       let count = records_are in
-      step_by (records_seen (stream_named {Z = Z} F x.entry)) k met q (omega (arith, within, count)) (is_far (kind_in (stream_named {Z = Z} F x.entry)))
-      (one_room (stream_named {Z = Z} F x.entry) k) is next
+      let inside : k < length (records_seen s) = omega (arith, within, count) in
+      step_by (records_seen s) k met q inside (is_far (kind_in s)) (record_room s k inside) is next

@@ -104,8 +104,16 @@ unfoldable pub all_bytes : List Seen → ℕ
 all_bytes [] = 0
 all_bytes (x ∷ xs) = fields_bytes x.fields + all_bytes xs
 
+-- what some records take: of 64-bit memory the bytes behind all streams, of others the room behind their own
+abbrev pub all_taken : Bool → List Seen → ℕ
+all_taken far xs = if far then fars xs else rooms xs
+
 abbrev pub parts_in : Kind → List Seen → ℕ
-parts_in kind xs = if is_far kind then fars xs else rooms xs
+parts_in kind xs = all_taken (is_far kind) xs
+
+-- the same of one record
+abbrev pub taken : Bool → Fields → ℕ
+taken far f = if far then far_room f else fields_room f
 
 abbrev pub shape_seen : StreamSeen → StreamShape
 shape_seen s = record { kind = s.kind; records = length s.records; raw = length s.raw; parts = parts_in s.kind s.records; bytes = all_bytes s.records }

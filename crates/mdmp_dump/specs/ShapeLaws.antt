@@ -57,7 +57,7 @@ each_of kind see each [] = tt
 each_of kind see each (x ∷ xs) = (each x, each_of kind see each xs)
 
 module _ {Z : Type 0} where
-  stream_kinds : (s : Stream Z) → AreOf (kind_in s) (records_seen s)
+  pub stream_kinds : (s : Stream Z) → AreOf (kind_in s) (records_seen s)
   stream_kinds streams.Unused = tt
   stream_kinds (streams.Threads ts) = each_of _ thread_seen (λ t. three_of (thread_seen t).fields.wire _ _ _ _ _ _ (part_sized t.stack) (part_sized t.context) refl) ts
   stream_kinds (streams.Modules ms) = each_of _ module_seen (λ m. three_of (module_seen m).fields.wire _ _ _ _ _ _ (name_sized m.name) (part_sized m.codeview) (part_sized m.misc)) ms

@@ -1,7 +1,7 @@
 //! A record of a value, as a view gives it.
 ghost use Rattle.std.specs.Prelude.{◌≡◌, ◌<◌, ◌≤◌, ◌+◌, ◌^◌, [], ◌∷◌, length, get_or, map};
 ghost use Rattle.mdmp_dump.specs.Seen.{Seen, bytes_of, name_size, nothing_seen, nowhere, size_of, unit_bytes};
-ghost use Rattle.mdmp_dump.specs.Shape.{fars, rooms, told};
+ghost use Rattle.mdmp_dump.specs.Shape.{all_taken, taken, told};
 
 use crate::part::Part;
 use crate::placed::far_room;
@@ -48,32 +48,33 @@ pub(crate) fn add_told(total: u64, more: u128) -> u64
     (u128::from(total) + more).min(u128::from(u64::MAX)) as u64
 }
 
-/// What the name and the parts of one record take behind its stream.
-#[tactic(auto, unfolding(crate::specs::Shape::rooms))]
-pub(crate) fn room_of_one<T: Given>(one: &T) -> u64
-    ensures { result ≡ told (rooms (T.see one.now ∷ [])) }
+/// What one record takes: of 64-bit memory its bytes, of others the room of its name and parts.
+fn taken(fields: &Fields, is_far: bool) -> u128
+    ensures value { result ≡ taken is_far fields.now }
+    ensures bound { result ≤ 2 ^ 70 }
 {
-    add_told(0, one.fields().room())
-}
-
-/// What the names and parts of some records take.
-pub(crate) fn room_of_all<T: Given>(records: &[T]) -> u64
-    ensures { result ≡ told (rooms (map T.see records.now)) }
-{
-    let mut total = 0u64;
-    for record in records {
-        total = add_told(total, record.fields().room());
+    if is_far {
+        far_room(fields)
+    } else {
+        fields.room()
     }
-    total
 }
 
-/// How many bytes of 64-bit memory some records have.
-pub(crate) fn far_of_all<T: Given>(records: &[T]) -> u64
-    ensures { result ≡ told (fars (map T.see records.now)) }
+/// What a single record takes.
+#[tactic(auto, unfolding(crate::specs::Shape::rooms, crate::specs::Shape::fars))]
+pub(crate) fn one_taken<T: Given>(one: &T, is_far: bool) -> u64
+    ensures { result ≡ told (all_taken is_far (T.see one.now ∷ [])) }
+{
+    add_told(0, taken(&one.fields(), is_far))
+}
+
+/// What some records take.
+pub(crate) fn all_taken<T: Given>(records: &[T], is_far: bool) -> u64
+    ensures { result ≡ told (all_taken is_far (map T.see records.now)) }
 {
     let mut total = 0u64;
     for record in records {
-        total = add_told(total, far_room(&record.fields()));
+        total = add_told(total, taken(&record.fields(), is_far));
     }
     total
 }

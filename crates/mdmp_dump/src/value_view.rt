@@ -1,42 +1,63 @@
 //! A dump in memory, given a record at a time.
 ghost use Rattle.std.specs.Prelude.{◌≡◌, ◌<◌, ◌≤◌, ◌+◌, ◌*◌, [], length, take, drop, get_or};
 ghost use Rattle.mdmp_dump.specs.declared.dump.Stream.TheVariants.{Unused};
-ghost use Rattle.mdmp_lister.specs.Format.Kind.{type_of_kind};
 ghost use Rattle.mdmp_dump.specs.View.{kind_in, raw_in, records_seen, stream_seen};
 ghost use Rattle.mdmp_dump.specs.Shape.{body_of, parts_at, parts_in, seen_record, shape_seen, told, unspent, value_cursor, value_shape};
 ghost use Rattle.mdmp_dump.specs.ShapeLaws.{value_kinds, value_sound, value_stray};
 
 use crate::body::rows_size;
 use crate::dump::{Dump, Stream};
-use crate::given::{Given, far_of_all, fields_at, part_at, room_of_all, room_of_one};
+use crate::given::{Given, all_taken, fields_at, one_taken, part_at};
 use crate::view::{DumpView, Fields, HeaderFields, Kind, PartSize, ViewFault};
-use mdmp_lister::StreamKind as StreamKind;
+use mdmp_lister::StreamKind;
 use mdmp_wire::{AnyRecord, Descriptor64};
 use std::alloc::Allocator;
 
-/// A stream of records of this kind.
-fn known(kind: StreamKind) -> Kind
-    ensures { result ≡ Kind.Known (type_of_kind kind) }
-{
-    Kind::Known(kind.stream_type())
+// By the records of a stream, whose kinds stand here once: those of a list, as a slice, and a single
+// record. Their types differ, so that no function can hand them out.
+macro_rules! by_records {
+    (
+        $stream:expr, $kind:ident,
+        list $records:ident => $of_list:expr,
+        single $record:ident => $of_single:expr,
+        $($others:tt)*
+    ) => {
+        by_records!(
+            @kinds [Threads, Modules, Memory, Memory64, Unloaded, MemoryInfo] [Exception, System]
+            $stream, $kind, $records => $of_list, $record => $of_single, $($others)*
+        )
+    };
+    (
+        @kinds [$($list:ident),*] [$($single:ident),*]
+        $stream:expr, $kind:ident, $records:ident => $of_list:expr, $record:ident => $of_single:expr,
+        $($others:tt)*
+    ) => {
+        match $stream {
+            $(Stream::$list(list) => {
+                let $kind = StreamKind::$list;
+                let $records = list.as_slice();
+                $of_list
+            })*
+            $(Stream::$single($record) => {
+                let $kind = StreamKind::$single;
+                $of_single
+            })*
+            $($others)*
+        }
+    };
 }
 
 /// What a stream is, by the types of `MINIDUMP_STREAM_TYPE`.
 fn stream_kind<A: Allocator>(stream: &Stream<A>) -> Kind
     ensures { result ≡ kind_in stream.now }
 {
-    match stream {
+    by_records!(
+        stream, kind,
+        list _records => Kind::Known(kind.stream_type()),
+        single _record => Kind::Known(kind.stream_type()),
         Stream::Unused => Kind::Unused,
-        Stream::Threads(_) => known(StreamKind::Threads),
-        Stream::Modules(_) => known(StreamKind::Modules),
-        Stream::Memory(_) => known(StreamKind::Memory),
-        Stream::Exception(_) => known(StreamKind::Exception),
-        Stream::System(_) => known(StreamKind::System),
-        Stream::Memory64(_) => known(StreamKind::Memory64),
-        Stream::Unloaded(_) => known(StreamKind::Unloaded),
-        Stream::MemoryInfo(_) => known(StreamKind::MemoryInfo),
         Stream::Raw(stream_type, _) => Kind::Raw(*stream_type),
-    }
+    )
 }
 
 /// The bytes of a stream that has no records; none of any other.
@@ -53,16 +74,12 @@ fn raw_bytes<A: Allocator>(stream: &Stream<A>) -> &[u8]
 fn record_count<A: Allocator>(stream: &Stream<A>) -> usize
     ensures { result ≡ length (records_seen stream.now) }
 {
-    match stream {
-        Stream::Threads(threads) => threads.as_slice().len(),
-        Stream::Modules(modules) => modules.as_slice().len(),
-        Stream::Memory(ranges) => ranges.as_slice().len(),
-        Stream::Exception(_) | Stream::System(_) => 1,
-        Stream::Memory64(ranges) => ranges.as_slice().len(),
-        Stream::Unloaded(modules) => modules.as_slice().len(),
-        Stream::MemoryInfo(regions) => regions.as_slice().len(),
+    by_records!(
+        stream, _kind,
+        list records => records.len(),
+        single _record => 1,
         Stream::Unused | Stream::Raw(_, _) => 0,
-    }
+    )
 }
 
 /// How many bytes the body of a stream has: those of its list's head and records, or its raw bytes.
@@ -84,17 +101,12 @@ fn body_size<A: Allocator>(stream: &Stream<A>) -> u64
 fn parts_size<A: Allocator>(stream: &Stream<A>) -> u64
     ensures { result ≡ told (parts_in (kind_in stream.now) (records_seen stream.now)) }
 {
-    match stream {
-        Stream::Threads(threads) => room_of_all(threads.as_slice()),
-        Stream::Modules(modules) => room_of_all(modules.as_slice()),
-        Stream::Memory(ranges) => room_of_all(ranges.as_slice()),
-        Stream::Exception(exception) => room_of_one(exception),
-        Stream::System(system) => room_of_one(system),
-        Stream::Memory64(ranges) => far_of_all(ranges.as_slice()),
-        Stream::Unloaded(modules) => room_of_all(modules.as_slice()),
-        Stream::MemoryInfo(regions) => room_of_all(regions.as_slice()),
+    by_records!(
+        stream, kind,
+        list records => all_taken(records, kind.is_memory64()),
+        single record => one_taken(record, kind.is_memory64()),
         Stream::Unused | Stream::Raw(_, _) => 0,
-    }
+    )
 }
 
 /// The fields of one record of a stream.
@@ -102,15 +114,10 @@ fn record_fields<A: Allocator>(stream: &Stream<A>, index: usize) -> Fields
     requires { index < length (records_seen stream.now) }
     ensures { result ≡ (seen_record stream.now index).fields }
 {
-    match stream {
-        Stream::Threads(threads) => fields_at(threads.as_slice(), index),
-        Stream::Modules(modules) => fields_at(modules.as_slice(), index),
-        Stream::Memory(ranges) => fields_at(ranges.as_slice(), index),
-        Stream::Exception(exception) => exception.fields(),
-        Stream::System(system) => system.fields(),
-        Stream::Memory64(ranges) => fields_at(ranges.as_slice(), index),
-        Stream::Unloaded(modules) => fields_at(modules.as_slice(), index),
-        Stream::MemoryInfo(regions) => fields_at(regions.as_slice(), index),
+    by_records!(
+        stream, _kind,
+        list records => fields_at(records, index),
+        single record => record.fields(),
         Stream::Unused | Stream::Raw(_, _) => Fields {
             wire: AnyRecord::Memory64(Descriptor64 {
                 start_of_memory_range: 0,
@@ -118,7 +125,7 @@ fn record_fields<A: Allocator>(stream: &Stream<A>, index: usize) -> Fields
             }),
             parts: [PartSize::NoPart, PartSize::NoPart, PartSize::NoPart],
         },
-    }
+    )
 }
 
 /// A part of one record of a stream.
@@ -126,17 +133,12 @@ fn record_part<A: Allocator>(stream: &Stream<A>, index: usize, which: usize) -> 
     requires { index < length (records_seen stream.now) }
     ensures { result.now ≡ get_or (seen_record stream.now index).parts which [] }
 {
-    match stream {
-        Stream::Threads(threads) => part_at(threads.as_slice(), index, which),
-        Stream::Modules(modules) => part_at(modules.as_slice(), index, which),
-        Stream::Memory(ranges) => part_at(ranges.as_slice(), index, which),
-        Stream::Exception(exception) => exception.part(which),
-        Stream::System(system) => system.part(which),
-        Stream::Memory64(ranges) => part_at(ranges.as_slice(), index, which),
-        Stream::Unloaded(modules) => part_at(modules.as_slice(), index, which),
-        Stream::MemoryInfo(regions) => part_at(regions.as_slice(), index, which),
+    by_records!(
+        stream, _kind,
+        list records => part_at(records, index, which),
+        single record => record.part(which),
         Stream::Unused | Stream::Raw(_, _) => &[],
-    }
+    )
 }
 
 /// A part of the record that was given last, where so many were given; where none was, the raw bytes
