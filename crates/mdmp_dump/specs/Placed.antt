@@ -70,9 +70,8 @@ placed_by (any.Module r) f at = any.Module (record r {
 placed_by (any.Memory r) f at = any.Memory (record r { memory = location_of (size_at f 0) at })
 placed_by (any.Exception r) f at = any.Exception (record r { thread_context = location_of (size_at f 0) at })
 placed_by (any.System r) f at = any.System (record r { csd_version_rva = address_of (size_at f 0) at })
-placed_by (any.Memory64 r) f at = any.Memory64 r
 placed_by (any.Unloaded r) f at = any.Unloaded (record r { module_name_rva = address_of (size_at f 0) at })
-placed_by (any.MemoryInfo r) f at = any.MemoryInfo r
+placed_by w f at = w
 
 abbrev pub placed : Fields → ℕ → AnyRecord
 placed f at = placed_by f.wire f at

@@ -72,12 +72,11 @@ impl Fields {
                 csd_version_rva: address(first, at),
                 ..system
             }),
-            AnyRecord::Memory64(range) => AnyRecord::Memory64(range),
             AnyRecord::Unloaded(module) => AnyRecord::Unloaded(UnloadedRecord {
                 module_name_rva: address(first, at),
                 ..module
             }),
-            AnyRecord::MemoryInfo(region) => AnyRecord::MemoryInfo(region),
+            _ => self.wire,
         }
     }
 }
