@@ -19,3 +19,9 @@ IsToldBy (Ok x) last = Unit {0}
 IsToldBy (Err Out) last = Unit {0}
 IsToldBy (Err (View fault)) last = last ≡ Some fault
 IsToldBy (Err (Layout fault)) last = Unit {0}
+
+-- a step that asks nothing of a view stops only where the output refuses
+abbrev pub StopsAtOutput : {T : Type 0} → Result T WriteFault → OutState → OutState → Type 0
+StopsAtOutput (Ok x) before after = after.failures ≡ before.failures
+StopsAtOutput (Err Out) before after = HasRefused before.failures after.failures
+StopsAtOutput (Err fault) before after = ⊥

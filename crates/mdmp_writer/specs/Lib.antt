@@ -4,5 +4,6 @@ pub mod Gather
 pub mod Layout
 pub mod Passes
 pub mod RoundTrip
+pub mod Uses
 pub mod Writing
 pub mod Written

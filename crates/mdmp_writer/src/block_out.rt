@@ -1,5 +1,5 @@
 //! A stream to an output: its body, and behind it its names and parts.
-ghost use Rattle.std.specs.Prelude.{◌≡◌, ◌<◌, ◌≤◌, ◌+◌, ◌*◌, ◌^◌, OnOk, Some, length};
+ghost use Rattle.std.specs.Prelude.{◌≡◌, ◌<◌, ◌+◌, ◌^◌, OnOk, Some, length};
 ghost use Rattle.mdmp_dump.specs.declared.view.Kind.TheVariants.{Known, Raw};
 ghost use Rattle.mdmp_dump.specs.Places.{up};
 ghost use Rattle.mdmp_dump.specs.Shape.{body_of, cost_at, room_of, seen_at, stream_at};
@@ -7,9 +7,9 @@ ghost use Rattle.mdmp_dump.specs.View.{DumpSeen};
 ghost use Rattle.mdmp_writer.specs.Block.{RecordsAreKnown};
 ghost use Rattle.mdmp_writer.specs.Gather.{gathered, PutsSome, Writes};
 ghost use Rattle.mdmp_writer.specs.Layout.{block_size};
-ghost use Rattle.mdmp_writer.specs.Cause.{HasCause, IsToldBy};
 ghost use Rattle.mdmp_writer.specs.Passes.{block_asks, block_passes, parts_asks, parts_passes};
 ghost use Rattle.mdmp_writer.specs.Written.{all_padded, block_text, padded, parts_of};
+ghost use Rattle.mdmp_writer.specs.Uses.{used, Uses};
 
 use crate::body_out::put_body;
 use crate::fault::WriteFault;
@@ -32,14 +32,10 @@ fn put_second_pass<V: DumpView, O: Out>(
     requires stream { stream < length (V.shape view.old).streams }
     requires count { count ≡ (stream_at (V.shape view.old) stream).records }
     requires room { room_of (stream_at (V.shape view.old) stream) < 2 ^ 32 }
-    ensures shape { V.shape view.new ≡ V.shape view.old }
     ensures writes { (x : DumpSeen) → (V.shape view.old).seen ≡ Some x
         → Writes result (gathered (O.state out.old) gather.old) (all_padded (parts_of (seen_at x stream).records)) (gathered (O.state out.new) gather.new) }
     ensures some { OnOk result (PutsSome (gathered (O.state out.old) gather.old) (room_of (stream_at (V.shape view.old) stream)) (gathered (O.state out.new) gather.new)) }
-    ensures cause { HasCause (V.shape view.old).is_reliable result (O.state out.old) (O.state out.new) }
-    ensures passed { (V.spent view.new).passed ≤ (V.spent view.old).passed + cost_at (V.shape view.old) stream }
-    ensures asked { (V.spent view.new).asked ≤ (V.spent view.old).asked + (stream_at (V.shape view.old) stream).bytes }
-    ensures told { IsToldBy result (V.spent view.new).fault }
+    ensures uses { Uses result (used (V.shape view.old) (V.spent view.old) (O.state out.old)) (cost_at (V.shape view.old) stream) ((stream_at (V.shape view.old) stream).bytes) (used (V.shape view.new) (V.spent view.new) (O.state out.new)) }
     ensures moves { V.Moves view.old view.new }
 {
     match view.rewind(stream) {
@@ -62,14 +58,10 @@ fn put_stream_parts<V: DumpView, O: Out>(
     requires kind { (stream_at (V.shape view.old) stream).kind ≡ Known stream_type }
     requires count { count ≡ (stream_at (V.shape view.old) stream).records }
     requires room { room_of (stream_at (V.shape view.old) stream) < 2 ^ 32 }
-    ensures shape { V.shape view.new ≡ V.shape view.old }
     ensures writes { (x : DumpSeen) → (V.shape view.old).seen ≡ Some x
         → Writes result (gathered (O.state out.old) gather.old) (all_padded (parts_of (seen_at x stream).records)) (gathered (O.state out.new) gather.new) }
     ensures some { OnOk result (PutsSome (gathered (O.state out.old) gather.old) (room_of (stream_at (V.shape view.old) stream)) (gathered (O.state out.new) gather.new)) }
-    ensures cause { HasCause (V.shape view.old).is_reliable result (O.state out.old) (O.state out.new) }
-    ensures passed { (V.spent view.new).passed ≤ (V.spent view.old).passed + parts_passes (V.shape view.old) stream }
-    ensures asked { (V.spent view.new).asked ≤ (V.spent view.old).asked + parts_asks (V.shape view.old) stream }
-    ensures told { IsToldBy result (V.spent view.new).fault }
+    ensures uses { Uses result (used (V.shape view.old) (V.spent view.old) (O.state out.old)) (parts_passes (V.shape view.old) stream) (parts_asks (V.shape view.old) stream) (used (V.shape view.new) (V.spent view.new) (O.state out.new)) }
     ensures moves { V.Moves view.old view.new }
 {
     // The bytes of 64-bit memory stand behind all streams.
@@ -97,14 +89,10 @@ fn put_records<V: DumpView, O: Out>(
     requires kind { (stream_at (V.shape view.old) stream).kind ≡ Known stream_type }
     requires body { body ≡ body_of (stream_at (V.shape view.old) stream) }
     requires room { place.at + block_size (stream_at (V.shape view.old) stream) < 2 ^ 32 }
-    ensures shape { V.shape view.new ≡ V.shape view.old }
     ensures writes { (x : DumpSeen) → (V.shape view.old).seen ≡ Some x
         → Writes result (gathered (O.state out.old) gather.old) (block_text (seen_at x stream) place.at place.far) (gathered (O.state out.new) gather.new) }
     ensures some { OnOk result (PutsSome (gathered (O.state out.old) gather.old) (block_size (stream_at (V.shape view.old) stream)) (gathered (O.state out.new) gather.new)) }
-    ensures cause { HasCause (V.shape view.old).is_reliable result (O.state out.old) (O.state out.new) }
-    ensures passed { (V.spent view.new).passed ≤ (V.spent view.old).passed + block_passes (V.shape view.old) stream }
-    ensures asked { (V.spent view.new).asked ≤ (V.spent view.old).asked + block_asks (V.shape view.old) stream }
-    ensures told { IsToldBy result (V.spent view.new).fault }
+    ensures uses { Uses result (used (V.shape view.old) (V.spent view.old) (O.state out.old)) (block_passes (V.shape view.old) stream) (block_asks (V.shape view.old) stream) (used (V.shape view.new) (V.spent view.new) (O.state out.new)) }
     ensures moves { V.Moves view.old view.new }
 {
     let count = count_of(stream_type, body);
@@ -131,14 +119,10 @@ fn put_raw<V: DumpView, O: Out>(
 ) -> Result<(), WriteFault>
     requires stream { stream < length (V.shape view.old).streams }
     requires size { size ≡ (stream_at (V.shape view.old) stream).raw }
-    ensures shape { V.shape view.new ≡ V.shape view.old }
     ensures writes { (x : DumpSeen) → (V.shape view.old).seen ≡ Some x
         → Writes result (gathered (O.state out.old) gather.old) (padded (seen_at x stream).raw) (gathered (O.state out.new) gather.new) }
     ensures some { OnOk result (PutsSome (gathered (O.state out.old) gather.old) (up size) (gathered (O.state out.new) gather.new)) }
-    ensures cause { HasCause (V.shape view.old).is_reliable result (O.state out.old) (O.state out.new) }
-    ensures passed { (V.spent view.new).passed ≤ (V.spent view.old).passed + cost_at (V.shape view.old) stream }
-    ensures asked { (V.spent view.new).asked ≤ (V.spent view.old).asked + size }
-    ensures told { IsToldBy result (V.spent view.new).fault }
+    ensures uses { Uses result (used (V.shape view.old) (V.spent view.old) (O.state out.old)) (cost_at (V.shape view.old) stream) size (used (V.shape view.new) (V.spent view.new) (O.state out.new)) }
     ensures moves { V.Moves view.old view.new }
 {
     match view.rewind(stream) {
@@ -157,14 +141,10 @@ pub(crate) fn put_block<V: DumpView, O: Out>(
 ) -> Result<(), WriteFault>
     requires stream { stream < length (V.shape view.old).streams }
     requires room { place.at + block_size (stream_at (V.shape view.old) stream) < 2 ^ 32 }
-    ensures shape { V.shape view.new ≡ V.shape view.old }
     ensures writes { (x : DumpSeen) → (V.shape view.old).seen ≡ Some x → RecordsAreKnown (seen_at x stream)
         → Writes result (gathered (O.state out.old) gather.old) (block_text (seen_at x stream) place.at place.far) (gathered (O.state out.new) gather.new) }
     ensures some { OnOk result (PutsSome (gathered (O.state out.old) gather.old) (block_size (stream_at (V.shape view.old) stream)) (gathered (O.state out.new) gather.new)) }
-    ensures cause { HasCause (V.shape view.old).is_reliable result (O.state out.old) (O.state out.new) }
-    ensures passed { (V.spent view.new).passed ≤ (V.spent view.old).passed + block_passes (V.shape view.old) stream }
-    ensures asked { (V.spent view.new).asked ≤ (V.spent view.old).asked + block_asks (V.shape view.old) stream }
-    ensures told { IsToldBy result (V.spent view.new).fault }
+    ensures uses { Uses result (used (V.shape view.old) (V.spent view.old) (O.state out.old)) (block_passes (V.shape view.old) stream) (block_asks (V.shape view.old) stream) (used (V.shape view.new) (V.spent view.new) (O.state out.new)) }
     ensures moves { V.Moves view.old view.new }
 {
     let body = view.body_size(stream);

@@ -1,12 +1,12 @@
 //! The body of a stream of records to an output.
-ghost use Rattle.std.specs.Prelude.{◌≡◌, ◌<◌, ◌≤◌, ◌+◌, ◌*◌, ◌^◌, ◌++◌, Bool, OnOk, Option, Some, length};
+ghost use Rattle.std.specs.Prelude.{◌≡◌, ◌<◌, ◌+◌, ◌*◌, ◌^◌, ◌++◌, OnOk, Some, length};
 ghost use Rattle.mdmp_dump.specs.declared.view.Kind.TheVariants.{Known};
-ghost use Rattle.mdmp_dump.specs.declared.view.ViewFault.{ViewFault};
 ghost use Rattle.mdmp_dump.specs.Shape.{cost_at, head_by, head_of, room_of, row_of, seen_at, stream_at};
 ghost use Rattle.mdmp_dump.specs.View.{DumpSeen};
 ghost use Rattle.mdmp_writer.specs.Gather.{gathered, PutsSome, Writes};
-ghost use Rattle.mdmp_writer.specs.Cause.{HasCause, IsToldBy};
+ghost use Rattle.mdmp_writer.specs.Cause.{StopsAtOutput};
 ghost use Rattle.mdmp_writer.specs.Written.{head_by_kind, head_text, rows};
+ghost use Rattle.mdmp_writer.specs.Uses.{used, Uses};
 
 use crate::fault::WriteFault;
 use crate::gather::Gather;
@@ -30,8 +30,7 @@ fn put_kind_head<O: Out>(
     requires { count < 2 ^ 32 }
     ensures writes { Writes result (gathered (O.state out.old) gather.old) (head_by_kind (Some kind) count far) (gathered (O.state out.new) gather.new) }
     ensures some { OnOk result (PutsSome (gathered (O.state out.old) gather.old) (head_by (Some kind)) (gathered (O.state out.new) gather.new)) }
-    ensures cause { (reliable : Bool) → HasCause reliable result (O.state out.old) (O.state out.new) }
-    ensures told { (last : Option ViewFault) → IsToldBy result last }
+    ensures cause { StopsAtOutput result (O.state out.old) (O.state out.new) }
 {
     let form = kind.form();
     match form {
@@ -77,8 +76,7 @@ fn put_head<O: Out>(
     requires { count < 2 ^ 32 }
     ensures writes { Writes result (gathered (O.state out.old) gather.old) (head_text stream_type count far) (gathered (O.state out.new) gather.new) }
     ensures some { OnOk result (PutsSome (gathered (O.state out.old) gather.old) (head_of stream_type) (gathered (O.state out.new) gather.new)) }
-    ensures cause { (reliable : Bool) → HasCause reliable result (O.state out.old) (O.state out.new) }
-    ensures told { (last : Option ViewFault) → IsToldBy result last }
+    ensures cause { StopsAtOutput result (O.state out.old) (O.state out.new) }
 {
     match StreamKind::of_type(stream_type) {
         Some(kind) => put_kind_head(out, gather, kind, count, far),
@@ -101,16 +99,12 @@ pub(crate) fn put_body<V: DumpView, O: Out>(
     requires count { count ≡ (stream_at (V.shape view.old) stream).records }
     requires few { count < 2 ^ 32 }
     requires room { place.at + room_of (stream_at (V.shape view.old) stream) < 2 ^ 32 }
-    ensures shape { V.shape view.new ≡ V.shape view.old }
     ensures writes { (x : DumpSeen) → (V.shape view.old).seen ≡ Some x
         → Writes result (gathered (O.state out.old) gather.old)
         (head_text stream_type count place.far ++ rows place.at (seen_at x stream).records) (gathered (O.state out.new) gather.new) }
     ensures some { (stream_at (V.shape view.old) stream).kind ≡ Known stream_type
         → OnOk result (PutsSome (gathered (O.state out.old) gather.old) (head_of stream_type + count * row_of stream_type) (gathered (O.state out.new) gather.new)) }
-    ensures cause { HasCause (V.shape view.old).is_reliable result (O.state out.old) (O.state out.new) }
-    ensures passed { (V.spent view.new).passed ≤ (V.spent view.old).passed + cost_at (V.shape view.old) stream }
-    ensures asked { (V.spent view.new).asked ≤ (V.spent view.old).asked }
-    ensures told { IsToldBy result (V.spent view.new).fault }
+    ensures uses { Uses result (used (V.shape view.old) (V.spent view.old) (O.state out.old)) (cost_at (V.shape view.old) stream) 0 (used (V.shape view.new) (V.spent view.new) (O.state out.new)) }
     ensures moves { V.Moves view.old view.new }
 {
     match view.rewind(stream) {

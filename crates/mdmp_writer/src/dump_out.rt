@@ -6,10 +6,11 @@ ghost use Rattle.mdmp_dump.specs.View.{DumpSeen};
 ghost use Rattle.mdmp_writer.specs.Block.{AllAreKnown};
 ghost use Rattle.mdmp_writer.specs.Gather.{gathered, PutsDump, PutsSome, Writes};
 ghost use Rattle.mdmp_writer.specs.Layout.{AreEnds, blocks_end, blocks_size, fars_size, first_block, shape_fault};
-ghost use Rattle.mdmp_writer.specs.Cause.{HasCause, IsToldBy};
+ghost use Rattle.mdmp_writer.specs.Cause.{IsToldBy};
 ghost use Rattle.mdmp_writer.specs.Passes.{all_asks, all_costs};
 ghost use Rattle.mdmp_writer.specs.Writing.{GoesOut, IsWritingOf, IsWritingOfDump};
 ghost use Rattle.mdmp_writer.specs.Written.{blocks, far_texts, seen_text};
+ghost use Rattle.mdmp_writer.specs.Uses.{used, Uses};
 
 use crate::fault::WriteFault;
 use crate::gather::Gather;
@@ -67,14 +68,10 @@ fn put_dump<V: DumpView, O: Out>(
 ) -> Result<(), WriteFault>
     requires fault { shape_fault (V.shape view.old).streams ≡ None }
     requires ends { AreEnds (V.shape view.old).streams ends }
-    ensures shape { V.shape view.new ≡ V.shape view.old }
     ensures writes { (x : DumpSeen) → (V.shape view.old).seen ≡ Some x → AllAreKnown x
         → Writes result (gathered (O.state out.old) gather.old) (seen_text x) (gathered (O.state out.new) gather.new) }
     ensures out { OnOk result (PutsDump (V.shape view.old) (gathered (O.state out.old) gather.old) (gathered (O.state out.new) gather.new)) }
-    ensures cause { HasCause (V.shape view.old).is_reliable result (O.state out.old) (O.state out.new) }
-    ensures passed { (V.spent view.new).passed ≤ (V.spent view.old).passed + 2 * all_costs (V.shape view.old) }
-    ensures asked { (V.spent view.new).asked ≤ (V.spent view.old).asked + all_asks (V.shape view.old) }
-    ensures told { IsToldBy result (V.spent view.new).fault }
+    ensures uses { Uses result (used (V.shape view.old) (V.spent view.old) (O.state out.old)) (2 * all_costs (V.shape view.old)) (all_asks (V.shape view.old)) (used (V.shape view.new) (V.spent view.new) (O.state out.new)) }
     ensures moves { V.Moves view.old view.new }
 {
     let header = view.header();
@@ -105,14 +102,10 @@ fn put_streams<V: DumpView, O: Out>(
     requires fault { shape_fault (V.shape view.old).streams ≡ None }
     requires at { first.at ≡ first_block (V.shape view.old).streams }
     requires far { first.far ≡ blocks_end (V.shape view.old).streams }
-    ensures shape { V.shape view.new ≡ V.shape view.old }
     ensures writes { (x : DumpSeen) → (V.shape view.old).seen ≡ Some x → AllAreKnown x
         → Writes result (gathered (O.state out.old) gather.old) (blocks x.streams first.at first.far ++ far_texts x.streams) (gathered (O.state out.new) gather.new) }
     ensures some { OnOk result (PutsSome (gathered (O.state out.old) gather.old) (blocks_size (V.shape view.old).streams + fars_size (V.shape view.old).streams) (gathered (O.state out.new) gather.new)) }
-    ensures cause { HasCause (V.shape view.old).is_reliable result (O.state out.old) (O.state out.new) }
-    ensures passed { (V.spent view.new).passed ≤ (V.spent view.old).passed + 2 * all_costs (V.shape view.old) }
-    ensures asked { (V.spent view.new).asked ≤ (V.spent view.old).asked + all_asks (V.shape view.old) }
-    ensures told { IsToldBy result (V.spent view.new).fault }
+    ensures uses { Uses result (used (V.shape view.old) (V.spent view.old) (O.state out.old)) (2 * all_costs (V.shape view.old)) (all_asks (V.shape view.old)) (used (V.shape view.new) (V.spent view.new) (O.state out.new)) }
     ensures moves { V.Moves view.old view.new }
 {
     match put_blocks(view, out, gather, first) {

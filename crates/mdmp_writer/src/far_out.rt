@@ -1,14 +1,14 @@
 //! 64-bit memory to an output.
-ghost use Rattle.std.specs.Prelude.{◌≡◌, ◌<◌, ◌≤◌, ◌+◌, ◌-◌, ◌^◌, List, OnOk, Some, length};
+ghost use Rattle.std.specs.Prelude.{◌≡◌, ◌<◌, ◌-◌, ◌^◌, List, OnOk, Some, length};
 ghost use Rattle.mdmp_dump.specs.declared.view.Kind.TheVariants.{Known};
 ghost use Rattle.mdmp_dump.specs.Seen.{Seen};
 ghost use Rattle.mdmp_dump.specs.Shape.{body_of, cost_at, seen_at, stream_at};
 ghost use Rattle.mdmp_dump.specs.View.{DumpSeen};
 ghost use Rattle.mdmp_writer.specs.Gather.{gathered, PutsSome, Writes};
 ghost use Rattle.mdmp_writer.specs.Layout.{far_size};
-ghost use Rattle.mdmp_writer.specs.Cause.{HasCause, IsToldBy};
 ghost use Rattle.mdmp_writer.specs.Passes.{far_asks, far_passes};
 ghost use Rattle.mdmp_writer.specs.Written.{far_text, ranges_text};
+ghost use Rattle.mdmp_writer.specs.Uses.{used, Uses};
 
 use crate::fault::WriteFault;
 use crate::gather::Gather;
@@ -26,14 +26,10 @@ fn put_ranges<V: DumpView, O: Out>(
 ) -> Result<(), WriteFault>
     requires count { count ≡ (V.cursor view.old).records }
     requires stray { (V.cursor view.old).records ≡ 0 → (V.cursor view.old).far ≡ 0 }
-    ensures shape { V.shape view.new ≡ V.shape view.old }
     ensures writes { (xs : List Seen) → (V.cursor view.old).seen ≡ Some xs → length xs ≡ count
         → Writes result (gathered (O.state out.old) gather.old) (ranges_text xs) (gathered (O.state out.new) gather.new) }
     ensures some { (V.cursor view.old).kind ≡ Known 9 → (V.cursor view.old).far < 2 ^ 64 - 1 → OnOk result (PutsSome (gathered (O.state out.old) gather.old) (V.cursor view.old).far (gathered (O.state out.new) gather.new)) }
-    ensures cause { HasCause (V.shape view.old).is_reliable result (O.state out.old) (O.state out.new) }
-    ensures passed { (V.spent view.new).passed ≤ (V.spent view.old).passed }
-    ensures asked { (V.spent view.new).asked ≤ (V.spent view.old).asked + (V.cursor view.old).bytes }
-    ensures told { IsToldBy result (V.spent view.new).fault }
+    ensures uses { Uses result (used (V.shape view.old) (V.spent view.old) (O.state out.old)) 0 ((V.cursor view.old).bytes) (used (V.shape view.new) (V.spent view.new) (O.state out.new)) }
     ensures moves { V.Moves view.old view.new }
 {
     let mut left = count;
@@ -67,14 +63,10 @@ fn put_memory<V: DumpView, O: Out>(
     requires count { count ≡ (stream_at (V.shape view.old) stream).records }
     requires size { size ≡ (stream_at (V.shape view.old) stream).parts }
     requires room { far_size (stream_at (V.shape view.old) stream) < 2 ^ 64 }
-    ensures shape { V.shape view.new ≡ V.shape view.old }
     ensures writes { (x : DumpSeen) → (V.shape view.old).seen ≡ Some x
         → Writes result (gathered (O.state out.old) gather.old) (far_text (seen_at x stream)) (gathered (O.state out.new) gather.new) }
     ensures some { OnOk result (PutsSome (gathered (O.state out.old) gather.old) (far_size (stream_at (V.shape view.old) stream)) (gathered (O.state out.new) gather.new)) }
-    ensures cause { HasCause (V.shape view.old).is_reliable result (O.state out.old) (O.state out.new) }
-    ensures passed { (V.spent view.new).passed ≤ (V.spent view.old).passed + cost_at (V.shape view.old) stream }
-    ensures asked { (V.spent view.new).asked ≤ (V.spent view.old).asked + (stream_at (V.shape view.old) stream).bytes }
-    ensures told { IsToldBy result (V.spent view.new).fault }
+    ensures uses { Uses result (used (V.shape view.old) (V.spent view.old) (O.state out.old)) (cost_at (V.shape view.old) stream) ((stream_at (V.shape view.old) stream).bytes) (used (V.shape view.new) (V.spent view.new) (O.state out.new)) }
     ensures moves { V.Moves view.old view.new }
 {
     match view.rewind(stream) {
@@ -96,14 +88,10 @@ pub(crate) fn put_far<V: DumpView, O: Out>(
     requires stream { stream < length (V.shape view.old).streams }
     requires body { body_of (stream_at (V.shape view.old) stream) < 2 ^ 32 }
     requires room { far_size (stream_at (V.shape view.old) stream) < 2 ^ 64 }
-    ensures shape { V.shape view.new ≡ V.shape view.old }
     ensures writes { (x : DumpSeen) → (V.shape view.old).seen ≡ Some x
         → Writes result (gathered (O.state out.old) gather.old) (far_text (seen_at x stream)) (gathered (O.state out.new) gather.new) }
     ensures some { OnOk result (PutsSome (gathered (O.state out.old) gather.old) (far_size (stream_at (V.shape view.old) stream)) (gathered (O.state out.new) gather.new)) }
-    ensures cause { HasCause (V.shape view.old).is_reliable result (O.state out.old) (O.state out.new) }
-    ensures passed { (V.spent view.new).passed ≤ (V.spent view.old).passed + far_passes (V.shape view.old) stream }
-    ensures asked { (V.spent view.new).asked ≤ (V.spent view.old).asked + far_asks (V.shape view.old) stream }
-    ensures told { IsToldBy result (V.spent view.new).fault }
+    ensures uses { Uses result (used (V.shape view.old) (V.spent view.old) (O.state out.old)) (far_passes (V.shape view.old) stream) (far_asks (V.shape view.old) stream) (used (V.shape view.new) (V.spent view.new) (O.state out.new)) }
     ensures moves { V.Moves view.old view.new }
 {
     match view.kind(stream) {

@@ -1,9 +1,8 @@
 //! The caller's buffer, in which small pieces of a text are gathered.
-ghost use Rattle.std.specs.Prelude.{◌≡◌, ◌≤◌, ◌<◌, ◌+◌, ◌-◌, ◌++◌, ℕ, List, [], length, take, drop, get_or, min, nat_lt, Bool, Option, IsTrue, Some, IfErr, IfOk, OnOk, MatchResult};
+ghost use Rattle.std.specs.Prelude.{◌≡◌, ◌≤◌, ◌<◌, ◌+◌, ◌-◌, ◌++◌, ℕ, List, [], length, take, drop, get_or, min, nat_lt, IsTrue, Some, IfErr, IfOk, OnOk, MatchResult};
 ghost use Rattle.mdmp_source.specs.Output.{refused_if};
-ghost use Rattle.mdmp_dump.specs.declared.view.ViewFault.{ViewFault};
 ghost use Rattle.mdmp_writer.specs.Gather.{gathered, HoldsMore, Gathers, Writes};
-ghost use Rattle.mdmp_writer.specs.Cause.{HasCause, IsToldBy};
+ghost use Rattle.mdmp_writer.specs.Cause.{StopsAtOutput};
 
 use crate::fault::WriteFault;
 use mdmp_dump::{DumpView, ViewFault};
@@ -43,8 +42,7 @@ impl<'b> Gather<'b> {
     pub(crate) fn flush<O: Out>(&mut self, out: &mut O) -> Result<(), WriteFault>
         ensures puts { Gathers (gathered (O.state out.old) self.old) [] (gathered (O.state out.new) self.new) }
         ensures empties { OnOk result (self.new ≡ []) }
-        ensures cause { (reliable : Bool) → HasCause reliable result (O.state out.old) (O.state out.new) }
-        ensures told { (last : Option ViewFault) → IsToldBy result last }
+        ensures cause { StopsAtOutput result (O.state out.old) (O.state out.new) }
     {
         self.held = send_front(out, self.buffer, self.held);
         if self.held == 0 {
@@ -57,8 +55,7 @@ impl<'b> Gather<'b> {
     /// Puts bytes behind those that are held.
     pub(crate) fn put<O: Out>(&mut self, out: &mut O, bytes: &[u8]) -> Result<(), WriteFault>
         ensures writes { Writes result (gathered (O.state out.old) self.old) bytes.now (gathered (O.state out.new) self.new) }
-        ensures cause { (reliable : Bool) → HasCause reliable result (O.state out.old) (O.state out.new) }
-        ensures told { (last : Option ViewFault) → IsToldBy result last }
+        ensures cause { StopsAtOutput result (O.state out.old) (O.state out.new) }
     {
         let mut at = self.hold(bytes);
         while at < bytes.len() {

@@ -1,11 +1,10 @@
 //! The header of a dump and its directory to an output.
-ghost use Rattle.std.specs.Prelude.{◌≡◌, ◌<◌, ◌+◌, ◌^◌, length, Bool, Option};
-ghost use Rattle.mdmp_dump.specs.declared.view.ViewFault.{ViewFault};
+ghost use Rattle.std.specs.Prelude.{◌≡◌, ◌<◌, ◌+◌, ◌^◌, length};
 ghost use Rattle.mdmp_dump.specs.Shape.{body_of, stream_at};
 ghost use Rattle.mdmp_wire.specs.Header.{header_bytes};
 ghost use Rattle.mdmp_writer.specs.Gather.{gathered, Writes};
 ghost use Rattle.mdmp_writer.specs.Layout.{blocks_end, file_size, first_block};
-ghost use Rattle.mdmp_writer.specs.Cause.{HasCause, IsToldBy};
+ghost use Rattle.mdmp_writer.specs.Cause.{StopsAtOutput};
 ghost use Rattle.mdmp_writer.specs.Written.{directory, written_entry, header_of, type_by};
 
 use crate::fault::WriteFault;
@@ -25,8 +24,7 @@ pub(crate) fn put_header<O: Out>(
 ) -> Result<(), WriteFault>
     requires { streams < 2 ^ 32 }
     ensures writes { Writes result (gathered (O.state out.old) gather.old) (header_bytes (header_of header streams)) (gathered (O.state out.new) gather.new) }
-    ensures cause { (reliable : Bool) → HasCause reliable result (O.state out.old) (O.state out.new) }
-    ensures told { (last : Option ViewFault) → IsToldBy result last }
+    ensures cause { StopsAtOutput result (O.state out.old) (O.state out.new) }
 {
     let header = Header {
         signature: Header::SIGNATURE,
@@ -84,8 +82,7 @@ pub(crate) fn put_directory<V: DumpView, O: Out>(
     requires short { file_size (V.shape view.old).streams < 2 ^ 64 }
     ensures shape { V.shape view.new ≡ V.shape view.old }
     ensures writes { Writes result (gathered (O.state out.old) gather.old) (directory (V.shape view.old).streams first) (gathered (O.state out.new) gather.new) }
-    ensures cause { (reliable : Bool) → HasCause reliable result (O.state out.old) (O.state out.new) }
-    ensures told { (last : Option ViewFault) → IsToldBy result last }
+    ensures cause { StopsAtOutput result (O.state out.old) (O.state out.new) }
     ensures spent { V.spent view.new ≡ V.spent view.old }
     ensures moves { V.Moves view.old view.new }
 {

@@ -6,8 +6,8 @@ ghost use Rattle.mdmp_dump.specs.Seen.{Seen};
 ghost use Rattle.mdmp_dump.specs.Shape.{IsSized};
 ghost use Rattle.mdmp_wire.specs.Number.{zeros};
 ghost use Rattle.mdmp_writer.specs.Gather.{gathered, PutsSome, Writes};
-ghost use Rattle.mdmp_writer.specs.Cause.{HasCause, IsToldBy};
 ghost use Rattle.mdmp_writer.specs.Written.{all_padded, padded, padding, parts_of};
+ghost use Rattle.mdmp_writer.specs.Uses.{used, Uses};
 
 use crate::fault::WriteFault;
 use crate::gather::Gather;
@@ -28,16 +28,12 @@ fn put_units<V: DumpView, O: Out>(
 ) -> Result<(), WriteFault>
     requires within { size ≤ (V.cursor view.old).sizes which }
     requires room { 4 + size + 2 < 2 ^ 64 }
-    ensures shape { V.shape view.new ≡ V.shape view.old }
     ensures cursor { OnOk result (V.cursor view.new ≡ V.cursor view.old) }
     ensures writes { (parts : List (List ℕ)) → (V.cursor view.old).parts ≡ Some parts → length (get_or parts which []) ≡ size
         → Writes result (gathered (O.state out.old) gather.old)
         (get_or parts which [] ++ zeros 2 ++ padding (4 + size + 2)) (gathered (O.state out.new) gather.new) }
     ensures some { OnOk result (PutsSome (gathered (O.state out.old) gather.old) (up (4 + size + 2) - 4) (gathered (O.state out.new) gather.new)) }
-    ensures cause { HasCause (V.shape view.old).is_reliable result (O.state out.old) (O.state out.new) }
-    ensures passed { (V.spent view.new).passed ≤ (V.spent view.old).passed }
-    ensures asked { (V.spent view.new).asked ≤ (V.spent view.old).asked + size }
-    ensures told { IsToldBy result (V.spent view.new).fault }
+    ensures uses { Uses result (used (V.shape view.old) (V.spent view.old) (O.state out.old)) 0 size (used (V.shape view.new) (V.spent view.new) (O.state out.new)) }
     ensures moves { V.Moves view.old view.new }
 {
     match put_part(view, out, gather, which, size) {
@@ -59,15 +55,11 @@ fn put_name<V: DumpView, O: Out>(
 ) -> Result<(), WriteFault>
     requires within { size_in name ≤ (V.cursor view.old).sizes which }
     requires room { name_room name < 2 ^ 32 }
-    ensures shape { V.shape view.new ≡ V.shape view.old }
     ensures cursor { OnOk result (V.cursor view.new ≡ V.cursor view.old) }
     ensures writes { (parts : List (List ℕ)) → (V.cursor view.old).parts ≡ Some parts → length (get_or parts which []) ≡ size_in name
         → Writes result (gathered (O.state out.old) gather.old) (padded (name_around name (get_or parts which []))) (gathered (O.state out.new) gather.new) }
     ensures some { OnOk result (PutsSome (gathered (O.state out.old) gather.old) (name_room name) (gathered (O.state out.new) gather.new)) }
-    ensures cause { HasCause (V.shape view.old).is_reliable result (O.state out.old) (O.state out.new) }
-    ensures passed { (V.spent view.new).passed ≤ (V.spent view.old).passed }
-    ensures asked { (V.spent view.new).asked ≤ (V.spent view.old).asked + size_in name }
-    ensures told { IsToldBy result (V.spent view.new).fault }
+    ensures uses { Uses result (used (V.shape view.old) (V.spent view.old) (O.state out.old)) 0 (size_in name) (used (V.shape view.new) (V.spent view.new) (O.state out.new)) }
     ensures moves { V.Moves view.old view.new }
 {
     match name {
@@ -91,15 +83,11 @@ fn put_slot<V: DumpView, O: Out>(
 ) -> Result<(), WriteFault>
     requires within { size_in part ≤ (V.cursor view.old).sizes which }
     requires room { slot_room slot part < 2 ^ 32 }
-    ensures shape { V.shape view.new ≡ V.shape view.old }
     ensures cursor { OnOk result (V.cursor view.new ≡ V.cursor view.old) }
     ensures writes { (parts : List (List ℕ)) → (V.cursor view.old).parts ≡ Some parts → length (get_or parts which []) ≡ size_in part
         → Writes result (gathered (O.state out.old) gather.old) (padded (slot_text slot part (get_or parts which []))) (gathered (O.state out.new) gather.new) }
     ensures some { OnOk result (PutsSome (gathered (O.state out.old) gather.old) (slot_room slot part) (gathered (O.state out.new) gather.new)) }
-    ensures cause { HasCause (V.shape view.old).is_reliable result (O.state out.old) (O.state out.new) }
-    ensures passed { (V.spent view.new).passed ≤ (V.spent view.old).passed }
-    ensures asked { (V.spent view.new).asked ≤ (V.spent view.old).asked + size_in part }
-    ensures told { IsToldBy result (V.spent view.new).fault }
+    ensures uses { Uses result (used (V.shape view.old) (V.spent view.old) (O.state out.old)) 0 (size_in part) (used (V.shape view.new) (V.spent view.new) (O.state out.new)) }
     ensures moves { V.Moves view.old view.new }
 {
     match slot {
@@ -118,15 +106,11 @@ fn put_fields_parts<V: DumpView, O: Out>(
 ) -> Result<(), WriteFault>
     requires sizes { (k : ℕ) → (V.cursor view.old).sizes k ≡ size_in (size_at fields.now k) }
     requires room { fields_room fields.now < 2 ^ 32 }
-    ensures shape { V.shape view.new ≡ V.shape view.old }
     ensures cursor { OnOk result (V.cursor view.new ≡ V.cursor view.old) }
     ensures writes { (x : Seen) → (V.cursor view.old).parts ≡ Some x.parts → IsSized x → x.fields ≡ fields.now
         → Writes result (gathered (O.state out.old) gather.old) (all_padded (seen_parts x)) (gathered (O.state out.new) gather.new) }
     ensures some { OnOk result (PutsSome (gathered (O.state out.old) gather.old) (fields_room fields.now) (gathered (O.state out.new) gather.new)) }
-    ensures cause { HasCause (V.shape view.old).is_reliable result (O.state out.old) (O.state out.new) }
-    ensures passed { (V.spent view.new).passed ≤ (V.spent view.old).passed }
-    ensures asked { (V.spent view.new).asked ≤ (V.spent view.old).asked + fields_bytes fields.now }
-    ensures told { IsToldBy result (V.spent view.new).fault }
+    ensures uses { Uses result (used (V.shape view.old) (V.spent view.old) (O.state out.old)) 0 (fields_bytes fields.now) (used (V.shape view.new) (V.spent view.new) (O.state out.new)) }
     ensures moves { V.Moves view.old view.new }
 {
     let [first, second, third] = fields.parts;
@@ -150,14 +134,10 @@ pub(crate) fn put_parts<V: DumpView, O: Out>(
     requires count { count ≡ (V.cursor view.old).records }
     requires room { (V.cursor view.old).room < 2 ^ 32 }
     requires stray { (V.cursor view.old).records ≡ 0 → (V.cursor view.old).room ≡ 0 }
-    ensures shape { V.shape view.new ≡ V.shape view.old }
     ensures writes { (xs : List Seen) → (V.cursor view.old).seen ≡ Some xs → length xs ≡ count
         → Writes result (gathered (O.state out.old) gather.old) (all_padded (parts_of xs)) (gathered (O.state out.new) gather.new) }
     ensures some { OnOk result (PutsSome (gathered (O.state out.old) gather.old) (V.cursor view.old).room (gathered (O.state out.new) gather.new)) }
-    ensures cause { HasCause (V.shape view.old).is_reliable result (O.state out.old) (O.state out.new) }
-    ensures passed { (V.spent view.new).passed ≤ (V.spent view.old).passed }
-    ensures asked { (V.spent view.new).asked ≤ (V.spent view.old).asked + (V.cursor view.old).bytes }
-    ensures told { IsToldBy result (V.spent view.new).fault }
+    ensures uses { Uses result (used (V.shape view.old) (V.spent view.old) (O.state out.old)) 0 ((V.cursor view.old).bytes) (used (V.shape view.new) (V.spent view.new) (O.state out.new)) }
     ensures moves { V.Moves view.old view.new }
 {
     let mut left = count;

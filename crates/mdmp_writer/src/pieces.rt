@@ -1,10 +1,10 @@
 //! The bytes of parts to an output.
-ghost use Rattle.std.specs.Prelude.{◌≡◌, ◌<◌, ◌≤◌, ◌+◌, ℕ, List, [], Some, length, take, drop, get_or, Bool, Option, IfOk, OnOk, MatchResult};
-ghost use Rattle.mdmp_dump.specs.declared.view.ViewFault.{ViewFault};
+ghost use Rattle.std.specs.Prelude.{◌≡◌, ◌<◌, ◌≤◌, ◌+◌, ℕ, List, [], Some, length, take, drop, get_or, IfOk, OnOk, MatchResult};
 ghost use Rattle.mdmp_dump.specs.Placed.{part_room, size_in};
 ghost use Rattle.mdmp_writer.specs.Gather.{gathered, Gathers, PutsSome, Writes};
-ghost use Rattle.mdmp_writer.specs.Cause.{HasCause, IsToldBy};
+ghost use Rattle.mdmp_writer.specs.Cause.{StopsAtOutput};
 ghost use Rattle.mdmp_writer.specs.Written.{padded, padding};
+ghost use Rattle.mdmp_writer.specs.Uses.{used, Uses};
 
 use crate::fault::WriteFault;
 use crate::gather::Gather;
@@ -23,17 +23,14 @@ fn fetch_more<V: DumpView, O: Out>(
 ) -> Result<u64, WriteFault>
     requires some { 0 < most }
     requires within { at + most ≤ (V.cursor view.old).sizes which }
-    ensures shape { V.shape view.new ≡ V.shape view.old }
     ensures bound { IfOk result (λ k. (0 < k) × (k ≤ most) × (V.cursor view.new ≡ V.cursor view.old)) }
     ensures puts { MatchResult result
         (λ k. (parts : List (List ℕ)) → (V.cursor view.old).parts ≡ Some parts
         → Gathers (gathered (O.state out.old) gather.old) (take k (drop at (get_or parts which []))) (gathered (O.state out.new) gather.new))
         (λ _. Gathers (gathered (O.state out.old) gather.old) [] (gathered (O.state out.new) gather.new)) }
     ensures some { IfOk result (λ k. PutsSome (gathered (O.state out.old) gather.old) k (gathered (O.state out.new) gather.new)) }
-    ensures cause { HasCause (V.shape view.old).is_reliable result (O.state out.old) (O.state out.new) }
-    ensures passed { (V.spent view.new).passed ≤ (V.spent view.old).passed }
-    ensures asked { MatchResult result (λ k. (V.spent view.new).asked ≤ (V.spent view.old).asked + k) (λ _. (V.spent view.new).asked ≤ (V.spent view.old).asked + most) }
-    ensures told { IsToldBy result (V.spent view.new).fault }
+    ensures uses { Uses result (used (V.shape view.old) (V.spent view.old) (O.state out.old)) 0 most (used (V.shape view.new) (V.spent view.new) (O.state out.new)) }
+    ensures asked { IfOk result (λ k. (V.spent view.new).asked ≤ (V.spent view.old).asked + k) }
     ensures moves { V.Moves view.old view.new }
 {
     match gather.flush(out) {
@@ -54,15 +51,11 @@ pub(crate) fn put_part<V: DumpView, O: Out>(
     size: u64,
 ) -> Result<(), WriteFault>
     requires { size ≤ (V.cursor view.old).sizes which }
-    ensures shape { V.shape view.new ≡ V.shape view.old }
     ensures cursor { OnOk result (V.cursor view.new ≡ V.cursor view.old) }
     ensures writes { (parts : List (List ℕ)) → (V.cursor view.old).parts ≡ Some parts → length (get_or parts which []) ≡ size
         → Writes result (gathered (O.state out.old) gather.old) (get_or parts which []) (gathered (O.state out.new) gather.new) }
     ensures some { OnOk result (PutsSome (gathered (O.state out.old) gather.old) size (gathered (O.state out.new) gather.new)) }
-    ensures cause { HasCause (V.shape view.old).is_reliable result (O.state out.old) (O.state out.new) }
-    ensures passed { (V.spent view.new).passed ≤ (V.spent view.old).passed }
-    ensures asked { (V.spent view.new).asked ≤ (V.spent view.old).asked + size }
-    ensures told { IsToldBy result (V.spent view.new).fault }
+    ensures uses { Uses result (used (V.shape view.old) (V.spent view.old) (O.state out.old)) 0 size (used (V.shape view.new) (V.spent view.new) (O.state out.new)) }
     ensures moves { V.Moves view.old view.new }
 {
     let mut at = match gather.fetch(view, which, 0, size) {
@@ -85,8 +78,7 @@ pub(crate) fn put_padding<O: Out>(
     size: u64,
 ) -> Result<(), WriteFault>
     ensures writes { Writes result (gathered (O.state out.old) gather.old) (padding size) (gathered (O.state out.new) gather.new) }
-    ensures cause { (reliable : Bool) → HasCause reliable result (O.state out.old) (O.state out.new) }
-    ensures told { (last : Option ViewFault) → IsToldBy result last }
+    ensures cause { StopsAtOutput result (O.state out.old) (O.state out.new) }
 {
     let zeros = [0u8; 3];
     let count = ((4 - size % 4) % 4) as usize;
@@ -102,15 +94,11 @@ pub(crate) fn put_padded<V: DumpView, O: Out>(
     part: PartSize,
 ) -> Result<(), WriteFault>
     requires { size_in part ≤ (V.cursor view.old).sizes which }
-    ensures shape { V.shape view.new ≡ V.shape view.old }
     ensures cursor { OnOk result (V.cursor view.new ≡ V.cursor view.old) }
     ensures writes { (parts : List (List ℕ)) → (V.cursor view.old).parts ≡ Some parts → length (get_or parts which []) ≡ size_in part
         → Writes result (gathered (O.state out.old) gather.old) (padded (get_or parts which [])) (gathered (O.state out.new) gather.new) }
     ensures some { OnOk result (PutsSome (gathered (O.state out.old) gather.old) (part_room part) (gathered (O.state out.new) gather.new)) }
-    ensures cause { HasCause (V.shape view.old).is_reliable result (O.state out.old) (O.state out.new) }
-    ensures passed { (V.spent view.new).passed ≤ (V.spent view.old).passed }
-    ensures asked { (V.spent view.new).asked ≤ (V.spent view.old).asked + size_in part }
-    ensures told { IsToldBy result (V.spent view.new).fault }
+    ensures uses { Uses result (used (V.shape view.old) (V.spent view.old) (O.state out.old)) 0 (size_in part) (used (V.shape view.new) (V.spent view.new) (O.state out.new)) }
     ensures moves { V.Moves view.old view.new }
 {
     let size = part.size();

@@ -1,10 +1,9 @@
 //! Records to an output.
-ghost use Rattle.std.specs.Prelude.{◌≤◌, Bool, OnOk, Option};
+ghost use Rattle.std.specs.Prelude.{◌≤◌, OnOk};
 ghost use Rattle.mdmp_wire.specs.AnyRecord.{any_bytes};
 ghost use Rattle.mdmp_dump.specs.Shape.{row_of, type_told};
-ghost use Rattle.mdmp_dump.specs.declared.view.ViewFault.{ViewFault};
 ghost use Rattle.mdmp_writer.specs.Gather.{gathered, PutsSome, Writes};
-ghost use Rattle.mdmp_writer.specs.Cause.{HasCause, IsToldBy};
+ghost use Rattle.mdmp_writer.specs.Cause.{StopsAtOutput};
 
 use crate::fault::WriteFault;
 use crate::gather::Gather;
@@ -20,8 +19,7 @@ pub(crate) fn put_record<R: Record, O: Out>(
     requires { R.SIZE ≤ 168 }
     ensures writes { Writes result (gathered (O.state out.old) gather.old) (R.bytes_of value.now) (gathered (O.state out.new) gather.new) }
     ensures some { OnOk result (PutsSome (gathered (O.state out.old) gather.old) R.SIZE (gathered (O.state out.new) gather.new)) }
-    ensures cause { (reliable : Bool) → HasCause reliable result (O.state out.old) (O.state out.new) }
-    ensures told { (last : Option ViewFault) → IsToldBy result last }
+    ensures cause { StopsAtOutput result (O.state out.old) (O.state out.new) }
 {
     let mut buffer = [0; 168];
     let bytes = &mut buffer[..R::SIZE];
@@ -37,8 +35,7 @@ pub(crate) fn put_any<O: Out>(
 ) -> Result<(), WriteFault>
     ensures writes { Writes result (gathered (O.state out.old) gather.old) (any_bytes row.now) (gathered (O.state out.new) gather.new) }
     ensures some { OnOk result (PutsSome (gathered (O.state out.old) gather.old) (row_of (type_told row.now)) (gathered (O.state out.new) gather.new)) }
-    ensures cause { (reliable : Bool) → HasCause reliable result (O.state out.old) (O.state out.new) }
-    ensures told { (last : Option ViewFault) → IsToldBy result last }
+    ensures cause { StopsAtOutput result (O.state out.old) (O.state out.new) }
 {
     match row {
         AnyRecord::Thread(thread) => put_record(out, gather, thread),

@@ -1,12 +1,12 @@
 //! All streams to an output, and their 64-bit memory behind them.
-ghost use Rattle.std.specs.Prelude.{◌≡◌, ◌<◌, ◌≤◌, ◌+◌, ◌^◌, OnOk, Some};
+ghost use Rattle.std.specs.Prelude.{◌≡◌, ◌<◌, ◌+◌, ◌^◌, OnOk, Some};
 ghost use Rattle.mdmp_dump.specs.View.{DumpSeen};
 ghost use Rattle.mdmp_writer.specs.Block.{AllAreKnown};
 ghost use Rattle.mdmp_writer.specs.Gather.{gathered, PutsSome, Writes};
 ghost use Rattle.mdmp_writer.specs.Layout.{blocks_end, blocks_size, fars_size, file_size, first_block};
-ghost use Rattle.mdmp_writer.specs.Cause.{HasCause, IsToldBy};
 ghost use Rattle.mdmp_writer.specs.Passes.{all_block_asks, all_block_passes, all_far_asks, all_far_passes};
 ghost use Rattle.mdmp_writer.specs.Written.{blocks, far_texts};
+ghost use Rattle.mdmp_writer.specs.Uses.{used, Uses};
 
 use crate::block_out::put_block;
 use crate::far_out::put_far;
@@ -28,14 +28,10 @@ pub(crate) fn put_blocks<V: DumpView, O: Out>(
     requires far { first.far ≡ blocks_end (V.shape view.old).streams }
     requires low { blocks_end (V.shape view.old).streams < 2 ^ 32 }
     requires short { file_size (V.shape view.old).streams < 2 ^ 64 }
-    ensures shape { V.shape view.new ≡ V.shape view.old }
     ensures writes { (x : DumpSeen) → (V.shape view.old).seen ≡ Some x → AllAreKnown x
         → Writes result (gathered (O.state out.old) gather.old) (blocks x.streams first.at first.far) (gathered (O.state out.new) gather.new) }
     ensures some { OnOk result (PutsSome (gathered (O.state out.old) gather.old) (blocks_size (V.shape view.old).streams) (gathered (O.state out.new) gather.new)) }
-    ensures cause { HasCause (V.shape view.old).is_reliable result (O.state out.old) (O.state out.new) }
-    ensures passed { (V.spent view.new).passed ≤ (V.spent view.old).passed + all_block_passes (V.shape view.old) }
-    ensures asked { (V.spent view.new).asked ≤ (V.spent view.old).asked + all_block_asks (V.shape view.old) }
-    ensures told { IsToldBy result (V.spent view.new).fault }
+    ensures uses { Uses result (used (V.shape view.old) (V.spent view.old) (O.state out.old)) (all_block_passes (V.shape view.old)) (all_block_asks (V.shape view.old)) (used (V.shape view.new) (V.spent view.new) (O.state out.new)) }
     ensures moves { V.Moves view.old view.new }
 {
     let mut at = first.at;
@@ -61,14 +57,10 @@ pub(crate) fn put_fars<V: DumpView, O: Out>(
 ) -> Result<(), WriteFault>
     requires low { blocks_end (V.shape view.old).streams < 2 ^ 32 }
     requires short { file_size (V.shape view.old).streams < 2 ^ 64 }
-    ensures shape { V.shape view.new ≡ V.shape view.old }
     ensures writes { (x : DumpSeen) → (V.shape view.old).seen ≡ Some x
         → Writes result (gathered (O.state out.old) gather.old) (far_texts x.streams) (gathered (O.state out.new) gather.new) }
     ensures some { OnOk result (PutsSome (gathered (O.state out.old) gather.old) (fars_size (V.shape view.old).streams) (gathered (O.state out.new) gather.new)) }
-    ensures cause { HasCause (V.shape view.old).is_reliable result (O.state out.old) (O.state out.new) }
-    ensures passed { (V.spent view.new).passed ≤ (V.spent view.old).passed + all_far_passes (V.shape view.old) }
-    ensures asked { (V.spent view.new).asked ≤ (V.spent view.old).asked + all_far_asks (V.shape view.old) }
-    ensures told { IsToldBy result (V.spent view.new).fault }
+    ensures uses { Uses result (used (V.shape view.old) (V.spent view.old) (O.state out.old)) (all_far_passes (V.shape view.old)) (all_far_asks (V.shape view.old)) (used (V.shape view.new) (V.spent view.new) (O.state out.new)) }
     ensures moves { V.Moves view.old view.new }
 {
     for stream in 0..view.streams() {

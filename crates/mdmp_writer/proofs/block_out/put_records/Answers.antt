@@ -1,12 +1,13 @@
-use Rattle.std.proofs.Common.{◌≡◌, ◌+◌, ◌*◌, ◌∙◌, ◌++◌, ℕ, Some, ap, length, refl, sym, true}
+use Rattle.std.proofs.Common.{◌≡◌, ◌+◌, ◌*◌, ◌∙◌, ◌++◌, ℕ, Some, ap, length, refl, sym, arith}
 use Rattle.mdmp_dump.specs.Places.{up}
 use Rattle.mdmp_dump.specs.Shape.{ViewShape, body_of, head_of, room_of, row_of, seen_at, stream_at}
 use Rattle.mdmp_dump.specs.View.{DumpSeen}
 use Rattle.mdmp_writer.specs.Gather.{gathered}
 use Rattle.mdmp_writer.specs.Layout.{block_size}
+use Rattle.mdmp_writer.specs.Passes.{parts_asks, parts_passes}
 use Rattle.mdmp_writer.specs.Written.{all_padded, block_text, head_text, padding, parts_of, rows}
 use Rattle.mdmp_writer.proofs.Blocks.{block_known, known_size}
-use Rattle.mdmp_writer.proofs.Causes.{cause_after}
+use Rattle.mdmp_writer.proofs.Causes.{uses_out, uses_sent, uses_then, uses_within}
 use Rattle.mdmp_writer.proofs.Counting.{ok_is, ok_then, some_is, some_of, some_then}
 use Rattle.mdmp_writer.proofs.Placing.{length-padding}
 use Rattle.mdmp_writer.proofs.Sending.{cut_before, cut_behind, cut_same, puts_puts, writes_same, writes_then}
@@ -36,13 +37,7 @@ returns-in-Ok-put_padding-clause-writes g c x known =
     (is_block g (goal.at.returns-in-Ok-put_padding-clause-writes g c).After-put_body x known)
     (writes_then c.put_stream_parts.result _ _ _ (_ ++ zeros) (all_padded (parts_of (seen_at x c.args.stream).records))
     (puts_puts _ _ _ _ zeros (c.in-Ok.ensures.writes x known) c.in-Ok-put_padding.ensures.writes)
-    (c.put_stream_parts.ensures.writes x (ap (λ (s : ViewShape). s.seen) c.put_body.ensures.shape ∙ known)))
-
-pub returns-in-Ok-put_padding-clause-cause : goal.returns-in-Ok-put_padding-clause-cause
-returns-in-Ok-put_padding-clause-cause g c =
-    let state = g.O.Out.state in
-    cause_after c.put_stream_parts.result (state c.args.out.now) (state c.put_padding.new.out) (state c.put_stream_parts.new.out) _ _
-    (c.in-Ok-put_padding.ensures.cause true ∙ c.in-Ok.ensures.cause) (ap (λ (s : ViewShape). s.is_reliable) c.put_body.ensures.shape) c.put_stream_parts.ensures.cause
+    (c.put_stream_parts.ensures.writes x (ap (λ (s : ViewShape). s.seen) c.put_body.ensures.uses.shape ∙ known)))
 
 pub returns-in-Err-put_padding-clause-writes : goal.returns-in-Err-put_padding-clause-writes
 returns-in-Err-put_padding-clause-writes g c x known =
@@ -65,4 +60,18 @@ returns-in-Ok-put_padding-clause-some g c =
     let whole : c.args.body + rest ≡ up (body_of s) = length-padding c.args.body ∙ ap up c.requires.body in
     let front = some_then _ _ _ c.args.body rest (some_is _ _ _ c.args.body body (c.in-Ok.ensures.some c.requires.kind)) (some_of _ _ (padding c.args.body) rest c.in-Ok-put_padding.ensures.writes refl) in
     ok_then c.put_stream_parts.result _ _ _ (c.args.body + rest) (room_of s) (block_size s) (ap (λ (m : ℕ). m + room_of s) whole) front
-    (ok_is c.put_stream_parts.result _ _ _ _ (ap (λ (u : ViewShape). room_of (stream_at u c.args.stream)) c.put_body.ensures.shape) c.put_stream_parts.ensures.some)
+    (ok_is c.put_stream_parts.result _ _ _ _ (ap (λ (u : ViewShape). room_of (stream_at u c.args.stream)) c.put_body.ensures.uses.shape) c.put_stream_parts.ensures.some)
+
+pub returns-in-Ok-put_padding-clause-uses : goal.returns-in-Ok-put_padding-clause-uses
+returns-in-Ok-put_padding-clause-uses g c =
+    let k = c.args.stream in
+    let same = c.put_body.ensures.uses.shape in
+    uses_then (uses_sent c.in-Ok.ensures.uses c.in-Ok-put_padding.ensures.cause) c.put_stream_parts.ensures.uses
+    (omega (arith, ap (λ (u : ViewShape). parts_passes u k) same)) (omega (arith, ap (λ (u : ViewShape). parts_asks u k) same))
+
+pub returns-in-Err-put_padding-clause-uses : goal.returns-in-Err-put_padding-clause-uses
+returns-in-Err-put_padding-clause-uses g c =
+    uses_within (uses_out c.in-Ok.ensures.uses c.in-Err-put_padding.ensures.cause) (omega arith) (omega arith)
+
+pub returns-in-Err-clause-uses : goal.returns-in-Err-clause-uses
+returns-in-Err-clause-uses g c = uses_within c.in-Err.ensures.uses (omega arith) (omega arith)

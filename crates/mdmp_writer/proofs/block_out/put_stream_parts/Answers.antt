@@ -2,8 +2,9 @@ use Rattle.std.proofs.Common.{◌≡◌, ◌∙◌, List, ℕ, sym, ap, subst, a
 use Rattle.std.proofs.lemmas.Bool.{ne_eqb}
 use Rattle.mdmp_dump.specs.declared.view.Kind.{Kind}
 use Rattle.mdmp_dump.specs.declared.view.Kind.TheVariants.{Known}
-use Rattle.mdmp_dump.specs.Shape.{ViewShape, Spent, cost_at, is_far, room_of, stream_at}
+use Rattle.mdmp_dump.specs.Shape.{ViewShape, cost_at, is_far, room_of, stream_at}
 use Rattle.mdmp_writer.specs.Gather.{Gathers, gathered}
+use Rattle.mdmp_writer.proofs.Causes.{uses_asked, uses_none, uses_then}
 use Rattle.mdmp_writer.proofs.Counting.{ok_is, some_is, some_none}
 use Rattle.mdmp_writer.proofs.Passing.{near_asks, near_passes, near_room, no_second}
 use Rattle.mdmp_writer.proofs.Sending.{puts_nothing}
@@ -31,30 +32,6 @@ returns-then-parts-eq0-clause-writes g c x known =
 pub returns-clause-writes : goal.returns-clause-writes
 returns-clause-writes g c x known = c.put_second_pass.ensures.writes x (ap (λ (t : ViewShape). t.seen) c.parts_size-parts.ensures.shape ∙ known)
 
-pub returns-clause-passed : goal.returns-clause-passed
-returns-clause-passed g c =
-    let s = g.V.DumpView.shape c.args.view.now in
-    let k = c.args.stream in
-    omega (
-      arith,
-      c.put_second_pass.ensures.passed,
-      ap (λ (t : Spent). t.passed) c.parts_size-parts.ensures.spent,
-      ap (λ (t : ViewShape). cost_at t k) c.parts_size-parts.ensures.shape,
-      near_passes s k c.args.stream_type c.requires.kind (ne_eqb c.args.stream_type 9 c.if-stream_type-eq9.false),
-    )
-
-pub returns-clause-asked : goal.returns-clause-asked
-returns-clause-asked g c =
-    let s = g.V.DumpView.shape c.args.view.now in
-    let k = c.args.stream in
-    omega (
-      arith,
-      c.put_second_pass.ensures.asked,
-      ap (λ (t : Spent). t.asked) c.parts_size-parts.ensures.spent,
-      ap (λ (t : ViewShape). (stream_at t k).bytes) c.parts_size-parts.ensures.shape,
-      near_asks s k c.args.stream_type c.requires.kind (ne_eqb c.args.stream_type 9 c.if-stream_type-eq9.false),
-    )
-
 pub returns-then-stream_type-eq9-clause-some : goal.returns-then-stream_type-eq9-clause-some
 returns-then-stream_type-eq9-clause-some g c =
     let s = stream_at (g.V.DumpView.shape c.args.view.now) c.args.stream in
@@ -71,3 +48,13 @@ returns-then-parts-eq0-clause-some g c =
 pub returns-clause-some : goal.returns-clause-some
 returns-clause-some g c =
     ok_is c.put_second_pass.result _ _ _ _ (ap (λ (t : ViewShape). room_of (stream_at t c.args.stream)) c.parts_size-parts.ensures.shape) c.put_second_pass.ensures.some
+
+pub returns-clause-uses : goal.returns-clause-uses
+returns-clause-uses g c =
+    let s = g.V.DumpView.shape c.args.view.now in
+    let k = c.args.stream in
+    let same = c.parts_size-parts.ensures.shape in
+    let near = ne_eqb c.args.stream_type 9 c.if-stream_type-eq9.false in
+    uses_then (uses_asked uses_none same c.parts_size-parts.ensures.spent) c.put_second_pass.ensures.uses
+    (omega (arith, ap (λ (t : ViewShape). cost_at t k) same, near_passes s k c.args.stream_type c.requires.kind near))
+    (omega (arith, ap (λ (t : ViewShape). (stream_at t k).bytes) same, near_asks s k c.args.stream_type c.requires.kind near))

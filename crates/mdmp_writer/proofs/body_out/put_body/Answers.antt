@@ -1,8 +1,8 @@
-use Rattle.std.proofs.Common.{◌∙◌, ◌*◌, refl, sym, ap, true}
-use Rattle.mdmp_dump.specs.Shape.{StreamCursor, ViewShape, head_of, row_of, seen_at}
+use Rattle.std.proofs.Common.{◌∙◌, ◌*◌, refl, sym, ap, arith}
+use Rattle.mdmp_dump.specs.Shape.{StreamCursor, head_of, row_of, seen_at}
 use Rattle.mdmp_writer.specs.Written.{head_text, rows}
 use Rattle.mdmp_writer.proofs.Blocks.{begun_seen, known_count}
-use Rattle.mdmp_writer.proofs.Causes.{cause_after}
+use Rattle.mdmp_writer.proofs.Causes.{uses_none, uses_pass, uses_sent, uses_then}
 use Rattle.mdmp_writer.proofs.Counting.{ok_then}
 use Rattle.mdmp_writer.proofs.Sending.{writes_then}
 use Rattle.mdmp_writer.proofs.body_out.put_body.Goals as goal
@@ -16,13 +16,13 @@ returns-in-Ok-put_head-clause-writes g c x known =
     (c.put_rows.ensures.writes xs (ap (λ (u : StreamCursor). u.seen) c.in-Ok.ensures.begins ∙ begun_seen s x k known)
     (sym (known_count s x k c.args.count (g.met.V.DumpView.sound c.args.view.now x known) c.requires.count)))
 
-pub returns-in-Ok-put_head-clause-cause : goal.returns-in-Ok-put_head-clause-cause
-returns-in-Ok-put_head-clause-cause g c =
-    let state = g.O.Out.state in
-    cause_after c.put_rows.result (state c.args.out.now) (state c.put_head.new.out) (state c.put_rows.new.out) _ _ (c.in-Ok-put_head.ensures.cause true)
-    (ap (λ (s : ViewShape). s.is_reliable) c.rewind.ensures.shape) c.put_rows.ensures.cause
-
 pub returns-in-Ok-put_head-clause-some : goal.returns-in-Ok-put_head-clause-some
 returns-in-Ok-put_head-clause-some g c is =
     let t = c.args.stream_type in
     ok_then c.put_rows.result _ _ _ (head_of t) (c.args.count * row_of t) _ refl c.in-Ok-put_head.ensures.some (c.put_rows.ensures.some t (ap (λ (u : StreamCursor). u.kind) c.in-Ok.ensures.begins ∙ is))
+
+pub returns-in-Ok-put_head-clause-uses : goal.returns-in-Ok-put_head-clause-uses
+returns-in-Ok-put_head-clause-uses g c =
+    uses_then
+    (uses_sent (uses_pass _ uses_none c.rewind.ensures.shape c.in-Ok.ensures.passed c.in-Ok.ensures.asked) c.in-Ok-put_head.ensures.cause)
+    c.put_rows.ensures.uses (omega arith) (omega arith)

@@ -3,8 +3,9 @@ use Rattle.mdmp_wire.specs.Header.{header_bytes}
 use Rattle.mdmp_dump.specs.Shape.{ViewShape}
 use Rattle.mdmp_dump.specs.View.{DumpSeen}
 use Rattle.mdmp_writer.specs.Layout.{blocks_end, blocks_size, fars_size, first_block}
+use Rattle.mdmp_writer.specs.Passes.{all_asks, all_costs}
 use Rattle.mdmp_writer.specs.Written.{blocks, directory, far_texts, header_of, seen_text}
-use Rattle.mdmp_writer.proofs.Causes.{cause_after}
+use Rattle.mdmp_writer.proofs.Causes.{uses_asked, uses_none, uses_sent, uses_then}
 use Rattle.mdmp_writer.proofs.Counting.{dump_then, ok_is}
 use Rattle.mdmp_writer.proofs.Sending.{cut_before, cut_behind, cut_same, puts_puts, writes_same, writes_then}
 use Rattle.mdmp_writer.proofs.Streaming.{text_parts}
@@ -35,22 +36,12 @@ returns-in-Ok-put_directory-clause-writes g c x known all =
     (writes_then c.put_streams.result _ _ _ (head ++ entries) rest (puts_puts _ _ _ head entries c.in-Ok.ensures.writes c.in-Ok-put_directory.ensures.writes)
     (c.put_streams.ensures.writes x (ap (λ (t : ViewShape). t.seen) (c.put_directory.ensures.shape ∙ c.streams-streams.ensures.shape ∙ c.header-header.ensures.shape) ∙ known) all))
 
-pub returns-in-Ok-put_directory-clause-cause : goal.returns-in-Ok-put_directory-clause-cause
-returns-in-Ok-put_directory-clause-cause g c =
-    cause_after c.put_streams.result _ _ _ _ _ (c.in-Ok-put_directory.ensures.cause true ∙ c.in-Ok.ensures.cause true)
-    (ap (λ (t : ViewShape). t.is_reliable) (c.put_directory.ensures.shape ∙ c.streams-streams.ensures.shape ∙ c.header-header.ensures.shape)) c.put_streams.ensures.cause
-
 pub returns-in-Err-put_directory-clause-writes : goal.returns-in-Err-put_directory-clause-writes
 returns-in-Err-put_directory-clause-writes g c x known all =
     let head = header_bytes (header_of c.header-header.result c.streams-streams.result) in
     let entries = directory (g.V.DumpView.shape c.streams-streams.new.self).streams (32 + 12 * c.streams-streams.result) in
     cut_same _ _ _ _ (is_text g (goal.at.returns-in-Err-put_directory-clause-writes g c).After-put_header x known)
     (cut_before _ _ (head ++ entries) _ (cut_behind _ _ _ head entries c.in-Ok.ensures.writes c.in-Err-put_directory.ensures.writes))
-
-pub returns-in-Err-put_directory-clause-cause : goal.returns-in-Err-put_directory-clause-cause
-returns-in-Err-put_directory-clause-cause g c =
-    cause_after (Err c.in-Err-put_directory.fault) _ _ _ _ _ (c.in-Ok.ensures.cause true) refl
-    (c.in-Err-put_directory.ensures.cause (g.V.DumpView.shape c.args.view.now).is_reliable)
 
 pub returns-in-Err-clause-writes : goal.returns-in-Err-clause-writes
 returns-in-Err-clause-writes g c x known all =
@@ -69,3 +60,12 @@ returns-in-Ok-put_directory-clause-out g c =
     let head = rw (c.header-header.ensures.told, count) at c.in-Ok.ensures.writes in
     let behind = ap (λ (t : ViewShape). blocks_size t.streams + fars_size t.streams) (c.put_directory.ensures.shape ∙ same) in
     dump_then c.put_streams.result _ _ _ _ old head entries (ok_is c.put_streams.result _ _ _ _ behind c.put_streams.ensures.some)
+
+pub returns-in-Ok-put_directory-clause-uses : goal.returns-in-Ok-put_directory-clause-uses
+returns-in-Ok-put_directory-clause-uses g c =
+    let asked = uses_asked uses_none (c.streams-streams.ensures.shape ∙ c.header-header.ensures.shape) (c.streams-streams.ensures.spent ∙ c.header-header.ensures.spent) in
+    let head = uses_sent {o = g.O.Out.state c.put_header.new.out} asked c.in-Ok.ensures.cause in
+    let same = c.put_directory.ensures.shape ∙ c.streams-streams.ensures.shape ∙ c.header-header.ensures.shape in
+    uses_then
+    (uses_sent (uses_asked head c.put_directory.ensures.shape c.put_directory.ensures.spent) c.in-Ok-put_directory.ensures.cause)
+    c.put_streams.ensures.uses (omega (arith, ap (λ (t : ViewShape). all_costs t) same)) (omega (arith, ap (λ (t : ViewShape). all_asks t) same))

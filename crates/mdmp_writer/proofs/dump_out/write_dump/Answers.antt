@@ -1,9 +1,10 @@
-use Rattle.std.proofs.Common.{◌≡◌, ◌∙◌, ap, refl, subst, Some, true}
+use Rattle.std.proofs.Common.{◌≡◌, ◌∙◌, ap, refl, subst, Some, Err, true}
 use Rattle.mdmp_dump.specs.View.{dump_seen}
 use Rattle.mdmp_dump.specs.Shape.{ViewShape}
 use Rattle.mdmp_writer.specs.Gather.{Gathers, GathersPrefix, gathered}
 use Rattle.mdmp_writer.specs.Written.{written}
 use Rattle.mdmp_writer.proofs.Blocks.{dump_records_known}
+use Rattle.mdmp_writer.proofs.Causes.{cause_of_output}
 use Rattle.mdmp_writer.proofs.Counting.{dump_out}
 use Rattle.mdmp_writer.proofs.Runs.{all_of_dump, all_out, cut_of_dump, cut_out, fault_of_dump, size_of_shape, stopped}
 use Rattle.mdmp_writer.proofs.Sending.{puts_all, puts_flush}
@@ -13,7 +14,7 @@ pub returns-in-Err-clause-writes : goal.returns-in-Err-clause-writes
 returns-in-Err-clause-writes g c d is = fault_of_dump d _ _ (g.met.V.DumpView.sound c.args.view.now (dump_seen d) is) c.in-Err.ensures.ends
 
 pub returns-in-Ok-flush-clause-ends : goal.returns-in-Ok-flush-clause-ends
-returns-in-Ok-flush-clause-ends g c = (size_of_shape _ _ c.in-Ok.ensures.ends.0 c.in-Ok.ensures.ends.1.file, c.in-Ok-flush.ensures.cause true ∙ c.in-Ok-put_dump.ensures.cause)
+returns-in-Ok-flush-clause-ends g c = (size_of_shape _ _ c.in-Ok.ensures.ends.0 c.in-Ok.ensures.ends.1.file, c.in-Ok-flush.ensures.cause ∙ c.in-Ok-put_dump.ensures.uses.cause)
 
 pub returns-in-Ok-flush-clause-writes : goal.returns-in-Ok-flush-clause-writes
 returns-in-Ok-flush-clause-writes g c d is =
@@ -24,20 +25,20 @@ returns-in-Ok-flush-clause-writes g c d is =
 
 pub returns-in-Err-flush-clause-ends : goal.returns-in-Err-flush-clause-ends
 returns-in-Err-flush-clause-ends g c =
-    stopped (g.V.DumpView.shape c.args.view.now) c.in-Err-flush.fault (g.O.Out.state c.args.out.now) (g.O.Out.state c.put_dump.new.out) (g.O.Out.state c.flush.new.out) _ c.in-Ok.ensures.ends.0 refl c.in-Ok-put_dump.ensures.cause (c.in-Err-flush.ensures.cause (g.V.DumpView.shape c.args.view.now).is_reliable)
+    stopped (g.V.DumpView.shape c.args.view.now) c.in-Err-flush.fault (g.O.Out.state c.args.out.now) (g.O.Out.state c.put_dump.new.out) (g.O.Out.state c.flush.new.out) _ c.in-Ok.ensures.ends.0 refl c.in-Ok-put_dump.ensures.uses.cause (cause_of_output {T = Unit {0}} (Err c.in-Err-flush.fault) _ _ (g.V.DumpView.shape c.args.view.now).is_reliable c.in-Err-flush.ensures.cause)
 
 pub returns-in-Err-flush-clause-writes : goal.returns-in-Err-flush-clause-writes
 returns-in-Err-flush-clause-writes g c d is =
     let here : (g.V.DumpView.shape c.layout.new.view).seen ≡ Some (dump_seen d) = ap (λ (t : ViewShape). t.seen) c.layout.ensures.shape ∙ is in
     let put = subst (λ h. Gathers (gathered (g.O.Out.state c.args.out.now) h) (written d) (gathered (g.O.Out.state c.put_dump.new.out) c.put_dump.new.gather)) c.new-gather.ensures (c.in-Ok-put_dump.ensures.writes (dump_seen d) here (dump_records_known d)) in
-    cut_of_dump d _ c.in-Err-flush.fault (g.O.Out.state c.args.out.now) (g.O.Out.state c.put_dump.new.out) (g.O.Out.state c.flush.new.out) true (g.met.V.DumpView.sound c.args.view.now (dump_seen d) is) c.in-Ok.ensures.ends.0 (c.in-Err-flush.ensures.cause true)
+    cut_of_dump d _ c.in-Err-flush.fault (g.O.Out.state c.args.out.now) (g.O.Out.state c.put_dump.new.out) (g.O.Out.state c.flush.new.out) true (g.met.V.DumpView.sound c.args.view.now (dump_seen d) is) c.in-Ok.ensures.ends.0 (cause_of_output {T = Unit {0}} (Err c.in-Err-flush.fault) _ _ true c.in-Err-flush.ensures.cause)
     (cut_out (g.O.Out.state c.args.out.now) (gathered (g.O.Out.state c.flush.new.out) c.flush.new.self) (written d) (puts_all _ _ (written d) (puts_flush _ _ _ (written d) put c.in-Err-flush.ensures.puts)))
 
 pub returns-in-Err-put_dump-clause-writes : goal.returns-in-Err-put_dump-clause-writes
 returns-in-Err-put_dump-clause-writes g c d is =
     let here : (g.V.DumpView.shape c.layout.new.view).seen ≡ Some (dump_seen d) = ap (λ (t : ViewShape). t.seen) c.layout.ensures.shape ∙ is in
     let cut = subst (λ h. GathersPrefix (gathered (g.O.Out.state c.args.out.now) h) (written d) (gathered (g.O.Out.state c.put_dump.new.out) c.put_dump.new.gather)) c.new-gather.ensures (c.in-Err-put_dump.ensures.writes (dump_seen d) here (dump_records_known d)) in
-    cut_of_dump d _ c.in-Err-put_dump.fault (g.O.Out.state c.args.out.now) (g.O.Out.state c.args.out.now) (g.O.Out.state c.put_dump.new.out) (g.V.DumpView.shape c.layout.new.view).is_reliable (g.met.V.DumpView.sound c.args.view.now (dump_seen d) is) c.in-Ok.ensures.ends.0 c.in-Err-put_dump.ensures.cause
+    cut_of_dump d _ c.in-Err-put_dump.fault (g.O.Out.state c.args.out.now) (g.O.Out.state c.args.out.now) (g.O.Out.state c.put_dump.new.out) (g.V.DumpView.shape c.layout.new.view).is_reliable (g.met.V.DumpView.sound c.args.view.now (dump_seen d) is) c.in-Ok.ensures.ends.0 c.in-Err-put_dump.ensures.uses.cause
     (cut_out (g.O.Out.state c.args.out.now) (gathered (g.O.Out.state c.put_dump.new.out) c.put_dump.new.gather) (written d) cut)
 
 pub returns-in-Ok-flush-clause-out : goal.returns-in-Ok-flush-clause-out

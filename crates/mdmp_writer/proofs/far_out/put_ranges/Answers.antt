@@ -1,26 +1,24 @@
-use Rattle.std.proofs.Common.{◌≡◌, ◌∙◌, Err, arith, refl, sym, ap}
+use Rattle.std.proofs.Common.{◌≡◌, ◌∙◌, arith, refl, sym, ap}
 use Rattle.mdmp_dump.specs.declared.view.Fields.{Fields}
 use Rattle.mdmp_dump.specs.Placed.{far_room, size_at, size_in}
-use Rattle.mdmp_dump.specs.Shape.{StreamCursor, ViewShape, type_told}
+use Rattle.mdmp_dump.specs.Shape.{StreamCursor, type_told}
 use Rattle.mdmp_writer.specs.Written.{ranges_text}
-use Rattle.mdmp_writer.proofs.Causes.{cause_after}
+use Rattle.mdmp_writer.proofs.Causes.{uses_fault, uses_next, uses_none, uses_then, uses_within}
 use Rattle.mdmp_writer.proofs.Counting.{come_begin, come_next, come_none, far_of_range, known_type, some_is}
 use Rattle.mdmp_writer.proofs.Loops.{next_of, rest_begin, ranges_cut, ranges_put, ranges_stop, ranges_done}
 use Rattle.mdmp_writer.proofs.far_out.put_ranges.Goals as goal
 
 pub loop-left-init : goal.loop-left-init
 loop-left-init g c = record {
-  shape = refl;
   count = sym c.requires.count;
-  passed = omega arith;
-  asked = omega arith;
+  bytes = omega arith;
+  uses = uses_within uses_none (omega arith) (omega arith);
   moves = g.met.V.DumpView.stays _;
   ranges = λ xs known len. rest_begin _ ranges_text xs _ _ known len;
   kind = refl;
   come = λ known low. come_begin _ _;
   low = λ low. omega arith;
   last = λ low none. c.requires.stray (omega (arith, none, c.requires.count));
-  steady = refl;
 }
 
 pub returns-in-Err-clause-writes : goal.returns-in-Err-clause-writes
@@ -33,12 +31,6 @@ returns-in-Err-put_part-clause-writes g c xs known len =
     let n = next_of old new c.in-Ok.fields c.loop-left.left _ (c.loop-left.invariant.ranges xs known len) c.in-Ok.ensures.gives in
     ranges_cut _ _ _ _ new c.in-Ok.fields c.loop-left.left n (c.in-Err-put_part.ensures.writes n.first.parts n.parts (n.sized 0 ∙ ap (λ (h : Fields). size_in (size_at h 0)) n.same ∙ sym c.size.ensures))
 
-pub returns-in-Err-put_part-clause-cause : goal.returns-in-Err-put_part-clause-cause
-returns-in-Err-put_part-clause-cause g c =
-    let state = g.O.Out.state in
-    cause_after (Err c.in-Err-put_part.fault) (state c.args.out.now) (state c.loop-left.out) (state c.put_part.new.out) _ _ c.loop-left.invariant.steady
-    (ap (λ (s : ViewShape). s.is_reliable) (c.next_record.ensures.shape ∙ c.loop-left.invariant.shape)) c.in-Err-put_part.ensures.cause
-
 pub loop-left-preserved : goal.loop-left-preserved
 loop-left-preserved g c =
     let old = g.V.DumpView.cursor c.loop-left.view in
@@ -47,10 +39,11 @@ loop-left-preserved g c =
     let stays : now ≡ new = c.in-Ok-put_part.ensures.cursor in
     let gives = c.in-Ok.ensures.gives in
     record {
-      shape = c.put_part.ensures.shape ∙ c.next_record.ensures.shape ∙ c.loop-left.invariant.shape;
       count = rw stays (omega (arith, gives.records, c.loop-left.invariant.count));
-      passed = omega (arith, c.loop-left.invariant.passed, c.in-Ok.ensures.passed, c.in-Ok-put_part.ensures.passed);
-      asked = rw stays (omega (arith, c.loop-left.invariant.asked, c.in-Ok.ensures.asked, c.in-Ok-put_part.ensures.asked, gives.bytes, c.size.ensures));
+      bytes = rw stays (omega (arith, gives.bytes, c.loop-left.invariant.bytes));
+      uses = rw stays (uses_then
+          (uses_next c.loop-left.invariant.uses c.next_record.ensures.shape c.in-Ok.ensures.passed c.in-Ok.ensures.asked)
+          c.in-Ok-put_part.ensures.uses (omega arith) (omega (arith, gives.bytes, c.loop-left.invariant.bytes, c.size.ensures)));
       moves = g.met.V.DumpView.follows _ _ _ c.loop-left.invariant.moves (g.met.V.DumpView.follows _ _ _ c.in-Ok.ensures.moves c.in-Ok-put_part.ensures.moves);
       ranges = λ xs known len.
           let n = next_of old new c.in-Ok.fields c.loop-left.left _ (c.loop-left.invariant.ranges xs known len) gives in
@@ -64,7 +57,6 @@ loop-left-preserved g c =
           rw stays (come_next _ _ _ _ old.far (far_room c.in-Ok.fields) new.far far.left (c.loop-left.invariant.come known low) (some_is _ _ c.size.result _ size c.in-Ok-put_part.ensures.some));
       low = λ low. rw stays (omega (arith, (gives.far (omega (arith, c.loop-left.invariant.low low, low))).left, c.loop-left.invariant.low low));
       last = λ low none. rw stays ((gives.far (omega (arith, c.loop-left.invariant.low low, low))).last (omega (arith, none, gives.records, c.loop-left.invariant.count)));
-      steady = c.in-Ok-put_part.ensures.cause ∙ c.loop-left.invariant.steady;
     }
 
 pub returns-clause-writes : goal.returns-clause-writes
@@ -77,11 +69,21 @@ pub returns-in-Err-put_part-clause-moves : goal.returns-in-Err-put_part-clause-m
 returns-in-Err-put_part-clause-moves g c =
     g.met.V.DumpView.follows _ _ _ c.loop-left.invariant.moves (g.met.V.DumpView.follows _ _ _ c.in-Ok.ensures.moves c.in-Err-put_part.ensures.moves)
 
-pub returns-in-Err-put_part-clause-asked : goal.returns-in-Err-put_part-clause-asked
-returns-in-Err-put_part-clause-asked g c =
-    omega (arith, c.loop-left.invariant.asked, c.in-Ok.ensures.asked, c.in-Err-put_part.ensures.asked, c.in-Ok.ensures.gives.bytes, c.size.ensures)
-
 pub returns-clause-some : goal.returns-clause-some
 returns-clause-some g c known low =
     let at = c.loop-left.invariant in
     come_none _ _ (g.V.DumpView.cursor c.args.view.now).far (g.V.DumpView.cursor c.loop-left.view).far (at.last low (omega arith)) (at.come known low)
+
+pub returns-in-Err-clause-uses : goal.returns-in-Err-clause-uses
+returns-in-Err-clause-uses g c =
+    uses_fault c.loop-left.invariant.uses c.next_record.ensures.shape c.in-Err.ensures.reliable (omega (arith, c.loop-left.invariant.uses.passed, c.in-Err.ensures.passed))
+    (omega (arith, c.loop-left.invariant.uses.asked, c.in-Err.ensures.asked)) c.in-Err.ensures.told
+
+pub returns-in-Err-put_part-clause-uses : goal.returns-in-Err-put_part-clause-uses
+returns-in-Err-put_part-clause-uses g c =
+    uses_then
+    (uses_next c.loop-left.invariant.uses c.next_record.ensures.shape c.in-Ok.ensures.passed c.in-Ok.ensures.asked)
+    c.in-Err-put_part.ensures.uses (omega arith) (omega (arith, c.in-Ok.ensures.gives.bytes, c.loop-left.invariant.bytes, c.size.ensures))
+
+pub returns-clause-uses : goal.returns-clause-uses
+returns-clause-uses g c = uses_within c.loop-left.invariant.uses (omega arith) (omega arith)

@@ -1,4 +1,4 @@
-use Rattle.std.proofs.Common.{◌≡◌, ◌<◌, ◌≤◌, ◌+◌, ◌^◌, ◌∙◌, ap, arith, refl, sym, subst, length, ℕ, true}
+use Rattle.std.proofs.Common.{◌≡◌, ◌<◌, ◌≤◌, ◌+◌, ◌^◌, ◌∙◌, ap, arith, refl, sym, subst, length, ℕ}
 use Rattle.mdmp_dump.specs.Shape.{ViewShape, body_of, stream_at}
 use Rattle.mdmp_writer.specs.Layout.{block_size, far_size}
 use Rattle.mdmp_writer.specs.Written.{written_entry}
@@ -66,7 +66,7 @@ loop-stream-preserved g c =
       shape = c.entry_for-entry.ensures.shape ∙ c.room_for-room.ensures.shape ∙ c.loop-stream.invariant.shape;
       spent = c.entry_for-entry.ensures.spent ∙ c.room_for-room.ensures.spent ∙ c.loop-stream.invariant.spent;
       moves = g.met.V.DumpView.follows _ _ _ c.loop-stream.invariant.moves (g.met.V.DumpView.follows _ _ _ c.room_for-room.ensures.moves c.entry_for-entry.ensures.moves);
-      steady = c.in-Ok.ensures.cause true ∙ c.loop-stream.invariant.steady;
+      steady = c.in-Ok.ensures.cause ∙ c.loop-stream.invariant.steady;
       at = omega (arith, room, blocks_next s k fewer, c.loop-stream.invariant.at);
       left = entry_put s k at _ c.entry_for-entry.result _ _ _ _ fewer is (ap (λ (n : ℕ). at + n) room) c.loop-stream.invariant.left c.in-Ok.ensures.writes;
     }

@@ -1,10 +1,11 @@
-use Rattle.std.proofs.Common.{◌≡◌, ◌+◌, ◌-◌, ◌++◌, [], arith, get_or, length, refl, sym, true}
+use Rattle.std.proofs.Common.{◌≡◌, ◌+◌, ◌-◌, ◌++◌, [], ap, arith, get_or, length, refl, sym, true}
 use Rattle.mdmp_wire.specs.NumberLaws.{length-le}
+use Rattle.mdmp_dump.specs.Placed.{size_in}
 use Rattle.mdmp_dump.specs.Places.{up}
 use Rattle.mdmp_wire.specs.Number.{le, zeros}
 use Rattle.mdmp_writer.specs.Gather.{gathered}
 use Rattle.mdmp_writer.specs.Written.{padding}
-use Rattle.mdmp_writer.proofs.Causes.{cause_after}
+use Rattle.mdmp_writer.proofs.Causes.{uses_none, uses_sent, uses_then}
 use Rattle.mdmp_writer.proofs.Padded.{around_units}
 use Rattle.mdmp_writer.proofs.Sending.{cut_before, cut_same, writes_same, writes_then}
 use Rattle.mdmp_writer.proofs.Counting.{ok_then, some_of}
@@ -20,11 +21,6 @@ returns-in-Ok-clause-writes g c ps known len =
     (writes_same c.put_units.result (gathered (state c.args.out.now) c.args.gather.now) (gathered (state c.put_units.new.out) c.put_units.new.gather) _ _ (sym (around_units n b size))
     (writes_then c.put_units.result _ _ _ (le 4 n) (b ++ zeros 2 ++ padding (4 + n + 2)) c.in-Ok.ensures.writes (c.put_units.ensures.writes ps known size)))
 
-pub returns-in-Ok-clause-cause : goal.returns-in-Ok-clause-cause
-returns-in-Ok-clause-cause g c =
-    let state = g.O.Out.state in
-    cause_after c.put_units.result (state c.args.out.now) (state c.put_record.new.out) (state c.put_units.new.out) _ _ (c.in-Ok.ensures.cause true) refl c.put_units.ensures.cause
-
 pub returns-in-Err-clause-writes : goal.returns-in-Err-clause-writes
 returns-in-Err-clause-writes g c ps known len =
     let b = get_or ps c.args.which [] in
@@ -36,3 +32,8 @@ pub returns-in-Ok-clause-some : goal.returns-in-Ok-clause-some
 returns-in-Ok-clause-some g c =
     let n = c.in-Size.size in
     rw c.in-Size.is (ok_then c.put_units.result _ _ _ 4 (up (4 + n + 2) - 4) (up (4 + n + 2)) (omega arith) (some_of _ _ (le 4 n) 4 c.in-Ok.ensures.writes (length-le 4 n)) c.put_units.ensures.some)
+
+pub returns-in-Ok-clause-uses : goal.returns-in-Ok-clause-uses
+returns-in-Ok-clause-uses g c =
+    let size : size_in c.args.name ≡ c.in-Size.size = ap size_in c.in-Size.is in
+    uses_then (uses_sent uses_none c.in-Ok.ensures.cause) c.put_units.ensures.uses (omega arith) (omega (arith, size))

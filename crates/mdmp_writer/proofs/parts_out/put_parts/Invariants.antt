@@ -1,6 +1,7 @@
-use Rattle.std.proofs.Common.{◌≡◌, ◌≤◌, ◌+◌, List, Some, length}
+use Rattle.std.proofs.Common.{◌≡◌, ◌≤◌, ◌-◌, List, Some, Ok, length}
 use Rattle.mdmp_dump.specs.Seen.{Seen}
 use Rattle.mdmp_writer.specs.Gather.{gathered}
+use Rattle.mdmp_writer.specs.Uses.{Uses, used}
 use Rattle.mdmp_writer.specs.Written.{all_padded, parts_of}
 use Rattle.mdmp_writer.proofs.Counting.{IsToCome}
 use Rattle.mdmp_writer.proofs.Loops.{RestIs, PartsLeft}
@@ -10,17 +11,16 @@ abbrev pub invariant-loop-left : goal.invariant-loop-left
 invariant-loop-left g l =
     let state = g.O.Out.state in
     record {
-      shape : g.V.DumpView.shape l.view ≡ g.V.DumpView.shape l.fn.view;
       count : (g.V.DumpView.cursor l.view).records ≡ l.left;
       room : (g.V.DumpView.cursor l.view).room ≤ (g.V.DumpView.cursor l.fn.view).room;
-      passed : (g.V.DumpView.spent l.view).passed ≤ (g.V.DumpView.spent l.fn.view).passed;
-      asked : (g.V.DumpView.spent l.view).asked + (g.V.DumpView.cursor l.view).bytes ≤ (g.V.DumpView.spent l.fn.view).asked + (g.V.DumpView.cursor l.fn.view).bytes;
+      bytes : (g.V.DumpView.cursor l.view).bytes ≤ (g.V.DumpView.cursor l.fn.view).bytes;
+      uses : Uses {T = Unit {0}} (Ok tt) (used (g.V.DumpView.shape l.fn.view) (g.V.DumpView.spent l.fn.view) (state l.fn.out)) 0 ((g.V.DumpView.cursor l.fn.view).bytes - (g.V.DumpView.cursor l.view).bytes)
+          (used (g.V.DumpView.shape l.view) (g.V.DumpView.spent l.view) (state l.out));
       moves : g.V.DumpView.Moves l.fn.view l.view;
       parts : (xs : List Seen) → (g.V.DumpView.cursor l.fn.view).seen ≡ Some xs → length xs ≡ l.count
           → RestIs (g.V.DumpView.cursor l.view).seen l.left (PartsLeft (gathered (state l.fn.out) l.fn.gather) (all_padded (parts_of xs)) (gathered (state l.out) l.gather));
       come : IsToCome (gathered (state l.fn.out) l.fn.gather) (g.V.DumpView.cursor l.fn.view).room (g.V.DumpView.cursor l.view).room (gathered (state l.out) l.gather);
       last : l.left ≡ 0 → (g.V.DumpView.cursor l.view).room ≡ 0;
-      steady : (state l.out).failures ≡ (state l.fn.out).failures;
     }
 
 abbrev pub decreases-loop-left : goal.decreases-loop-left

@@ -3,7 +3,7 @@ use Rattle.mdmp_dump.specs.Places.{up}
 use Rattle.mdmp_wire.specs.Number.{zeros}
 use Rattle.mdmp_wire.specs.NumberLaws.{length-le}
 use Rattle.mdmp_writer.specs.Written.{padding}
-use Rattle.mdmp_writer.proofs.Causes.{cause_after}
+use Rattle.mdmp_writer.proofs.Causes.{uses_out, uses_sent}
 use Rattle.mdmp_writer.proofs.Sending.{cut_before, cut_behind, puts_puts, writes_then}
 use Rattle.mdmp_writer.proofs.Counting.{ok_of, ok_then, some_of, some_then}
 use Rattle.mdmp_writer.proofs.Placing.{length-padding}
@@ -14,12 +14,6 @@ returns-in-Ok-put_record-clause-writes g c ps known len =
     let b = get_or ps c.args.which [] in
     writes_then c.put_padding.result _ _ _ (b ++ zeros 2) (padding (4 + c.args.size + 2))
     (puts_puts _ _ _ b (zeros 2) (c.in-Ok.ensures.writes ps known len) c.in-Ok-put_record.ensures.writes) c.put_padding.ensures.writes
-
-pub returns-in-Ok-put_record-clause-cause : goal.returns-in-Ok-put_record-clause-cause
-returns-in-Ok-put_record-clause-cause g c =
-    let state = g.O.Out.state in
-    cause_after c.put_padding.result (state c.args.out.now) (state c.put_record.new.out) (state c.put_padding.new.out) _ _
-    (c.in-Ok-put_record.ensures.cause true ∙ c.in-Ok.ensures.cause) refl (c.put_padding.ensures.cause (g.V.DumpView.shape c.args.view.now).is_reliable)
 
 pub returns-in-Err-put_record-clause-writes : goal.returns-in-Err-put_record-clause-writes
 returns-in-Err-put_record-clause-writes g c ps known len =
@@ -33,3 +27,7 @@ returns-in-Ok-put_record-clause-some g c =
     ok_then c.put_padding.result _ _ _ (n + 2) rest (up (4 + n + 2) - 4) (omega (arith, length-padding (4 + n + 2)))
     (some_then _ _ _ n 2 c.in-Ok.ensures.some (some_of _ _ (zeros 2) 2 c.in-Ok-put_record.ensures.writes (length-le 2 0)))
     (ok_of c.put_padding.result _ _ (padding (4 + n + 2)) rest refl c.put_padding.ensures.writes)
+
+pub returns-in-Ok-put_record-clause-uses : goal.returns-in-Ok-put_record-clause-uses
+returns-in-Ok-put_record-clause-uses g c =
+    uses_out (uses_sent c.in-Ok.ensures.uses c.in-Ok-put_record.ensures.cause) c.put_padding.ensures.cause

@@ -12,16 +12,19 @@ loop-at-preserved g c =
     let so_far = c.loop-at.invariant in
     let more = c.in-Ok-fetch_more.ensures in
     record {
-      shape = c.fetch_more.ensures.shape ∙ so_far.shape;
       cursor = more.bound.2 ∙ so_far.cursor;
       within = omega (arith, more.bound);
-      passed = omega (arith, so_far.passed, more.passed);
-      asked = omega (arith, so_far.asked, more.asked);
+      uses = record {
+        shape = more.uses.shape ∙ so_far.uses.shape;
+        cause = more.uses.cause ∙ so_far.uses.cause;
+        passed = omega (arith, so_far.uses.passed, more.uses.passed);
+        asked = omega (arith, so_far.uses.asked, more.asked);
+        told = tt;
+      };
       moves = g.met.V.DumpView.follows _ _ _ so_far.moves more.moves;
       puts = λ ps known. puts_piece _ _ _ (get_or ps c.args.which []) c.loop-at.at c.in-Ok-fetch_more.count (so_far.puts ps known)
           (more.puts ps (ap (λ (k : StreamCursor). k.parts) so_far.cursor ∙ known));
       some = some_then _ _ _ c.loop-at.at c.in-Ok-fetch_more.count so_far.some more.some;
-      steady = more.cause ∙ so_far.steady;
     }
 
 pub returns-in-Err-fetch_more-clause-writes : goal.returns-in-Err-fetch_more-clause-writes

@@ -1,6 +1,6 @@
-use Rattle.std.proofs.Common.{◌≡◌, ◌<◌, ◌*◌, ◌+◌, ◌-◌, ◌^◌, ◌∙◌, ℕ, arith, refl, sym, ap, true, Err}
+use Rattle.std.proofs.Common.{◌≡◌, ◌<◌, ◌*◌, ◌+◌, ◌-◌, ◌^◌, ◌∙◌, ℕ, arith, refl, sym, ap}
 use Rattle.mdmp_writer.specs.Written.{rows}
-use Rattle.mdmp_writer.proofs.Causes.{cause_after}
+use Rattle.mdmp_writer.proofs.Causes.{uses_fault, uses_next, uses_none, uses_out, uses_sent}
 use Rattle.mdmp_dump.specs.Shape.{row_of, type_told}
 use Rattle.mdmp_writer.proofs.Counting.{come_begin, come_next, come_none, known_type, no_rows, placed_type, row_split, some_is}
 use Rattle.mdmp_writer.proofs.Loops.{next_of, rest_begin, row_cut, row_put, rows_stop, rows_done}
@@ -8,16 +8,13 @@ use Rattle.mdmp_writer.proofs.rows_out.put_rows.Goals as goal
 
 pub loop-left-init : goal.loop-left-init
 loop-left-init g c = record {
-  shape = refl;
   count = sym c.requires.count;
   room = refl;
-  passed = omega arith;
-  asked = omega arith;
+  uses = uses_none;
   moves = g.met.V.DumpView.stays _;
   rows = λ xs known len. rest_begin _ (rows c.args.at) xs _ _ known len;
   kind = refl;
   come = λ t known. come_begin _ _;
-  steady = refl;
 }
 
 pub returns-in-Err-clause-writes : goal.returns-in-Err-clause-writes
@@ -29,11 +26,6 @@ returns-in-Err-put_any-clause-writes g c xs known len =
     let new = g.V.DumpView.cursor c.next_record.new.self in
     row_cut _ _ _ _ new c.in-Ok.fields c.loop-left.place c.loop-left.left (next_of old new c.in-Ok.fields c.loop-left.left _ (c.loop-left.invariant.rows xs known len) c.in-Ok.ensures.gives) (rw c.placed.ensures at c.in-Err-put_any.ensures.writes)
 
-pub returns-in-Err-put_any-clause-cause : goal.returns-in-Err-put_any-clause-cause
-returns-in-Err-put_any-clause-cause g c =
-    let state = g.O.Out.state in
-    cause_after (Err c.in-Err-put_any.fault) (state c.args.out.now) (state c.loop-left.out) (state c.put_any.new.out) _ _ c.loop-left.invariant.steady refl (c.in-Err-put_any.ensures.cause (g.V.DumpView.shape c.args.view.now).is_reliable)
-
 pub loop-left-preserved : goal.loop-left-preserved
 loop-left-preserved g c =
     let old = g.V.DumpView.cursor c.loop-left.view in
@@ -41,11 +33,11 @@ loop-left-preserved g c =
     let gives = c.in-Ok.ensures.gives in
     let low : old.room < 2 ^ 64 - 1 = omega (arith, c.loop-left.invariant.room, c.requires.room) in
     record {
-      shape = c.next_record.ensures.shape ∙ c.loop-left.invariant.shape;
       count = omega (arith, gives.records, c.loop-left.invariant.count);
       room = omega (arith, gives.room low, c.loop-left.invariant.room, c.room.ensures.value);
-      passed = omega (arith, c.loop-left.invariant.passed, c.in-Ok.ensures.passed);
-      asked = omega (arith, c.loop-left.invariant.asked, c.in-Ok.ensures.asked);
+      uses = uses_sent
+          (uses_next c.loop-left.invariant.uses c.next_record.ensures.shape c.in-Ok.ensures.passed c.in-Ok.ensures.asked)
+          c.in-Ok-put_any.ensures.cause;
       moves = g.met.V.DumpView.follows _ _ _ c.loop-left.invariant.moves c.in-Ok.ensures.moves;
       rows = λ xs known len. row_put _ _ _ _ new c.in-Ok.fields c.loop-left.place _ _ c.loop-left.left
           (next_of old new c.in-Ok.fields c.loop-left.left _ (c.loop-left.invariant.rows xs known len) gives) (omega arith)
@@ -56,7 +48,6 @@ loop-left-preserved g c =
           let of : t ≡ type_told c.in-Ok.fields.wire = known_type t _ _ (c.loop-left.invariant.kind ∙ known) gives.kind in
           let size = ap row_of (ap type_told c.placed.ensures ∙ placed_type c.in-Ok.fields c.loop-left.place ∙ sym of) in
           come_next _ _ _ (c.args.count * row_of t) (n * row_of t) (row_of t) _ (row_split n (n - 1) (row_of t) (omega arith)) (c.loop-left.invariant.come t known) (some_is _ _ _ (row_of t) size c.in-Ok-put_any.ensures.some);
-      steady = c.in-Ok-put_any.ensures.cause true ∙ c.loop-left.invariant.steady;
     }
 
 pub returns-clause-writes : goal.returns-clause-writes
@@ -78,3 +69,14 @@ pub returns-clause-some : goal.returns-clause-some
 returns-clause-some g c t known =
     let none : c.loop-left.left ≡ 0 = omega arith in
     come_none _ _ (c.args.count * row_of t) (c.loop-left.left * row_of t) (no_rows c.loop-left.left (row_of t) none) (c.loop-left.invariant.come t known)
+
+pub returns-in-Err-clause-uses : goal.returns-in-Err-clause-uses
+returns-in-Err-clause-uses g c =
+    uses_fault c.loop-left.invariant.uses c.next_record.ensures.shape c.in-Err.ensures.reliable (omega (arith, c.loop-left.invariant.uses.passed, c.in-Err.ensures.passed))
+    (omega (arith, c.loop-left.invariant.uses.asked, c.in-Err.ensures.asked)) c.in-Err.ensures.told
+
+pub returns-in-Err-put_any-clause-uses : goal.returns-in-Err-put_any-clause-uses
+returns-in-Err-put_any-clause-uses g c =
+    uses_out
+    (uses_next c.loop-left.invariant.uses c.next_record.ensures.shape c.in-Ok.ensures.passed c.in-Ok.ensures.asked)
+    c.in-Err-put_any.ensures.cause

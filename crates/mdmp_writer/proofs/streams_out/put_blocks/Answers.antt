@@ -1,9 +1,10 @@
 use Rattle.std.proofs.Common.{◌≡◌, ◌<◌, ◌≤◌, ◌+◌, ◌^◌, ◌∙◌, ℕ, ap, arith, refl, sym, subst, length}
-use Rattle.mdmp_dump.specs.Shape.{ViewShape, Spent, stream_at}
+use Rattle.mdmp_dump.specs.Shape.{ViewShape, stream_at}
 use Rattle.mdmp_writer.specs.Layout.{block_size, blocks_size, far_size}
 use Rattle.mdmp_writer.specs.Passes.{block_asks, block_passes}
+use Rattle.mdmp_writer.proofs.Causes.{uses_asked, uses_none, uses_then, uses_within}
 use Rattle.mdmp_writer.proofs.Counting.{come_begin, come_next, come_none, some_is}
-use Rattle.mdmp_writer.proofs.Passing.{sum_more, sum_next, sum_none, sum_with}
+use Rattle.mdmp_writer.proofs.Passing.{sum_more, sum_next, sum_with}
 use Rattle.mdmp_writer.proofs.Sending.{left_begin, left_none}
 use Rattle.mdmp_writer.proofs.Streaming.{blocks_none, block_cut, block_put}
 use Rattle.mdmp_writer.proofs.Sums.{blocks_next, blocks_none as none_left, ends_below, far_within, fars_next}
@@ -11,11 +12,8 @@ use Rattle.mdmp_writer.proofs.streams_out.put_blocks.Goals as goal
 
 pub loop-stream-init : goal.loop-stream-init
 loop-stream-init g c = record {
-  shape = c.streams-stream-end.ensures.shape;
-  passed = omega (arith, sum_none (block_passes (g.V.DumpView.shape c.args.view.now)), ap (λ (t : Spent). t.passed) c.streams-stream-end.ensures.spent);
-  asked = omega (arith, sum_none (block_asks (g.V.DumpView.shape c.args.view.now)), ap (λ (t : Spent). t.asked) c.streams-stream-end.ensures.spent);
+  uses = uses_within (uses_asked uses_none c.streams-stream-end.ensures.shape c.streams-stream-end.ensures.spent) (omega arith) (omega arith);
   moves = c.streams-stream-end.ensures.moves;
-  steady = refl;
   at = omega (arith, c.requires.at);
   far = omega (arith, c.requires.far);
   come = come_begin _ _;
@@ -27,20 +25,20 @@ room_for-room-requires-clause-block g c =
     let s = g.V.DumpView.shape c.args.view.now in
     let k = c.loop-stream.stream in
     let fewer : k < length s.streams = omega (arith, c.loop-stream-test.true, c.streams-stream-end.ensures.count) in
-    subst (λ (t : ViewShape). block_size (stream_at t k) < 2 ^ 33) (sym c.loop-stream.invariant.shape) (omega (arith, ends_below s k c.loop-stream.at fewer c.loop-stream.invariant.at, c.requires.low))
+    subst (λ (t : ViewShape). block_size (stream_at t k) < 2 ^ 33) (sym c.loop-stream.invariant.uses.shape) (omega (arith, ends_below s k c.loop-stream.at fewer c.loop-stream.invariant.at, c.requires.low))
 
 pub room_for-room-requires-clause-far : goal.room_for-room-requires-clause-far
 room_for-room-requires-clause-far g c =
     let s = g.V.DumpView.shape c.args.view.now in
     let k = c.loop-stream.stream in
-    subst (λ (t : ViewShape). far_size (stream_at t k) < 2 ^ 64) (sym c.loop-stream.invariant.shape) (omega (arith, far_within s.streams k, c.requires.short))
+    subst (λ (t : ViewShape). far_size (stream_at t k) < 2 ^ 64) (sym c.loop-stream.invariant.uses.shape) (omega (arith, far_within s.streams k, c.requires.short))
 
 pub put_block-requires-clause-room : goal.put_block-requires-clause-room
 put_block-requires-clause-room g c =
     let s = g.V.DumpView.shape c.args.view.now in
     let k = c.loop-stream.stream in
     let fewer : k < length s.streams = omega (arith, c.loop-stream-test.true, c.streams-stream-end.ensures.count) in
-    subst (λ (t : ViewShape). c.loop-stream.at + block_size (stream_at t k) < 2 ^ 32) (sym (c.room_for-room.ensures.shape ∙ c.loop-stream.invariant.shape)) (omega (arith, ends_below s k c.loop-stream.at fewer c.loop-stream.invariant.at, c.requires.low))
+    subst (λ (t : ViewShape). c.loop-stream.at + block_size (stream_at t k) < 2 ^ 32) (sym (c.room_for-room.ensures.shape ∙ c.loop-stream.invariant.uses.shape)) (omega (arith, ends_below s k c.loop-stream.at fewer c.loop-stream.invariant.at, c.requires.low))
 
 pub returns-in-Err-clause-writes : goal.returns-in-Err-clause-writes
 returns-in-Err-clause-writes g c x known all =
@@ -48,27 +46,25 @@ returns-in-Err-clause-writes g c x known all =
     let k = c.loop-stream.stream in
     let fewer : k < length s.streams = omega (arith, c.loop-stream-test.true, c.streams-stream-end.ensures.count) in
     block_cut s x k c.loop-stream.at c.loop-stream.far _ _ _ _ (g.met.V.DumpView.sound c.args.view.now x known) fewer (c.loop-stream.invariant.left x known all)
-    (c.in-Err.ensures.writes x (ap (λ (t : ViewShape). t.seen) (c.room_for-room.ensures.shape ∙ c.loop-stream.invariant.shape) ∙ known) (all k))
+    (c.in-Err.ensures.writes x (ap (λ (t : ViewShape). t.seen) (c.room_for-room.ensures.shape ∙ c.loop-stream.invariant.uses.shape) ∙ known) (all k))
 
 pub loop-stream-preserved : goal.loop-stream-preserved
 loop-stream-preserved g c =
     let s = g.V.DumpView.shape c.args.view.now in
     let k = c.loop-stream.stream in
     let fewer : k < length s.streams = omega (arith, c.loop-stream-test.true, c.streams-stream-end.ensures.count) in
-    let block : c.room_for-room.result.block ≡ block_size (stream_at s k) = c.room_for-room.ensures.room.0 ∙ ap (λ (t : ViewShape). block_size (stream_at t k)) c.loop-stream.invariant.shape in
-    let far : c.room_for-room.result.far ≡ far_size (stream_at s k) = c.room_for-room.ensures.room.1 ∙ ap (λ (t : ViewShape). far_size (stream_at t k)) c.loop-stream.invariant.shape in
+    let block : c.room_for-room.result.block ≡ block_size (stream_at s k) = c.room_for-room.ensures.room.0 ∙ ap (λ (t : ViewShape). block_size (stream_at t k)) c.loop-stream.invariant.uses.shape in
+    let far : c.room_for-room.result.far ≡ far_size (stream_at s k) = c.room_for-room.ensures.room.1 ∙ ap (λ (t : ViewShape). far_size (stream_at t k)) c.loop-stream.invariant.uses.shape in
     record {
-      shape = c.put_block.ensures.shape ∙ c.room_for-room.ensures.shape ∙ c.loop-stream.invariant.shape;
-      passed = omega (arith, c.loop-stream.invariant.passed, c.in-Ok.ensures.passed, ap (λ (t : ViewShape). block_passes t k) (c.room_for-room.ensures.shape ∙ c.loop-stream.invariant.shape), sum_next (block_passes s) k, ap (λ (t : Spent). t.passed) c.room_for-room.ensures.spent);
-      asked = omega (arith, c.loop-stream.invariant.asked, c.in-Ok.ensures.asked, ap (λ (t : ViewShape). block_asks t k) (c.room_for-room.ensures.shape ∙ c.loop-stream.invariant.shape), sum_next (block_asks s) k, ap (λ (t : Spent). t.asked) c.room_for-room.ensures.spent);
+      uses = uses_then (uses_asked c.loop-stream.invariant.uses c.room_for-room.ensures.shape c.room_for-room.ensures.spent) c.in-Ok.ensures.uses
+          (omega (arith, ap (λ (t : ViewShape). block_passes t k) (c.room_for-room.ensures.shape ∙ c.loop-stream.invariant.uses.shape), sum_next (block_passes s) k)) (omega (arith, ap (λ (t : ViewShape). block_asks t k) (c.room_for-room.ensures.shape ∙ c.loop-stream.invariant.uses.shape), sum_next (block_asks s) k));
       moves = g.met.V.DumpView.follows _ _ _ c.loop-stream.invariant.moves (g.met.V.DumpView.follows _ _ _ c.room_for-room.ensures.moves c.in-Ok.ensures.moves);
-      steady = c.in-Ok.ensures.cause ∙ c.loop-stream.invariant.steady;
       at = omega (arith, block, blocks_next s k fewer, c.loop-stream.invariant.at);
       far = omega (arith, far, fars_next s k fewer, c.loop-stream.invariant.far);
       come = come_next _ _ _ _ _ (block_size (stream_at s k)) _ (blocks_next s k fewer) c.loop-stream.invariant.come
-          (some_is _ _ _ _ (ap (λ (t : ViewShape). block_size (stream_at t k)) (c.room_for-room.ensures.shape ∙ c.loop-stream.invariant.shape)) c.in-Ok.ensures.some);
+          (some_is _ _ _ _ (ap (λ (t : ViewShape). block_size (stream_at t k)) (c.room_for-room.ensures.shape ∙ c.loop-stream.invariant.uses.shape)) c.in-Ok.ensures.some);
       left = λ x known all. block_put s x k c.loop-stream.at c.loop-stream.far _ _ _ _ _ _ (g.met.V.DumpView.sound c.args.view.now x known) fewer (ap (λ (n : ℕ). c.loop-stream.at + n) block) (ap (λ (n : ℕ). c.loop-stream.far + n) far)
-          (c.loop-stream.invariant.left x known all) (c.in-Ok.ensures.writes x (ap (λ (t : ViewShape). t.seen) (c.room_for-room.ensures.shape ∙ c.loop-stream.invariant.shape) ∙ known) (all k));
+          (c.loop-stream.invariant.left x known all) (c.in-Ok.ensures.writes x (ap (λ (t : ViewShape). t.seen) (c.room_for-room.ensures.shape ∙ c.loop-stream.invariant.uses.shape) ∙ known) (all k));
     }
 
 pub returns-clause-writes : goal.returns-clause-writes
@@ -82,7 +78,7 @@ overflow_add-at g c =
     let s = g.V.DumpView.shape c.args.view.now in
     let k = c.loop-stream.stream in
     let fewer : k < length s.streams = omega (arith, c.loop-stream-test.true, c.streams-stream-end.ensures.count) in
-    let block : c.room_for-room.result.block ≡ block_size (stream_at s k) = c.room_for-room.ensures.room.0 ∙ ap (λ (t : ViewShape). block_size (stream_at t k)) c.loop-stream.invariant.shape in
+    let block : c.room_for-room.result.block ≡ block_size (stream_at s k) = c.room_for-room.ensures.room.0 ∙ ap (λ (t : ViewShape). block_size (stream_at t k)) c.loop-stream.invariant.uses.shape in
     omega (arith, block, ends_below s k c.loop-stream.at fewer c.loop-stream.invariant.at, c.requires.low)
 
 pub overflow_add-far : goal.overflow_add-far
@@ -90,38 +86,31 @@ overflow_add-far g c =
     let s = g.V.DumpView.shape c.args.view.now in
     let k = c.loop-stream.stream in
     let fewer : k < length s.streams = omega (arith, c.loop-stream-test.true, c.streams-stream-end.ensures.count) in
-    let far : c.room_for-room.result.far ≡ far_size (stream_at s k) = c.room_for-room.ensures.room.1 ∙ ap (λ (t : ViewShape). far_size (stream_at t k)) c.loop-stream.invariant.shape in
+    let far : c.room_for-room.result.far ≡ far_size (stream_at s k) = c.room_for-room.ensures.room.1 ∙ ap (λ (t : ViewShape). far_size (stream_at t k)) c.loop-stream.invariant.uses.shape in
     omega (arith, far, fars_next s k fewer, c.loop-stream.invariant.far, c.requires.short)
-
-pub returns-in-Err-clause-passed : goal.returns-in-Err-clause-passed
-returns-in-Err-clause-passed g c =
-    let s = g.V.DumpView.shape c.args.view.now in
-    let k = c.loop-stream.stream in
-    let fewer : k < length s.streams = omega (arith, c.loop-stream-test.true, c.streams-stream-end.ensures.count) in
-    omega (arith, c.loop-stream.invariant.passed, c.in-Err.ensures.passed, ap (λ (t : ViewShape). block_passes t k) (c.room_for-room.ensures.shape ∙ c.loop-stream.invariant.shape), ap (λ (t : Spent). t.passed) c.room_for-room.ensures.spent, sum_with (block_passes s) k (length s.streams) fewer)
-
-pub returns-in-Err-clause-asked : goal.returns-in-Err-clause-asked
-returns-in-Err-clause-asked g c =
-    let s = g.V.DumpView.shape c.args.view.now in
-    let k = c.loop-stream.stream in
-    let fewer : k < length s.streams = omega (arith, c.loop-stream-test.true, c.streams-stream-end.ensures.count) in
-    omega (arith, c.loop-stream.invariant.asked, c.in-Err.ensures.asked, ap (λ (t : ViewShape). block_asks t k) (c.room_for-room.ensures.shape ∙ c.loop-stream.invariant.shape), ap (λ (t : Spent). t.asked) c.room_for-room.ensures.spent, sum_with (block_asks s) k (length s.streams) fewer)
 
 pub returns-in-Err-clause-moves : goal.returns-in-Err-clause-moves
 returns-in-Err-clause-moves g c = g.met.V.DumpView.follows _ _ _ c.loop-stream.invariant.moves (g.met.V.DumpView.follows _ _ _ c.room_for-room.ensures.moves c.in-Err.ensures.moves)
-
-pub returns-clause-passed : goal.returns-clause-passed
-returns-clause-passed g c =
-    let s = g.V.DumpView.shape c.args.view.now in
-    omega (arith, c.loop-stream.invariant.passed, sum_more (block_passes s) c.loop-stream.stream (length s.streams) (omega (arith, c.streams-stream-end.ensures.count)))
-
-pub returns-clause-asked : goal.returns-clause-asked
-returns-clause-asked g c =
-    let s = g.V.DumpView.shape c.args.view.now in
-    omega (arith, c.loop-stream.invariant.asked, sum_more (block_asks s) c.loop-stream.stream (length s.streams) (omega (arith, c.streams-stream-end.ensures.count)))
 
 pub returns-clause-some : goal.returns-clause-some
 returns-clause-some g c =
     let s = g.V.DumpView.shape c.args.view.now in
     let past : length s.streams ≤ c.loop-stream.stream = omega (arith, c.loop-stream-test.false, c.streams-stream-end.ensures.count) in
     come_none _ _ (blocks_size s.streams) _ (none_left s c.loop-stream.stream past) c.loop-stream.invariant.come
+
+pub returns-in-Err-clause-uses : goal.returns-in-Err-clause-uses
+returns-in-Err-clause-uses g c =
+    let s = g.V.DumpView.shape c.args.view.now in
+    let k = c.loop-stream.stream in
+    let n = length s.streams in
+    let fewer : k < n = omega (arith, c.loop-stream-test.true, c.streams-stream-end.ensures.count) in
+    uses_then (uses_asked c.loop-stream.invariant.uses c.room_for-room.ensures.shape c.room_for-room.ensures.spent) c.in-Err.ensures.uses
+    (omega (arith, ap (λ (t : ViewShape). block_passes t k) (c.room_for-room.ensures.shape ∙ c.loop-stream.invariant.uses.shape), sum_with (block_passes s) k n fewer)) (omega (arith, ap (λ (t : ViewShape). block_asks t k) (c.room_for-room.ensures.shape ∙ c.loop-stream.invariant.uses.shape), sum_with (block_asks s) k n fewer))
+
+pub returns-clause-uses : goal.returns-clause-uses
+returns-clause-uses g c =
+    let s = g.V.DumpView.shape c.args.view.now in
+    let k = c.loop-stream.stream in
+    let n = length s.streams in
+    let fewer : k ≤ n = omega (arith, c.streams-stream-end.ensures.count) in
+    uses_within c.loop-stream.invariant.uses (sum_more (block_passes s) k n fewer) (sum_more (block_asks s) k n fewer)

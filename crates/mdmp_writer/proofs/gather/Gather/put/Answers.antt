@@ -1,4 +1,4 @@
-use Rattle.std.proofs.Common.{arith, ◌∙◌, true}
+use Rattle.std.proofs.Common.{arith, ◌∙◌}
 use Rattle.mdmp_writer.proofs.Sending.{puts_more, cut_at}
 use Rattle.mdmp_writer.proofs.gather.Gather.put.Goals as goal
 
@@ -8,7 +8,7 @@ loop-at-preserved g c =
     record {
       within = omega (arith, c.hold-at-in-Ok.ensures.bound);
       puts = puts_more _ _ _ c.flush.new.self _ c.args.bytes.now c.loop-at.at c.hold-at-in-Ok.result so_far.puts c.flush.ensures.puts c.hold-at-in-Ok.ensures.held;
-      steady = c.in-Ok.ensures.cause true ∙ so_far.steady;
+      steady = c.in-Ok.ensures.cause ∙ so_far.steady;
     }
 
 pub returns-in-Err-clause-writes : goal.returns-in-Err-clause-writes
