@@ -1,6 +1,6 @@
 //! Which streams have records here: the type, the form and the records of each.
 ghost use Rattle.std.specs.Prelude.{◌≡◌, ◌≤◌, ◌<◌};
-ghost use Rattle.mdmp_lister.specs.Format.Kind.{form_of, greatest_record, has_names, is_memory64, kind_of, lists_ranges, record_size, type_of_kind};
+ghost use Rattle.mdmp_lister.specs.Format.Kind.{form_of, greatest_record, has_names, is_memory64, kind_of, kind_row, lists_ranges, record_size, type_of_kind};
 ghost use Rattle.mdmp_lister.specs.Walk.Owing.{ranges_by};
 
 use crate::form::Form;
@@ -31,7 +31,86 @@ pub enum StreamKind {
     MemoryInfo,
 }
 
+/// What the table of kinds has of one.
+#[derive(Clone, Copy)]
+pub(crate) struct KindRow {
+    /// The type of its streams: `StreamType` of their entries.
+    pub(crate) stream_type: u32,
+    /// What stands before its records.
+    pub(crate) form: Form,
+    /// How many bytes a record has.
+    pub(crate) record_size: u32,
+    /// Whether its records have names.
+    pub(crate) has_names: bool,
+    /// Whether its records are ranges of memory.
+    pub(crate) lists_ranges: bool,
+}
+
 impl StreamKind {
+    /// Its row of the table.
+    fn row(self) -> KindRow
+        ensures { result ≡ kind_row self }
+    {
+        match self {
+            StreamKind::Threads => KindRow {
+                stream_type: 3,
+                form: Form::Counted,
+                record_size: ThreadRecord::SIZE as u32,
+                has_names: false,
+                lists_ranges: false,
+            },
+            StreamKind::Modules => KindRow {
+                stream_type: 4,
+                form: Form::Counted,
+                record_size: ModuleRecord::SIZE as u32,
+                has_names: true,
+                lists_ranges: false,
+            },
+            StreamKind::Memory => KindRow {
+                stream_type: 5,
+                form: Form::Counted,
+                record_size: Descriptor::SIZE as u32,
+                has_names: false,
+                lists_ranges: true,
+            },
+            StreamKind::Exception => KindRow {
+                stream_type: 6,
+                form: Form::Single,
+                record_size: ExceptionRecord::SIZE as u32,
+                has_names: false,
+                lists_ranges: false,
+            },
+            StreamKind::System => KindRow {
+                stream_type: 7,
+                form: Form::Single,
+                record_size: SystemRecord::SIZE as u32,
+                has_names: true,
+                lists_ranges: false,
+            },
+            StreamKind::Memory64 => KindRow {
+                stream_type: 9,
+                form: Form::Ranges64,
+                record_size: Descriptor64::SIZE as u32,
+                has_names: false,
+                lists_ranges: true,
+            },
+            StreamKind::Unloaded => KindRow {
+                stream_type: 14,
+                form: Form::Sized32,
+                record_size: UnloadedRecord::SIZE as u32,
+                has_names: true,
+                lists_ranges: false,
+            },
+            StreamKind::MemoryInfo => KindRow {
+                stream_type: 16,
+                form: Form::Sized64,
+                record_size: MemoryInfoRecord::SIZE as u32,
+                has_names: false,
+                lists_ranges: false,
+            },
+        }
+    }
+
     /// The kind of a stream type, or none where the type is opaque or `UnusedStream`, 0.
     pub fn of_type(stream_type: u32) -> Option<StreamKind>
         ensures { result ≡ kind_of stream_type }
@@ -53,58 +132,31 @@ impl StreamKind {
     pub fn stream_type(self) -> u32
         ensures { result ≡ type_of_kind self }
     {
-        match self {
-            StreamKind::Threads => 3,
-            StreamKind::Modules => 4,
-            StreamKind::Memory => 5,
-            StreamKind::Exception => 6,
-            StreamKind::System => 7,
-            StreamKind::Memory64 => 9,
-            StreamKind::Unloaded => 14,
-            StreamKind::MemoryInfo => 16,
-        }
+        self.row().stream_type
     }
 
     /// What stands before its records.
     pub fn form(self) -> Form
         ensures { result ≡ form_of self }
     {
-        match self {
-            StreamKind::Threads | StreamKind::Modules | StreamKind::Memory => Form::Counted,
-            StreamKind::Exception | StreamKind::System => Form::Single,
-            StreamKind::Memory64 => Form::Ranges64,
-            StreamKind::Unloaded => Form::Sized32,
-            StreamKind::MemoryInfo => Form::Sized64,
-        }
+        self.row().form
     }
 
     /// How many bytes a record has.
+    #[tactic(auto, using(crate::specs::Format::KindLaws::least_record, crate::specs::Format::KindLaws::most_record))]
     pub fn record_size(self) -> u32
         ensures value { result ≡ record_size self }
         ensures some { 0 < result }
         ensures bound { result ≤ greatest_record }
     {
-        let size = match self {
-            StreamKind::Threads => ThreadRecord::SIZE,
-            StreamKind::Modules => ModuleRecord::SIZE,
-            StreamKind::Memory => Descriptor::SIZE,
-            StreamKind::Exception => ExceptionRecord::SIZE,
-            StreamKind::System => SystemRecord::SIZE,
-            StreamKind::Memory64 => Descriptor64::SIZE,
-            StreamKind::Unloaded => UnloadedRecord::SIZE,
-            StreamKind::MemoryInfo => MemoryInfoRecord::SIZE,
-        };
-        size as u32
+        self.row().record_size
     }
 
     /// Whether its records have names.
     pub fn has_names(self) -> bool
         ensures { result ≡ has_names self }
     {
-        matches!(
-            self,
-            StreamKind::Modules | StreamKind::System | StreamKind::Unloaded
-        )
+        self.row().has_names
     }
 
     /// Whether the bytes of its ranges follow one another, and no record says where its own stand.
@@ -118,7 +170,7 @@ impl StreamKind {
     pub(crate) fn lists_ranges(self) -> bool
         ensures { result ≡ lists_ranges self }
     {
-        matches!(self, StreamKind::Memory | StreamKind::Memory64)
+        self.row().lists_ranges
     }
 
     /// How many of `count` records tell a range: all or none.

@@ -10,21 +10,27 @@ use Rattle.mdmp_wire.specs.Thread.{thread_size}
 use Rattle.mdmp_wire.specs.Unloaded.{unloaded_size}
 use Rattle.mdmp_lister.specs.declared.form.Form.{Form}
 use Rattle.mdmp_lister.specs.declared.form.Form.TheVariants as forms
+use Rattle.mdmp_lister.specs.declared.kind.KindRow.{KindRow}
 use Rattle.mdmp_lister.specs.declared.kind.StreamKind.{StreamKind}
 use Rattle.mdmp_lister.specs.declared.kind.StreamKind.TheVariants as kinds
 
--- ---- kinds of streams: the type, the form and the records of each
+-- ---- kinds of streams: a row for each
+
+-- the type of its streams, what stands before its records, how many bytes a record has, whether its records have names, and
+-- whether they are ranges of memory
+abbrev pub kind_row : StreamKind → KindRow
+kind_row kinds.Threads = record { stream_type = 3; form = forms.Counted; record_size = thread_size; has_names = false; lists_ranges = false }
+kind_row kinds.Modules = record { stream_type = 4; form = forms.Counted; record_size = module_size; has_names = true; lists_ranges = false }
+kind_row kinds.Memory = record { stream_type = 5; form = forms.Counted; record_size = descriptor_size; has_names = false; lists_ranges = true }
+kind_row kinds.Exception = record { stream_type = 6; form = forms.Single; record_size = exception_size; has_names = false; lists_ranges = false }
+kind_row kinds.System = record { stream_type = 7; form = forms.Single; record_size = system_size; has_names = true; lists_ranges = false }
+kind_row kinds.Memory64 = record { stream_type = 9; form = forms.Ranges64; record_size = descriptor64_size; has_names = false; lists_ranges = true }
+kind_row kinds.Unloaded = record { stream_type = 14; form = forms.Sized32; record_size = unloaded_size; has_names = true; lists_ranges = false }
+kind_row kinds.MemoryInfo = record { stream_type = 16; form = forms.Sized64; record_size = memory_info_size; has_names = false; lists_ranges = false }
 
 -- the type of its streams
 abbrev pub type_of_kind : StreamKind → ℕ
-type_of_kind kinds.Threads = 3
-type_of_kind kinds.Modules = 4
-type_of_kind kinds.Memory = 5
-type_of_kind kinds.Exception = 6
-type_of_kind kinds.System = 7
-type_of_kind kinds.Memory64 = 9
-type_of_kind kinds.Unloaded = 14
-type_of_kind kinds.MemoryInfo = 16
+type_of_kind kind = (kind_row kind).stream_type
 
 -- the kind of a stream type whose records are known
 abbrev pub kind_of : ℕ → Option StreamKind
@@ -44,25 +50,11 @@ is_known t = is_some (kind_of t)
 
 -- what stands before its records
 abbrev pub form_of : StreamKind → Form
-form_of kinds.Threads = forms.Counted
-form_of kinds.Modules = forms.Counted
-form_of kinds.Memory = forms.Counted
-form_of kinds.Exception = forms.Single
-form_of kinds.System = forms.Single
-form_of kinds.Memory64 = forms.Ranges64
-form_of kinds.Unloaded = forms.Sized32
-form_of kinds.MemoryInfo = forms.Sized64
+form_of kind = (kind_row kind).form
 
 -- how many bytes a record has
 abbrev pub record_size : StreamKind → ℕ
-record_size kinds.Threads = thread_size
-record_size kinds.Modules = module_size
-record_size kinds.Memory = descriptor_size
-record_size kinds.Exception = exception_size
-record_size kinds.System = system_size
-record_size kinds.Memory64 = descriptor64_size
-record_size kinds.Unloaded = unloaded_size
-record_size kinds.MemoryInfo = memory_info_size
+record_size kind = (kind_row kind).record_size
 
 -- the most bytes that a record of any kind has: those of an exception
 abbrev pub greatest_record : ℕ
@@ -75,16 +67,11 @@ is_memory64 kind = false
 
 -- its records are ranges of memory
 abbrev pub lists_ranges : StreamKind → Bool
-lists_ranges kinds.Memory = true
-lists_ranges kinds.Memory64 = true
-lists_ranges kind = false
+lists_ranges kind = (kind_row kind).lists_ranges
 
 -- its records have names
 abbrev pub has_names : StreamKind → Bool
-has_names kinds.Modules = true
-has_names kinds.System = true
-has_names kinds.Unloaded = true
-has_names kind = false
+has_names kind = (kind_row kind).has_names
 
 -- of a stream of this kind no record has a name; of none no records are listed
 abbrev pub HasNoNames : Option StreamKind → Type 0
