@@ -1,13 +1,9 @@
 -- The records of a stream, which a walker gives with their places.
 use Rattle.std.proofs.Common.{◌≡◌, ◌∙◌, ◌≤◌, ◌<◌, ◌+◌, ◌-◌, ◌*◌, ◌^◌, ◌⊎◌, ℕ, Bool, true, false, List, length, slice_get, Option, Some, None, Result, Ok, Err, arith, ap, refl, sym, subst, inl, inr, if◌then◌else◌}
 use Rattle.std.specs.Prelude.{◌==◌, IfErr, IfOk, IfSome, MatchResult, option_map}
-use Rattle.mdmp_source.specs.Extent.{extent_of}
 use Rattle.mdmp_source.specs.Source.{FetchesSome, SourceState}
 use Rattle.mdmp_source.specs.Store.{AreBytes, IsGood, IsOfBytes, IsSizeOf}
 use Rattle.mdmp_source.specs.declared.fault.SourceFault.TheVariants.{Changed}
-use Rattle.mdmp_source.specs.declared.location.Location.{Location}
-use Rattle.mdmp_source.specs.declared.location.Extent.{Extent}
-use Rattle.mdmp_source.specs.declared.location.Extent.TheVariants.{Empty, Inside}
 use Rattle.mdmp_wire.specs.AnyRecord.{name_rva}
 use Rattle.mdmp_wire.specs.declared.any_record.AnyRecord.{AnyRecord}
 use Rattle.mdmp_wire.specs.declared.any_record.AnyRecord.TheVariants as any
@@ -28,7 +24,7 @@ use Rattle.mdmp_lister.specs.declared.meter.MeterCounts.{MeterCounts}
 use Rattle.mdmp_lister.specs.declared.name.Name.{Name}
 use Rattle.mdmp_lister.specs.declared.shape.Shape.{Shape}
 use Rattle.mdmp_lister.specs.Format.Classes.{IsClassed, IsRecordOf, IsStream}
-use Rattle.mdmp_lister.specs.Format.Item.{item_at, item_of, kind_told, name_of, named, offset_in, plain, range_extent_of, record_at}
+use Rattle.mdmp_lister.specs.Format.Item.{item_at, item_of, kind_told, name_of, named, offset_in, plain, record_at}
 use Rattle.mdmp_lister.specs.Format.Kind.{HasNoNames, has_names, is_memory64, kind_of, type_of_kind}
 use Rattle.mdmp_lister.specs.Format.KindLaws.{type_of-kind}
 use Rattle.mdmp_lister.specs.Format.Listing.{Numbered, Run, items_from, joined, list_fault, only_fault, with_item}
@@ -56,9 +52,7 @@ use Rattle.mdmp_dump.specs.Seen.{Seen}
 use Rattle.mdmp_dump.specs.Shape.{type_told}
 use Rattle.mdmp_dump.specs.Walking.{HasLeft, IsFar, IsKept, current_entry, ended_with, left_by, lists_memory64, records_to_give, state_of}
 use Rattle.mdmp_dump.proofs.EntryBegun.{last_told, left_begun, left_stopped, no_store_fault, own_store_fault, paid_by, plain_stream, walk_same}
-use Rattle.std.proofs.lemmas.Bool.Decides.{nat_tests}
 use Rattle.mdmp_dump.proofs.Classed.{extent_in, range_in}
-use Rattle.mdmp_dump.proofs.Within.Part.{extent-inside}
 use Rattle.mdmp_dump.proofs.Left.{row_given}
 use Rattle.mdmp_dump.proofs.Limits.{refused_under}
 use Rattle.mdmp_dump.proofs.Taking.{Fetches_only}

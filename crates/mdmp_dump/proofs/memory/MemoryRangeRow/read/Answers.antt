@@ -1,6 +1,5 @@
 -- The bytes of a range are taken, unless they are absent.
 use Rattle.std.proofs.Common.{ℕ, ◌≡◌, ◌∙◌, List, length, Some, Ok, Err, rules, refl, ap, subst, sym}
-use Rattle.mdmp_source.specs.declared.location.Extent.TheVariants as classes
 use Rattle.mdmp_source.specs.declared.location.Location.{Location}
 use Rattle.mdmp_wire.specs.Descriptor.{descriptor_at}
 use Rattle.mdmp_lister.specs.declared.item.Item.{Item}
@@ -9,7 +8,6 @@ use Rattle.mdmp_lister.specs.declared.kind.StreamKind.TheVariants as kinds
 use Rattle.mdmp_lister.specs.Format.Item.{item_at, range_item}
 use Rattle.mdmp_dump.specs.declared.fault.ReadFault.TheVariants as wanting
 use Rattle.mdmp_dump.specs.declared.memory.MemoryRange.{MemoryRange}
-use Rattle.mdmp_dump.specs.declared.part.Part.TheVariants as parts
 use Rattle.mdmp_dump.specs.declared.row.ToldRecord.{ToldRecord}
 use Rattle.mdmp_dump.specs.Memory.{IsMemory, range_told}
 use Rattle.mdmp_dump.specs.Part.{part_in}

@@ -1,4 +1,4 @@
-use Rattle.std.proofs.Common.{rules, ◌≡◌, Ok, Err}
+use Rattle.std.proofs.Common.{rules, ◌≡◌, Err}
 use Rattle.mdmp_dump.specs.declared.part.Part.TheVariants as parts
 use Rattle.mdmp_dump.proofs.Budget.{bytes-part}
 use Rattle.mdmp_dump.proofs.Taking.{Takes_as, Takes_fault_as}
