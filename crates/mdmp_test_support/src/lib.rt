@@ -1,11 +1,13 @@
-//! Small files, what is printed of them, and outputs of a set room, for the tests of the other crates.
+//! Small files, what is printed of them, outputs of a set room, and a heap that counts and refuses, for the
+//! tests of the other crates.
 //!
-//! No function here has a contract, so that a test knows nothing of what it called, but compares what it
-//! was given, and its own proof stays short.
+//! No function here has a contract, but for those of a trait, so that a test knows nothing of what it
+//! called, but compares what it was given, and its own proof stays short.
 #![tactic(auto)]
 
 mod files;
 mod memory_files;
+mod metered_heap;
 mod module_files;
 mod outputs;
 mod small_files;
@@ -18,6 +20,7 @@ pub use crate::memory_files::{
     ABCD_RANGE, FourByteRange, ListedRange, NO_RANGE, WXYZ_RANGE, endless_ranges_file, large_file,
     last_file, memory_file, short_threads_file, two_ranges_file, wide_file,
 };
+pub use crate::metered_heap::{HeapCounts, MeteredHeap, Refusal};
 pub use crate::module_files::{CODEVIEW_RECORD, module_file};
 pub use crate::outputs::{BY_SEVEN, BY_WHOLE, FOR_LONG_TEXT, Room, empty_out, start_of, text_in};
 pub use crate::small_files::{
