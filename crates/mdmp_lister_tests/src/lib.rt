@@ -29,6 +29,8 @@ mod fresh;
 #[cfg(test)]
 mod given;
 #[cfg(test)]
+mod growths;
+#[cfg(test)]
 mod heads;
 #[cfg(test)]
 mod listings;
@@ -48,6 +50,8 @@ mod record_counts;
 mod records;
 #[cfg(test)]
 mod records_left;
+#[cfg(test)]
+mod refusals;
 #[cfg(test)]
 mod same;
 #[cfg(test)]

@@ -5,7 +5,7 @@ use mdmp_lister::{Choice, Limits, ListFault, Lister, RunFault, StopAt};
 use mdmp_map::Place;
 use mdmp_source::{MemoryStore, Source, SourceFault, Store, inside};
 use mdmp_test_support::file_of_numbers;
-use std::alloc::{AllocError, Global};
+use std::alloc::{AllocError, Allocator};
 use std::test::Fail;
 
 /// The least window, and no room for a name.
@@ -230,12 +230,18 @@ pub fn answer_by(given: Result<Option<GivenItem>, ListFault>) -> Answer {
     }
 }
 
-fn run<S: Store + Drop>(lister: &mut Lister<S, Global>, sink: &mut StopAt) -> Answer {
+fn run<S: Store + Drop, A: Allocator + Copy>(
+    lister: &mut Lister<S, A>,
+    sink: &mut StopAt,
+) -> Answer {
     let fault = lister.list_into(sink).err();
     Answer::Ran(fault, sink.calls())
 }
 
-fn check<S: Store + Drop>(lister: &mut Lister<S, Global>, sink: &mut StopAt) -> Answer {
+fn check<S: Store + Drop, A: Allocator + Copy>(
+    lister: &mut Lister<S, A>,
+    sink: &mut StopAt,
+) -> Answer {
     if !lister.is_fresh() {
         return Answer::Begun;
     }
@@ -243,7 +249,11 @@ fn check<S: Store + Drop>(lister: &mut Lister<S, Global>, sink: &mut StopAt) -> 
     Answer::Ran(fault, sink.calls())
 }
 
-fn read<S: Store + Drop>(lister: &mut Lister<S, Global>, address: u64, len: usize) -> Answer {
+fn read<S: Store + Drop, A: Allocator + Copy>(
+    lister: &mut Lister<S, A>,
+    address: u64,
+    len: usize,
+) -> Answer {
     let len = len.min(16);
     // What stands there before is no answer.
     let mut out = [0xee; 16];
@@ -258,7 +268,11 @@ fn read<S: Store + Drop>(lister: &mut Lister<S, Global>, address: u64, len: usiz
     Answer::Memory(out, known)
 }
 
-fn read_part<S: Store + Drop>(lister: &mut Lister<S, Global>, at: u64, len: usize) -> Answer {
+fn read_part<S: Store + Drop, A: Allocator + Copy>(
+    lister: &mut Lister<S, A>,
+    at: u64,
+    len: usize,
+) -> Answer {
     let len = len.min(16);
     if !inside(at, len as u64, lister.size()) {
         return Answer::Outside;
@@ -273,9 +287,10 @@ fn read_part<S: Store + Drop>(lister: &mut Lister<S, Global>, at: u64, len: usiz
     Answer::Bytes(out)
 }
 
-fn answer_of<S: Store + Drop>(
+/// What a lister answers to a call, and its sink comes to.
+pub fn answer_of<S: Store + Drop, A: Allocator + Copy>(
     rt: &HostRuntime,
-    lister: &mut Lister<S, Global>,
+    lister: &mut Lister<S, A>,
     sink: &mut StopAt,
     step: ScriptStep,
 ) -> Result<Answer, AllocError> {

@@ -83,7 +83,8 @@ fn count<S: Store + Drop, A: Allocator + Copy>(walker: &mut Walker<S, A>) -> Ans
     }
 }
 
-fn answer_of<S: Store + Drop, A: Allocator + Copy>(
+/// What a walker answers to a call.
+pub fn answer_of<S: Store + Drop, A: Allocator + Copy>(
     rt: &HostRuntime,
     walker: &mut Walker<S, A>,
     step: ScriptStep,
