@@ -8,6 +8,8 @@
 #[cfg(test)]
 mod map;
 #[cfg(test)]
+mod refusals;
+#[cfg(test)]
 mod same;
 #[cfg(test)]
 mod source;
