@@ -1,6 +1,8 @@
 -- A stream whose content is known, its shape and its block.
 use Rattle.std.proofs.Common.{◌≡◌, ◌+◌, ◌*◌, ℕ, zero, suc, List, [], ◌∷◌, ◌++◌, length, map, get_or, ap, sym, subst, refl, ◌∙◌, append-nil, Option, Some, option_map, Bool, false, if◌then◌else◌}
 use Rattle.std.proofs.Math.ListN.{get_or-map}
+use Rattle.mdmp_lister.specs.declared.kind.StreamKind.{StreamKind}
+use Rattle.mdmp_lister.specs.Format.Kind.{kind_of}
 use Rattle.mdmp_dump.specs.declared.dump.Dump.{Dump}
 use Rattle.mdmp_dump.specs.declared.dump.Stream.{Stream}
 use Rattle.mdmp_dump.specs.declared.dump.Stream.TheVariants as streams
@@ -12,7 +14,7 @@ use Rattle.mdmp_dump.specs.Shape.{ViewShape, StreamShape, begun, body_of, head_o
 use Rattle.mdmp_dump.specs.Shape as shape
 use Rattle.mdmp_dump.specs.View.{DumpSeen, StreamSeen, dump_seen, stream_seen}
 use Rattle.mdmp_writer.specs.Block.{AreOfKind, RecordsAreKnown}
-use Rattle.mdmp_writer.specs.Written.{all_padded, block_text, body_text_by, far_text, head_text, padded, padding, parts_of, ranges_text, rows}
+use Rattle.mdmp_writer.specs.Written.{all_padded, block_text, body_text_by, far_text, head_by_kind, head_text, padded, padding, parts_of, ranges_text, rows}
 use Rattle.mdmp_writer.proofs.Padded.{parts_none}
 
 -- ---- shapes
@@ -53,16 +55,17 @@ block_by s kind at far is =
     ap (λ (o : Kind). body_text_by o s.records s.raw (at + up (body_of (shape_seen s))) far ++ padding (body_of (shape_seen s)) ++ all_padded (parts_of s.records)) is
 
 -- a block of records, by what a view tells of it
-pub block_known : (s : ViewShape) (x : DumpSeen) (k t at far size count behind : ℕ) → s.streams ≡ map shape_seen x.streams → (stream_at s k).kind ≡ kinds.Known t
-    → size ≡ body_of (stream_at s k) → count ≡ (stream_at s k).records → behind ≡ at + up size
-    → block_text (seen_at x k) at far ≡ head_text t count far ++ rows behind (seen_at x k).records ++ padding size ++ all_padded (parts_of (seen_at x k).records)
-block_known s x k t at far size count behind e is told counted stands =
+pub block_known : (s : ViewShape) (x : DumpSeen) (k t : ℕ) (kind : Option StreamKind) (at far size count behind : ℕ) → s.streams ≡ map shape_seen x.streams → (stream_at s k).kind ≡ kinds.Known t
+    → kind ≡ kind_of t → size ≡ body_of (stream_at s k) → count ≡ (stream_at s k).records → behind ≡ at + up size
+    → block_text (seen_at x k) at far ≡ head_by_kind kind count far ++ rows behind (seen_at x k).records ++ padding size ++ all_padded (parts_of (seen_at x k).records)
+block_known s x k t kind at far size count behind e is of told counted stands =
     let text = λ (n m place : ℕ). head_text t n far ++ rows place (seen_at x k).records ++ padding m ++ all_padded (parts_of (seen_at x k).records) in
     let whole : size ≡ body_of (shape_seen (seen_at x k)) = told ∙ ap body_of (known_stream s x k e) in
     block_by (seen_at x k) (kinds.Known t) at far (known_kind s x k (kinds.Known t) e is)
     ∙ ap (λ (m : ℕ). text (length (seen_at x k).records) m (at + up m)) (sym whole)
     ∙ ap (λ (n : ℕ). text n size (at + up size)) (sym (known_count s x k count e counted))
     ∙ ap (λ (place : ℕ). text count size place) (sym stands)
+    ∙ ap (λ (o : Option StreamKind). head_by_kind o count far ++ rows behind (seen_at x k).records ++ padding size ++ all_padded (parts_of (seen_at x k).records)) (sym of)
 
 -- no parts
 no_parts : (text : List ℕ) (xs : List Seen) → xs ≡ [] → text ++ all_padded (parts_of xs) ≡ text

@@ -2,6 +2,7 @@
 use Rattle.std.proofs.Common.{◌≡◌, ◌≤◌, ◌+◌, ◌*◌, ℕ, Bool, true, false, List, [], ◌++◌, if◌then◌else◌, Option, Result, Ok, Err, length, take, drop, arith, refl, ap, subst, sym, ◌∙◌, length-append, length-drop, length-take}
 use Rattle.std.specs.Prelude.{OnOk}
 use Rattle.std.proofs.Math.Seq.{take-add}
+use Rattle.std.proofs.lemmas.Bool.{eqb-true}
 use Rattle.mdmp_source.specs.Output.{OutState}
 use Rattle.mdmp_wire.specs.Header.{header_bytes}
 use Rattle.mdmp_wire.specs.declared.any_record.AnyRecord.{AnyRecord}
@@ -122,6 +123,12 @@ row_split n m size is = rw is (omega arith)
 
 pub no_rows : (n size : ℕ) → n ≡ 0 → n * size ≡ 0
 no_rows n size none = rw none (omega arith)
+
+-- a stream whose bytes stand behind all streams has this type
+pub far_kind : (kind : Kind) → is_far kind ≡ true → kind ≡ kinds.Known 9
+far_kind kinds.Unused is = cc
+far_kind (kinds.Known t) is = ap kinds.Known (eqb-true t 9 is)
+far_kind (kinds.Raw t) is = cc
 
 -- the bytes of a range of 64-bit memory stand behind all streams
 pub far_of_range : (w : AnyRecord) (f : Fields) → type_told w ≡ 9 → size_in (size_at f 0) ≡ far_by w f

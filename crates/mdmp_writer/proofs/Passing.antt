@@ -189,16 +189,13 @@ no_second s x k e of none =
     let y = seen_at x k in
     all_empty y.kind y.records of (near_rooms y.kind y.records of (sym (ap room_of (known_stream s x k e)) ∙ none))
 
-near_if : (b : Bool) (n : ℕ) → n ≡ 0 → (if b then 0 else n) ≡ 0
-near_if true n none = refl
-near_if false n none = none
+-- one whose names and parts take room there costs a second pass, which asks for them
+near_by : (far : Bool) (parts n : ℕ) → ((if far then 0 else parts) ≡ 0 → ⊥) → (if far then 0 else n) ≡ n
+near_by true parts n some = absurd (some refl)
+near_by false parts n some = refl
 
-pub near_room : (s : StreamShape) → s.parts ≡ 0 → room_of s ≡ 0
-near_room s none = near_if (is_far s.kind) s.parts none
+pub near_passes : (s : ViewShape) (k : ℕ) → (room_of (stream_at s k) ≡ 0 → ⊥) → parts_passes s k ≡ cost_at s k
+near_passes s k some = near_by (is_far (stream_at s k).kind) (stream_at s k).parts (cost_at s k) some
 
--- a stream of another known type costs a second pass, which asks for its names and parts
-pub near_passes : (s : ViewShape) (k t : ℕ) → (stream_at s k).kind ≡ kinds.Known t → (t == 9) ≡ false → parts_passes s k ≡ cost_at s k
-near_passes s k t is near = ap (λ (o : Kind). if is_far o then 0 else cost_at s k) is ∙ ap (λ (b : Bool). if b then 0 else cost_at s k) near
-
-pub near_asks : (s : ViewShape) (k t : ℕ) → (stream_at s k).kind ≡ kinds.Known t → (t == 9) ≡ false → parts_asks s k ≡ (stream_at s k).bytes
-near_asks s k t is near = ap (λ (o : Kind). if is_far o then 0 else (stream_at s k).bytes) is ∙ ap (λ (b : Bool). if b then 0 else (stream_at s k).bytes) near
+pub near_asks : (s : ViewShape) (k : ℕ) → (room_of (stream_at s k) ≡ 0 → ⊥) → parts_asks s k ≡ (stream_at s k).bytes
+near_asks s k some = near_by (is_far (stream_at s k).kind) (stream_at s k).parts (stream_at s k).bytes some

@@ -1,5 +1,5 @@
 -- The streams of a dump that are left, and what is to be written of them.
-use Rattle.std.specs.Prelude.{ℕ, ◌+◌, ◌<◌, ◌≤◌, ◌≡◌, List, [], ◌∷◌, ◌++◌, length, drop, map}
+use Rattle.std.specs.Prelude.{ℕ, ◌+◌, ◌<◌, ◌≤◌, ◌≡◌, List, [], ◌∷◌, ◌++◌, length, drop, map, Some}
 use Rattle.std.proofs.Common.{refl, ap, arith, sym, subst, ◌∙◌, append_assoc}
 use Rattle.std.proofs.lemmas.List.{drop_more, length-map}
 use Rattle.std.proofs.Math.ListN.{drop_of_length-le}
@@ -9,9 +9,10 @@ use Rattle.mdmp_wire.specs.Header.{header_bytes}
 use Rattle.mdmp_dump.specs.declared.view.HeaderFields.{HeaderFields}
 use Rattle.mdmp_dump.specs.Shape.{ViewShape, StreamShape, seen_at, shape_seen, stream_at, unused_seen}
 use Rattle.mdmp_dump.specs.View.{DumpSeen, StreamSeen}
+use Rattle.mdmp_writer.specs.declared.layout.StreamRoom.{StreamRoom}
 use Rattle.mdmp_writer.specs.Gather.{Gathered, IsLeft, Gathers, GathersPrefix}
-use Rattle.mdmp_writer.specs.Layout.{block_size, blocks_end, far_size, first_block, shapes_in}
-use Rattle.mdmp_writer.specs.Written.{block_text, blocks, directory, written_entry, far_text, far_texts, header_of, seen_text}
+use Rattle.mdmp_writer.specs.Layout.{IsRoom, block_size, blocks_end, far_size, first_block, shapes_in}
+use Rattle.mdmp_writer.specs.Written.{block_text, blocks, directory, entry_by, written_entry, far_text, far_texts, header_of, seen_text}
 use Rattle.mdmp_writer.proofs.Blocks.{known_stream}
 use Rattle.mdmp_writer.proofs.Sending.{left_cut, left_next}
 use Rattle.mdmp_writer.proofs.Sums.{next_stream}
@@ -31,6 +32,10 @@ first_cut a b c text now first rest e left cut = left_cut a b c text first rest 
 
 pub first_put : (a b c : Gathered) (text now first rest : List ℕ) → now ≡ first ++ rest → IsLeft a text b now → Gathers b first c → IsLeft a text c rest
 first_put a b c text now first rest e left put = left_next a b c text first rest (subst (λ (t : List ℕ). IsLeft a text b t) e left) put
+
+-- the entry of a stream that takes this room
+pub entry_is : (s : StreamShape) (room : StreamRoom) (at : ℕ) (e : Entry) → IsRoom s (Some room) → e ≡ entry_by room.kind room.body at → e ≡ written_entry s at
+entry_is s room at e is made = made ∙ ap (λ (r : StreamRoom). entry_by r.kind r.body at) is
 
 -- an entry of the directory is put, and the rest is left
 pub entry_put : (s : ViewShape) (k at next : ℕ) (e : Entry) (a b c : Gathered) (text : List ℕ) → k < length s.streams → e ≡ written_entry (stream_at s k) at → next ≡ at + block_size (stream_at s k)

@@ -1,13 +1,16 @@
 -- Sums over the streams that are left.
-use Rattle.std.specs.Prelude.{ℕ, zero, suc, get_or, ◌+◌, ◌<◌, ◌≤◌, ◌≡◌, ◌^◌, List, [], ◌∷◌, length, drop, Option, Some, None, Bool, true, false, if◌then◌else◌, IsTrue, IsFalse}
+use Rattle.std.specs.Prelude.{ℕ, zero, suc, get_or, ◌+◌, ◌-◌, ◌<◌, ◌≤◌, ◌≡◌, ◌^◌, List, [], ◌∷◌, length, drop, Option, Some, None, Bool, true, false, if◌then◌else◌, IsTrue, IsFalse}
 use Rattle.std.proofs.Common.{refl, ap, arith, sym, ◌∙◌, inl, inr}
 use Rattle.std.proofs.lemmas.List.{drop_more}
 use Rattle.std.proofs.lemmas.Option.{none-some}
 use Rattle.std.proofs.Math.ListN.{drop_of_length-le}
 use Rattle.std.proofs.lemmas.Bool.{or_left, or_right, or_from, or_parts, le-leb, leb-false, lt-leb}
-use Rattle.mdmp_dump.specs.Shape.{ViewShape, StreamShape, stream_at, unused_shape}
+use Rattle.mdmp_dump.specs.declared.view.Kind.{Kind}
+use Rattle.mdmp_dump.specs.Places.{up}
+use Rattle.mdmp_dump.specs.Shape.{ViewShape, StreamShape, body_of, is_far, room_of, stream_at, unused_shape}
+use Rattle.mdmp_writer.specs.declared.layout.StreamRoom.{StreamRoom}
 use Rattle.mdmp_writer.specs.declared.fault.LayoutFault.TheVariants.{TooLarge}
-use Rattle.mdmp_writer.specs.Layout.{block_size, blocks_end, blocks_size, fault_behind, file_size, is_too_large, shape_fault, far_size, fars_size, first_misnamed, is_misnamed, IsRoom}
+use Rattle.mdmp_writer.specs.Layout.{block_size, blocks_end, blocks_size, fault_behind, file_size, is_too_large, shape_fault, far_size, fars_size, first_misnamed, is_misnamed, stream_room, IsRoom}
 
 pub next_stream : (s : ViewShape) (k : ℕ) → k < length s.streams → drop k s.streams ≡ stream_at s k ∷ drop (k + 1) s.streams
 next_stream s k fewer = drop_more s.streams k unused_shape fewer
@@ -27,6 +30,35 @@ blocks_none s k past = ap blocks_size (drop_of_length-le s.streams past)
 pub fars_none : (s : ViewShape) (k : ℕ) → length s.streams ≤ k → fars_size (drop k s.streams) ≡ 0
 unfolding fars_size
 fars_none s k past = ap fars_size (drop_of_length-le s.streams past)
+
+-- ---- what a stream takes
+
+-- as it is told
+pub room_told : (s : StreamShape) (room : StreamRoom) (kind : Kind) (body parts : ℕ) → room ≡ stream_room kind body parts → kind ≡ s.kind → body ≡ body_of s → parts ≡ s.parts → IsRoom s (Some room)
+room_told s room kind body parts is k b p = is ∙ rw (k, b, p) refl
+
+pub room_kind : (s : StreamShape) (room : StreamRoom) → IsRoom s (Some room) → room.kind ≡ s.kind
+room_kind s room is = ap (λ (r : StreamRoom). r.kind) is
+
+pub room_body : (s : StreamShape) (room : StreamRoom) → IsRoom s (Some room) → room.body ≡ body_of s
+room_body s room is = ap (λ (r : StreamRoom). r.body) is
+
+pub room_parts : (s : StreamShape) (room : StreamRoom) → IsRoom s (Some room) → room.parts ≡ room_of s
+room_parts s room is = ap (λ (r : StreamRoom). r.parts) is
+
+pub room_far : (s : StreamShape) (room : StreamRoom) → IsRoom s (Some room) → room.far ≡ far_size s
+room_far s room is = ap (λ (r : StreamRoom). r.far) is
+
+pub room_block : (s : StreamShape) (room : StreamRoom) → IsRoom s (Some room) → up room.body + room.parts ≡ block_size s
+room_block s room is = ap (λ (r : StreamRoom). up r.body + r.parts) is
+
+-- the names and parts of one that is not too large are few enough to be told
+few_by : (far : Bool) (body parts : ℕ) → up body + (if far then 0 else parts) < 2 ^ 33 → up (if far then parts else 0) < 2 ^ 64 → parts ≤ 2 ^ 64 - 4
+few_by true body parts block far = omega arith
+few_by false body parts block far = omega arith
+
+pub few_parts : (s : StreamShape) → block_size s < 2 ^ 33 → far_size s < 2 ^ 64 → s.parts ≤ 2 ^ 64 - 4
+few_parts s block far = few_by (is_far s.kind) (body_of s) s.parts block far
 
 -- ---- the first stream that is misnamed
 

@@ -5,7 +5,7 @@ use Rattle.mdmp_dump.specs.declared.dump.Dump.{Dump}
 use Rattle.mdmp_dump.specs.declared.view.Kind.{Kind}
 use Rattle.mdmp_dump.specs.declared.view.Kind.TheVariants as kinds
 use Rattle.mdmp_dump.specs.Places.{up}
-use Rattle.mdmp_dump.specs.Shape.{StreamShape, body_of, room_of, far_of, shape_seen}
+use Rattle.mdmp_dump.specs.Shape.{StreamShape, body_of, room_of, far_of, is_far, shape_seen}
 use Rattle.mdmp_dump.specs.View.{DumpSeen, dump_seen}
 use Rattle.mdmp_writer.specs.declared.fault.LayoutFault.{LayoutFault}
 use Rattle.mdmp_writer.specs.declared.fault.LayoutFault.TheVariants.{RawKnownType, TooLarge}
@@ -80,9 +80,14 @@ size_or size (Some fault) = Err fault
 abbrev pub size_answer : List StreamShape → Result ℕ LayoutFault
 size_answer ss = size_or (file_size ss) (shape_fault ss)
 
+-- what a stream of this kind takes, whose body has so many bytes, and whose names and parts so many
+abbrev pub stream_room : Kind → ℕ → ℕ → StreamRoom
+stream_room kind body parts =
+    record { kind = kind; body = body; parts = if is_far kind then 0 else parts; far = up (if is_far kind then parts else 0) }
+
 -- what a stream takes, or that this is too much
 abbrev pub IsRoom : StreamShape → Option StreamRoom → Type 0
-IsRoom s (Some room) = (room.block ≡ block_size s) × (room.far ≡ far_size s)
+IsRoom s (Some room) = room ≡ stream_room s.kind (body_of s) s.parts
 IsRoom s None = (2 ^ 32 ≤ block_size s) ⊎ (2 ^ 64 ≤ far_size s)
 
 -- where the streams end, and the file

@@ -113,9 +113,12 @@ type_by kinds.Unused = 0
 type_by (kinds.Known t) = t
 type_by (kinds.Raw t) = t
 
--- a stream's entry; one without bytes names the address 0
+-- the entry of a stream of this kind, whose body has so many bytes, at a place; one without bytes names the address 0
+abbrev pub entry_by : Kind → ℕ → ℕ → Entry
+entry_by kind body at = record { stream_type = type_by kind; location = bytes_location body at }
+
 abbrev pub written_entry : StreamShape → ℕ → Entry
-written_entry s at = record { stream_type = type_by s.kind; location = bytes_location (body_of s) at }
+written_entry s at = entry_by s.kind (body_of s) at
 
 -- the entries of streams, of which the first stands at a place
 unfoldable pub directory : List StreamShape → ℕ → List ℕ

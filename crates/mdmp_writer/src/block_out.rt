@@ -2,11 +2,11 @@
 ghost use Rattle.std.specs.Prelude.{◌≡◌, ◌<◌, ◌+◌, ◌^◌, OnOk, Some, length};
 ghost use Rattle.mdmp_dump.specs.declared.view.Kind.TheVariants.{Known, Raw};
 ghost use Rattle.mdmp_dump.specs.Places.{up};
-ghost use Rattle.mdmp_dump.specs.Shape.{body_of, cost_at, room_of, seen_at, stream_at};
+ghost use Rattle.mdmp_dump.specs.Shape.{cost_at, room_of, seen_at, stream_at};
 ghost use Rattle.mdmp_dump.specs.View.{DumpSeen};
 ghost use Rattle.mdmp_writer.specs.Block.{RecordsAreKnown};
 ghost use Rattle.mdmp_writer.specs.Gather.{gathered, PutsSome, Writes};
-ghost use Rattle.mdmp_writer.specs.Layout.{block_size};
+ghost use Rattle.mdmp_writer.specs.Layout.{block_size, IsRoom};
 ghost use Rattle.mdmp_writer.specs.Passes.{block_asks, block_passes, parts_asks, parts_passes};
 ghost use Rattle.mdmp_writer.specs.Written.{all_padded, block_text, padded, parts_of};
 ghost use Rattle.mdmp_writer.specs.Uses.{used, Uses};
@@ -14,11 +14,13 @@ ghost use Rattle.mdmp_writer.specs.Uses.{used, Uses};
 use crate::body_out::put_body;
 use crate::fault::WriteFault;
 use crate::gather::Gather;
+use crate::layout::StreamRoom;
 use crate::parts_out::put_parts;
 use crate::pieces::{put_padded, put_padding};
 use crate::place::{StreamPlace, up};
 use crate::sizes::count_of;
 use mdmp_dump::{DumpView, Kind, PartSize};
+use mdmp_lister::StreamKind;
 use mdmp_source::Out;
 
 /// Writes the names and parts of a stream of so many records, by a second pass over it.
@@ -44,19 +46,19 @@ fn put_second_pass<V: DumpView, O: Out>(
     }
 }
 
-/// Writes what stands behind the body of a stream of so many records of this type, its names and
-/// parts: by a second pass, where they take room there.
+/// Writes what stands behind the body of a stream of so many records, its names and parts: by a second
+/// pass, where they take room there. The bytes of 64-bit memory stand behind all streams.
 fn put_stream_parts<V: DumpView, O: Out>(
     view: &mut V,
     out: &mut O,
     gather: &mut Gather<'_>,
     stream: u64,
-    stream_type: u32,
     count: u64,
+    parts: u64,
 ) -> Result<(), WriteFault>
     requires stream { stream < length (V.shape view.old).streams }
-    requires kind { (stream_at (V.shape view.old) stream).kind ≡ Known stream_type }
     requires count { count ≡ (stream_at (V.shape view.old) stream).records }
+    requires parts { parts ≡ room_of (stream_at (V.shape view.old) stream) }
     requires room { room_of (stream_at (V.shape view.old) stream) < 2 ^ 32 }
     ensures writes { (x : DumpSeen) → (V.shape view.old).seen ≡ Some x
         → Writes result (gathered (O.state out.old) gather.old) (all_padded (parts_of (seen_at x stream).records)) (gathered (O.state out.new) gather.new) }
@@ -64,45 +66,41 @@ fn put_stream_parts<V: DumpView, O: Out>(
     ensures uses { Uses result (used (V.shape view.old) (V.spent view.old) (O.state out.old)) (parts_passes (V.shape view.old) stream) (parts_asks (V.shape view.old) stream) (used (V.shape view.new) (V.spent view.new) (O.state out.new)) }
     ensures moves { V.Moves view.old view.new }
 {
-    // The bytes of 64-bit memory stand behind all streams.
-    if stream_type == 9 {
-        return Ok(());
-    }
-    let parts = view.parts_size(stream);
     if parts == 0 {
         return Ok(());
     }
     put_second_pass(view, out, gather, stream, count)
 }
 
-/// Writes a stream of records of this type, whose body has so many bytes.
+/// Writes a stream of records of this type.
 fn put_records<V: DumpView, O: Out>(
     view: &mut V,
     out: &mut O,
     gather: &mut Gather<'_>,
     stream: u64,
     stream_type: u32,
-    body: u64,
+    room: StreamRoom,
     place: StreamPlace,
 ) -> Result<(), WriteFault>
     requires stream { stream < length (V.shape view.old).streams }
     requires kind { (stream_at (V.shape view.old) stream).kind ≡ Known stream_type }
-    requires body { body ≡ body_of (stream_at (V.shape view.old) stream) }
-    requires room { place.at + block_size (stream_at (V.shape view.old) stream) < 2 ^ 32 }
+    requires room { IsRoom (stream_at (V.shape view.old) stream) (Some room) }
+    requires low { place.at + block_size (stream_at (V.shape view.old) stream) < 2 ^ 32 }
     ensures writes { (x : DumpSeen) → (V.shape view.old).seen ≡ Some x
         → Writes result (gathered (O.state out.old) gather.old) (block_text (seen_at x stream) place.at place.far) (gathered (O.state out.new) gather.new) }
     ensures some { OnOk result (PutsSome (gathered (O.state out.old) gather.old) (block_size (stream_at (V.shape view.old) stream)) (gathered (O.state out.new) gather.new)) }
     ensures uses { Uses result (used (V.shape view.old) (V.spent view.old) (O.state out.old)) (block_passes (V.shape view.old) stream) (block_asks (V.shape view.old) stream) (used (V.shape view.new) (V.spent view.new) (O.state out.new)) }
     ensures moves { V.Moves view.old view.new }
 {
-    let count = count_of(stream_type, body);
+    let kind = StreamKind::of_type(stream_type);
+    let count = count_of(kind, room.body);
     let behind = StreamPlace {
-        at: place.at + up(body),
+        at: place.at + up(room.body),
         far: place.far,
     };
-    match put_body(view, out, gather, stream, stream_type, count, behind) {
-        Ok(()) => match put_padding(out, gather, body) {
-            Ok(()) => put_stream_parts(view, out, gather, stream, stream_type, count),
+    match put_body(view, out, gather, stream, kind, count, behind) {
+        Ok(()) => match put_padding(out, gather, room.body) {
+            Ok(()) => put_stream_parts(view, out, gather, stream, count, room.parts),
             Err(fault) => Err(fault),
         },
         Err(fault) => Err(fault),
@@ -131,28 +129,29 @@ fn put_raw<V: DumpView, O: Out>(
     }
 }
 
-/// Writes a stream: its block begins at a place, and its 64-bit memory at another.
+/// Writes a stream that takes this room: its block begins at a place, and its 64-bit memory at another.
 pub(crate) fn put_block<V: DumpView, O: Out>(
     view: &mut V,
     out: &mut O,
     gather: &mut Gather<'_>,
     stream: u64,
+    room: StreamRoom,
     place: StreamPlace,
 ) -> Result<(), WriteFault>
     requires stream { stream < length (V.shape view.old).streams }
-    requires room { place.at + block_size (stream_at (V.shape view.old) stream) < 2 ^ 32 }
+    requires room { IsRoom (stream_at (V.shape view.old) stream) (Some room) }
+    requires low { place.at + block_size (stream_at (V.shape view.old) stream) < 2 ^ 32 }
     ensures writes { (x : DumpSeen) → (V.shape view.old).seen ≡ Some x → RecordsAreKnown (seen_at x stream)
         → Writes result (gathered (O.state out.old) gather.old) (block_text (seen_at x stream) place.at place.far) (gathered (O.state out.new) gather.new) }
     ensures some { OnOk result (PutsSome (gathered (O.state out.old) gather.old) (block_size (stream_at (V.shape view.old) stream)) (gathered (O.state out.new) gather.new)) }
     ensures uses { Uses result (used (V.shape view.old) (V.spent view.old) (O.state out.old)) (block_passes (V.shape view.old) stream) (block_asks (V.shape view.old) stream) (used (V.shape view.new) (V.spent view.new) (O.state out.new)) }
     ensures moves { V.Moves view.old view.new }
 {
-    let body = view.body_size(stream);
-    match view.kind(stream) {
+    match room.kind {
         Kind::Unused => Ok(()),
         Kind::Known(stream_type) => {
-            put_records(view, out, gather, stream, stream_type, body, place)
+            put_records(view, out, gather, stream, stream_type, room, place)
         },
-        Kind::Raw(_) => put_raw(view, out, gather, stream, body),
+        Kind::Raw(_) => put_raw(view, out, gather, stream, room.body),
     }
 }

@@ -1,11 +1,12 @@
 //! The body of a stream of records to an output.
-ghost use Rattle.std.specs.Prelude.{◌≡◌, ◌<◌, ◌+◌, ◌*◌, ◌^◌, ◌++◌, OnOk, Some, length};
+ghost use Rattle.std.specs.Prelude.{◌≡◌, ◌<◌, ◌+◌, ◌*◌, ◌^◌, ◌++◌, ℕ, OnOk, Some, length};
+ghost use Rattle.mdmp_lister.specs.Format.Kind.{kind_of};
 ghost use Rattle.mdmp_dump.specs.declared.view.Kind.TheVariants.{Known};
-ghost use Rattle.mdmp_dump.specs.Shape.{cost_at, head_by, head_of, room_of, row_of, seen_at, stream_at};
+ghost use Rattle.mdmp_dump.specs.Shape.{cost_at, head_by, room_of, row_by, seen_at, stream_at};
 ghost use Rattle.mdmp_dump.specs.View.{DumpSeen};
 ghost use Rattle.mdmp_writer.specs.Gather.{gathered, PutsSome, Writes};
 ghost use Rattle.mdmp_writer.specs.Cause.{StopsAtOutput};
-ghost use Rattle.mdmp_writer.specs.Written.{head_by_kind, head_text, rows};
+ghost use Rattle.mdmp_writer.specs.Written.{head_by_kind, rows};
 ghost use Rattle.mdmp_writer.specs.Uses.{used, Uses};
 
 use crate::fault::WriteFault;
@@ -20,18 +21,19 @@ use mdmp_wire::{Memory64List, MemoryInfoList, UnloadedList};
 
 /// Writes what stands before the records of a stream of this kind, so many, whose 64-bit memory
 /// begins at a place.
-fn put_kind_head<O: Out>(
+fn put_head<O: Out>(
     out: &mut O,
     gather: &mut Gather<'_>,
-    kind: StreamKind,
+    kind: Option<StreamKind>,
     count: u64,
     far: u64,
 ) -> Result<(), WriteFault>
     requires { count < 2 ^ 32 }
-    ensures writes { Writes result (gathered (O.state out.old) gather.old) (head_by_kind (Some kind) count far) (gathered (O.state out.new) gather.new) }
-    ensures some { OnOk result (PutsSome (gathered (O.state out.old) gather.old) (head_by (Some kind)) (gathered (O.state out.new) gather.new)) }
+    ensures writes { Writes result (gathered (O.state out.old) gather.old) (head_by_kind kind count far) (gathered (O.state out.new) gather.new) }
+    ensures some { OnOk result (PutsSome (gathered (O.state out.old) gather.old) (head_by kind) (gathered (O.state out.new) gather.new)) }
     ensures cause { StopsAtOutput result (O.state out.old) (O.state out.new) }
 {
+    let Some(kind) = kind else { return Ok(()) };
     let form = kind.form();
     match form {
         Form::Counted => put_record(out, gather, &(count as u32)),
@@ -65,33 +67,14 @@ fn put_kind_head<O: Out>(
     }
 }
 
-/// The same of a stream of this type.
-fn put_head<O: Out>(
-    out: &mut O,
-    gather: &mut Gather<'_>,
-    stream_type: u32,
-    count: u64,
-    far: u64,
-) -> Result<(), WriteFault>
-    requires { count < 2 ^ 32 }
-    ensures writes { Writes result (gathered (O.state out.old) gather.old) (head_text stream_type count far) (gathered (O.state out.new) gather.new) }
-    ensures some { OnOk result (PutsSome (gathered (O.state out.old) gather.old) (head_of stream_type) (gathered (O.state out.new) gather.new)) }
-    ensures cause { StopsAtOutput result (O.state out.old) (O.state out.new) }
-{
-    match StreamKind::of_type(stream_type) {
-        Some(kind) => put_kind_head(out, gather, kind, count, far),
-        None => Ok(()),
-    }
-}
-
-/// Writes the body of a stream of this type, with so many records, whose names and parts begin at
+/// Writes the body of a stream of this kind, with so many records, whose names and parts begin at
 /// `place.at`.
 pub(crate) fn put_body<V: DumpView, O: Out>(
     view: &mut V,
     out: &mut O,
     gather: &mut Gather<'_>,
     stream: u64,
-    stream_type: u32,
+    kind: Option<StreamKind>,
     count: u64,
     place: StreamPlace,
 ) -> Result<(), WriteFault>
@@ -101,14 +84,14 @@ pub(crate) fn put_body<V: DumpView, O: Out>(
     requires room { place.at + room_of (stream_at (V.shape view.old) stream) < 2 ^ 32 }
     ensures writes { (x : DumpSeen) → (V.shape view.old).seen ≡ Some x
         → Writes result (gathered (O.state out.old) gather.old)
-        (head_text stream_type count place.far ++ rows place.at (seen_at x stream).records) (gathered (O.state out.new) gather.new) }
-    ensures some { (stream_at (V.shape view.old) stream).kind ≡ Known stream_type
-        → OnOk result (PutsSome (gathered (O.state out.old) gather.old) (head_of stream_type + count * row_of stream_type) (gathered (O.state out.new) gather.new)) }
+        (head_by_kind kind count place.far ++ rows place.at (seen_at x stream).records) (gathered (O.state out.new) gather.new) }
+    ensures some { (t : ℕ) → (stream_at (V.shape view.old) stream).kind ≡ Known t → kind ≡ kind_of t
+        → OnOk result (PutsSome (gathered (O.state out.old) gather.old) (head_by kind + count * row_by kind) (gathered (O.state out.new) gather.new)) }
     ensures uses { Uses result (used (V.shape view.old) (V.spent view.old) (O.state out.old)) (cost_at (V.shape view.old) stream) 0 (used (V.shape view.new) (V.spent view.new) (O.state out.new)) }
     ensures moves { V.Moves view.old view.new }
 {
     match view.rewind(stream) {
-        Ok(()) => match put_head(out, gather, stream_type, count, place.far) {
+        Ok(()) => match put_head(out, gather, kind, count, place.far) {
             Ok(()) => put_rows(view, out, gather, count, place.at),
             Err(fault) => Err(fault),
         },

@@ -1,8 +1,7 @@
 //! 64-bit memory to an output.
-ghost use Rattle.std.specs.Prelude.{◌≡◌, ◌<◌, ◌-◌, ◌^◌, List, OnOk, Some, length};
-ghost use Rattle.mdmp_dump.specs.declared.view.Kind.TheVariants.{Known};
+ghost use Rattle.std.specs.Prelude.{◌≡◌, ◌<◌, ◌-◌, ◌^◌, IsTrue, List, OnOk, Some, length};
 ghost use Rattle.mdmp_dump.specs.Seen.{Seen};
-ghost use Rattle.mdmp_dump.specs.Shape.{body_of, cost_at, seen_at, stream_at};
+ghost use Rattle.mdmp_dump.specs.Shape.{body_of, cost_at, is_far, seen_at, stream_at};
 ghost use Rattle.mdmp_dump.specs.View.{DumpSeen};
 ghost use Rattle.mdmp_writer.specs.Gather.{gathered, PutsSome, Writes};
 ghost use Rattle.mdmp_writer.specs.Layout.{far_size};
@@ -12,9 +11,11 @@ ghost use Rattle.mdmp_writer.specs.Uses.{used, Uses};
 
 use crate::fault::WriteFault;
 use crate::gather::Gather;
+use crate::layout::is_far;
 use crate::pieces::{put_padding, put_part};
 use crate::sizes::count_of;
-use mdmp_dump::{DumpView, Kind};
+use mdmp_dump::DumpView;
+use mdmp_lister::StreamKind;
 use mdmp_source::Out;
 
 /// Writes the bytes of all ranges that are left of a stream, so many.
@@ -28,7 +29,7 @@ fn put_ranges<V: DumpView, O: Out>(
     requires stray { (V.cursor view.old).records ≡ 0 → (V.cursor view.old).far ≡ 0 }
     ensures writes { (xs : List Seen) → (V.cursor view.old).seen ≡ Some xs → length xs ≡ count
         → Writes result (gathered (O.state out.old) gather.old) (ranges_text xs) (gathered (O.state out.new) gather.new) }
-    ensures some { (V.cursor view.old).kind ≡ Known 9 → (V.cursor view.old).far < 2 ^ 64 - 1 → OnOk result (PutsSome (gathered (O.state out.old) gather.old) (V.cursor view.old).far (gathered (O.state out.new) gather.new)) }
+    ensures some { IsTrue (is_far (V.cursor view.old).kind) → (V.cursor view.old).far < 2 ^ 64 - 1 → OnOk result (PutsSome (gathered (O.state out.old) gather.old) (V.cursor view.old).far (gathered (O.state out.new) gather.new)) }
     ensures uses { Uses result (used (V.shape view.old) (V.spent view.old) (O.state out.old)) 0 ((V.cursor view.old).bytes) (used (V.shape view.new) (V.spent view.new) (O.state out.new)) }
     ensures moves { V.Moves view.old view.new }
 {
@@ -59,7 +60,7 @@ fn put_memory<V: DumpView, O: Out>(
     size: u64,
 ) -> Result<(), WriteFault>
     requires stream { stream < length (V.shape view.old).streams }
-    requires kind { (stream_at (V.shape view.old) stream).kind ≡ Known 9 }
+    requires far { IsTrue (is_far (stream_at (V.shape view.old) stream).kind) }
     requires count { count ≡ (stream_at (V.shape view.old) stream).records }
     requires size { size ≡ (stream_at (V.shape view.old) stream).parts }
     requires room { far_size (stream_at (V.shape view.old) stream) < 2 ^ 64 }
@@ -94,16 +95,10 @@ pub(crate) fn put_far<V: DumpView, O: Out>(
     ensures uses { Uses result (used (V.shape view.old) (V.spent view.old) (O.state out.old)) (far_passes (V.shape view.old) stream) (far_asks (V.shape view.old) stream) (used (V.shape view.new) (V.spent view.new) (O.state out.new)) }
     ensures moves { V.Moves view.old view.new }
 {
-    match view.kind(stream) {
-        Kind::Unused => Ok(()),
-        Kind::Known(stream_type) => {
-            if stream_type != 9 {
-                return Ok(());
-            }
-            let count = count_of(9, view.body_size(stream));
-            let size = view.parts_size(stream);
-            put_memory(view, out, gather, stream, count, size)
-        },
-        Kind::Raw(_) => Ok(()),
+    if is_far(view.kind(stream)) {
+        let count = count_of(Some(StreamKind::Memory64), view.body_size(stream));
+        let size = view.parts_size(stream);
+        return put_memory(view, out, gather, stream, count, size);
     }
+    Ok(())
 }

@@ -1,15 +1,14 @@
 //! The header of a dump and its directory to an output.
 ghost use Rattle.std.specs.Prelude.{◌≡◌, ◌<◌, ◌+◌, ◌^◌, length};
-ghost use Rattle.mdmp_dump.specs.Shape.{body_of, stream_at};
 ghost use Rattle.mdmp_wire.specs.Header.{header_bytes};
 ghost use Rattle.mdmp_writer.specs.Gather.{gathered, Writes};
 ghost use Rattle.mdmp_writer.specs.Layout.{blocks_end, file_size, first_block};
 ghost use Rattle.mdmp_writer.specs.Cause.{StopsAtOutput};
-ghost use Rattle.mdmp_writer.specs.Written.{directory, written_entry, header_of, type_by};
+ghost use Rattle.mdmp_writer.specs.Written.{directory, entry_by, header_of, type_by};
 
 use crate::fault::WriteFault;
 use crate::gather::Gather;
-use crate::layout::room_for;
+use crate::layout::{StreamRoom, room_for};
 use crate::record_bytes::put_record;
 use mdmp_dump::{DumpView, HeaderFields, Kind};
 use mdmp_source::{Location, Out};
@@ -50,21 +49,16 @@ fn type_by(kind: Kind) -> u32
 }
 
 /// The entry of a stream at a place; one without bytes names the address 0.
-fn entry_for<V: DumpView>(view: &mut V, stream: u64, at: u64) -> Entry
-    requires stream { stream < length (V.shape view.old).streams }
+fn entry_at(room: StreamRoom, at: u64) -> Entry
     requires place { at < 2 ^ 32 }
-    requires body { body_of (stream_at (V.shape view.old) stream) < 2 ^ 32 }
-    ensures shape { V.shape view.new ≡ V.shape view.old }
-    ensures entry { result ≡ written_entry (stream_at (V.shape view.old) stream) at }
-    ensures spent { V.spent view.new ≡ V.spent view.old }
-    ensures moves { V.Moves view.old view.new }
+    requires body { room.body < 2 ^ 32 }
+    ensures { result ≡ entry_by room.kind room.body at }
 {
-    let body = view.body_size(stream);
-    let rva = if body == 0 { 0 } else { at };
+    let rva = if room.body == 0 { 0 } else { at };
     Entry {
-        stream_type: type_by(view.kind(stream)),
+        stream_type: type_by(room.kind),
         location: Location {
-            size: body as u32,
+            size: room.body as u32,
             rva: rva as u32,
         },
     }
@@ -89,9 +83,8 @@ pub(crate) fn put_directory<V: DumpView, O: Out>(
     let mut at = first;
     for stream in 0..view.streams() {
         let room = room_for(view, stream);
-        let entry = entry_for(view, stream, at);
-        match put_record(out, gather, &entry) {
-            Ok(()) => at += room.block,
+        match put_record(out, gather, &entry_at(room, at)) {
+            Ok(()) => at += room.block(),
             Err(fault) => return Err(fault),
         }
     }

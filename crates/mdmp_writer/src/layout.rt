@@ -1,21 +1,35 @@
 //! Where the streams of a dump stand as it is written, and whether it can be.
-ghost use Rattle.std.specs.Prelude.{◌≡◌, ◌<◌, ◌^◌, length, IsTrue, IsFalse, MatchOption, MatchResult, None, Some, ◌≤◌, ◌+◌, ◌*◌};
+ghost use Rattle.std.specs.Prelude.{◌≡◌, ◌<◌, ◌^◌, length, IsTrue, IsFalse, MatchOption, MatchResult, IfSome, None, Some, ◌≤◌, ◌+◌, ◌-◌, ◌*◌};
 ghost use Rattle.mdmp_dump.specs.declared.dump.Dump.{Dump};
+ghost use Rattle.mdmp_dump.specs.Places.{up};
 ghost use Rattle.mdmp_dump.specs.Shape.{is_far, IsViewOf, stream_at};
-ghost use Rattle.mdmp_writer.specs.Layout.{AreEnds, block_size, far_size, first_misnamed, is_misnamed, is_too_large, IsRoom, shape_fault, size_answer, layout_fault, size_or, written_size};
+ghost use Rattle.mdmp_writer.specs.Layout.{AreEnds, block_size, far_size, first_misnamed, is_misnamed, is_too_large, IsRoom, stream_room, shape_fault, size_answer, layout_fault, size_or, written_size};
 
 use crate::fault::LayoutFault;
 use crate::place::up;
 use mdmp_dump::{DumpView, Kind};
 use mdmp_lister::StreamKind as StreamKind;
 
-/// What a stream takes.
+/// What a stream is, and what it takes.
 #[derive(Clone, Copy)]
 pub(crate) struct StreamRoom {
-    /// Its body and behind it its names and parts.
-    pub block: u64,
+    pub kind: Kind,
+    /// Its body, without what pads it.
+    pub body: u64,
+    /// Its names and parts, which stand behind its body.
+    pub parts: u64,
     /// Its 64-bit memory, which stands behind all streams.
     pub far: u64,
+}
+
+impl StreamRoom {
+    /// Its body and behind it its names and parts.
+    pub(crate) fn block(self) -> u64
+        requires { up self.body + self.parts < 2 ^ 64 }
+        ensures { result ≡ up self.body + self.parts }
+    {
+        up(self.body) + self.parts
+    }
 }
 
 /// Where what is written ends.
@@ -114,16 +128,29 @@ pub(crate) fn room_for<V: DumpView>(view: &mut V, stream: u64) -> StreamRoom
     ensures spent { V.spent view.new ≡ V.spent view.old }
     ensures moves { V.Moves view.old view.new }
 {
-    let body = up(view.body_size(stream));
+    let body = view.body_size(stream);
     let parts = view.parts_size(stream);
-    if is_far(view.kind(stream)) {
+    let kind = view.kind(stream);
+    stream_room(kind, body, parts)
+}
+
+/// What a stream of this kind takes, whose body has so many bytes, and whose names and parts so many.
+fn stream_room(kind: Kind, body: u64, parts: u64) -> StreamRoom
+    requires { parts ≤ 2 ^ 64 - 4 }
+    ensures { result ≡ stream_room kind body parts }
+{
+    if is_far(kind) {
         StreamRoom {
-            block: body,
+            kind,
+            body,
+            parts: 0,
             far: up(parts),
         }
     } else {
         StreamRoom {
-            block: body + parts,
+            kind,
+            body,
+            parts,
             far: 0,
         }
     }
@@ -135,24 +162,26 @@ fn room_if<V: DumpView>(view: &mut V, stream: u64) -> Option<StreamRoom>
     ensures shape { V.shape view.new ≡ V.shape view.old }
     ensures cursor { V.cursor view.new ≡ V.cursor view.old }
     ensures room { IsRoom (stream_at (V.shape view.old) stream) result }
+    ensures low { IfSome result (λ room. up room.body + room.parts < 2 ^ 33) }
     ensures spent { V.spent view.new ≡ V.spent view.old }
     ensures moves { V.Moves view.old view.new }
 {
     let body = view.body_size(stream);
     let parts = view.parts_size(stream);
+    let kind = view.kind(stream);
     if body > u64::from(u32::MAX) - 3 {
         return None;
     }
-    if is_far(view.kind(stream)) {
+    if is_far(kind) {
         if parts > u64::MAX - 3 {
             return None;
         }
-        return Some(room_for(view, stream));
+        return Some(stream_room(kind, body, parts));
     }
     if parts > u64::from(u32::MAX) {
         return None;
     }
-    Some(room_for(view, stream))
+    Some(stream_room(kind, body, parts))
 }
 
 /// The directory's end, or none where it is past 2^32 - 1.
@@ -184,13 +213,14 @@ fn find_ends<V: DumpView>(view: &mut V) -> Option<LayoutEnds>
     for stream in 0..count {
         match room_if(view, stream) {
             Some(room) => {
-                if room.block > u64::from(u32::MAX) - blocks {
+                let block = room.block();
+                if block > u64::from(u32::MAX) - blocks {
                     return None;
                 }
                 if room.far > u64::MAX - far {
                     return None;
                 }
-                blocks += room.block;
+                blocks += block;
                 far += room.far;
             },
             None => return None,

@@ -1,6 +1,6 @@
 //! The sizes of a stream, as a view tells them.
 ghost use Rattle.std.specs.Prelude.{◌≡◌, ◌≤◌, ◌<◌, ◌+◌, ◌*◌, ℕ};
-ghost use Rattle.mdmp_dump.specs.Shape.{head_of, row_of};
+ghost use Rattle.mdmp_dump.specs.Shape.{head_by, row_by};
 
 use mdmp_lister::StreamKind;
 
@@ -13,12 +13,12 @@ fn rows_in(bytes: u64, size: u32) -> u64
     bytes / u64::from(size)
 }
 
-/// How many records of this type a body of so many bytes has.
-pub(crate) fn count_of(stream_type: u32, body: u64) -> u64
+/// How many records of this kind a body of so many bytes has.
+pub(crate) fn count_of(kind: Option<StreamKind>, body: u64) -> u64
     ensures bound { result ≤ body }
-    ensures count { (n : ℕ) → body ≡ head_of stream_type + n * row_of stream_type → result ≡ n }
+    ensures count { (n : ℕ) → body ≡ head_by kind + n * row_by kind → result ≡ n }
 {
-    match StreamKind::of_type(stream_type) {
+    match kind {
         Some(kind) => {
             let head = u64::from(kind.form().head_cost());
             rows_in(body.saturating_sub(head), kind.record_size())

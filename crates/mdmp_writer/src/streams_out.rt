@@ -38,9 +38,9 @@ pub(crate) fn put_blocks<V: DumpView, O: Out>(
     let mut far = first.far;
     for stream in 0..view.streams() {
         let room = room_for(view, stream);
-        match put_block(view, out, gather, stream, StreamPlace { at, far }) {
+        match put_block(view, out, gather, stream, room, StreamPlace { at, far }) {
             Ok(()) => {
-                at += room.block;
+                at += room.block();
                 far += room.far;
             },
             Err(fault) => return Err(fault),

@@ -1,5 +1,5 @@
 //! A view whose calls are watched: what went out before one that answers a fault, and how often a
-//! writer begins its streams.
+//! writer begins its streams and asks for their sizes.
 ghost use Rattle.std.specs.Prelude.{false, None};
 ghost use Rattle.std.proofs.lemmas.Option.{none-some};
 
@@ -7,7 +7,7 @@ use super::{open_out, write_view};
 use crate::dump::built::read;
 use crate::files::{LEAST, NAMED};
 use crate::same::assert_same;
-use mdmp_dump::{Dump, DumpView, Fields, HeaderFields, Kind, ViewFault};
+use mdmp_dump::{Dump, DumpView, Fields, HeaderFields, Kind, ValueView, ViewFault};
 use mdmp_source::SourceFault;
 use mdmp_test_support::{MEMORY64, MODULE, OVERLAPPING, SIX, THRICE, file_of_numbers};
 use mdmp_writer::WriteFault;
@@ -38,14 +38,32 @@ impl Calls {
     }
 }
 
+/// How often something was done with each of the first six streams.
+#[derive(Drop)]
+struct PerStream {
+    counts: [u32; 6],
+}
+
+impl PerStream {
+    /// Once more with this stream.
+    fn count(&mut self, stream: u64) {
+        if stream < 6 {
+            let count = &mut self.counts[stream as usize];
+            *count = count.saturating_add(1);
+        }
+    }
+}
+
 /// A view that gives what another one gives, but where a call fails; its content counts as unknown.
-/// It counts how often each of its first six streams was begun.
+/// It counts how often each of its streams was begun, and asked for its sizes.
 #[derive(Drop)]
 struct WatchedView<V: DumpView> {
     inner: V,
     calls: Calls,
     last: Option<ViewFault>,
-    begun: [u32; 6],
+    begun: PerStream,
+    bodies: PerStream,
+    parts: PerStream,
 }
 
 impl<V: DumpView> WatchedView<V> {
@@ -55,7 +73,9 @@ impl<V: DumpView> WatchedView<V> {
             inner,
             calls: Calls { made: 0, fail_at },
             last: None,
-            begun: [0; 6],
+            begun: PerStream { counts: [0; 6] },
+            bodies: PerStream { counts: [0; 6] },
+            parts: PerStream { counts: [0; 6] },
         }
     }
 }
@@ -94,18 +114,17 @@ impl<V: DumpView> DumpView for WatchedView<V> {
     }
 
     fn body_size(&mut self, stream: u64) -> u64 {
+        self.bodies.count(stream);
         self.inner.body_size(stream)
     }
 
     fn parts_size(&mut self, stream: u64) -> u64 {
+        self.parts.count(stream);
         self.inner.parts_size(stream)
     }
 
     fn rewind(&mut self, stream: u64) -> Result<(), ViewFault> {
-        if stream < 6 {
-            let count = &mut self.begun[stream as usize];
-            *count = count.saturating_add(1);
-        }
+        self.begun.count(stream);
         let answer = match self.calls.count() {
             Ok(()) => self.inner.rewind(stream),
             Err(fault) => Err(fault),
@@ -187,12 +206,15 @@ fn fault_in_64_bit_memory_leaves_a_first_part(rt: HostRuntime) -> Result<(), Fai
     Ok(())
 }
 
-/// Writes a dump, and tells how often each of its first six streams was begun.
-fn begun_by(alloc: Global, dump: &Dump<Global>) -> Result<[u32; 6], Fail> {
+/// Writes the dump of a file, and hands back its view.
+fn written_view<'d>(
+    alloc: Global,
+    dump: &'d Dump<Global>,
+) -> Result<WatchedView<ValueView<'d, Global>>, Fail> {
     let mut view = WatchedView::new(dump.view(), u64::MAX);
     let mut out = open_out(alloc)?;
     write_view(&mut view, &mut out, 64).map_err(|_| "a dump that is written")?;
-    Ok(view.begun)
+    Ok(view)
 }
 
 #[test]
@@ -252,7 +274,46 @@ fn streams_are_begun_twice_at_most(rt: HostRuntime) -> Result<(), Fail> {
     for (what, streams, numbers, begun) in rows {
         let file = file_of_numbers(rt.alloc(), streams, numbers)?;
         let dump = read(rt.alloc(), &file, NAMED, 18)?;
-        assert_eq!(rt; begun_by(rt.alloc(), &dump)?, begun, "{what}");
+        let view = written_view(rt.alloc(), &dump)?;
+        assert_eq!(rt; view.begun.counts, begun, "{what}");
+    }
+    Ok(())
+}
+
+#[test]
+fn sizes_are_asked_once_a_pass(rt: HostRuntime) -> Result<(), Fail> {
+    let rows: [(&str, u32, &[u32], [u32; 6]); 3] = [
+        (
+            "six streams, for the layout, the directory and their blocks",
+            6,
+            &SIX,
+            [3, 3, 3, 3, 3, 3],
+        ),
+        (
+            "64-bit memory, for its bytes behind all streams too",
+            3,
+            &[
+                9, 32, 68, 10, 1, 100, 9, 16, 104, // the directory
+                1, 0, 120, 0, 0x3000, 0, 2, 0, // one range
+                1, // the byte
+                0, 0, 124, 0, // no range
+                0x4847,
+            ],
+            [4, 3, 4, 0, 0, 0],
+        ),
+        (
+            "raw bytes, none and some",
+            4,
+            &[10, 5, 80, 0, 0, 0, 11, 0, 0, 12, 1, 88, 0x04030201, 5, 6],
+            [3, 3, 3, 3, 0, 0],
+        ),
+    ];
+    for (what, streams, numbers, asked) in rows {
+        let file = file_of_numbers(rt.alloc(), streams, numbers)?;
+        let dump = read(rt.alloc(), &file, NAMED, 18)?;
+        let view = written_view(rt.alloc(), &dump)?;
+        assert_eq!(rt; view.bodies.counts, asked, "{what}");
+        assert_eq!(rt; view.parts.counts, asked, "{what}");
     }
     Ok(())
 }

@@ -1,9 +1,10 @@
-use Rattle.std.proofs.Common.{◌∙◌, ◌*◌, refl, sym, ap, arith}
-use Rattle.mdmp_dump.specs.Shape.{StreamCursor, head_of, row_of, seen_at}
-use Rattle.mdmp_writer.specs.Written.{head_text, rows}
+use Rattle.std.proofs.Common.{◌≡◌, ◌∙◌, ◌*◌, Option, refl, sym, ap, arith}
+use Rattle.mdmp_lister.specs.declared.kind.StreamKind.{StreamKind}
+use Rattle.mdmp_dump.specs.Shape.{StreamCursor, head_by, row_by, row_of, seen_at}
+use Rattle.mdmp_writer.specs.Written.{head_by_kind, rows}
 use Rattle.mdmp_writer.proofs.Blocks.{begun_seen, known_count}
 use Rattle.mdmp_writer.proofs.Causes.{uses_none, uses_pass, uses_sent, uses_then}
-use Rattle.mdmp_writer.proofs.Counting.{ok_then}
+use Rattle.mdmp_writer.proofs.Counting.{ok_is, ok_then}
 use Rattle.mdmp_writer.proofs.Sending.{writes_then}
 use Rattle.mdmp_writer.proofs.body_out.put_body.Goals as goal
 
@@ -12,14 +13,16 @@ returns-in-Ok-put_head-clause-writes g c x known =
     let s = g.V.DumpView.shape c.args.view.now in
     let k = c.args.stream in
     let xs = (seen_at x k).records in
-    writes_then c.put_rows.result _ _ _ (head_text c.args.stream_type c.args.count c.args.place.far) (rows c.args.place.at xs) c.in-Ok-put_head.ensures.writes
+    writes_then c.put_rows.result _ _ _ (head_by_kind c.args.kind c.args.count c.args.place.far) (rows c.args.place.at xs) c.in-Ok-put_head.ensures.writes
     (c.put_rows.ensures.writes xs (ap (λ (u : StreamCursor). u.seen) c.in-Ok.ensures.begins ∙ begun_seen s x k known)
     (sym (known_count s x k c.args.count (g.met.V.DumpView.sound c.args.view.now x known) c.requires.count)))
 
 pub returns-in-Ok-put_head-clause-some : goal.returns-in-Ok-put_head-clause-some
-returns-in-Ok-put_head-clause-some g c is =
-    let t = c.args.stream_type in
-    ok_then c.put_rows.result _ _ _ (head_of t) (c.args.count * row_of t) _ refl c.in-Ok-put_head.ensures.some (c.put_rows.ensures.some t (ap (λ (u : StreamCursor). u.kind) c.in-Ok.ensures.begins ∙ is))
+returns-in-Ok-put_head-clause-some g c t is of =
+    let kind = c.args.kind in
+    let rows : c.args.count * row_of t ≡ c.args.count * row_by kind = ap (λ (o : Option StreamKind). c.args.count * row_by o) (sym of) in
+    ok_then c.put_rows.result _ _ _ (head_by kind) (c.args.count * row_by kind) _ refl c.in-Ok-put_head.ensures.some
+    (ok_is c.put_rows.result _ _ _ _ rows (c.put_rows.ensures.some t (ap (λ (u : StreamCursor). u.kind) c.in-Ok.ensures.begins ∙ is)))
 
 pub returns-in-Ok-put_head-clause-uses : goal.returns-in-Ok-put_head-clause-uses
 returns-in-Ok-put_head-clause-uses g c =

@@ -1,10 +1,10 @@
 use Rattle.std.proofs.Common.{◌≡◌, ◌∙◌, arith, refl, sym, ap}
 use Rattle.mdmp_dump.specs.declared.view.Fields.{Fields}
 use Rattle.mdmp_dump.specs.Placed.{far_room, size_at, size_in}
-use Rattle.mdmp_dump.specs.Shape.{StreamCursor, type_told}
+use Rattle.mdmp_dump.specs.Shape.{StreamCursor, is_far, type_told}
 use Rattle.mdmp_writer.specs.Written.{ranges_text}
 use Rattle.mdmp_writer.proofs.Causes.{uses_fault, uses_next, uses_none, uses_then, uses_within}
-use Rattle.mdmp_writer.proofs.Counting.{come_begin, come_next, come_none, far_of_range, known_type, some_is}
+use Rattle.mdmp_writer.proofs.Counting.{come_begin, come_next, come_none, far_kind, far_of_range, known_type, some_is}
 use Rattle.mdmp_writer.proofs.Loops.{next_of, rest_begin, ranges_cut, ranges_put, ranges_stop, ranges_done}
 use Rattle.mdmp_writer.proofs.far_out.put_ranges.Goals as goal
 
@@ -52,7 +52,7 @@ loop-left-preserved g c =
       kind = rw stays (gives.stays ∙ c.loop-left.invariant.kind);
       come = λ known low.
           let far = gives.far (omega (arith, c.loop-left.invariant.low low, low)) in
-          let wire : type_told c.in-Ok.fields.wire ≡ 9 = known_type _ 9 _ gives.kind (c.loop-left.invariant.kind ∙ known) in
+          let wire : type_told c.in-Ok.fields.wire ≡ 9 = known_type _ 9 _ gives.kind (far_kind _ (ap is_far c.loop-left.invariant.kind ∙ known)) in
           let size : c.size.result ≡ far_room c.in-Ok.fields = c.size.ensures ∙ far_of_range c.in-Ok.fields.wire c.in-Ok.fields wire in
           rw stays (come_next _ _ _ _ old.far (far_room c.in-Ok.fields) new.far far.left (c.loop-left.invariant.come known low) (some_is _ _ c.size.result _ size c.in-Ok-put_part.ensures.some));
       low = λ low. rw stays (omega (arith, (gives.far (omega (arith, c.loop-left.invariant.low low, low))).left, c.loop-left.invariant.low low));

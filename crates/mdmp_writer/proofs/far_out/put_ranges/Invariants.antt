@@ -1,6 +1,7 @@
 use Rattle.std.proofs.Common.{◌≡◌, ◌≤◌, ◌<◌, ◌+◌, ◌-◌, ◌^◌, List, Some, Ok, length}
-use Rattle.mdmp_dump.specs.declared.view.Kind.TheVariants.{Known}
+use Rattle.std.specs.Prelude.{IsTrue}
 use Rattle.mdmp_dump.specs.Seen.{Seen}
+use Rattle.mdmp_dump.specs.Shape.{is_far}
 use Rattle.mdmp_writer.specs.Gather.{gathered}
 use Rattle.mdmp_writer.specs.Uses.{Uses, used}
 use Rattle.mdmp_writer.specs.Written.{ranges_text}
@@ -20,7 +21,7 @@ invariant-loop-left g l =
       ranges : (xs : List Seen) → (g.V.DumpView.cursor l.fn.view).seen ≡ Some xs → length xs ≡ l.count
           → RestIs (g.V.DumpView.cursor l.view).seen l.left (RangesLeft (gathered (state l.fn.out) l.fn.gather) (ranges_text xs) (gathered (state l.out) l.gather));
       kind : (g.V.DumpView.cursor l.view).kind ≡ (g.V.DumpView.cursor l.fn.view).kind;
-      come : (g.V.DumpView.cursor l.fn.view).kind ≡ Known 9 → (g.V.DumpView.cursor l.fn.view).far < 2 ^ 64 - 1
+      come : IsTrue (is_far (g.V.DumpView.cursor l.fn.view).kind) → (g.V.DumpView.cursor l.fn.view).far < 2 ^ 64 - 1
           → IsToCome (gathered (state l.fn.out) l.fn.gather) (g.V.DumpView.cursor l.fn.view).far (g.V.DumpView.cursor l.view).far (gathered (state l.out) l.gather);
       low : (g.V.DumpView.cursor l.fn.view).far < 2 ^ 64 - 1 → (g.V.DumpView.cursor l.view).far ≤ (g.V.DumpView.cursor l.fn.view).far;
       last : (g.V.DumpView.cursor l.fn.view).far < 2 ^ 64 - 1 → l.left ≡ 0 → (g.V.DumpView.cursor l.view).far ≡ 0;

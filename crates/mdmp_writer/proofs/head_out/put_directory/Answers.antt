@@ -1,10 +1,10 @@
-use Rattle.std.proofs.Common.{◌≡◌, ◌<◌, ◌≤◌, ◌+◌, ◌^◌, ◌∙◌, ap, arith, refl, sym, subst, length, ℕ}
+use Rattle.std.proofs.Common.{◌≡◌, ◌<◌, ◌≤◌, ◌+◌, ◌^◌, ◌∙◌, Some, ap, arith, refl, sym, subst, length, ℕ}
 use Rattle.mdmp_dump.specs.Shape.{ViewShape, body_of, stream_at}
-use Rattle.mdmp_writer.specs.Layout.{block_size, far_size}
+use Rattle.mdmp_writer.specs.Layout.{IsRoom, block_size, far_size}
 use Rattle.mdmp_writer.specs.Written.{written_entry}
 use Rattle.mdmp_writer.proofs.Sending.{left_begin, left_none}
-use Rattle.mdmp_writer.proofs.Streaming.{directory_none, entry_cut, entry_put}
-use Rattle.mdmp_writer.proofs.Sums.{blocks_next, ends_below, far_within}
+use Rattle.mdmp_writer.proofs.Streaming.{directory_none, entry_cut, entry_is, entry_put}
+use Rattle.mdmp_writer.proofs.Sums.{blocks_next, ends_below, far_within, room_block, room_body}
 use Rattle.mdmp_writer.proofs.head_out.put_directory.Goals as goal
 
 pub loop-stream-init : goal.loop-stream-init
@@ -30,20 +30,29 @@ room_for-room-requires-clause-far g c =
     let k = c.loop-stream.stream in
     subst (λ (t : ViewShape). far_size (stream_at t k) < 2 ^ 64) (sym c.loop-stream.invariant.shape) (omega (arith, far_within s.streams k, c.requires.short))
 
-pub entry_for-entry-requires-clause-body : goal.entry_for-entry-requires-clause-body
-entry_for-entry-requires-clause-body g c =
+pub entry_at-requires-clause-body : goal.entry_at-requires-clause-body
+entry_at-requires-clause-body g c =
     let s = g.V.DumpView.shape c.args.view.now in
     let k = c.loop-stream.stream in
     let fewer : k < length s.streams = omega (arith, c.loop-stream-test.true, c.streams-stream-end.ensures.count) in
-    subst (λ (t : ViewShape). body_of (stream_at t k) < 2 ^ 32) (sym (c.room_for-room.ensures.shape ∙ c.loop-stream.invariant.shape)) (omega (arith, ends_below s k c.loop-stream.at fewer c.loop-stream.invariant.at, c.requires.low))
+    let is : IsRoom (stream_at s k) (Some c.room_for-room.result) = subst (λ (t : ViewShape). IsRoom (stream_at t k) (Some c.room_for-room.result)) c.loop-stream.invariant.shape c.room_for-room.ensures.room in
+    omega (arith, room_body (stream_at s k) c.room_for-room.result is, ends_below s k c.loop-stream.at fewer c.loop-stream.invariant.at, c.requires.low)
+
+pub block-at-requires : goal.block-at-requires
+block-at-requires g c =
+    let s = g.V.DumpView.shape c.args.view.now in
+    let k = c.loop-stream.stream in
+    let fewer : k < length s.streams = omega (arith, c.loop-stream-test.true, c.streams-stream-end.ensures.count) in
+    let is : IsRoom (stream_at s k) (Some c.room_for-room.result) = subst (λ (t : ViewShape). IsRoom (stream_at t k) (Some c.room_for-room.result)) c.loop-stream.invariant.shape c.room_for-room.ensures.room in
+    omega (arith, room_block (stream_at s k) c.room_for-room.result is, ends_below s k c.loop-stream.at fewer c.loop-stream.invariant.at, c.requires.low)
 
 pub overflow_add-at : goal.overflow_add-at
 overflow_add-at g c =
     let s = g.V.DumpView.shape c.args.view.now in
     let k = c.loop-stream.stream in
     let fewer : k < length s.streams = omega (arith, c.loop-stream-test.true, c.streams-stream-end.ensures.count) in
-    let room : c.room_for-room.result.block ≡ block_size (stream_at s k) = c.room_for-room.ensures.room.0 ∙ ap (λ (t : ViewShape). block_size (stream_at t k)) c.loop-stream.invariant.shape in
-    omega (arith, room, ends_below s k c.loop-stream.at fewer c.loop-stream.invariant.at, c.requires.low)
+    let is : IsRoom (stream_at s k) (Some c.room_for-room.result) = subst (λ (t : ViewShape). IsRoom (stream_at t k) (Some c.room_for-room.result)) c.loop-stream.invariant.shape c.room_for-room.ensures.room in
+    omega (arith, c.block-at.ensures, room_block (stream_at s k) c.room_for-room.result is, ends_below s k c.loop-stream.at fewer c.loop-stream.invariant.at, c.requires.low)
 
 pub returns-in-Err-clause-writes : goal.returns-in-Err-clause-writes
 returns-in-Err-clause-writes g c =
@@ -51,8 +60,8 @@ returns-in-Err-clause-writes g c =
     let k = c.loop-stream.stream in
     let at = c.loop-stream.at in
     let fewer : k < length s.streams = omega (arith, c.loop-stream-test.true, c.streams-stream-end.ensures.count) in
-    let is : c.entry_for-entry.result ≡ written_entry (stream_at s k) at = c.entry_for-entry.ensures.entry ∙ ap (λ (t : ViewShape). written_entry (stream_at t k) at) (c.room_for-room.ensures.shape ∙ c.loop-stream.invariant.shape) in
-    entry_cut s k at c.entry_for-entry.result _ _ _ _ fewer is c.loop-stream.invariant.left c.in-Err.ensures.writes
+    let is : IsRoom (stream_at s k) (Some c.room_for-room.result) = subst (λ (t : ViewShape). IsRoom (stream_at t k) (Some c.room_for-room.result)) c.loop-stream.invariant.shape c.room_for-room.ensures.room in
+    entry_cut s k at c.entry_at.result _ _ _ _ fewer (entry_is (stream_at s k) c.room_for-room.result at c.entry_at.result is c.entry_at.ensures) c.loop-stream.invariant.left c.in-Err.ensures.writes
 
 pub loop-stream-preserved : goal.loop-stream-preserved
 loop-stream-preserved g c =
@@ -60,15 +69,15 @@ loop-stream-preserved g c =
     let k = c.loop-stream.stream in
     let at = c.loop-stream.at in
     let fewer : k < length s.streams = omega (arith, c.loop-stream-test.true, c.streams-stream-end.ensures.count) in
-    let is : c.entry_for-entry.result ≡ written_entry (stream_at s k) at = c.entry_for-entry.ensures.entry ∙ ap (λ (t : ViewShape). written_entry (stream_at t k) at) (c.room_for-room.ensures.shape ∙ c.loop-stream.invariant.shape) in
-    let room : c.room_for-room.result.block ≡ block_size (stream_at s k) = c.room_for-room.ensures.room.0 ∙ ap (λ (t : ViewShape). block_size (stream_at t k)) c.loop-stream.invariant.shape in
+    let is : IsRoom (stream_at s k) (Some c.room_for-room.result) = subst (λ (t : ViewShape). IsRoom (stream_at t k) (Some c.room_for-room.result)) c.loop-stream.invariant.shape c.room_for-room.ensures.room in
+    let block : c.block-at.result ≡ block_size (stream_at s k) = c.block-at.ensures ∙ room_block (stream_at s k) c.room_for-room.result is in
     record {
-      shape = c.entry_for-entry.ensures.shape ∙ c.room_for-room.ensures.shape ∙ c.loop-stream.invariant.shape;
-      spent = c.entry_for-entry.ensures.spent ∙ c.room_for-room.ensures.spent ∙ c.loop-stream.invariant.spent;
-      moves = g.met.V.DumpView.follows _ _ _ c.loop-stream.invariant.moves (g.met.V.DumpView.follows _ _ _ c.room_for-room.ensures.moves c.entry_for-entry.ensures.moves);
+      shape = c.room_for-room.ensures.shape ∙ c.loop-stream.invariant.shape;
+      spent = c.room_for-room.ensures.spent ∙ c.loop-stream.invariant.spent;
+      moves = g.met.V.DumpView.follows _ _ _ c.loop-stream.invariant.moves c.room_for-room.ensures.moves;
       steady = c.in-Ok.ensures.cause ∙ c.loop-stream.invariant.steady;
-      at = omega (arith, room, blocks_next s k fewer, c.loop-stream.invariant.at);
-      left = entry_put s k at _ c.entry_for-entry.result _ _ _ _ fewer is (ap (λ (n : ℕ). at + n) room) c.loop-stream.invariant.left c.in-Ok.ensures.writes;
+      at = omega (arith, block, blocks_next s k fewer, c.loop-stream.invariant.at);
+      left = entry_put s k at _ c.entry_at.result _ _ _ _ fewer (entry_is (stream_at s k) c.room_for-room.result at c.entry_at.result is c.entry_at.ensures) (ap (λ (n : ℕ). at + n) block) c.loop-stream.invariant.left c.in-Ok.ensures.writes;
     }
 
 pub returns-clause-writes : goal.returns-clause-writes
@@ -78,4 +87,4 @@ returns-clause-writes g c =
     left_none _ _ _ _ (directory_none s c.loop-stream.stream c.loop-stream.at past) c.loop-stream.invariant.left
 
 pub returns-in-Err-clause-moves : goal.returns-in-Err-clause-moves
-returns-in-Err-clause-moves g c = g.met.V.DumpView.follows _ _ _ c.loop-stream.invariant.moves (g.met.V.DumpView.follows _ _ _ c.room_for-room.ensures.moves c.entry_for-entry.ensures.moves)
+returns-in-Err-clause-moves g c = g.met.V.DumpView.follows _ _ _ c.loop-stream.invariant.moves c.room_for-room.ensures.moves

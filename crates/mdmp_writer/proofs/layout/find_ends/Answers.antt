@@ -1,16 +1,16 @@
 use Rattle.std.proofs.Common.{◌≡◌, ◌<◌, ◌≤◌, ◌+◌, ◌∙◌, arith, subst, length, None, Some}
 use Rattle.mdmp_dump.specs.Shape.{ViewShape, stream_at}
 use Rattle.mdmp_writer.specs.Layout.{IsRoom, blocks_end, file_size}
-use Rattle.mdmp_writer.proofs.Sums.{blocks_next, fars_next, blocks_none, fars_none, too_large_blocks, too_large_file, not_too_large, past_room}
+use Rattle.mdmp_writer.proofs.Sums.{blocks_next, fars_next, blocks_none, fars_none, too_large_blocks, too_large_file, not_too_large, past_room, room_block, room_far}
 use Rattle.mdmp_writer.proofs.layout.find_ends.Goals as goal
 
-pub returns-then-room-from-clause-ends : goal.returns-then-room-from-clause-ends
-returns-then-room-from-clause-ends g c =
+pub returns-then-block-from-clause-ends : goal.returns-then-block-from-clause-ends
+returns-then-block-from-clause-ends g c =
     let s = g.V.DumpView.shape c.args.view.now in
     let k = c.loop-stream.stream in
     let fewer : k < length s.streams = omega (arith, c.loop-stream-test.true, c.streams-count.ensures.count) in
     let is : IsRoom (stream_at s k) (Some c.in-Some-room_if.room) = subst (λ (t : ViewShape). IsRoom (stream_at t k) (Some c.in-Some-room_if.room)) c.loop-stream.invariant.shape c.in-Some-room_if.ensures.room in
-    too_large_blocks s.streams (omega (arith, is.0, blocks_next s k fewer, c.loop-stream.invariant.blocks, c.from.ensures, c.if-room-from.true))
+    too_large_blocks s.streams (omega (arith, c.block-block.ensures, room_block (stream_at s k) c.in-Some-room_if.room is, blocks_next s k fewer, c.loop-stream.invariant.blocks, c.from.ensures, c.if-block-from.true))
 
 pub returns-then-room-far-clause-ends : goal.returns-then-room-far-clause-ends
 returns-then-room-far-clause-ends g c =
@@ -18,7 +18,7 @@ returns-then-room-far-clause-ends g c =
     let k = c.loop-stream.stream in
     let fewer : k < length s.streams = omega (arith, c.loop-stream-test.true, c.streams-count.ensures.count) in
     let is : IsRoom (stream_at s k) (Some c.in-Some-room_if.room) = subst (λ (t : ViewShape). IsRoom (stream_at t k) (Some c.in-Some-room_if.room)) c.loop-stream.invariant.shape c.in-Some-room_if.ensures.room in
-    too_large_file s.streams (omega (arith, is.1, fars_next s k fewer, c.loop-stream.invariant.far, c.if-room-far.true))
+    too_large_file s.streams (omega (arith, room_far (stream_at s k) c.in-Some-room_if.room is, fars_next s k fewer, c.loop-stream.invariant.far, c.if-room-far.true))
 
 pub returns-in-None-room_if-clause-ends : goal.returns-in-None-room_if-clause-ends
 returns-in-None-room_if-clause-ends g c =
@@ -39,9 +39,9 @@ loop-stream-preserved g c =
       cursor = c.room_if.ensures.cursor ∙ c.loop-stream.invariant.cursor;
       spent = c.room_if.ensures.spent ∙ c.loop-stream.invariant.spent;
       moves = g.met.V.DumpView.follows _ _ _ c.loop-stream.invariant.moves c.room_if.ensures.moves;
-      low = omega (arith, c.from.ensures, c.if-room-from.false);
-      blocks = omega (arith, is.0, blocks_next s k fewer, c.loop-stream.invariant.blocks);
-      far = omega (arith, is.1, fars_next s k fewer, c.loop-stream.invariant.far);
+      low = omega (arith, c.from.ensures, c.if-block-from.false);
+      blocks = omega (arith, c.block-block.ensures, room_block (stream_at s k) c.in-Some-room_if.room is, blocks_next s k fewer, c.loop-stream.invariant.blocks);
+      far = omega (arith, room_far (stream_at s k) c.in-Some-room_if.room is, fars_next s k fewer, c.loop-stream.invariant.far);
     }
 
 pub returns-then-far-blocks-clause-ends : goal.returns-then-far-blocks-clause-ends

@@ -1,13 +1,13 @@
-use Rattle.std.proofs.Common.{◌≡◌, ◌<◌, ◌≤◌, ◌+◌, ◌^◌, ◌∙◌, ℕ, ap, arith, refl, sym, subst, length}
+use Rattle.std.proofs.Common.{◌≡◌, ◌<◌, ◌≤◌, ◌+◌, ◌^◌, ◌∙◌, ℕ, Some, ap, arith, refl, sym, subst, length}
 use Rattle.mdmp_dump.specs.Shape.{ViewShape, stream_at}
-use Rattle.mdmp_writer.specs.Layout.{block_size, blocks_size, far_size}
+use Rattle.mdmp_writer.specs.Layout.{IsRoom, block_size, blocks_size, far_size}
 use Rattle.mdmp_writer.specs.Passes.{block_asks, block_passes}
 use Rattle.mdmp_writer.proofs.Causes.{uses_asked, uses_none, uses_then, uses_within}
 use Rattle.mdmp_writer.proofs.Counting.{come_begin, come_next, come_none, some_is}
 use Rattle.mdmp_writer.proofs.Passing.{sum_more, sum_next, sum_with}
 use Rattle.mdmp_writer.proofs.Sending.{left_begin, left_none}
 use Rattle.mdmp_writer.proofs.Streaming.{blocks_none, block_cut, block_put}
-use Rattle.mdmp_writer.proofs.Sums.{blocks_next, blocks_none as none_left, ends_below, far_within, fars_next}
+use Rattle.mdmp_writer.proofs.Sums.{blocks_next, blocks_none as none_left, ends_below, far_within, fars_next, room_block, room_far}
 use Rattle.mdmp_writer.proofs.streams_out.put_blocks.Goals as goal
 
 pub loop-stream-init : goal.loop-stream-init
@@ -33,8 +33,8 @@ room_for-room-requires-clause-far g c =
     let k = c.loop-stream.stream in
     subst (λ (t : ViewShape). far_size (stream_at t k) < 2 ^ 64) (sym c.loop-stream.invariant.uses.shape) (omega (arith, far_within s.streams k, c.requires.short))
 
-pub put_block-requires-clause-room : goal.put_block-requires-clause-room
-put_block-requires-clause-room g c =
+pub put_block-requires-clause-low : goal.put_block-requires-clause-low
+put_block-requires-clause-low g c =
     let s = g.V.DumpView.shape c.args.view.now in
     let k = c.loop-stream.stream in
     let fewer : k < length s.streams = omega (arith, c.loop-stream-test.true, c.streams-stream-end.ensures.count) in
@@ -53,8 +53,9 @@ loop-stream-preserved g c =
     let s = g.V.DumpView.shape c.args.view.now in
     let k = c.loop-stream.stream in
     let fewer : k < length s.streams = omega (arith, c.loop-stream-test.true, c.streams-stream-end.ensures.count) in
-    let block : c.room_for-room.result.block ≡ block_size (stream_at s k) = c.room_for-room.ensures.room.0 ∙ ap (λ (t : ViewShape). block_size (stream_at t k)) c.loop-stream.invariant.uses.shape in
-    let far : c.room_for-room.result.far ≡ far_size (stream_at s k) = c.room_for-room.ensures.room.1 ∙ ap (λ (t : ViewShape). far_size (stream_at t k)) c.loop-stream.invariant.uses.shape in
+    let is : IsRoom (stream_at s k) (Some c.room_for-room.result) = subst (λ (t : ViewShape). IsRoom (stream_at t k) (Some c.room_for-room.result)) c.loop-stream.invariant.uses.shape c.room_for-room.ensures.room in
+    let block : c.block-at.result ≡ block_size (stream_at s k) = c.block-at.ensures ∙ room_block (stream_at s k) c.room_for-room.result is in
+    let far : c.room_for-room.result.far ≡ far_size (stream_at s k) = room_far (stream_at s k) c.room_for-room.result is in
     record {
       uses = uses_then (uses_asked c.loop-stream.invariant.uses c.room_for-room.ensures.shape c.room_for-room.ensures.spent) c.in-Ok.ensures.uses
           (omega (arith, ap (λ (t : ViewShape). block_passes t k) (c.room_for-room.ensures.shape ∙ c.loop-stream.invariant.uses.shape), sum_next (block_passes s) k)) (omega (arith, ap (λ (t : ViewShape). block_asks t k) (c.room_for-room.ensures.shape ∙ c.loop-stream.invariant.uses.shape), sum_next (block_asks s) k));
@@ -78,7 +79,8 @@ overflow_add-at g c =
     let s = g.V.DumpView.shape c.args.view.now in
     let k = c.loop-stream.stream in
     let fewer : k < length s.streams = omega (arith, c.loop-stream-test.true, c.streams-stream-end.ensures.count) in
-    let block : c.room_for-room.result.block ≡ block_size (stream_at s k) = c.room_for-room.ensures.room.0 ∙ ap (λ (t : ViewShape). block_size (stream_at t k)) c.loop-stream.invariant.uses.shape in
+    let is : IsRoom (stream_at s k) (Some c.room_for-room.result) = subst (λ (t : ViewShape). IsRoom (stream_at t k) (Some c.room_for-room.result)) c.loop-stream.invariant.uses.shape c.room_for-room.ensures.room in
+    let block : c.block-at.result ≡ block_size (stream_at s k) = c.block-at.ensures ∙ room_block (stream_at s k) c.room_for-room.result is in
     omega (arith, block, ends_below s k c.loop-stream.at fewer c.loop-stream.invariant.at, c.requires.low)
 
 pub overflow_add-far : goal.overflow_add-far
@@ -86,7 +88,8 @@ overflow_add-far g c =
     let s = g.V.DumpView.shape c.args.view.now in
     let k = c.loop-stream.stream in
     let fewer : k < length s.streams = omega (arith, c.loop-stream-test.true, c.streams-stream-end.ensures.count) in
-    let far : c.room_for-room.result.far ≡ far_size (stream_at s k) = c.room_for-room.ensures.room.1 ∙ ap (λ (t : ViewShape). far_size (stream_at t k)) c.loop-stream.invariant.uses.shape in
+    let is : IsRoom (stream_at s k) (Some c.room_for-room.result) = subst (λ (t : ViewShape). IsRoom (stream_at t k) (Some c.room_for-room.result)) c.loop-stream.invariant.uses.shape c.room_for-room.ensures.room in
+    let far : c.room_for-room.result.far ≡ far_size (stream_at s k) = room_far (stream_at s k) c.room_for-room.result is in
     omega (arith, far, fars_next s k fewer, c.loop-stream.invariant.far, c.requires.short)
 
 pub returns-in-Err-clause-moves : goal.returns-in-Err-clause-moves
@@ -114,3 +117,15 @@ returns-clause-uses g c =
     let n = length s.streams in
     let fewer : k ≤ n = omega (arith, c.streams-stream-end.ensures.count) in
     uses_within c.loop-stream.invariant.uses (sum_more (block_passes s) k n fewer) (sum_more (block_asks s) k n fewer)
+
+pub put_block-requires-clause-room : goal.put_block-requires-clause-room
+put_block-requires-clause-room g c =
+    subst (λ (t : ViewShape). IsRoom (stream_at t c.loop-stream.stream) (Some c.room_for-room.result)) (sym c.room_for-room.ensures.shape) c.room_for-room.ensures.room
+
+pub block-at-requires : goal.block-at-requires
+block-at-requires g c =
+    let s = g.V.DumpView.shape c.args.view.now in
+    let k = c.loop-stream.stream in
+    let fewer : k < length s.streams = omega (arith, c.loop-stream-test.true, c.streams-stream-end.ensures.count) in
+    let is : IsRoom (stream_at s k) (Some c.room_for-room.result) = subst (λ (t : ViewShape). IsRoom (stream_at t k) (Some c.room_for-room.result)) c.loop-stream.invariant.uses.shape c.room_for-room.ensures.room in
+    omega (arith, room_block (stream_at s k) c.room_for-room.result is, ends_below s k c.loop-stream.at fewer c.loop-stream.invariant.at, c.requires.low)
