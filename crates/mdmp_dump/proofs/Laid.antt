@@ -136,13 +136,7 @@ unused_by false false f used none = absurd (cc none)
 module _ (Z : Type 0) (F : List ℕ) (limit : ℕ) where
   pub shaped_type : (rva : ℕ) (kind : StreamKind) (shape : Shape) → type_of_kind kind ≡ type_of (shaped_in {Z = Z} F rva kind shape)
   shaped_type rva kinds.Threads shape = refl
-  shaped_type rva kinds.Modules shape = refl
-  shaped_type rva kinds.Memory shape = refl
-  shaped_type rva kinds.Exception shape = refl
-  shaped_type rva kinds.System shape = refl
-  shaped_type rva kinds.Memory64 shape = refl
-  shaped_type rva kinds.Unloaded shape = refl
-  shaped_type rva kinds.MemoryInfo shape = refl
+  shaped_type rva _ shape = refl
 
   module _ (x : Numbered) where
     abbrev at_x : ℕ

@@ -11,23 +11,13 @@ use Rattle.mdmp_dump.specs.declared.found_record.PartAt.{PartAt}
 use Rattle.mdmp_dump.specs.declared.view.Fields.{Fields}
 use Rattle.mdmp_dump.specs.declared.view.PartSize.{PartSize}
 use Rattle.mdmp_dump.specs.declared.view.PartSize.TheVariants.{NoPart, Size, Absent}
-use Rattle.mdmp_dump.specs.Exception.{exception_seen}
 use Rattle.mdmp_dump.specs.Finding.{IsSeenAt, seen_in}
 use Rattle.mdmp_dump.specs.FoundRecord.{AreIn, IsPartIn, no_part}
-use Rattle.mdmp_dump.specs.InFile.{exception_in, memory_in, memory64_in, module_in, system_in, thread_in, unloaded_in}
-use Rattle.mdmp_dump.specs.Memory.{memory_seen}
-use Rattle.mdmp_dump.specs.Memory64.{memory64_seen}
-use Rattle.mdmp_dump.specs.MemoryInfo.{memory_info_seen}
-use Rattle.mdmp_wire.specs.MemoryInfo.{memory_info_at}
-use Rattle.mdmp_dump.specs.Module.{module_seen}
 use Rattle.mdmp_dump.specs.Placed.{bytes_in, name_room, part_room, size_at, size_in}
 use Rattle.mdmp_dump.specs.Places.{up}
 use Rattle.mdmp_dump.specs.Seen.{Seen, seen}
 use Rattle.mdmp_dump.specs.Shape.{IsSized}
 use Rattle.mdmp_dump.specs.ShapeLaws.{name_sized, part_sized, three_sized}
-use Rattle.mdmp_dump.specs.System.{system_seen}
-use Rattle.mdmp_dump.specs.Thread.{thread_seen}
-use Rattle.mdmp_dump.specs.Unloaded.{unloaded_seen}
 
 -- ---- room
 
@@ -76,25 +66,16 @@ sized : (s : Seen) → length (bytes_in s 0) ≡ size_in (size_at s.fields 0) �
     → IsSized (seen s.fields.wire (size_at s.fields 0 ∷ size_at s.fields 1 ∷ size_at s.fields 2 ∷ []) (bytes_in s 0 ∷ bytes_in s 1 ∷ bytes_in s 2 ∷ []))
 sized s first second third = three_sized s.fields.wire (size_at s.fields 0) (size_at s.fields 1) (size_at s.fields 2) (bytes_in s 0) (bytes_in s 1) (bytes_in s 2) first second third
 
+-- a name or a part has as many bytes as its size
+ruleset sizes = (name_sized, part_sized)
+
 seen_sized : (kind : StreamKind) (F : List ℕ) (at k o : ℕ) → IsSized (seen_in kind F at k o)
-seen_sized kinds.Threads F at k o = let t = thread_in {Z = Unit {0}} F o in sized (thread_seen t) (part_sized t.stack) (part_sized t.context) refl
-seen_sized kinds.Modules F at k o = let m = module_in {Z = Unit {0}} F o in sized (module_seen m) (name_sized m.name) (part_sized m.codeview) (part_sized m.misc)
-seen_sized kinds.Memory F at k o = let m = memory_in {Z = Unit {0}} F o in sized (memory_seen m) (part_sized m.bytes) refl refl
-seen_sized kinds.Exception F at k o = let x = exception_in {Z = Unit {0}} F o in sized (exception_seen x) (part_sized x.context) refl refl
-seen_sized kinds.System F at k o = let s = system_in {Z = Unit {0}} F o in sized (system_seen s) (name_sized s.name) refl refl
-seen_sized kinds.Memory64 F at k o = sized (memory64_seen (memory64_in {Z = Unit {0}} F at k o)) refl refl refl
-seen_sized kinds.Unloaded F at k o = let u = unloaded_in {Z = Unit {0}} F o in sized (unloaded_seen u) (name_sized u.name) refl refl
-seen_sized kinds.MemoryInfo F at k o = sized (memory_info_seen (memory_info_at F o)) refl refl refl
+seen_sized kinds.Threads F at k o = sized (seen_in kinds.Threads F at k o) (search sizes) (search sizes) refl
+seen_sized kind F at k o = sized (seen_in kind F at k o) (search sizes) (search sizes) (search sizes)
 
 seen_three : (kind : StreamKind) (F : List ℕ) (at k o : ℕ) → length (seen_in kind F at k o).fields.parts ≡ 3
 seen_three kinds.Threads F at k o = refl
-seen_three kinds.Modules F at k o = refl
-seen_three kinds.Memory F at k o = refl
-seen_three kinds.Exception F at k o = refl
-seen_three kinds.System F at k o = refl
-seen_three kinds.Memory64 F at k o = refl
-seen_three kinds.Unloaded F at k o = refl
-seen_three kinds.MemoryInfo F at k o = refl
+seen_three _ F at k o = refl
 
 -- the parts of a record that was found in a file lie inside it
 pub seen_inside : (kind : StreamKind) (F : List ℕ) (at k o : ℕ) (f : FoundRecord) → AreBytes F → IsSeenAt F (seen_in kind F at k o) f → AreIn (length F) f.parts

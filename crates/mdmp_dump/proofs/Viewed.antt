@@ -8,18 +8,12 @@ use Rattle.mdmp_source.specs.declared.location.Location.{Location}
 use Rattle.mdmp_source.specs.declared.location.Extent.{Extent}
 use Rattle.mdmp_source.specs.declared.location.Extent.TheVariants as classes
 use Rattle.mdmp_source.specs.Extent.{extent_of}
-use Rattle.mdmp_wire.specs.Descriptor.{descriptor_at}
-use Rattle.mdmp_wire.specs.Exception.{exception_at}
-use Rattle.mdmp_wire.specs.MemoryInfo.{memory_info_at}
-use Rattle.mdmp_wire.specs.Module.{module_at}
 use Rattle.mdmp_wire.specs.Number.{array_at}
-use Rattle.mdmp_wire.specs.Thread.{thread_at}
-use Rattle.mdmp_wire.specs.declared.any_record.AnyRecord.TheVariants as any
 use Rattle.mdmp_lister.specs.declared.fault.Fault.{Fault}
 use Rattle.mdmp_lister.specs.declared.kind.StreamKind.{StreamKind}
 use Rattle.mdmp_lister.specs.declared.kind.StreamKind.TheVariants as lists
 use Rattle.mdmp_lister.specs.declared.shape.Shape.{Shape}
-use Rattle.mdmp_lister.specs.Format.Kind.{kind_of, type_of_kind}
+use Rattle.mdmp_lister.specs.Format.Kind.{form_of, kind_of, type_of_kind}
 use Rattle.mdmp_lister.specs.Format.KindLaws.{type_of-kind}
 use Rattle.mdmp_lister.specs.Format.Listing.{Numbered}
 use Rattle.mdmp_lister.specs.Format.Shape.{record_count, shape_of}
@@ -37,18 +31,12 @@ use Rattle.mdmp_dump.specs.Exception.{exception_seen}
 use Rattle.mdmp_dump.specs.Finding.{IsSeenAt, seen_in}
 use Rattle.mdmp_dump.specs.FileView.{raw_by}
 use Rattle.mdmp_dump.specs.FoundRecord.{IsPartIn, fields_of, no_part}
-use Rattle.mdmp_dump.specs.InFile.{by_kind, by_type, exception_in, known_in, list_in, memory_in, memory64_in, module_in, name_in, part_named, part_or, rows_in, shaped_in, stream_named, system_in, thread_in, unloaded_in}
-use Rattle.mdmp_dump.specs.Memory.{memory_seen}
-use Rattle.mdmp_dump.specs.Memory64.{memory64_seen}
-use Rattle.mdmp_dump.specs.MemoryInfo.{memory_info_seen}
-use Rattle.mdmp_dump.specs.Module.{module_record, module_seen}
+use Rattle.mdmp_dump.specs.InFile.{by_kind, by_type, exception_in, known_in, list_in, part_named, part_or, rows_in, shaped_in, stream_named, system_in}
 use Rattle.mdmp_dump.specs.Part.{part_in}
 use Rattle.mdmp_dump.specs.Placed.{far_room, fields_room, size_at, size_in}
-use Rattle.mdmp_dump.specs.Seen.{Seen, bytes_of, name_size, nothing_seen, nowhere, seen, size_of, unit_bytes}
+use Rattle.mdmp_dump.specs.Seen.{Seen, bytes_of, nothing_seen, size_of}
 use Rattle.mdmp_dump.specs.Shape.{fars, is_far, parts_in, seen_record, rooms, told}
 use Rattle.mdmp_dump.specs.System.{system_seen}
-use Rattle.mdmp_dump.specs.Thread.{thread_record, thread_seen}
-use Rattle.mdmp_dump.specs.Unloaded.{unloaded_seen}
 use Rattle.mdmp_dump.specs.View.{kind_in, raw_in, records_seen}
 use Rattle.mdmp_dump.proofs.Budget.{array_is}
 use Rattle.mdmp_dump.proofs.Laid.{unused_by}
@@ -67,20 +55,16 @@ row_at see f base stride zero i k j is within = absurd (omega (arith, within))
 row_at see f base stride (suc n) i zero j is within = ap (λ (m : ℕ). see (f m (base + m * stride))) (let h : i ≡ j = omega (arith, is) in h)
 row_at see f base stride (suc n) i (suc k) j is within = row_at see f base stride n (i + 1) k j (omega (arith, is)) (omega (arith, within))
 
--- ---- a record is seen alike in any dump
+-- ---- the parts of a record are seen alike in any dump
 
 module _ (Z : Type 0) (F : List ℕ) where
   size_by : (at : Location) (x : Extent) → size_of (part_or (part_in {Z = Z} F at x)) ≡ size_of (part_or (part_in {Z = Unit {0}} F at x))
   size_by at classes.Empty = refl
-  size_by at classes.Absent = refl
-  size_by at classes.Inside = refl
-  size_by at classes.Outside = refl
+  size_by at _ = refl
 
   bytes_by : (at : Location) (x : Extent) → bytes_of (part_or (part_in {Z = Z} F at x)) ≡ bytes_of (part_or (part_in {Z = Unit {0}} F at x))
   bytes_by at classes.Empty = refl
-  bytes_by at classes.Absent = refl
-  bytes_by at classes.Inside = refl
-  bytes_by at classes.Outside = refl
+  bytes_by at _ = refl
 
   size_alike : (at : Location) → size_of (part_named {Z = Z} F at) ≡ size_of (part_named {Z = Unit {0}} F at)
   size_alike at = size_by at (extent_of at (length F))
@@ -88,36 +72,7 @@ module _ (Z : Type 0) (F : List ℕ) where
   bytes_alike : (at : Location) → bytes_of (part_named {Z = Z} F at) ≡ bytes_of (part_named {Z = Unit {0}} F at)
   bytes_alike at = bytes_by at (extent_of at (length F))
 
-  thread_alike : (o : ℕ) → thread_seen (thread_in {Z = Z} F o) ≡ thread_seen (thread_in {Z = Unit {0}} F o)
-  thread_alike o =
-      let stack = (thread_at F o).stack.memory in
-      let context = (thread_at F o).thread_context in
-      λ i. seen (any.Thread (thread_record (thread_in {Z = Unit {0}} F o) nowhere nowhere)) (size_alike stack i ∷ size_alike context i ∷ NoPart ∷ [])
-      (bytes_alike stack i ∷ bytes_alike context i ∷ [] ∷ [])
-
-  module_alike : (o : ℕ) → module_seen (module_in {Z = Z} F o) ≡ module_seen (module_in {Z = Unit {0}} F o)
-  module_alike o =
-      let name = name_in F (module_at F o).module_name_rva in
-      let codeview = (module_at F o).cv_record in
-      let misc = (module_at F o).misc_record in
-      λ i. seen (any.Module (module_record (module_in {Z = Unit {0}} F o) 0 nowhere nowhere)) (name_size name ∷ size_alike codeview i ∷ size_alike misc i ∷ [])
-      (unit_bytes name ∷ bytes_alike codeview i ∷ bytes_alike misc i ∷ [])
-
-  memory_alike : (o : ℕ) → memory_seen (memory_in {Z = Z} F o) ≡ memory_seen (memory_in {Z = Unit {0}} F o)
-  memory_alike o =
-      let at = (descriptor_at F o).memory in
-      λ i. record (memory_seen (memory_in {Z = Unit {0}} F o)) {
-        fields = record (memory_seen (memory_in {Z = Unit {0}} F o)).fields { parts = size_alike at i ∷ NoPart ∷ NoPart ∷ [] };
-        parts = bytes_alike at i ∷ [] ∷ [] ∷ [];
-      }
-
-  exception_alike : (o : ℕ) → exception_seen (exception_in {Z = Z} F o) ≡ exception_seen (exception_in {Z = Unit {0}} F o)
-  exception_alike o =
-      let at = (exception_at F o).thread_context in
-      λ i. record (exception_seen (exception_in {Z = Unit {0}} F o)) {
-        fields = record (exception_seen (exception_in {Z = Unit {0}} F o)).fields { parts = size_alike at i ∷ NoPart ∷ NoPart ∷ [] };
-        parts = bytes_alike at i ∷ [] ∷ [] ∷ [];
-      }
+ruleset alike = (size_alike, bytes_alike)
 
 -- ---- the raw bytes of a stream
 
@@ -220,52 +175,34 @@ sizes_found f g same j =
 -- no stream whose records are known has raw bytes to ask for
 type_part : (kind : StreamKind) (size : ℕ) → raw_size (kind_by (type_of_kind kind)) size ≡ NoPart
 type_part lists.Threads size = refl
-type_part lists.Modules size = refl
-type_part lists.Memory size = refl
-type_part lists.Exception size = refl
-type_part lists.System size = refl
-type_part lists.Memory64 size = refl
-type_part lists.Unloaded size = refl
-type_part lists.MemoryInfo size = refl
+type_part _ size = refl
 
 module _ (Z : Type 0) (F : List ℕ) (x : Numbered) where
   shaped_kind : (kind : StreamKind) (shape : Shape) → kind_in (shaped_in {Z = Z} F x.entry.location.rva kind shape) ≡ kind_by (type_of_kind kind)
   shaped_kind lists.Threads shape = refl
-  shaped_kind lists.Modules shape = refl
-  shaped_kind lists.Memory shape = refl
-  shaped_kind lists.Exception shape = refl
-  shaped_kind lists.System shape = refl
-  shaped_kind lists.Memory64 shape = refl
-  shaped_kind lists.Unloaded shape = refl
-  shaped_kind lists.MemoryInfo shape = refl
+  shaped_kind _ shape = refl
 
   -- it has no raw bytes
   shaped_raw : (kind : StreamKind) (shape : Shape) → raw_in (shaped_in {Z = Z} F x.entry.location.rva kind shape) ≡ []
   shaped_raw lists.Threads shape = refl
-  shaped_raw lists.Modules shape = refl
-  shaped_raw lists.Memory shape = refl
-  shaped_raw lists.Exception shape = refl
-  shaped_raw lists.System shape = refl
-  shaped_raw lists.Memory64 shape = refl
-  shaped_raw lists.Unloaded shape = refl
-  shaped_raw lists.MemoryInfo shape = refl
+  shaped_raw _ shape = refl
 
   module _ (shape : Shape) where
     rows_seen : {X : Type 0} (see : X → Seen) (f : ℕ → ℕ → X) → length (map see (list_in f x.entry.location.rva shape)) ≡ shape.count
     rows_seen see f =
         length-map (list_in f x.entry.location.rva shape) see ∙ rows_count f (x.entry.location.rva + shape.first) shape.stride 0 shape.count
 
+    -- a single record is one
+    single_seen : (kind : StreamKind) → form_of kind ≡ form_of lists.System → shape_of F x.entry.location.rva x.entry.location.size kind ≡ Ok shape → 1 ≡ shape.count
+    single_seen kind form shaped = sym (one_single F x kind form shape shaped)
+
+    ruleset counts = (rows_seen, single_seen)
+
     -- it has as many records as its shape
     shaped_count : (kind : StreamKind) → shape_of F x.entry.location.rva x.entry.location.size kind ≡ Ok shape
         → length (records_seen (shaped_in {Z = Z} F x.entry.location.rva kind shape)) ≡ shape.count
-    shaped_count lists.Threads shaped = rows_seen thread_seen (λ k o. thread_in {Z = Z} F o)
-    shaped_count lists.Modules shaped = rows_seen module_seen (λ k o. module_in {Z = Z} F o)
-    shaped_count lists.Memory shaped = rows_seen memory_seen (λ k o. memory_in {Z = Z} F o)
-    shaped_count lists.Exception shaped = sym (one_single F x lists.Exception refl shape shaped)
-    shaped_count lists.System shaped = sym (one_single F x lists.System refl shape shaped)
-    shaped_count lists.Memory64 shaped = rows_seen memory64_seen (memory64_in {Z = Z} F x.entry.location.rva)
-    shaped_count lists.Unloaded shaped = rows_seen unloaded_seen (λ k o. unloaded_in {Z = Z} F o)
-    shaped_count lists.MemoryInfo shaped = rows_seen memory_info_seen (λ k o. memory_info_at F o)
+    shaped_count lists.Exception shaped = search counts
+    shaped_count _ shaped = search counts
 
     abbrev row_place : ℕ → ℕ
     row_place k = x.entry.location.rva + shape.first + k * shape.stride
@@ -284,15 +221,9 @@ module _ (Z : Type 0) (F : List ℕ) (x : Numbered) where
       -- each of which is what is found there
       shaped_row : (kind : StreamKind) → shape_of F x.entry.location.rva x.entry.location.size kind ≡ Ok shape
           → seen_record (shaped_in {Z = Z} F x.entry.location.rva kind shape) k ≡ seen_in kind F x.entry.location.rva k (row_place k)
-      shaped_row lists.Threads shaped = row_by thread_seen (λ k o. thread_in {Z = Z} F o) ∙ thread_alike Z F (row_place k)
-      shaped_row lists.Modules shaped = row_by module_seen (λ k o. module_in {Z = Z} F o) ∙ module_alike Z F (row_place k)
-      shaped_row lists.Memory shaped = row_by memory_seen (λ k o. memory_in {Z = Z} F o) ∙ memory_alike Z F (row_place k)
-      shaped_row lists.Exception shaped =
-          only_by (one_single F x lists.Exception refl shape shaped) (λ o. exception_seen (exception_in {Z = Z} F o)) ∙ exception_alike Z F (row_place k)
+      shaped_row lists.Exception shaped = only_by (one_single F x lists.Exception refl shape shaped) (λ o. exception_seen (exception_in {Z = Z} F o)) ∙ search alike
       shaped_row lists.System shaped = only_by (one_single F x lists.System refl shape shaped) (λ o. system_seen (system_in {Z = Z} F o))
-      shaped_row lists.Memory64 shaped = row_by memory64_seen (memory64_in {Z = Z} F x.entry.location.rva)
-      shaped_row lists.Unloaded shaped = row_by unloaded_seen (λ k o. unloaded_in {Z = Z} F o)
-      shaped_row lists.MemoryInfo shaped = row_by memory_info_seen (λ k o. memory_info_at F o)
+      shaped_row _ shaped = row_by _ _ ∙ search alike
 
 -- ---- what stands for an entry
 

@@ -1,5 +1,5 @@
 -- What is said of the item of a step.
-use Rattle.std.proofs.Common.{◌≡◌, ◌⊎◌, ◌≤◌, ℕ, List, arith, length, length-take, refl, subst, sym, take, inl, inr}
+use Rattle.std.proofs.Common.{◌≡◌, ◌∙◌, ◌⊎◌, ◌≤◌, ℕ, List, ap, arith, length, length-take, refl, subst, sym, take, inl, inr}
 use Rattle.mdmp_wire.specs.declared.entry.Entry.{Entry}
 use Rattle.mdmp_wire.specs.declared.any_record.AnyRecord.{AnyRecord}
 use Rattle.mdmp_wire.specs.declared.any_record.AnyRecord.TheVariants as any
@@ -37,11 +37,12 @@ plain_name-read buffer read.None = refl
 plain_name-read buffer (read.Units bytes) = refl
 plain_name-read buffer (read.Long bytes) = refl
 
+plain-named : (z e k offset : ℕ) (fields : AnyRecord) (name : Name) → plain (item_of z e k offset fields name) ≡ item_of z e k offset fields (plain_name name)
+plain-named z e k offset (any.Thread fields) name = refl
+plain-named z e k offset _ name = refl
+
 plain-item_of : (z e k offset : ℕ) (fields : AnyRecord) (name : Name) → plain_name name ≡ name → plain (item_of z e k offset fields name) ≡ item_of z e k offset fields name
-plain-item_of z e k offset (any.Module fields) name same = rw same refl
-plain-item_of z e k offset (any.Unloaded fields) name same = rw same refl
-plain-item_of z e k offset (any.System fields) name same = rw same refl
-plain-item_of z e k offset _ name same = refl
+plain-item_of z e k offset fields name same = plain-named z e k offset fields name ∙ ap (item_of z e k offset fields) same
 
 pub plain-step : (z : ℕ) (buffer : List ℕ) (s : Step) → plain (step_item z buffer s) ≡ step_item z buffer s
 plain-step z buffer (step.Stream x) = refl

@@ -1,16 +1,9 @@
 -- A record of any kind that was fetched, and the item of it and its name.
-use Rattle.std.proofs.Common.{◌≡◌, ◌≤◌, ◌∙◌, ℕ, List, length, take, drop, Some, false, Ok, Err, ap, sym, refl, subst}
+use Rattle.std.proofs.Common.{◌≡◌, ◌≤◌, ◌∙◌, ℕ, List, length, take, drop, Some, false, Ok, Err, ap, arith, sym, refl, subst}
 use Rattle.mdmp_wire.specs.AnyRecord.{name_rva}
+use Rattle.mdmp_wire.specs.NumberLaws.{array_at-within, number_at-within, numbers_at-within}
 use Rattle.mdmp_wire.specs.declared.any_record.AnyRecord.{AnyRecord}
 use Rattle.mdmp_wire.specs.declared.any_record.AnyRecord.TheVariants as any
-use Rattle.mdmp_wire.specs.Thread.{thread_at-part}
-use Rattle.mdmp_wire.specs.Module.{module_at-part}
-use Rattle.mdmp_wire.specs.Descriptor.{descriptor_at-part}
-use Rattle.mdmp_wire.specs.Exception.{exception_at-part}
-use Rattle.mdmp_wire.specs.System.{system_at-part}
-use Rattle.mdmp_wire.specs.Descriptor64.{descriptor64_at-part}
-use Rattle.mdmp_wire.specs.Unloaded.{unloaded_at-part}
-use Rattle.mdmp_wire.specs.MemoryInfo.{memory_info_at-part}
 use Rattle.mdmp_lister.specs.declared.fault.Fault.{Fault}
 use Rattle.mdmp_lister.specs.declared.item.Item.{Item}
 use Rattle.mdmp_lister.specs.declared.kind.StreamKind.{StreamKind}
@@ -21,36 +14,18 @@ use Rattle.mdmp_lister.specs.Format.Kind.{has_names, record_size}
 
 -- a record is read of its own bytes alone
 record_at-part : (kind : StreamKind) (n o : ℕ) (F : List ℕ) → record_size kind ≤ n → record_at kind (take n (drop o F)) 0 ≡ record_at kind F o
-record_at-part kinds.Threads n o F room = ap any.Thread (thread_at-part n o F room)
-record_at-part kinds.Modules n o F room = ap any.Module (module_at-part n o F room)
-record_at-part kinds.Memory n o F room = ap any.Memory (descriptor_at-part n o F room)
-record_at-part kinds.Exception n o F room = ap any.Exception (exception_at-part n o F room)
-record_at-part kinds.System n o F room = ap any.System (system_at-part n o F room)
-record_at-part kinds.Memory64 n o F room = ap any.Memory64 (descriptor64_at-part n o F room)
-record_at-part kinds.Unloaded n o F room = ap any.Unloaded (unloaded_at-part n o F room)
-record_at-part kinds.MemoryInfo n o F room = ap any.MemoryInfo (memory_info_at-part n o F room)
+record_at-part kinds.Threads n o F room = grind (arith, number_at-within)
+record_at-part _ n o F room = grind (arith, number_at-within, numbers_at-within, array_at-within)
 
 -- and it tells its kind
 pub kind_told-at : (kind : StreamKind) (F : List ℕ) (o : ℕ) → kind_told (record_at kind F o) ≡ kind
 kind_told-at kinds.Threads F o = refl
-kind_told-at kinds.Modules F o = refl
-kind_told-at kinds.Memory F o = refl
-kind_told-at kinds.Exception F o = refl
-kind_told-at kinds.System F o = refl
-kind_told-at kinds.Memory64 F o = refl
-kind_told-at kinds.Unloaded F o = refl
-kind_told-at kinds.MemoryInfo F o = refl
+kind_told-at _ F o = refl
 
 -- where it tells the place of a name, records of its kind have names
 pub named_kind : (w : AnyRecord) (rva : ℕ) → name_rva w ≡ Some rva → has_names (kind_told w) ≡ false → ⊥
 named_kind (any.Thread r) rva is none = cc
-named_kind (any.Module r) rva is none = cc
-named_kind (any.Memory r) rva is none = cc
-named_kind (any.Exception r) rva is none = cc
-named_kind (any.System r) rva is none = cc
-named_kind (any.Memory64 r) rva is none = cc
-named_kind (any.Unloaded r) rva is none = cc
-named_kind (any.MemoryInfo r) rva is none = cc
+named_kind _ rva is none = cc
 
 -- the record of the bytes that were fetched is that of the file
 pub record-fetched : (kind : StreamKind) (n o : ℕ) (F bytes : List ℕ) (fields : AnyRecord) → record_size kind ≤ n → bytes ≡ take n (drop o F) → fields ≡ record_at kind bytes 0 → record_at kind F o ≡ fields

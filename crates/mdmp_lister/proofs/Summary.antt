@@ -1,4 +1,4 @@
--- The summary of an item that is made of a record, and of one whose name is lent. Lemmas by kinds, of names and of ranges, stand here.
+-- The summary of an item that is made of a record, and of one whose name is lent. Lemmas by kinds, of ranges, stand here.
 use Rattle.std.proofs.Common.{◌≡◌, ◌∙◌, ◌≤◌, ◌∷◌, [], arith, ℕ, List, length, Option, Some, None, refl, ap, sym}
 use Rattle.std.specs.Prelude.{filter_map}
 use Rattle.mdmp_source.specs.declared.location.Extent.{Extent}
@@ -69,10 +69,8 @@ plain_name-plain (Units units) = refl
 plain_name-plain _ = refl
 
 pub plain-plain : (x : Item) → plain (plain x) ≡ plain x
-plain-plain (items.Module m) = rw (plain_name-plain m.name) refl
-plain-plain (items.Unloaded u) = rw (plain_name-plain u.name) refl
-plain-plain (items.System s) = rw (plain_name-plain s.name) refl
-plain-plain _ = refl
+plain-plain (items.Stream x) = refl
+plain-plain x = let same = plain_name-plain (summary_of x).name in cc
 
 -- ---- the item of a step
 
