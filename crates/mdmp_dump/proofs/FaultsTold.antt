@@ -25,21 +25,11 @@ unknown (Some F) none = absurd (none F refl)
 -- a fault is the view's own where it is want of memory or the store's
 own_by : (fault : ReadFault) → (fault ≡ faults.Memory → ⊥) → store_fault fault ≡ None → IsOwn fault → ⊥
 own_by faults.Memory able none own = able refl
-own_by (faults.Opening fault) able none own = (let some = own.1 in cc)
-own_by (faults.List fault) able none own = (let some = own.1 in cc)
-own_by (faults.PartOutside e k part offset size) able none own = (let some = own.1 in cc)
-own_by (faults.NameTooLong e k bytes) able none own = (let some = own.1 in cc)
-own_by (faults.PartsTooLarge e k) able none own = (let some = own.1 in cc)
-own_by (faults.Source fault) able none own = (let some = own.1 in cc)
+own_by _ able none own = (let some = own.1 in cc)
 
 ended_is : (T : Type 0) (fault : ReadFault) (told : SourceFault) → ended_by {T = T} (Err fault) ≡ Some told → store_fault fault ≡ Some told
 ended_is T (faults.List fault) told is = is
-ended_is T faults.Memory told is = absurd (cc)
-ended_is T (faults.Opening fault) told is = absurd (cc)
-ended_is T (faults.PartOutside e k part offset size) told is = absurd (cc)
-ended_is T (faults.NameTooLong e k bytes) told is = absurd (cc)
-ended_is T (faults.PartsTooLarge e k) told is = absurd (cc)
-ended_is T (faults.Source fault) told is = absurd (cc)
+ended_is T _ told is = absurd (cc)
 
 last_by : (rva : ℕ) (o : Option SourceFault) (old new : SourceState) → IfSome o (λ of_store. IsLastTold of_store old new) → ((F : List ℕ) → old.store.content ≡ Some F → o ≡ None → ⊥)
     → IsLastTold (source_fault (told_as rva o)) old new

@@ -103,12 +103,7 @@ tells_of fault old new fetches memory = record { memory = memory; changed = chan
 
 wants_memory : (fault : OpenFault) → refusal_of fault ≡ faults.Memory → fault ≡ opening.Memory
 wants_memory opening.Memory is = refl
-wants_memory (opening.Source fault) is = absurd (cc)
-wants_memory (opening.TooShort size) is = absurd (cc)
-wants_memory opening.BadSignature is = absurd (cc)
-wants_memory (opening.BadVersion low) is = absurd (cc)
-wants_memory (opening.DirectoryOutside offset size) is = absurd (cc)
-wants_memory (opening.TooManyRanges count) is = absurd (cc)
+wants_memory _ is = absurd (cc)
 
 pub wants_behind : (F : List ℕ) (choice : Choice) (fault : OpenFault) → IsRefusalOf F choice fault → refusal_of fault ≡ faults.Memory → directory_refusal F ≡ None
 wants_behind F choice fault of is = subst (λ (f : OpenFault). IsRefusalOf F choice f) (wants_memory fault is) of

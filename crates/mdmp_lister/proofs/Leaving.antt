@@ -5,7 +5,7 @@ use Rattle.mdmp_map.specs.declared.range.Range.{Range}
 use Rattle.mdmp_lister.specs.declared.fault.ListFault.{ListFault}
 use Rattle.mdmp_lister.specs.declared.item.Item.{Item}
 use Rattle.mdmp_lister.specs.declared.stage.Stage.{Stage}
-use Rattle.mdmp_lister.specs.declared.stage.Stage.TheVariants.{Bad, Between, Ended, Failed, Head, Records}
+use Rattle.mdmp_lister.specs.declared.stage.Stage.TheVariants.{Records}
 use Rattle.mdmp_lister.specs.declared.step.Step.{Step}
 use Rattle.mdmp_lister.specs.declared.walk.Walk.{Walk}
 use Rattle.mdmp_lister.specs.Fault.{IsOfSource}
@@ -67,11 +67,7 @@ module _ {S A : Type 0} (w : Walk S A) (rs : List Range) (room : ℕ) (sound : I
         count = omega (arith, reading.within);
         left = rw (known, at) refl;
       }
-  left_at Between at some = absurd (omega (arith, some))
-  left_at Head at some = absurd (omega (arith, some))
-  left_at (Bad f) at some = absurd (omega (arith, some))
-  left_at (Failed f) at some = absurd (omega (arith, some))
-  left_at Ended at some = absurd (omega (arith, some))
+  left_at _ at some = absurd (omega (arith, some))
 
   pub records_known : 0 < records_left_in w.stage → HasRecordsLeft file (listed_by rs room w) (records_left_in w.stage)
   records_known some = left_at w.stage refl some

@@ -17,7 +17,7 @@ use Rattle.mdmp_lister.specs.declared.choice.Choice.{Choice}
 use Rattle.mdmp_lister.specs.Format.Directory.{AreFirst}
 use Rattle.mdmp_lister.specs.StreamHead.{heads_ahead}
 use Rattle.mdmp_lister.specs.declared.fault.OpenFault.{OpenFault}
-use Rattle.mdmp_lister.specs.declared.fault.OpenFault.TheVariants.{TooShort, BadSignature, BadVersion, DirectoryOutside, TooManyRanges, Source, Memory}
+use Rattle.mdmp_lister.specs.declared.fault.OpenFault.TheVariants.{TooShort, DirectoryOutside, TooManyRanges, Source, Memory}
 use Rattle.mdmp_lister.specs.Meter.{Books, MeterState}
 use Rattle.mdmp_lister.specs.Fault.{IsCaused}
 use Rattle.mdmp_lister.proofs.Fetches.{FetchesAtMost-within, IsCaused_later, not_unread, unread_caused}
@@ -64,12 +64,7 @@ directory_refusal-outside F bytes h size len room whole fetched good read outsid
 -- what the first bytes of a file in memory are refused with, it is
 refused_head : (F : List ℕ) (fault : OpenFault) → Finds F (Err fault) → unread_of fault ≡ None → directory_refusal F ≡ Some fault
 refused_head F (Source fault) finds read = absurd (let some = read in cc)
-refused_head F Memory finds read = finds
-refused_head F (TooShort size) finds read = finds
-refused_head F BadSignature finds read = finds
-refused_head F (BadVersion low) finds read = finds
-refused_head F (DirectoryOutside offset size) finds read = finds
-refused_head F (TooManyRanges count) finds read = finds
+refused_head F _ finds read = finds
 
 pub refused_found : (F : List ℕ) (result : Result Header OpenFault) → Finds F result → unread_fault result ≡ None
     → MatchResult result (λ header. (directory_refusal F ≡ None) × (header ≡ header_at F 0)) (λ fault. directory_refusal F ≡ Some fault)
@@ -152,21 +147,12 @@ directory_refusal-other F same = if_other _ (Some (TooShort (length F))) (behind
 refusal-found : (F : List ℕ) (fault : OpenFault) → Finds F (Err fault) → IsDirectoryRefusal F fault
 refusal-found F (Source fault) finds = tt
 refusal-found F Memory finds = absurd (directory_refusal-other F finds)
-refusal-found F (TooShort size) finds = finds
-refusal-found F BadSignature finds = finds
-refusal-found F (BadVersion low) finds = finds
-refusal-found F (DirectoryOutside offset size) finds = finds
-refusal-found F (TooManyRanges count) finds = finds
+refusal-found F _ finds = finds
 
 -- a refusal of one whose ranges are not counted is one of any
 pub open_refusal : (size : ℕ) (fault : OpenFault) → IsBareRefusal size fault → IsOpenRefusal size fault
 open_refusal size (TooManyRanges count) of = absurd of
-open_refusal size (TooShort told) of = of
-open_refusal size BadSignature of = of
-open_refusal size (BadVersion low) of = of
-open_refusal size (DirectoryOutside offset len) of = of
-open_refusal size (Source fault) of = of
-open_refusal size Memory of = of
+open_refusal size _ of = of
 
 -- a file whose header was read has one
 pub header-long : (h : Header) (old new : SourceState) → FitsHeader old (Ok h) new → 32 ≤ old.size
