@@ -1,0 +1,83 @@
+//! Names and parts that the records of a file share.
+
+use crate::chance::Chance;
+use crate::draft::{Belongs, Draft};
+use mdmp_source::Location;
+use std::alloc::{AllocError, Global};
+
+/// The longest name that is read, in bytes.
+pub const NAME_LIMIT: u32 = 64;
+
+/// Where the names of a file stand.
+#[derive(Drop)]
+pub struct DraftNames {
+    rvas: Vec<u32>,
+}
+
+impl DraftNames {
+    /// Puts some names into a file.
+    pub fn put(
+        alloc: Global,
+        draft: &mut Draft,
+        chance: &mut Chance,
+    ) -> Result<DraftNames, AllocError> {
+        let mut rvas = Vec::new(alloc);
+        for _ in 0..chance.below(5) {
+            draft.put_gap(chance)?;
+            rvas.push(draft.end())?;
+            let units = unit_count(chance);
+            draft.put_number(Belongs::Name, units.saturating_mul(2))?;
+            for _ in 0..units {
+                draft.bytes.extend_from_slice(&chance.unit().to_le_bytes())?;
+            }
+            draft.bytes.extend_from_slice(&[0, 0])?;
+        }
+        Ok(DraftNames { rvas })
+    }
+
+    /// Where one of them stands, or 0 for none.
+    pub fn any(&self, chance: &mut Chance) -> u32 {
+        if chance.once_in(5) {
+            return 0;
+        }
+        match self.rvas.get(chance.index(self.rvas.len())) {
+            Some(rva) => *rva,
+            None => 0,
+        }
+    }
+}
+
+/// How many units a name has: mostly as many as are read, at times none, the most, or too many.
+fn unit_count(chance: &mut Chance) -> u32 {
+    match chance.below(60) {
+        0..6 => 0,
+        6..12 => NAME_LIMIT / 2,
+        12 => chance.below(NAME_LIMIT).saturating_add(NAME_LIMIT / 2 + 1),
+        _ => chance.below(NAME_LIMIT / 2),
+    }
+}
+
+/// A part of a record: empty, absent, or any bytes of the file so far, which other parts may have too.
+pub fn any_part(draft: &Draft, chance: &mut Chance) -> Location {
+    match chance.below(8) {
+        0 => Location {
+            size: 0,
+            rva: chance.word(),
+        },
+        1 => Location {
+            size: chance.word(),
+            rva: 0,
+        },
+        _ => stretch(draft, chance, 80),
+    }
+}
+
+/// Some bytes of the file so far, fewer than so many.
+pub fn stretch(draft: &Draft, chance: &mut Chance, most: u32) -> Location {
+    let rva = chance.below(draft.end());
+    let left = draft.end().saturating_sub(rva);
+    Location {
+        size: chance.below(left.saturating_add(1).min(most)),
+        rva,
+    }
+}
