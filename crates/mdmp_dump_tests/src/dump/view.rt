@@ -106,7 +106,7 @@ fn first_record<V: DumpView>(
 }
 
 /// The raw bytes of a stream from a place on, if there are so many.
-fn raw_bytes<V: DumpView>(view: &mut V, stream: u64, at: u64, out: &mut [u8]) -> Option<()> {
+pub fn raw_bytes<V: DumpView>(view: &mut V, stream: u64, at: u64, out: &mut [u8]) -> Option<()> {
     if stream >= view.streams() {
         return None;
     }
