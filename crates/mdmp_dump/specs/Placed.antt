@@ -1,7 +1,7 @@
 -- A record that a view gives, as it is written: one rule for all kinds.
 use Rattle.std.specs.Prelude.{ℕ, ◌+◌, List, [], ◌∷◌, ◌++◌, get_or}
 use Rattle.mdmp_source.specs.declared.location.Location.{Location}
-use Rattle.mdmp_wire.specs.AnyRecord.{any_bytes, slots_of}
+use Rattle.mdmp_wire.specs.AnyRecord.{any_bytes, slot_at}
 use Rattle.mdmp_wire.specs.Number.{le, zeros}
 use Rattle.mdmp_dump.specs.declared.view.PartSize.{PartSize}
 use Rattle.mdmp_dump.specs.declared.view.PartSize.TheVariants.{NoPart, Size, Absent}
@@ -80,15 +80,11 @@ placed f at = placed_by f.wire f at
 abbrev pub seen_row : Seen → ℕ → List ℕ
 seen_row s at = any_bytes (placed s.fields at)
 
--- what slot k of a record is for
-abbrev pub slot_at : AnyRecord → ℕ → Slot
-slot_at w k = get_or (slots_of w) k slots.Empty
-
--- what is written of it
+-- what is written of a slot
 abbrev pub slot_text : Slot → PartSize → List ℕ → List ℕ
 slot_text slots.Empty size bytes = []
-slot_text slots.Name size bytes = name_around size bytes
-slot_text slots.Part size bytes = bytes
+slot_text (slots.Name rva) size bytes = name_around size bytes
+slot_text (slots.Part at) size bytes = bytes
 
 abbrev pub parts_by : AnyRecord → Seen → List (List ℕ)
 parts_by w s =
@@ -102,8 +98,8 @@ seen_parts s = parts_by s.fields.wire s
 -- the room that a slot takes
 abbrev pub slot_room : Slot → PartSize → ℕ
 slot_room slots.Empty size = 0
-slot_room slots.Name size = name_room size
-slot_room slots.Part size = part_room size
+slot_room (slots.Name rva) size = name_room size
+slot_room (slots.Part at) size = part_room size
 
 -- the room that the name and parts of a record take
 abbrev pub room_by : AnyRecord → Fields → ℕ

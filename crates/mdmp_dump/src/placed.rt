@@ -151,8 +151,8 @@ fn slot_room(slot: Slot, part: PartSize) -> u128
 {
     match slot {
         Slot::Empty => 0,
-        Slot::Name => name_room(part),
-        Slot::Part => part_room(part),
+        Slot::Name(_) => name_room(part),
+        Slot::Part(_) => part_room(part),
     }
 }
 

@@ -1,6 +1,5 @@
 -- A record of any kind of stream.
-use Rattle.std.specs.Prelude.{ℕ, Option, Some, None, List, [], ◌∷◌}
-use Rattle.mdmp_source.specs.declared.location.Location.{Location}
+use Rattle.std.specs.Prelude.{ℕ, Option, Some, None, List, [], ◌∷◌, get_or}
 use Rattle.mdmp_wire.specs.declared.any_record.AnyRecord.{AnyRecord}
 use Rattle.mdmp_wire.specs.declared.any_record.AnyRecord.TheVariants as any
 use Rattle.mdmp_wire.specs.declared.slot.Slot.{Slot}
@@ -14,31 +13,29 @@ use Rattle.mdmp_wire.specs.System.{system_bytes}
 use Rattle.mdmp_wire.specs.Thread.{thread_bytes}
 use Rattle.mdmp_wire.specs.Unloaded.{unloaded_bytes}
 
--- where its name stands, of a kind that has one
-abbrev pub name_rva : AnyRecord → Option ℕ
-name_rva (any.Module image) = Some image.module_name_rva
-name_rva (any.Unloaded image) = Some image.module_name_rva
-name_rva (any.System system) = Some system.csd_version_rva
-name_rva _ = None
-
--- the locations of its parts, in the order of its fields
-abbrev pub part_locations : AnyRecord → List Location
-part_locations (any.Thread thread) = thread.stack.memory ∷ thread.thread_context ∷ []
-part_locations (any.Module image) = image.cv_record ∷ image.misc_record ∷ []
-part_locations (any.Memory range) = range.memory ∷ []
-part_locations (any.Exception exception) = exception.thread_context ∷ []
-part_locations _ = []
-
 -- what it points at, in the order of its fields: a name stands before the parts
 abbrev pub slots_of : AnyRecord → List Slot
-slots_of (any.Thread thread) = Part ∷ Part ∷ Empty ∷ []
-slots_of (any.Module image) = Name ∷ Part ∷ Part ∷ []
-slots_of (any.Memory range) = Part ∷ Empty ∷ Empty ∷ []
-slots_of (any.Exception exception) = Part ∷ Empty ∷ Empty ∷ []
-slots_of (any.System system) = Name ∷ Empty ∷ Empty ∷ []
+slots_of (any.Thread thread) = Part thread.stack.memory ∷ Part thread.thread_context ∷ Empty ∷ []
+slots_of (any.Module image) = Name image.module_name_rva ∷ Part image.cv_record ∷ Part image.misc_record ∷ []
+slots_of (any.Memory range) = Part range.memory ∷ Empty ∷ Empty ∷ []
+slots_of (any.Exception exception) = Part exception.thread_context ∷ Empty ∷ Empty ∷ []
+slots_of (any.System system) = Name system.csd_version_rva ∷ Empty ∷ Empty ∷ []
 slots_of (any.Memory64 range) = Empty ∷ Empty ∷ Empty ∷ []
-slots_of (any.Unloaded image) = Name ∷ Empty ∷ Empty ∷ []
+slots_of (any.Unloaded image) = Name image.module_name_rva ∷ Empty ∷ Empty ∷ []
 slots_of (any.MemoryInfo region) = Empty ∷ Empty ∷ Empty ∷ []
+
+-- slot k of it
+abbrev pub slot_at : AnyRecord → ℕ → Slot
+slot_at w k = get_or (slots_of w) k Empty
+
+-- where the name stands that a slot is for
+abbrev pub slot_name : Slot → Option ℕ
+slot_name (Name rva) = Some rva
+slot_name slot = None
+
+-- where its name stands, of a kind that has one
+abbrev pub name_rva : AnyRecord → Option ℕ
+name_rva w = slot_name (slot_at w 0)
 
 -- its bytes
 abbrev pub any_bytes : AnyRecord → List ℕ

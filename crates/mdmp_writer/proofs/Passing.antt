@@ -5,13 +5,14 @@ use Rattle.std.proofs.lemmas.List.{nil_from_length}
 use Rattle.std.proofs.lemmas.List.Sums.{sum_by-cons}
 use Rattle.mdmp_wire.specs.declared.any_record.AnyRecord.{AnyRecord}
 use Rattle.mdmp_wire.specs.declared.any_record.AnyRecord.TheVariants as any
+use Rattle.mdmp_wire.specs.AnyRecord.{slot_at}
 use Rattle.mdmp_wire.specs.declared.slot.Slot.{Slot}
 use Rattle.mdmp_wire.specs.declared.slot.Slot.TheVariants as slots
 use Rattle.mdmp_dump.specs.declared.view.Kind.{Kind}
 use Rattle.mdmp_dump.specs.declared.view.Kind.TheVariants as kinds
 use Rattle.mdmp_dump.specs.declared.view.PartSize.{PartSize}
 use Rattle.mdmp_dump.specs.declared.view.PartSize.TheVariants.{NoPart, Size, Absent}
-use Rattle.mdmp_dump.specs.Placed.{bytes_in, fields_room, name_around, name_room, part_room, parts_by, room_by, size_at, size_in, slot_at, slot_room, slot_text}
+use Rattle.mdmp_dump.specs.Placed.{bytes_in, fields_room, name_around, name_room, part_room, parts_by, room_by, size_at, size_in, slot_room, slot_text}
 use Rattle.mdmp_dump.specs.Places.{up}
 use Rattle.mdmp_dump.specs.Seen.{Seen}
 use Rattle.mdmp_dump.specs.Shape.{AreOf, IsSized, ViewShape, StreamShape, asks_of, cost_at, fars, is_far, room_of, rooms, seen_at, shape_seen, stream_at, type_told, unused_shape}
@@ -122,8 +123,8 @@ three_empty a b d e f h = rw (e, f, h) refl
 
 slot_empty : (s : Slot) (p : PartSize) (b : List ℕ) → length b ≡ size_in p → slot_room s p ≡ 0 → padded (slot_text s p b) ≡ []
 slot_empty slots.Empty p b sized none = refl
-slot_empty slots.Name p b sized none = name_empty p b none
-slot_empty slots.Part p b sized none = part_empty p b sized none
+slot_empty (slots.Name rva) p b sized none = name_empty p b none
+slot_empty (slots.Part at) p b sized none = part_empty p b sized none
 
 -- of a record
 parts_empty : (w : AnyRecord) (x : Seen) → IsSized x → room_by w x.fields ≡ 0 → all_padded (parts_by w x) ≡ []

@@ -17,9 +17,10 @@ use Rattle.mdmp_dump.specs.Name.{IsName, NameFits}
 use Rattle.mdmp_dump.specs.Part.{IsPart, PartFits}
 use Rattle.mdmp_dump.specs.declared.view.PartSize.{PartSize}
 use Rattle.mdmp_dump.specs.declared.view.PartSize.TheVariants.{Size}
+use Rattle.mdmp_wire.specs.AnyRecord.{slot_at}
 use Rattle.mdmp_wire.specs.declared.slot.Slot.{Slot}
 use Rattle.mdmp_wire.specs.declared.slot.Slot.TheVariants as slots
-use Rattle.mdmp_dump.specs.Placed.{address_of, bytes_in, fields_room, location_of, name_around, name_room, part_room, seen_parts, seen_row, size_at, size_in, slot_at, slot_room, slot_text}
+use Rattle.mdmp_dump.specs.Placed.{address_of, bytes_in, fields_room, location_of, name_around, name_room, part_room, seen_parts, seen_row, size_at, size_in, slot_room, slot_text}
 use Rattle.mdmp_dump.specs.Places.{up}
 use Rattle.mdmp_dump.specs.Seen.{Seen, bytes_of, name_size, size_of, unit_bytes}
 use Rattle.mdmp_dump.specs.Shape.{IsSized, rooms}
@@ -50,10 +51,10 @@ length-last p = omega (arith, length-all_padded p [], length-nothing)
 -- what a slot is for takes its room
 slot_length : (s : Slot) (p : PartSize) (b : List ℕ) → length b ≡ size_in p → up (length (slot_text s p b)) ≡ slot_room s p
 slot_length slots.Empty p b sized = refl
-slot_length slots.Name (Size n) b sized = ap up (length-around n b sized)
-slot_length slots.Name p b sized = refl
-slot_length slots.Part (Size n) b sized = ap up sized
-slot_length slots.Part p b sized = ap up sized
+slot_length (slots.Name rva) (Size n) b sized = ap up (length-around n b sized)
+slot_length (slots.Name rva) p b sized = refl
+slot_length (slots.Part at) (Size n) b sized = ap up sized
+slot_length (slots.Part at) p b sized = ap up sized
 
 -- and so do the name and parts of a record
 pub sized_room : (s : Seen) → IsSized s → length (all_padded (seen_parts s)) ≡ fields_room s.fields

@@ -92,8 +92,8 @@ fn put_slot<V: DumpView, O: Out>(
 {
     match slot {
         Slot::Empty => Ok(()),
-        Slot::Name => put_name(view, out, gather, which, part),
-        Slot::Part => put_padded(view, out, gather, which, part),
+        Slot::Name(_) => put_name(view, out, gather, which, part),
+        Slot::Part(_) => put_padded(view, out, gather, which, part),
     }
 }
 

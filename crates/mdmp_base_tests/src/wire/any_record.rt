@@ -1,4 +1,4 @@
-//! The name and the parts of a record of any kind.
+//! What a record of any kind points at.
 use crate::same::assert_same;
 use mdmp_source::Location;
 use mdmp_wire::{
@@ -22,24 +22,20 @@ fn record_of_a_kind_with_names_tells_where_its_name_stands(rt: HostRuntime) {
 }
 
 #[test]
-fn parts_of_a_thread_are_its_stack_and_its_registers(rt: HostRuntime) {
+fn slots_of_a_record_are_in_the_order_of_its_fields(rt: HostRuntime) {
     let stack = Location { size: 1, rva: 2 };
     let registers = Location { size: 3, rva: 4 };
     let mut thread = ThreadRecord::read(&[0; 48]);
     thread.stack.memory = stack;
     thread.thread_context = registers;
-    let record = AnyRecord::Thread(thread);
-    assert_same(&rt, record.part(0), Some(stack));
-    assert_same(&rt, record.part(1), Some(registers));
-    assert_same(&rt, record.part(2), None);
-}
-
-#[test]
-fn slots_of_a_record_are_in_the_order_of_its_fields(rt: HostRuntime) {
-    let module = AnyRecord::Module(ModuleRecord::read(&[0; 108]));
-    assert_same(&rt, module.slots(), [Slot::Name, Slot::Part, Slot::Part]);
-    let thread = AnyRecord::Thread(ThreadRecord::read(&[0; 48]));
-    assert_same(&rt, thread.slots(), [Slot::Part, Slot::Part, Slot::Empty]);
+    let thread = AnyRecord::Thread(thread);
+    assert_same(&rt, thread.slots(), [Slot::Part(stack), Slot::Part(registers), Slot::Empty]);
+    let mut module = ModuleRecord::read(&[0; 108]);
+    module.module_name_rva = 7;
+    module.cv_record = stack;
+    module.misc_record = registers;
+    let module = AnyRecord::Module(module);
+    assert_same(&rt, module.slots(), [Slot::Name(7), Slot::Part(stack), Slot::Part(registers)]);
     let range = AnyRecord::Memory64(Descriptor64::read(&[0; 16]));
     assert_same(&rt, range.slots(), [Slot::Empty, Slot::Empty, Slot::Empty]);
 }
