@@ -227,6 +227,14 @@ pub enum Item<'a> {
 /// The name of an item of a kind without names.
 static NO_NAME: Name<'static> = Name::None;
 
+/// What is asked of an item whatever its kind.
+#[derive(Drop)]
+struct ItemHead<'i, 'a> {
+    entry: u32,
+    index: u64,
+    name: &'i Name<'a>,
+}
+
 impl<'a> Item<'a> {
     ghost use Rattle.std.specs.Prelude.{◌≡◌};
     ghost use Rattle.mdmp_lister.specs.Format.Summary.{summary_of};
@@ -235,43 +243,38 @@ impl<'a> Item<'a> {
     pub fn entry(&self) -> u32
         ensures { result ≡ (summary_of self.now).entry }
     {
-        match self {
-            Item::Stream(StreamItem { entry, .. })
-            | Item::Thread(ThreadItem { entry, .. })
-            | Item::Module(ModuleItem { entry, .. })
-            | Item::Unloaded(UnloadedItem { entry, .. })
-            | Item::Exception(ExceptionItem { entry, .. })
-            | Item::System(SystemItem { entry, .. })
-            | Item::MemoryInfo(MemoryInfoItem { entry, .. })
-            | Item::Range(RangeItem { entry, .. }) => *entry,
-        }
+        self.head().entry
     }
 
     /// The index of its record in the stream, from 0; that of an entry of the directory is 0.
     pub fn index(&self) -> u64
         ensures { result ≡ (summary_of self.now).index }
     {
-        match self {
-            Item::Stream(_) => 0,
-            Item::Thread(ThreadItem { index, .. })
-            | Item::Module(ModuleItem { index, .. })
-            | Item::Unloaded(UnloadedItem { index, .. })
-            | Item::Exception(ExceptionItem { index, .. })
-            | Item::System(SystemItem { index, .. })
-            | Item::MemoryInfo(MemoryInfoItem { index, .. })
-            | Item::Range(RangeItem { index, .. }) => *index,
-        }
+        self.head().index
     }
 
     /// Its name; that of a kind without names is `Name::None`.
     pub fn name(&self) -> &Name<'a>
         ensures { result.now ≡ (summary_of self.now).name }
     {
-        match self {
-            Item::Module(ModuleItem { name, .. })
-            | Item::Unloaded(UnloadedItem { name, .. })
-            | Item::System(SystemItem { name, .. }) => name,
-            _ => &NO_NAME,
-        }
+        self.head().name
+    }
+
+    fn head(&self) -> ItemHead<'_, 'a>
+        ensures entry { result.entry ≡ (summary_of self.now).entry }
+        ensures index { result.index ≡ (summary_of self.now).index }
+        ensures name { result.name.now ≡ (summary_of self.now).name }
+    {
+        let (entry, index, name) = match self {
+            Item::Stream(x) => (x.entry, 0, &NO_NAME),
+            Item::Thread(x) => (x.entry, x.index, &NO_NAME),
+            Item::Module(x) => (x.entry, x.index, &x.name),
+            Item::Unloaded(x) => (x.entry, x.index, &x.name),
+            Item::Exception(x) => (x.entry, x.index, &NO_NAME),
+            Item::System(x) => (x.entry, x.index, &x.name),
+            Item::MemoryInfo(x) => (x.entry, x.index, &NO_NAME),
+            Item::Range(x) => (x.entry, x.index, &NO_NAME),
+        };
+        ItemHead { entry, index, name }
     }
 }
