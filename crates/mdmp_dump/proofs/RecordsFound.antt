@@ -43,7 +43,7 @@ use Rattle.mdmp_dump.specs.declared.found_record.FoundRecord.{FoundRecord}
 use Rattle.mdmp_dump.specs.declared.view.Kind.TheVariants as view
 use Rattle.mdmp_dump.specs.EntryWalk.{FindsNext, FindsRow, GivesNext, IsFoundIn, IsRowFound, Pays, ended_by, kind_by, name_cost, name_cost_by, row_told}
 use Rattle.mdmp_dump.specs.FileRefusal.{IsOfWalk}
-use Rattle.mdmp_dump.specs.Finding.{FindsRecord, FindsSeen, IsFittingOf, IsFoundInside, IsOfPlaces, IsOfRecord, range_kind, record_kind, seen_in}
+use Rattle.mdmp_dump.specs.Finding.{FindsRecord, FindsSeen, IsFittingOf, IsFoundInside, IsOfPlaces, IsOfRecord, kind_as, range_kind, record_kind, seen_in}
 use Rattle.mdmp_dump.specs.FoundRecord.{AreIn}
 use Rattle.mdmp_dump.specs.Left.{RowGiven, body_from, left_from, run_of}
 use Rattle.mdmp_dump.specs.Reading.{IsLastTold, IsReadRefusal, store_fault}
@@ -82,8 +82,7 @@ far_by_type t kind is = sym (ap lists_memory64 is)
 -- ---- an item, by the record that it tells
 
 plain_kind : (far : Bool) (item : Item) → record_kind far item ≡ record_kind far (plain item)
-plain_kind far (items.Stream x) = refl
-plain_kind far item = refl
+plain_kind far item = sym (ap (λ (s : Summary). option_map (kind_as far) s.kind) (summary_of-plain item))
 
 told_kind : (far : Bool) (z e k offset : ℕ) (w : AnyRecord) (name : Name) → far ≡ is_memory64 (kind_told w) → record_kind far (item_of z e k offset w name) ≡ Some (kind_told w)
 told_kind far z e k offset (any.Memory r) name is = ap (λ (b : Bool). Some (range_kind b)) is

@@ -1,5 +1,5 @@
 -- What is found of a name or a part, by its place in the file.
-use Rattle.std.specs.Prelude.{Bool, true, false, ◌≡◌, ◌≤◌, ◌+◌, ℕ, List, [], ◌∷◌, length, Option, Some, None, Result, Ok, Err, IfErr, get_or}
+use Rattle.std.specs.Prelude.{Bool, true, false, ◌≡◌, ◌≤◌, ◌+◌, ℕ, List, [], ◌∷◌, length, Option, Some, None, Result, Ok, Err, IfErr, get_or, option_map}
 use Rattle.mdmp_source.specs.Extent.{extent_of}
 use Rattle.mdmp_source.specs.Store.{AreBytes}
 use Rattle.mdmp_source.specs.declared.fault.SourceFault.TheVariants.{Changed}
@@ -9,13 +9,13 @@ use Rattle.mdmp_lister.specs.declared.name.Name.{Name}
 use Rattle.mdmp_lister.specs.Format.Name.{name_at}
 use Rattle.mdmp_wire.specs.MemoryInfo.{memory_info_at}
 use Rattle.mdmp_lister.specs.declared.item.Item.{Item}
-use Rattle.mdmp_lister.specs.declared.item.Item.TheVariants as items
 use Rattle.mdmp_lister.specs.declared.kind.StreamKind.{StreamKind}
 use Rattle.mdmp_lister.specs.Format.Kind.{is_memory64}
 use Rattle.mdmp_lister.specs.declared.kind.StreamKind.TheVariants as kinds
 use Rattle.mdmp_wire.specs.Number.{array_at}
 use Rattle.mdmp_lister.specs.declared.item.RangeItem.{RangeItem}
 use Rattle.mdmp_lister.specs.Format.Item.{item_at, kind_told, range_extent_of}
+use Rattle.mdmp_lister.specs.Format.Summary.{summary_of}
 use Rattle.mdmp_dump.specs.declared.fault.PartName.TheVariants.{Memory}
 use Rattle.mdmp_dump.specs.declared.view.PartSize.TheVariants.{Size}
 use Rattle.mdmp_dump.specs.FoundRecord.{no_part}
@@ -112,15 +112,12 @@ abbrev pub range_kind : Bool → StreamKind
 range_kind true = kinds.Memory64
 range_kind false = kinds.Memory
 
+abbrev pub kind_as : Bool → StreamKind → StreamKind
+kind_as far kinds.Memory = range_kind far
+kind_as far kind = kind
+
 abbrev pub record_kind : Bool → Item → Option StreamKind
-record_kind far (items.Stream x) = None
-record_kind far (items.Thread x) = Some kinds.Threads
-record_kind far (items.Module x) = Some kinds.Modules
-record_kind far (items.Unloaded x) = Some kinds.Unloaded
-record_kind far (items.Exception x) = Some kinds.Exception
-record_kind far (items.System x) = Some kinds.System
-record_kind far (items.MemoryInfo x) = Some kinds.MemoryInfo
-record_kind far (items.Range x) = Some (range_kind far)
+record_kind far item = option_map (kind_as far) (summary_of item).kind
 
 -- a record of this kind, the bytes of whose name and parts are within their room
 abbrev pub IsFittingOf : Option StreamKind → FoundRecord → Type 0

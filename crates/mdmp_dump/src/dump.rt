@@ -11,6 +11,7 @@ use crate::records::Records;
 use crate::system::System;
 use crate::thread::Thread;
 use crate::unloaded::Unloaded;
+use mdmp_lister::StreamKind;
 use mdmp_wire::MemoryInfoRecord;
 use std::alloc::Allocator;
 
@@ -40,6 +41,42 @@ pub enum Stream<A: Allocator> {
     Raw(u32, Bytes<A>),
 }
 
+// By the records of a stream, whose kinds stand here once: those of a list, as a slice, and a single
+// record. Their types differ, so that no function can hand them out.
+macro_rules! by_records {
+    (
+        $stream:expr, $kind:ident,
+        list $records:ident => $of_list:expr,
+        single $record:ident => $of_single:expr,
+        $($others:tt)*
+    ) => {
+        by_records!(
+            @kinds [Threads, Modules, Memory, Memory64, Unloaded, MemoryInfo] [Exception, System]
+            $stream, $kind, $records => $of_list, $record => $of_single, $($others)*
+        )
+    };
+    (
+        @kinds [$($list:ident),*] [$($single:ident),*]
+        $stream:expr, $kind:ident, $records:ident => $of_list:expr, $record:ident => $of_single:expr,
+        $($others:tt)*
+    ) => {
+        match $stream {
+            $(Stream::$list(list) => {
+                let $kind = StreamKind::$list;
+                let $records = list.as_slice();
+                $of_list
+            })*
+            $(Stream::$single($record) => {
+                let $kind = StreamKind::$single;
+                $of_single
+            })*
+            $($others)*
+        }
+    };
+}
+
+pub(crate) use by_records;
+
 /// A minidump as a value.
 #[derive(Drop)]
 #[derive_where(Debug, PartialEq, Eq)]
@@ -60,20 +97,15 @@ impl<A: Allocator> Fitting for Stream<A> {
     ghost Fit = { StreamFits };
 
     fn fits(&self) {
-        match self {
+        by_records!(
+            self, _kind,
+            list records => all_fit(records),
+            single record => record.fits(),
             Stream::Unused => {},
-            Stream::Threads(threads) => all_fit(threads.as_slice()),
-            Stream::Modules(modules) => all_fit(modules.as_slice()),
-            Stream::Memory(ranges) => all_fit(ranges.as_slice()),
-            Stream::Exception(exception) => exception.fits(),
-            Stream::System(system) => system.fits(),
-            Stream::Memory64(ranges) => all_fit(ranges.as_slice()),
-            Stream::Unloaded(modules) => all_fit(modules.as_slice()),
-            Stream::MemoryInfo(regions) => all_fit(regions.as_slice()),
             Stream::Raw(stream_type, _) => {
                 let _stream_type = *stream_type;
             },
-        }
+        )
     }
 }
 

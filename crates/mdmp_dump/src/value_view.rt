@@ -6,46 +6,12 @@ ghost use Rattle.mdmp_dump.specs.Shape.{body_of, parts_at, parts_in, seen_record
 ghost use Rattle.mdmp_dump.specs.ShapeLaws.{value_kinds, value_sound, value_stray};
 
 use crate::body::rows_size;
-use crate::dump::{Dump, Stream};
+use crate::dump::{Dump, Stream, by_records};
 use crate::given::{Given, all_taken, fields_at, one_taken, part_at};
 use crate::view::{DumpView, Fields, HeaderFields, Kind, PartSize, ViewFault};
 use mdmp_lister::StreamKind;
 use mdmp_wire::{AnyRecord, Descriptor64};
 use std::alloc::Allocator;
-
-// By the records of a stream, whose kinds stand here once: those of a list, as a slice, and a single
-// record. Their types differ, so that no function can hand them out.
-macro_rules! by_records {
-    (
-        $stream:expr, $kind:ident,
-        list $records:ident => $of_list:expr,
-        single $record:ident => $of_single:expr,
-        $($others:tt)*
-    ) => {
-        by_records!(
-            @kinds [Threads, Modules, Memory, Memory64, Unloaded, MemoryInfo] [Exception, System]
-            $stream, $kind, $records => $of_list, $record => $of_single, $($others)*
-        )
-    };
-    (
-        @kinds [$($list:ident),*] [$($single:ident),*]
-        $stream:expr, $kind:ident, $records:ident => $of_list:expr, $record:ident => $of_single:expr,
-        $($others:tt)*
-    ) => {
-        match $stream {
-            $(Stream::$list(list) => {
-                let $kind = StreamKind::$list;
-                let $records = list.as_slice();
-                $of_list
-            })*
-            $(Stream::$single($record) => {
-                let $kind = StreamKind::$single;
-                $of_single
-            })*
-            $($others)*
-        }
-    };
-}
 
 /// What a stream is, by the types of `MINIDUMP_STREAM_TYPE`.
 fn stream_kind<A: Allocator>(stream: &Stream<A>) -> Kind

@@ -29,13 +29,21 @@ fn slots_of_a_record_are_in_the_order_of_its_fields(rt: HostRuntime) {
     thread.stack.memory = stack;
     thread.thread_context = registers;
     let thread = AnyRecord::Thread(thread);
-    assert_same(&rt, thread.slots(), [Slot::Part(stack), Slot::Part(registers), Slot::Empty]);
+    assert_same(
+        &rt,
+        thread.slots(),
+        [Slot::Part(stack), Slot::Part(registers), Slot::Empty],
+    );
     let mut module = ModuleRecord::read(&[0; 108]);
     module.module_name_rva = 7;
     module.cv_record = stack;
     module.misc_record = registers;
     let module = AnyRecord::Module(module);
-    assert_same(&rt, module.slots(), [Slot::Name(7), Slot::Part(stack), Slot::Part(registers)]);
+    assert_same(
+        &rt,
+        module.slots(),
+        [Slot::Name(7), Slot::Part(stack), Slot::Part(registers)],
+    );
     let range = AnyRecord::Memory64(Descriptor64::read(&[0; 16]));
     assert_same(&rt, range.slots(), [Slot::Empty, Slot::Empty, Slot::Empty]);
 }

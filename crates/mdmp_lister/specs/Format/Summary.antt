@@ -9,7 +9,6 @@ use Rattle.mdmp_lister.specs.declared.kind.StreamKind.{StreamKind}
 use Rattle.mdmp_lister.specs.declared.kind.StreamKind.TheVariants as kinds
 use Rattle.mdmp_lister.specs.declared.name.Name.{Name}
 use Rattle.mdmp_lister.specs.declared.name.Name.TheVariants as names
-use Rattle.mdmp_lister.specs.Format.Kind.{record_size}
 
 pub record Summary : Type 0 where
   -- the number of its entry
@@ -18,19 +17,24 @@ pub record Summary : Type 0 where
   pub index : ℕ
   -- the entry itself, of a Stream item
   pub stream : Option StreamItem
-  -- how many bytes its record has; the descriptors of both memory lists have as many
-  pub bytes : ℕ
+  -- the kind of its record: that of a memory list, where it is a range of either list
+  pub kind : Option StreamKind
   -- its name
   pub name : Name
   -- the range of memory that it is
   pub range : Option RangeItem
 
+-- a range is told alike, whichever list it is of
+abbrev pub summary_kind : StreamKind → StreamKind
+summary_kind kinds.Memory64 = kinds.Memory
+summary_kind kind = kind
+
 -- that of a record of this kind
 abbrev pub summary_by : ℕ → ℕ → StreamKind → Name → Option RangeItem → Summary
-summary_by e k kind name range = record { entry = e; index = k; stream = None; bytes = record_size kind; name = name; range = range }
+summary_by e k kind name range = record { entry = e; index = k; stream = None; kind = Some (summary_kind kind); name = name; range = range }
 
 abbrev pub summary_of : Item → Summary
-summary_of (items.Stream x) = record { entry = x.entry; index = 0; stream = Some x; bytes = 0; name = names.None; range = None }
+summary_of (items.Stream x) = record { entry = x.entry; index = 0; stream = Some x; kind = None; name = names.None; range = None }
 summary_of (items.Thread x) = summary_by x.entry x.index kinds.Threads names.None None
 summary_of (items.Module x) = summary_by x.entry x.index kinds.Modules x.name None
 summary_of (items.Unloaded x) = summary_by x.entry x.index kinds.Unloaded x.name None
