@@ -145,7 +145,7 @@ module _ (x : Numbered) (old : WalkerState) (kept : IsKept old) (new : WalkerSta
       → WalkerLeaves (sought_state old x.number left stop unread standing records work) (Ok (Some (stream_item x))) new → IsAtEntry x old new
   given_at left stop unread standing records work sought leaves =
       let l = leaves.list in
-      let names : new.list.counts.names ≡ old.list.counts.names = omega (arith, l.names) in
+      let names : new.list.counts.names ≡ old.list.counts.names = omega (arith, l.spends.names) in
       record {
         same = record {
           header_is = l.same.header_is;
@@ -156,21 +156,21 @@ module _ (x : Numbered) (old : WalkerState) (kept : IsKept old) (new : WalkerSta
           aside = l.same.aside;
           start = l.same.start;
         };
-        fetches = record { count = _; fetches = l.fetches };
-        current = l.current;
-        passed = l.passed;
+        fetches = record { count = _; fetches = l.spends.fetches };
+        current = l.places.current;
+        passed = l.places.passed;
         names = names;
         mark = leaves.mark;
         paid = λ few.
             let most = paid_by old.list.limit new.list.counts.fetched (old.mark.fetched + entry_cost old.list.source.size old.list.current) old.mark.names new.list.counts.names kept.limit
             (leaves.spent few) (omega (arith, names, kept.within)) in
             omega (arith, most, names);
-        stop = l.stop;
+        stop = l.stands.stop;
         position = leaves.position;
         standing = leaves.begins;
         left = λ F known is.
             let all : left ≡ Some (run_of F 0 (record { number = x.number; entry = entry_of F x.number } ∷ chosen_from F old.list.choice (x.number + 1))) = sought ∙ (rw (known, kept.limit) refl) in
-            l.left ∙ (rw all refl) ∙ ap Some (sought_tail F x (chosen_from F old.list.choice (x.number + 1)) is);
+            l.stands.left ∙ (rw all refl) ∙ ap Some (sought_tail F x (chosen_from F old.list.choice (x.number + 1)) is);
       }
 
 -- an item whose Stream item this is
@@ -232,7 +232,7 @@ module _ (number : ℕ) (e : Entry) (old mid new : WalkerState) (at : slice_get 
       leaves_again = subst (λ (a : Result (Option Item) ListFault). WalkerLeaves mid a new) told_again step.leaves
 
       list_stays : new.list ≡ old.list
-      list_stays = leaves_again.list.repeats (Some fault_kept.0) (ap (λ (w : WalkerState). w.list.stop) stays ∙ fault_kept.1.0) ∙ ap (λ (w : WalkerState). w.list) stays
+      list_stays = leaves_again.list.stands.repeats (Some fault_kept.0) (ap (λ (w : WalkerState). w.list.stop) stays ∙ fault_kept.1.0) ∙ ap (λ (w : WalkerState). w.list) stays
 
       mark_stays : new.mark ≡ old.mark
       mark_stays = leaves_again.mark ∙ ap (λ (w : WalkerState). w.mark) stays
@@ -291,7 +291,7 @@ module _ (number : ℕ) (e : Entry) (old mid new : WalkerState) (at : slice_get 
 -- behind a fault no records are left
 pub step_stopped : (mid new : WalkerState) (f : ListFault) → StepLeaves mid (Err f) new → records_to_give new.list ≡ 0
 step_stopped mid new f step =
-    let stop = (subst (λ (a : Result (Option Item) ListFault). WalkerLeaves mid a new) step.told step.leaves).list.stop in
+    let stop = (subst (λ (a : Result (Option Item) ListFault). WalkerLeaves mid a new) step.told step.leaves).list.stands.stop in
     left_stopped new.list.passed new.list.stop (Some f) new.list.records stop
 
 -- so nothing is said of them

@@ -23,16 +23,16 @@ opened source choice limits new is none =
     let names = ap (λ (c : MeterCounts). c.names) is.mark in
     record {
       fetches = record { count = _; fetches = is.fetches };
-      choice_is = l.choice_is;
-      few = omega (arith, few_chosen new.list.choice (numbered 0 new.list.entries), length-numbered 0 new.list.entries, l.count);
-      held = omega (arith, l.window_room, l.limit_is, none, l.count, is.range_room);
+      choice_is = l.asked.choice_is;
+      few = omega (arith, few_chosen new.list.choice (numbered 0 new.list.entries), length-numbered 0 new.list.entries, l.read.count);
+      held = omega (arith, l.asked.window_room, l.asked.limit_is, none, l.read.count, is.range_room);
       start = ap (λ (a : Amount). a.bytes) l.counts.start;
       allowed = omega (arith, mark, names, is.fetched, is.unbegun);
       aside = ap (λ (a : Amount). a.bytes) l.counts.aside;
       names = l.counts.names;
-      failed = ap ended_with l.stop;
-      header_is = l.header_is;
-      chosen_are = λ F known. rw l.choice_is (chosen_all F choice new.list.entries (l.directory F known));
+      failed = ap ended_with l.given.stop;
+      header_is = l.read.header_is;
+      chosen_are = λ F known. rw l.asked.choice_is (chosen_all F choice new.list.entries (l.read.directory F known));
     }
 
 -- ---- bytes beside it

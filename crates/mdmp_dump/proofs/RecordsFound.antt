@@ -229,11 +229,11 @@ pub record Stays (old new : WalkerState) : Type 0 where
 pub stays_record : (old new : WalkerState) (item : Item) → (summary_of item).stream ≡ None → WalkerLeaves old (Ok (Some item)) new → Stays old new
 stays_record old new item none leaves = record {
   same = leaves.list.same;
-  fetches = record { count = _; fetches = leaves.list.fetches };
+  fetches = record { count = _; fetches = leaves.list.spends.fetches };
   mark = leaves.mark ∙ ap (λ (s : Option StreamItem). mark_by s new.list.counts old.mark) none;
-  current = leaves.list.current ∙ ap (λ (s : Option StreamItem). entry_begun s old.list.current) none;
-  passed = leaves.list.passed ∙ ap (λ (s : Option StreamItem). number_behind s old.list.passed) none;
-  counts = leaves.list.counts;
+  current = leaves.list.places.current ∙ ap (λ (s : Option StreamItem). entry_begun s old.list.current) none;
+  passed = leaves.list.places.passed ∙ ap (λ (s : Option StreamItem). number_behind s old.list.passed) none;
+  counts = leaves.list.spends.counts;
   spent = leaves.spent;
   nameless = leaves.nameless;
   unsought = ap seeks (leaves.position ∙ ap position_by none);
@@ -242,11 +242,11 @@ stays_record old new item none leaves = record {
 pub stays_fault : (old new : WalkerState) (f : ListFault) → WalkerLeaves old (Err f) new → Stays old new
 stays_fault old new f leaves = record {
   same = leaves.list.same;
-  fetches = record { count = _; fetches = leaves.list.fetches };
+  fetches = record { count = _; fetches = leaves.list.spends.fetches };
   mark = leaves.mark;
-  current = leaves.list.current;
-  passed = leaves.list.passed;
-  counts = leaves.list.counts;
+  current = leaves.list.places.current;
+  passed = leaves.list.places.passed;
+  counts = leaves.list.spends.counts;
   spent = leaves.spent;
   nameless = leaves.nameless;
   unsought = ap seeks leaves.position;
@@ -331,7 +331,7 @@ module _ (old new : WalkerState) (kept : IsKept old) (left : 0 < records_to_give
   went : ((summary_of item).stream ≡ None) × (old.list.records ≡ new.list.records + 1)
   went =
       let some = left_some old.list.passed old.list.stop old.list.records left in
-      leaves.list.records (omega (arith, left, some.1.0))
+      leaves.list.places.records (omega (arith, left, some.1.0))
 
   stays : Stays old new
   stays = stays_record old new item went.0 leaves
@@ -340,11 +340,11 @@ module _ (old new : WalkerState) (kept : IsKept old) (left : 0 < records_to_give
   fewer_left =
       let some = left_some old.list.passed old.list.stop old.list.records left in
       let same = stays.passed in
-      let now = left_begun new.list.passed new.list.stop new.list.records (λ fresh. some.1.1 (sym same ∙ fresh)) leaves.list.stop in
+      let now = left_begun new.list.passed new.list.stop new.list.records (λ fresh. some.1.1 (sym same ∙ fresh)) leaves.list.stands.stop in
       omega (arith, some.1.0, now, went.1)
 
   pub record_is : IsRecordOf old.list.source.size (kind_of old.list.current.stream_type) (plain item)
-  record_is = record_classed old.list.source.size old.list.current item went.0 (subst (λ (e : Entry). IsClassed old.list.source.size e item) stays.current leaves.list.classed)
+  record_is = record_classed old.list.source.size old.list.current item went.0 (subst (λ (e : Entry). IsClassed old.list.source.size e item) stays.current leaves.list.places.classed)
 
   -- of a known file it is the next of those that are left
   module _ (gives : (left : Run) → old.list.left ≡ Some left → slice_get left.items 0 ≡ Some (plain item)) (F : List ℕ) (known : old.list.source.store.content ≡ Some F) where
@@ -359,7 +359,7 @@ module _ (old new : WalkerState) (kept : IsKept old) (left : 0 < records_to_give
 
     left_behind : HasLeft F new.list
     left_behind =
-        let rest : new.list.left ≡ Some (left_from F 0 (current_entry old.list) (had.0 + 1) had.1) = leaves.list.left ∙ ap (option_map tail) had.2.0 ∙ ap Some given.rest in
+        let rest : new.list.left ≡ Some (left_from F 0 (current_entry old.list) (had.0 + 1) had.1) = leaves.list.stands.left ∙ ap (option_map tail) had.2.0 ∙ ap Some given.rest in
         let count : had.0 + records_to_give old.list ≡ had.0 + 1 + records_to_give new.list = omega (arith, fewer_left) in (
           had.0 + 1,
           had.1,
@@ -427,7 +427,7 @@ module _ (old new : WalkerState) (kept : IsKept old) (left : 0 < records_to_give
       told = tt;
       able = λ F known. tt;
       fetches = Fetches_only f old.list.source new.list.source stays.fetches;
-      failed = ap ended_with leaves.list.stop;
+      failed = ap ended_with leaves.list.stands.stop;
     }
 
     gives_refused : (fault : ReadFault) → Finds (Err fault) → IsOfPlaces fault → GivesNext (state_of old) limit (Err fault) (state_of new)
@@ -444,7 +444,7 @@ module _ (old new : WalkerState) (kept : IsKept old) (left : 0 < records_to_give
         good = λ F good. record_fault fault (refused_known fault finds F good.known);
         refusal = places_refused old.list.source.size fault of_places;
       };
-      failed = ap ended_with leaves.list.stop ∙ sym (ends_not fault of_places);
+      failed = ap ended_with leaves.list.stands.stop ∙ sym (ends_not fault of_places);
     }
 
     pub gives_next : (result : Result FoundRecord ReadFault) → Finds result → MatchResult result (IsFittingOf (record_kind far item)) IsOfPlaces → IfOk result (λ f. AreIn size f.parts)
@@ -457,7 +457,7 @@ module _ (old new : WalkerState) (kept : IsKept old) (left : 0 < records_to_give
 -- the next record is refused, or the store failed
 module _ (old new : WalkerState) (kept : IsKept old) (left : 0 < records_to_give old.list) (f : ListFault) (leaves : WalkerLeaves old (Err f) new) where
   stopped : records_to_give new.list ≡ 0
-  stopped = left_stopped new.list.passed new.list.stop (Some f) new.list.records leaves.list.stop
+  stopped = left_stopped new.list.passed new.list.stop (Some f) new.list.records leaves.list.stands.stop
 
   pub kept_fault : IsKept new
   kept_fault = kept_by old new kept (stays_fault old new f leaves) (λ F known some. absurd (omega (arith, some, stopped)))
@@ -489,5 +489,5 @@ module _ (old new : WalkerState) (kept : IsKept old) (left : 0 < records_to_give
           good = λ F is. no_store_fault f.kind (good F is);
           refusal = next_fits old.list f new.list (leaves.follows going (kept.unsought left));
         };
-        failed = ap ended_with leaves.list.stop;
+        failed = ap ended_with leaves.list.stands.stop;
       }

@@ -65,10 +65,10 @@ module _ {S A : Type 0} (source : SourceState) (choice : Choice) (limits : Limit
   IsHandedBack-counted result fault new counts late =
       let ok = w.entries.ok.0 in
       let same : heads_ahead w.choice w.meter.source.size w.entries.items ≡ heads_ahead choice source.size w.entries.items =
-      ap (λ (c : Choice). heads_ahead c w.meter.source.size w.entries.items) new.choice_is ∙ ap (λ z. heads_ahead choice z w.entries.items) new.fetches.same_size in
+      ap (λ (c : Choice). heads_ahead c w.meter.source.size w.entries.items) new.choice_is ∙ ap (λ z. heads_ahead choice z w.entries.items) new.spends.fetches.same_size in
       let calls = counts.books.source_calls in
       IsHandedBack-begun choice source w.meter.source n.meter.source fault w.header w.entries.items (32 + 12 * w.header.number_of_streams) (heads_ahead choice source.size w.entries.items)
-      new.fetches (subst (λ k. FetchesAtMost k w.meter.source n.meter.source) same counts.books.fetches) (omega arith) (omega (arith, ok, new.entries)) (omega (arith, ok, calls, new.calls, new.entries)) new.inside
-      (λ file known. (new.opens file known, new.sound.header_is file (new.fetches.same_content ∙ known)))
-      (λ file known. (new.sound.directory file (new.fetches.same_content ∙ known)).each)
+      new.spends.fetches (subst (λ k. FetchesAtMost k w.meter.source n.meter.source) same counts.books.fetches) (omega arith) (omega (arith, ok, new.reads.entries)) (omega (arith, ok, calls, new.spends.calls, new.reads.entries)) new.reads.inside
+      (λ file known. (new.reads.opens file known, new.sound.header_is file (new.spends.fetches.same_content ∙ known)))
+      (λ file known. (new.sound.directory file (new.spends.fetches.same_content ∙ known)).each)
       late

@@ -108,22 +108,28 @@ module _ {S A : Type 0} (w n : Walk S A) (room : ℕ) where
     pub leaves_none : NextLeaves (listed_by rs room w) (Ok None) (listed_by rs room n)
     leaves_none = record {
       same = same_list rs rs (Ok None) e;
-      fetches = e.fetches;
-      counts = e.counts;
-      names_at_fault = λ _. tt;
-      names = e.named;
-      unread = stopped-unread n.meter.source.size n.current n.window n.stage None e.stage;
-      left = option_map-then (left_of w) (left_of n) (λ run. run) w.meter.source.store.content (λ file known. (e.listing file known).1 ∙ sym (e.listing file known).0) n.meter.source.store.content e.fetches.same_content;
-      stop = e.stage;
-      passed = tt;
-      falls = tt;
-      repeats = λ stop same. rw (e.repeats stop same).0 refl;
+      spends = record {
+        fetches = e.fetches;
+        counts = e.counts;
+        names = e.named;
+        names_at_fault = λ _. tt;
+        unread = stopped-unread n.meter.source.size n.current n.window n.stage None e.stage;
+      };
+      stands = record {
+        left = option_map-then (left_of w) (left_of n) (λ run. run) w.meter.source.store.content (λ file known. (e.listing file known).1 ∙ sym (e.listing file known).0) n.meter.source.store.content e.fetches.same_content;
+        stop = e.stage;
+        repeats = λ stop same. rw (e.repeats stop same).0 refl;
+        falls = tt;
+        rests = e.rests;
+      };
+      places = record {
+        passed = tt;
+        current = e.current;
+        records = e.records;
+        classed = tt;
+        entry = λ _. tt;
+      };
       told = λ _. tt;
-      entry = λ _. tt;
-      classed = tt;
-      current = e.current;
-      records = e.records;
-      rests = e.rests;
     }
 
     pub gives_none : (left : Run) → (listed_by rs room w).left ≡ Some left → Gives left (Ok None)
@@ -137,22 +143,28 @@ module _ {S A : Type 0} (w n : Walk S A) (room : ℕ) where
         let stopped : stop_of n.stage ≡ Some (Some f) = rw e.stage (fault_stage-stop f) in
         record {
           same = same_list rs rs (Err f) e;
-          fetches = e.fetches;
-          counts = e.counts;
-          names_at_fault = λ going. (e.met going).named;
-          names = tt;
-          unread = stopped-unread n.meter.source.size n.current n.window n.stage (Some f) stopped;
-          left = option_map-then (left_of w) (left_of n) (λ _. only_fault f) w.meter.source.store.content (λ file known. left_of-fault n file f e.stage) n.meter.source.store.content e.fetches.same_content;
-          stop = stopped;
-          passed = e.passed;
-          falls = tt;
-          repeats = λ stop same. rw (e.repeats stop same).0 refl;
+          spends = record {
+            fetches = e.fetches;
+            counts = e.counts;
+            names = tt;
+            names_at_fault = λ going. (e.met going).named;
+            unread = stopped-unread n.meter.source.size n.current n.window n.stage (Some f) stopped;
+          };
+          stands = record {
+            left = option_map-then (left_of w) (left_of n) (λ _. only_fault f) w.meter.source.store.content (λ file known. left_of-fault n file f e.stage) n.meter.source.store.content e.fetches.same_content;
+            stop = stopped;
+            repeats = λ stop same. rw (e.repeats stop same).0 refl;
+            falls = tt;
+            rests = e.rests;
+          };
+          places = record {
+            passed = e.passed;
+            current = e.current;
+            records = tt;
+            classed = tt;
+            entry = λ going. (e.met going).number;
+          };
           told = λ going. (e.met going).told;
-          entry = λ going. (e.met going).number;
-          classed = tt;
-          current = e.current;
-          records = tt;
-          rests = e.rests;
         }
 
     pub gives_fault : (left : Run) → (listed_by rs room w).left ≡ Some left → Gives left (Err f)
@@ -172,22 +184,28 @@ module _ {S A : Type 0} (w n : Walk S A) (room : ℕ) where
         let begins = begins_as z buffer s x told in
         record {
           same = same_list rs rest (Ok (Some s)) e;
-          fetches = rw (item_cost-step z buffer _ s x (rw n.name.ok.0 at held.0) held.1 told, begins) e.fetches;
-          counts = e.counts;
-          names_at_fault = λ _. tt;
-          names = names_raised z buffer _ s x w.meter.names n.meter.names held.1 told e.named;
-          unread = rw begins e.given.begins;
-          left = option_map-then (left_of w) (left_of n) tail w.meter.source.store.content (λ file known. sym (ap tail (given file known))) n.meter.source.store.content e.fetches.same_content;
-          stop = e.stage;
-          passed = passes z buffer s x w.next n.next told e.passed;
-          falls = e.given.falls;
-          repeats = λ stop same. let a : None ≡ Some stop = (e.repeats stop same).1 in absurd (cc);
+          spends = record {
+            fetches = rw (item_cost-step z buffer _ s x (rw n.name.ok.0 at held.0) held.1 told, begins) e.fetches;
+            counts = e.counts;
+            names = names_raised z buffer _ s x w.meter.names n.meter.names held.1 told e.named;
+            names_at_fault = λ _. tt;
+            unread = rw begins e.given.begins;
+          };
+          stands = record {
+            left = option_map-then (left_of w) (left_of n) tail w.meter.source.store.content (λ file known. sym (ap tail (given file known))) n.meter.source.store.content e.fetches.same_content;
+            stop = e.stage;
+            repeats = λ stop same. let a : None ≡ Some stop = (e.repeats stop same).1 in absurd (cc);
+            falls = e.given.falls;
+            rests = e.rests;
+          };
+          places = record {
+            passed = passes z buffer s x w.next n.next told e.passed;
+            current = becomes z buffer s x w.current n.current told e.current;
+            records = λ some. let taken = e.records some in (begins ∙ taken.0, taken.1);
+            classed = classed-given w.meter.source.size buffer n.current s x (rw e.fetches.same_size at told) held.1;
+            entry = λ _. tt;
+          };
           told = λ _. tt;
-          entry = λ _. tt;
-          classed = classed-given w.meter.source.size buffer n.current s x (rw e.fetches.same_size at told) held.1;
-          current = becomes z buffer s x w.current n.current told e.current;
-          records = λ some. let taken = e.records some in (begins ∙ taken.0, taken.1);
-          rests = e.rests;
         }
 
     pub gives_item : (left : Run) → (listed_by rs room w).left ≡ Some left → Gives left (Ok (Some x))

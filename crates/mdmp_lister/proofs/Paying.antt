@@ -141,6 +141,6 @@ module _ {S A : Type 0} (old new : Walk S A) where
   bounded_new source choice limits result opened counts =
       let same = counts.same in
       let books = counts.books in
-      paid_new _ new (counts.stage ∙ opened.stage) (books.same_names ∙ opened.names) counts.sound.few
-      (rw (same.next, opened.next, same.room.entries, same.room.choice, books.fetches.same_size) (omega (arith, books.fetched, opened.fetched, opened.entries)))
-      (rw (same.next, opened.next, same.room.entries, same.room.choice, same.room.window, opened.entries, books.fetches.same_size) (omega (arith, books.most_calls, opened.called, opened.entries)))
+      paid_new _ new (counts.stage ∙ opened.stage) (books.same_names ∙ opened.spends.names) counts.sound.few
+      (rw (same.next, opened.next, same.room.entries, same.room.choice, books.fetches.same_size) (omega (arith, books.fetched, opened.spends.fetched, opened.reads.entries)))
+      (rw (same.next, opened.next, same.room.entries, same.room.choice, same.room.window, opened.reads.entries, books.fetches.same_size) (omega (arith, books.most_calls, opened.spends.called, opened.reads.entries)))

@@ -100,22 +100,28 @@ module _ {S A : Type 0} (w : Walk S A) (at : ℕ) (e : Entry) (sound : IsSound w
       let begins = begins_as z buffer s x same in
       record {
         same = record { aside = refl; start = refl; header_is = refl; choice = refl; limit = refl; entries = refl; rooms = refl };
-        fetches = FetchesAtMost-within 0 _ w.meter.source w.meter.source (omega arith) (FetchesAtMost-none w.meter.source);
-        counts = Moves-none 1 w.meter;
-        names_at_fault = λ _. tt;
-        names = names_raised z buffer None s x w.meter.names w.meter.names tt same (omega arith);
-        unread = rw begins refl;
-        left = option_map-then (left_in (Sought at) w) (left_of (began w at e)) tail w.meter.source.store.content (λ file known. sym (ap tail (begun_left file known))) w.meter.source.store.content refl;
-        stop = refl;
-        passed = passes z buffer s x w.next (at + 1) same refl;
-        falls = omega (arith, within);
-        repeats = λ stop stopped. absurd (cc);
+        spends = record {
+          fetches = FetchesAtMost-within 0 _ w.meter.source w.meter.source (omega arith) (FetchesAtMost-none w.meter.source);
+          counts = Moves-none 1 w.meter;
+          names = names_raised z buffer None s x w.meter.names w.meter.names tt same (omega arith);
+          names_at_fault = λ _. tt;
+          unread = rw begins refl;
+        };
+        stands = record {
+          left = option_map-then (left_in (Sought at) w) (left_of (began w at e)) tail w.meter.source.store.content (λ file known. sym (ap tail (begun_left file known))) w.meter.source.store.content refl;
+          stop = refl;
+          repeats = λ stop stopped. absurd (cc);
+          falls = omega (arith, within);
+          rests = omega (arith, within);
+        };
+        places = record {
+          passed = passes z buffer s x w.next (at + 1) same refl;
+          current = becomes z buffer s x w.current e same refl;
+          records = λ some. absurd (omega (arith, some));
+          classed = classed-given z buffer e s x same tt;
+          entry = λ _. tt;
+        };
         told = λ _. tt;
-        entry = λ _. tt;
-        classed = classed-given z buffer e s x same tt;
-        current = becomes z buffer s x w.current e same refl;
-        records = λ some. absurd (omega (arith, some));
-        rests = omega (arith, within);
       }
 
   begun_gives : (left : Run) → (walked_by (Sought at) w).left ≡ Some left → Gives left (Ok (Some x))

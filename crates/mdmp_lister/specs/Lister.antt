@@ -171,27 +171,39 @@ is_for_good (Some (Some f)) = is_of_source f.kind
 abbrev pub is_fresh : ListerState → Bool
 is_fresh v = v.passed == 0 && not (is_some v.stop)
 
+-- the header and the directory are those of the file, where that is known. Of every file the header is one of a minidump,
+-- and the directory lies inside
+pub record HasReadDirectory (source : SourceState) (new : ListerState) : Type 0 where
+  pub header_is : (file : List ℕ) → source.store.content ≡ Some file → new.header ≡ header_at file 0
+  pub directory : (file : List ℕ) → source.store.content ≡ Some file → IsDirectory file new.entries
+  pub checked : header_fault_of new.header ≡ None
+  pub inside : IsInside new.header.stream_directory_rva (12 * new.header.number_of_streams) source.size
+  pub count : length new.entries ≡ new.header.number_of_streams
+
+-- it lists what was asked for, by the limits that were given
+pub record IsAskedFor (choice : Choice) (limits : Limits) (new : ListerState) : Type 0 where
+  pub choice_is : new.choice ≡ choice
+  pub limit_is : new.limit ≡ limits.name
+  pub window_room : new.rooms.window ≡ limits.window
+  pub entry_room : new.rooms.entries ≡ new.header.number_of_streams
+
+-- nothing was given of it
+pub record HasGivenNothing (content : Option (List ℕ)) (choice : Choice) (limits : Limits) (new : ListerState) : Type 0 where
+  pub left : new.left ≡ option_map (λ file. listing file choice limits.name) content
+  pub stop : new.stop ≡ None
+  pub passed : new.passed ≡ 0
+  pub standing : new.standing ≡ through
+  pub unread : new.unread ≡ 0
+  pub ranges : new.ranges ≡ []
+
 -- a listing that was opened over a source, and has given nothing, whether it keeps ranges or not
 pub record IsNewList (source : SourceState) (choice : Choice) (limits : Limits) (new : ListerState) : Type 0 where
   pub same_content : new.source.store.content ≡ source.store.content
   pub steady : IsSteady source new.source
-  pub header_is : (file : List ℕ) → source.store.content ≡ Some file → new.header ≡ header_at file 0
-  pub directory : (file : List ℕ) → source.store.content ≡ Some file → IsDirectory file new.entries
-  -- of every file: the header is one of a minidump, and the directory lies inside
-  pub checked : header_fault_of new.header ≡ None
-  pub inside : IsInside new.header.stream_directory_rva (12 * new.header.number_of_streams) source.size
-  pub count : length new.entries ≡ new.header.number_of_streams
-  pub choice_is : new.choice ≡ choice
-  pub limit_is : new.limit ≡ limits.name
-  pub entry_room : new.rooms.entries ≡ new.header.number_of_streams
-  pub window_room : new.rooms.window ≡ limits.window
-  pub passed : new.passed ≡ 0
-  pub ranges : new.ranges ≡ []
   pub counts : IsBegunOver source new.counts
-  pub left : new.left ≡ option_map (λ file. listing file choice limits.name) source.store.content
-  pub unread : new.unread ≡ 0
-  pub stop : new.stop ≡ None
-  pub standing : new.standing ≡ through
+  pub read : HasReadDirectory source new
+  pub asked : IsAskedFor choice limits new
+  pub given : HasGivenNothing source.store.content choice limits new
 
 -- a lister that was opened over a source, and has given nothing
 pub record IsNewLister (source : SourceState) (choice : Choice) (limits : Limits) (new : ListerState) : Type 0 where
@@ -212,9 +224,8 @@ pub record IsSameLister (old new : ListerState) : Type 0 where
   pub aside : new.counts.aside ≡ old.counts.aside
   pub start : new.counts.start ≡ old.counts.start
 
--- what a request for the next item leaves, whether ranges are kept or not
-pub record NextLeaves (old : ListerState) (result : Result (Option Item) ListFault) (new : ListerState) : Type 0 where
-  pub same : IsSameLister old new
+-- what a request for the next item fetches and counts
+pub record NextSpends (old : ListerState) (result : Result (Option Item) ListFault) (new : ListerState) : Type 0 where
   -- what came off the unread bytes of the current entry's stream, and the name of the item
   pub fetches : FetchesAtMost (old.unread + stream_begun old.source.size (begun_by result) + answer_cost old.limit result - new.unread) old.source new.source
   -- and at most one name was reached
@@ -224,21 +235,34 @@ pub record NextLeaves (old : ListerState) (result : Result (Option Item) ListFau
   -- and at a fault that is first answered that of a name, or maybe one where the store failed
   pub names_at_fault : old.stop ≡ None → IfErr result (λ f. (raised old.counts.names (names_in (Err f)) ≤ new.counts.names) × (new.counts.names ≤ old.counts.names + most_names_in (Err f)))
   pub unread : LeavesUnread old.source.size result old.unread new.unread
+
+-- what is left behind it, and what stands
+pub record NextStands (old : ListerState) (result : Result (Option Item) ListFault) (new : ListerState) : Type 0 where
   pub left : new.left ≡ option_map (left_after result) old.left
   pub stop : new.stop ≡ stop_after result
+  -- an answer that is given again changes nothing
+  pub repeats : (stop : Option ListFault) → old.stop ≡ Some stop → new ≡ old
+  pub falls : IfOk result (λ given. IfSome given (λ item. new.work < old.work))
+  pub rests : new.work ≤ old.work
+
+-- which entry is the current one, and which of its records come next
+pub record NextPlaces (old : ListerState) (result : Result (Option Item) ListFault) (new : ListerState) : Type 0 where
   pub passed : Passes result old.passed new.passed
   pub current : IsCurrent result old.current new.current
   pub records : GivesLeftRecord old.records result new.records
   -- what the item names is classed by the file's size
   pub classed : IfOk result (λ given. IfSome given (IsClassed old.source.size new.current))
-  pub falls : IfOk result (λ given. IfSome given (λ item. new.work < old.work))
-  -- an answer that is given again changes nothing
-  pub repeats : (stop : Option ListFault) → old.stop ≡ Some stop → new ≡ old
-  -- and another fault of the store is told in this call, of no item
-  pub told : old.stop ≡ None → IfErr result (λ f. IsToldIn old.current f old.source new.source)
   -- a fault stands in the entry whose Stream item was given last
   pub entry : old.stop ≡ None → IfErr result (λ f. f.entry + 1 ≡ old.passed)
-  pub rests : new.work ≤ old.work
+
+-- what a request for the next item leaves, whether ranges are kept or not
+pub record NextLeaves (old : ListerState) (result : Result (Option Item) ListFault) (new : ListerState) : Type 0 where
+  pub same : IsSameLister old new
+  pub spends : NextSpends old result new
+  pub stands : NextStands old result new
+  pub places : NextPlaces old result new
+  -- a fault of the store that does not stand yet is told in this call, of no item
+  pub told : old.stop ≡ None → IfErr result (λ f. IsToldIn old.current f old.source new.source)
 
 -- and of a lister, which keeps the ranges that it gives, and whose count of names is never at its greatest
 pub record ListerLeaves (old : ListerState) (result : Result (Option Item) ListFault) (new : ListerState) : Type 0 where

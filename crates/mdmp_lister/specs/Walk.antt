@@ -128,8 +128,8 @@ module _ {S A : Type 0} where
     pub next : new.next ≡ old.next
     pub current : new.current ≡ old.current
 
-  -- a walk that was opened over a source, and has given nothing
-  pub record IsNewWalk (source : SourceState) (choice : Choice) (limits : Limits) (w : Walk S A) : Type 0 where
+  -- what the opening of a walk over a source fetched and counted: its header and its directory
+  pub record NewWalkSpends (source : SourceState) (w : Walk S A) : Type 0 where
     pub fetches : FetchesAtMost (32 + 12 * w.header.number_of_streams) source w.meter.source
     pub calls : w.meter.source.calls ≤ raised source.calls (1 + w.header.number_of_streams)
     pub steady : IsSteady source w.meter.source
@@ -138,12 +138,22 @@ module _ {S A : Type 0} where
     pub names : w.meter.names ≡ 0
     pub aside : w.meter.aside ≡ record { bytes = 0; calls = 0 }
     pub start : w.meter.start ≡ record { bytes = source.fetched; calls = source.calls }
-    pub entries : vec_len w.entries ≡ w.header.number_of_streams
-    pub room : vec_capacity w.entries ≡ w.header.number_of_streams
-    pub inside : 12 * w.header.number_of_streams ≤ source.size
-    -- its header is one of a minidump, and its directory lies inside the file
+
+  -- the file has a header of a minidump, and its directory lies inside
+  pub record NewWalkReads (source : SourceState) (w : Walk S A) : Type 0 where
+    pub long : 32 ≤ source.size
     pub checked : header_fault_of w.header ≡ None
     pub placed : IsInside w.header.stream_directory_rva (12 * w.header.number_of_streams) source.size
+    pub inside : 12 * w.header.number_of_streams ≤ source.size
+    pub entries : vec_len w.entries ≡ w.header.number_of_streams
+    pub room : vec_capacity w.entries ≡ w.header.number_of_streams
+    -- neither the header nor the place of the directory is at fault
+    pub opens : (file : List ℕ) → source.store.content ≡ Some file → directory_refusal file ≡ None
+
+  -- a walk that was opened over a source as was asked for, and has given nothing
+  pub record IsNewWalk (source : SourceState) (choice : Choice) (limits : Limits) (w : Walk S A) : Type 0 where
+    pub spends : NewWalkSpends source w
+    pub reads : NewWalkReads source w
     pub choice_is : w.choice ≡ choice
     pub window : w.window.room ≡ limits.window
     pub name : vec_len w.name ≡ limits.name
@@ -152,9 +162,6 @@ module _ {S A : Type 0} where
     -- no entry was begun
     pub current_is : w.current.stream_type ≡ 0
     pub sound : IsSound w
-    -- the file has a header, and neither it nor the place of the directory is at fault
-    pub long : 32 ≤ source.size
-    pub opens : (file : List ℕ) → source.store.content ≡ Some file → directory_refusal file ≡ None
 
   -- the ranges of the chosen memory lists were counted, by their heads
   pub record CountsRanges (old : Walk S A) (result : Result ℕ SourceFault) (new : Walk S A) : Type 0 where

@@ -81,10 +81,10 @@ cause_from a b start c r before same cause = same ∙ cause ∙ sym before
 -- a lister that was opened has given nothing
 pub IsOpened-new : (source : SourceState) (choice : Choice) (limits : Limits) (new : ListerState) → IsNewLister source choice limits new → IsOpened choice new
 IsOpened-new source choice limits new is = record {
-  choice_is = is.list.choice_is;
-  passed = is.list.passed;
-  stop = is.list.stop;
-  ranges = is.list.ranges;
-  header_is = λ file known. is.list.header_is file (sym is.fetches.same_content ∙ known);
-  left = λ file known. is.list.left ∙ ap (option_map (λ (file : List ℕ). listing file choice limits.name)) (sym is.fetches.same_content ∙ known) ∙ ap (λ (limit : ℕ). Some (listing file choice limit)) (sym is.list.limit_is);
+  choice_is = is.list.asked.choice_is;
+  passed = is.list.given.passed;
+  stop = is.list.given.stop;
+  ranges = is.list.given.ranges;
+  header_is = λ file known. is.list.read.header_is file (sym is.fetches.same_content ∙ known);
+  left = λ file known. is.list.given.left ∙ ap (option_map (λ (file : List ℕ). listing file choice limits.name)) (sym is.fetches.same_content ∙ known) ∙ ap (λ (limit : ℕ). Some (listing file choice limit)) (sym is.list.asked.limit_is);
 }

@@ -26,13 +26,13 @@ loop-item-preserved-in-Some g c =
     let so_far = c.loop-item.invariant.source in
     let holds = c.next.follows.holds-at-none in
     record {
-      source = record { count = so_far.count + _; fetches = fetches_then _ _ _ _ _ so_far.fetches holds.list.fetches };
+      source = record { count = so_far.count + _; fetches = fetches_then _ _ _ _ _ so_far.fetches holds.list.spends.fetches };
       collected = λ file good run known.
           let before = c.loop-item.invariant.collected file good run known in
           let first : slice_get before.0.items 0 ≡ Some (plain c.in-Ok-Some.item) = rw c.in-Ok-Some.field-0-is at (c.in-Ok-Some.ensures.gives before.0 before.1.0) in (
             tail before.0,
             (
-              rw (c.in-Ok-Some.is, c.in-Ok-Some.field-0-is, before.1.0) at holds.list.left,
+              rw (c.in-Ok-Some.is, c.in-Ok-Some.field-0-is, before.1.0) at holds.list.stands.left,
               HasCollected-taken g.T.PlainRow.row_of run before.0 _ _ _ _ _ (plain c.in-Ok-Some.item) c.in-Some.row before.1.1 first (sym c.of.ensures ∙ c.in-Some.is)
                   c.saturating_add-count.ensures c.put.ensures,
             ),
@@ -44,13 +44,13 @@ loop-item-preserved g c =
     let so_far = c.loop-item.invariant.source in
     let holds = c.next.follows.holds-at-none in
     record {
-      source = record { count = so_far.count + _; fetches = fetches_then _ _ _ _ _ so_far.fetches holds.list.fetches };
+      source = record { count = so_far.count + _; fetches = fetches_then _ _ _ _ _ so_far.fetches holds.list.spends.fetches };
       collected = λ file good run known.
           let before = c.loop-item.invariant.collected file good run known in
           let first : slice_get before.0.items 0 ≡ Some (plain c.in-Ok-Some.item) = rw c.in-Ok-Some.field-0-is at (c.in-Ok-Some.ensures.gives before.0 before.1.0) in (
             tail before.0,
             (
-              rw (c.in-Ok-Some.is, c.in-Ok-Some.field-0-is, before.1.0) at holds.list.left,
+              rw (c.in-Ok-Some.is, c.in-Ok-Some.field-0-is, before.1.0) at holds.list.stands.left,
               HasCollected-passed g.T.PlainRow.row_of run before.0 _ _ _ (plain c.in-Ok-Some.item) before.1.1 first (sym c.of.ensures ∙ c.in_default.is),
             ),
           );

@@ -34,8 +34,8 @@ returns c =
     let now : IsGood c.in-Ok.lister.source.store file = IsGood-later file _ _ _ new.fetches good in
     let limit : c.in-Some.limits.name ≡ name = c.in-Some.ensures.2 in
     let left : c.in-Ok.lister.left ≡ Some (listing file All name) =
-    new.list.left ∙ ap (option_map (λ (f : List ℕ). listing f All c.in-Some.limits.name)) good.known ∙ ap (λ n. Some (listing file All n)) limit in
+    new.list.given.left ∙ ap (option_map (λ (f : List ℕ). listing f All c.in-Some.limits.name)) good.known ∙ ap (λ n. Some (listing file All n)) limit in
     let puts = c.put_list-answer.ensures file now (listing file All name) left skip (length c.args.out.now) [] c.new-part.ensures in
-    let told = rw (new.list.header_is file good.known, new.list.limit_is ∙ limit) at puts in
+    let told = rw (new.list.read.header_is file good.known, new.list.asked.limit_is ∙ limit) at puts in
     Ends-part pdb file name skip (AreLimits c.args.limits.now) c.put_list-answer.result c.give.result c.give.new.size c.give.new.fault c.args.out.now c.give.new.out _ _ _ _ valid
     (c.in-Ok.ensures.opens file good.known) told (rw c.list_answer.ensures at c.give.ensures.gives) (rw c.list_answer.ensures at c.give.ensures.wants)

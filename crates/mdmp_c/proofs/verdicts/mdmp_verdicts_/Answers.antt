@@ -31,10 +31,10 @@ returns-in-Ok-judge c =
     let new = c.in-Ok.ensures.new in
     let now : IsGood c.in-Ok.lister.source.store file = IsGood-later file _ _ _ new.fetches good in
     let found = c.in-Ok-judge.ensures file now in
-    let chosen = subst (λ (choice : Choice). HasJudged file choice c.in-Ok.lister.limit c.in-Ok-judge.judged c.args.out.now c.judge.new.out) new.list.choice_is found in
-    let limit : c.in-Ok.lister.limit ≡ c.args.limits.now.name = new.list.limit_is ∙ c.in-Some.ensures.2 in
+    let chosen = subst (λ (choice : Choice). HasJudged file choice c.in-Ok.lister.limit c.in-Ok-judge.judged c.args.out.now c.judge.new.out) new.list.asked.choice_is found in
+    let limit : c.in-Ok.lister.limit ≡ c.args.limits.now.name = new.list.asked.limit_is ∙ c.in-Some.ensures.2 in
     let named = subst (λ (n : ℕ). HasJudged file All n c.in-Ok-judge.judged c.args.out.now c.judge.new.out) limit chosen in
-    let entries : c.header-entries.result.number_of_streams ≡ entry_count file = ap (λ (h : Header). h.number_of_streams) (c.header-entries.ensures ∙ new.list.header_is file good.known) in
+    let entries : c.header-entries.result.number_of_streams ≡ entry_count file = ap (λ (h : Header). h.number_of_streams) (c.header-entries.ensures ∙ new.list.read.header_is file good.known) in
     let few : entry_count file < 2 ^ 32 = omega (arith, entries) in
     Ends-judged file c.args.limits.now.name (AreLimits c.args.limits.now) c.in-Ok-judge.judged c.tell.result c.tell.new.count c.check_answer.result c.tell.new.fault c.args.out.now c.judge.new.out valid
     (c.in-Ok.ensures.opens file good.known) few named c.check_answer.ensures

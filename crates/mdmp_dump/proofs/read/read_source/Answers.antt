@@ -24,7 +24,7 @@ pub returns-in-Err-read_streams-clause-refuses : goal.returns-in-Err-read_stream
 returns-in-Err-read_streams-clause-refuses g c = λ file known own.
     let opened = c.in-Ok.ensures.new in
     let none : opening_fault file c.args.choice ≡ None = c.in-Ok.ensures.opens file known in
-    let left : c.in-Ok.lister.left ≡ Some (run_of file c.args.limits.name (chosen file c.args.choice)) = opened.list.left ∙ (rw known refl) in
+    let left : c.in-Ok.lister.left ≡ Some (run_of file c.args.limits.name (chosen file c.args.choice)) = opened.list.given.left ∙ (rw known refl) in
     let read = c.in-Err-read_streams.ensures.of_file file c.args.limits.name (chosen file c.args.choice) (opened.fetches.same_content ∙ known) left in
     let owes : owed file c.args.parts None c.in-Ok.lister.left ≡ read_refusal file c.args.choice c.args.limits.name c.args.parts = rw (left, none) refl in
     sym owes ∙ read.1 own
@@ -38,8 +38,8 @@ pub returns-in-Ok-read_streams-clause-lays_out : goal.returns-in-Ok-read_streams
 returns-in-Ok-read_streams-clause-lays_out g c = λ file known.
     let opened = c.in-Ok.ensures.new in
     let head = opened-head file c.args.choice (c.in-Ok.ensures.opens file known) in
-    let header = c.header-header.ensures ∙ opened.list.header_is file known in
-    let left : c.in-Ok.lister.left ≡ Some (run_of file c.args.limits.name (chosen file c.args.choice)) = opened.list.left ∙ (rw known refl) in
+    let header = c.header-header.ensures ∙ opened.list.read.header_is file known in
+    let left : c.in-Ok.lister.left ≡ Some (run_of file c.args.limits.name (chosen file c.args.choice)) = opened.list.given.left ∙ (rw known refl) in
     let read = c.in-Ok-read_streams.ensures.of_file file c.args.limits.name (chosen file c.args.choice) (opened.fetches.same_content ∙ known) left in
     rw header (record { header = head.0; version_high = refl; checksum = refl; time = refl; flags = refl; directory = head.1; streams = read.0 })
 
@@ -47,7 +47,7 @@ pub returns-in-Ok-read_streams-clause-refuses : goal.returns-in-Ok-read_streams-
 returns-in-Ok-read_streams-clause-refuses g c = λ file known.
     let opened = c.in-Ok.ensures.new in
     let none : opening_fault file c.args.choice ≡ None = c.in-Ok.ensures.opens file known in
-    let left : c.in-Ok.lister.left ≡ Some (run_of file c.args.limits.name (chosen file c.args.choice)) = opened.list.left ∙ (rw known refl) in
+    let left : c.in-Ok.lister.left ≡ Some (run_of file c.args.limits.name (chosen file c.args.choice)) = opened.list.given.left ∙ (rw known refl) in
     let read = c.in-Ok-read_streams.ensures.of_file file c.args.limits.name (chosen file c.args.choice) (opened.fetches.same_content ∙ known) left in
     let owes : owed file c.args.parts None c.in-Ok.lister.left ≡ read_refusal file c.args.choice c.args.limits.name c.args.parts = rw (left, none) refl in
     sym owes ∙ read.1

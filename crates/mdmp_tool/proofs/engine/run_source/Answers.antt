@@ -52,8 +52,8 @@ returns-clause-through g c =
     let counts = c.counts-counts.ensures in
     rw c.into_source.ensures.value (IsReadThrough.listed (record {
       lister = c.put-answer.new.lister;
-      window = ap (λ (r : Rooms). r.window) same.rooms ∙ new.window_room;
-      limit = same.limit ∙ new.limit_is;
+      window = ap (λ (r : Rooms). r.window) same.rooms ∙ new.asked.window_room;
+      limit = same.limit ∙ new.asked.limit_is;
       source = refl;
       start = same.start ∙ new.counts.start;
       held = subst (λ (n : Counts). AreHeld c.put-answer.new.lister n) counts.value counts.held;

@@ -9,5 +9,5 @@ returns-in-Err-clause-gives g c = λ file run known left first. (tt, λ own. rw 
 pub returns-in-Err-clause-fetches : goal.returns-in-Err-clause-fetches
 returns-in-Err-clause-fetches g c =
     let holds = c.next.follows.holds-at-none in
-    Fetches_listed c.args.self.now.lister.current c.in-Err.fault _ _ (record { count = _; fetches = holds.list.fetches }) (rw c.in-Err.is at (holds.list.told c.requires)) c.in-Err.ensures.good
+    Fetches_listed c.args.self.now.lister.current c.in-Err.fault _ _ (record { count = _; fetches = holds.list.spends.fetches }) (rw c.in-Err.is at (holds.list.told c.requires)) c.in-Err.ensures.good
     (next_fits c.args.self.now.lister c.in-Err.fault c.next.follows.lender-at-none (rw c.in-Err.is at (holds.follows c.requires)))

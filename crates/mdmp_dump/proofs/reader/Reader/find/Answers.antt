@@ -14,28 +14,28 @@ returns-in-Err-clause-of_file g c = λ file limit x k xs known left kind. (tt, �
 pub returns-in-Ok-None-clause-of_file : goal.returns-in-Ok-None-clause-of_file
 returns-in-Ok-None-clause-of_file g c = λ file limit x k xs known left kind.
     let none = rw c.in-Ok-None.field-0-is at (c.in-Ok-None.ensures.gives _ left) in
-    let new : c.next.follows.lender-at-none.left ≡ Some (left_from file limit x k xs) = rw (c.in-Ok-None.is, c.in-Ok-None.field-0-is, left) at c.next.follows.holds-at-none.list.left in
+    let new : c.next.follows.lender-at-none.left ≡ Some (left_from file limit x k xs) = rw (c.in-Ok-None.is, c.in-Ok-None.field-0-is, left) at c.next.follows.holds-at-none.list.stands.left in
     rw (new, left) (end-given file limit x k xs none, refl)
 
 pub returns-in-Ok-Some-clause-of_file : goal.returns-in-Ok-Some-clause-of_file
 returns-in-Ok-Some-clause-of_file g c = λ file limit x k xs known left kind.
     let item = c.in-Ok-Some.item in
     let first = rw c.in-Ok-Some.field-0-is at (c.in-Ok-Some.ensures.gives _ left) in
-    let new : c.next.follows.lender-at-none.left ≡ Some (tail (left_from file limit x k xs)) = rw (c.in-Ok-Some.is, c.in-Ok-Some.field-0-is, left) at c.next.follows.holds-at-none.list.left in
+    let new : c.next.follows.lender-at-none.left ≡ Some (tail (left_from file limit x k xs)) = rw (c.in-Ok-Some.is, c.in-Ok-Some.field-0-is, left) at c.next.follows.holds-at-none.list.stands.left in
     rw (new, left) (found-given file limit x k xs g.T.Row.kind g.T.Row.told g.T.Row.steps g.met.T.Row.tells kind c.args.self.now.left _ first c.told_of.result c.told_of.ensures)
 
 pub returns-in-Err-clause-fetches : goal.returns-in-Err-clause-fetches
 returns-in-Err-clause-fetches g c =
     let holds = c.next.follows.holds-at-none in
-    Fetches_listed c.args.self.now.lister.current c.in-Err.fault _ _ (record { count = _; fetches = holds.list.fetches }) (rw c.in-Err.is at (holds.list.told c.requires)) c.in-Err.ensures.good
+    Fetches_listed c.args.self.now.lister.current c.in-Err.fault _ _ (record { count = _; fetches = holds.list.spends.fetches }) (rw c.in-Err.is at (holds.list.told c.requires)) c.in-Err.ensures.good
     (next_fits c.args.self.now.lister c.in-Err.fault c.next.follows.lender-at-none (rw c.in-Err.is at (holds.follows c.requires)))
 
 pub returns-in-Ok-Some-clause-fetches : goal.returns-in-Ok-Some-clause-fetches
 returns-in-Ok-Some-clause-fetches g c =
-    Fetches_told (record_told g.T.Row.told) _ _ _ (record { count = _; fetches = c.next.follows.holds-at-none.list.fetches }) c.told_of.result c.told_of.ensures
+    Fetches_told (record_told g.T.Row.told) _ _ _ (record { count = _; fetches = c.next.follows.holds-at-none.list.spends.fetches }) c.told_of.result c.told_of.ensures
 
 pub returns-in-Ok-Some-clause-classed : goal.returns-in-Ok-Some-clause-classed
 returns-in-Ok-Some-clause-classed g c =
     let list = c.next.follows.holds-at-none.list in
-    let classed = rw (c.in-Ok-Some.is, c.in-Ok-Some.field-0-is) at list.classed in
-    found_classed g.T.Row.told _ c.next.follows.lender-at-none.current _ c.told_of.result (rw (← list.fetches.same_size) at classed) c.told_of.ensures
+    let classed = rw (c.in-Ok-Some.is, c.in-Ok-Some.field-0-is) at list.places.classed in
+    found_classed g.T.Row.told _ c.next.follows.lender-at-none.current _ c.told_of.result (rw (← list.spends.fetches.same_size) at classed) c.told_of.ensures

@@ -51,22 +51,22 @@ returns-in-Err-take-clause-runs g c =
     let leaves = c.next.follows.holds-at-none in
     let holds = leaves.list in
     let x = c.in-Ok-Some.item in
-    let now = rw (c.in-Ok-Some.is, c.in-Ok-Some.field-0-is) at holds.current in
-    let cost = HasCost-more _ _ _ _ run.items _ _ run.cost x (rw (c.in-Ok-Some.is, c.in-Ok-Some.field-0-is) at holds.fetches)
-    (rw (c.in-Ok-Some.is, c.in-Ok-Some.field-0-is) at holds.unread) in
+    let now = rw (c.in-Ok-Some.is, c.in-Ok-Some.field-0-is) at holds.places.current in
+    let cost = HasCost-more _ _ _ _ run.items _ _ run.cost x (rw (c.in-Ok-Some.is, c.in-Ok-Some.field-0-is) at holds.spends.fetches)
+    (rw (c.in-Ok-Some.is, c.in-Ok-Some.field-0-is) at holds.spends.unread) in
     record {
       items = run.items ++ plain x ∷ [];
       handed = TakenToStop-end g.K.Sink.step (plain x) run.items c.args.sink.now c.loop-item.sink c.take.new.self run.taken c.in-Err-take.ensures;
-      passed = passed_behind-more run.items (plain x) _ _ _ run.passed (rw (c.in-Ok-Some.is, c.in-Ok-Some.field-0-is) at holds.passed ∙ sym (passed_after-plain x _));
+      passed = passed_behind-more run.items (plain x) _ _ _ run.passed (rw (c.in-Ok-Some.is, c.in-Ok-Some.field-0-is) at holds.places.passed ∙ sym (passed_after-plain x _));
       current = current_behind-more run.items (plain x) _ _ _ run.current (now ∙ sym (current_after-plain x _));
       classed = AllClassed-more _ run.items x _ _ c.next.follows.lender-at-none.current run.classed run.current now
-          (rw (run.cost.fetches.same_size, c.in-Ok-Some.is, c.in-Ok-Some.field-0-is) at holds.classed);
+          (rw (run.cost.fetches.same_size, c.in-Ok-Some.is, c.in-Ok-Some.field-0-is) at holds.places.classed);
       ranges = ranges_of-more _ _ _ run.items x run.ranges (rw (c.in-Ok-Some.is, c.in-Ok-Some.field-0-is) at leaves.ranges);
       left = λ run_left known.
           let rest = run.left run_left known in
           let first : slice_get rest.0.items 0 ≡ Some (plain x) = rw c.in-Ok-Some.field-0-is at (c.in-Ok-Some.ensures.gives rest.0 rest.1.0) in
-          (tail rest.0, (rw (c.in-Ok-Some.is, c.in-Ok-Some.field-0-is, rest.1.0) at holds.left, give_all-next run_left run.items (plain x) rest.0 rest.1.1 first));
-      names = names_of_all-more run.items x _ _ _ run.names (rose_exactly _ _ _ leaves.few_names (rw (c.in-Ok-Some.is, c.in-Ok-Some.field-0-is) at holds.names));
+          (tail rest.0, (rw (c.in-Ok-Some.is, c.in-Ok-Some.field-0-is, rest.1.0) at holds.stands.left, give_all-next run_left run.items (plain x) rest.0 rest.1.1 first));
+      names = names_of_all-more run.items x _ _ _ run.names (rose_exactly _ _ _ leaves.few_names (rw (c.in-Ok-Some.is, c.in-Ok-Some.field-0-is) at holds.spends.names));
       names_at_end = λ _. tt;
       fetches = HasCost-most _ _ _ _ _ cost;
       unread = cost.within;
@@ -86,30 +86,30 @@ loop-item-preserved g c =
     let leaves = c.next.follows.holds-at-none in
     let holds = leaves.list in
     let x = c.in-Ok-Some.item in
-    let now = rw (c.in-Ok-Some.is, c.in-Ok-Some.field-0-is) at holds.current in
+    let now = rw (c.in-Ok-Some.is, c.in-Ok-Some.field-0-is) at holds.places.current in
     record {
       same = same_lister-then _ _ _ so_far.same holds.same;
-      going = λ unstopped. rw (c.in-Ok-Some.is, c.in-Ok-Some.field-0-is) at holds.stop;
+      going = λ unstopped. rw (c.in-Ok-Some.is, c.in-Ok-Some.field-0-is) at holds.stands.stop;
       stays = λ stop same.
           let stopped : c.loop-item.self.stop ≡ Some stop = ap (λ (l : ListerState). l.stop) (so_far.stays stop same).0 ∙ same in
           let answer : None ≡ Some stop = rw c.in-Ok-Some.field-0-is at (c.in-Ok-Some.ensures.repeats stop stopped) in
           absurd (cc);
-      rests = omega (arith, so_far.rests, holds.rests);
+      rests = omega (arith, so_far.rests, holds.stands.rests);
       given = record {
         items = run.items ++ plain x ∷ [];
         taken = Taken-more g.K.Sink.step (plain x) run.items c.args.sink.now c.loop-item.sink c.take.new.self run.taken c.in-Ok.ensures;
-        passed = passed_behind-more run.items (plain x) _ _ _ run.passed (rw (c.in-Ok-Some.is, c.in-Ok-Some.field-0-is) at holds.passed ∙ sym (passed_after-plain x _));
+        passed = passed_behind-more run.items (plain x) _ _ _ run.passed (rw (c.in-Ok-Some.is, c.in-Ok-Some.field-0-is) at holds.places.passed ∙ sym (passed_after-plain x _));
         current = current_behind-more run.items (plain x) _ _ _ run.current (now ∙ sym (current_after-plain x _));
         classed = AllClassed-more _ run.items x _ _ c.next.follows.lender-at-none.current run.classed run.current now
-            (rw (run.cost.fetches.same_size, c.in-Ok-Some.is, c.in-Ok-Some.field-0-is) at holds.classed);
+            (rw (run.cost.fetches.same_size, c.in-Ok-Some.is, c.in-Ok-Some.field-0-is) at holds.places.classed);
         ranges = ranges_of-more _ _ _ run.items x run.ranges (rw (c.in-Ok-Some.is, c.in-Ok-Some.field-0-is) at leaves.ranges);
         left = λ run_left known.
             let rest = run.left run_left known in
             let first : slice_get rest.0.items 0 ≡ Some (plain x) = rw c.in-Ok-Some.field-0-is at (c.in-Ok-Some.ensures.gives rest.0 rest.1.0) in
-            (tail rest.0, (rw (c.in-Ok-Some.is, c.in-Ok-Some.field-0-is, rest.1.0) at holds.left, give_all-next run_left run.items (plain x) rest.0 rest.1.1 first));
-        names = names_of_all-more run.items x _ _ _ run.names (rose_exactly _ _ _ leaves.few_names (rw (c.in-Ok-Some.is, c.in-Ok-Some.field-0-is) at holds.names));
-        cost = HasCost-more _ _ _ _ run.items _ _ run.cost x (rw (c.in-Ok-Some.is, c.in-Ok-Some.field-0-is) at holds.fetches)
-            (rw (c.in-Ok-Some.is, c.in-Ok-Some.field-0-is) at holds.unread);
+            (tail rest.0, (rw (c.in-Ok-Some.is, c.in-Ok-Some.field-0-is, rest.1.0) at holds.stands.left, give_all-next run_left run.items (plain x) rest.0 rest.1.1 first));
+        names = names_of_all-more run.items x _ _ _ run.names (rose_exactly _ _ _ leaves.few_names (rw (c.in-Ok-Some.is, c.in-Ok-Some.field-0-is) at holds.spends.names));
+        cost = HasCost-more _ _ _ _ run.items _ _ run.cost x (rw (c.in-Ok-Some.is, c.in-Ok-Some.field-0-is) at holds.spends.fetches)
+            (rw (c.in-Ok-Some.is, c.in-Ok-Some.field-0-is) at holds.spends.unread);
         come = λ going.
             let next = rw (c.in-Ok-Some.is, c.in-Ok-Some.field-0-is) at (leaves.follows (so_far.going going)) in
             ComeNext-more _ _ _ _ _ _ _ run.items (plain x) (run.come going) (item_comes c.args.self.now c.loop-item.self _ so_far.same run.cost.fetches.same_size x next);
@@ -123,20 +123,20 @@ returns-in-Err-clause-runs g c =
     let leaves = c.next.follows.holds-at-none in
     let holds = leaves.list in
     let f = c.in-Err.fault in
-    let none = rw c.in-Err.is at holds.unread in
+    let none = rw c.in-Err.is at holds.spends.unread in
     record {
       items = run.items;
       handed = run.taken;
-      passed = (rw c.in-Err.is at holds.passed) ∙ run.passed;
-      current = (rw c.in-Err.is at holds.current) ∙ run.current;
+      passed = (rw c.in-Err.is at holds.places.passed) ∙ run.passed;
+      current = (rw c.in-Err.is at holds.places.current) ∙ run.current;
       classed = run.classed;
       ranges = (rw c.in-Err.is at leaves.ranges) ∙ append-nil _ ∙ run.ranges;
       left = λ run_left known.
           let rest = run.left run_left known in
-          (only_fault f, (rw (c.in-Err.is, rest.1.0) at holds.left, ((rest.0, rest.1.1), (λ not. rest.1.1 ∙ ap (give_all run.items) (c.in-Err.ensures.gives rest.0 rest.1.0 not), refl))));
-      names = (omega (arith, run.names, holds.counts.more_names), omega (arith, run.names, holds.counts.most_names));
-      names_at_end = λ going. let at = rw c.in-Err.is at (holds.names_at_fault (so_far.going going)) in (omega (arith, run.names, at.0, leaves.few_names), omega (arith, run.names, at.1));
-      fetches = HasCost-end _ _ _ _ run.items _ _ run.cost _ _ (rw c.in-Err.is at holds.fetches) (ap (λ n. bad_name_cost n f.kind) so_far.same.limit) none;
+          (only_fault f, (rw (c.in-Err.is, rest.1.0) at holds.stands.left, ((rest.0, rest.1.1), (λ not. rest.1.1 ∙ ap (give_all run.items) (c.in-Err.ensures.gives rest.0 rest.1.0 not), refl))));
+      names = (omega (arith, run.names, holds.spends.counts.more_names), omega (arith, run.names, holds.spends.counts.most_names));
+      names_at_end = λ going. let at = rw c.in-Err.is at (holds.spends.names_at_fault (so_far.going going)) in (omega (arith, run.names, at.0, leaves.few_names), omega (arith, run.names, at.1));
+      fetches = HasCost-end _ _ _ _ run.items _ _ run.cost _ _ (rw c.in-Err.is at holds.spends.fetches) (ap (λ n. bad_name_cost n f.kind) so_far.same.limit) none;
       unread = omega (arith, none);
       follows = λ going.
           let next = rw c.in-Err.is at (leaves.follows (so_far.going going)) in
@@ -148,21 +148,21 @@ returns-in-Ok-None-clause-runs g c =
     let run = c.loop-item.invariant.given in
     let leaves = c.next.follows.holds-at-none in
     let holds = leaves.list in
-    let none = rw (c.in-Ok-None.is, c.in-Ok-None.field-0-is) at holds.unread in
+    let none = rw (c.in-Ok-None.is, c.in-Ok-None.field-0-is) at holds.spends.unread in
     record {
       items = run.items;
       handed = run.taken;
       passed = tt;
-      current = (rw (c.in-Ok-None.is, c.in-Ok-None.field-0-is) at holds.current) ∙ run.current;
+      current = (rw (c.in-Ok-None.is, c.in-Ok-None.field-0-is) at holds.places.current) ∙ run.current;
       classed = run.classed;
       ranges = (rw (c.in-Ok-None.is, c.in-Ok-None.field-0-is) at leaves.ranges) ∙ append-nil _ ∙ run.ranges;
       left = λ run_left known.
           let rest = run.left run_left known in
           let none : rest.0 ≡ nothing = rw c.in-Ok-None.field-0-is at (c.in-Ok-None.ensures.gives rest.0 rest.1.0) in
-          (rest.0, (rw (c.in-Ok-None.is, c.in-Ok-None.field-0-is, rest.1.0) at holds.left, (rest.1.1 ∙ ap (give_all run.items) none, none)));
-      names = let none = rw (c.in-Ok-None.is, c.in-Ok-None.field-0-is) at holds.names in omega (arith, none, run.names);
+          (rest.0, (rw (c.in-Ok-None.is, c.in-Ok-None.field-0-is, rest.1.0) at holds.stands.left, (rest.1.1 ∙ ap (give_all run.items) none, none)));
+      names = let none = rw (c.in-Ok-None.is, c.in-Ok-None.field-0-is) at holds.spends.names in omega (arith, none, run.names);
       names_at_end = λ _. tt;
-      fetches = HasCost-end _ _ _ _ run.items _ _ run.cost 0 0 (rw (c.in-Ok-None.is, c.in-Ok-None.field-0-is) at holds.fetches) refl none;
+      fetches = HasCost-end _ _ _ _ run.items _ _ run.cost 0 0 (rw (c.in-Ok-None.is, c.in-Ok-None.field-0-is) at holds.spends.fetches) refl none;
       unread = omega (arith, none);
       follows = λ going.
           let next = rw (c.in-Ok-None.is, c.in-Ok-None.field-0-is) at (leaves.follows (c.loop-item.invariant.going going)) in

@@ -53,19 +53,25 @@ returns-clause-new g c =
     let steady = rw began at (IsCaused_later None 32 c.new-meter.result.source c.read_header.new.meter.source c.read_directory.new.meter.source of.books.fetches of.caused read.reads.caused).once in
     let finds = rw began at of.finds in
     record {
-      fetches = books.fetches;
-      calls = omega (arith, few, books.source_calls);
-      steady = steady;
-      fetched = omega (arith, books.fetched);
-      called = rw read.kept (omega (arith, books.most_calls));
-      names = books.same_names;
-      aside = books.same_aside;
-      start = books.same_start;
-      entries = read.count;
-      room = search rules;
-      inside = rw began at (directory_room h.stream_directory_rva n c.new-meter.result.source.size of.fits.inside);
-      checked = of.fits.checked;
-      placed = rw began at of.fits.inside;
+      spends = record {
+        fetches = books.fetches;
+        calls = omega (arith, few, books.source_calls);
+        steady = steady;
+        fetched = omega (arith, books.fetched);
+        called = rw read.kept (omega (arith, books.most_calls));
+        names = books.same_names;
+        aside = books.same_aside;
+        start = books.same_start;
+      };
+      reads = record {
+        long = rw began at (header-long h c.new-meter.result.source c.read_header.new.meter.source of.fits);
+        checked = of.fits.checked;
+        placed = rw began at of.fits.inside;
+        inside = rw began at (directory_room h.stream_directory_rva n c.new-meter.result.source.size of.fits.inside);
+        entries = read.count;
+        room = search rules;
+        opens = λ file known. (finds file known).0;
+      };
       choice_is = refl;
       window = search rules;
       name = search rules;
@@ -87,6 +93,4 @@ returns-clause-new g c =
         header_is = λ file known. (of.finds file (sym all.fetches.same_content ∙ known)).1;
         unfailed = λ file good. refl;
       };
-      long = rw began at (header-long h c.new-meter.result.source c.read_header.new.meter.source of.fits);
-      opens = λ file known. (finds file known).0;
     }

@@ -7,28 +7,22 @@ returns-in-Ok-clause-new g c =
     let new = c.in-Ok.ensures.new in
     record {
       list = record {
-        same_content = new.fetches.same_content;
-        steady = new.steady;
-        header_is = λ file known. new.sound.header_is file (new.fetches.same_content ∙ known);
-        directory = λ file known. new.sound.directory file (new.fetches.same_content ∙ known);
-        checked = new.checked;
-        inside = new.placed;
-        count = search rules;
-        choice_is = new.choice_is;
-        limit_is = new.name;
-        entry_room = new.room;
-        window_room = new.window;
-        passed = new.next;
-        ranges = refl;
-        counts = record { names = new.names; aside = new.aside; start = new.start };
-        left = search rules;
-        unread = search rules;
-        stop = search rules;
-        standing = rw new.stage refl;
+        same_content = new.spends.fetches.same_content;
+        steady = new.spends.steady;
+        counts = record { names = new.spends.names; aside = new.spends.aside; start = new.spends.start };
+        read = record {
+          header_is = λ file known. new.sound.header_is file (new.spends.fetches.same_content ∙ known);
+          directory = λ file known. new.sound.directory file (new.spends.fetches.same_content ∙ known);
+          checked = new.reads.checked;
+          inside = new.reads.placed;
+          count = search rules;
+        };
+        asked = record { choice_is = new.choice_is; limit_is = new.name; window_room = new.window; entry_room = new.reads.room };
+        given = record { left = search rules; stop = search rules; passed = new.next; standing = rw new.stage refl; unread = search rules; ranges = refl };
       };
-      fetches = new.fetches;
-      calls = new.calls;
-      fetched = new.fetched;
+      fetches = new.spends.fetches;
+      calls = new.spends.calls;
+      fetched = new.spends.fetched;
       range_room = refl;
       mark = c.counts-mark.ensures.value;
       position = refl;
