@@ -1,20 +1,18 @@
 -- Texts that are not known, by how many bytes they have.
-use Rattle.std.proofs.Common.{◌≡◌, ◌≤◌, ◌+◌, ◌*◌, ℕ, Bool, true, false, List, [], ◌++◌, if◌then◌else◌, Option, Result, Ok, Err, length, take, drop, arith, refl, ap, subst, sym, ◌∙◌, length-append, length-drop, length-take}
+use Rattle.std.proofs.Common.{◌≡◌, ◌≤◌, ◌+◌, ℕ, Bool, true, false, List, [], ◌++◌, if◌then◌else◌, Option, Result, Ok, Err, length, take, drop, arith, refl, ap, subst, sym, ◌∙◌, length-append, length-drop, length-take}
 use Rattle.std.specs.Prelude.{OnOk}
 use Rattle.std.proofs.Math.Seq.{take-add}
 use Rattle.std.proofs.lemmas.Bool.{eqb-true}
 use Rattle.mdmp_source.specs.Output.{OutState}
 use Rattle.mdmp_wire.specs.Header.{header_bytes}
-use Rattle.mdmp_wire.specs.declared.any_record.AnyRecord.{AnyRecord}
-use Rattle.mdmp_wire.specs.declared.any_record.AnyRecord.TheVariants as any
-use Rattle.mdmp_dump.specs.declared.view.Fields.{Fields}
 use Rattle.mdmp_dump.specs.declared.view.Kind.{Kind}
 use Rattle.mdmp_dump.specs.declared.view.Kind.TheVariants as kinds
 use Rattle.mdmp_dump.specs.declared.view.PartSize.{PartSize}
 use Rattle.mdmp_dump.specs.declared.view.PartSize.TheVariants as parts
-use Rattle.mdmp_dump.specs.Placed.{far_by, part_room, placed, placed_by, size_at, size_in}
+use Rattle.mdmp_dump.specs.Placed.{part_room, size_in}
 use Rattle.mdmp_dump.specs.Places.{up}
-use Rattle.mdmp_dump.specs.Shape.{GivesNone, ViewShape, StreamShape, body_by, body_of, far_of, is_far, room_of, type_told}
+use Rattle.mdmp_dump.specs.Shape.{GivesNone, ViewShape, StreamShape, body_by, body_of, far_of, is_far, room_of}
+use Rattle.mdmp_writer.specs.RecordTexts.{bytes_of_rows}
 use Rattle.mdmp_writer.specs.Layout.{block_size, blocks_size, fars_size, file_size, first_block}
 use Rattle.mdmp_writer.specs.Gather.{Gathered, HoldsMore, Gathers, PutsDump, PutsSome, Writes, gathered}
 use Rattle.mdmp_writer.specs.Writing.{GoesOut}
@@ -101,45 +99,17 @@ come_none a b whole left none come = some_is a b come.met whole (omega (arith, c
 
 -- ---- records
 
-pub placed_by_type : (w : AnyRecord) (f : Fields) (at : ℕ) → type_told (placed_by w f at) ≡ type_told w
-placed_by_type (any.Thread r) f at = refl
-placed_by_type (any.Module r) f at = refl
-placed_by_type (any.Memory r) f at = refl
-placed_by_type (any.Exception r) f at = refl
-placed_by_type (any.System r) f at = refl
-placed_by_type (any.Memory64 r) f at = refl
-placed_by_type (any.Unloaded r) f at = refl
-placed_by_type (any.MemoryInfo r) f at = refl
-
--- a record stays of its kind where its parts are placed
-pub placed_type : (f : Fields) (at : ℕ) → type_told (placed f at) ≡ type_told f.wire
-placed_type f at = placed_by_type f.wire f at
-
-pub known_type : (t u : ℕ) (kind : Kind) → kind ≡ kinds.Known t → kind ≡ kinds.Known u → t ≡ u
-known_type t u kind first second = cc
-
-pub row_split : (n m size : ℕ) → n ≡ m + 1 → n * size ≡ size + m * size
-row_split n m size is = rw is (omega arith)
-
-pub no_rows : (n size : ℕ) → n ≡ 0 → n * size ≡ 0
-no_rows n size none = rw none (omega arith)
+-- of no records
+pub no_rows : (kind : Kind) (count : ℕ) → count ≡ 0 → bytes_of_rows kind count ≡ 0
+no_rows (kinds.Known t) count none = rw none (omega arith)
+no_rows kinds.Unused count none = refl
+no_rows (kinds.Raw t) count none = refl
 
 -- a stream whose bytes stand behind all streams has this type
 pub far_kind : (kind : Kind) → is_far kind ≡ true → kind ≡ kinds.Known 9
 far_kind kinds.Unused is = cc
 far_kind (kinds.Known t) is = ap kinds.Known (eqb-true t 9 is)
 far_kind (kinds.Raw t) is = cc
-
--- the bytes of a range of 64-bit memory stand behind all streams
-pub far_of_range : (w : AnyRecord) (f : Fields) → type_told w ≡ 9 → size_in (size_at f 0) ≡ far_by w f
-far_of_range (any.Memory64 r) f is = refl
-far_of_range (any.Thread r) f is = absurd (omega (arith, is))
-far_of_range (any.Module r) f is = absurd (omega (arith, is))
-far_of_range (any.Memory r) f is = absurd (omega (arith, is))
-far_of_range (any.Exception r) f is = absurd (omega (arith, is))
-far_of_range (any.System r) f is = absurd (omega (arith, is))
-far_of_range (any.Unloaded r) f is = absurd (omega (arith, is))
-far_of_range (any.MemoryInfo r) f is = absurd (omega (arith, is))
 
 -- ---- streams
 

@@ -1,13 +1,16 @@
 -- Loops over the records that a view gives.
-use Rattle.std.proofs.Common.{◌≡◌, ℕ, suc, ◌+◌, List, ◌∷◌, ◌++◌, Option, Some, length, refl, ap, sym, subst, ◌∙◌, arith}
+use Rattle.std.proofs.Common.{◌≡◌, ◌≤◌, ◌<◌, ℕ, suc, ◌+◌, ◌*◌, ◌^◌, List, [], ◌∷◌, ◌++◌, Option, Some, length, refl, ap, sym, subst, ◌∙◌, arith}
 use Rattle.std.proofs.lemmas.List.{nil_from_length}
-use Rattle.mdmp_wire.specs.AnyRecord.{any_bytes}
 use Rattle.mdmp_dump.specs.declared.view.Fields.{Fields}
-use Rattle.mdmp_dump.specs.Placed.{bytes_in, fields_room, placed, seen_parts}
+use Rattle.mdmp_dump.specs.declared.view.Kind.TheVariants.{Known}
+use Rattle.mdmp_dump.specs.Placed.{far_room, fields_room}
 use Rattle.mdmp_dump.specs.Seen.{Seen}
-use Rattle.mdmp_dump.specs.Shape.{StreamCursor, GivesRecord, IsSized}
+use Rattle.mdmp_dump.specs.Shape.{StreamCursor, GivesRecord, IsSized, TakesOff, is_far, row_of, type_told}
 use Rattle.mdmp_writer.specs.Gather.{Gathered, IsLeft, Gathers, GathersPrefix}
-use Rattle.mdmp_writer.specs.Written.{all_padded, parts_of, ranges_text, rows}
+use Rattle.mdmp_writer.specs.declared.record_texts.RecordText.{RecordText}
+use Rattle.mdmp_writer.specs.declared.record_texts.RecordText.TheVariants.{Row, Parts, Memory}
+use Rattle.mdmp_writer.specs.RecordTexts.{HaveText, bytes_asked, record_text, record_texts, text_size, texts_size}
+use Rattle.mdmp_writer.specs.Written.{ranges_text, rows}
 use Rattle.mdmp_writer.proofs.Padded.{parts_first, parts_none}
 use Rattle.mdmp_writer.proofs.Sending.{left_begin, left_next, left_cut, left_stop, left_none}
 
@@ -48,103 +51,70 @@ pub rest_begin : (a : Gathered) (text : List Seen → List ℕ) (xs : List Seen)
     → left ≡ Some xs → length xs ≡ count → RestIs left count (λ ys. IsLeft a (text xs) a (text ys))
 rest_begin a text xs left count known len = record { rest = xs; known = known; count_is = len; holds = left_begin a (text xs) }
 
--- ---- rows
+-- ---- what is left of a text
 
--- the rows of these records are left of a text
-abbrev pub RowsLeft : Gathered → List ℕ → Gathered → ℕ → List Seen → Type 0
-RowsLeft a text b place ys = IsLeft a text b (rows place ys)
+-- the text of these records is left of it
+abbrev pub TextLeft : Gathered → List ℕ → Gathered → (List Seen → List ℕ) → List Seen → Type 0
+TextLeft a text b of ys = IsLeft a text b (of ys)
 
--- a row of those that are left goes first
-row_first : (f : Fields) (x : Seen) (xs : List Seen) (place : ℕ) → x.fields ≡ f → rows place (x ∷ xs) ≡ any_bytes (placed f place) ++ rows (place + fields_room f) xs
-unfolding rows
-row_first f x xs place same = ap (λ (h : Fields). any_bytes (placed h place) ++ rows (place + fields_room h) xs) same
+-- that of the first of them goes first
+module _ (a b c : Gathered) (text one rest : List ℕ) (of : List Seen → List ℕ) (new : StreamCursor) (f : Fields) (count : ℕ) (n : NextOf new f count (TextLeft a text b of)) (is : of (n.first ∷ n.others) ≡ one ++ rest) where
+  text_left : IsLeft a text b (one ++ rest)
+  text_left = subst (λ (t : List ℕ). IsLeft a text b t) is n.holds
 
-row_left : (a b : Gathered) (text : List ℕ) (new : StreamCursor) (f : Fields) (place count : ℕ) (n : NextOf new f count (RowsLeft a text b place))
-    → IsLeft a text b (any_bytes (placed f place) ++ rows (place + fields_room f) n.others)
-row_left a b text new f place count n = subst (λ (t : List ℕ). IsLeft a text b t) (row_first f n.first n.others place n.same) n.holds
+  pub text_cut : GathersPrefix b one c → GathersPrefix a text c
+  text_cut cut = left_cut a b c text one rest text_left cut
 
-pub row_cut : (a b c : Gathered) (text : List ℕ) (new : StreamCursor) (f : Fields) (place count : ℕ)
-    → NextOf new f count (RowsLeft a text b place) → GathersPrefix b (any_bytes (placed f place)) c → GathersPrefix a text c
-row_cut a b c text new f place count n cut = left_cut a b c text (any_bytes (placed f place)) _ (row_left a b text new f place count n) cut
+  pub text_put : (now : StreamCursor) (behind : List Seen → List ℕ) (left : ℕ) → behind n.others ≡ rest → count ≡ left + 1 → now.seen ≡ new.seen → Gathers b one c
+      → RestIs now.seen left (TextLeft a text c behind)
+  text_put now behind left same less stays put = record {
+    rest = n.others;
+    known = stays ∙ n.known;
+    count_is = omega (arith, n.count_is, less);
+    holds = subst (λ (t : List ℕ). IsLeft a text c t) (sym same) (left_next a b c text one rest text_left put);
+  }
 
-pub row_put : (a b c : Gathered) (text : List ℕ) (new : StreamCursor) (f : Fields) (place next left count : ℕ) → NextOf new f count (RowsLeft a text b place)
-    → count ≡ left + 1 → next ≡ place + fields_room f → Gathers b (any_bytes (placed f place)) c → RestIs new.seen left (RowsLeft a text c next)
-row_put a b c text new f place next left count n one e put = record {
-  rest = n.others;
-  known = n.known;
-  count_is = omega (arith, n.count_is, one);
-  holds = subst (λ (m : ℕ). RowsLeft a text c m n.others) (sym e) (left_next a b c text (any_bytes (placed f place)) _ (row_left a b text new f place count n) put);
-}
+pub text_stop : (a b : Gathered) (text : List ℕ) (of : List Seen → List ℕ) (count : ℕ) (left : Option (List Seen)) → RestIs left count (TextLeft a text b of) → GathersPrefix a text b
+text_stop a b text of count left r = left_stop a b text _ r.holds
 
-pub rows_stop : (a b : Gathered) (text : List ℕ) (place count : ℕ) (left : Option (List Seen)) → RestIs left count (RowsLeft a text b place) → GathersPrefix a text b
-rows_stop a b text place count left r = left_stop a b text _ r.holds
+pub text_done : (a b : Gathered) (text : List ℕ) (of : List Seen → List ℕ) (count : ℕ) (left : Option (List Seen)) → of [] ≡ [] → count ≡ 0
+    → RestIs left count (TextLeft a text b of) → Gathers a text b
+text_done a b text of count left none zero r = left_none a b text _ (ap of (nil_from_length r.rest (r.count_is ∙ zero)) ∙ none) r.holds
 
-pub rows_done : (a b : Gathered) (text : List ℕ) (place count : ℕ) (left : Option (List Seen)) → count ≡ 0 → RestIs left count (RowsLeft a text b place) → Gathers a text b
-unfolding rows
-rows_done a b text place count left zero r =
-    left_none a b text _ (ap (λ (ys : List Seen). rows place ys) (nil_from_length r.rest (r.count_is ∙ zero))) r.holds
+-- ---- what is written of each record
 
--- ---- parts
+pub texts_first : (t : RecordText) (at : ℕ) (x : Seen) (xs : List Seen) → record_texts t at (x ∷ xs) ≡ record_text t at x ++ record_texts t (at + fields_room x.fields) xs
+unfolding rows ranges_text
+texts_first Row at x xs = refl
+texts_first Parts at x xs = parts_first x xs
+texts_first Memory at x xs = refl
 
--- the parts of these records are left of a text
-abbrev pub PartsLeft : Gathered → List ℕ → Gathered → List Seen → Type 0
-PartsLeft a text b ys = IsLeft a text b (all_padded (parts_of ys))
+pub texts_none : (t : RecordText) (at : ℕ) → record_texts t at [] ≡ []
+unfolding rows ranges_text
+texts_none Row at = refl
+texts_none Parts at = parts_none
+texts_none Memory at = refl
 
-part_left : (a b : Gathered) (text : List ℕ) (new : StreamCursor) (f : Fields) (count : ℕ) (n : NextOf new f count (PartsLeft a text b))
-    → IsLeft a text b (all_padded (seen_parts n.first) ++ all_padded (parts_of n.others))
-part_left a b text new f count n = subst (λ (t : List ℕ). IsLeft a text b t) (parts_first n.first n.others) n.holds
+-- each takes off its bytes of those that are left
+row_off : (n m size : ℕ) → n ≡ m + 1 → TakesOff (n * size) size (m * size) m
+row_off n m size is = record { left = rw is (omega arith); last = λ none. rw none (omega arith) }
 
-pub parts_cut : (a b c : Gathered) (text : List ℕ) (new : StreamCursor) (f : Fields) (count : ℕ) (n : NextOf new f count (PartsLeft a text b))
-    → GathersPrefix b (all_padded (seen_parts n.first)) c → GathersPrefix a text c
-parts_cut a b c text new f count n cut = left_cut a b c text (all_padded (seen_parts n.first)) _ (part_left a b text new f count n) cut
+pub text_off : (t : RecordText) (old new : StreamCursor) (f : Fields) → HaveText t old.kind old.far → old.room < 2 ^ 32 → GivesRecord old f new
+    → TakesOff (texts_size t old) (text_size t f) (texts_size t new) new.records
+text_off Row old new f have low gives = rw (gives.stays, gives.kind) (row_off old.records new.records (row_of (type_told f.wire)) gives.records)
+text_off Parts old new f have low gives = gives.room (omega (arith, low))
+text_off Memory old new f have low gives = gives.far have.1
 
-pub parts_put : (a b c : Gathered) (text : List ℕ) (new now : StreamCursor) (f : Fields) (left count : ℕ) (n : NextOf new f count (PartsLeft a text b))
-    → count ≡ left + 1 → now.seen ≡ new.seen → Gathers b (all_padded (seen_parts n.first)) c → RestIs now.seen left (PartsLeft a text c)
-parts_put a b c text new now f left count n one same put = record {
-  rest = n.others;
-  known = same ∙ n.known;
-  count_is = omega (arith, n.count_is, one);
-  holds = left_next a b c text (all_padded (seen_parts n.first)) _ (part_left a b text new f count n) put;
-}
+pub asked_off : (t : RecordText) (one left all : ℕ) → one + left ≤ all → bytes_asked t one + bytes_asked t left ≤ bytes_asked t all
+asked_off Row one left all fit = omega arith
+asked_off Parts one left all fit = fit
+asked_off Memory one left all fit = fit
 
-pub parts_stop : (a b : Gathered) (text : List ℕ) (count : ℕ) (left : Option (List Seen)) → RestIs left count (PartsLeft a text b) → GathersPrefix a text b
-parts_stop a b text count left r = left_stop a b text _ r.holds
-
-pub parts_done : (a b : Gathered) (text : List ℕ) (count : ℕ) (left : Option (List Seen)) → count ≡ 0 → RestIs left count (PartsLeft a text b) → Gathers a text b
-parts_done a b text count left zero r =
-    left_none a b text _ (ap (λ (ys : List Seen). all_padded (parts_of ys)) (nil_from_length r.rest (r.count_is ∙ zero)) ∙ parts_none) r.holds
-
--- ---- ranges of 64-bit memory
-
--- the bytes of these ranges are left of a text
-abbrev pub RangesLeft : Gathered → List ℕ → Gathered → List Seen → Type 0
-RangesLeft a text b ys = IsLeft a text b (ranges_text ys)
-
-ranges_first : (x : Seen) (xs : List Seen) → ranges_text (x ∷ xs) ≡ bytes_in x 0 ++ ranges_text xs
-unfolding ranges_text
-ranges_first x xs = refl
-
-range_left : (a b : Gathered) (text : List ℕ) (new : StreamCursor) (f : Fields) (count : ℕ) (n : NextOf new f count (RangesLeft a text b))
-    → IsLeft a text b (bytes_in n.first 0 ++ ranges_text n.others)
-range_left a b text new f count n = subst (λ (t : List ℕ). IsLeft a text b t) (ranges_first n.first n.others) n.holds
-
-pub ranges_cut : (a b c : Gathered) (text : List ℕ) (new : StreamCursor) (f : Fields) (count : ℕ) (n : NextOf new f count (RangesLeft a text b))
-    → GathersPrefix b (bytes_in n.first 0) c → GathersPrefix a text c
-ranges_cut a b c text new f count n cut = left_cut a b c text (bytes_in n.first 0) _ (range_left a b text new f count n) cut
-
-pub ranges_put : (a b c : Gathered) (text : List ℕ) (new now : StreamCursor) (f : Fields) (left count : ℕ) (n : NextOf new f count (RangesLeft a text b))
-    → count ≡ left + 1 → now.seen ≡ new.seen → Gathers b (bytes_in n.first 0) c → RestIs now.seen left (RangesLeft a text c)
-ranges_put a b c text new now f left count n one same put = record {
-  rest = n.others;
-  known = same ∙ n.known;
-  count_is = omega (arith, n.count_is, one);
-  holds = left_next a b c text (bytes_in n.first 0) _ (range_left a b text new f count n) put;
-}
-
-pub ranges_stop : (a b : Gathered) (text : List ℕ) (count : ℕ) (left : Option (List Seen)) → RestIs left count (RangesLeft a text b) → GathersPrefix a text b
-ranges_stop a b text count left r = left_stop a b text _ r.holds
-
-pub ranges_done : (a b : Gathered) (text : List ℕ) (count : ℕ) (left : Option (List Seen)) → count ≡ 0 → RestIs left count (RangesLeft a text b) → Gathers a text b
-unfolding ranges_text
-ranges_done a b text count left zero r =
-    left_none a b text _ (ap (λ (ys : List Seen). ranges_text ys) (nil_from_length r.rest (r.count_is ∙ zero))) r.holds
+-- where all have such a text, each has one, and then the others
+pub have_text : (t : RecordText) (old new : StreamCursor) (f : Fields) → HaveText t old.kind old.far → GivesRecord old f new
+    → HaveText t (Known (type_told f.wire)) (far_room f) × HaveText t new.kind new.far
+have_text Row old new f have gives = (tt, tt)
+have_text Parts old new f have gives = (tt, tt)
+have_text Memory old new f have gives =
+    let off = (gives.far have.1).left in
+    ((sym (ap is_far gives.kind) ∙ have.0, omega (arith, off, have.1)), (ap is_far gives.stays ∙ have.0, omega (arith, off, have.1)))

@@ -15,7 +15,7 @@ use Rattle.mdmp_dump.specs.declared.view.PartSize.TheVariants.{NoPart, Size, Abs
 use Rattle.mdmp_dump.specs.Placed.{bytes_in, fields_room, name_around, name_room, part_room, parts_by, room_by, size_at, size_in, slot_room, slot_text}
 use Rattle.mdmp_dump.specs.Places.{up}
 use Rattle.mdmp_dump.specs.Seen.{Seen}
-use Rattle.mdmp_dump.specs.Shape.{AreOf, IsSized, ViewShape, StreamShape, asks_of, cost_at, fars, is_far, room_of, rooms, seen_at, shape_seen, stream_at, type_told, unused_shape}
+use Rattle.mdmp_dump.specs.Shape.{AreOf, IsSized, ViewShape, asks_of, cost_at, fars, is_far, room_of, rooms, seen_at, shape_seen, stream_at, type_told, unused_shape}
 use Rattle.mdmp_dump.specs.View.{DumpSeen}
 use Rattle.mdmp_writer.specs.Passes.{all_asks, all_block_asks, all_block_passes, all_costs, all_far_asks, all_far_passes, block_asks, block_passes, far_asks, far_passes, parts_asks, parts_passes, sum_below}
 use Rattle.mdmp_writer.specs.Written.{all_padded, padded, parts_of}

@@ -3,6 +3,7 @@ pub mod Cause
 pub mod Gather
 pub mod Layout
 pub mod Passes
+pub mod RecordTexts
 pub mod RoundTrip
 pub mod Uses
 pub mod Writing

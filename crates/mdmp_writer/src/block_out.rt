@@ -15,9 +15,9 @@ use crate::body_out::put_body;
 use crate::fault::WriteFault;
 use crate::gather::Gather;
 use crate::layout::StreamRoom;
-use crate::parts_out::put_parts;
 use crate::pieces::{put_padded, put_padding};
 use crate::place::{StreamPlace, up};
+use crate::record_texts::{RecordText, put_record_texts};
 use crate::sizes::count_of;
 use mdmp_dump::{DumpView, Kind, PartSize};
 use mdmp_lister::StreamKind;
@@ -41,7 +41,7 @@ fn put_second_pass<V: DumpView, O: Out>(
     ensures moves { V.Moves view.old view.new }
 {
     match view.rewind(stream) {
-        Ok(()) => put_parts(view, out, gather, count),
+        Ok(()) => put_record_texts(view, out, gather, RecordText::Parts, count, 0),
         Err(fault) => Err(WriteFault::View(fault)),
     }
 }

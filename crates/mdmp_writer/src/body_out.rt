@@ -13,7 +13,7 @@ use crate::fault::WriteFault;
 use crate::gather::Gather;
 use crate::place::StreamPlace;
 use crate::record_bytes::put_record;
-use crate::rows_out::put_rows;
+use crate::record_texts::{RecordText, put_record_texts};
 use mdmp_dump::DumpView;
 use mdmp_lister::{Form, StreamKind};
 use mdmp_source::Out;
@@ -92,7 +92,7 @@ pub(crate) fn put_body<V: DumpView, O: Out>(
 {
     match view.rewind(stream) {
         Ok(()) => match put_head(out, gather, kind, count, place.far) {
-            Ok(()) => put_rows(view, out, gather, count, place.at),
+            Ok(()) => put_record_texts(view, out, gather, RecordText::Row, count, place.at),
             Err(fault) => Err(fault),
         },
         Err(fault) => Err(WriteFault::View(fault)),

@@ -1,53 +1,22 @@
 //! 64-bit memory to an output.
-ghost use Rattle.std.specs.Prelude.{◌≡◌, ◌<◌, ◌-◌, ◌^◌, IsTrue, List, OnOk, Some, length};
-ghost use Rattle.mdmp_dump.specs.Seen.{Seen};
+ghost use Rattle.std.specs.Prelude.{◌≡◌, ◌<◌, ◌^◌, IsTrue, OnOk, Some, length};
 ghost use Rattle.mdmp_dump.specs.Shape.{body_of, cost_at, is_far, seen_at, stream_at};
 ghost use Rattle.mdmp_dump.specs.View.{DumpSeen};
 ghost use Rattle.mdmp_writer.specs.Gather.{gathered, PutsSome, Writes};
 ghost use Rattle.mdmp_writer.specs.Layout.{far_size};
 ghost use Rattle.mdmp_writer.specs.Passes.{far_asks, far_passes};
-ghost use Rattle.mdmp_writer.specs.Written.{far_text, ranges_text};
+ghost use Rattle.mdmp_writer.specs.Written.{far_text};
 ghost use Rattle.mdmp_writer.specs.Uses.{used, Uses};
 
 use crate::fault::WriteFault;
 use crate::gather::Gather;
 use crate::layout::is_far;
-use crate::pieces::{put_padding, put_part};
+use crate::pieces::put_padding;
+use crate::record_texts::{RecordText, put_record_texts};
 use crate::sizes::count_of;
 use mdmp_dump::DumpView;
 use mdmp_lister::StreamKind;
 use mdmp_source::Out;
-
-/// Writes the bytes of all ranges that are left of a stream, so many.
-fn put_ranges<V: DumpView, O: Out>(
-    view: &mut V,
-    out: &mut O,
-    gather: &mut Gather<'_>,
-    count: u64,
-) -> Result<(), WriteFault>
-    requires count { count ≡ (V.cursor view.old).records }
-    requires stray { (V.cursor view.old).records ≡ 0 → (V.cursor view.old).far ≡ 0 }
-    ensures writes { (xs : List Seen) → (V.cursor view.old).seen ≡ Some xs → length xs ≡ count
-        → Writes result (gathered (O.state out.old) gather.old) (ranges_text xs) (gathered (O.state out.new) gather.new) }
-    ensures some { IsTrue (is_far (V.cursor view.old).kind) → (V.cursor view.old).far < 2 ^ 64 - 1 → OnOk result (PutsSome (gathered (O.state out.old) gather.old) (V.cursor view.old).far (gathered (O.state out.new) gather.new)) }
-    ensures uses { Uses result (used (V.shape view.old) (V.spent view.old) (O.state out.old)) 0 ((V.cursor view.old).bytes) (used (V.shape view.new) (V.spent view.new) (O.state out.new)) }
-    ensures moves { V.Moves view.old view.new }
-{
-    let mut left = count;
-    while left > 0 {
-        match view.next_record() {
-            Ok(fields) => {
-                let [range, _, _] = fields.parts;
-                match put_part(view, out, gather, 0, range.size()) {
-                    Ok(()) => left -= 1,
-                    Err(fault) => return Err(fault),
-                }
-            },
-            Err(fault) => return Err(WriteFault::View(fault)),
-        }
-    }
-    Ok(())
-}
 
 /// Writes the bytes of the ranges of a stream of 64-bit memory, so many, and the zeros behind them:
 /// they have so many bytes.
@@ -71,7 +40,7 @@ fn put_memory<V: DumpView, O: Out>(
     ensures moves { V.Moves view.old view.new }
 {
     match view.rewind(stream) {
-        Ok(()) => match put_ranges(view, out, gather, count) {
+        Ok(()) => match put_record_texts(view, out, gather, RecordText::Memory, count, 0) {
             Ok(()) => put_padding(out, gather, size),
             Err(fault) => Err(fault),
         },

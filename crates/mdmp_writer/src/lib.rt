@@ -36,8 +36,8 @@ mod parts_out;
 mod pieces;
 mod place;
 mod record_bytes;
+mod record_texts;
 mod round_trip;
-mod rows_out;
 mod sizes;
 mod streams_out;
 

@@ -1,12 +1,12 @@
 //! The names and parts of records to an output.
-ghost use Rattle.std.specs.Prelude.{◌≡◌, ◌<◌, ◌≤◌, ◌+◌, ◌-◌, ◌^◌, ◌++◌, ℕ, List, [], ◌∷◌, Some, length, get_or, OnOk};
+ghost use Rattle.std.specs.Prelude.{◌≡◌, ◌<◌, ◌≤◌, ◌+◌, ◌-◌, ◌^◌, ◌++◌, ℕ, List, [], Some, length, get_or, OnOk};
 ghost use Rattle.mdmp_dump.specs.Placed.{fields_bytes, fields_room, name_around, name_room, seen_parts, size_at, size_in, slot_room, slot_text};
 ghost use Rattle.mdmp_dump.specs.Places.{up};
 ghost use Rattle.mdmp_dump.specs.Seen.{Seen};
 ghost use Rattle.mdmp_dump.specs.Shape.{IsSized};
 ghost use Rattle.mdmp_wire.specs.Number.{zeros};
 ghost use Rattle.mdmp_writer.specs.Gather.{gathered, PutsSome, Writes};
-ghost use Rattle.mdmp_writer.specs.Written.{all_padded, padded, padding, parts_of};
+ghost use Rattle.mdmp_writer.specs.Written.{all_padded, padded, padding};
 ghost use Rattle.mdmp_writer.specs.Uses.{used, Uses};
 
 use crate::fault::WriteFault;
@@ -98,7 +98,7 @@ fn put_slot<V: DumpView, O: Out>(
 }
 
 /// Writes the names and parts of the record given last.
-fn put_fields_parts<V: DumpView, O: Out>(
+pub(crate) fn put_fields_parts<V: DumpView, O: Out>(
     view: &mut V,
     out: &mut O,
     gather: &mut Gather<'_>,
@@ -122,33 +122,4 @@ fn put_fields_parts<V: DumpView, O: Out>(
         },
         Err(fault) => Err(fault),
     }
-}
-
-/// Writes the names and parts of all records that are left of a stream, so many.
-pub(crate) fn put_parts<V: DumpView, O: Out>(
-    view: &mut V,
-    out: &mut O,
-    gather: &mut Gather<'_>,
-    count: u64,
-) -> Result<(), WriteFault>
-    requires count { count ≡ (V.cursor view.old).records }
-    requires room { (V.cursor view.old).room < 2 ^ 32 }
-    requires stray { (V.cursor view.old).records ≡ 0 → (V.cursor view.old).room ≡ 0 }
-    ensures writes { (xs : List Seen) → (V.cursor view.old).seen ≡ Some xs → length xs ≡ count
-        → Writes result (gathered (O.state out.old) gather.old) (all_padded (parts_of xs)) (gathered (O.state out.new) gather.new) }
-    ensures some { OnOk result (PutsSome (gathered (O.state out.old) gather.old) (V.cursor view.old).room (gathered (O.state out.new) gather.new)) }
-    ensures uses { Uses result (used (V.shape view.old) (V.spent view.old) (O.state out.old)) 0 ((V.cursor view.old).bytes) (used (V.shape view.new) (V.spent view.new) (O.state out.new)) }
-    ensures moves { V.Moves view.old view.new }
-{
-    let mut left = count;
-    while left > 0 {
-        match view.next_record() {
-            Ok(fields) => match put_fields_parts(view, out, gather, &fields) {
-                Ok(()) => left -= 1,
-                Err(fault) => return Err(fault),
-            },
-            Err(fault) => return Err(WriteFault::View(fault)),
-        }
-    }
-    Ok(())
 }

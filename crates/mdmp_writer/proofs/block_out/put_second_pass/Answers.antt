@@ -8,14 +8,14 @@ pub returns-in-Ok-clause-writes : goal.returns-in-Ok-clause-writes
 returns-in-Ok-clause-writes g c x known =
     let s = g.V.DumpView.shape c.args.view.now in
     let k = c.args.stream in
-    c.put_parts.ensures.writes (seen_at x k).records (ap (λ (u : StreamCursor). u.seen) c.in-Ok.ensures.begins ∙ begun_seen s x k known)
+    c.put_record_texts.ensures.writes (seen_at x k).records (ap (λ (u : StreamCursor). u.seen) c.in-Ok.ensures.begins ∙ begun_seen s x k known)
     (sym (known_count s x k c.args.count (g.met.V.DumpView.sound c.args.view.now x known) c.requires.count))
 
-pub put_parts-requires-clause-stray : goal.put_parts-requires-clause-stray
-put_parts-requires-clause-stray g c =
+pub put_record_texts-requires-clause-stray : goal.put_record_texts-requires-clause-stray
+put_record_texts-requires-clause-stray g c =
     let s = g.V.DumpView.shape c.args.view.now in
     let k = c.args.stream in
     rw c.in-Ok.ensures.begins (λ none. room_stray (stream_at s k) (g.met.V.DumpView.stray c.args.view.now k) none)
 
 pub returns-in-Ok-clause-some : goal.returns-in-Ok-clause-some
-returns-in-Ok-clause-some g c = rw c.in-Ok.ensures.begins at c.put_parts.ensures.some
+returns-in-Ok-clause-some g c = rw c.in-Ok.ensures.begins at c.put_record_texts.ensures.some

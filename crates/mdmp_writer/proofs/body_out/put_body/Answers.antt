@@ -1,10 +1,11 @@
 use Rattle.std.proofs.Common.{◌≡◌, ◌∙◌, ◌*◌, Option, refl, sym, ap, arith}
 use Rattle.mdmp_lister.specs.declared.kind.StreamKind.{StreamKind}
-use Rattle.mdmp_dump.specs.Shape.{StreamCursor, head_by, row_by, row_of, seen_at}
+use Rattle.mdmp_dump.specs.Shape.{StreamCursor, head_by, row_by, seen_at}
+use Rattle.mdmp_writer.specs.RecordTexts.{bytes_of_rows}
 use Rattle.mdmp_writer.specs.Written.{head_by_kind, rows}
 use Rattle.mdmp_writer.proofs.Blocks.{begun_seen, known_count}
 use Rattle.mdmp_writer.proofs.Causes.{uses_none, uses_pass, uses_sent, uses_then}
-use Rattle.mdmp_writer.proofs.Counting.{ok_is, ok_then}
+use Rattle.mdmp_writer.proofs.Counting.{no_rows, ok_is, ok_then}
 use Rattle.mdmp_writer.proofs.Sending.{writes_then}
 use Rattle.mdmp_writer.proofs.body_out.put_body.Goals as goal
 
@@ -13,19 +14,24 @@ returns-in-Ok-put_head-clause-writes g c x known =
     let s = g.V.DumpView.shape c.args.view.now in
     let k = c.args.stream in
     let xs = (seen_at x k).records in
-    writes_then c.put_rows.result _ _ _ (head_by_kind c.args.kind c.args.count c.args.place.far) (rows c.args.place.at xs) c.in-Ok-put_head.ensures.writes
-    (c.put_rows.ensures.writes xs (ap (λ (u : StreamCursor). u.seen) c.in-Ok.ensures.begins ∙ begun_seen s x k known)
+    writes_then c.put_record_texts.result _ _ _ (head_by_kind c.args.kind c.args.count c.args.place.far) (rows c.args.place.at xs) c.in-Ok-put_head.ensures.writes
+    (c.put_record_texts.ensures.writes xs (ap (λ (u : StreamCursor). u.seen) c.in-Ok.ensures.begins ∙ begun_seen s x k known)
     (sym (known_count s x k c.args.count (g.met.V.DumpView.sound c.args.view.now x known) c.requires.count)))
 
 pub returns-in-Ok-put_head-clause-some : goal.returns-in-Ok-put_head-clause-some
 returns-in-Ok-put_head-clause-some g c t is of =
     let kind = c.args.kind in
-    let rows : c.args.count * row_of t ≡ c.args.count * row_by kind = ap (λ (o : Option StreamKind). c.args.count * row_by o) (sym of) in
-    ok_then c.put_rows.result _ _ _ (head_by kind) (c.args.count * row_by kind) _ refl c.in-Ok-put_head.ensures.some
-    (ok_is c.put_rows.result _ _ _ _ rows (c.put_rows.ensures.some t (ap (λ (u : StreamCursor). u.kind) c.in-Ok.ensures.begins ∙ is)))
+    let begun = c.in-Ok.ensures.begins in
+    let rows : bytes_of_rows (g.V.DumpView.cursor c.rewind.new.self).kind (g.V.DumpView.cursor c.rewind.new.self).records ≡ c.args.count * row_by kind =
+    rw (begun, is, sym c.requires.count) (ap (λ (o : Option StreamKind). c.args.count * row_by o) (sym of)) in
+    ok_then c.put_record_texts.result _ _ _ (head_by kind) (c.args.count * row_by kind) _ refl c.in-Ok-put_head.ensures.some
+    (ok_is c.put_record_texts.result _ _ _ _ rows c.put_record_texts.ensures.some)
+
+pub put_record_texts-requires-clause-stray : goal.put_record_texts-requires-clause-stray
+put_record_texts-requires-clause-stray g c none = no_rows _ _ none
 
 pub returns-in-Ok-put_head-clause-uses : goal.returns-in-Ok-put_head-clause-uses
 returns-in-Ok-put_head-clause-uses g c =
     uses_then
     (uses_sent (uses_pass _ uses_none c.rewind.ensures.shape c.in-Ok.ensures.passed c.in-Ok.ensures.asked) c.in-Ok-put_head.ensures.cause)
-    c.put_rows.ensures.uses (omega arith) (omega arith)
+    c.put_record_texts.ensures.uses (omega arith) (omega arith)

@@ -1,4 +1,4 @@
-use Rattle.std.proofs.Common.{◌≡◌, ◌+◌, ◌*◌, ◌++◌, ◌∙◌, ap, arith, sym, length, refl, Some, Err, true}
+use Rattle.std.proofs.Common.{◌≡◌, ◌+◌, ◌*◌, ◌++◌, ◌∙◌, ap, arith, sym, length, Some}
 use Rattle.mdmp_wire.specs.Header.{header_bytes}
 use Rattle.mdmp_dump.specs.Shape.{ViewShape}
 use Rattle.mdmp_dump.specs.View.{DumpSeen}

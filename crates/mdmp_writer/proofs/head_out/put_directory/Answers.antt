@@ -1,7 +1,6 @@
 use Rattle.std.proofs.Common.{◌≡◌, ◌<◌, ◌≤◌, ◌+◌, ◌^◌, ◌∙◌, Some, ap, arith, refl, sym, subst, length, ℕ}
-use Rattle.mdmp_dump.specs.Shape.{ViewShape, body_of, stream_at}
+use Rattle.mdmp_dump.specs.Shape.{ViewShape, stream_at}
 use Rattle.mdmp_writer.specs.Layout.{IsRoom, block_size, far_size}
-use Rattle.mdmp_writer.specs.Written.{written_entry}
 use Rattle.mdmp_writer.proofs.Sending.{left_begin, left_none}
 use Rattle.mdmp_writer.proofs.Streaming.{directory_none, entry_cut, entry_is, entry_put}
 use Rattle.mdmp_writer.proofs.Sums.{blocks_next, ends_below, far_within, room_block, room_body}

@@ -1,4 +1,4 @@
-use Rattle.std.proofs.Common.{◌≡◌, ◌+◌, ◌-◌, ◌++◌, [], ap, arith, get_or, length, refl, sym, true}
+use Rattle.std.proofs.Common.{◌≡◌, ◌+◌, ◌-◌, ◌++◌, [], ap, arith, get_or, length, sym}
 use Rattle.mdmp_wire.specs.NumberLaws.{length-le}
 use Rattle.mdmp_dump.specs.Placed.{size_in}
 use Rattle.mdmp_dump.specs.Places.{up}

@@ -1,4 +1,4 @@
-use Rattle.std.proofs.Common.{◌+◌, ◌-◌, ◌++◌, ◌∙◌, [], arith, get_or, length, refl, true}
+use Rattle.std.proofs.Common.{◌+◌, ◌-◌, ◌++◌, [], arith, get_or, length, refl}
 use Rattle.mdmp_dump.specs.Places.{up}
 use Rattle.mdmp_wire.specs.Number.{zeros}
 use Rattle.mdmp_wire.specs.NumberLaws.{length-le}

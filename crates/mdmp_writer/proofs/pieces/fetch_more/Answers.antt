@@ -1,4 +1,4 @@
-use Rattle.std.proofs.Common.{◌+◌, [], arith, refl, true}
+use Rattle.std.proofs.Common.{◌+◌, [], arith, refl}
 use Rattle.mdmp_writer.specs.Gather.{gathered}
 use Rattle.mdmp_writer.proofs.Causes.{uses_fault, uses_none, uses_sent}
 use Rattle.mdmp_writer.proofs.Counting.{some_held, some_is, some_of, some_then}

@@ -1,4 +1,4 @@
-use Rattle.std.proofs.Common.{◌≡◌, ◌≤◌, ◌+◌, ◌-◌, ℕ, List, [], Some, Ok, take, get_or}
+use Rattle.std.proofs.Common.{◌≡◌, ◌≤◌, ◌-◌, ℕ, List, [], Some, Ok, take, get_or}
 use Rattle.mdmp_writer.specs.Gather.{gathered, Gathers, PutsSome}
 use Rattle.mdmp_writer.specs.Uses.{Uses, used}
 use Rattle.mdmp_writer.proofs.pieces.put_part.Given as goal

@@ -1,4 +1,4 @@
-use Rattle.std.proofs.Common.{◌≡◌, ◌<◌, ◌≤◌, ◌+◌, ◌^◌, ◌∙◌, ℕ, Some, ap, arith, refl, sym, subst, length}
+use Rattle.std.proofs.Common.{◌≡◌, ◌<◌, ◌≤◌, ◌+◌, ◌^◌, ◌∙◌, ℕ, Some, ap, arith, sym, subst, length}
 use Rattle.mdmp_dump.specs.Shape.{ViewShape, stream_at}
 use Rattle.mdmp_writer.specs.Layout.{IsRoom, block_size, blocks_size, far_size}
 use Rattle.mdmp_writer.specs.Passes.{block_asks, block_passes}

@@ -1,4 +1,4 @@
-use Rattle.std.proofs.Common.{◌<◌, ◌≤◌, ◌^◌, ◌∙◌, ap, arith, refl, sym, subst, length}
+use Rattle.std.proofs.Common.{◌<◌, ◌≤◌, ◌^◌, ◌∙◌, ap, arith, sym, subst, length}
 use Rattle.mdmp_dump.specs.Shape.{ViewShape, body_of, stream_at}
 use Rattle.mdmp_writer.specs.Layout.{far_size, fars_size}
 use Rattle.mdmp_writer.specs.Passes.{far_asks, far_passes}
