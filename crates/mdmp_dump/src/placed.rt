@@ -1,6 +1,5 @@
 //! A record as it is written, with the places of its name and parts.
 ghost use Rattle.std.specs.Prelude.{◌≡◌, ◌+◌, ◌<◌, ◌≤◌, ◌^◌};
-ghost use Rattle.mdmp_dump.specs.Places.{up};
 ghost use Rattle.mdmp_dump.specs.Placed.{address_of, far_room, fields_room, location_of, name_room, part_room, placed, size_in, slot_room};
 
 use crate::view::{Fields, PartSize};
@@ -111,15 +110,6 @@ fn address(name: PartSize, at: u64) -> u32
     }
 }
 
-/// The least multiple of 4 that is at least `n`.
-fn up(n: u128) -> u128
-    requires { n ≤ 2 ^ 64 + 6 }
-    ensures same { result ≡ up n }
-    ensures bound { result ≤ 2 ^ 64 + 8 }
-{
-    (n + 3) / 4 * 4
-}
-
 /// The bytes of a part, and what pads them.
 fn part_room(part: PartSize) -> u128
     ensures same { result ≡ part_room part }
@@ -127,7 +117,7 @@ fn part_room(part: PartSize) -> u128
 {
     match part {
         PartSize::NoPart => 0,
-        PartSize::Size(size) => up(u128::from(size)),
+        PartSize::Size(size) => u128::from(size).next_multiple_of(4),
         PartSize::Absent(_) => 0,
     }
 }
@@ -139,7 +129,7 @@ fn name_room(name: PartSize) -> u128
 {
     match name {
         PartSize::NoPart => 0,
-        PartSize::Size(size) => up(4 + u128::from(size) + 2),
+        PartSize::Size(size) => (4 + u128::from(size) + 2).next_multiple_of(4),
         PartSize::Absent(_) => 0,
     }
 }

@@ -16,7 +16,7 @@ use crate::fault::WriteFault;
 use crate::gather::Gather;
 use crate::layout::StreamRoom;
 use crate::pieces::{put_padded, put_padding};
-use crate::place::{StreamPlace, up};
+use crate::place::StreamPlace;
 use crate::record_texts::{RecordText, put_record_texts};
 use crate::sizes::count_of;
 use mdmp_dump::{DumpView, Kind, PartSize};
@@ -95,7 +95,7 @@ fn put_records<V: DumpView, O: Out>(
     let kind = StreamKind::of_type(stream_type);
     let count = count_of(kind, room.body);
     let behind = StreamPlace {
-        at: place.at + up(room.body),
+        at: place.at + room.body.next_multiple_of(4),
         far: place.far,
     };
     match put_body(view, out, gather, stream, kind, count, behind) {

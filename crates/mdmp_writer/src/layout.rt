@@ -6,7 +6,6 @@ ghost use Rattle.mdmp_dump.specs.Shape.{is_far, IsViewOf, stream_at};
 ghost use Rattle.mdmp_writer.specs.Layout.{AreEnds, block_size, far_size, first_misnamed, is_misnamed, is_too_large, IsRoom, stream_room, shape_fault, size_answer, layout_fault, size_or, written_size};
 
 use crate::fault::LayoutFault;
-use crate::place::up;
 use mdmp_dump::{DumpView, Kind};
 use mdmp_lister::StreamKind as StreamKind;
 
@@ -28,7 +27,7 @@ impl StreamRoom {
         requires { up self.body + self.parts < 2 ^ 64 }
         ensures { result ≡ up self.body + self.parts }
     {
-        up(self.body) + self.parts
+        self.body.next_multiple_of(4) + self.parts
     }
 }
 
@@ -144,7 +143,7 @@ fn stream_room(kind: Kind, body: u64, parts: u64) -> StreamRoom
             kind,
             body,
             parts: 0,
-            far: up(parts),
+            far: parts.next_multiple_of(4),
         }
     } else {
         StreamRoom {

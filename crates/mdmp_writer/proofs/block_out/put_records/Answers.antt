@@ -28,14 +28,14 @@ counted g c =
 -- what is written, in the order of the calls
 is_block : (g : Over) (c : After-put_body g) (x : DumpSeen) → (g.V.DumpView.shape c.args.view.now).seen ≡ Some x
     → block_text (seen_at x c.args.stream) c.args.place.at c.args.place.far
-    ≡ (head_by_kind c.of_type-kind.result c.count_of-count.result c.args.place.far ++ rows (c.args.place.at + c.up.result) (seen_at x c.args.stream).records)
+    ≡ (head_by_kind c.of_type-kind.result c.count_of-count.result c.args.place.far ++ rows (c.args.place.at + c.next_multiple_of.result) (seen_at x c.args.stream).records)
     ++ padding c.args.room.body ++ all_padded (parts_of (seen_at x c.args.stream).records)
 is_block g c x known =
     let s = g.V.DumpView.shape c.args.view.now in
     let k = c.args.stream in
     let t = c.args.stream_type in
-    block_known s x k t c.of_type-kind.result c.args.place.at c.args.place.far c.args.room.body c.count_of-count.result (c.args.place.at + c.up.result)
-    (g.met.V.DumpView.sound c.args.view.now x known) c.requires.kind c.of_type-kind.ensures (room_body (stream_at s k) c.args.room c.requires.room) (counted g c) (ap (λ (m : ℕ). c.args.place.at + m) c.up.ensures)
+    block_known s x k t c.of_type-kind.result c.args.place.at c.args.place.far c.args.room.body c.count_of-count.result (c.args.place.at + c.next_multiple_of.result)
+    (g.met.V.DumpView.sound c.args.view.now x known) c.requires.kind c.of_type-kind.ensures (room_body (stream_at s k) c.args.room c.requires.room) (counted g c) (omega (arith, c.next_multiple_of.ensures.value))
 
 pub returns-in-Ok-put_padding-clause-writes : goal.returns-in-Ok-put_padding-clause-writes
 returns-in-Ok-put_padding-clause-writes g c x known =
