@@ -1,5 +1,6 @@
 //! Stores, sources, outputs and tests of place.
 mod blocks;
+mod failing;
 mod outputs;
 mod places;
 mod stores;

@@ -2,6 +2,7 @@
 use super::{assert_taken, assert_writes, patchy_out, write_whole};
 use crate::same::assert_same;
 use mdmp_source::{Out, OutFailed, WriteOut, send};
+use std::fs;
 use std::test::Fail;
 
 /// Writes bytes up to a refusal, and tells how many went out.
@@ -29,6 +30,16 @@ fn write_out_writes_to_its_writer(rt: HostRuntime) -> Result<(), Fail> {
     assert_writes(&rt, &mut out, &[(b"xy".as_slice(), Ok(2))]);
     assert_same(&rt, write_whole(&mut out, b"z"), Ok(()));
     assert_same(&rt, out.into_inner().as_slice(), b"xyz".as_slice());
+    Ok(())
+}
+
+/// The system opens a folder for reading, and refuses each write to it.
+#[test]
+fn write_out_tells_that_a_write_failed(rt: HostRuntime) -> Result<(), Fail> {
+    let mut out = WriteOut::new(fs::open(&rt, ".")?);
+    let refused = (b"xy".as_slice(), Err(OutFailed));
+    assert_writes(&rt, &mut out, &[refused, refused]);
+    assert_same(&rt, sent(&mut out, b"xy"), 0);
     Ok(())
 }
 

@@ -100,6 +100,19 @@ fn refused_escape_leaves_its_first_part(rt: HostRuntime) -> Result<(), Fail> {
 }
 
 #[test]
+fn each_call_of_an_escape_may_fail(rt: HostRuntime) -> Result<(), Fail> {
+    let bytes = b"\x61\x00\x3d\xd8\x00\xde";
+    let text = b"a\\ud83d\\ude00";
+    for call in 0..14 {
+        let out = PatchyOut::with_room(rt.alloc(), 100, 1, Some(call as u64))?;
+        let answer = if call < 13 { Err(OutFailed) } else { Ok(()) };
+        let first = text.get(..call).ok_or("a first part")?;
+        assert_escaped(&rt, out, bytes, answer, first);
+    }
+    Ok(())
+}
+
+#[test]
 fn units_of_a_text_succeed(rt: HostRuntime) -> Result<(), Fail> {
     let units = from_text(rt.alloc(), "a\u{1F600}")?;
     assert_units(&rt, &units.view(), &[0x0061, 0xd83d, 0xde00]);
