@@ -1,11 +1,11 @@
 //! The lister's calls, one by one.
 use crate::given::{spelled, stream, system, thread};
-use crate::opening::fault;
+use crate::opening::{FAULTY_NAME, FAULTY_STREAM, fault};
 use crate::same::assert_same;
 use crate::script::{
     ends, entries, fails, gives, other_in_numbers, other_of_chosen, play, runs, runs_on, skips,
 };
-use mdmp_lister::{Choice, FaultKind, Limits, ListFault, RunFault};
+use mdmp_lister::{Choice, FaultKind, Limits, RunFault};
 use mdmp_source::MemoryStore;
 use mdmp_test_support::{FAULTY, SYSTEM, THRICE};
 use std::test::Fail;
@@ -99,27 +99,13 @@ fn stopped_sink_has_the_item(rt: HostRuntime) -> Result<(), Fail> {
 
 #[test]
 fn sink_has_the_items_before_a_fault(rt: HostRuntime) -> Result<(), Fail> {
-    let name = ListFault {
-        entry: 1,
-        index: Some(0),
-        kind: FaultKind::NameLengthOutside,
-        offset: 4294967295,
-        size: 4,
-    };
-    let outside = ListFault {
-        entry: 2,
-        index: None,
-        kind: FaultKind::StreamOutside,
-        offset: 236,
-        size: 5,
-    };
     let script = [
-        runs(u64::MAX, Some(RunFault::At(name)), 3),
-        runs_on(Some(RunFault::At(name)), 3),
+        runs(u64::MAX, Some(RunFault::At(FAULTY_NAME)), 3),
+        runs_on(Some(RunFault::At(FAULTY_NAME)), 3),
         // The entry behind it has a fault of its own.
         skips(),
         gives(stream(2, 10, 5, 236)),
-        fails(outside),
+        fails(FAULTY_STREAM),
     ];
     let other = other_in_numbers(&rt, Limits::default(), 3, &FAULTY, &script)?;
     assert_same(&rt, other, None);

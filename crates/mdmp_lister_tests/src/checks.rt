@@ -1,6 +1,6 @@
 //! The verdicts on the entries of a file.
 use crate::given::stream;
-use crate::opening::chosen;
+use crate::opening::{FAULTY_NAME, FAULTY_STREAM, chosen};
 use crate::same::assert_same;
 use crate::script::{
     LEAST, checks, ends, fails, finds, gives, has_begun, has_room, other_in_numbers, play, skips,
@@ -63,20 +63,6 @@ fn checked_of(
 
 /// Entries of three types in a row: a good one, one with a fault in a name, and one outside.
 fn faulty() -> [Option<Verdict>; 3] {
-    let name = ListFault {
-        entry: 1,
-        index: Some(0),
-        kind: FaultKind::NameLengthOutside,
-        offset: 4294967295,
-        size: 4,
-    };
-    let outside = ListFault {
-        entry: 2,
-        index: None,
-        kind: FaultKind::StreamOutside,
-        offset: 236,
-        size: 5,
-    };
     [
         Some(Verdict {
             entry: 0,
@@ -84,11 +70,11 @@ fn faulty() -> [Option<Verdict>; 3] {
         }),
         Some(Verdict {
             entry: 1,
-            fault: Some(name),
+            fault: Some(FAULTY_NAME),
         }),
         Some(Verdict {
             entry: 2,
-            fault: Some(outside),
+            fault: Some(FAULTY_STREAM),
         }),
     ]
 }

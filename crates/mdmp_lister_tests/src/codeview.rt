@@ -3,8 +3,8 @@ ghost use Rattle.mdmp_source.specs.Range.{IsInside};
 
 use crate::given::{Text, short_text};
 use mdmp_lister::{Choice, Limits, Lister};
-use mdmp_source::{Location, MemoryStore, Source, Store, inside};
-use mdmp_test_support::file_of_numbers;
+use mdmp_source::{Location, MemoryStore, PatchyStore, Source, SourceFault, Store, inside};
+use mdmp_test_support::{CODEVIEW_RECORD, file_of_numbers, module_file};
 use mdmp_wire::CodeView;
 use std::alloc::Allocator;
 use std::test::Fail;
@@ -119,5 +119,51 @@ fn short_and_other_records_name_no_symbol_file(rt: HostRuntime) -> Result<(), Fa
         size: 30,
     };
     assert_eq!(rt; read(&rt, 0x5344534e, 30, 4096)?, (other, 24));
+    Ok(())
+}
+
+/// What is told of a record in a store that gives one byte a call and fails at this one, first and then once
+/// more: a fault of the store, or the size of the name.
+fn told_twice(
+    rt: &HostRuntime,
+    file: &[u8],
+    fail_at: u64,
+) -> Result<[Option<Result<usize, SourceFault>>; 2], Fail> {
+    let source = Source::new(PatchyStore::new(file, &[1], Some(fail_at)));
+    let Ok(mut lister) = Lister::open(rt.alloc(), source, Limits::default(), Choice::All) else {
+        return Err(Fail::from("open"));
+    };
+    Ok([named_in(&mut lister), named_in(&mut lister)])
+}
+
+/// The size of the name in the record of 30 bytes at 156, or the fault of the store.
+fn named_in<S: Store + Drop, A: Allocator + Copy>(
+    lister: &mut Lister<S, A>,
+) -> Option<Result<usize, SourceFault>> {
+    let at = Location { size: 30, rva: 156 };
+    if !inside(u64::from(at.rva), u64::from(at.size), lister.size()) {
+        return None;
+    }
+    match lister.codeview(at) {
+        Ok(bytes) => match bytes.read() {
+            CodeView::Rsds { name, .. } => Some(Ok(name.len())),
+            _ => None,
+        },
+        Err(fault) => Some(Err(fault)),
+    }
+}
+
+#[test]
+fn each_call_of_a_record_may_fail(rt: HostRuntime) -> Result<(), Fail> {
+    let file = module_file(rt.alloc(), 30, CODEVIEW_RECORD)?;
+    // 44 calls open the file; 24 are of the head, and six of the name.
+    for call in 0..30 {
+        let failed = Some(Err(SourceFault::Failed { at: 156 + call }));
+        let told = told_twice(&rt, &file, 44 + call)?;
+        assert_eq!(rt; told, [failed, Some(Ok(5))], "at {call}");
+    }
+    // The call behind them is of the record that is read then.
+    let failed = Some(Err(SourceFault::Failed { at: 156 }));
+    assert_eq!(rt; told_twice(&rt, &file, 74)?, [Some(Ok(5)), failed]);
     Ok(())
 }

@@ -1,27 +1,20 @@
 //! Bad files: where a listing ends, and files that are not opened.
 use crate::given::{Named, stream, system};
-use crate::opening::{fault, open_and_close};
+use crate::opening::{FAULTY_NAME, fault, open_and_close};
 use crate::same::assert_same;
 use crate::script::{LEAST, ends, fails, gives, other_in_numbers};
-use mdmp_lister::{Choice, Fault, FaultKind, Limits, ListFault, OpenFault};
+use mdmp_lister::{Choice, Fault, FaultKind, Limits, OpenFault};
 use mdmp_source::{MemoryStore, Source, SourceFault};
 use mdmp_test_support::{FAULTY, SYSTEM};
 use std::test::Fail;
 
 #[test]
 fn nothing_is_listed_behind_the_first_fault(rt: HostRuntime) -> Result<(), Fail> {
-    let fault = ListFault {
-        entry: 1,
-        index: Some(0),
-        kind: FaultKind::NameLengthOutside,
-        offset: 4294967295,
-        size: 4,
-    };
     let script = [
         gives(stream(0, 7, 56, 68)),
         gives(system(0, 0, Named::None)),
         gives(stream(1, 4, 112, 124)),
-        fails(fault),
+        fails(FAULTY_NAME),
     ];
     let other = other_in_numbers(&rt, LEAST, 3, &FAULTY, &script)?;
     assert_same(&rt, other, None);
@@ -87,6 +80,22 @@ fn count_of_a_region_list_may_be_any_number(rt: HostRuntime) -> Result<(), Fail>
     let script = [gives(stream(0, 16, 16, 44)), fails(fault)];
     let other = other_in_numbers(&rt, LEAST, 1, &numbers, &script)?;
     assert_same(&rt, other, None);
+    Ok(())
+}
+
+#[test]
+fn count_of_a_list_without_records_may_be_any_number(rt: HostRuntime) -> Result<(), Fail> {
+    // A list of 64-bit memory whose bytes begin at 0, and a list of threads: a head alone.
+    let most = u32::MAX;
+    for (stream_type, size, numbers, count) in [
+        (9, 16, &[9, 16, 44, most, most, 0, 0][..], u64::MAX),
+        (3, 4, &[3, 4, 44, most][..], u64::from(most)),
+    ] {
+        let fault = fault(None, FaultKind::BadCount, 44, count);
+        let script = [gives(stream(0, stream_type, size, 44)), fails(fault)];
+        let other = other_in_numbers(&rt, LEAST, 1, numbers, &script)?;
+        assert_same(&rt, other, None);
+    }
     Ok(())
 }
 

@@ -7,6 +7,8 @@
 #[cfg(test)]
 mod addresses;
 #[cfg(test)]
+mod aside_calls;
+#[cfg(test)]
 mod bounds;
 #[cfg(test)]
 mod calls;
@@ -43,6 +45,8 @@ mod opening;
 #[cfg(test)]
 mod parts;
 #[cfg(test)]
+mod prefixes;
+#[cfg(test)]
 mod ranges;
 #[cfg(test)]
 mod record_counts;
@@ -60,6 +64,12 @@ mod script;
 mod seeking;
 #[cfg(test)]
 mod shapes;
+#[cfg(test)]
+mod sinks;
+#[cfg(test)]
+mod six;
+#[cfg(test)]
+mod store_calls;
 #[cfg(test)]
 mod stores;
 #[cfg(test)]

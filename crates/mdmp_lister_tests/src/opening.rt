@@ -36,6 +36,24 @@ pub fn fault(index: Option<u64>, kind: FaultKind, offset: u64, size: u64) -> Lis
     }
 }
 
+/// The fault of the second entry of `FAULTY`, in the name of its module.
+pub const FAULTY_NAME: ListFault = ListFault {
+    entry: 1,
+    index: Some(0),
+    kind: FaultKind::NameLengthOutside,
+    offset: 4294967295,
+    size: 4,
+};
+
+/// That of the third, whose bytes stand behind the file.
+pub const FAULTY_STREAM: ListFault = ListFault {
+    entry: 2,
+    index: None,
+    kind: FaultKind::StreamOutside,
+    offset: 236,
+    size: 5,
+};
+
 /// Opens a lister and closes it again: why it was refused, and the source.
 pub fn open_and_close<S: Store + Drop, A: Allocator + Copy>(
     alloc: A,
