@@ -2,6 +2,7 @@
 pub mod built;
 mod memory;
 mod placed;
+mod prefixes;
 mod read;
 mod refused;
 mod sizes;

@@ -11,6 +11,8 @@ mod refusals;
 #[cfg(test)]
 mod same;
 #[cfg(test)]
+mod store_calls;
+#[cfg(test)]
 mod viewed;
 #[cfg(test)]
 mod writer;

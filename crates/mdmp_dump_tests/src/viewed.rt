@@ -1,4 +1,5 @@
 //! Tests of a view of a file, by its own calls and as it is written.
+mod calls;
 mod changes;
 mod copies;
 mod memory;

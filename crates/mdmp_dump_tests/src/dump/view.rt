@@ -53,7 +53,7 @@ fn head_of(stream_type: u32) -> u64
 
 /// Whether a stream has records.
 #[tactic(auto, using(crate::proofs::Records::has_records))]
-fn has_records<V: DumpView>(view: &mut V, stream: u64) -> bool
+pub fn has_records<V: DumpView>(view: &mut V, stream: u64) -> bool
     requires { stream < length (V.shape view.old).streams }
     ensures shape { V.shape view.new ≡ V.shape view.old }
     ensures records { IsTrue result → 0 < (stream_at (V.shape view.old) stream).records }
