@@ -1,11 +1,13 @@
 //! Tests of the commands over stores and outputs, by the public calls of `mdmp_tool` alone.
 //!
-//! `runs`, `checks` and `copies` make the calls whose contracts are long, in helpers without a
+//! `calls`, `runs`, `checks` and `copies` make the calls whose contracts are long, in helpers without a
 //! contract; the tests compare what they give, which is plain values.
 #![tactic(auto)]
 
 #[cfg(test)]
 mod blocks;
+#[cfg(test)]
+mod calls;
 #[cfg(test)]
 mod check;
 #[cfg(test)]
@@ -14,6 +16,10 @@ mod checks;
 mod copies;
 #[cfg(test)]
 mod copy;
+#[cfg(test)]
+mod failing_outputs;
+#[cfg(test)]
+mod failing_stores;
 #[cfg(test)]
 mod faults;
 #[cfg(test)]
