@@ -1,10 +1,8 @@
 //! Command lines over files in memory: which are opened and made, and what stands there behind them.
-use crate::runs::CommandEnd;
+use crate::runs::{CommandEnd, ended, status_of_args, status_on_disk, texts_of};
 use crate::same::{assert_same, assert_same_at};
 use mdmp_disk::{GivenFile, MemoryDisk};
-use mdmp_source::PatchyOut;
-use mdmp_test_support::{BY_SEVEN, SYSTEM, SYSTEM_TEXT, empty_out, text_in};
-use mdmp_tool::{run_args, run_on_disk};
+use mdmp_test_support::{BY_SEVEN, SYSTEM, SYSTEM_TEXT, empty_out};
 use std::alloc::{AllocGlobal, Global};
 use std::io;
 use std::io::ErrorKind;
@@ -135,32 +133,8 @@ fn run_over<R: AllocGlobal>(
 ) -> Result<CommandEnd, Fail> {
     let mut out = empty_out(alloc, BY_SEVEN)?;
     let mut err = empty_out(alloc, BY_SEVEN)?;
-    let status = status_over(rt, alloc, disk, words, &mut out, &mut err);
+    let status = status_on_disk(rt, alloc, disk, words, &mut out, &mut err);
     ended(alloc, status, &out, &err)
-}
-
-fn status_over<R: AllocGlobal>(
-    rt: &R,
-    alloc: Global,
-    disk: &mut MemoryDisk<'_, Global>,
-    words: &[&str],
-    out: &mut PatchyOut<Global>,
-    err: &mut PatchyOut<Global>,
-) -> u8 {
-    run_on_disk(rt, disk, alloc, words, out, err)
-}
-
-fn ended(
-    alloc: Global,
-    status: u8,
-    out: &PatchyOut<Global>,
-    err: &PatchyOut<Global>,
-) -> Result<CommandEnd, Fail> {
-    Ok(CommandEnd {
-        status,
-        text: text_in(alloc, out)?,
-        told: text_in(alloc, err)?,
-    })
 }
 
 /// Asserts that each line ends so, and leaves the files as they were.
@@ -290,16 +264,10 @@ fn run_given(rt: &HostRuntime, args: io::Result<&[&str]>) -> Result<CommandEnd, 
     let mut out = empty_out(rt.alloc(), BY_SEVEN)?;
     let mut err = empty_out(rt.alloc(), BY_SEVEN)?;
     let args = match args {
-        Ok(words) => {
-            let mut texts: Vec<String> = Vec::new(rt.alloc());
-            for word in words {
-                texts.push(word.to_string(rt.alloc())?)?;
-            }
-            Ok(texts)
-        }
+        Ok(words) => Ok(texts_of(rt.alloc(), words)?),
         Err(error) => Err(error),
     };
-    let status = run_args(rt, &mut disk, rt.alloc(), args, &mut out, &mut err);
+    let status = status_of_args(rt, rt.alloc(), &mut disk, args, &mut out, &mut err);
     ended(rt.alloc(), status, &out, &err)
 }
 

@@ -8,7 +8,17 @@
 #[cfg(test)]
 mod copy;
 #[cfg(test)]
+mod disk_growths;
+#[cfg(test)]
 mod disks;
+#[cfg(test)]
+mod failing_outputs;
+#[cfg(test)]
+mod failing_stores;
+#[cfg(test)]
+mod failing_system;
+#[cfg(test)]
+mod growths;
 #[cfg(test)]
 mod help;
 #[cfg(test)]
@@ -29,5 +39,7 @@ mod running;
 mod runs;
 #[cfg(test)]
 mod same;
+#[cfg(test)]
+mod system_calls;
 #[cfg(test)]
 mod words;

@@ -4,11 +4,11 @@
 //! and its own proof stays short.
 ghost use Rattle.mdmp_words.specs.Requests.{IsPrintable};
 
-use crate::runs::CommandEnd;
+use crate::runs::{CommandEnd, ended};
 use mdmp_source::{BlockOut, PatchyOut, Source, Store};
 use mdmp_test_support::{FOR_LONG_TEXT, Room, empty_out, text_in};
 use mdmp_tool::{Limits, Print, Span, TypeSet, copy_told, print_told};
-use std::alloc::Global;
+use std::alloc::{Allocator, Global};
 use std::test::Fail;
 
 /// What is printed of a file.
@@ -38,6 +38,22 @@ fn print_of(shown: Shown) -> Print
     }
 }
 
+/// Prints what is asked for of a store with memory of this heap, in blocks, to these outputs, and gives
+/// the exit status.
+pub fn print_status<S: Store + Drop, A: Allocator + Copy>(
+    alloc: Global,
+    heap: A,
+    shown: Shown,
+    store: S,
+    limits: Limits,
+    out: &mut PatchyOut<Global>,
+    err: &mut PatchyOut<Global>,
+) -> Result<u8, Fail> {
+    let mut blocks = BlockOut::with_room(alloc, BLOCK, out).ok().ok_or("room")?;
+    let source = Source::new(store);
+    Ok(print_told(heap, print_of(shown), source, limits, &mut blocks, err).status)
+}
+
 /// Prints what is asked for of a store, in blocks, to this output and to one for the fault.
 pub fn print_store<S: Store + Drop>(
     alloc: Global,
@@ -46,25 +62,26 @@ pub fn print_store<S: Store + Drop>(
     room: Room,
     err: Room,
 ) -> Result<CommandEnd, Fail> {
-    let out = empty_out(alloc, room)?;
+    let mut out = empty_out(alloc, room)?;
     let mut err = empty_out(alloc, err)?;
-    let mut blocks = BlockOut::with_room(alloc, BLOCK, out).ok().ok_or("room")?;
-    let source = Source::new(store);
     let limits = Limits::default();
-    let status = print_told(
-        alloc,
-        print_of(shown),
-        source,
-        limits,
-        &mut blocks,
-        &mut err,
-    )
-    .status;
-    Ok(CommandEnd {
-        status,
-        text: text_in(alloc, blocks.inner())?,
-        told: text_in(alloc, &err)?,
-    })
+    let status = print_status(alloc, alloc, shown, store, limits, &mut out, &mut err)?;
+    ended(alloc, status, &out, &err)
+}
+
+/// Copies the streams of these types out of a store with memory of this heap, to these outputs, and gives
+/// the exit status.
+pub fn copy_status<S: Store + Drop, A: Allocator + Copy>(
+    heap: A,
+    store: S,
+    limits: Limits,
+    types: &[u32],
+    out: &mut PatchyOut<Global>,
+    err: &mut PatchyOut<Global>,
+) -> Result<u8, Fail> {
+    let types = TypeSet::new(types).ok_or("types")?;
+    let source = Source::new(store);
+    Ok(copy_told(heap, types, source, limits, out, err).status)
 }
 
 /// The exit status of a copy, the bytes that it wrote, and what it told of a fault.
@@ -84,9 +101,7 @@ pub fn copy_store_to<S: Store + Drop>(
     out: &mut PatchyOut<Global>,
 ) -> Result<CopyEnded, Fail> {
     let mut err = empty_out(alloc, FOR_LONG_TEXT)?;
-    let types = TypeSet::new(types).ok_or("types")?;
-    let source = Source::new(store);
-    let status = copy_told(alloc, types, source, limits, out, &mut err).status;
+    let status = copy_status(alloc, store, limits, types, out, &mut err)?;
     let mut bytes = Vec::new(alloc);
     bytes.extend_from_slice(out.bytes())?;
     let told = text_in(alloc, &err)?;

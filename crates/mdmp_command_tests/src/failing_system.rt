@@ -1,0 +1,140 @@
+//! A runtime that stands before another one, whose call of the system with one number alone fails.
+use std::alloc::{Alloc, Allocator};
+use std::cell::Cell;
+use std::fs::{Metadata, OpenFile, OpenOptions};
+use std::io;
+use std::io::{ErrorKind, Read, Seek, SeekFrom, Write};
+use std::rt::Files;
+
+/// Counts a call in this cell, and fails with the one that has to.
+fn count(calls: &Cell<u64>, fail_at: u64) -> io::Result<()> {
+    let call = calls.get();
+    calls.set(call.wrapping_add(1));
+    if call == fail_at {
+        return Err(io::Error::from(ErrorKind::OutOfMemory));
+    }
+    Ok(())
+}
+
+/// The files of a runtime, of which a call fails. What opens, asks for the size, seeks, reads and writes is
+/// counted, from 0 on.
+#[derive(Drop)]
+pub struct FailingSystem<'r, 'a, R> {
+    pub rt: &'r R,
+    /// How many calls there were.
+    pub calls: &'a Cell<u64>,
+    /// Which of them fails.
+    pub fail_at: u64,
+}
+
+/// A file that was opened.
+#[derive(Drop)]
+pub struct FailingFile<'a, F> {
+    file: F,
+    calls: &'a Cell<u64>,
+    fail_at: u64,
+}
+
+impl<R: Alloc> Alloc for FailingSystem<'_, '_, R> {
+    type A = R::A;
+
+    fn alloc(&self) -> R::A {
+        self.rt.alloc()
+    }
+}
+
+impl<'a, R: Files> Files for FailingSystem<'_, 'a, R> {
+    type File = FailingFile<'a, R::File>;
+
+    type Dir = R::Dir;
+
+    fn open_file(&self, how: &OpenOptions, path: &str) -> io::Result<FailingFile<'a, R::File>> {
+        count(self.calls, self.fail_at)?;
+        let file = self.rt.open_file(how, path)?;
+        Ok(FailingFile {
+            file,
+            calls: self.calls,
+            fail_at: self.fail_at,
+        })
+    }
+
+    fn open_dir(&self, path: &str) -> io::Result<R::Dir> {
+        self.rt.open_dir(path)
+    }
+
+    fn metadata(&self, path: &str) -> io::Result<Metadata> {
+        self.rt.metadata(path)
+    }
+
+    fn symlink_metadata(&self, path: &str) -> io::Result<Metadata> {
+        self.rt.symlink_metadata(path)
+    }
+
+    fn copy(&self, from: &str, to: &str) -> io::Result<u64> {
+        self.rt.copy(from, to)
+    }
+
+    fn rename(&self, from: &str, to: &str) -> io::Result<()> {
+        self.rt.rename(from, to)
+    }
+
+    fn remove_file(&self, path: &str) -> io::Result<()> {
+        self.rt.remove_file(path)
+    }
+
+    fn create_dir(&self, path: &str) -> io::Result<()> {
+        self.rt.create_dir(path)
+    }
+
+    fn remove_dir(&self, path: &str) -> io::Result<()> {
+        self.rt.remove_dir(path)
+    }
+
+    fn remove_dir_all<B: Allocator>(&self, alloc: B, path: &str) -> io::Result<()> {
+        self.rt.remove_dir_all(alloc, path)
+    }
+}
+
+impl<F: OpenFile> OpenFile for FailingFile<'_, F> {
+    fn metadata(&self) -> io::Result<Metadata> {
+        count(self.calls, self.fail_at)?;
+        self.file.metadata()
+    }
+
+    fn set_len(&self, size: u64) -> io::Result<()> {
+        self.file.set_len(size)
+    }
+
+    fn sync_all(&self) -> io::Result<()> {
+        self.file.sync_all()
+    }
+
+    fn sync_data(&self) -> io::Result<()> {
+        self.file.sync_data()
+    }
+}
+
+impl<F: Read> Read for FailingFile<'_, F> {
+    fn read(&mut self, buf: &mut [u8]) -> io::Result<usize> {
+        count(self.calls, self.fail_at)?;
+        self.file.read(buf)
+    }
+}
+
+impl<F: Write> Write for FailingFile<'_, F> {
+    fn write(&mut self, buf: &[u8]) -> io::Result<usize> {
+        count(self.calls, self.fail_at)?;
+        self.file.write(buf)
+    }
+
+    fn flush(&mut self) -> io::Result<()> {
+        self.file.flush()
+    }
+}
+
+impl<F: Seek> Seek for FailingFile<'_, F> {
+    fn seek(&mut self, to: SeekFrom) -> io::Result<u64> {
+        count(self.calls, self.fail_at)?;
+        self.file.seek(to)
+    }
+}
