@@ -9,6 +9,7 @@ use Rattle.mdmp_c.specs.declared.rows.UnloadedRow.{UnloadedRow}
 use Rattle.mdmp_c.specs.declared.rows.ExceptionRow.{ExceptionRow}
 use Rattle.mdmp_c.specs.declared.rows.SystemRow.{SystemRow}
 use Rattle.mdmp_c.specs.declared.rows.RegionRow.{RegionRow}
+use Rattle.mdmp_c.specs.declared.rows.ThreadNameRow.{ThreadNameRow}
 use Rattle.mdmp_c.specs.declared.rows.RangeRow.{RangeRow}
 
 abbrev pub thread_row : Item → Option ThreadRow
@@ -109,6 +110,16 @@ region_row (items.MemoryInfo x) = Some (record {
   reserved = replicate 3 0;
 })
 region_row item = None
+
+abbrev pub thread_name_row : Item → Option ThreadNameRow
+thread_name_row (items.ThreadName x) = Some (record {
+  index = x.index;
+  entry = x.entry;
+  thread_id = x.fields.thread_id;
+  name = name_place x.fields.rva_of_thread_name x.name;
+  reserved = replicate 2 0;
+})
+thread_name_row item = None
 
 abbrev pub range_row : Item → Option RangeRow
 range_row (items.Range x) = Some (record {

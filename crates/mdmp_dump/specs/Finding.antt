@@ -1,5 +1,5 @@
 -- What is found of a name or a part, by its place in the file.
-use Rattle.std.specs.Prelude.{Bool, true, false, ◌≡◌, ◌≤◌, ◌+◌, ℕ, List, [], ◌∷◌, length, Option, Some, None, Result, Ok, Err, IfErr, get_or, option_map}
+use Rattle.std.specs.Prelude.{Bool, true, false, ◌≡◌, ◌≤◌, ◌<◌, ◌+◌, ◌^◌, ℕ, List, [], ◌∷◌, length, Option, Some, None, Result, Ok, Err, IfErr, get_or, option_map}
 use Rattle.mdmp_source.specs.Extent.{extent_of}
 use Rattle.mdmp_source.specs.Store.{AreBytes}
 use Rattle.mdmp_source.specs.declared.fault.SourceFault.TheVariants.{Changed}
@@ -27,6 +27,7 @@ use Rattle.mdmp_dump.specs.MemoryInfo.{memory_info_seen}
 use Rattle.mdmp_dump.specs.Module.{module_seen}
 use Rattle.mdmp_dump.specs.System.{system_seen}
 use Rattle.mdmp_dump.specs.Thread.{thread_seen}
+use Rattle.mdmp_dump.specs.ThreadName.{thread_name_seen}
 use Rattle.mdmp_dump.specs.Unloaded.{unloaded_seen}
 use Rattle.mdmp_dump.specs.declared.found_record.FoundRecord.{FoundRecord}
 use Rattle.mdmp_dump.specs.declared.fault.PartName.{PartName}
@@ -35,7 +36,7 @@ use Rattle.mdmp_dump.specs.declared.fault.ReadFault.TheVariants as faults
 use Rattle.mdmp_dump.specs.declared.found_record.PartAt.{PartAt}
 use Rattle.mdmp_dump.specs.declared.view.PartSize.{PartSize}
 use Rattle.mdmp_dump.specs.FileRefusal.{first_told}
-use Rattle.mdmp_dump.specs.InFile.{exception_in, memory_in, memory64_in, module_in, name_in, part_named, system_in, thread_in, unloaded_in}
+use Rattle.mdmp_dump.specs.InFile.{exception_in, memory_in, memory64_in, module_in, name_in, part_named, system_in, thread_in, thread_name_in, unloaded_in}
 use Rattle.mdmp_dump.specs.Placed.{bytes_in, far_room, fields_bytes, fields_room, size_in}
 use Rattle.mdmp_dump.specs.Reading.{IsOwn}
 use Rattle.mdmp_dump.specs.Refusal.{Refuse, ReadStep, item_steps, location_steps, name_steps, part_steps}
@@ -82,6 +83,7 @@ seen_in kinds.System F at k o = system_seen (system_in {Z = Unit {0}} F o)
 seen_in kinds.Memory64 F at k o = memory64_seen (memory64_in {Z = Unit {0}} F at k o)
 seen_in kinds.Unloaded F at k o = unloaded_seen (unloaded_in {Z = Unit {0}} F o)
 seen_in kinds.MemoryInfo F at k o = memory_info_seen (memory_info_at F o)
+seen_in kinds.ThreadNames F at k o = thread_name_seen (thread_name_in {Z = Unit {0}} F o)
 
 -- it has the fields of what a view gives, and the bytes of its name and parts stand where it says
 pub record IsSeenAt (F : List ℕ) (s : Seen) (f : FoundRecord) : Type 0 where
@@ -135,9 +137,10 @@ IsOfPlaces faults.Memory = Unit {0}
 IsOfPlaces (faults.Source (Changed at)) = Unit {0}
 IsOfPlaces fault = IsOfRecord fault
 
--- of an item that a file of bytes lays out, and that was read with the limit 0, only a name or a part is refused
+-- of an item that a file of fewer than 2 ^ 64 bytes lays out, and that was read with the limit 0, only a name or a part is
+-- refused
 abbrev pub IsAbleOf : Item → Result FoundRecord ReadFault → Type 0
-IsAbleOf item result = (F : List ℕ) (e k at o : ℕ) (kind : StreamKind) → AreBytes F → item_at F 0 e k at o kind ≡ Ok item → IfErr result IsOfRecord
+IsAbleOf item result = (F : List ℕ) (e k at o : ℕ) (kind : StreamKind) → length F < 2 ^ 64 → AreBytes F → item_at F 0 e k at o kind ≡ Ok item → IfErr result IsOfRecord
 
 -- what is found inside a file that lays out the item: it has not changed
 abbrev pub IsFoundInside : List ℕ → Bool → Item → ℕ → Result FoundRecord ReadFault → Type 0

@@ -10,6 +10,7 @@ use Rattle.mdmp_dump.specs.MemoryInfo.{MemoryInfoFits}
 use Rattle.mdmp_dump.specs.Module.{ModuleFits}
 use Rattle.mdmp_dump.specs.System.{SystemFits}
 use Rattle.mdmp_dump.specs.Thread.{ThreadFits}
+use Rattle.mdmp_dump.specs.ThreadName.{ThreadNameFits}
 use Rattle.mdmp_dump.specs.Unloaded.{UnloadedFits}
 
 module _ {Z : Type 0} where
@@ -23,6 +24,7 @@ module _ {Z : Type 0} where
   StreamFits (streams.Memory64 xs) = All Memory64Fits xs
   StreamFits (streams.Unloaded xs) = All UnloadedFits xs
   StreamFits (streams.MemoryInfo xs) = All MemoryInfoFits xs
+  StreamFits (streams.ThreadNames xs) = All ThreadNameFits xs
   StreamFits (streams.Raw t bytes) = t < 2 ^ 32
 
   pub record Fits (d : Dump Z) : Type 0 where

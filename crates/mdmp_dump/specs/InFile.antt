@@ -12,6 +12,7 @@ use Rattle.mdmp_wire.specs.MemoryInfo.{memory_info_at}
 use Rattle.mdmp_wire.specs.Module.{module_at}
 use Rattle.mdmp_wire.specs.System.{system_at}
 use Rattle.mdmp_wire.specs.Thread.{thread_at}
+use Rattle.mdmp_wire.specs.ThreadName.{thread_name_at}
 use Rattle.mdmp_wire.specs.Unloaded.{unloaded_at}
 use Rattle.mdmp_lister.specs.declared.choice.Choice.{Choice}
 use Rattle.mdmp_lister.specs.declared.fault.Fault.{Fault}
@@ -35,6 +36,7 @@ use Rattle.mdmp_dump.specs.declared.part.Part.{Part}
 use Rattle.mdmp_dump.specs.declared.part.Part.TheVariants as parts
 use Rattle.mdmp_dump.specs.declared.system.System.{System}
 use Rattle.mdmp_dump.specs.declared.thread.Thread.{Thread}
+use Rattle.mdmp_dump.specs.declared.thread_name.ThreadName.{ThreadName}
 use Rattle.mdmp_dump.specs.declared.unloaded.Unloaded.{Unloaded}
 use Rattle.mdmp_dump.specs.Name.{name_told}
 use Rattle.mdmp_dump.specs.Part.{part_in}
@@ -156,6 +158,9 @@ module _ {Z : Type 0} where
         name = name_in F r.module_name_rva;
       }
 
+  abbrev pub thread_name_in : List ℕ → ℕ → ThreadName Z
+  thread_name_in F o = record { thread_id = (thread_name_at F o).thread_id; name = name_in F (thread_name_at F o).rva_of_thread_name }
+
   -- ---- streams
 
   -- a stream of a kind that has this shape
@@ -168,6 +173,7 @@ module _ {Z : Type 0} where
   shaped_in F rva kinds.Memory64 shape = streams.Memory64 (list_in (memory64_in F rva) rva shape)
   shaped_in F rva kinds.Unloaded shape = streams.Unloaded (list_in (λ k o. unloaded_in F o) rva shape)
   shaped_in F rva kinds.MemoryInfo shape = streams.MemoryInfo (list_in (λ k o. memory_info_at F o) rva shape)
+  shaped_in F rva kinds.ThreadNames shape = streams.ThreadNames (list_in (λ k o. thread_name_in F o) rva shape)
 
   abbrev pub known_in : List ℕ → ℕ → StreamKind → Result Shape Fault → Stream Z
   known_in F rva kind (Ok shape) = shaped_in F rva kind shape

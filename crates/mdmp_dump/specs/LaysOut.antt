@@ -23,6 +23,7 @@ use Rattle.mdmp_dump.specs.Memory64.{IsMemory64}
 use Rattle.mdmp_dump.specs.Module.{IsModule}
 use Rattle.mdmp_dump.specs.System.{IsSystem}
 use Rattle.mdmp_dump.specs.Thread.{IsThread}
+use Rattle.mdmp_dump.specs.ThreadName.{IsThreadName}
 use Rattle.mdmp_dump.specs.Unloaded.{IsUnloaded}
 use Rattle.mdmp_dump.specs.Value.{type_of}
 
@@ -62,6 +63,7 @@ module _ {Z : Type 0} where
   StandsAt F at (streams.Memory64 xs) = HasRecords F at kinds.Memory64 (λ k o. IsMemory64 F at.rva k o) xs
   StandsAt F at (streams.Unloaded xs) = HasRecords F at kinds.Unloaded (λ k o. IsUnloaded F o) xs
   StandsAt F at (streams.MemoryInfo xs) = HasRecords F at kinds.MemoryInfo (λ k o x. memory_info_at F o ≡ x) xs
+  StandsAt F at (streams.ThreadNames xs) = HasRecords F at kinds.ThreadNames (λ k o. IsThreadName F o) xs
   StandsAt F at (streams.Raw t bytes) = HasBytes F at t bytes
 
   -- the entry names the stream

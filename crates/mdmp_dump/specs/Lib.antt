@@ -27,6 +27,7 @@ pub mod System
 pub mod Telling
 pub mod TellingLaws
 pub mod Thread
+pub mod ThreadName
 pub mod Unloaded
 pub mod Value
 pub mod View

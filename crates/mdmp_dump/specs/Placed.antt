@@ -71,6 +71,7 @@ placed_by (any.Memory r) f at = any.Memory (record r { memory = location_of (siz
 placed_by (any.Exception r) f at = any.Exception (record r { thread_context = location_of (size_at f 0) at })
 placed_by (any.System r) f at = any.System (record r { csd_version_rva = address_of (size_at f 0) at })
 placed_by (any.Unloaded r) f at = any.Unloaded (record r { module_name_rva = address_of (size_at f 0) at })
+placed_by (any.ThreadName r) f at = any.ThreadName (record r { rva_of_thread_name = address_of (size_at f 0) at })
 placed_by w f at = w
 
 abbrev pub placed : Fields → ℕ → AnyRecord

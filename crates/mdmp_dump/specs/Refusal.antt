@@ -61,6 +61,7 @@ item_steps size (items.Unloaded x) = name_steps x.entry x.index x.name
 item_steps size (items.Exception x) = location_steps x.entry x.index Context x.fields.thread_context x.context
 item_steps size (items.System x) = name_steps x.entry x.index x.name
 item_steps size (items.MemoryInfo x) = []
+item_steps size (items.ThreadName x) = name_steps x.entry x.index x.name
 item_steps size (items.Range x) = part_steps x.entry x.index Memory x.offset x.size x.extent
 
 -- ---- a file

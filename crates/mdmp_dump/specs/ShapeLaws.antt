@@ -20,6 +20,7 @@ use Rattle.mdmp_dump.specs.Seen.{Seen, seen, size_of, bytes_of, name_size, unit_
 use Rattle.mdmp_dump.specs.Shape.{AreOf, AreOfTheirKinds, GivesNone, HaveNoStrayParts, IsOf, IsSized, IsShapeOfSeen, fars, is_far, parts_in, rooms, seen_at, shape_seen, type_told, unused_seen, unused_shape, value_shape}
 use Rattle.mdmp_dump.specs.System.{system_seen}
 use Rattle.mdmp_dump.specs.Thread.{thread_seen}
+use Rattle.mdmp_dump.specs.ThreadName.{thread_name_seen}
 use Rattle.mdmp_dump.specs.Unloaded.{unloaded_seen}
 use Rattle.mdmp_dump.specs.View.{DumpSeen, kind_in, records_seen, stream_seen}
 
@@ -67,6 +68,7 @@ module _ {Z : Type 0} where
   stream_kinds (streams.Memory64 ms) = each_of _ memory64_seen (λ m. three_of (memory64_seen m).fields.wire _ _ _ _ _ _ refl refl refl) ms
   stream_kinds (streams.Unloaded us) = each_of _ unloaded_seen (λ u. three_of (unloaded_seen u).fields.wire _ _ _ _ _ _ (name_sized u.name) refl refl) us
   stream_kinds (streams.MemoryInfo rs) = each_of _ memory_info_seen (λ r. three_of (memory_info_seen r).fields.wire _ _ _ _ _ _ refl refl refl) rs
+  stream_kinds (streams.ThreadNames ts) = each_of _ thread_name_seen (λ t. three_of (thread_name_seen t).fields.wire _ _ _ _ _ _ (name_sized t.name) refl refl) ts
   stream_kinds (streams.Raw t bytes) = tt
 
   streams_kinds : (ss : List (Stream Z)) (k : ℕ) → AreOf (get_or (map stream_seen ss) k unused_seen).kind (get_or (map stream_seen ss) k unused_seen).records

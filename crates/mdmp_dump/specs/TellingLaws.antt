@@ -10,6 +10,7 @@ use Rattle.mdmp_wire.specs.Module.{module_at}
 use Rattle.mdmp_wire.specs.declared.module.ModuleRecord.{ModuleRecord}
 use Rattle.mdmp_wire.specs.System.{system_at}
 use Rattle.mdmp_wire.specs.Thread.{thread_at}
+use Rattle.mdmp_wire.specs.ThreadName.{thread_name_at}
 use Rattle.mdmp_wire.specs.Unloaded.{unloaded_at}
 use Rattle.mdmp_lister.specs.declared.fault.Fault.{Fault}
 use Rattle.mdmp_lister.specs.declared.item.Item.{Item}
@@ -28,6 +29,7 @@ use Rattle.mdmp_dump.specs.MemoryInfo.{memory_info_told}
 use Rattle.mdmp_dump.specs.Module.{module_steps, module_told}
 use Rattle.mdmp_dump.specs.System.{system_told}
 use Rattle.mdmp_dump.specs.Thread.{thread_steps, thread_told}
+use Rattle.mdmp_dump.specs.ThreadName.{thread_name_told}
 use Rattle.mdmp_dump.specs.Unloaded.{unloaded_told}
 
 -- ---- the item of any record
@@ -95,6 +97,10 @@ unloaded_tells file limit e k at o item is =
 pub memory_info_tells : ItemTells kinds.MemoryInfo memory_info_told (λ x. [])
 memory_info_tells file limit e k at o item is =
     made_tells kinds.MemoryInfo file limit e k at o item is memory_info_told (found_at e k (memory_info_at file o)) (λ x. []) (λ n. (refl, refl))
+
+pub thread_name_tells : ItemTells kinds.ThreadNames thread_name_told (λ x. [])
+thread_name_tells file limit e k at o item is =
+    made_tells kinds.ThreadNames file limit e k at o item is thread_name_told (found_at e k (thread_name_at file o)) (λ x. []) (λ n. (refl, sym (append-nil _)))
 
 pub memory64_tells : ItemTells kinds.Memory64 range_told range_steps
 memory64_tells file limit e k at o item is =

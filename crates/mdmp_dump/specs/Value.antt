@@ -20,6 +20,7 @@ module _ {Z : Type 0} where
   type_of (streams.Memory64 ranges) = type_of_kind list.Memory64
   type_of (streams.Unloaded images) = type_of_kind list.Unloaded
   type_of (streams.MemoryInfo regions) = type_of_kind list.MemoryInfo
+  type_of (streams.ThreadNames threads) = type_of_kind list.ThreadNames
   type_of (streams.Raw t bytes) = t
 
   -- the dump with only the streams of some types, in order

@@ -14,6 +14,7 @@ use Rattle.mdmp_dump.specs.MemoryInfo.{memory_info_seen}
 use Rattle.mdmp_dump.specs.Module.{module_seen}
 use Rattle.mdmp_dump.specs.System.{system_seen}
 use Rattle.mdmp_dump.specs.Thread.{thread_seen}
+use Rattle.mdmp_dump.specs.ThreadName.{thread_name_seen}
 use Rattle.mdmp_dump.specs.Unloaded.{unloaded_seen}
 use Rattle.mdmp_dump.specs.Value.{type_of}
 
@@ -46,6 +47,7 @@ module _ {Z : Type 0} where
   records_seen (streams.Memory64 xs) = map memory64_seen xs
   records_seen (streams.Unloaded xs) = map unloaded_seen xs
   records_seen (streams.MemoryInfo xs) = map memory_info_seen xs
+  records_seen (streams.ThreadNames xs) = map thread_name_seen xs
   records_seen (streams.Raw t bytes) = []
 
   -- its bytes, where these are raw

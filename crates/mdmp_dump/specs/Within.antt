@@ -17,6 +17,7 @@ module _ {Z : Type 0} where
   NamesWithin limit (streams.Modules xs) = All (λ x. IsNameWithin limit x.name) xs
   NamesWithin limit (streams.System x) = IsNameWithin limit x.name
   NamesWithin limit (streams.Unloaded xs) = All (λ x. IsNameWithin limit x.name) xs
+  NamesWithin limit (streams.ThreadNames xs) = All (λ x. IsNameWithin limit x.name) xs
   NamesWithin limit s = Unit {0}
 
   -- how many bytes there are of a part: none of an absent one, whatever its size

@@ -19,6 +19,7 @@ use Rattle.mdmp_lister.specs.declared.item.UnloadedItem.{UnloadedItem}
 use Rattle.mdmp_lister.specs.declared.item.ExceptionItem.{ExceptionItem}
 use Rattle.mdmp_lister.specs.declared.item.SystemItem.{SystemItem}
 use Rattle.mdmp_lister.specs.declared.item.MemoryInfoItem.{MemoryInfoItem}
+use Rattle.mdmp_lister.specs.declared.item.ThreadNameItem.{ThreadNameItem}
 use Rattle.mdmp_lister.specs.declared.item.RangeItem.{RangeItem}
 use Rattle.mdmp_lister.specs.declared.item.Item.{Item}
 use Rattle.mdmp_lister.specs.declared.item.Item.TheVariants as items
@@ -129,6 +130,11 @@ region_line r = concat (codes "region " ∷ decimal r.index ∷ codes " base 0x"
     ∷ codes " size " ∷ decimal r.fields.region_size ∷ codes " state " ∷ decimal r.fields.state
     ∷ codes " protect " ∷ decimal r.fields.protect ∷ codes " type " ∷ decimal r.fields.memory_type ∷ codes "\n" ∷ [])
 
+-- `threadname <k> id <n> name <name>`
+abbrev pub thread_name_line : ThreadNameItem → List ℕ
+thread_name_line t = concat (codes "threadname " ∷ decimal t.index ∷ codes " id " ∷ decimal t.fields.thread_id
+    ∷ codes " name " ∷ name_text t.name ∷ codes "\n" ∷ [])
+
 -- `range <k> start <x16> <part>`
 abbrev pub range_line : RangeItem → List ℕ
 range_line r = concat (codes "range " ∷ decimal r.index ∷ codes " start 0x" ∷ hex 16 r.start
@@ -143,4 +149,5 @@ item_line (items.Unloaded u) = unloaded_line u
 item_line (items.Exception x) = exception_line x
 item_line (items.System s) = system_line s
 item_line (items.MemoryInfo r) = region_line r
+item_line (items.ThreadName t) = thread_name_line t
 item_line (items.Range r) = range_line r

@@ -11,6 +11,7 @@ use Rattle.mdmp_wire.specs.MemoryInfo.{memory_info_bytes}
 use Rattle.mdmp_wire.specs.Module.{module_bytes}
 use Rattle.mdmp_wire.specs.System.{system_bytes}
 use Rattle.mdmp_wire.specs.Thread.{thread_bytes}
+use Rattle.mdmp_wire.specs.ThreadName.{thread_name_bytes}
 use Rattle.mdmp_wire.specs.Unloaded.{unloaded_bytes}
 
 -- what it points at, in the order of its fields: a name stands before the parts
@@ -23,6 +24,7 @@ slots_of (any.System system) = Name system.csd_version_rva ∷ Empty ∷ Empty �
 slots_of (any.Memory64 range) = Empty ∷ Empty ∷ Empty ∷ []
 slots_of (any.Unloaded image) = Name image.module_name_rva ∷ Empty ∷ Empty ∷ []
 slots_of (any.MemoryInfo region) = Empty ∷ Empty ∷ Empty ∷ []
+slots_of (any.ThreadName thread) = Name thread.rva_of_thread_name ∷ Empty ∷ Empty ∷ []
 
 -- slot k of it
 abbrev pub slot_at : AnyRecord → ℕ → Slot
@@ -47,3 +49,4 @@ any_bytes (any.System system) = system_bytes system
 any_bytes (any.Memory64 range) = descriptor64_bytes range
 any_bytes (any.Unloaded image) = unloaded_bytes image
 any_bytes (any.MemoryInfo region) = memory_info_bytes region
+any_bytes (any.ThreadName thread) = thread_name_bytes thread

@@ -18,6 +18,7 @@ pub mod NumberBounds
 pub mod NumberLaws
 pub mod System
 pub mod Thread
+pub mod ThreadName
 pub mod Units
 pub mod UnitsLaws
 pub mod Unloaded

@@ -7,6 +7,8 @@ use Rattle.mdmp_wire.specs.declared.any_record.AnyRecord.TheVariants as any
 use Rattle.mdmp_wire.specs.Number.{number_at}
 use Rattle.mdmp_wire.specs.Thread.{thread_at}
 use Rattle.mdmp_wire.specs.declared.thread.ThreadRecord.{ThreadRecord}
+use Rattle.mdmp_wire.specs.ThreadName.{thread_name_at}
+use Rattle.mdmp_wire.specs.declared.thread_name.ThreadNameRecord.{ThreadNameRecord}
 use Rattle.mdmp_wire.specs.Module.{module_at}
 use Rattle.mdmp_wire.specs.declared.module.ModuleRecord.{ModuleRecord}
 use Rattle.mdmp_wire.specs.Unloaded.{unloaded_at}
@@ -28,6 +30,7 @@ use Rattle.mdmp_lister.specs.declared.name.Name.{Name}
 use Rattle.mdmp_lister.specs.declared.name.Name.TheVariants as names
 use Rattle.mdmp_lister.specs.declared.item.Item.{Item}
 use Rattle.mdmp_lister.specs.declared.item.ThreadItem.{ThreadItem}
+use Rattle.mdmp_lister.specs.declared.item.ThreadNameItem.{ThreadNameItem}
 use Rattle.mdmp_lister.specs.declared.item.ModuleItem.{ModuleItem}
 use Rattle.mdmp_lister.specs.declared.item.UnloadedItem.{UnloadedItem}
 use Rattle.mdmp_lister.specs.declared.item.ExceptionItem.{ExceptionItem}
@@ -47,11 +50,12 @@ range_extent_of offset len size =
     else if is_inside offset len size then Inside
     else Outside
 
--- an item, whatever place its units are lent from: only a module, an unloaded module and the system have one
+-- an item, whatever place its units are lent from: only a module, an unloaded module, the system and the name of a thread have one
 abbrev pub plain : Item → Item
 plain (items.Module m) = items.Module (record m { name = plain_name m.name })
 plain (items.Unloaded u) = items.Unloaded (record u { name = plain_name u.name })
 plain (items.System s) = items.System (record s { name = plain_name s.name })
+plain (items.ThreadName t) = items.ThreadName (record t { name = plain_name t.name })
 plain x = x
 
 -- an item with its name, unless that name has a fault
@@ -101,6 +105,9 @@ system_item e k fields name = record { entry = e; index = k; fields = fields; na
 abbrev pub memory_info_item : ℕ → ℕ → MemoryInfoRecord → MemoryInfoItem
 memory_info_item e k fields = record { entry = e; index = k; fields = fields }
 
+abbrev pub thread_name_item : ℕ → ℕ → ThreadNameRecord → Name → ThreadNameItem
+thread_name_item e k fields name = record { entry = e; index = k; fields = fields; name = name }
+
 -- a range of a memory list, which says where its own bytes stand
 abbrev pub range_item : ℕ → ℕ → ℕ → Descriptor → RangeItem
 range_item z e k fields = record {
@@ -135,6 +142,7 @@ record_at kinds.System F o = any.System (system_at F o)
 record_at kinds.Memory64 F o = any.Memory64 (descriptor64_at F o)
 record_at kinds.Unloaded F o = any.Unloaded (unloaded_at F o)
 record_at kinds.MemoryInfo F o = any.MemoryInfo (memory_info_at F o)
+record_at kinds.ThreadNames F o = any.ThreadName (thread_name_at F o)
 
 -- the kind of the streams that have such records
 abbrev pub kind_told : AnyRecord → StreamKind
@@ -146,6 +154,7 @@ kind_told (any.System fields) = kinds.System
 kind_told (any.Memory64 fields) = kinds.Memory64
 kind_told (any.Unloaded fields) = kinds.Unloaded
 kind_told (any.MemoryInfo fields) = kinds.MemoryInfo
+kind_told (any.ThreadName fields) = kinds.ThreadNames
 
 -- item k of entry e, of a record of this name, in a file of z bytes: the bytes of a 64-bit range stand at an offset
 abbrev pub item_of : ℕ → ℕ → ℕ → ℕ → AnyRecord → Name → Item
@@ -157,6 +166,7 @@ item_of z e k offset (any.System fields) name = items.System (system_item e k fi
 item_of z e k offset (any.Memory64 fields) name = items.Range (range64_item z e k fields offset)
 item_of z e k offset (any.Unloaded fields) name = items.Unloaded (unloaded_item e k fields name)
 item_of z e k offset (any.MemoryInfo fields) name = items.MemoryInfo (memory_info_item e k fields)
+item_of z e k offset (any.ThreadName fields) name = items.ThreadName (thread_name_item e k fields name)
 
 -- the name at an RVA, of a record that has one
 abbrev pub name_of : List ℕ → ℕ → Option ℕ → Result Name Fault

@@ -7,6 +7,7 @@ use Rattle.mdmp_wire.specs.MemoryInfo.{memory_info_size}
 use Rattle.mdmp_wire.specs.Module.{module_size}
 use Rattle.mdmp_wire.specs.System.{system_size}
 use Rattle.mdmp_wire.specs.Thread.{thread_size}
+use Rattle.mdmp_wire.specs.ThreadName.{thread_name_size}
 use Rattle.mdmp_wire.specs.Unloaded.{unloaded_size}
 use Rattle.mdmp_lister.specs.declared.form.Form.{Form}
 use Rattle.mdmp_lister.specs.declared.form.Form.TheVariants as forms
@@ -27,6 +28,7 @@ kind_row kinds.System = record { stream_type = 7; form = forms.Single; record_si
 kind_row kinds.Memory64 = record { stream_type = 9; form = forms.Ranges64; record_size = descriptor64_size; has_names = false; lists_ranges = true }
 kind_row kinds.Unloaded = record { stream_type = 14; form = forms.Sized32; record_size = unloaded_size; has_names = true; lists_ranges = false }
 kind_row kinds.MemoryInfo = record { stream_type = 16; form = forms.Sized64; record_size = memory_info_size; has_names = false; lists_ranges = false }
+kind_row kinds.ThreadNames = record { stream_type = 24; form = forms.Counted; record_size = thread_name_size; has_names = true; lists_ranges = false }
 
 -- the type of its streams
 abbrev pub type_of_kind : StreamKind → ℕ
@@ -43,6 +45,7 @@ kind_of t =
     else if t == type_of_kind kinds.Memory64 then Some kinds.Memory64
     else if t == type_of_kind kinds.Unloaded then Some kinds.Unloaded
     else if t == type_of_kind kinds.MemoryInfo then Some kinds.MemoryInfo
+    else if t == type_of_kind kinds.ThreadNames then Some kinds.ThreadNames
     else None
 
 abbrev pub is_known : ℕ → Bool

@@ -26,7 +26,8 @@ pub type_of-kind : (t : ℕ) (kind : StreamKind) → kind_of t ≡ Some kind →
 type_of-kind t kind =
     of_row t kinds.Threads kind _ _ refl (of_row t kinds.Modules kind _ _ refl (of_row t kinds.Memory kind _ _ refl
     (of_row t kinds.Exception kind _ _ refl (of_row t kinds.System kind _ _ refl (of_row t kinds.Memory64 kind _ _ refl
-    (of_row t kinds.Unloaded kind _ _ refl (of_row t kinds.MemoryInfo kind None _ refl (λ none. absurd (cc none)))))))))
+    (of_row t kinds.Unloaded kind _ _ refl (of_row t kinds.MemoryInfo kind _ _ refl (of_row t kinds.ThreadNames kind None _ refl
+    (λ none. absurd (cc none))))))))))
 
 pub least_record : (kind : StreamKind) → 0 < record_size kind
 least_record kinds.Threads = omega arith

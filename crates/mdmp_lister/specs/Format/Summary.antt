@@ -41,6 +41,7 @@ summary_of (items.Unloaded x) = summary_by x.entry x.index kinds.Unloaded x.name
 summary_of (items.Exception x) = summary_by x.entry x.index kinds.Exception names.None None
 summary_of (items.System x) = summary_by x.entry x.index kinds.System x.name None
 summary_of (items.MemoryInfo x) = summary_by x.entry x.index kinds.MemoryInfo names.None None
+summary_of (items.ThreadName x) = summary_by x.entry x.index kinds.ThreadNames x.name None
 summary_of (items.Range x) = summary_by x.entry x.index kinds.Memory names.None (Some x)
 
 -- ---- what follows where a Stream item, which begins an entry, was given or not
