@@ -9,6 +9,7 @@ use crate::module::ModuleRecord;
 use crate::slot::Slot;
 use crate::system::SystemRecord;
 use crate::thread::ThreadRecord;
+use crate::thread_name::ThreadNameRecord;
 use crate::unloaded::UnloadedRecord;
 
 /// A record of a stream, of any kind that has records.
@@ -31,14 +32,16 @@ pub enum AnyRecord {
     Unloaded(UnloadedRecord),
     /// A region of memory: `MINIDUMP_MEMORY_INFO`.
     MemoryInfo(MemoryInfoRecord),
+    /// The name of a thread: `MINIDUMP_THREAD_NAME`.
+    ThreadName(ThreadNameRecord),
 }
 
 impl AnyRecord {
     ghost use Rattle.mdmp_wire.specs.AnyRecord.{name_rva, slots_of};
 
     /// Where its name stands, from the start of the file, if records of its kind have one: of a
-    /// module and an unloaded module `ModuleNameRva`, of a system `CSDVersionRva`. 0 says that
-    /// this record has none.
+    /// module and an unloaded module `ModuleNameRva`, of a system `CSDVersionRva`, of the name of a
+    /// thread `RvaOfThreadName`. 0 says that this record has none.
     pub fn name_rva(&self) -> Option<u64>
         ensures { result ≡ name_rva self.now }
     {
@@ -49,8 +52,8 @@ impl AnyRecord {
     /// What it points at, in the order of its fields: a name stands before the parts. Of a thread
     /// these are its stack and its registers, of a module its name, its CodeView record and its
     /// miscellaneous debug record, of a range of memory its bytes, of an exception its registers, of
-    /// a system and an unloaded module the name. A region of memory points at nothing, nor does a
-    /// 64-bit range: its bytes are located nowhere in its record.
+    /// a system, an unloaded module and the name of a thread the name. A region of memory points at
+    /// nothing, nor does a 64-bit range: its bytes are located nowhere in its record.
     pub fn slots(&self) -> [Slot; 3]
         ensures { result ≡ slots_of self.now }
     {
@@ -78,6 +81,11 @@ impl AnyRecord {
             ],
             AnyRecord::Unloaded(module) => [
                 Slot::Name(u64::from(module.module_name_rva)),
+                Slot::Empty,
+                Slot::Empty,
+            ],
+            AnyRecord::ThreadName(thread) => [
+                Slot::Name(thread.rva_of_thread_name),
                 Slot::Empty,
                 Slot::Empty,
             ],
