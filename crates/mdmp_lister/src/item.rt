@@ -6,7 +6,7 @@ use crate::name::Name;
 use mdmp_source::{Extent, Location};
 use mdmp_wire::{
     Descriptor, Descriptor64, ExceptionRecord, MemoryInfoRecord, ModuleRecord, SystemRecord,
-    ThreadRecord, UnloadedRecord,
+    ThreadNameRecord, ThreadRecord, UnloadedRecord,
 };
 
 /// An entry of the directory, `MINIDUMP_DIRECTORY`: the items of its stream follow this one.
@@ -137,6 +137,19 @@ pub struct MemoryInfoItem {
     pub fields: MemoryInfoRecord,
 }
 
+/// The name of a thread, `MINIDUMP_THREAD_NAME`.
+#[derive(Debug, Drop, PartialEq, Eq)]
+pub struct ThreadNameItem<'a> {
+    /// The number of the entry in the directory, from 0.
+    pub entry: u32,
+    /// The index of the record in its stream, from 0.
+    pub index: u64,
+    /// The record as it stands in the file.
+    pub fields: ThreadNameRecord,
+    /// The name at its `RvaOfThreadName`.
+    pub name: Name<'a>,
+}
+
 /// A range of memory, of a `MINIDUMP_MEMORY_LIST` or a `MINIDUMP_MEMORY64_LIST`.
 #[derive(Clone, Copy, Debug, PartialEq, Eq)]
 pub struct RangeItem {
@@ -220,6 +233,8 @@ pub enum Item<'a> {
     System(SystemItem<'a>),
     /// A region of memory.
     MemoryInfo(MemoryInfoItem),
+    /// The name of a thread.
+    ThreadName(ThreadNameItem<'a>),
     /// A range of memory.
     Range(RangeItem),
 }
@@ -273,6 +288,7 @@ impl<'a> Item<'a> {
             Item::Exception(x) => (x.entry, x.index, &NO_NAME),
             Item::System(x) => (x.entry, x.index, &x.name),
             Item::MemoryInfo(x) => (x.entry, x.index, &NO_NAME),
+            Item::ThreadName(x) => (x.entry, x.index, &x.name),
             Item::Range(x) => (x.entry, x.index, &NO_NAME),
         };
         ItemHead { entry, index, name }

@@ -6,7 +6,7 @@ ghost use Rattle.mdmp_lister.specs.Walk.Owing.{ranges_by};
 use crate::form::Form;
 use mdmp_wire::{
     Descriptor, Descriptor64, ExceptionRecord, MemoryInfoRecord, ModuleRecord, Record,
-    SystemRecord, ThreadRecord, UnloadedRecord,
+    SystemRecord, ThreadNameRecord, ThreadRecord, UnloadedRecord,
 };
 
 /// The streams whose records are listed, with their `MINIDUMP_STREAM_TYPE`. Of an entry of another
@@ -29,6 +29,8 @@ pub enum StreamKind {
     Unloaded,
     /// `MemoryInfoListStream`, 16.
     MemoryInfo,
+    /// `ThreadNamesStream`, 24.
+    ThreadNames,
 }
 
 /// What the table of kinds has of one.
@@ -108,6 +110,13 @@ impl StreamKind {
                 has_names: false,
                 lists_ranges: false,
             },
+            StreamKind::ThreadNames => KindRow {
+                stream_type: 24,
+                form: Form::Counted,
+                record_size: ThreadNameRecord::SIZE as u32,
+                has_names: true,
+                lists_ranges: false,
+            },
         }
     }
 
@@ -124,6 +133,7 @@ impl StreamKind {
             9 => Some(StreamKind::Memory64),
             14 => Some(StreamKind::Unloaded),
             16 => Some(StreamKind::MemoryInfo),
+            24 => Some(StreamKind::ThreadNames),
             _ => None,
         }
     }

@@ -72,7 +72,7 @@ pub use crate::fetching::NameRead;
 pub use crate::form::Form;
 pub use crate::item::{
     ExceptionItem, Item, MemoryInfoItem, ModuleItem, RangeItem, StreamItem, SystemItem, ThreadItem,
-    UnloadedItem,
+    ThreadNameItem, UnloadedItem,
 };
 pub use crate::kind::StreamKind;
 pub use crate::laws::{listing_ends_at_the_first_bad_verdict, listing_of_a_choice};

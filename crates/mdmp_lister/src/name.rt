@@ -8,7 +8,7 @@ use crate::fault::{Fault, FaultKind, faulted};
 use mdmp_source::inside;
 use mdmp_wire::{UnitsRef, get_at};
 
-/// The name of a module, or of a service pack: a `MINIDUMP_STRING`.
+/// The name of a module, of a service pack, or of a thread: a `MINIDUMP_STRING`.
 #[derive(Debug, Drop, PartialEq, Eq)]
 pub enum Name<'a> {
     /// The RVA of the name is 0.

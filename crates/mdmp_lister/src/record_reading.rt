@@ -19,7 +19,7 @@ use crate::step::{RecordRead, Step};
 use mdmp_source::{SourceFault, Store, Window};
 use mdmp_wire::{
     AnyRecord, Descriptor, Descriptor64, ExceptionRecord, MemoryInfoRecord, ModuleRecord, Record,
-    SystemRecord, ThreadRecord, UnloadedRecord,
+    SystemRecord, ThreadNameRecord, ThreadRecord, UnloadedRecord,
 };
 use std::alloc::Allocator;
 
@@ -37,6 +37,7 @@ fn record_of(kind: StreamKind, bytes: &[u8]) -> AnyRecord
         StreamKind::Memory64 => AnyRecord::Memory64(Descriptor64::read(bytes)),
         StreamKind::Unloaded => AnyRecord::Unloaded(UnloadedRecord::read(bytes)),
         StreamKind::MemoryInfo => AnyRecord::MemoryInfo(MemoryInfoRecord::read(bytes)),
+        StreamKind::ThreadNames => AnyRecord::ThreadName(ThreadNameRecord::read(bytes)),
     }
 }
 

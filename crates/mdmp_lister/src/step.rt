@@ -6,7 +6,7 @@ ghost use Rattle.mdmp_lister.specs.Step.{IsHeld, IsItemOf, name_read};
 use crate::fetching::NameRead;
 use crate::item::{
     ExceptionItem, Item, MemoryInfoItem, ModuleItem, RangeItem, StreamItem, SystemItem, ThreadItem,
-    UnloadedItem,
+    ThreadNameItem, UnloadedItem,
 };
 use crate::name::Name;
 use mdmp_wire::{AnyRecord, UnitsRef};
@@ -88,6 +88,12 @@ pub(crate) fn record_item<'a>(read: &RecordRead, buffer: &'a [u8], size: u64) ->
             entry,
             index,
             fields,
+        }),
+        AnyRecord::ThreadName(fields) => Item::ThreadName(ThreadNameItem {
+            entry,
+            index,
+            fields,
+            name: lent_name(buffer, read.name),
         }),
     }
 }
