@@ -9,7 +9,7 @@ use Rattle.mdmp_wire.specs.Number.{array_at}
 use Rattle.mdmp_wire.specs.NumberBounds.{number_at-lt}
 use Rattle.mdmp_lister.specs.declared.item.RangeItem.{RangeItem}
 use Rattle.mdmp_dump.proofs.Laid.{range_inside}
-use Rattle.mdmp_dump.proofs.Limits.{range_absent}
+use Rattle.mdmp_dump.proofs.Limits.{name_low, range_absent}
 use Rattle.mdmp_dump.proofs.Unrefused.{part_given}
 use Rattle.mdmp_dump.proofs.Within.Part.{length-array_at}
 use Rattle.mdmp_wire.specs.Exception.{exception_at}
@@ -17,6 +17,7 @@ use Rattle.mdmp_wire.specs.MemoryInfo.{memory_info_at}
 use Rattle.mdmp_wire.specs.Module.{module_at}
 use Rattle.mdmp_wire.specs.System.{system_at}
 use Rattle.mdmp_wire.specs.Thread.{thread_at}
+use Rattle.mdmp_wire.specs.ThreadName.{thread_name_at}
 use Rattle.mdmp_wire.specs.Unloaded.{unloaded_at}
 use Rattle.mdmp_wire.specs.declared.any_record.AnyRecord.{AnyRecord}
 use Rattle.mdmp_lister.specs.declared.fault.Fault.{Fault}
@@ -28,12 +29,13 @@ use Rattle.mdmp_lister.specs.declared.item.ModuleItem.{ModuleItem}
 use Rattle.mdmp_lister.specs.declared.item.StreamItem.{StreamItem}
 use Rattle.mdmp_lister.specs.declared.item.SystemItem.{SystemItem}
 use Rattle.mdmp_lister.specs.declared.item.ThreadItem.{ThreadItem}
+use Rattle.mdmp_lister.specs.declared.item.ThreadNameItem.{ThreadNameItem}
 use Rattle.mdmp_lister.specs.declared.item.UnloadedItem.{UnloadedItem}
 use Rattle.mdmp_lister.specs.declared.kind.StreamKind.{StreamKind}
 use Rattle.mdmp_lister.specs.Format.Kind.{is_memory64}
 use Rattle.mdmp_lister.specs.declared.kind.StreamKind.TheVariants as kinds
 use Rattle.mdmp_lister.specs.declared.name.Name.{Name}
-use Rattle.mdmp_lister.specs.Format.Item.{exception_item, item_at, memory_info_item, module_item, name_of, named, range64_item, range_extent_of, range_item, range_offset, record_at, system_item, thread_item, unloaded_item}
+use Rattle.mdmp_lister.specs.Format.Item.{exception_item, item_at, memory_info_item, module_item, name_of, named, range64_item, range_extent_of, range_item, range_offset, record_at, system_item, thread_item, thread_name_item, unloaded_item}
 use Rattle.mdmp_lister.specs.Format.Name.{name_at}
 use Rattle.mdmp_source.specs.declared.location.Location.{Location}
 use Rattle.mdmp_source.specs.declared.location.Extent.{Extent}
@@ -314,6 +316,44 @@ module _ (F : List ℕ) (limit e k at o : ℕ) where
       let a = name F given in
       (items.Unloaded (unloaded_item e k (unloaded_at F o) a.0), (unloaded_under a.0 a.1.0, λ own. refused _ fault (a.1.1 own))))
 
+  -- ---- names of threads
+
+  abbrev ThreadNameCase : (StreamKind → ThreadNameItem → Type 0) → StreamKind → Item → Type 0
+  ThreadNameCase P kind (items.ThreadName x) = P kind x
+  ThreadNameCase P kind item = Unit {0}
+
+  pub thread_name_case : (P : StreamKind → ThreadNameItem → Type 0) → ((n : Name) → name_at F (thread_name_at F o).rva_of_thread_name 0 ≡ Ok n → P kinds.ThreadNames (thread_name_item e k (thread_name_at F o) n))
+      → (kind : StreamKind) (x : ThreadNameItem) → item_at F 0 e k at o kind ≡ Ok (items.ThreadName x) → P kind x
+  thread_name_case P holds kind x is = item_case F e k at o kind (items.ThreadName x) is (ThreadNameCase P) (by kind) where
+    by : (other : StreamKind) (n : Name) → name_of F 0 (name_rva (record_at other F o)) ≡ Ok n → ThreadNameCase P other (made other F 0 e k at o n)
+    by kinds.ThreadNames n given = holds n given
+    by other n given = tt
+
+  abbrev pub thread_name_wire : ThreadNameItem → AnyRecord
+  thread_name_wire x = any.ThreadName (record x.fields { rva_of_thread_name = 0 })
+
+  thread_name_under : (n : Name) → name_at F (thread_name_at F o).rva_of_thread_name limit ≡ Ok n
+      → item_at F limit e k at o kinds.ThreadNames ≡ Ok (items.ThreadName (thread_name_item e k (thread_name_at F o) n))
+  thread_name_under n given = ap (λ (r : Result Name Fault). named r (made kinds.ThreadNames F limit e k at o)) given
+
+  pub thread_name_found : (p : PartAt) (kind : StreamKind) (x : ThreadNameItem) → item_at F 0 e k at o kind ≡ Ok (items.ThreadName x)
+      → HasNameIn x.entry x.index x.fields.rva_of_thread_name x.name limit (Ok p)
+      → FindsRecord F limit e k at o kind (Ok (record { wire = thread_name_wire x; parts = p ∷ no_part ∷ no_part ∷ [] }))
+  thread_name_found p = thread_name_case
+      (λ kind x. HasNameIn x.entry x.index x.fields.rva_of_thread_name x.name limit (Ok p)
+      → FindsRecord F limit e k at o kind (Ok (record { wire = thread_name_wire x; parts = p ∷ no_part ∷ no_part ∷ [] })))
+      (λ n given name.
+      let a = name F given in
+      (items.ThreadName (thread_name_item e k (thread_name_at F o) a.0), (thread_name_under a.0 a.1.0, (a.1.1.0, seen_at F _ _ _ _ _ _ _ p no_part no_part a.1.1.1 (nothing_at F) (nothing_at F)))))
+
+  pub thread_name_name : (fault : ReadFault) (kind : StreamKind) (x : ThreadNameItem) → item_at F 0 e k at o kind ≡ Ok (items.ThreadName x)
+      → HasNameIn x.entry x.index x.fields.rva_of_thread_name x.name limit (Err fault) → FindsRecord F limit e k at o kind (Err fault)
+  thread_name_name fault = thread_name_case
+      (λ kind x. HasNameIn x.entry x.index x.fields.rva_of_thread_name x.name limit (Err fault) → FindsRecord F limit e k at o kind (Err fault))
+      (λ n given name.
+      let a = name F given in
+      (items.ThreadName (thread_name_item e k (thread_name_at F o) a.0), (thread_name_under a.0 a.1.0, λ own. refused _ fault (a.1.1 own))))
+
   -- ---- the system
 
   abbrev SystemCase : (StreamKind → SystemItem → Type 0) → StreamKind → Item → Type 0
@@ -419,6 +459,10 @@ pub range_fits : (F : List ℕ) (e k at o : ℕ) (kind : StreamKind) (x : RangeI
 range_fits F e k at o kind x fits = range_case F 0 e k at o (λ kind x. x.extent ≡ Absent → x.size < 2 ^ 32)
     (λ absent. number_at-lt F (o + 8) 4 fits)
     (λ absent. let d = descriptor64_at F o in range_absent F e k (range_offset F at k) d.data_size absent) kind x
+
+-- a name of a thread that was read stands where 4 may be added
+pub thread_name_low : (F : List ℕ) (e k at o : ℕ) → length F < 2 ^ 64 → (kind : StreamKind) (x : ThreadNameItem) → item_at F 0 e k at o kind ≡ Ok (items.ThreadName x) → x.fields.rva_of_thread_name + 4 < 2 ^ 64
+thread_name_low F e k at o few = thread_name_case F 0 e k at o (λ kind x. x.fields.rva_of_thread_name + 4 < 2 ^ 64) (λ n given. name_low F (thread_name_at F o).rva_of_thread_name 0 n few given)
 
 NoStream : StreamKind → Item → Type 0
 NoStream kind (items.Stream x) = ⊥

@@ -10,12 +10,13 @@ use Rattle.mdmp_wire.specs.Exception.{exception_at}
 use Rattle.mdmp_wire.specs.Module.{module_at}
 use Rattle.mdmp_wire.specs.System.{system_at}
 use Rattle.mdmp_wire.specs.Thread.{thread_at}
+use Rattle.mdmp_wire.specs.ThreadName.{thread_name_at}
 use Rattle.mdmp_wire.specs.Unloaded.{unloaded_at}
 use Rattle.mdmp_lister.specs.declared.fault.Fault.{Fault}
 use Rattle.mdmp_lister.specs.declared.name.Name.{Name}
 use Rattle.mdmp_lister.specs.Format.Name.{name_at}
 use Rattle.mdmp_dump.specs.Exception.{IsException}
-use Rattle.mdmp_dump.specs.InFile.{exception_in, memory_in, module_in, name_in, part_named, part_or, rows_in, system_in, thread_in, told_or, units_told, unloaded_in}
+use Rattle.mdmp_dump.specs.InFile.{exception_in, memory_in, module_in, name_in, part_named, part_or, rows_in, system_in, thread_in, thread_name_in, told_or, units_told, unloaded_in}
 use Rattle.mdmp_dump.specs.LaysOut.{EachFrom}
 use Rattle.mdmp_dump.specs.Memory.{IsMemory}
 use Rattle.mdmp_dump.specs.Module.{IsModule}
@@ -23,6 +24,7 @@ use Rattle.mdmp_dump.specs.Name.{IsName, name_told}
 use Rattle.mdmp_dump.specs.Part.{IsPart, part_in}
 use Rattle.mdmp_dump.specs.System.{IsSystem}
 use Rattle.mdmp_dump.specs.Thread.{IsThread}
+use Rattle.mdmp_dump.specs.ThreadName.{IsThreadName}
 use Rattle.mdmp_dump.specs.Unloaded.{IsUnloaded}
 
 -- a part that does not lie outside, and a name that has no fault
@@ -76,6 +78,9 @@ module _ {Z : Type 0} where
 
   pub unloaded_is : (F : List ℕ) (o : ℕ) → HasName F (unloaded_at F o).module_name_rva → IsUnloaded F o (unloaded_in {Z = Z} F o)
   unloaded_is F o name = record { fields = refl; name = name_is F (unloaded_at F o).module_name_rva name }
+
+  pub thread_name_is : (F : List ℕ) (o : ℕ) → HasName F (thread_name_at F o).rva_of_thread_name → IsThreadName F o (thread_name_in {Z = Z} F o)
+  thread_name_is F o name = record { fields = refl; name = name_is F (thread_name_at F o).rva_of_thread_name name }
 
 -- each record in its place
 pub rows_are : {X : Type 0} (IsAt : ℕ → ℕ → X → Type 0) (f : ℕ → ℕ → X) (at stride k n : ℕ) → ((j : ℕ) → IsAt j (at + j * stride) (f j (at + j * stride))) → EachFrom IsAt at stride k (rows_in f at stride k n)

@@ -9,6 +9,7 @@ use Rattle.mdmp_wire.specs.Descriptor64.{descriptor64_at}
 use Rattle.mdmp_wire.specs.MemoryInfo.{memory_info_at}
 use Rattle.mdmp_wire.specs.Module.{module_at}
 use Rattle.mdmp_wire.specs.System.{system_at}
+use Rattle.mdmp_wire.specs.ThreadName.{thread_name_at}
 use Rattle.mdmp_wire.specs.Unloaded.{unloaded_at}
 use Rattle.mdmp_lister.specs.declared.choice.Choice.{Choice}
 use Rattle.mdmp_lister.specs.declared.fault.Fault.{Fault}
@@ -27,7 +28,7 @@ use Rattle.mdmp_lister.proofs.Heads.{listed-inside}
 use Rattle.mdmp_dump.specs.declared.fault.PartName.TheVariants.{Stack, Context, CodeView, Misc, Memory}
 use Rattle.mdmp_dump.specs.Exception.{IsException}
 use Rattle.mdmp_dump.specs.FileRefusal.{opened_told, run_told, view_refusal}
-use Rattle.mdmp_dump.specs.InFile.{by_kind, by_type, dump_in, exception_in, memory_in, memory64_in, module_in, rows_in, shaped_in, stream_named, system_in, thread_in, unloaded_in}
+use Rattle.mdmp_dump.specs.InFile.{by_kind, by_type, dump_in, exception_in, memory_in, memory64_in, module_in, rows_in, shaped_in, stream_named, system_in, thread_in, thread_name_in, unloaded_in}
 use Rattle.mdmp_dump.specs.LaysOut.{AreStreams, HasRecords, NamesStream, LaysOut, StandsAt}
 use Rattle.mdmp_dump.specs.Left.{run_of}
 use Rattle.mdmp_dump.specs.Memory.{IsMemory}
@@ -36,10 +37,11 @@ use Rattle.mdmp_dump.specs.Module.{IsModule}
 use Rattle.mdmp_dump.specs.Refusal.{item_steps, name_steps, location_steps}
 use Rattle.mdmp_dump.specs.System.{IsSystem}
 use Rattle.mdmp_dump.specs.Thread.{IsThread}
+use Rattle.mdmp_dump.specs.ThreadName.{IsThreadName}
 use Rattle.mdmp_dump.specs.Unloaded.{IsUnloaded}
 use Rattle.mdmp_dump.specs.Value.{type_of}
 use Rattle.mdmp_dump.proofs.Budget.{inside_is}
-use Rattle.mdmp_dump.proofs.InFiles.{exception_is, memory_is, module_is, system_is, thread_is, unloaded_is}
+use Rattle.mdmp_dump.proofs.InFiles.{exception_is, memory_is, module_is, system_is, thread_is, thread_name_is, unloaded_is}
 use Rattle.mdmp_dump.proofs.Opened.{directory-head}
 use Rattle.mdmp_dump.proofs.Streams.{one_single}
 use Rattle.mdmp_dump.proofs.Unrefused.{IsQuiet, fault_told, first_quiet, item_given, joined_quiet, name_given, part_given, rows_count, rows_laid, told_both}
@@ -96,6 +98,9 @@ module _ {Z : Type 0} where
 
     unloaded_laid : item_at F limit e k at o kinds.Unloaded ≡ Ok item → IsQuiet (item_steps (length F) item) → IsUnloaded F o (unloaded_in {Z = Z} F o)
     unloaded_laid is quiet = item_given kinds.Unloaded F limit e k at o item is quiet (λ n name all. unloaded_is F o (name_given F limit e k (unloaded_at F o).module_name_rva n name all))
+
+    thread_name_laid : item_at F limit e k at o kinds.ThreadNames ≡ Ok item → IsQuiet (item_steps (length F) item) → IsThreadName F o (thread_name_in {Z = Z} F o)
+    thread_name_laid is quiet = item_given kinds.ThreadNames F limit e k at o item is quiet (λ n name all. thread_name_is F o (name_given F limit e k (thread_name_at F o).rva_of_thread_name n name all))
 
 -- ---- the records of a stream
 
@@ -162,6 +167,8 @@ module _ (Z : Type 0) (F : List ℕ) (limit : ℕ) where
         list_laid kinds.Unloaded (λ k o. IsUnloaded F o) (λ k o. unloaded_in F o) F limit x shape inside is none (λ k o item. unloaded_laid F limit x.number at_x k o item)
     shaped_stands kinds.MemoryInfo shape inside is none =
         list_laid kinds.MemoryInfo (λ k o y. memory_info_at F o ≡ y) (λ k o. memory_info_at F o) F limit x shape inside is none (λ k o item given quiet. refl)
+    shaped_stands kinds.ThreadNames shape inside is none =
+        list_laid kinds.ThreadNames (λ k o. IsThreadName F o) (λ k o. thread_name_in F o) F limit x shape inside is none (λ k o item. thread_name_laid F limit x.number at_x k o item)
 
     -- a stream whose records are known
     known_stands : (kind : StreamKind) (shape : Result Shape Fault) → kind_of x.entry.stream_type ≡ Some kind → location_fault (length F) x.entry ≡ None

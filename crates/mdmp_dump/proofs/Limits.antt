@@ -1,6 +1,6 @@
 -- The name at an RVA under one limit and under another.
 use Rattle.std.proofs.Common.{◌≡◌, ◌∙◌, ◌⊎◌, ◌+◌, ◌-◌, ◌*◌, ◌/◌, ◌%◌, ◌<◌, ◌≤◌, ◌^◌, ◌==◌, ℕ, Bool, true, false, List, [], length, Some, None, Result, Ok, Err, ap, arith, inl, inr, nat_lt, refl, subst, sym, take, drop, if◌then◌else◌, lt-ltb, le-ltb}
-use Rattle.std.specs.Prelude.{not, slice_index}
+use Rattle.std.specs.Prelude.{MatchResult, not, slice_index}
 use Rattle.std.proofs.lemmas.Bool.Decides.{nat_tests}
 use Rattle.std.proofs.lemmas.List.{get_or-drop, get_or-take, get_or_past, length-take, take_all}
 use Rattle.mdmp_source.specs.Range.{bytes_at, is_inside}
@@ -28,6 +28,7 @@ use Rattle.mdmp_dump.specs.Part.{part_in}
 use Rattle.std.proofs.lemmas.Bool.{eqb-true}
 use Rattle.mdmp_lister.specs.Format.Item.{range_extent_of}
 use Rattle.mdmp_dump.specs.declared.fault.PartName.TheVariants.{Memory}
+use Rattle.mdmp_dump.specs.Reading.{IsOwn}
 use Rattle.mdmp_dump.specs.Refusal.{location_steps, part_steps}
 use Rattle.mdmp_dump.specs.declared.fault.PartName.{PartName}
 use Rattle.mdmp_dump.specs.declared.fault.ReadFault.{ReadFault}
@@ -100,6 +101,18 @@ module _ (F : List ℕ) (rva : ℕ) where
   refused_under limit other f is =
       refused_by limit other f (rva == 0) (is_inside rva 4 (length F)) (number_at F rva 4 % 2 == 1) (is_inside (rva + 4) (number_at F rva 4) (length F)) _ _ _ is
 
+  low_by : (limit : ℕ) (n : Name) (absent measured odd inside : Bool) (a b c : Fault) → (rva == 0) ≡ absent → is_inside rva 4 (length F) ≡ measured → length F < 2 ^ 64
+      → name_by absent measured odd inside (nat_lt limit (number_at F rva 4)) a b c ≡ Ok n → rva + 4 < 2 ^ 64
+  low_by limit n true measured odd inside a b c first second few is = let none : rva ≡ 0 = eqb-true rva 0 first in omega (arith, none)
+  low_by limit n false true odd inside a b c first second few is = grind (arith, nat_tests, second, few)
+  low_by limit n false false odd inside a b c first second few is = absurd (cc is)
+
+  -- a name that was read stands where 4 may be added
+  pub name_low : (limit : ℕ) (n : Name) → length F < 2 ^ 64 → name_at F rva limit ≡ Ok n → rva + 4 < 2 ^ 64
+  unfolding name_at
+  name_low limit n few is =
+      low_by limit n (rva == 0) (is_inside rva 4 (length F)) (number_at F rva 4 % 2 == 1) (is_inside (rva + 4) (number_at F rva 4) (length F)) _ _ _ refl refl few is
+
   -- ---- the units of a name
 
   pub none_in : ((other : ℕ) → name_at F rva other ≡ Ok names.None) → name_in F rva ≡ None
@@ -155,6 +168,12 @@ module _ (F : List ℕ) (rva limit e k : ℕ) where
       none_under : (b : Bool) → names.None ≡ (if b then names.Long (number_at F rva 4) else names.Units (units_over (array_at F (rva + 4) (number_at F rva 4)))) → ⊥
       none_under true same = cc same
       none_under false same = cc same
+
+  -- or that there is no such place
+  pub own_found : (p : PartAt) (result : Result PartAt ReadFault) → MatchResult result (λ q. q ≡ p) (λ fault. (fault ≡ faults.Memory) × (2 ^ 64 ≤ rva + 4))
+      → FindsName F limit e k rva (Ok p) → FindsName F limit e k rva result
+  own_found p (Ok q) is found = subst (λ (x : PartAt). FindsName F limit e k rva (Ok x)) (sym is) found
+  own_found p (Err fault) is found = (found.0, (found.1.0, λ own. absurd (own (subst IsOwn (sym is.0) tt))))
 
   -- so many bytes behind its length
   some_found : (bytes : ℕ) → HasLength F rva bytes → (nat_lt limit bytes ≡ false) → FindsName F limit e k rva (Ok (record { size = Size bytes; at = rva + 4 }))

@@ -9,4 +9,5 @@ pub mod Part
 pub mod Records
 pub mod System
 pub mod Thread
+pub mod ThreadName
 pub mod Unloaded

@@ -11,4 +11,5 @@ pub mod Runs
 pub mod Steps
 pub mod System
 pub mod Thread
+pub mod ThreadName
 pub mod Unloaded

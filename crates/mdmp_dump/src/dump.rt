@@ -10,6 +10,7 @@ use crate::module::Module;
 use crate::records::Records;
 use crate::system::System;
 use crate::thread::Thread;
+use crate::thread_name::ThreadName;
 use crate::unloaded::Unloaded;
 use mdmp_lister::StreamKind;
 use mdmp_wire::MemoryInfoRecord;
@@ -37,6 +38,8 @@ pub enum Stream<A: Allocator> {
     Unloaded(Records<Unloaded<A>, A>),
     /// `MemoryInfoListStream`, 16.
     MemoryInfo(Records<MemoryInfoRecord, A>),
+    /// `ThreadNamesStream`, 24.
+    ThreadNames(Records<ThreadName<A>, A>),
     /// A stream of another type, which comes first, and its bytes.
     Raw(u32, Bytes<A>),
 }
@@ -51,7 +54,8 @@ macro_rules! by_records {
         $($others:tt)*
     ) => {
         by_records!(
-            @kinds [Threads, Modules, Memory, Memory64, Unloaded, MemoryInfo] [Exception, System]
+            @kinds [Threads, Modules, Memory, Memory64, Unloaded, MemoryInfo, ThreadNames]
+            [Exception, System]
             $stream, $kind, $records => $of_list, $record => $of_single, $($others)*
         )
     };

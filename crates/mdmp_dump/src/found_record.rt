@@ -1,6 +1,6 @@
 //! A record of a file, with the places of its name and parts.
 
-ghost use Rattle.std.specs.Prelude.{◌≡◌, ◌↔◌, ◌<◌, ◌^◌, ◌-◌, ℕ, List, Ok, Some, IfErr, IfOk, IsTrue, MatchResult, length};
+ghost use Rattle.std.specs.Prelude.{◌≡◌, ◌≤◌, ◌↔◌, ◌<◌, ◌+◌, ◌^◌, ◌-◌, ℕ, List, Ok, Some, IfErr, IfOk, IsTrue, MatchResult, length};
 ghost use Rattle.mdmp_source.specs.Extent.{extent_of};
 ghost use Rattle.mdmp_lister.specs.Format.Name.{name_at, plain_name};
 ghost use Rattle.mdmp_lister.specs.declared.item.Item.TheVariants as items;
@@ -13,18 +13,19 @@ ghost use Rattle.mdmp_lister.specs.declared.kind.StreamKind.TheVariants as kinds
 ghost use Rattle.mdmp_source.specs.Store.{AreBytes};
 ghost use Rattle.mdmp_dump.specs.Finding.{FindsName, FindsPart, FindsRange, IsAbleOf, IsFittingOf, IsFoundAs, IsFoundInside, IsFoundOf, IsOfPlaces, IsOfRecord, range_kind, record_kind};
 ghost use Rattle.mdmp_dump.specs.FoundRecord.{AreIn, IsPartIn, fields_of};
+ghost use Rattle.mdmp_dump.specs.declared.view.PartSize.TheVariants.{Size};
 
 use crate::fault::{PartName, ReadFault};
 use crate::given::nowhere;
 use crate::view::{Fields, PartSize};
 use mdmp_lister::{
     ExceptionItem, Item, MemoryInfoItem, ModuleItem, Name, RangeItem, SystemItem, ThreadItem,
-    UnloadedItem,
+    ThreadNameItem, UnloadedItem,
 };
 use mdmp_source::{Extent, Location, SourceFault, inside};
 use mdmp_wire::{
-    AnyRecord, Descriptor, Descriptor64, ExceptionRecord, ModuleRecord, SystemRecord, ThreadRecord,
-    UnloadedRecord,
+    AnyRecord, Descriptor, Descriptor64, ExceptionRecord, ModuleRecord, SystemRecord,
+    ThreadNameRecord, ThreadRecord, UnloadedRecord,
 };
 
 /// A name or a part of a record, and where its bytes stand in the file; a name's are its units.
@@ -81,24 +82,36 @@ impl FoundRecord {
     }
 }
 
+/// So many bytes of units, behind the length that stands at `rva`. Behind the last length that a file
+/// can have there is no such place, which is refused as want of memory is.
+fn units_part(rva: u64, bytes: u64) -> Result<PartAt, ReadFault>
+    ensures { MatchResult result (λ part. part ≡ record { size = Size bytes; at = rva + 4 }) (λ fault. (fault ≡ ReadFault.Memory) × (2 ^ 64 ≤ rva + 4)) }
+{
+    let Some(at) = rva.checked_add(4) else {
+        return Err(ReadFault::Memory);
+    };
+    Ok(PartAt {
+        size: PartSize::Size(bytes),
+        at,
+    })
+}
+
 /// The name of a record, that stands at `rva` and was read with the limit 0; or that it has more than
 /// `limit` bytes.
 fn name_part(
     entry: u32,
     index: u64,
-    rva: u32,
+    rva: u64,
     name: &Name<'_>,
     limit: u32,
 ) -> Result<PartAt, ReadFault>
     ensures finds { (file : List ℕ) → name_at file rva 0 ≡ Ok (plain_name name.now) → FindsName file limit entry index rva result }
-    ensures refuses { IfErr result IsOfRecord }
+    ensures refuses { IfErr result IsOfPlaces }
+    ensures able { rva + 4 < 2 ^ 64 → IfErr result IsOfRecord }
 {
     match name {
         Name::None => Ok(NO_PART),
-        Name::Units(units) => Ok(PartAt {
-            size: PartSize::Size(units.bytes().len() as u64),
-            at: u64::from(rva) + 4,
-        }),
+        Name::Units(units) => units_part(rva, units.bytes().len() as u64),
         Name::Long(length) => {
             let length = *length;
             if limit < length {
@@ -108,10 +121,7 @@ fn name_part(
                     length,
                 });
             }
-            Ok(PartAt {
-                size: PartSize::Size(u64::from(length)),
-                at: u64::from(rva) + 4,
-            })
+            units_part(rva, u64::from(length))
         }
     }
 }
@@ -217,7 +227,13 @@ fn found_module(x: &ModuleItem<'_>, limit: u32) -> Result<FoundRecord, ReadFault
     ensures finds { IsFoundOf (plain (items.Module x.now)) limit result }
     ensures fits { MatchResult result (IsFittingOf (Some kinds.Modules)) IsOfRecord }
 {
-    let name = name_part(x.entry, x.index, x.fields.module_name_rva, &x.name, limit)?;
+    let name = name_part(
+        x.entry,
+        x.index,
+        u64::from(x.fields.module_name_rva),
+        &x.name,
+        limit,
+    )?;
     let codeview = location_part(
         x.entry,
         x.index,
@@ -248,7 +264,13 @@ fn found_unloaded(x: &UnloadedItem<'_>, limit: u32) -> Result<FoundRecord, ReadF
     ensures finds { IsFoundOf (plain (items.Unloaded x.now)) limit result }
     ensures fits { MatchResult result (IsFittingOf (Some kinds.Unloaded)) IsOfRecord }
 {
-    let name = name_part(x.entry, x.index, x.fields.module_name_rva, &x.name, limit)?;
+    let name = name_part(
+        x.entry,
+        x.index,
+        u64::from(x.fields.module_name_rva),
+        &x.name,
+        limit,
+    )?;
     let wire = AnyRecord::Unloaded(UnloadedRecord {
         module_name_rva: 0,
         ..x.fields
@@ -263,9 +285,37 @@ fn found_system(x: &SystemItem<'_>, limit: u32) -> Result<FoundRecord, ReadFault
     ensures finds { IsFoundOf (plain (items.System x.now)) limit result }
     ensures fits { MatchResult result (IsFittingOf (Some kinds.System)) IsOfRecord }
 {
-    let name = name_part(x.entry, x.index, x.fields.csd_version_rva, &x.name, limit)?;
+    let name = name_part(
+        x.entry,
+        x.index,
+        u64::from(x.fields.csd_version_rva),
+        &x.name,
+        limit,
+    )?;
     let wire = AnyRecord::System(SystemRecord {
         csd_version_rva: 0,
+        ..x.fields
+    });
+    Ok(FoundRecord {
+        wire,
+        parts: [name, NO_PART, NO_PART],
+    })
+}
+
+fn found_thread_name(x: &ThreadNameItem<'_>, limit: u32) -> Result<FoundRecord, ReadFault>
+    ensures finds { IsFoundOf (plain (items.ThreadName x.now)) limit result }
+    ensures fits { MatchResult result (IsFittingOf (Some kinds.ThreadNames)) IsOfPlaces }
+    ensures able { IsAbleOf (plain (items.ThreadName x.now)) result }
+{
+    let name = name_part(
+        x.entry,
+        x.index,
+        x.fields.rva_of_thread_name,
+        &x.name,
+        limit,
+    )?;
+    let wire = AnyRecord::ThreadName(ThreadNameRecord {
+        rva_of_thread_name: 0,
         ..x.fields
     });
     Ok(FoundRecord {
@@ -372,6 +422,7 @@ fn found_by_kind(item: &Item<'_>, is_far: bool, limit: u32) -> Result<FoundRecor
         Item::Exception(x) => found_exception(x, limit),
         Item::System(x) => found_system(x, limit),
         Item::MemoryInfo(x) => found_memory_info(x, limit),
+        Item::ThreadName(x) => found_thread_name(x, limit),
         Item::Range(x) => found_range(x, is_far, limit),
         Item::Stream(_) => Err(ReadFault::Memory),
     }

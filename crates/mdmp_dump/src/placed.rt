@@ -5,8 +5,8 @@ ghost use Rattle.mdmp_dump.specs.Placed.{address_of, far_room, fields_room, loca
 use crate::view::{Fields, PartSize};
 use mdmp_source::Location;
 use mdmp_wire::{
-    AnyRecord, Descriptor, ExceptionRecord, ModuleRecord, Slot, SystemRecord, ThreadRecord,
-    UnloadedRecord,
+    AnyRecord, Descriptor, ExceptionRecord, ModuleRecord, Slot, SystemRecord, ThreadNameRecord,
+    ThreadRecord, UnloadedRecord,
 };
 
 impl PartSize {
@@ -74,6 +74,10 @@ impl Fields {
             AnyRecord::Unloaded(module) => AnyRecord::Unloaded(UnloadedRecord {
                 module_name_rva: address(first, at),
                 ..module
+            }),
+            AnyRecord::ThreadName(thread) => AnyRecord::ThreadName(ThreadNameRecord {
+                rva_of_thread_name: u64::from(address(first, at)),
+                ..thread
             }),
             _ => self.wire,
         }

@@ -18,6 +18,7 @@ use crate::records::Records;
 use crate::row::RecordPlace;
 use crate::system::System;
 use crate::thread::Thread;
+use crate::thread_name::ThreadName;
 use crate::unloaded::Unloaded;
 use mdmp_lister::{Choice, Limits, Lister, OpenFault, StreamItem};
 use mdmp_source::{Source, Store, inside};
@@ -194,6 +195,10 @@ fn read_stream<S: Store + Drop, A: Allocator + Copy>(
         16 => {
             let (regions, next) = reader.rows::<MemoryInfoRecord>()?;
             Ok((Some(Stream::MemoryInfo(regions)), next))
+        }
+        24 => {
+            let (threads, next) = reader.rows::<ThreadName<A>>()?;
+            Ok((Some(Stream::ThreadNames(threads)), next))
         }
         _ => read_raw(reader, item),
     }

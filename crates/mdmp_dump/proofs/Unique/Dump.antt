@@ -16,6 +16,7 @@ use Rattle.mdmp_dump.specs.Memory64.{IsMemory64}
 use Rattle.mdmp_dump.specs.Module.{IsModule}
 use Rattle.mdmp_dump.specs.System.{IsSystem}
 use Rattle.mdmp_dump.specs.Thread.{IsThread}
+use Rattle.mdmp_dump.specs.ThreadName.{IsThreadName}
 use Rattle.mdmp_dump.specs.Unloaded.{IsUnloaded}
 use Rattle.mdmp_dump.specs.Value.{type_of}
 use Rattle.mdmp_dump.specs.LaysOut.{StandsAt, NamesStream, AreStreams, LaysOut}
@@ -26,6 +27,7 @@ use Rattle.mdmp_dump.proofs.Unique.Module.{module_unique}
 use Rattle.mdmp_dump.proofs.Unique.Records.{records_unique, record_unique}
 use Rattle.mdmp_dump.proofs.Unique.System.{system_unique}
 use Rattle.mdmp_dump.proofs.Unique.Thread.{thread_unique}
+use Rattle.mdmp_dump.proofs.Unique.ThreadName.{thread_name_unique}
 use Rattle.mdmp_dump.proofs.Unique.Unloaded.{unloaded_unique}
 
 -- a stream of this type is raw
@@ -65,6 +67,7 @@ module _ {Z : Type 0} where
   stands_unique F l (streams.Memory64 xs) (streams.Memory64 ys) p q same raw = ap streams.Memory64 (records_unique (λ k o. IsMemory64 F l.rva k o) (memory64_unique F l.rva) xs ys p q)
   stands_unique F l (streams.Unloaded xs) (streams.Unloaded ys) p q same raw = ap streams.Unloaded (records_unique (λ k o. IsUnloaded F o) (unloaded_unique F) xs ys p q)
   stands_unique F l (streams.MemoryInfo xs) (streams.MemoryInfo ys) p q same raw = ap streams.MemoryInfo (records_unique (λ k o x. memory_info_at F o ≡ x) (λ k o x y a b. sym a ∙ b) xs ys p q)
+  stands_unique F l (streams.ThreadNames xs) (streams.ThreadNames ys) p q same raw = ap streams.ThreadNames (records_unique (λ k o. IsThreadName F o) (thread_name_unique F) xs ys p q)
   stands_unique F l (streams.Raw t xs) (streams.Raw u ys) p q same raw = let bytes = sym p.bytes_are ∙ q.bytes_are in λ i. streams.Raw (same i) (bytes i)
   stands_unique F l s t p q same raw = absurd (unequal _ _ (code_same raw same) refl)
 

@@ -30,6 +30,7 @@ use Rattle.mdmp_dump.proofs.Within.Runs.{IsRunTaken, item_taken, joined_taken, n
 use Rattle.mdmp_dump.proofs.Within.Steps.{last_refused, none_taken}
 use Rattle.mdmp_dump.proofs.Within.System.{system_taken}
 use Rattle.mdmp_dump.proofs.Within.Thread.{thread_taken}
+use Rattle.mdmp_dump.proofs.Within.ThreadName.{thread_name_taken}
 use Rattle.mdmp_dump.proofs.Within.Unloaded.{unloaded_taken}
 
 -- a run whose steps are taken within the limit is not refused
@@ -55,6 +56,7 @@ module _ {Z : Type 0} (F : List ℕ) where
   stands_taken limit e at (streams.Memory64 xs) has names = entry_taken F at kinds.Memory64 _ xs has _ refl limit e _ _ (memory64_taken F limit e at.rva) (λ k d lt. tt) _ refl
   stands_taken limit e at (streams.Unloaded xs) has names = entry_taken F at kinds.Unloaded _ xs has _ refl limit e _ _ (unloaded_taken F limit e at.rva) names _ (sum_by-none xs)
   stands_taken limit e at (streams.MemoryInfo xs) has names = entry_unasked F at kinds.MemoryInfo _ xs has _ refl limit e (λ k o. record { item = _; given = refl; steps = none_taken })
+  stands_taken limit e at (streams.ThreadNames xs) has names = entry_taken F at kinds.ThreadNames _ xs has _ refl limit e _ _ (thread_name_taken F limit e at.rva) names _ (sum_by-none xs)
   stands_taken limit e at (streams.Raw t bytes) has names = raw_taken F limit e at t bytes has
 
   -- and it has the stream's ranges

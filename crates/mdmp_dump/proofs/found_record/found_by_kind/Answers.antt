@@ -22,11 +22,17 @@ returns-in-System-clause-finds c = λ F e k at o kind far is. c.found_system.ens
 pub returns-in-MemoryInfo-clause-finds : goal.returns-in-MemoryInfo-clause-finds
 returns-in-MemoryInfo-clause-finds c = λ F e k at o kind far is. c.found_memory_info.ensures.finds F e k at o kind (is ∙ ap (λ (x : Item). Ok (plain x)) c.in-MemoryInfo.is)
 
+pub returns-in-ThreadName-clause-finds : goal.returns-in-ThreadName-clause-finds
+returns-in-ThreadName-clause-finds c = λ F e k at o kind far is. c.found_thread_name.ensures.finds F e k at o kind (is ∙ ap (λ (x : Item). Ok (plain x)) c.in-ThreadName.is)
+
+pub returns-in-ThreadName-clause-able : goal.returns-in-ThreadName-clause-able
+returns-in-ThreadName-clause-able c = λ F e k at o kind few fits is. c.found_thread_name.ensures.able F e k at o kind few fits (is ∙ ap (λ (x : Item). Ok (plain x)) c.in-ThreadName.is)
+
 pub returns-in-Range-clause-finds : goal.returns-in-Range-clause-finds
 returns-in-Range-clause-finds c = λ F e k at o kind far is. c.found_range.ensures.finds F e k at o kind far (is ∙ ap (λ (x : Item). Ok (plain x)) c.in-Range.is)
 
 pub returns-in-Range-clause-able : goal.returns-in-Range-clause-able
-returns-in-Range-clause-able c = λ F e k at o kind fits is. c.found_range.ensures.able F e k at o kind fits (is ∙ ap (λ (x : Item). Ok (plain x)) c.in-Range.is)
+returns-in-Range-clause-able c = λ F e k at o kind few fits is. c.found_range.ensures.able F e k at o kind few fits (is ∙ ap (λ (x : Item). Ok (plain x)) c.in-Range.is)
 
 pub returns-in-Stream-clause-able : goal.returns-in-Stream-clause-able
-returns-in-Stream-clause-able c = λ F e k at o kind fits is. absurd (stream_never F e k at o kind _ (is ∙ ap (λ (x : Item). Ok (plain x)) c.in-Stream.is))
+returns-in-Stream-clause-able c = λ F e k at o kind few fits is. absurd (stream_never F e k at o kind _ (is ∙ ap (λ (x : Item). Ok (plain x)) c.in-Stream.is))

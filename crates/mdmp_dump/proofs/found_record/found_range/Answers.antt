@@ -22,7 +22,7 @@ pub returns-clause-fits : goal.returns-clause-fits
 returns-clause-fits c = rw c.if-far.false (refl, part_room_most c.in_ok-bytes.bytes)
 
 pub returns-in_err-bytes-clause-able : goal.returns-in_err-bytes-clause-able
-returns-in_err-bytes-clause-able c = λ F e k at o kind fits is.
+returns-in_err-bytes-clause-able c = λ F e k at o kind few fits is.
     let fault = c.in_err-bytes.field-0.0 in
     let same : c.from_residual.result ≡ Err fault = search rules in
     rw same (c.in_err-bytes.ensures.able (range_fits F e k at o kind c.args.x.now fits is))

@@ -7,10 +7,10 @@ pub returns-in_err-name-clause-finds : goal.returns-in_err-name-clause-finds
 returns-in_err-name-clause-finds c = λ F e k at o kind is.
     let fault = c.in_err-name.field-0.0 in
     let same : c.from_residual.result ≡ Err fault = search rules in
-    rw same (system_name F c.args.limit e k at o fault kind _ is c.in_err-name.ensures.finds)
+    rw same (system_name F c.args.limit e k at o fault kind _ is (rw c.from.ensures at c.in_err-name.ensures.finds))
 
 pub returns-clause-finds : goal.returns-clause-finds
-returns-clause-finds c = λ F e k at o kind is. system_found F c.args.limit e k at o c.in_ok-name.name kind _ is c.in_ok-name.ensures.finds
+returns-clause-finds c = λ F e k at o kind is. system_found F c.args.limit e k at o c.in_ok-name.name kind _ is (rw c.from.ensures at c.in_ok-name.ensures.finds)
 
 pub returns-clause-fits : goal.returns-clause-fits
 returns-clause-fits c = (refl, name_room_most c.in_ok-name.name)

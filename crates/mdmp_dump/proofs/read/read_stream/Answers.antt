@@ -6,6 +6,7 @@ use Rattle.mdmp_dump.specs.Memory.{IsMemory}
 use Rattle.mdmp_dump.specs.Memory64.{IsMemory64}
 use Rattle.mdmp_dump.specs.Module.{IsModule}
 use Rattle.mdmp_dump.specs.Thread.{IsThread}
+use Rattle.mdmp_dump.specs.ThreadName.{IsThreadName}
 use Rattle.mdmp_dump.specs.Unloaded.{IsUnloaded}
 use Rattle.mdmp_dump.specs.Exception.{IsException}
 use Rattle.mdmp_dump.specs.System.{IsSystem}
@@ -46,6 +47,13 @@ returns-in_ok-modules-in-14-clause-of_file g c =
     let r = c.in_ok-modules-in-14 in
     stream_read c.args.reader.now c.rows-in-14.new.self c.args.item 14 c.in-14.is (λ size e at. refl) kinds.Unloaded refl
     (λ F at. HasRecords F at kinds.Unloaded (λ k. IsUnloaded F)) r.modules _ r.next (λ F e type has. (streams.Unloaded r.modules, (refl, record { type_is = type; stands = has })))
+    r.ensures.of_file
+
+pub returns-in_ok-threads-in-24-clause-of_file : goal.returns-in_ok-threads-in-24-clause-of_file
+returns-in_ok-threads-in-24-clause-of_file g c =
+    let r = c.in_ok-threads-in-24 in
+    stream_read c.args.reader.now c.rows-in-24.new.self c.args.item 24 c.in-24.is (λ size e at. refl) kinds.ThreadNames refl
+    (λ F at. HasRecords F at kinds.ThreadNames (λ k. IsThreadName F)) r.threads _ r.next (λ F e type has. (streams.ThreadNames r.threads, (refl, record { type_is = type; stands = has })))
     r.ensures.of_file
 
 pub returns-in_ok-exception-in-6-clause-of_file : goal.returns-in_ok-exception-in-6-clause-of_file
