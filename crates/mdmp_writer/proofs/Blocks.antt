@@ -121,6 +121,7 @@ module _ {Z : Type 0} where
   stream_known (streams.Memory64 xs) = tt
   stream_known (streams.Unloaded xs) = tt
   stream_known (streams.MemoryInfo xs) = tt
+  stream_known (streams.ThreadNames xs) = tt
   stream_known (streams.Raw t bytes) = refl
 
   streams_known : (ss : List (Stream Z)) (k : ℕ) → RecordsAreKnown (get_or (map stream_seen ss) k unused_seen)

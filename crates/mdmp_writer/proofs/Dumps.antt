@@ -114,6 +114,10 @@ module _ {Z : Type 0} where
     reserved1 = 5;
   }
 
+  -- a thread with a name, and one without
+  abbrev pub two_threads : Stream Z
+  two_threads = streams.ThreadNames (record { thread_id = 7; name = Some (codes "abcd") } ∷ record { thread_id = 8; name = None } ∷ [])
+
   -- a stream of each kind, and header fields
   abbrev pub each_kind : Dump Z
   each_kind = record {
@@ -128,6 +132,7 @@ module _ {Z : Type 0} where
         ∷ streams.Memory (record { start = 0x3000; bytes = Bytes (codes "pqrst") } ∷ record { start = 0x4000; bytes = Absent 7 } ∷ record { start = 0x5000; bytes = Bytes [] } ∷ [])
         ∷ streams.Unloaded (record { base_of_image = 1; size_of_image = 2; checksum = 3; time_date_stamp = 4; name = Some [] } ∷ record { base_of_image = 5; size_of_image = 6; checksum = 7; time_date_stamp = 8; name = None } ∷ [])
         ∷ streams.MemoryInfo (record { base_address = 1; allocation_base = 2; allocation_protect = 3; region_size = 4; state = 5; protect = 6; memory_type = 7 } ∷ [])
+        ∷ two_threads
         ∷ streams.Raw 15 []
         ∷ streams.Raw 10 (codes "hello")
         ∷ streams.Memory64 (record { start = 0x9000; bytes = codes "Z" } ∷ [])

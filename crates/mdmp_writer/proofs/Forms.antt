@@ -7,4 +7,5 @@ pub mod Module
 pub mod Raw
 pub mod System
 pub mod Thread
+pub mod ThreadName
 pub mod Unloaded

@@ -155,6 +155,7 @@ nine_room (any.System r) x e = absurd (let h : 7 ≡ 9 = e in omega (arith, h))
 nine_room (any.Memory64 r) x e = refl
 nine_room (any.Unloaded r) x e = absurd (let h : 14 ≡ 9 = e in omega (arith, h))
 nine_room (any.MemoryInfo r) x e = absurd (let h : 16 ≡ 9 = e in omega (arith, h))
+nine_room (any.ThreadName r) x e = absurd (let h : 24 ≡ 9 = e in omega (arith, h))
 
 type_of_known : Kind → ℕ
 type_of_known (kinds.Known t) = t

@@ -89,6 +89,11 @@ module _ (Z : Type 0) where
   unfolding number_at le rooms memory_in all_padded rows parts_of ranges_text blocks far_texts directory blocks_size fars_size first_misnamed
   module-written = refl
 
+  -- the name of a thread stands at an address of 64 bits
+  thread_names-written : written (dump_of (dumps.two_threads ∷ [])) ≡ head 1 32 ++ entry 24 28 44 ++ le 4 2 ++ le 4 7 ++ le 8 72 ++ le 4 8 ++ le 8 0 ++ le 4 8 ++ codes "a\0b\0c\0d\0" ++ zeros 4
+  unfolding number_at le rooms memory_in all_padded rows parts_of ranges_text blocks far_texts directory blocks_size fars_size first_misnamed
+  thread_names-written = refl
+
   -- a thread whose stack stays absent
   absent_stack-written : written absent_stack ≡ absent_stack_file ++ zeros 3
   unfolding number_at le rooms memory_in all_padded rows parts_of ranges_text blocks far_texts directory blocks_size fars_size first_misnamed
@@ -126,6 +131,10 @@ module _ (Z : Type 0) where
   raw_threads : layout_fault (dump_of (streams.Raw 3 [] ∷ [])) ≡ Some (RawKnownType 0)
   unfolding number_at le rooms memory_in all_padded rows parts_of ranges_text blocks far_texts directory blocks_size fars_size first_misnamed
   raw_threads = refl
+
+  raw_thread_names : layout_fault (dump_of (streams.Raw 24 [] ∷ [])) ≡ Some (RawKnownType 0)
+  unfolding number_at le rooms memory_in all_padded rows parts_of ranges_text blocks far_texts directory blocks_size fars_size first_misnamed
+  raw_thread_names = refl
 
   raw_unused : layout_fault (dump_of (streams.Unused ∷ streams.Raw 0 (1 ∷ []) ∷ [])) ≡ Some (RawKnownType 1)
   unfolding number_at le rooms memory_in all_padded rows parts_of ranges_text blocks far_texts directory blocks_size fars_size first_misnamed

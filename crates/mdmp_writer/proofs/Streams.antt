@@ -18,6 +18,7 @@ use Rattle.mdmp_writer.proofs.Forms.Module.{modules_read}
 use Rattle.mdmp_writer.proofs.Forms.Raw.{raw_read, unused_read}
 use Rattle.mdmp_writer.proofs.Forms.System.{system_read}
 use Rattle.mdmp_writer.proofs.Forms.Thread.{threads_read}
+use Rattle.mdmp_writer.proofs.Forms.ThreadName.{thread_names_read}
 use Rattle.mdmp_writer.proofs.Forms.Unloaded.{unloaded_read}
 
 module _ {Z : Type 0} where
@@ -31,6 +32,7 @@ module _ {Z : Type 0} where
   stream_read (streams.Memory64 xs) fits = memory64_read xs fits
   stream_read (streams.Unloaded xs) fits = unloaded_read xs fits
   stream_read (streams.MemoryInfo xs) fits = memory_info_read xs fits
+  stream_read (streams.ThreadNames xs) fits = thread_names_read xs fits
   stream_read (streams.Raw t bytes) fits = raw_read t bytes fits
 
   -- its block takes the room that its shape tells

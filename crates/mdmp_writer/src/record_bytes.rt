@@ -46,5 +46,6 @@ pub(crate) fn put_any<O: Out>(
         AnyRecord::Memory64(range) => put_record(out, gather, range),
         AnyRecord::Unloaded(module) => put_record(out, gather, module),
         AnyRecord::MemoryInfo(region) => put_record(out, gather, region),
+        AnyRecord::ThreadName(thread) => put_record(out, gather, thread),
     }
 }
