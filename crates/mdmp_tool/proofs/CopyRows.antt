@@ -20,6 +20,9 @@ misc-copied = refl
 regions-copied : is_copied 16 ≡ true
 regions-copied = refl
 
+thread_names-copied : is_copied 24 ≡ true
+thread_names-copied = refl
+
 last-reserved-not-copied : is_copied 65535 ≡ false
 last-reserved-not-copied = refl
 

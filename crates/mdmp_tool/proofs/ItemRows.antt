@@ -13,7 +13,7 @@ use Rattle.mdmp_lister.specs.declared.name.Name.{Name}
 use Rattle.mdmp_lister.specs.declared.name.Name.TheVariants.{Units, Long}
 use Rattle.mdmp_lister.specs.declared.name.Name.TheVariants as names
 use Rattle.mdmp_lister.specs.declared.item.Item.TheVariants as items
-use Rattle.mdmp_lister.specs.Format.Item.{thread_item, module_item, unloaded_item, exception_item, system_item, memory_info_item, range_item, range64_item}
+use Rattle.mdmp_lister.specs.Format.Item.{thread_item, module_item, unloaded_item, exception_item, system_item, memory_info_item, thread_name_item, range_item, range64_item}
 use Rattle.mdmp_tool.specs.ItemLines.{extent_text, name_text, item_line}
 
 abbrev location : ℕ → ℕ → Location
@@ -127,6 +127,11 @@ unloaded-line : item_line (items.Unloaded (unloaded_item 0 1 (record {
     ≡ codes "unloaded 1 base 0x0000000000010000 size 4096 checksum 5 time 6 name long 10\n"
 unfolding digits hex
 unloaded-line = refl
+
+thread_name-line : item_line (items.ThreadName (thread_name_item 0 3 (record { thread_id = 22570; rva_of_thread_name = 2416 }) (named (codes "cpad"))))
+    ≡ codes "threadname 3 id 22570 name \"cpad\"\n"
+unfolding number_at numbers_at le digits hex
+thread_name-line = refl
 
 -- two of the fifteen values
 exception-line : item_line (items.Exception (exception_item 292 1 0 (record {

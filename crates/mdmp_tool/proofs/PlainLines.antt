@@ -18,6 +18,7 @@ pub item_line-plain : (x : Item) → item_line (plain x) ≡ item_line x
 item_line-plain (items.Module m) = rw (name_text-plain m.name) refl
 item_line-plain (items.Unloaded u) = rw (name_text-plain u.name) refl
 item_line-plain (items.System s) = rw (name_text-plain s.name) refl
+item_line-plain (items.ThreadName t) = rw (name_text-plain t.name) refl
 item_line-plain _ = refl
 
 pub symbols_of-plain : (pdb : Bool) (x : Item) → symbols_of pdb (plain x) ≡ symbols_of pdb x
@@ -25,6 +26,7 @@ symbols_of-plain false x = refl
 symbols_of-plain true (items.Module m) = refl
 symbols_of-plain true (items.Unloaded u) = refl
 symbols_of-plain true (items.System s) = refl
+symbols_of-plain true (items.ThreadName t) = refl
 symbols_of-plain true _ = refl
 
 -- nor do its lines

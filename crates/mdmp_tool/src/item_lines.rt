@@ -1,12 +1,12 @@
 //! The lines of the items of a listing.
 ghost use Rattle.mdmp_source.specs.Output.{Puts};
-ghost use Rattle.mdmp_tool.specs.ItemLines.{entry_line, thread_line, module_line, unloaded_line, exception_line, system_line, region_line, range_line, item_line};
+ghost use Rattle.mdmp_tool.specs.ItemLines.{entry_line, thread_line, module_line, unloaded_line, exception_line, system_line, region_line, thread_name_line, range_line, item_line};
 
 use crate::line::put_pieces;
 use crate::pieces::Piece;
 use mdmp_lister::{
     ExceptionItem, Item, MemoryInfoItem, ModuleItem, RangeItem, StreamItem, SystemItem, ThreadItem,
-    UnloadedItem,
+    ThreadNameItem, UnloadedItem,
 };
 use mdmp_source::{Out, OutFailed};
 
@@ -22,6 +22,7 @@ pub(crate) fn put_item_line<O: Out>(item: &Item<'_>, out: &mut O) -> Result<(), 
         Item::Exception(item) => put_exception_line(item, out),
         Item::System(item) => put_system_line(item, out),
         Item::MemoryInfo(item) => put_region_line(item, out),
+        Item::ThreadName(item) => put_thread_name_line(item, out),
         Item::Range(item) => put_range_line(item, out),
     }
 }
@@ -236,6 +237,23 @@ fn put_region_line<O: Out>(item: &MemoryInfoItem, out: &mut O) -> Result<(), Out
             Piece::Decimal(item.fields.protect as u64),
             Piece::Text(" type "),
             Piece::Decimal(item.fields.memory_type as u64),
+            Piece::Text("\n"),
+        ],
+    )
+}
+
+fn put_thread_name_line<O: Out>(item: &ThreadNameItem<'_>, out: &mut O) -> Result<(), OutFailed>
+    ensures { Puts result (O.state out.old) (thread_name_line item.now) (O.state out.new) }
+{
+    put_pieces(
+        out,
+        &[
+            Piece::Text("threadname "),
+            Piece::Decimal(item.index),
+            Piece::Text(" id "),
+            Piece::Decimal(item.fields.thread_id as u64),
+            Piece::Text(" name "),
+            Piece::Name(&item.name),
             Piece::Text("\n"),
         ],
     )

@@ -78,6 +78,7 @@ Types that are copied:
   14            unloaded modules
   15            miscellaneous information
   16            memory information
+  24            names of threads
   65536 and on  streams of users
 
 Streams keep their order. Names and other parts are written behind their stream,
