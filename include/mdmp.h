@@ -269,6 +269,15 @@ typedef struct mdmp_region {
     uint32_t reserved[3];        /* 0 */
 } mdmp_region;
 
+/* The name of a thread: MINIDUMP_THREAD_NAME. */
+typedef struct mdmp_thread_name {
+    uint64_t index;       /* the record's place in its stream, from 0 */
+    uint32_t entry;       /* the entry of the directory, from 0 */
+    uint32_t thread_id;   /* ThreadId */
+    mdmp_name_place name; /* the name at RvaOfThreadName, an offset of 64 bits */
+    uint32_t reserved[2]; /* 0 */
+} mdmp_thread_name;
+
 /* A range of memory: MINIDUMP_MEMORY_DESCRIPTOR or MINIDUMP_MEMORY_DESCRIPTOR64. */
 typedef struct mdmp_range {
     uint64_t index;       /* the record's place in its stream, from 0 */
@@ -328,6 +337,8 @@ uint32_t mdmp_unloaded_(const uint8_t *file, size_t file_size, const mdmp_limits
     mdmp_unloaded_module *out, size_t room, uint64_t *count, mdmp_fault *fault);
 uint32_t mdmp_regions_(const uint8_t *file, size_t file_size, const mdmp_limits *limits, mdmp_region *out,
     size_t room, uint64_t *count, mdmp_fault *fault);
+uint32_t mdmp_thread_names_(const uint8_t *file, size_t file_size, const mdmp_limits *limits,
+    mdmp_thread_name *out, size_t room, uint64_t *count, mdmp_fault *fault);
 uint32_t mdmp_ranges_(const uint8_t *file, size_t file_size, const mdmp_limits *limits, mdmp_range *out,
     size_t room, uint64_t *count, mdmp_fault *fault);
 uint32_t mdmp_memory_(const uint8_t *file, size_t file_size, const mdmp_limits *limits, uint64_t address,
@@ -472,6 +483,16 @@ static inline uint32_t mdmp_regions(const uint8_t *file, size_t file_size, const
     static mdmp_region no_out;
     return mdmp_regions_(file_size != 0 ? file : &no_file, file_size, limits, room != 0 ? out : &no_out, room,
         count, fault);
+}
+
+/* The names of threads: ThreadNamesStream. The records of one kind, in the order of a listing of their
+ * streams alone, up to its first fault. */
+static inline uint32_t mdmp_thread_names(const uint8_t *file, size_t file_size, const mdmp_limits *limits,
+    mdmp_thread_name *out, size_t room, uint64_t *count, mdmp_fault *fault) {
+    static uint8_t no_file;
+    static mdmp_thread_name no_out;
+    return mdmp_thread_names_(file_size != 0 ? file : &no_file, file_size, limits, room != 0 ? out : &no_out,
+        room, count, fault);
 }
 
 /* The ranges of memory whose bytes a file may have: MemoryListStream and Memory64ListStream. The records
@@ -658,6 +679,12 @@ MDMP_ASSERT_(offsetof(mdmp_region, state) == 40, "mdmp_region.state");
 MDMP_ASSERT_(offsetof(mdmp_region, protect) == 44, "mdmp_region.protect");
 MDMP_ASSERT_(offsetof(mdmp_region, memory_type) == 48, "mdmp_region.memory_type");
 MDMP_ASSERT_(offsetof(mdmp_region, reserved) == 52, "mdmp_region.reserved");
+MDMP_ASSERT_(sizeof(mdmp_thread_name) == 40, "mdmp_thread_name");
+MDMP_ASSERT_(offsetof(mdmp_thread_name, index) == 0, "mdmp_thread_name.index");
+MDMP_ASSERT_(offsetof(mdmp_thread_name, entry) == 8, "mdmp_thread_name.entry");
+MDMP_ASSERT_(offsetof(mdmp_thread_name, thread_id) == 12, "mdmp_thread_name.thread_id");
+MDMP_ASSERT_(offsetof(mdmp_thread_name, name) == 16, "mdmp_thread_name.name");
+MDMP_ASSERT_(offsetof(mdmp_thread_name, reserved) == 32, "mdmp_thread_name.reserved");
 MDMP_ASSERT_(sizeof(mdmp_range) == 56, "mdmp_range");
 MDMP_ASSERT_(offsetof(mdmp_range, index) == 0, "mdmp_range.index");
 MDMP_ASSERT_(offsetof(mdmp_range, start) == 8, "mdmp_range.start");

@@ -96,6 +96,7 @@ static void test_limits(void) {
         TABLE(mdmp_systems, mdmp_system)
         TABLE(mdmp_unloaded, mdmp_unloaded_module)
         TABLE(mdmp_regions, mdmp_region)
+        TABLE(mdmp_thread_names, mdmp_thread_name)
         TABLE(mdmp_ranges, mdmp_range)
         count = 0;
         REFUSED(mdmp_memory(FILE_OF(SYSTEM), limits, 0, out, 8, known, 8, &fault));
@@ -116,9 +117,9 @@ static void test_arguments(void) {
             mdmp_copy(FILE_OF(SYSTEM), &LIMITS, types, count, out, sizeof out, &size, &fault) == MDMP_BAD_ARGUMENT);
         ASSERT(fault.kind == MDMP_FAULT_BAD_TYPES && size == 0);
     }
-    types[1] = 24;
+    types[1] = 12;
     ASSERT(mdmp_copy(FILE_OF(SYSTEM), &LIMITS, types, 2, out, sizeof out, &size, &fault) == MDMP_BAD_ARGUMENT);
-    ASSERT(fault.kind == MDMP_FAULT_NOT_COPIED && fault.size == 24 && size == 0);
+    ASSERT(fault.kind == MDMP_FAULT_NOT_COPIED && fault.size == 12 && size == 0);
     memset(out, 0xaa, sizeof out);
     ASSERT(mdmp_memory(FILE_OF(SYSTEM), &LIMITS, 0, out, 7, known, 8, &fault) == MDMP_BAD_ARGUMENT);
     ASSERT(fault.kind == MDMP_FAULT_LENGTHS_DIFFER && out[0] == 0xaa);

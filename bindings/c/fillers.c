@@ -2,7 +2,7 @@
 
 _Thread_local uint64_t name_rva = 0;
 
-static const uint32_t TYPES[] = {0, 3, 4, 5, 6, 7, 9, 10, 11, 14, 15, 16, 0x12345, 1197932553};
+static const uint32_t TYPES[] = {0, 3, 4, 5, 6, 7, 9, 10, 11, 14, 15, 16, 24, 0x12345, 1197932553};
 
 #define FILLER(name, type, ...)                                                                          \
     static uint32_t fill_##name(blob file, void *out, size_t room, uint64_t *count, mdmp_fault *fault) { \
@@ -22,6 +22,7 @@ FILLER(exceptions, mdmp_exception, WITH_LIMITS)
 FILLER(systems, mdmp_system, WITH_LIMITS)
 FILLER(unloaded, mdmp_unloaded_module, WITH_LIMITS)
 FILLER(regions, mdmp_region, WITH_LIMITS)
+FILLER(thread_names, mdmp_thread_name, WITH_LIMITS)
 FILLER(ranges, mdmp_range, WITH_LIMITS)
 FILLER(name, uint8_t, name_rva, LIMITS.name, )
 
@@ -41,6 +42,7 @@ const filler FILLERS[] = {
     ROW(systems, mdmp_system, true),
     ROW(unloaded, mdmp_unloaded_module, true),
     ROW(regions, mdmp_region, true),
+    ROW(thread_names, mdmp_thread_name, true),
     ROW(ranges, mdmp_range, true),
     ROW(name, uint8_t, true),
 };

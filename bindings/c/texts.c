@@ -20,6 +20,7 @@ ALL(mdmp_exceptions, mdmp_exception, all_exceptions)
 ALL(mdmp_systems, mdmp_system, all_systems)
 ALL(mdmp_unloaded, mdmp_unloaded_module, all_unloaded)
 ALL(mdmp_regions, mdmp_region, all_regions)
+ALL(mdmp_thread_names, mdmp_thread_name, all_thread_names)
 ALL(mdmp_ranges, mdmp_range, all_ranges)
 
 /* Reserved fields are 0. */
@@ -150,6 +151,13 @@ static void print_region(const mdmp_region *row) {
     printf(" state %" PRIu32 " protect %" PRIu32 " type %" PRIu32 "\n", row->state, row->protect, row->memory_type);
 }
 
+static void print_thread_name(blob file, const mdmp_thread_name *row) {
+    ASSERT_RESERVED(row)
+    printf("threadname %" PRIu64 " id %" PRIu32 " name ", row->index, row->thread_id);
+    print_name(file, &row->name);
+    printf("\n");
+}
+
 /* A number of 128 bits, in decimal. */
 static void print_wide(uint64_t upper, uint64_t lower) {
     char digits[40], *at = digits + sizeof digits;
@@ -202,14 +210,15 @@ void print_fields(blob file) {
     uint64_t count;
     mdmp_stream *streams = calloc((size_t)header.number_of_streams + 1, sizeof *streams);
     ASSERT(mdmp_streams(file.bytes, file.size, streams, header.number_of_streams, &count, &fault) == MDMP_OK);
-    uint64_t counts[7], at[7] = {0};
+    uint64_t counts[8], at[8] = {0};
     mdmp_thread *threads = all_threads(file, &counts[0]);
     mdmp_module *modules = all_modules(file, &counts[1]);
     mdmp_exception *exceptions = all_exceptions(file, &counts[2]);
     mdmp_system *systems = all_systems(file, &counts[3]);
     mdmp_unloaded_module *unloaded = all_unloaded(file, &counts[4]);
     mdmp_region *regions = all_regions(file, &counts[5]);
-    mdmp_range *ranges = all_ranges(file, &counts[6]);
+    mdmp_thread_name *names = all_thread_names(file, &counts[6]);
+    mdmp_range *ranges = all_ranges(file, &counts[7]);
     for (uint32_t entry = 0; entry < count; entry++) {
         const mdmp_stream *stream = &streams[entry];
         ASSERT(stream->entry == entry);
@@ -222,12 +231,14 @@ void print_fields(blob file) {
         PRINT(systems, counts[3], at[3], print_system(file, &systems[at[3]]))
         PRINT(unloaded, counts[4], at[4], print_unloaded(file, &unloaded[at[4]]))
         PRINT(regions, counts[5], at[5], print_region(&regions[at[5]]))
-        PRINT(ranges, counts[6], at[6], print_range(&ranges[at[6]]))
+        PRINT(names, counts[6], at[6], print_thread_name(file, &names[at[6]]))
+        PRINT(ranges, counts[7], at[7], print_range(&ranges[at[7]]))
     }
-    for (int i = 0; i < 7; i++) {
+    for (int i = 0; i < 8; i++) {
         ASSERT(at[i] == counts[i]);
     }
     free(ranges);
+    free(names);
     free(regions);
     free(unloaded);
     free(systems);

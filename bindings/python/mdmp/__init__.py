@@ -40,6 +40,7 @@ from ._records import (
     SymbolKind,
     System,
     Thread,
+    ThreadName,
     UnloadedModule,
 )
 
@@ -66,6 +67,7 @@ __all__ = [
     "SymbolKind",
     "System",
     "Thread",
+    "ThreadName",
     "UnloadedModule",
     "Version",
     "Where",

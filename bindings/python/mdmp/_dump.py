@@ -29,6 +29,7 @@ from ._records import (
     SymbolKind,
     System,
     Thread,
+    ThreadName,
     UnloadedModule,
 )
 
@@ -162,6 +163,18 @@ class Dump:
         signature = bytes(raw.signature) if kind == SymbolKind.OTHER else b""
         return SymbolFile(kind, guid, raw.age, name, raw.name_ended == 1, signature)
 
+    def _thread_name(self, thread_id: int) -> str | None:
+        """The first name that the file has for a thread, before a fault of its names, or None."""
+
+        def make() -> dict[int, str | None]:
+            try:
+                rows = self.thread_names
+            except Fault as fault:
+                rows = fault.partial or ()
+            return {row.thread_id: row.name for row in reversed(rows)}
+
+        return self._keep("names by threads", make).get(thread_id)
+
     # ---- what a dump has
 
     @property
@@ -215,7 +228,7 @@ class Dump:
 
     @property
     def threads(self) -> tuple[Thread, ...]:
-        """The threads."""
+        """The threads, each with its name. A fault of the names is told by `thread_names` alone."""
         rows: tuple[Thread, ...] = self._rows(library.mdmp_threads_, Thread)
         return rows
 
@@ -259,6 +272,18 @@ class Dump:
     def regions(self) -> tuple[Region, ...]:
         """The regions of memory."""
         rows: tuple[Region, ...] = self._rows(library.mdmp_regions_, Region)
+        return rows
+
+    @property
+    def thread_names(self) -> tuple[ThreadName, ...]:
+        """The names of threads, each with its thread's id. A thread has its own in `name`.
+
+        >>> import mdmp
+        >>> with mdmp.open("crashpad-one.dmp") as dump:
+        ...     print([(row.thread_id, row.name) for row in dump.thread_names], dump.threads[0].name)
+        [(22570, 'cpad')] cpad
+        """
+        rows: tuple[ThreadName, ...] = self._rows(library.mdmp_thread_names_, ThreadName)
         return rows
 
     @property

@@ -67,3 +67,6 @@ class Reader(Protocol):
 
     def _symbols_at(self, place: _structures.Place) -> SymbolFile | None:
         """What a CodeView record tells, where the file has one."""
+
+    def _thread_name(self, thread_id: int) -> str | None:
+        """The first name that the file has for a thread, where it has one."""

@@ -24,6 +24,7 @@ __all__ = [
     "SymbolKind",
     "System",
     "Thread",
+    "ThreadName",
     "UnloadedModule",
 ]
 
@@ -257,6 +258,7 @@ class Thread:
     priority        Priority
     stack           Stack.Memory
     context         ThreadContext, the registers
+    name            the first name that the file has for it, or None
     """
 
     index: int
@@ -269,11 +271,13 @@ class Thread:
     priority: int
     stack: Place
     context: Place
+    name: str | None
 
     @classmethod
     def _of(cls, raw: _structures.Thread, read: Reader) -> Thread:
         return cls(raw.index, raw.teb, raw.stack_start, raw.entry, raw.thread_id, raw.suspend_count,
-            raw.priority_class, raw.priority, Place._of(raw.stack, read), Place._of(raw.context, read))
+            raw.priority_class, raw.priority, Place._of(raw.stack, read), Place._of(raw.context, read),
+            read._thread_name(raw.thread_id))
 
 
 @dataclass(frozen=True, slots=True)
@@ -464,6 +468,29 @@ class Region:
     def _of(cls, raw: _structures.Region, read: Reader) -> Region:
         return cls(raw.index, raw.base_address, raw.allocation_base, raw.region_size, raw.entry,
             raw.allocation_protect, raw.state, raw.protect, raw.memory_type)
+
+
+@dataclass(frozen=True, slots=True)
+class ThreadName:
+    """The name of a thread: MINIDUMP_THREAD_NAME.
+
+    index       the record's place in its stream, from 0
+    entry       the entry of the directory, from 0
+    thread_id   ThreadId
+    name        the name at RvaOfThreadName, an offset of 64 bits; None where there is none, or a longer one than the limit
+    name_place  where that stands
+    """
+
+    index: int
+    entry: int
+    thread_id: int
+    name: str | None
+    name_place: NamePlace
+
+    @classmethod
+    def _of(cls, raw: _structures.ThreadName, read: Reader) -> ThreadName:
+        return cls(raw.index, raw.entry, raw.thread_id, read._name_at(raw.name),
+            NamePlace._of(raw.name, read))
 
 
 @dataclass(frozen=True, slots=True)

@@ -316,6 +316,24 @@ class Region(Structure):
     ]
 
 
+class ThreadName(Structure):
+    """mdmp_thread_name"""
+
+    index: int
+    entry: int
+    thread_id: int
+    name: NamePlace
+    reserved: Array[c_uint32]
+
+    _fields_ = [
+        ("index", c_uint64),
+        ("entry", c_uint32),
+        ("thread_id", c_uint32),
+        ("name", NamePlace),
+        ("reserved", c_uint32 * 2),
+    ]
+
+
 class Range(Structure):
     """mdmp_range"""
 
@@ -426,6 +444,10 @@ LAYOUT: dict[type[Structure], tuple[int, dict[str, int]]] = {
         64,
         {"index": 0, "base_address": 8, "allocation_base": 16, "region_size": 24, "entry": 32,
             "allocation_protect": 36, "state": 40, "protect": 44, "memory_type": 48, "reserved": 52},
+    ),
+    ThreadName: (
+        40,
+        {"index": 0, "entry": 8, "thread_id": 12, "name": 16, "reserved": 32},
     ),
     Range: (
         56,
@@ -572,6 +594,16 @@ def declare(library: CDLL) -> None:
         POINTER(Fault),
     ]
     library.mdmp_regions_.restype = c_uint32
+    library.mdmp_thread_names_.argtypes = [
+        c_void_p,
+        c_size_t,
+        POINTER(Limits),
+        POINTER(ThreadName),
+        c_size_t,
+        POINTER(c_uint64),
+        POINTER(Fault),
+    ]
+    library.mdmp_thread_names_.restype = c_uint32
     library.mdmp_ranges_.argtypes = [
         c_void_p,
         c_size_t,

@@ -90,6 +90,10 @@ def region(row: mdmp.Region) -> str:
     )
 
 
+def thread_name(row: mdmp.ThreadName) -> str:
+    return f"threadname {row.index} id {row.thread_id} name {name(row.name)}"
+
+
 def memory_range(row: mdmp.Range) -> str:
     return f"range {row.index} start 0x{row.start:016x} {part(row.size, row.offset, row.extent)}"
 
@@ -105,6 +109,7 @@ def rows(dump: mdmp.Dump, pdb: bool) -> Iterator[tuple[int, str]]:
     yield from ((row.entry, system(row)) for row in dump.systems)
     yield from ((row.entry, unloaded(row)) for row in dump.unloaded)
     yield from ((row.entry, region(row)) for row in dump.regions)
+    yield from ((row.entry, thread_name(row)) for row in dump.thread_names)
     yield from ((row.entry, memory_range(row)) for row in dump.ranges)
 
 

@@ -126,6 +126,7 @@ class Made(unittest.TestCase):
         self.compare("system", dump.systems)
         self.compare("unloaded_module", dump.unloaded)
         self.compare("region", dump.regions)
+        self.compare("thread_name", dump.thread_names)
         self.compare("range", dump.ranges)
 
     def test_entries_and_places(self) -> None:

@@ -98,7 +98,7 @@ class Faults(unittest.TestCase):
             refused = [
                 ([], "between 1 and 16"),
                 ([*range(17)], "between 1 and 16"),
-                ([24], "type 24 is not copied"),
+                ([12], "type 12 is not copied"),
                 ([-1], "type is not between"),
                 ([3 + (1 << 32)], "type is not between"),
             ]

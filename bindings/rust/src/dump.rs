@@ -6,7 +6,7 @@ use crate::ffi;
 use crate::memory::Memory;
 use crate::records::{
     ExceptionRecord, Extent, FaultKind, Header, Module, NamePlace, NameState, Place, Range, Region,
-    Stream, SymbolKind, System, Thread, UnloadedModule,
+    Stream, SymbolKind, System, Thread, ThreadName, UnloadedModule,
 };
 use std::io;
 
@@ -114,6 +114,8 @@ tables! {
     systems: mdmp_systems gives System;
     /// The regions of memory.
     regions: mdmp_regions gives Region;
+    /// The names of threads: [`Dump::name`] gives a name's text.
+    thread_names: mdmp_thread_names gives ThreadName;
     /// The ranges of memory whose bytes the file may have.
     ranges: mdmp_ranges gives Range;
 }

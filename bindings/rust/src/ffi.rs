@@ -178,6 +178,17 @@ pub struct Region {
     pub reserved: [u32; 3],
 }
 
+/// `mdmp_thread_name`
+#[repr(C)]
+#[derive(Clone, Copy, Debug, Default, PartialEq, Eq)]
+pub struct ThreadName {
+    pub index: u64,
+    pub entry: u32,
+    pub thread_id: u32,
+    pub name: NamePlace,
+    pub reserved: [u32; 2],
+}
+
 /// `mdmp_range`
 #[repr(C)]
 #[derive(Clone, Copy, Debug, Default, PartialEq, Eq)]
@@ -321,6 +332,12 @@ const _: () = {
     assert!(offset_of!(Region, protect) == 44);
     assert!(offset_of!(Region, memory_type) == 48);
     assert!(offset_of!(Region, reserved) == 52);
+    assert!(size_of::<ThreadName>() == 40);
+    assert!(offset_of!(ThreadName, index) == 0);
+    assert!(offset_of!(ThreadName, entry) == 8);
+    assert!(offset_of!(ThreadName, thread_id) == 12);
+    assert!(offset_of!(ThreadName, name) == 16);
+    assert!(offset_of!(ThreadName, reserved) == 32);
     assert!(size_of::<Range>() == 56);
     assert!(offset_of!(Range, index) == 0);
     assert!(offset_of!(Range, start) == 8);
@@ -465,6 +482,15 @@ mod symbols {
             file_size: usize,
             limits: *const Limits,
             out: *mut Region,
+            room: usize,
+            count: *mut u64,
+            fault: *mut Fault,
+        ) -> u32;
+        pub fn mdmp_thread_names_(
+            file: *const u8,
+            file_size: usize,
+            limits: *const Limits,
+            out: *mut ThreadName,
             room: usize,
             count: *mut u64,
             fault: *mut Fault,
@@ -800,6 +826,28 @@ pub fn mdmp_regions(
     // SAFETY: as `symbols` says.
     unsafe {
         symbols::mdmp_regions_(
+            file.as_ptr(),
+            file.len(),
+            limits,
+            out.as_mut_ptr(),
+            out.len(),
+            count,
+            fault,
+        )
+    }
+}
+
+/// `mdmp_thread_names` of mdmp.h
+pub fn mdmp_thread_names(
+    file: &[u8],
+    limits: &Limits,
+    out: &mut [ThreadName],
+    count: &mut u64,
+    fault: &mut Fault,
+) -> u32 {
+    // SAFETY: as `symbols` says.
+    unsafe {
+        symbols::mdmp_thread_names_(
             file.as_ptr(),
             file.len(),
             limits,

@@ -39,7 +39,7 @@ pub use fault::Fault;
 pub use memory::Memory;
 pub use records::{
     ExceptionRecord, Extent, FaultKind, Header, Module, NamePlace, NameState, Part, Place, Range,
-    Region, Stream, SymbolKind, System, Thread, UnloadedModule,
+    Region, Stream, SymbolKind, System, Thread, ThreadName, UnloadedModule,
 };
 
 /// The library's version: major, minor and patch.

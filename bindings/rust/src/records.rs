@@ -603,6 +603,31 @@ impl From<ffi::Region> for Region {
     }
 }
 
+/// The name of a thread: MINIDUMP_THREAD_NAME.
+#[derive(Clone, Copy, Debug, PartialEq, Eq)]
+#[non_exhaustive]
+pub struct ThreadName {
+    /// The record's place in its stream, from 0.
+    pub index: u64,
+    /// The entry of the directory, from 0.
+    pub entry: u32,
+    /// ThreadId.
+    pub thread_id: u32,
+    /// The name at RvaOfThreadName, an offset of 64 bits.
+    pub name: NamePlace,
+}
+
+impl From<ffi::ThreadName> for ThreadName {
+    fn from(raw: ffi::ThreadName) -> Self {
+        ThreadName {
+            index: raw.index,
+            entry: raw.entry,
+            thread_id: raw.thread_id,
+            name: raw.name.into(),
+        }
+    }
+}
+
 /// A range of memory: MINIDUMP_MEMORY_DESCRIPTOR or MINIDUMP_MEMORY_DESCRIPTOR64.
 #[derive(Clone, Copy, Debug, PartialEq, Eq)]
 #[non_exhaustive]

@@ -195,6 +195,17 @@ fn rows(dump: &Dump) -> Vec<(u32, String)> {
             ),
         ));
     }
+    for row in dump.thread_names().unwrap() {
+        rows.push((
+            row.entry,
+            format!(
+                "threadname {} id {} name {}",
+                row.index,
+                row.thread_id,
+                name(dump, &row.name)
+            ),
+        ));
+    }
     for row in dump.ranges().unwrap() {
         let place = part(row.size, row.offset, row.extent);
         rows.push((
@@ -353,8 +364,8 @@ fn faults_are_told() {
         Err(Error::BadArgument(_))
     ));
     assert_eq!(
-        Dump::new(&bytes).copy(&[24]).unwrap_err().to_string(),
-        "type 24 is not copied"
+        Dump::new(&bytes).copy(&[12]).unwrap_err().to_string(),
+        "type 12 is not copied"
     );
     assert_eq!(
         Dump::new(&[]).header().unwrap_err().to_string(),

@@ -51,11 +51,11 @@ pub use crate::memory::{mdmp_memory_, mdmp_read_};
 pub use crate::name::mdmp_name_;
 pub use crate::parts::{NamePlace, PartPlace};
 pub use crate::records::{
-    mdmp_exceptions_, mdmp_modules_, mdmp_ranges_, mdmp_regions_, mdmp_systems_, mdmp_threads_,
-    mdmp_unloaded_,
+    mdmp_exceptions_, mdmp_modules_, mdmp_ranges_, mdmp_regions_, mdmp_systems_,
+    mdmp_thread_names_, mdmp_threads_, mdmp_unloaded_,
 };
 pub use crate::rows::{
-    ExceptionRow, ModuleRow, RangeRow, RegionRow, SystemRow, ThreadRow, UnloadedRow,
+    ExceptionRow, ModuleRow, RangeRow, RegionRow, SystemRow, ThreadNameRow, ThreadRow, UnloadedRow,
 };
 pub use crate::symbols::{Symbols, mdmp_symbols_};
 pub use crate::texts::{mdmp_check_, mdmp_list_};

@@ -2,7 +2,7 @@
 ghost use Rattle.std.specs.Prelude.{◌≡◌, ◌∷◌, []};
 ghost use Rattle.mdmp_c.specs.Giving.{Ends, bad_limits};
 ghost use Rattle.mdmp_c.specs.Limits.{AreLimits};
-ghost use Rattle.mdmp_c.specs.Rows.{exception_row, module_row, range_row, region_row, system_row, thread_row, unloaded_row};
+ghost use Rattle.mdmp_c.specs.Rows.{exception_row, module_row, range_row, region_row, system_row, thread_name_row, thread_row, unloaded_row};
 ghost use Rattle.mdmp_c.specs.Table.{IsTable};
 ghost use Rattle.mdmp_lister.specs.declared.choice.Choice.TheVariants.{Types};
 ghost use Rattle.mdmp_lister.specs.Format.Listing.{memory_lists};
@@ -10,7 +10,7 @@ ghost use Rattle.mdmp_lister.specs.Format.Listing.{memory_lists};
 use crate::fault::PlainFault;
 use crate::limits::PlainLimits;
 use crate::rows::{
-    ExceptionRow, ModuleRow, RangeRow, RegionRow, SystemRow, ThreadRow, UnloadedRow,
+    ExceptionRow, ModuleRow, RangeRow, RegionRow, SystemRow, ThreadNameRow, ThreadRow, UnloadedRow,
 };
 use crate::table::{give_rows, only};
 use mdmp_lister::Choice;
@@ -104,6 +104,21 @@ pub extern "C" fn mdmp_regions_(
     ensures { Ends (IsTable region_row file.now (Types (16 ∷ [])) limits.now.name) (AreLimits limits.now) bad_limits result count.new fault.new out.old out.new }
 {
     give_rows(alloc, file, limits, only(16), out, count, fault)
+}
+
+/// Gives the names of threads that a file has, `ThreadNamesStream`: as many as `out` has room for, and in `count` how many there are, up to the first fault.
+#[unsafe(no_mangle)]
+pub extern "C" fn mdmp_thread_names_(
+    alloc: Global,
+    file: &[u8],
+    limits: &PlainLimits,
+    out: &mut [ThreadNameRow],
+    count: &mut u64,
+    fault: &mut PlainFault,
+) -> u32
+    ensures { Ends (IsTable thread_name_row file.now (Types (24 ∷ [])) limits.now.name) (AreLimits limits.now) bad_limits result count.new fault.new out.old out.new }
+{
+    give_rows(alloc, file, limits, only(24), out, count, fault)
 }
 
 /// Gives the ranges of memory whose bytes a file may have, `MemoryListStream` and `Memory64ListStream`: as many as `out` has room for, and in `count` how many there are, up to the first fault.

@@ -357,6 +357,43 @@ impl PlainRow for RegionRow {
     }
 }
 
+/// The name of a thread, `MINIDUMP_THREAD_NAME`.
+#[repr(C)]
+#[derive(Clone, Copy)]
+pub struct ThreadNameRow {
+    /// The index of the record in its stream, from 0.
+    pub index: u64,
+    /// The number of the entry in the directory, from 0.
+    pub entry: u32,
+    /// `ThreadId`.
+    pub thread_id: u32,
+    /// The name at `RvaOfThreadName`.
+    pub name: NamePlace,
+    /// Zeros.
+    pub reserved: [u32; 2],
+}
+
+const _: () = prove!(size_of::<ThreadNameRow>() == 40);
+
+impl PlainRow for ThreadNameRow {
+    ghost use Rattle.mdmp_c.specs.Rows.{thread_name_row};
+
+    ghost row_of = { thread_name_row };
+
+    fn of(item: &Item<'_>) -> Option<Self> {
+        let Item::ThreadName(item) = item else {
+            return None;
+        };
+        Some(ThreadNameRow {
+            index: item.index,
+            entry: item.entry,
+            thread_id: item.fields.thread_id,
+            name: name_place(item.fields.rva_of_thread_name, &item.name),
+            reserved: [0; 2],
+        })
+    }
+}
+
 /// A range of memory, of a `MINIDUMP_MEMORY_LIST` or a `MINIDUMP_MEMORY64_LIST`.
 #[repr(C)]
 #[derive(Clone, Copy)]
