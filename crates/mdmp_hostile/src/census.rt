@@ -24,6 +24,7 @@ pub enum Counted {
     Memory64Lists,
     UnloadedLists,
     MemoryInfoLists,
+    ThreadNameLists,
     Opaque,
     Users,
     Threads,
@@ -32,6 +33,7 @@ pub enum Counted {
     Exceptions,
     Systems,
     Regions,
+    ThreadNames,
     Ranges,
     Names,
     LongNames,
@@ -60,7 +62,7 @@ pub enum Counted {
 }
 
 /// How many things are counted.
-const THINGS: usize = 52;
+const THINGS: usize = 54;
 
 /// What is printed of each, in the order of the lines.
 const TOLD: [(Counted, &str); THINGS] = [
@@ -86,6 +88,7 @@ const TOLD: [(Counted, &str); THINGS] = [
     (Counted::Memory64Lists, "64-bit memory lists"),
     (Counted::UnloadedLists, "unloaded module lists"),
     (Counted::MemoryInfoLists, "memory info lists"),
+    (Counted::ThreadNameLists, "thread name lists"),
     (Counted::Opaque, "opaque streams"),
     (Counted::Users, "streams of users"),
     (Counted::Threads, "threads"),
@@ -94,6 +97,7 @@ const TOLD: [(Counted, &str); THINGS] = [
     (Counted::Exceptions, "exceptions"),
     (Counted::Systems, "systems"),
     (Counted::Regions, "regions"),
+    (Counted::ThreadNames, "names of threads"),
     (Counted::Ranges, "ranges"),
     (Counted::Names, "names"),
     (Counted::LongNames, "names over the limit"),

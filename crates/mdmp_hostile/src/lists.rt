@@ -151,6 +151,10 @@ fn count_item(census: &mut Census, item: &Item<'_>) {
             count_name(census, &system.name);
         },
         Item::MemoryInfo(_) => census.count(Counted::Regions),
+        Item::ThreadName(thread) => {
+            census.count(Counted::ThreadNames);
+            count_name(census, &thread.name);
+        },
         Item::Range(_) => census.count(Counted::Ranges),
     }
 }
@@ -181,5 +185,6 @@ fn counted_stream(stream: &StreamItem) -> Counted {
         StreamKind::Memory64 => Counted::Memory64Lists,
         StreamKind::Unloaded => Counted::UnloadedLists,
         StreamKind::MemoryInfo => Counted::MemoryInfoLists,
+        StreamKind::ThreadNames => Counted::ThreadNameLists,
     }
 }

@@ -19,6 +19,8 @@ pub enum ListedRecord {
     Unloaded,
     /// `MINIDUMP_MEMORY_INFO`.
     MemoryInfo,
+    /// `MINIDUMP_THREAD_NAME`.
+    ThreadName,
 }
 
 impl ListedRecord {
@@ -29,6 +31,7 @@ impl ListedRecord {
             ListedRecord::Module => 108,
             ListedRecord::Range => 16,
             ListedRecord::Unloaded => 24,
+            ListedRecord::ThreadName => 12,
         }
     }
 
@@ -45,6 +48,7 @@ impl ListedRecord {
             ListedRecord::Range => put_range(draft, chance),
             ListedRecord::Unloaded => put_unloaded(draft, names, chance),
             ListedRecord::MemoryInfo => draft.put_noise(chance, 48),
+            ListedRecord::ThreadName => put_thread_name(draft, names, chance),
         }
     }
 }
@@ -80,6 +84,15 @@ fn put_unloaded(
 ) -> Result<(), AllocError> {
     draft.put_noise(chance, 20)?;
     draft.put_number(Belongs::Record, names.any(chance))
+}
+
+fn put_thread_name(
+    draft: &mut Draft,
+    names: &DraftNames,
+    chance: &mut Chance,
+) -> Result<(), AllocError> {
+    draft.put_noise(chance, 4)?;
+    draft.put_wide_number(Belongs::Record, u64::from(names.any(chance)))
 }
 
 /// Puts a `MINIDUMP_EXCEPTION_STREAM`.

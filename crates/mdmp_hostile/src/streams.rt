@@ -26,7 +26,7 @@ pub fn put_stream(
     chance: &mut Chance,
 ) -> Result<DraftEntry, AllocError> {
     draft.put_gap(chance)?;
-    match chance.below(12) {
+    match chance.below(13) {
         0 => Ok(unused(chance)),
         1 => put_list(draft, names, chance, 3, ListedRecord::Thread),
         2 | 3 => put_list(draft, names, chance, 4, ListedRecord::Module),
@@ -36,6 +36,7 @@ pub fn put_stream(
         7 => put_wide_ranges(draft, chance),
         8 | 9 => put_strided_list(draft, names, chance, ListedRecord::Unloaded),
         10 => put_strided_list(draft, names, chance, ListedRecord::MemoryInfo),
+        11 => put_list(draft, names, chance, 24, ListedRecord::ThreadName),
         _ => Ok(opaque(draft, chance)),
     }
 }
@@ -83,7 +84,7 @@ fn opaque_type(chance: &mut Chance) -> u32 {
     }
 }
 
-/// A list of type 3, 4 or 5: behind its count, or behind four bytes more.
+/// A list of type 3, 4, 5 or 24: behind its count, or behind four bytes more.
 fn put_list(
     draft: &mut Draft,
     names: &DraftNames,

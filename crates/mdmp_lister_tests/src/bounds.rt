@@ -4,7 +4,7 @@ use crate::script::{LEAST, NAMED};
 use linked_list_allocator::LocalHeap;
 use mdmp_lister::{Choice, Counts, Limits, Lister, StopAt};
 use mdmp_source::{MemoryStore, PatchyStore, Source, Store};
-use mdmp_test_support::{MEMORY64, SYSTEM, THRICE, file_of_numbers};
+use mdmp_test_support::{MEMORY64, SYSTEM, THREAD_NAME, THRICE, file_of_numbers};
 use std::alloc::{Allocator, Global};
 use std::test::Fail;
 
@@ -88,6 +88,18 @@ fn long_name_costs_its_length(rt: HostRuntime) -> Result<(), Fail> {
         &rt,
         bound_of(rt.alloc(), &named, limits),
         Some([1, 0, 36, 1, 188, 108]),
+    );
+    Ok(())
+}
+
+#[test]
+fn name_of_a_thread_costs_as_any_other(rt: HostRuntime) -> Result<(), Fail> {
+    let named = file_of_numbers(rt.alloc(), 1, &THREAD_NAME)?;
+    let limits = Limits::new(168, 8).ok_or("limits")?;
+    assert_same(
+        &rt,
+        bound_of(rt.alloc(), &named, limits),
+        Some([1, 0, 16, 1, 188, 88]),
     );
     Ok(())
 }

@@ -43,7 +43,7 @@ fn choice_has_its_types(rt: HostRuntime) -> Result<(), Fail> {
 }
 
 #[test]
-fn eight_stream_types_have_a_kind(rt: HostRuntime) {
+fn nine_stream_types_have_a_kind(rt: HostRuntime) {
     let known = [
         (3, StreamKind::Threads),
         (4, StreamKind::Modules),
@@ -53,12 +53,13 @@ fn eight_stream_types_have_a_kind(rt: HostRuntime) {
         (9, StreamKind::Memory64),
         (14, StreamKind::Unloaded),
         (16, StreamKind::MemoryInfo),
+        (24, StreamKind::ThreadNames),
     ];
     for (stream_type, kind) in known {
         assert_same(&rt, StreamKind::of_type(stream_type), Some(kind));
         assert_same(&rt, kind.stream_type(), stream_type);
     }
-    for stream_type in [0, 1, 8, 10, 15, 24, 0x10000, u32::MAX] {
+    for stream_type in [0, 1, 8, 10, 15, 17, 0x10000, u32::MAX] {
         assert!(rt; StreamKind::of_type(stream_type).is_none());
     }
 }
@@ -74,6 +75,7 @@ fn kind_tells_its_head_and_its_records(rt: HostRuntime) {
         (StreamKind::Memory64, Form::Ranges64, 16, 16),
         (StreamKind::Unloaded, Form::Sized32, 12, 24),
         (StreamKind::MemoryInfo, Form::Sized64, 16, 48),
+        (StreamKind::ThreadNames, Form::Counted, 4, 12),
     ];
     for (kind, form, head, record) in rows {
         assert_same(&rt, kind.form(), form);
@@ -93,6 +95,7 @@ fn kind_tells_its_names_and_its_64_bit_memory(rt: HostRuntime) {
         (StreamKind::Memory64, false, true),
         (StreamKind::Unloaded, true, false),
         (StreamKind::MemoryInfo, false, false),
+        (StreamKind::ThreadNames, true, false),
     ];
     for (kind, has_names, is_memory64) in rows {
         assert_same(&rt, kind.has_names(), has_names);

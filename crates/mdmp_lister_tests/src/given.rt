@@ -50,6 +50,9 @@ pub enum What {
         build: u32,
     },
     MemoryInfo(MemoryInfoRecord),
+    ThreadName {
+        id: u32,
+    },
     Range {
         start: u64,
         size: u64,
@@ -120,6 +123,11 @@ pub fn unloaded(index: u64, base: u64, name: Named) -> GivenItem {
     with_name(0, index, What::Unloaded { base }, name)
 }
 
+/// The first name of a thread, of the first entry.
+pub fn thread_name(id: u32, name: Named) -> GivenItem {
+    with_name(0, 0, What::ThreadName { id }, name)
+}
+
 /// The system of the first entry.
 pub fn system(processors: u8, build: u32, name: Named) -> GivenItem {
     with_name(0, 0, What::System { processors, build }, name)
@@ -188,6 +196,9 @@ fn what_of(item: &Item<'_>) -> What {
             build: item.fields.build_number,
         },
         Item::MemoryInfo(item) => What::MemoryInfo(item.fields),
+        Item::ThreadName(item) => What::ThreadName {
+            id: item.fields.thread_id,
+        },
         Item::Range(item) => What::Range {
             start: item.start,
             size: item.size,

@@ -1,9 +1,13 @@
 //! The items of whole files, of each kind of record.
-use crate::given::{GivenItem, Named, What, nameless, range, stream, thread, unloaded};
+use crate::given::{
+    GivenItem, Named, What, nameless, range, spelled, stream, thread, thread_name, unloaded,
+};
+use crate::opening::fault;
 use crate::same::assert_same;
-use crate::script::{LEAST, ends, gives, other_in_bytes, other_in_numbers};
+use crate::script::{LEAST, ends, fails, gives, other_in_bytes, other_in_numbers};
+use mdmp_lister::{FaultKind, Limits};
 use mdmp_source::Extent;
-use mdmp_test_support::{MEMORY64, THRICE};
+use mdmp_test_support::{MEMORY64, THREAD_NAME, THRICE};
 use mdmp_wire::MemoryInfoRecord;
 use std::test::Fail;
 
@@ -139,6 +143,47 @@ fn region_is_listed_with_its_numbers(rt: HostRuntime) -> Result<(), Fail> {
     ];
     let other = other_in_numbers(&rt, LEAST, 1, &numbers, &script)?;
     assert_same(&rt, other, None);
+    Ok(())
+}
+
+#[test]
+fn name_of_a_thread_is_listed_or_its_fault_is(rt: HostRuntime) -> Result<(), Fail> {
+    let limits = Limits {
+        window: 168,
+        name: 8,
+    };
+    // Behind its count, and behind the count and four bytes more.
+    let padded = [24, 20, 44, 1, 9, 7, 64, 0, 8, 0x00620061, 0x00640063];
+    for (size, numbers) in [(16, &THREAD_NAME as &[u32]), (20, &padded)] {
+        let script = [
+            gives(stream(0, 24, size, 44)),
+            gives(thread_name(7, spelled("abcd"))),
+            ends(),
+        ];
+        let other = other_in_numbers(&rt, limits, 1, numbers, &script)?;
+        assert_same(&rt, other, None);
+    }
+
+    // An RVA of 64 bits: 0, and one past the file, whose sum with 4 is 2^64.
+    let mut numbers = THREAD_NAME;
+    numbers[5] = 0;
+    let script = [
+        gives(stream(0, 24, 16, 44)),
+        gives(thread_name(7, Named::None)),
+        ends(),
+    ];
+    let other = other_in_numbers(&rt, limits, 1, &numbers, &script)?;
+    assert_same(&rt, other, None);
+    for (low, high, offset) in [
+        (0xffff_fffc, 0xffff_ffff, 18446744073709551612),
+        (60, 1, 4294967356),
+    ] {
+        numbers[5..7].copy_from_slice(&[low, high]);
+        let outside = fault(Some(0), FaultKind::NameLengthOutside, offset, 4);
+        let script = [gives(stream(0, 24, 16, 44)), fails(outside)];
+        let other = other_in_numbers(&rt, limits, 1, &numbers, &script)?;
+        assert_same(&rt, other, None);
+    }
     Ok(())
 }
 

@@ -18,7 +18,7 @@ pub struct Chosen {
 pub const CHOSEN: [Chosen; 6] = [
     Chosen {
         dump: "crashpad-one.dmp",
-        types: &[3, 4, 5, 6, 7, 15, 1129316353, 1265303554],
+        types: &[3, 4, 5, 6, 7, 15, 24, 1129316353, 1265303554],
     },
     Chosen {
         dump: "lldb19-crash-stack.dmp",

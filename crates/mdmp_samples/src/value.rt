@@ -100,6 +100,7 @@ fn told_of(stream: &Stream<Global>) -> StreamLength {
         Stream::Memory64(ranges) => StreamLength::records(9, ranges.as_slice().len()),
         Stream::Unloaded(modules) => StreamLength::records(14, modules.as_slice().len()),
         Stream::MemoryInfo(regions) => StreamLength::records(16, regions.as_slice().len()),
+        Stream::ThreadNames(threads) => StreamLength::records(24, threads.as_slice().len()),
         Stream::Raw(stream_type, bytes) => StreamLength {
             stream_type: *stream_type,
             length: Length::Bytes(bytes.as_slice().len() as u64),

@@ -24,8 +24,8 @@ pub use crate::metered_heap::{HeapCounts, MeteredHeap, Refusal};
 pub use crate::module_files::{CODEVIEW_RECORD, module_file};
 pub use crate::outputs::{BY_SEVEN, BY_WHOLE, FOR_LONG_TEXT, Room, empty_out, start_of, text_in};
 pub use crate::small_files::{
-    ABSENT_STACK, COMMENT, CRASH, FAULTY, MEMORY64, MODULE, OVERLAPPING, SIX, SYSTEM, THRICE,
-    UNLOADED,
+    ABSENT_STACK, COMMENT, CRASH, FAULTY, MEMORY64, MODULE, OVERLAPPING, SIX, SYSTEM, THREAD_NAME,
+    THRICE, UNLOADED,
 };
 pub use crate::texts::{
     CODEVIEW_LINE, FAULTY_TEXT, FAULTY_TOLD, FAULTY_VERDICTS, MODULE_FILE_TEXT, SYSTEM_TEXT,

@@ -6,8 +6,8 @@ use crate::watched::Watched;
 use linked_list_allocator::LocalHeap;
 use mdmp_source::{MemoryStore, PatchyStore, Source, SourceFault};
 use mdmp_test_support::{
-    ABSENT_STACK, CRASH, Room, SIX, entry, file_of_numbers, file_of_parts, header_of, large_file,
-    system_file,
+    ABSENT_STACK, CRASH, Room, SIX, THREAD_NAME, entry, file_of_numbers, file_of_parts, header_of,
+    large_file, system_file,
 };
 use mdmp_tool::{LayoutFault, Limits, PartName, ReadFault, ToolFault, copied};
 use std::cell::Cell;
@@ -15,10 +15,12 @@ use std::test::Fail;
 
 #[test]
 fn types_are_copied_or_not(rt: HostRuntime) {
-    for stream_type in [0, 3, 4, 5, 6, 7, 9, 10, 11, 14, 15, 16, 65536, 0x43500001] {
+    for stream_type in [
+        0, 3, 4, 5, 6, 7, 9, 10, 11, 14, 15, 16, 24, 65536, 0x43500001,
+    ] {
         assert!(rt; copied(stream_type), "of {stream_type}");
     }
-    for stream_type in [1, 2, 8, 12, 13, 17, 24, 0x8000, 65535] {
+    for stream_type in [1, 2, 8, 12, 13, 17, 23, 25, 0x8000, 65535] {
         assert!(rt; !copied(stream_type), "of {stream_type}");
     }
 }
@@ -32,6 +34,17 @@ fn run_copy_succeeds(rt: HostRuntime) -> Result<(), Fail> {
         let wrote = copy_store(rt.alloc(), rt.alloc(), store, least(0)?, types, ALL)?;
         assert_wrote(&rt, 0, &wrote, Ok(292), &crash);
     }
+    Ok(())
+}
+
+#[test]
+fn name_of_a_thread_is_copied(rt: HostRuntime) -> Result<(), Fail> {
+    let named = file_of_numbers(rt.alloc(), 1, &THREAD_NAME)?;
+    let mut copy = named.clone()?;
+    copy.resize(76, 0)?;
+    let store = MemoryStore::new(&named);
+    let wrote = copy_store(rt.alloc(), rt.alloc(), store, least(8)?, &[24], ALL)?;
+    assert_wrote(&rt, 8, &wrote, Ok(76), &copy);
     Ok(())
 }
 

@@ -1,7 +1,9 @@
 //! Names, and the lines of their faults.
 use crate::runs::{Printed, assert_ends, assert_printed, list, told};
 use crate::same::{assert_same, assert_same_at};
-use mdmp_test_support::{BY_SEVEN, SYSTEM_TEXT, file_of_numbers, start_of, system_file};
+use mdmp_test_support::{
+    BY_SEVEN, SYSTEM_TEXT, THREAD_NAME, file_of_numbers, start_of, system_file,
+};
 use std::alloc::Global;
 use std::test::Fail;
 
@@ -38,6 +40,40 @@ fn name_is_its_units_or_its_length(rt: HostRuntime) -> Result<(), Fail> {
         )?;
         assert_printed(&rt, &listed, None, text.as_str());
     }
+    Ok(())
+}
+
+/// What is printed of a file with the name of a thread, in a stream of so many bytes.
+fn thread_name_text(alloc: Global, size: u32, name: &str) -> Result<String, Fail> {
+    let text = format!(in alloc;
+        "dump version 0x0000 streams 1 directory 32 checksum 0 time 0 flags 0x0000000000000000
+stream 0 type 24 size {size} rva 44
+threadname 0 id 7 name {name}\n"
+    )?;
+    Ok(text)
+}
+
+#[test]
+fn name_of_a_thread_stands_at_64_bits(rt: HostRuntime) -> Result<(), Fail> {
+    let padded = [24, 20, 44, 1, 9, 7, 64, 0, 8, 0x00620061, 0x00640063];
+    let mut nameless = THREAD_NAME;
+    nameless[5] = 0;
+    let rows: [(&[u32], u32, &str); 3] = [
+        (&THREAD_NAME, 16, "\"abcd\""),
+        (&padded, 20, "\"abcd\""),
+        (&nameless, 16, "none"),
+    ];
+    for (words, size, name) in rows {
+        let listed = list(rt.alloc(), &file_of_numbers(rt.alloc(), 1, words)?, 8)?;
+        let text = thread_name_text(rt.alloc(), size, name)?;
+        assert_printed(&rt, &listed, None, text.as_str());
+    }
+    let mut words = THREAD_NAME;
+    words[5..7].copy_from_slice(&[0xffff_fffc, 0xffff_ffff]);
+    let listed = list(rt.alloc(), &file_of_numbers(rt.alloc(), 1, &words)?, 8)?;
+    let wanted =
+        "mdmp: entry 0 item 0: name length outside the file: offset 18446744073709551612 size 4\n";
+    assert_same(&rt, told_of(rt.alloc(), &listed)?.as_str(), wanted);
     Ok(())
 }
 

@@ -2,7 +2,8 @@
 use crate::same::assert_same;
 use mdmp_source::Location;
 use mdmp_wire::{
-    AnyRecord, Descriptor, Descriptor64, ModuleRecord, Record, Slot, SystemRecord, ThreadRecord,
+    AnyRecord, Descriptor, Descriptor64, ModuleRecord, Record, Slot, SystemRecord,
+    ThreadNameRecord, ThreadRecord,
 };
 
 #[test]
@@ -11,10 +12,15 @@ fn record_of_a_kind_with_names_tells_where_its_name_stands(rt: HostRuntime) {
     module.module_name_rva = 7;
     let mut system = SystemRecord::read(&[0; 56]);
     system.csd_version_rva = 8;
+    let thread_name = ThreadNameRecord {
+        thread_id: 9,
+        rva_of_thread_name: u64::MAX,
+    };
     let range = Descriptor::read(&[0; 16]);
     for (record, expected) in [
         (AnyRecord::Module(module), Some(7)),
         (AnyRecord::System(system), Some(8)),
+        (AnyRecord::ThreadName(thread_name), Some(u64::MAX)),
         (AnyRecord::Memory(range), None),
     ] {
         assert_same(&rt, record.name_rva(), expected);

@@ -2,7 +2,8 @@
 use super::fields::assert_fields;
 use mdmp_source::Location;
 use mdmp_wire::{
-    Descriptor, MemoryInfoRecord, ModuleRecord, ThreadRecord, UnloadedRecord, VersionInfo,
+    Descriptor, MemoryInfoRecord, ModuleRecord, ThreadNameRecord, ThreadRecord, UnloadedRecord,
+    VersionInfo,
 };
 
 #[test]
@@ -95,6 +96,15 @@ fn unloaded_has_its_fields_at_their_offsets(rt: HostRuntime) {
         module_name_rva: 0x17161514,
     };
     assert_fields(&rt, 24, &[], expected);
+}
+
+#[test]
+fn thread_name_has_its_fields_at_their_offsets(rt: HostRuntime) {
+    let expected = ThreadNameRecord {
+        thread_id: 0x03020100,
+        rva_of_thread_name: 0x0b0a090807060504,
+    };
+    assert_fields(&rt, 12, &[], expected);
 }
 
 #[test]

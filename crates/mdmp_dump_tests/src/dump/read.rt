@@ -3,10 +3,12 @@ use super::built::{absent, bytes, dump_of, of_one, one, part, read, read_chosen,
 use crate::files::{LEAST, NAMED, chosen, named};
 use crate::same::assert_same;
 use mdmp_dump::{
-    Dump, Exception, Memory64Range, MemoryRange, Module, Records, Stream, Thread, Unloaded,
+    Dump, Exception, Memory64Range, MemoryRange, Module, Records, Stream, Thread, ThreadName,
+    Unloaded,
 };
 use mdmp_test_support::{
-    ABSENT_STACK, COMMENT, CRASH, FAULTY, MEMORY64, MODULE, OVERLAPPING, SYSTEM, file_of_numbers,
+    ABSENT_STACK, COMMENT, CRASH, FAULTY, MEMORY64, MODULE, OVERLAPPING, SYSTEM, THREAD_NAME,
+    file_of_numbers,
 };
 use mdmp_wire::{MemoryInfoRecord, Units, VersionInfo};
 use std::test::Fail;
@@ -223,6 +225,23 @@ fn unloaded_module_is_read_with_its_name(rt: HostRuntime) -> Result<(), Fail> {
     };
     let dump = of_one(rt.alloc(), Stream::Unloaded(one(rt.alloc(), module)?))?;
     assert_same(&rt, read(rt.alloc(), &file, NAMED, 0), Ok(dump));
+    Ok(())
+}
+
+#[test]
+fn name_of_a_thread_is_read(rt: HostRuntime) -> Result<(), Fail> {
+    for rva in [60, 0] {
+        let mut numbers = THREAD_NAME;
+        numbers[5] = rva;
+        let file = file_of_numbers(rt.alloc(), 1, &numbers)?;
+        let name = match rva {
+            0 => None,
+            _ => Some(Units::from_str(rt.alloc(), "abcd")?),
+        };
+        let thread = ThreadName { thread_id: 7, name };
+        let dump = of_one(rt.alloc(), Stream::ThreadNames(one(rt.alloc(), thread)?))?;
+        assert_same(&rt, read(rt.alloc(), &file, NAMED, 0), Ok(dump));
+    }
     Ok(())
 }
 

@@ -9,15 +9,15 @@ use mdmp_dump::{Dump, FileView, ReadFault};
 use mdmp_lister::Choice;
 use mdmp_source::{MemoryStore, Source};
 use mdmp_test_support::{
-    ABSENT_STACK, COMMENT, CRASH, FAULTY, MEMORY64, MODULE, OVERLAPPING, SIX, SYSTEM, THRICE,
-    endless_ranges_file, entry, file_of_numbers, file_of_parts, header_of, last_file,
+    ABSENT_STACK, COMMENT, CRASH, FAULTY, MEMORY64, MODULE, OVERLAPPING, SIX, SYSTEM, THREAD_NAME,
+    THRICE, endless_ranges_file, entry, file_of_numbers, file_of_parts, header_of, last_file,
 };
 use std::alloc::Global;
 use std::process::Abort;
 use std::test::Fail;
 
 /// Each type of stream, by itself, and all.
-const CHOICES: [&[u32]; 13] = [
+const CHOICES: [&[u32]; 14] = [
     &[],
     &[0],
     &[3],
@@ -30,6 +30,7 @@ const CHOICES: [&[u32]; 13] = [
     &[12],
     &[14],
     &[16],
+    &[24],
     &[65536],
 ];
 
@@ -108,7 +109,7 @@ fn memory_is_written_as_its_value(rt: HostRuntime) -> Result<(), Fail> {
 }
 
 #[test]
-fn system_unloaded_module_and_region_are_written_as_their_values(
+fn system_and_other_records_without_parts_are_written_as_their_values(
     rt: HostRuntime,
 ) -> Result<(), Fail> {
     assert_same_copies(&rt, rt.alloc(), &SYSTEM)?;
@@ -117,7 +118,19 @@ fn system_unloaded_module_and_region_are_written_as_their_values(
         16, 64, 44, 16, 48, 1, 0, // one region
         4096, 0, 4096, 0, 4, 0, 8192, 0, 4096, 4, 131072, 0,
     ];
-    assert_same_copies(&rt, rt.alloc(), &file_of_numbers(rt.alloc(), 1, &numbers)?)
+    assert_same_copies(&rt, rt.alloc(), &file_of_numbers(rt.alloc(), 1, &numbers)?)?;
+    assert_same_copies(
+        &rt,
+        rt.alloc(),
+        &file_of_numbers(rt.alloc(), 1, &THREAD_NAME)?,
+    )?;
+    // A name that stands nowhere, and one that is read past every place of 32 bits.
+    let mut numbers = THREAD_NAME;
+    for (low, high) in [(0, 0), (0xffff_fffc, 0xffff_ffff), (60, 1)] {
+        numbers[5..7].copy_from_slice(&[low, high]);
+        assert_same_copies(&rt, rt.alloc(), &file_of_numbers(rt.alloc(), 1, &numbers)?)?;
+    }
+    Ok(())
 }
 
 #[test]

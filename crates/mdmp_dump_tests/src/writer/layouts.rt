@@ -4,7 +4,7 @@ use crate::dump::built::{absent, bytes, dump_of, of_one, one, part, read, two};
 use crate::files::{LEAST, NAMED};
 use crate::same::assert_same;
 use mdmp_dump::{Memory64Range, MemoryRange, Records, Stream, Thread, Unloaded};
-use mdmp_test_support::{ABSENT_STACK, MODULE, THRICE, file_of_numbers};
+use mdmp_test_support::{ABSENT_STACK, MODULE, THREAD_NAME, THRICE, file_of_numbers};
 use mdmp_wire::Units;
 use std::alloc::{AllocError, Global};
 use std::test::Fail;
@@ -168,6 +168,20 @@ fn name_of_no_units_is_still_a_name(rt: HostRuntime) -> Result<(), Fail> {
         &dump,
         &file_of_numbers(rt.alloc(), 1, &numbers)?,
     )
+}
+
+#[test]
+fn name_of_a_thread_is_written_at_its_place(rt: HostRuntime) -> Result<(), Fail> {
+    // What is read behind padding is written without it, and two zeros and two bytes more behind the name.
+    let padded = [24, 20, 44, 1, 9, 7, 64, 0, 8, 0x00620061, 0x00640063];
+    let mut written = file_of_numbers(rt.alloc(), 1, &THREAD_NAME)?;
+    written.resize(76, 0)?;
+    for numbers in [&THREAD_NAME as &[u32], &padded] {
+        let file = file_of_numbers(rt.alloc(), 1, numbers)?;
+        let dump = read(rt.alloc(), &file, NAMED, 0)?;
+        assert_written(&rt, rt.alloc(), &dump, &written)?;
+    }
+    Ok(())
 }
 
 #[test]

@@ -122,7 +122,7 @@ fn size_by(stream_type: u32, raw: u64, far: u64) -> Result<u64, LayoutFault> {
 
 #[test]
 fn raw_bytes_of_a_known_type_are_refused(rt: HostRuntime) -> Result<(), Fail> {
-    for stream_type in [0, 3, 4, 5, 6, 7, 9, 14, 16] {
+    for stream_type in [0, 3, 4, 5, 6, 7, 9, 14, 16, 24] {
         let raw = Stream::Raw(stream_type, bytes(rt.alloc(), &[1])?);
         let dump = of_one(rt.alloc(), raw)?;
         let fault = LayoutFault::RawKnownType { stream: 0 };

@@ -219,7 +219,7 @@ fn written_view<'d>(
 
 #[test]
 fn streams_are_begun_twice_at_most(rt: HostRuntime) -> Result<(), Fail> {
-    let rows: [(&str, u32, &[u32], [u32; 6]); 9] = [
+    let rows: [(&str, u32, &[u32], [u32; 6]); 10] = [
         (
             "six streams, two of them empty lists",
             6,
@@ -244,6 +244,12 @@ fn streams_are_begun_twice_at_most(rt: HostRuntime) -> Result<(), Fail> {
             "an unloaded module and its name",
             1,
             &[14, 36, 44, 12, 24, 1, 0, 0, 0, 0, 0, 80, 0, 0],
+            [2, 0, 0, 0, 0, 0],
+        ),
+        (
+            "the name of a thread",
+            1,
+            &[24, 16, 44, 1, 7, 60, 0, 0],
             [2, 0, 0, 0, 0, 0],
         ),
         (
