@@ -5,6 +5,7 @@ mod room;
 mod steps;
 mod table;
 
+use crate::same::assert_same_at;
 use mdmp_map::{AddressMap, Place};
 use std::alloc::{AllocError, Allocator};
 use std::process::Abort;
@@ -34,6 +35,6 @@ fn push_all<A: Allocator>(rt: &impl Abort, map: &mut AddressMap<A>, ranges: &[(u
 /// The map places each address as its row says.
 fn assert_places<A: Allocator>(rt: &impl Abort, map: &AddressMap<A>, rows: &[PlaceRow]) {
     for (address, expected) in rows {
-        assert_eq!(rt; map.find(*address), *expected, "at {address}");
+        assert_same_at(rt, &address, map.find(*address), *expected);
     }
 }

@@ -1,5 +1,5 @@
 //! Calls that take memory, each of whose growths is refused.
-use crate::same::assert_same;
+use crate::same::{assert_same, assert_same_at};
 use mdmp_map::AddressMap;
 use mdmp_source::{BlockOut, PatchyOut, Window};
 use mdmp_test_support::{MeteredHeap, Refusal};
@@ -89,7 +89,7 @@ fn room_is_one_growth_which_may_be_refused(rt: HostRuntime) -> Result<(), Fail> 
         MemoryCall::OwnUnits,
     ] {
         let growths = growths_of(&rt, rt.alloc(), call)?;
-        assert_eq!(rt; growths, 1, "of {call:?}");
+        assert_same_at(&rt, &call, growths, 1);
     }
     Ok(())
 }
@@ -98,7 +98,7 @@ fn room_is_one_growth_which_may_be_refused(rt: HostRuntime) -> Result<(), Fail> 
 fn each_growth_of_a_text_may_be_refused(rt: HostRuntime) -> Result<(), Fail> {
     for call in [MemoryCall::UnitsOfText, MemoryCall::Text] {
         let growths = growths_of(&rt, rt.alloc(), call)?;
-        assert!(rt; growths > 0, "of {call:?}");
+        assert_same_at(&rt, &call, growths > 0, true);
     }
     Ok(())
 }

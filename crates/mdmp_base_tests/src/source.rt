@@ -7,7 +7,7 @@ mod stores;
 mod test_stores;
 mod windows;
 
-use crate::same::assert_same;
+use crate::same::{assert_same, assert_same_at};
 use mdmp_source::{Out, OutFailed, PatchyOut, write_all};
 use std::alloc::{AllocError, Global};
 use std::process::Abort;
@@ -35,6 +35,6 @@ fn assert_taken(rt: &impl Abort, out: &PatchyOut<Global>, expected: &[u8]) {
 /// The output answers each write of these bytes as its row says.
 fn assert_writes<O: Out>(rt: &impl Abort, out: &mut O, rows: &[(&[u8], Result<usize, OutFailed>)]) {
     for (bytes, expected) in rows {
-        assert_eq!(rt; out.write(*bytes), *expected, "of {bytes:?}");
+        assert_same_at(rt, &bytes, out.write(*bytes), *expected);
     }
 }

@@ -116,7 +116,7 @@ fn refused_copy_makes_no_file(rt: HostRuntime) -> Result<(), Fail> {
     for (words, code, told) in rows {
         let ended = run(&rt, rt.alloc(), words)?;
         assert_ended(&rt, words, &ended, code, "", told);
-        assert!(rt; !fs::exists(&rt, "refused.dmp")?, "at {words:?}");
+        assert_same_at(&rt, &words, fs::exists(&rt, "refused.dmp")?, false);
     }
     Ok(())
 }

@@ -1,6 +1,6 @@
 //! A disk in memory each of whose growths is refused: the name of the file that is made, and its bytes.
 use crate::runs::{CommandEnd, ended, status_on_disk};
-use crate::same::{assert_same, assert_same_at};
+use crate::same::{assert_same, assert_same_at, assert_that};
 use mdmp_disk::{GivenFile, MemoryDisk};
 use mdmp_test_support::{BY_SEVEN, HeapCounts, MeteredHeap, Refusal, SYSTEM, empty_out};
 use std::alloc::{AllocGlobal, Global};
@@ -77,7 +77,7 @@ fn each_growth_of_a_file_that_is_made_may_be_refused(rt: HostRuntime) -> Result<
             assert_same(&rt, copied.ended.status, 0);
             let made = copied.made.as_ref().map(|made| made.as_slice());
             assert_same(&rt, made, Some(SYSTEM.as_slice()));
-            assert!(rt; growth > 1);
+            assert_that(&rt, growth > 1);
             return Ok(());
         }
         assert_refused(&rt, growth, &copied);

@@ -249,7 +249,7 @@ fn copy_of_a_file_that_fails_is_a_first_part(rt: HostRuntime) -> Result<(), Fail
         } else {
             assert_same_at(&rt, &fail_at, ended.status, 3);
             let failed = ended.told.starts_with("mdmp: store failed at ");
-            assert!(rt; failed, "at {fail_at}");
+            assert_same_at(&rt, &fail_at, failed, true);
             failures = failures.saturating_add(1);
         }
     }

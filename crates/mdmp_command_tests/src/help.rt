@@ -1,6 +1,6 @@
 //! Command lines that ask for help or the version.
 use crate::runs::{assert_ended, run_with};
-use crate::same::assert_same_at;
+use crate::same::{assert_same_at, assert_that};
 use mdmp_test_support::{BY_WHOLE, FOR_LONG_TEXT, Room, start_of};
 use mdmp_tool::copied;
 use std::test::Fail;
@@ -28,7 +28,7 @@ fn what_is_asked_for_is_printed(rt: HostRuntime) -> Result<(), Fail> {
         let ended = run_with(&rt, rt.alloc(), rt.alloc(), words, FOR_LONG_TEXT, BY_WHOLE)?;
         assert_same_at(&rt, &words, ended.status, 0);
         assert_same_at(&rt, &words, ended.told.as_str(), "");
-        assert!(rt; ended.text.as_str().contains("mdmp"), "at {words:?}");
+        assert_same_at(&rt, &words, ended.text.as_str().contains("mdmp"), true);
     }
     Ok(())
 }
@@ -59,7 +59,7 @@ fn help_names_the_commands_and_the_exit_statuses(rt: HostRuntime) -> Result<(), 
         "\n  2  ",
         "\n  3  ",
     ] {
-        assert!(rt; help.text.as_str().contains(part), "no {part:?}");
+        assert_same_at(&rt, &part, help.text.as_str().contains(part), true);
     }
     Ok(())
 }
@@ -83,19 +83,20 @@ fn help_of_copy_names_the_types_that_are_copied(rt: HostRuntime) -> Result<(), F
             .any(|part| listed.contains(part.as_str()));
         assert_same_at(&rt, &stream_type, is_named, copied(stream_type));
     }
-    assert!(rt; listed.ends_with("\n  65536 and on  streams of users"));
+    assert_that(&rt, listed.ends_with("\n  65536 and on  streams of users"));
     assert_same_at(&rt, &65535, copied(65535), false);
     assert_same_at(&rt, &65536, copied(65536), true);
     for part in [
         "Locations inside a user's stream are not\nmoved",
         "After a fault OUT is left\nas far as it was written.",
     ] {
-        assert!(rt; behind.contains(part), "no {part:?}");
+        assert_same_at(&rt, &part, behind.contains(part), true);
     }
-    assert!(rt;
+    assert_that(
+        &rt,
         help.text
             .as_str()
-            .contains("there must be none of its name")
+            .contains("there must be none of its name"),
     );
     Ok(())
 }

@@ -1,5 +1,5 @@
-//! Tests of the command lines, and of the commands over a source and two outputs, by the public calls of
-//! `mdmp_tool` alone.
+//! Tests of the words of a command line, of the command lines, and of the commands over a source and two
+//! outputs, by the public calls of `mdmp_words` and `mdmp_tool` alone.
 //!
 //! `runs` and `prints` make the calls whose contracts are long, in helpers without a contract; the tests
 //! compare what they give, which is plain values.
@@ -33,6 +33,8 @@ mod pdb;
 mod prints;
 #[cfg(test)]
 mod refusals;
+#[cfg(test)]
+mod requests;
 #[cfg(test)]
 mod running;
 #[cfg(test)]

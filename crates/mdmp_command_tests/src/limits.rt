@@ -112,7 +112,7 @@ fn limits_are_those_of_the_words(rt: HostRuntime) -> Result<(), Fail> {
         };
         assert_same_at(&rt, &words, ended.status, code);
         assert_same_at(&rt, &words, ended.told.as_str(), told);
-        assert!(rt; code == 0 || ended.text.is_empty(), "at {words:?}");
+        assert_same_at(&rt, &words, code == 0 || ended.text.is_empty(), true);
     }
     Ok(())
 }

@@ -1,5 +1,6 @@
 //! Command lines that are refused: nothing is printed, and no file is opened or made.
 use crate::runs::{assert_ended, assert_refused, run, write_file};
+use crate::same::assert_same_at;
 use mdmp_test_support::system_file;
 use std::fs;
 use std::test::Fail;
@@ -74,7 +75,7 @@ fn refused_words_make_no_file(rt: HostRuntime) -> Result<(), Fail> {
     for words in rows {
         let ended = run(&rt, rt.alloc(), words)?;
         assert_refused(&rt, words, &ended);
-        assert!(rt; !fs::exists(&rt, "unmade.dmp")?, "at {words:?}");
+        assert_same_at(&rt, &words, fs::exists(&rt, "unmade.dmp")?, false);
     }
     Ok(())
 }

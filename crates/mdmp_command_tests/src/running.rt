@@ -39,7 +39,7 @@ fn assert_fails_in_turn(
         let told = format!(in alloc; "mdmp: store failed at {fail_at}\n")?;
         assert_same_at(rt, &fail_at, ended.status, 3);
         assert_same_at(rt, &fail_at, ended.told.as_str(), told.as_str());
-        assert!(rt; text.starts_with(ended.text.as_str()), "at {fail_at}");
+        assert_same_at(rt, &fail_at, text.starts_with(ended.text.as_str()), true);
     }
     let whole = print_patchy(alloc, shown, bytes, calls)?;
     assert_same(rt, whole.text.as_str(), text);

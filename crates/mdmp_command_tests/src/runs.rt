@@ -67,7 +67,7 @@ pub fn assert_row_ended(
 pub fn assert_refused(rt: &impl Abort, words: &[&str], ended: &CommandEnd) {
     assert_same_at(rt, &words, ended.status, 2);
     assert_same_at(rt, &words, ended.text.as_str(), "");
-    assert!(rt; !ended.told.is_empty(), "at {words:?}");
+    assert_same_at(rt, &words, ended.told.is_empty(), false);
 }
 
 /// Writes a file.

@@ -1,7 +1,7 @@
 //! Command lines over files of the system, of which each call fails in turn.
 use crate::failing_system::FailingSystem;
 use crate::runs::{CommandEnd, ended, status_of, write_file};
-use crate::same::{assert_same, assert_same_at};
+use crate::same::{assert_same, assert_same_at, assert_that};
 use mdmp_source::{FileStore, Store};
 use mdmp_test_support::{BY_SEVEN, SYSTEM, SYSTEM_TEXT, WIDE_TEXT, empty_out, wide_file};
 use std::alloc::AllocGlobal;
@@ -123,7 +123,7 @@ fn each_call_behind_a_copy_may_fail(rt: HostRuntime) -> Result<(), Fail> {
         let copy = copy_there(&rt)?;
         if ended.status == 0 {
             assert_same(&rt, copy.as_deref(), Some(SYSTEM.as_slice()));
-            assert!(rt; call > 3);
+            assert_that(&rt, call > 3);
             return Ok(());
         }
         assert_same_at(&rt, &call, ended.status, 3);

@@ -1,7 +1,7 @@
 //! Calls that take memory, each of whose growths is refused.
 use crate::dump::built::read;
 use crate::files::NAMED;
-use crate::same::assert_same;
+use crate::same::{assert_same, assert_same_at};
 use mdmp_dump::{FileView, ReadAnswered, ReadFault, ViewRefused, read_dump, read_source};
 use mdmp_lister::Choice;
 use mdmp_source::{MemoryStore, Source};
@@ -173,7 +173,7 @@ fn assert_growths(rt: &impl Abort, alloc: Global, file: &[u8], reading: u64) -> 
         (DumpCall::WriteAndRead, reading.saturating_add(1)),
     ] {
         let growths = growths_of(rt, alloc, file, call)?;
-        assert_eq!(rt; growths, expected, "of {call:?}");
+        assert_same_at(rt, &call, growths, expected);
     }
     Ok(())
 }

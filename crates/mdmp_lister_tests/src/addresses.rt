@@ -3,7 +3,7 @@ ghost use Rattle.std.specs.Prelude.{◌≡◌, ◌≤◌, ◌<◌, ◌+◌, ◌*
 ghost use Rattle.mdmp_map.specs.Ranges.{AreSorted};
 
 use crate::given::{range, stream};
-use crate::same::assert_same;
+use crate::same::{assert_same, assert_same_at, assert_that};
 use crate::script::{
     Call, LEAST, Played, ends, gives, has_room, other_in_bytes, other_in_numbers, play, read_fails,
     reads, runs,
@@ -251,7 +251,7 @@ fn what_no_range_holds_is_not_fetched(rt: HostRuntime) -> Result<(), Fail> {
     let file = file_of_numbers(rt.alloc(), 1, &OVERLAPPING)?;
     for address in [0, 0xff0, 0x1006, u64::MAX - 2, u64::MAX] {
         let expected = ([0; 16], [false; 16], 0);
-        assert_eq!(rt; read(&rt, &file, address)?, expected, "at {address}");
+        assert_same_at(&rt, &address, read(&rt, &file, address)?, expected);
     }
     Ok(())
 }
@@ -264,7 +264,7 @@ fn long_range_is_one_fetch(rt: HostRuntime) -> Result<(), Fail> {
     }
     let (bytes, known, fetches) = read::<4096>(&rt, &file, 0x1000)?;
     assert_same(&rt, fetches, 1);
-    assert!(rt; known == [true; 4096]);
-    assert!(rt; bytes == [b'm'; 4096]);
+    assert_that(&rt, known == [true; 4096]);
+    assert_that(&rt, bytes == [b'm'; 4096]);
     Ok(())
 }

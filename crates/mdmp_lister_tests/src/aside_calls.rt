@@ -2,7 +2,7 @@
 //! calls fails in turn.
 use crate::given::{stream, thread};
 use crate::opening::fault;
-use crate::same::assert_same;
+use crate::same::{assert_same, assert_same_at};
 use crate::script::{
     Answer, Call, LEAST, NAMED, count_fails, counts, ends, fails, gives, has_part, part_fails,
     play, read_fails, reads, runs, seeks,
@@ -99,7 +99,7 @@ fn each_call_of_a_listing_of_ranges_may_fail(rt: HostRuntime) -> Result<(), Fail
         } else {
             Some((Ok(()), 2))
         };
-        assert_eq!(rt; listed, expected, "at {call}");
+        assert_same_at(&rt, &call, listed, expected);
     }
     Ok(())
 }
@@ -136,7 +136,7 @@ fn each_call_of_a_count_of_records_may_fail(rt: HostRuntime) -> Result<(), Fail>
             seeks(0),
             fails(failed),
         ];
-        assert_eq!(rt; other_of_walker(&rt, at, &script)?, None, "at {at}");
+        assert_same_at(&rt, &at, other_of_walker(&rt, at, &script)?, None);
     }
     let script = [
         seeks(2),
@@ -174,7 +174,7 @@ fn each_call_behind_a_sought_entry_may_fail(rt: HostRuntime) -> Result<(), Fail>
         ];
         let script = if call < 52 { &first[..] } else { &second[..] };
         let other = other_of_walker(&rt, 68 + call, script)?;
-        assert_eq!(rt; other, None, "at {call}");
+        assert_same_at(&rt, &call, other, None);
     }
     let script = [
         seeks(2),

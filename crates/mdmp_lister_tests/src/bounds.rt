@@ -1,5 +1,5 @@
 //! What a lister holds and fetches, beside its bounds.
-use crate::same::assert_same;
+use crate::same::{assert_same, assert_same_at};
 use crate::script::{LEAST, NAMED};
 use linked_list_allocator::LocalHeap;
 use mdmp_lister::{Choice, Counts, Limits, Lister, StopAt};
@@ -153,7 +153,7 @@ fn heap_of_what_is_held_is_enough(rt: HostRuntime) -> Result<(), Fail> {
     for (size, held) in [(272, None), (288, Some(288))] {
         let heap = LocalHeap::new(rt.alloc(), size)?;
         let counts = counted(&heap, MemoryStore::new(&file), limits);
-        assert_eq!(rt; counts.map(|(counts, _)| counts.held), held, "at {size}");
+        assert_same_at(&rt, &size, counts.map(|(counts, _)| counts.held), held);
     }
     Ok(())
 }
@@ -164,7 +164,7 @@ fn store_that_fails_keeps_the_equation_of_the_counts(rt: HostRuntime) -> Result<
         let store = PatchyStore::new(&MEMORY64, &[4096], Some(fail_at));
         let counted = counted(rt.alloc(), store, LEAST);
         // The header, the entry and the head that is read ahead are read as the file is opened.
-        assert_eq!(rt; counted.is_some(), fail_at > 2, "at {fail_at}");
+        assert_same_at(&rt, &fail_at, counted.is_some(), fail_at > 2);
         if let Some((counts, fetched)) = counted {
             // Once the ranges are listed, memory is read aside, by one call.
             let aside = u128::from(fail_at > 3);
@@ -172,7 +172,7 @@ fn store_that_fails_keeps_the_equation_of_the_counts(rt: HostRuntime) -> Result<
                 bytes: counts.fetched.saturating_add(counts.aside),
                 calls: counts.calls.saturating_add(aside),
             };
-            assert_eq!(rt; fetched, booked, "at {fail_at}");
+            assert_same_at(&rt, &fail_at, fetched, booked);
         }
     }
     Ok(())

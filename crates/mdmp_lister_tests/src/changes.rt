@@ -1,7 +1,7 @@
 //! A lister and a walker over a store that changes while it is read.
 use crate::given::{range, stream};
 use crate::opening::{fault, open_and_close};
-use crate::same::assert_same;
+use crate::same::{assert_same, assert_that};
 use crate::script::{Call, LEAST, counts, ends, fails, gives, has_room, play};
 use crate::walking::{open_over, other_by};
 use mdmp_lister::{Choice, FaultKind};
@@ -46,7 +46,7 @@ fn list_that_counts_more_ranges_than_before_has_changed(rt: HostRuntime) -> Resu
         fails(fault(None, changed, 44, 0)),
         fails(fault(None, changed, 44, 0)),
     ];
-    assert!(rt; plays(&rt, 1, 2, &script)?);
+    assert_that(&rt, plays(&rt, 1, 2, &script)?);
     Ok(())
 }
 
@@ -58,7 +58,7 @@ fn list_that_counts_fewer_ranges_than_before_is_listed(rt: HostRuntime) -> Resul
         gives(range(0, 0x1000, 4, Extent::Inside, 80)),
         ends(),
     ];
-    assert!(rt; plays(&rt, 2, 1, &script)?);
+    assert_that(&rt, plays(&rt, 2, 1, &script)?);
     Ok(())
 }
 

@@ -1,7 +1,7 @@
 //! The verdicts on the entries of a file.
 use crate::given::stream;
 use crate::opening::{FAULTY_NAME, FAULTY_STREAM, chosen};
-use crate::same::assert_same;
+use crate::same::{assert_same, assert_same_at};
 use crate::script::{
     LEAST, checks, ends, fails, finds, gives, has_begun, has_room, other_in_numbers, play, skips,
 };
@@ -140,7 +140,7 @@ fn check_ends_where_the_store_fails(rt: HostRuntime) -> Result<(), Fail> {
             fails(fault),
         ];
         let played = play(&rt, store, Limits::default(), Choice::All, &script)?;
-        assert_eq!(rt; played.other, None, "at {fail_at}");
+        assert_same_at(&rt, &fail_at, played.other, None);
     }
     Ok(())
 }

@@ -1,15 +1,15 @@
 //! Limits, and which entries are listed.
-use crate::same::assert_same;
+use crate::same::{assert_same, assert_same_at, assert_that};
 use mdmp_lister::{Choice, Form, Limits, StreamKind, TypeSet};
 use std::test::Fail;
 
 #[test]
 fn limits_have_bounds(rt: HostRuntime) {
-    assert!(rt; Limits::new(167, 0).is_none());
-    assert!(rt; Limits::new((1 << 30) + 1, 0).is_none());
-    assert!(rt; Limits::new(168, (1 << 30) + 1).is_none());
-    assert!(rt; Limits::new(168, 0).is_some());
-    assert!(rt; Limits::new(1 << 30, 1 << 30).is_some());
+    assert_that(&rt, Limits::new(167, 0).is_none());
+    assert_that(&rt, Limits::new((1 << 30) + 1, 0).is_none());
+    assert_that(&rt, Limits::new(168, (1 << 30) + 1).is_none());
+    assert_that(&rt, Limits::new(168, 0).is_some());
+    assert_that(&rt, Limits::new(1 << 30, 1 << 30).is_some());
     let standard = Limits::default();
     assert_same(&rt, (standard.window, standard.name), (65536, 4096));
 }
@@ -25,20 +25,20 @@ fn is_set(types: &[u32]) -> bool {
 #[test]
 fn one_to_sixteen_types_are_a_set(rt: HostRuntime) {
     let types: [u32; 17] = [3, 4, 5, 6, 7, 9, 14, 16, 0, 10, 11, 12, 13, 15, 17, 3, 24];
-    assert!(rt; TypeSet::new(&[]).is_none());
-    assert!(rt; TypeSet::new(&types).is_none());
+    assert_that(&rt, TypeSet::new(&[]).is_none());
+    assert_that(&rt, TypeSet::new(&types).is_none());
     for count in [1, 16] {
-        assert!(rt; is_set(&types[..count]), "of {count}");
+        assert_same_at(&rt, &count, is_set(&types[..count]), true);
     }
 }
 
 #[test]
 fn choice_has_its_types(rt: HostRuntime) -> Result<(), Fail> {
     let choice = Choice::Types(TypeSet::new(&[7, 0, 7]).ok_or("types")?);
-    assert!(rt; choice.has(7));
-    assert!(rt; choice.has(0));
-    assert!(rt; !choice.has(3));
-    assert!(rt; Choice::All.has(u32::MAX));
+    assert_that(&rt, choice.has(7));
+    assert_that(&rt, choice.has(0));
+    assert_that(&rt, !choice.has(3));
+    assert_that(&rt, Choice::All.has(u32::MAX));
     Ok(())
 }
 
@@ -60,7 +60,7 @@ fn nine_stream_types_have_a_kind(rt: HostRuntime) {
         assert_same(&rt, kind.stream_type(), stream_type);
     }
     for stream_type in [0, 1, 8, 10, 15, 17, 0x10000, u32::MAX] {
-        assert!(rt; StreamKind::of_type(stream_type).is_none());
+        assert_that(&rt, StreamKind::of_type(stream_type).is_none());
     }
 }
 

@@ -2,6 +2,7 @@
 ghost use Rattle.mdmp_source.specs.Range.{IsInside};
 
 use crate::given::{Text, short_text};
+use crate::same::{assert_same, assert_same_at};
 use mdmp_lister::{Choice, Limits, Lister};
 use mdmp_source::{Location, MemoryStore, PatchyStore, Source, SourceFault, Store, inside};
 use mdmp_test_support::{CODEVIEW_RECORD, file_of_numbers, module_file};
@@ -105,7 +106,7 @@ fn symbol_file_is_named_up_to_the_limit(rt: HostRuntime) -> Result<(), Fail> {
         (24, 4096, "", false, 24),
     ] {
         let expected = (symbol_file(name, ended), fetched);
-        assert_eq!(rt; read(&rt, RSDS, size, limit)?, expected);
+        assert_same(&rt, read(&rt, RSDS, size, limit)?, expected);
     }
     Ok(())
 }
@@ -113,12 +114,12 @@ fn symbol_file_is_named_up_to_the_limit(rt: HostRuntime) -> Result<(), Fail> {
 #[test]
 fn short_and_other_records_name_no_symbol_file(rt: HostRuntime) -> Result<(), Fail> {
     let short = (SymbolsTold::Short { size: 23 }, 23);
-    assert_eq!(rt; read(&rt, RSDS, 23, 4096)?, short);
+    assert_same(&rt, read(&rt, RSDS, 23, 4096)?, short);
     let other = SymbolsTold::Other {
         signature: *b"NSDS",
         size: 30,
     };
-    assert_eq!(rt; read(&rt, 0x5344534e, 30, 4096)?, (other, 24));
+    assert_same(&rt, read(&rt, 0x5344534e, 30, 4096)?, (other, 24));
     Ok(())
 }
 
@@ -160,10 +161,10 @@ fn each_call_of_a_record_may_fail(rt: HostRuntime) -> Result<(), Fail> {
     for call in 0..30 {
         let failed = Some(Err(SourceFault::Failed { at: 156 + call }));
         let told = told_twice(&rt, &file, 44 + call)?;
-        assert_eq!(rt; told, [failed, Some(Ok(5))], "at {call}");
+        assert_same_at(&rt, &call, told, [failed, Some(Ok(5))]);
     }
     // The call behind them is of the record that is read then.
     let failed = Some(Err(SourceFault::Failed { at: 156 }));
-    assert_eq!(rt; told_twice(&rt, &file, 74)?, [Some(Ok(5)), failed]);
+    assert_same(&rt, told_twice(&rt, &file, 74)?, [Some(Ok(5)), failed]);
     Ok(())
 }

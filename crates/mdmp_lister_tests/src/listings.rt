@@ -2,7 +2,7 @@
 use crate::files::named;
 use crate::given::{Named, What, nameless, spelled, stream, system, thread, unloaded};
 use crate::opening::{chosen, fault};
-use crate::same::assert_same;
+use crate::same::{assert_same, assert_same_at};
 use crate::script::{
     Answer, Call, LEAST, NAMED, ends, fails, gives, other_in_bytes, other_in_numbers,
     other_of_chosen, play,
@@ -58,7 +58,7 @@ fn system_is_listed_with_its_name(rt: HostRuntime) -> Result<(), Fail> {
     // Nothing behind the name is needed.
     for size in [136, 132] {
         let other = other_in_bytes(&rt, NAMED, &SYSTEM[..size], &script)?;
-        assert_eq!(rt; other, None, "at {size}");
+        assert_same_at(&rt, &size, other, None);
     }
     Ok(())
 }
@@ -71,7 +71,7 @@ fn cut_name_ends_the_listing(rt: HostRuntime) -> Result<(), Fail> {
     for (size, fault) in [(131, units), (103, length), (99, record)] {
         let script = [gives(stream(0, 7, 56, 44)), fails(fault)];
         let other = other_in_bytes(&rt, NAMED, &SYSTEM[..size], &script)?;
-        assert_eq!(rt; other, None, "at {size}");
+        assert_same_at(&rt, &size, other, None);
     }
     Ok(())
 }

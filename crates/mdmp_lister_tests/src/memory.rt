@@ -1,7 +1,7 @@
 //! The memory that a lister takes.
 use crate::files::crowded;
 use crate::opening::{Outcome, all, chosen, open_and_close, run_over};
-use crate::same::assert_same;
+use crate::same::{assert_same, assert_same_at};
 use crate::script::LEAST;
 use linked_list_allocator::LocalHeap;
 use mdmp_lister::{Choice, Limits, Lister, OpenFault, StopAt};
@@ -108,15 +108,15 @@ fn want_of_memory_hands_the_source_back_until_there_is_enough(rt: HostRuntime) -
         if size < 240 {
             // The directory and the count are read before there is a map.
             let fetched = if size < 192 { 32 } else { 48 };
-            assert_eq!(rt; report.fetched, fetched, "at {size}");
+            assert_same_at(&rt, &size, report.fetched, fetched);
         }
         let outcome = if size < 240 {
             Outcome::Refused(OpenFault::Memory)
         } else {
             all(3, 2)
         };
-        assert_eq!(rt; report.outcome, outcome, "at {size}");
-        assert_eq!(rt; (report.ample, report.left), (None, 0), "at {size}");
+        assert_same_at(&rt, &size, report.outcome, outcome);
+        assert_same_at(&rt, &size, (report.ample, report.left), (None, 0));
     }
     Ok(())
 }
@@ -133,7 +133,7 @@ fn want_of_memory_hands_the_source_back(rt: HostRuntime) -> Result<(), Fail> {
         left: 0,
     };
     for size in [0, 48, 224] {
-        assert_eq!(rt; report_of(&rt, size, LIMITS, &file)?, expected, "at {size}");
+        assert_same_at(&rt, &size, report_of(&rt, size, LIMITS, &file)?, expected);
     }
     let report = report_of(&rt, 240, LIMITS, &file)?;
     assert_same(&rt, report.outcome, all(4, 0));

@@ -1,6 +1,6 @@
 //! Files that are cut at each of their bytes.
 use crate::opening::{Outcome, all, fault, run_over};
-use crate::same::assert_same;
+use crate::same::{assert_same, assert_same_at};
 use mdmp_lister::{Choice, FaultKind, Limits, OpenFault, RunFault};
 use mdmp_source::{MemoryStore, Source};
 use mdmp_test_support::SYSTEM;
@@ -40,7 +40,7 @@ fn assert_span(
     outcome: Outcome,
 ) -> Result<(), Fail> {
     for size in from..to.saturating_add(1) {
-        assert_eq!(rt; outcome_of(alloc, size)?, outcome, "of {size}");
+        assert_same_at(rt, &size, outcome_of(alloc, size)?, outcome);
     }
     Ok(())
 }

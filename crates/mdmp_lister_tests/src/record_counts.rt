@@ -1,6 +1,6 @@
 //! How many records a stream has, told before the first of them is given.
 use crate::opening::fault;
-use crate::same::assert_same;
+use crate::same::{assert_same, assert_same_at};
 use crate::script::LEAST;
 use crate::walking::{open_over, records_of, step_of};
 use mdmp_lister::{Choice, FaultKind, ListFault, Step, Walker};
@@ -83,7 +83,7 @@ fn records_of_each_kind_are_counted(rt: HostRuntime) -> Result<(), Fail> {
             again: Some(Ok(count)),
             read: Ok(count),
         };
-        assert_eq!(rt; told_of(&rt, &file)?, told, "type {stream_type}");
+        assert_same_at(&rt, &stream_type, told_of(&rt, &file)?, told);
     }
     Ok(())
 }

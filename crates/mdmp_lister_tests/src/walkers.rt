@@ -1,7 +1,7 @@
 //! A walker: the items that it gives, what it fetches and holds, and stores that fail.
 use crate::given::{range, spelled, stream, system, thread};
 use crate::opening::{chosen, fault};
-use crate::same::assert_same;
+use crate::same::{assert_same, assert_same_at};
 use crate::script::{Answer, Call, LEAST, NAMED, counts, ends, gives, seeks};
 use crate::walking::{counts_of, fetched_of, next_of, open, open_over, other_by, step_of};
 use linked_list_allocator::LocalHeap;
@@ -223,8 +223,8 @@ fn want_of_memory_hands_the_source_back(rt: HostRuntime) -> Result<(), Fail> {
         } else {
             (None, 32 + 48, 240)
         };
-        assert_eq!(rt; opened_in(&heap, &file, limits), expected, "at {size}");
-        assert_eq!(rt; heap.used(), 0, "at {size}");
+        assert_same_at(&rt, &size, opened_in(&heap, &file, limits), expected);
+        assert_same_at(&rt, &size, heap.used(), 0);
     }
     Ok(())
 }

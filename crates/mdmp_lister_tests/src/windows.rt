@@ -2,7 +2,7 @@
 //! the same items by any window.
 use crate::given::{Named, stream, unloaded};
 use crate::opening::fault;
-use crate::same::assert_same;
+use crate::same::{assert_same, assert_same_at};
 use crate::script::{LEAST, ends, gives, other_in_numbers, play};
 use mdmp_lister::{Choice, Counts, FaultKind, Limits, Lister, RunFault, StopAt};
 use mdmp_source::{MemoryStore, PatchyStore, Source, SourceFault, Store};
@@ -104,7 +104,7 @@ fn fill_that_fails_leaves_the_records_that_are_held(rt: HostRuntime) -> Result<(
         let ended = lister.list_into(&mut sink).err();
         let failed = FaultKind::Source(SourceFault::Failed { at });
         assert_same(&rt, ended, Some(RunFault::At(fault(None, failed, at, 0))));
-        assert_eq!(rt; sink.calls(), items, "at {fail_at}");
+        assert_same_at(&rt, &fail_at, sink.calls(), items);
     }
     Ok(())
 }
@@ -123,7 +123,7 @@ fn any_window_and_any_store_give_the_same_items(rt: HostRuntime) -> Result<(), F
             ];
             let store = PatchyStore::new(&file, &caps, None);
             let played = play(&rt, store, limits, Choice::All, &script)?;
-            assert_eq!(rt; played.other, None, "by {window}");
+            assert_same_at(&rt, &window, played.other, None);
         }
     }
     Ok(())

@@ -1,7 +1,7 @@
 //! `check` over files, stores and outputs, and with little memory.
 use crate::checks::{assert_checked, check_blocks, check_counted, check_store};
 use crate::runs::least;
-use crate::same::assert_same;
+use crate::same::{assert_same, assert_that};
 use linked_list_allocator::LocalHeap;
 use mdmp_source::{MemoryStore, PatchyStore, SourceFault};
 use mdmp_test_support::{
@@ -101,6 +101,6 @@ fn want_of_memory_is_told_before_any_verdict(rt: HostRuntime) -> Result<(), Fail
             assert_checked(&rt, blocks as u64, &checked, Err(ToolFault::Memory), "");
         }
     }
-    assert!(rt; enough);
+    assert_that(&rt, enough);
     Ok(())
 }

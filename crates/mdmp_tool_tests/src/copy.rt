@@ -1,7 +1,7 @@
 //! `copy` over files, stores and outputs, and with little memory.
 use crate::copies::{ALL, assert_wrote, copy_calls, copy_store};
 use crate::runs::least;
-use crate::same::{assert_same, assert_same_at};
+use crate::same::{assert_same, assert_same_at, assert_that};
 use crate::watched::Watched;
 use linked_list_allocator::LocalHeap;
 use mdmp_source::{MemoryStore, PatchyStore, Source, SourceFault};
@@ -18,10 +18,10 @@ fn types_are_copied_or_not(rt: HostRuntime) {
     for stream_type in [
         0, 3, 4, 5, 6, 7, 9, 10, 11, 14, 15, 16, 24, 65536, 0x43500001,
     ] {
-        assert!(rt; copied(stream_type), "of {stream_type}");
+        assert_same_at(&rt, &stream_type, copied(stream_type), true);
     }
     for stream_type in [1, 2, 8, 12, 13, 17, 23, 25, 0x8000, 65535] {
-        assert!(rt; !copied(stream_type), "of {stream_type}");
+        assert_same_at(&rt, &stream_type, copied(stream_type), false);
     }
 }
 
@@ -92,7 +92,7 @@ fn part_of_two_mebibytes_is_copied(rt: HostRuntime) -> Result<(), Fail> {
     };
     let wrote = copy_store(rt.alloc(), rt.alloc(), store, least(0)?, &[5], room)?;
     assert_same(&rt, wrote.answer, Ok(2_097_216));
-    assert!(rt; wrote.bytes == large);
+    assert_that(&rt, wrote.bytes == large);
     Ok(())
 }
 
@@ -142,8 +142,8 @@ fn type_that_is_not_copied_is_refused_before_a_store_is_read_that_is_dropped(
         reads: &reads,
     };
     let wrote = copy_store(rt.alloc(), rt.alloc(), store, least(0)?, &[3], ALL)?;
-    assert!(rt; wrote.answer.is_ok());
-    assert!(rt; reads.get() > 0);
+    assert_that(&rt, wrote.answer.is_ok());
+    assert_that(&rt, reads.get() > 0);
     Ok(())
 }
 
@@ -154,7 +154,7 @@ fn copy_source_succeeds(rt: HostRuntime) -> Result<(), Fail> {
     let (wrote, calls) = copy_calls(rt.alloc(), source, &[3, 6])?;
     let crash = file_of_numbers(rt.alloc(), 2, &CRASH)?;
     assert_wrote(&rt, 0, &wrote, Ok(292), &crash);
-    assert!(rt; calls > 0);
+    assert_that(&rt, calls > 0);
     Ok(())
 }
 
@@ -209,7 +209,7 @@ fn store_that_fails_leaves_a_first_part_of_the_copy(rt: HostRuntime) -> Result<(
                 // The macro, as the sum below needs what it tells.
                 assert_eq!(rt; failures, fail_at);
                 let first = crash.get(..wrote.bytes.len());
-                assert_eq!(rt; first, Some(wrote.bytes.as_slice()), "at {fail_at}");
+                assert_same_at(&rt, &fail_at, first, Some(wrote.bytes.as_slice()));
                 longest = wrote.bytes.len();
                 failures += 1;
             }
@@ -233,8 +233,8 @@ fn store_that_fails_before_the_view_is_opened_leaves_nothing(rt: HostRuntime) ->
             wrote.answer,
             Err(ToolFault::Source(SourceFault::Failed { .. }))
         );
-        assert!(rt; failed, "at {fail_at}");
-        assert!(rt; wrote.bytes.is_empty(), "at {fail_at}");
+        assert_same_at(&rt, &fail_at, failed, true);
+        assert_same_at(&rt, &fail_at, wrote.bytes.is_empty(), true);
     }
     Ok(())
 }
@@ -257,7 +257,7 @@ fn want_of_memory_is_told_before_anything_is_copied(rt: HostRuntime) -> Result<(
             assert_wrote(&rt, blocks as u64, &wrote, Err(ToolFault::Memory), b"");
         }
     }
-    assert!(rt; enough);
+    assert_that(&rt, enough);
     Ok(())
 }
 

@@ -1,6 +1,6 @@
 //! What is said of faults.
 use crate::runs::{bad_name, told};
-use crate::same::assert_same;
+use crate::same::{assert_same, assert_that};
 use mdmp_source::{PatchyOut, SourceFault};
 use mdmp_test_support::{BY_WHOLE, FAULTY_TOLD, Room, text_in};
 use mdmp_tool::{
@@ -15,12 +15,12 @@ use std::test::Fail;
 fn assert_told(rt: &impl Abort, alloc: Global, fault: &ToolFault, text: &str) -> Result<(), Fail> {
     let line = format!(in alloc; "mdmp: {text}\n")?;
     let (whole, is_whole) = told(alloc, fault, Room { all: 1000, call: 1 })?;
-    assert!(rt; is_whole);
+    assert_that(rt, is_whole);
     assert_same(rt, whole.as_str(), line.as_str());
     let (start, is_whole) = told(alloc, fault, Room { all: 9, call: 1000 })?;
-    assert!(rt; !is_whole);
+    assert_that(rt, !is_whole);
     assert_same(rt, start.len(), 9);
-    assert!(rt; line.as_str().starts_with(start.as_str()));
+    assert_that(rt, line.as_str().starts_with(start.as_str()));
     Ok(())
 }
 
@@ -28,7 +28,10 @@ fn assert_told(rt: &impl Abort, alloc: Global, fault: &ToolFault, text: &str) ->
 fn line_of_a_fault_is_one_write(rt: HostRuntime) -> Result<(), Fail> {
     // An output whose second write fails.
     let mut out = PatchyOut::with_room(rt.alloc(), 1000, 1000, Some(1))?;
-    assert!(rt; fault_line(&ToolFault::List(bad_name()), &mut out).is_ok());
+    assert_that(
+        &rt,
+        fault_line(&ToolFault::List(bad_name()), &mut out).is_ok(),
+    );
     assert_same(&rt, text_in(rt.alloc(), &out)?.as_str(), FAULTY_TOLD);
     Ok(())
 }
@@ -154,7 +157,7 @@ fn each_kind_of_fault_has_its_words(rt: HostRuntime) -> Result<(), Fail> {
         };
         assert_same(&rt, status(&ToolFault::List(fault)), 1);
         let (told_line, is_told) = told(rt.alloc(), &ToolFault::List(fault), BY_WHOLE)?;
-        assert!(rt; is_told);
+        assert_that(&rt, is_told);
         let line = format!(in rt.alloc();
             "mdmp: entry 3: {words}: offset 52 size 18446744073709551615\n"
         )?;

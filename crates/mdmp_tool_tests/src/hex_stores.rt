@@ -1,5 +1,6 @@
 //! `hex` over stores and outputs that fail, and with little memory.
 use crate::runs::{FOUR, assert_printed, assert_row, hex_store, least};
+use crate::same::assert_that;
 use linked_list_allocator::LocalHeap;
 use mdmp_source::{MemoryStore, PatchyStore, SourceFault};
 use mdmp_test_support::{BY_SEVEN, BY_WHOLE, Room, WIDE_TEXT, start_of, wide_file};
@@ -67,6 +68,6 @@ fn want_of_memory_is_told_before_anything_is_printed(rt: HostRuntime) -> Result<
         };
         assert_row(&rt, blocks as u64, &printed, fault, text);
     }
-    assert!(rt; enough);
+    assert_that(&rt, enough);
     Ok(())
 }

@@ -2,7 +2,7 @@
 use crate::runs::{
     assert_ends, assert_printed, bad_name, least, list, list_by_items, list_counted, list_store,
 };
-use crate::same::assert_same;
+use crate::same::{assert_same, assert_that};
 use linked_list_allocator::LocalHeap;
 use mdmp_source::MemoryStore;
 use mdmp_test_support::{
@@ -87,7 +87,7 @@ fn unused_entry_is_listed_unseen(rt: HostRuntime) -> Result<(), Fail> {
         let bytes = file_of_parts(rt.alloc(), &[&header_of(1, 32), &unused], 44)?;
         let listed = list(rt.alloc(), &bytes, 0)?;
         let start = "dump version 0x0000 streams 1 directory 32 ";
-        assert!(rt; listed.text.as_str().starts_with(start));
+        assert_that(&rt, listed.text.as_str().starts_with(start));
         assert_ends(&rt, &listed, None, line);
     }
     Ok(())

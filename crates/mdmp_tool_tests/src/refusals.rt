@@ -1,7 +1,7 @@
 //! Commands each of whose growths is refused.
 use crate::calls::{CommandCall, fault_of};
 use crate::runs::least;
-use crate::same::assert_same;
+use crate::same::{assert_same, assert_same_at, assert_that};
 use mdmp_source::MemoryStore;
 use mdmp_test_support::{
     CODEVIEW_RECORD, FOR_LONG_TEXT, HeapCounts, MeteredHeap, Refusal, SIX, empty_out,
@@ -53,7 +53,7 @@ fn growths_of(rt: &impl Abort, alloc: Global, file: &[u8], call: CommandCall) ->
         let taken = taken_without(alloc, growth, file, call)?;
         if taken.fault.is_none() {
             assert_same(rt, (taken.growths, taken.out), (growth, 0));
-            assert!(rt; taken.written > 0);
+            assert_that(rt, taken.written > 0);
             return Ok(growth);
         }
         let refused = CommandInHeap {
@@ -87,7 +87,7 @@ fn each_growth_may_be_refused(rt: HostRuntime) -> Result<(), Fail> {
         (CommandCall::CopySource, 5),
     ] {
         let growths = growths_of(&rt, rt.alloc(), &six, call)?;
-        assert_eq!(rt; growths, expected, "of {call:?}");
+        assert_same_at(&rt, &call, growths, expected);
     }
     Ok(())
 }
@@ -102,7 +102,7 @@ fn record_of_a_module_takes_no_memory(rt: HostRuntime) -> Result<(), Fail> {
         CommandCall::SymbolsByItems,
     ] {
         let growths = growths_of(&rt, rt.alloc(), &module, call)?;
-        assert_eq!(rt; growths, 3, "of {call:?}");
+        assert_same_at(&rt, &call, growths, 3);
     }
     Ok(())
 }

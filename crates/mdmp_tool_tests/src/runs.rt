@@ -64,11 +64,12 @@ pub fn assert_row(
 
 /// Asserts how a run ended, and with what its text ended.
 pub fn assert_ends(rt: &impl Abort, printed: &Printed, fault: Option<ToolFault>, line: &str) {
-    assert_eq!(rt; printed.fault, fault);
-    assert!(rt;
+    assert_same(rt, printed.fault, fault);
+    assert_same_at(
+        rt,
+        &printed.text,
         printed.text.as_str().ends_with(line),
-        "of {:?}",
-        printed.text
+        true,
     );
 }
 

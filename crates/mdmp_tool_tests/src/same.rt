@@ -1,5 +1,5 @@
-//! The comparisons of the tests. The text of `assert_eq!` is long for the prover in each function that has
-//! it, and a call is short; so it stands here, in functions without a contract.
+//! The comparisons of the tests. The text of `assert_eq!` and of `assert!` is long for the prover in each
+//! function that has it, and a call is short; so it stands here, in functions without a contract.
 use std::fmt::Debug;
 use std::process::Abort;
 
@@ -16,4 +16,9 @@ pub fn assert_same_at<T: PartialEq + Debug + Drop>(
     expected: T,
 ) {
     assert_eq!(rt; found, expected, "at {at:?}")
+}
+
+/// Asserts that this is so.
+pub fn assert_that(rt: &impl Abort, is_so: bool) {
+    assert!(rt; is_so)
 }

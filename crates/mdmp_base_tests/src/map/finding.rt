@@ -3,6 +3,7 @@ ghost use Rattle.std.specs.Prelude.{All};
 ghost use Rattle.mdmp_map.specs.Ranges.{IsPlaced};
 
 use super::{PlaceRow, place};
+use crate::same::{assert_same, assert_same_at};
 use mdmp_map::{Place, Range, Search, place_of};
 use std::process::Abort;
 
@@ -11,7 +12,7 @@ fn assert_places(rt: &impl Abort, ranges: &[Range], rows: &[PlaceRow])
     requires { All IsPlaced ranges.now }
 {
     for (address, expected) in rows {
-        assert_eq!(rt; place_of(ranges, *address), *expected, "at {address}");
+        assert_same_at(rt, &address, place_of(ranges, *address), *expected);
     }
 }
 
@@ -86,17 +87,18 @@ fn search_that_is_shown_ranges_finds_the_first(rt: HostRuntime) {
         offset: 44,
     };
     let mut search = Search::new(0x1004);
-    assert_eq!(rt; search.look(&high), None);
-    assert_eq!(rt;
+    assert_same(&rt, search.look(&high), None);
+    assert_same(
+        &rt,
         search.look(&low),
         Some(Place {
             offset: 48,
-            left: 12
-        })
+            left: 12,
+        }),
     );
     let mut search = Search::new(0xff8);
-    assert_eq!(rt; search.look(&high), None);
-    assert_eq!(rt; search.gap(), 0x1008);
-    assert_eq!(rt; search.look(&low), None);
-    assert_eq!(rt; search.gap(), 8);
+    assert_same(&rt, search.look(&high), None);
+    assert_same(&rt, search.gap(), 0x1008);
+    assert_same(&rt, search.look(&low), None);
+    assert_same(&rt, search.gap(), 8);
 }

@@ -1,6 +1,6 @@
 //! How far no range holds an address.
 use super::{assert_places, place, push_all, with_room};
-use crate::same::assert_same;
+use crate::same::{assert_same, assert_same_at};
 use mdmp_map::{AddressMap, Found};
 use std::alloc::Allocator;
 use std::process::Abort;
@@ -19,12 +19,12 @@ fn assert_gaps<A: Allocator>(
 ) {
     assert_same(rt, map.is_sorted(), is_sorted);
     for (address, expected) in rows {
-        assert_eq!(rt; map.gap(*address), *expected, "at {address}");
+        assert_same_at(rt, &address, map.gap(*address), *expected);
         let looked_up = match map.find(*address) {
             Some(place) => Found::Held(place),
             None => Found::Gap(*expected),
         };
-        assert_eq!(rt; map.look_up(*address), looked_up, "at {address}");
+        assert_same_at(rt, &address, map.look_up(*address), looked_up);
     }
 }
 

@@ -1,6 +1,6 @@
 //! Where addresses stand by a map, and its room.
 use super::{assert_places, place, push_all, with_room};
-use crate::same::assert_same;
+use crate::same::{assert_same, assert_that};
 use linked_list_allocator::LocalHeap;
 use mdmp_map::AddressMap;
 use std::alloc::Allocator;
@@ -81,8 +81,8 @@ fn ranges_need_no_order(rt: HostRuntime) -> Result<(), Fail> {
 fn want_of_memory_is_told(rt: HostRuntime) -> Result<(), Fail> {
     // Two ranges have 48 bytes.
     let small = LocalHeap::new(rt.alloc(), 32)?;
-    assert!(rt; is_refused(&small, 2));
-    assert!(rt; is_refused(&small, usize::MAX));
+    assert_that(&rt, is_refused(&small, 2));
+    assert_that(&rt, is_refused(&small, usize::MAX));
 
     let heap = LocalHeap::new(rt.alloc(), 48)?;
     let mut map = with_room(&heap, 2)?;

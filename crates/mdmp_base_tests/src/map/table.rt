@@ -3,6 +3,7 @@ ghost use Rattle.std.specs.Prelude.{◌≡◌, ◌<◌, All};
 ghost use Rattle.mdmp_map.specs.Ranges.{IsPlaced};
 
 use super::with_room;
+use crate::same::assert_same_at;
 use mdmp_map::{AddressMap, Place, Range, Steps, place_of};
 use std::alloc::{AllocError, Allocator, Global};
 use std::marker::Brand;
@@ -99,12 +100,13 @@ fn assert_agrees(rt: &impl Abort, alloc: Global, ranges: &[Range]) -> Result<(),
     requires { All IsPlaced ranges.now }
 {
     let map = map_of(rt, alloc, ranges)?;
-    assert_eq!(rt; map.is_sorted(), are_sorted(ranges), "{ranges:?}");
+    assert_same_at(rt, &ranges, map.is_sorted(), are_sorted(ranges));
     for address in 0..13 {
-        assert_eq!(rt;
+        assert_same_at(
+            rt,
+            &(address, ranges),
             found(&map, u64::from(address)),
             expected(ranges, address),
-            "at {address} of {ranges:?}"
         );
     }
     Ok(())

@@ -2,7 +2,7 @@
 ghost use Rattle.std.specs.Prelude.{◌<◌};
 
 use super::{assert_taken, assert_writes, patchy_out, write_whole};
-use crate::same::assert_same;
+use crate::same::{assert_same, assert_same_at};
 use mdmp_source::{BlockOut, Out, OutFailed, PatchyOut};
 use std::alloc::Global;
 use std::process::Abort;
@@ -21,7 +21,7 @@ fn blocks_of<O: Out + Drop>(alloc: Global, room: usize, inner: O) -> Option<Bloc
 /// Writes all of each piece.
 fn write_pieces<O: Out>(rt: &impl Abort, blocks: &mut BlockOut<O, Global>, pieces: &[&[u8]]) {
     for piece in pieces {
-        assert_eq!(rt; write_whole(blocks, *piece), Ok(()), "of {piece:?}");
+        assert_same_at(rt, &piece, write_whole(blocks, *piece), Ok(()));
     }
 }
 

@@ -1,11 +1,12 @@
 //! Tests of place.
+use crate::same::{assert_same_at, assert_that};
 use mdmp_source::{Extent, Location, inside};
 
 #[test]
 fn inside_does_not_wrap(rt: HostRuntime) {
-    assert!(rt; !inside(u64::MAX, 2, u64::MAX));
-    assert!(rt; inside(9, 0, 3));
-    assert!(rt; inside(4294967295, 1, 4294967296));
+    assert_that(&rt, !inside(u64::MAX, 2, u64::MAX));
+    assert_that(&rt, inside(9, 0, 3));
+    assert_that(&rt, inside(4294967295, 1, 4294967296));
 }
 
 #[test]
@@ -18,6 +19,6 @@ fn locations_have_one_class(rt: HostRuntime) {
     ];
     for (size, rva, file_size, class) in rows {
         let part = Location { size, rva };
-        assert_eq!(rt; part.classify(file_size), class, "of {part:?}");
+        assert_same_at(&rt, &part, part.classify(file_size), class);
     }
 }

@@ -1,5 +1,5 @@
 //! Stores, and fetches from them.
-use crate::same::assert_same;
+use crate::same::{assert_same, assert_same_at, assert_that};
 use mdmp_source::{
     FileStore, MemoryStore, PatchyStore, Source, SourceFault, Store, StoreFailed, Tally,
 };
@@ -86,7 +86,7 @@ fn tally_counts_answers(rt: HostRuntime) {
         (Ok(4), 8, 4, 7),
     ] {
         tally.count(&answer, at, len);
-        assert_eq!(rt; tally.place, place, "at {at}");
+        assert_same_at(&rt, &at, tally.place, place);
     }
     let counted = Tally {
         calls: 5,
@@ -118,6 +118,6 @@ fn file_store_open_succeeds(rt: HostRuntime) -> Result<(), Fail> {
     assert_same(&rt, source.size(), 6);
     assert_same(&rt, four_at_one(&rt, &mut source)?, *b"bcde");
     fs::remove_file(&rt, "six")?;
-    assert!(rt; FileStore::open(&rt, "six").is_err());
+    assert_that(&rt, FileStore::open(&rt, "six").is_err());
     Ok(())
 }

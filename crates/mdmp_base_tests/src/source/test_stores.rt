@@ -1,6 +1,6 @@
 //! Stores over files of the system, of which no contract knows size or bytes, and the store that
 //! changes while it is read.
-use crate::same::assert_same;
+use crate::same::{assert_same, assert_same_at};
 use mdmp_source::{FileStore, Store, StoreFailed, TwoFaces};
 use std::fs::File;
 use std::io::{Seek, SeekFrom, Write};
@@ -43,7 +43,7 @@ fn file_store_reads_a_file(rt: HostRuntime) -> Result<(), Fail> {
         (2, 4, *b"cdef"),
     ];
     for (at, count, bytes) in rows {
-        assert_eq!(rt; four_at(&mut store, at), Ok((count, bytes)), "at {at}");
+        assert_same_at(&rt, &at, four_at(&mut store, at), Ok((count, bytes)));
     }
     fs::remove_file(&rt, "six_bytes")?;
     Ok(())
@@ -62,7 +62,7 @@ fn file_store_reads_past_4_gib(rt: HostRuntime) -> Result<(), Fail> {
         (FOUR_GIB + 6, 0, [0; 4]),
     ];
     for (at, count, bytes) in rows {
-        assert_eq!(rt; four_at(&mut store, at), Ok((count, bytes)), "at {at}");
+        assert_same_at(&rt, &at, four_at(&mut store, at), Ok((count, bytes)));
     }
     fs::remove_file(&rt, "past_4_gib")?;
     Ok(())
@@ -90,7 +90,7 @@ fn two_faces_turns_at_its_read(rt: HostRuntime) {
         (6, 0, [0; 4]),
     ];
     for (at, count, bytes) in rows {
-        assert_eq!(rt; four_at(&mut store, at), Ok((count, bytes)), "at {at}");
+        assert_same_at(&rt, &at, four_at(&mut store, at), Ok((count, bytes)));
     }
     assert_same(&rt, store.reads(), 4);
 }

@@ -1,5 +1,5 @@
 //! Windows that slide over a stretch of a file.
-use crate::same::assert_same;
+use crate::same::{assert_same, assert_that};
 use linked_list_allocator::LocalHeap;
 use mdmp_source::{MemoryStore, PatchyStore, Source, SourceFault, Store, Window};
 use std::alloc::Allocator;
@@ -131,7 +131,7 @@ fn window_is_as_it_was_behind_a_fault(rt: HostRuntime) -> Result<(), Fail> {
 #[test]
 fn window_takes_memory_once(rt: HostRuntime) -> Result<(), Fail> {
     let heap = LocalHeap::new(rt.alloc(), 16)?;
-    assert!(rt; Window::with_room(&heap, 17).is_err());
+    assert_that(&rt, Window::with_room(&heap, 17).is_err());
     let mut source = byte_by_byte(None);
     let mut window = Window::with_room(&heap, 16)?;
     start(&rt, &mut window, 0, 6);

@@ -1,4 +1,5 @@
 //! What a module tells of its debug information.
+use crate::same::assert_same_at;
 use mdmp_wire::CodeView;
 use std::process::Abort;
 use uuid::Uuid;
@@ -64,10 +65,11 @@ fn symbol_file_is_named_up_to_its_zero_byte(rt: HostRuntime) {
             ended,
         };
         let rest = &SYMBOL_FILE[24..24 + fetched];
-        assert_eq!(rt;
+        assert_same_at(
+            &rt,
+            &fetched,
             read(&rt, &SYMBOL_FILE[..24], rest, 30),
             expected,
-            "at {fetched}"
         );
     }
 }
@@ -76,6 +78,7 @@ fn symbol_file_is_named_up_to_its_zero_byte(rt: HostRuntime) {
 fn short_codeview_is_told_by_its_size(rt: HostRuntime) {
     for size in [3, 23] {
         let expected = CodeViewTold::Short { size };
+        // By the macro, since the prover cannot hand on a `Uuid` to a call in a test that does not name it.
         assert_eq!(rt;
             read(&rt, &SYMBOL_FILE[..size as usize], b"", size),
             expected
@@ -91,5 +94,6 @@ fn other_codeview_is_told_by_its_signature(rt: HostRuntime) {
         signature: *b"NSDS",
         size: 30,
     };
+    // By the macro, as there.
     assert_eq!(rt; read(&rt, &bytes[..24], &bytes[24..], 30), expected);
 }

@@ -1,5 +1,5 @@
 //! Records of known bytes, read and written.
-use crate::same::assert_same;
+use crate::same::{assert_same, assert_same_at};
 use mdmp_wire::{ExceptionRecord, Record, get_at, put_at};
 use std::fmt::Debug;
 use std::process::Abort;
@@ -50,7 +50,7 @@ fn alignment_is_ignored_and_written_as_zero(rt: HostRuntime) {
     for i in 0..168 {
         let is_alignment = (4 <= i && i < 8) || (36 <= i && i < 40);
         let expected = if is_alignment { 0 } else { 0xff };
-        assert_eq!(rt; out[i], expected, "at {i}");
+        assert_same_at(&rt, &i, out[i], expected);
     }
 }
 

@@ -1,5 +1,5 @@
 //! Names, and the digits of printed numbers.
-use crate::same::assert_same;
+use crate::same::{assert_same, assert_same_at, assert_that};
 use linked_list_allocator::LocalHeap;
 use mdmp_source::{OutFailed, PatchyOut};
 use mdmp_wire::{Units, UnitsRef, hex_digits, text_survives_utf16};
@@ -45,7 +45,7 @@ fn assert_units(rt: &impl Abort, units: &UnitsRef<'_>, expected: &[u16]) {
     assert_same(rt, units.len(), expected.len());
     for (index, unit) in expected.iter().enumerate() {
         assert!(rt; index < units.len());
-        assert_eq!(rt; units.get(index), *unit, "at {index}");
+        assert_same_at(rt, &index, units.get(index), *unit);
     }
 }
 
@@ -134,14 +134,17 @@ fn units_of_bytes_succeed(rt: HostRuntime) -> Result<(), Fail> {
 fn units_are_compared_and_printed(rt: HostRuntime) -> Result<(), Fail> {
     let units = over(&rt, b"a\0\x5c\0");
     assert_same(&rt, units, over(&rt, b"a\0\x5c\0"));
-    assert_ne!(rt; units, over(&rt, b"a\0\x5c\x01"));
-    assert_ne!(rt; units, over(&rt, b"a\0"));
+    assert_that(&rt, units != over(&rt, b"a\0\x5c\x01"));
+    assert_that(&rt, units != over(&rt, b"a\0"));
     assert_same(
         &rt,
         owned(rt.alloc(), &units)?,
         from_text(rt.alloc(), "a\\")?,
     );
-    assert_ne!(rt; owned(rt.alloc(), &units)?, from_text(rt.alloc(), "b\\")?);
+    assert_that(
+        &rt,
+        owned(rt.alloc(), &units)? != from_text(rt.alloc(), "b\\")?,
+    );
     let text = format!(in rt.alloc(); "{units:?}")?;
     assert_same(&rt, text.as_str(), "\"a\\u005c\"");
     Ok(())
@@ -159,10 +162,10 @@ fn refused_memory_is_told(rt: HostRuntime) -> Result<(), Fail> {
     // The smallest heap has 16 bytes, so 9 units do not fit.
     let heap = LocalHeap::new(rt.alloc(), 0)?;
     let units = over(&rt, b"s\0y\0m\0b\0o\0l\0.\0d\0b\0");
-    assert!(rt; from_text(&heap, "symbol.db").is_err());
-    assert!(rt; from_bytes(&rt, &heap, &[0; 18]).is_err());
-    assert!(rt; owned(&heap, &units).is_err());
-    assert!(rt; text_of(&heap, &units).is_err());
+    assert_that(&rt, from_text(&heap, "symbol.db").is_err());
+    assert_that(&rt, from_bytes(&rt, &heap, &[0; 18]).is_err());
+    assert_that(&rt, owned(&heap, &units).is_err());
+    assert_that(&rt, text_of(&heap, &units).is_err());
     Ok(())
 }
 
@@ -171,7 +174,7 @@ fn refused_memory_for_the_text_is_told(rt: HostRuntime) -> Result<(), Fail> {
     // The units fit, and no text beside them.
     let heap = LocalHeap::new(rt.alloc(), 32)?;
     let units = over(&rt, b"s\0y\0m\0b\0o\0l\0.\0d\0b\0");
-    assert!(rt; owned(&heap, &units).is_ok());
-    assert!(rt; text_of(&heap, &units).is_err());
+    assert_that(&rt, owned(&heap, &units).is_ok());
+    assert_that(&rt, text_of(&heap, &units).is_err());
     Ok(())
 }

@@ -1,7 +1,7 @@
 //! A dump that is cut at each of its bytes.
 use super::built::read;
 use crate::files::NAMED;
-use crate::same::assert_same;
+use crate::same::{assert_same, assert_same_at};
 use mdmp_dump::{FileView, PartName, ReadFault};
 use mdmp_lister::{Choice, FaultKind, ListFault, OpenFault};
 use mdmp_source::{MemoryStore, Source};
@@ -54,11 +54,7 @@ fn assert_span(
     fault: Option<ReadFault>,
 ) -> Result<(), Fail> {
     for size in from..to.saturating_add(1) {
-        assert_eq!(rt;
-            refusals_of(alloc, file, size)?,
-            (fault, fault),
-            "of {size}"
-        );
+        assert_same_at(rt, &size, refusals_of(alloc, file, size)?, (fault, fault));
     }
     Ok(())
 }

@@ -1,7 +1,7 @@
 //! Files that give no dump.
 use super::built::read;
 use crate::files::{LEAST, named};
-use crate::same::assert_same;
+use crate::same::{assert_same, assert_same_at};
 use mdmp_dump::{PartName, ReadAnswered, ReadFault, read_dump, read_source};
 use mdmp_lister::{Choice, FaultKind, Limits, ListFault, OpenFault};
 use mdmp_source::{PatchyStore, Source, SourceFault};
@@ -151,7 +151,7 @@ fn store_that_fails_gives_no_dump(rt: HostRuntime) -> Result<(), Fail> {
     ] {
         let store = PatchyStore::new(&file, &[4096], Some(call));
         let read = read_dump(rt.alloc(), Source::new(store), LEAST, Choice::All, 14);
-        assert_eq!(rt; read.err().and_then(place_of), place, "at {call}");
+        assert_same_at(&rt, &call, read.err().and_then(place_of), place);
     }
     Ok(())
 }

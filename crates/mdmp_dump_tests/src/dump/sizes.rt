@@ -1,5 +1,5 @@
 //! Sizes over 0.
-use crate::same::assert_same;
+use crate::same::{assert_same, assert_that};
 use mdmp_dump::PositiveSize;
 use std::test::Fail;
 
@@ -22,7 +22,7 @@ fn size_of_zero_is_none(rt: HostRuntime) {
 #[test]
 fn sizes_are_compared_and_printed(rt: HostRuntime) -> Result<(), Fail> {
     assert_same(&rt, PositiveSize::new(7), PositiveSize::new(7));
-    assert_ne!(rt; PositiveSize::new(7), PositiveSize::new(8));
+    assert_that(&rt, PositiveSize::new(7) != PositiveSize::new(8));
     let text = format!(in rt.alloc(); "{:?}", PositiveSize::new(7))?;
     assert_same(&rt, text.as_str(), "Some(PositiveSize { size: 7 })");
     Ok(())

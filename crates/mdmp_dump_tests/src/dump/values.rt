@@ -1,6 +1,6 @@
 //! Dumps as values: built, looked at, compared and printed.
 use super::built::{bytes, one};
-use crate::same::assert_same;
+use crate::same::{assert_same, assert_that};
 use mdmp_dump::{Dump, Memory64Range, MemoryRange, Part, PositiveSize, Stream, Unloaded};
 use mdmp_wire::Units;
 use std::alloc::{AllocError, Allocator};
@@ -65,8 +65,8 @@ fn dump_is_built_and_looked_at(rt: HostRuntime) -> Result<(), Fail> {
     };
     let list = one(rt.alloc(), range)?;
     let dump = dump_of(rt.alloc(), Stream::Memory64(list))?;
-    assert!(rt; has_range(&dump, b"ABCD"));
-    assert!(rt; !has_range(&dump, b"ABCE"));
+    assert_that(&rt, has_range(&dump, b"ABCD"));
+    assert_that(&rt, !has_range(&dump, b"ABCE"));
     Ok(())
 }
 
@@ -74,7 +74,7 @@ fn dump_is_built_and_looked_at(rt: HostRuntime) -> Result<(), Fail> {
 fn names_are_compared(rt: HostRuntime) -> Result<(), Fail> {
     let dump = named(rt.alloc(), "a.dll")?;
     assert_same(&rt, &dump, &named(rt.alloc(), "a.dll")?);
-    assert_ne!(rt; dump, named(rt.alloc(), "b.dll")?);
+    assert_that(&rt, dump != named(rt.alloc(), "b.dll")?);
     Ok(())
 }
 
@@ -86,8 +86,8 @@ fn parts_are_compared(rt: HostRuntime) -> Result<(), Fail> {
     let size = PositiveSize::new(2).ok_or("a size over 0")?;
     let absent = ranged(rt.alloc(), Part::Absent(size))?;
     assert_same(&rt, &dump, &same);
-    assert_ne!(rt; dump, other);
-    assert_ne!(rt; dump, absent);
+    assert_that(&rt, dump != other);
+    assert_that(&rt, dump != absent);
     Ok(())
 }
 

@@ -4,7 +4,7 @@ ghost use Rattle.mdmp_dump.specs.Shape.{head_of, stream_at};
 
 use super::built::read;
 use crate::files::{LEAST, NAMED};
-use crate::same::assert_same;
+use crate::same::{assert_same, assert_same_at};
 use mdmp_dump::{DumpView, Fields, HeaderFields, Kind, PartSize, ViewFault};
 use mdmp_source::Location;
 use mdmp_test_support::{ABSENT_STACK, MEMORY64, SIX, file_of_numbers};
@@ -140,7 +140,7 @@ fn streams_are_told_by_their_kinds_and_sizes(rt: HostRuntime) -> Result<(), Fail
         (5, Kind::Raw(12), 4, 0),
     ] {
         let told = StreamTold { kind, body, parts };
-        assert_eq!(rt; told_of(&mut view, stream), Some(told), "{stream}");
+        assert_same_at(&rt, &stream, told_of(&mut view, stream), Some(told));
     }
     assert_same(&rt, told_of(&mut view, 6), None);
     Ok(())
@@ -256,9 +256,9 @@ fn parts_are_given_by_pieces(rt: HostRuntime) -> Result<(), Fail> {
         let mut buffer = [0; 8];
         let out = buffer.get_mut(..expected.len()).ok_or("room")?;
         let given = first_record(&mut view, stream, which, at, out).is_some();
-        assert!(rt; given, "{stream} {which} {at}");
+        assert_same_at(&rt, &(stream, which, at), given, true);
         let out = buffer.get(..expected.len());
-        assert_eq!(rt; out, Some(expected), "{stream} {which} {at}");
+        assert_same_at(&rt, &(stream, which, at), out, Some(expected));
     }
     Ok(())
 }

@@ -1,7 +1,7 @@
 //! The calls of a view over a store that gives one byte a call, each of whose calls fails in turn.
 use crate::dump::view::has_records;
 use crate::files::NAMED;
-use crate::same::assert_same;
+use crate::same::{assert_same, assert_same_at};
 use mdmp_dump::{DumpView, FileView, Kind, PartSize, ViewFault};
 use mdmp_lister::Choice;
 use mdmp_source::{PatchyStore, Source, SourceFault};
@@ -177,7 +177,7 @@ fn each_call_for_a_part_may_fail(rt: HostRuntime) -> Result<(), Fail> {
         let wanted = Wanted { stream, which, at };
         let calls = [begins, (4, place, ViewCall::Part)];
         let found = found_in(rt.alloc(), &crash, 276, &calls, wanted, bytes)?;
-        assert_eq!(rt; found, (None, BytesAsked::Given(bytes)), "of {wanted:?}");
+        assert_same_at(&rt, &wanted, found, (None, BytesAsked::Given(bytes)));
     }
     Ok(())
 }

@@ -1,6 +1,7 @@
 //! Files that change while a view of them is opened or written.
 use super::{ViewOutcome, Written, reads_to_open, reads_to_write, written_by_turns};
 use crate::files::NAMED;
+use crate::same::assert_same_at;
 use mdmp_test_support::{SIX, file_of_numbers};
 use std::alloc::Global;
 use std::process::Abort;
@@ -20,13 +21,14 @@ fn changed(alloc: Global, six: &[u8], at: usize, byte: u8) -> Result<Vec<u8, Glo
 fn assert_length(rt: &impl Abort, turn: u64, written: &Written) {
     let bytes = written.bytes.len() as u64;
     match written.outcome {
-        ViewOutcome::Refused(_) => assert_eq!(rt; bytes, 0, "at {turn}"),
-        ViewOutcome::Wrote(size) => assert_eq!(rt;
+        ViewOutcome::Refused(_) => assert_same_at(rt, &turn, bytes, 0),
+        ViewOutcome::Wrote(size) => assert_same_at(
+            rt,
+            &turn,
             (bytes, size),
             (written.told, written.told),
-            "at {turn}"
         ),
-        ViewOutcome::Stopped(_) => assert!(rt; bytes < written.told, "at {turn}"),
+        ViewOutcome::Stopped(_) => assert_same_at(rt, &turn, bytes < written.told, true),
     }
 }
 
@@ -77,7 +79,7 @@ fn list_that_changes_behind_the_opening_leaves_a_first_part(rt: HostRuntime) -> 
         for turn in opened..reads {
             let written = written_by_turns(rt.alloc(), &six, &other, turn, NAMED, 7)?;
             let first = six.get(..written.bytes.len());
-            assert_eq!(rt; first, Some(written.bytes.as_slice()), "{at} at {turn}");
+            assert_same_at(&rt, &(at, turn), first, Some(written.bytes.as_slice()));
             assert_length(&rt, turn, &written);
         }
     }

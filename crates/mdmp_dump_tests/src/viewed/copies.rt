@@ -3,7 +3,7 @@ use super::{ViewOutcome, choice_of, write_over};
 use crate::dump::built::read_chosen;
 use crate::dump::view::told_of;
 use crate::files::{NAMED, named};
-use crate::same::assert_same;
+use crate::same::{assert_same, assert_same_at};
 use crate::writer::{open_out, write_value};
 use mdmp_dump::{Dump, FileView, ReadFault};
 use mdmp_lister::Choice;
@@ -64,8 +64,8 @@ fn assert_same_bytes(
         let value = read_chosen(alloc, file, NAMED, choice, u64::MAX);
         let (outcome, bytes) = by_value(alloc, value, room)?;
         let written = write_over(alloc, MemoryStore::new(file), NAMED, types, room)?;
-        assert_eq!(rt; written.outcome, outcome, "{types:?} by {room}");
-        assert_eq!(rt; written.bytes, bytes, "{types:?} by {room}");
+        assert_same_at(rt, &(types, room), written.outcome, outcome);
+        assert_same_at(rt, &(types, room), written.bytes, bytes);
     }
     Ok(())
 }
@@ -225,7 +225,7 @@ fn streams_are_told_as_by_the_view_of_the_value(rt: HostRuntime) -> Result<(), F
     };
     for stream in [0, 1, 2, 3, 4, 5, 6, 2, 5, 0] {
         let told = told_of(&mut view, stream);
-        assert_eq!(rt; told, told_of(&mut value.view(), stream), "{stream}");
+        assert_same_at(&rt, &stream, told, told_of(&mut value.view(), stream));
     }
     Ok(())
 }

@@ -1,7 +1,7 @@
 //! The memory that a view takes as it is opened.
 use super::{choice_of, counts_of};
 use crate::dump::view::{first_or_fault, raw_bytes, told_of};
-use crate::same::assert_same;
+use crate::same::{assert_same, assert_same_at};
 use crate::writer::{open_out, write_view};
 use linked_list_allocator::LocalHeap;
 use mdmp_dump::{DumpView, FileView, ReadFault};
@@ -71,7 +71,7 @@ fn want_of_memory_is_told_at_each_growth(rt: HostRuntime) -> Result<(), Fail> {
                 held: 0,
                 used: 0,
             };
-            assert_eq!(rt; opened, expected, "at {size}");
+            assert_same_at(&rt, &size, opened, expected);
         } else {
             let expected = Opened {
                 fault: None,
@@ -79,9 +79,9 @@ fn want_of_memory_is_told_at_each_growth(rt: HostRuntime) -> Result<(), Fail> {
                 held: 176 + 24 * 6,
                 used: 80 + 176 + 32 + 48,
             };
-            assert_eq!(rt; opened, expected, "at {size}");
+            assert_same_at(&rt, &size, opened, expected);
         }
-        assert_eq!(rt; heap.used(), 0, "at {size}");
+        assert_same_at(&rt, &size, heap.used(), 0);
     }
     Ok(())
 }

@@ -2,7 +2,7 @@
 use super::{ViewOutcome, write_over};
 use crate::dump::built::read;
 use crate::files::named;
-use crate::same::assert_same;
+use crate::same::{assert_same, assert_same_at};
 use mdmp_dump::ReadFault;
 use mdmp_lister::{FaultKind, Limits, ListFault};
 use mdmp_source::MemoryStore;
@@ -90,7 +90,7 @@ fn bad_names_are_refused(rt: HostRuntime) -> Result<(), Fail> {
     ];
     for (name, expected) in rows {
         let (outcome, bytes) = outcome_of(&rt, name)?;
-        assert_eq!(rt; outcome, expected, "{name:?}");
+        assert_same_at(&rt, &name, outcome, expected);
         assert_same(&rt, bytes.len(), 0);
     }
     Ok(())
@@ -108,10 +108,11 @@ fn first_fault_of_a_name_is_that_of_the_value(rt: HostRuntime) -> Result<(), Fai
         let file = named(&rt, name)?;
         let value = read(rt.alloc(), &file, EIGHT, 0);
         let (outcome, _) = outcome_of(&rt, name)?;
-        assert_eq!(rt;
+        assert_same_at(
+            &rt,
+            &name,
             Some(outcome),
             value.err().map(|fault| ViewOutcome::Refused(fault)),
-            "{name:?}"
         );
     }
     Ok(())

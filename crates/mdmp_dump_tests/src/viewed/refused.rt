@@ -1,7 +1,7 @@
 //! Files that give no view, and the source that comes back.
 use crate::dump::built::read;
 use crate::files::{LEAST, named};
-use crate::same::assert_same;
+use crate::same::{assert_same, assert_same_at};
 use mdmp_dump::{FileView, PartName, ReadFault, ViewRefused};
 use mdmp_lister::{Choice, FaultKind, ListFault, OpenFault};
 use mdmp_source::{MemoryStore, PatchyStore, Source, SourceFault, Store};
@@ -153,8 +153,8 @@ fn store_that_fails_is_handed_back(rt: HostRuntime) -> Result<(), Fail> {
             None => ReadFault::Opening(OpenFault::Source(failed)),
             Some(entry) => listed(entry, None, FaultKind::Source(failed), place, 0),
         };
-        assert_eq!(rt; refusal.fault, fault, "at {call}");
-        assert_eq!(rt; refusal.again, None, "at {call}");
+        assert_same_at(&rt, &call, refusal.fault, fault);
+        assert_same_at(&rt, &call, refusal.again, None);
     }
     // No read of a part is made.
     let store = PatchyStore::new(&crash, &[4096], Some(4));

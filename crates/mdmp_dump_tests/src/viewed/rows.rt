@@ -1,7 +1,7 @@
 //! What is written through a view of small files, and what it holds, fetches and counts.
 use super::{ViewOutcome, reads_to_open, write_over, written_by_turns};
 use crate::files::{LEAST, NAMED};
-use crate::same::assert_same;
+use crate::same::{assert_same, assert_same_at};
 use mdmp_dump::{PartName, ReadFault, ViewFault};
 use mdmp_source::{MemoryStore, SourceFault};
 use mdmp_test_support::{
@@ -20,14 +20,15 @@ fn open_succeeds(rt: HostRuntime) -> Result<(), Fail> {
     assert_same(&rt, written.outcome, ViewOutcome::Wrote(372));
     assert_same(&rt, written.bytes.as_slice(), file.as_slice());
     let counts = written.counts;
-    assert!(rt; counts.held <= 168 + 24, "held {}", counts.held);
-    assert!(rt;
+    assert_same_at(&rt, &counts.held, counts.held <= 168 + 24, true);
+    assert_same_at(
+        &rt,
+        &counts.opened,
         counts.opened <= 32 + 12 + 328 + 12,
-        "opened {}",
-        counts.opened
+        true,
     );
-    assert!(rt; counts.fetched <= 1064, "fetched {}", counts.fetched);
-    assert!(rt; counts.passed <= 680, "passed {}", counts.passed);
+    assert_same_at(&rt, &counts.fetched, counts.fetched <= 1064, true);
+    assert_same_at(&rt, &counts.passed, counts.passed <= 680, true);
     assert_same(&rt, counts.asked, 0);
     Ok(())
 }
@@ -40,8 +41,8 @@ fn chosen_streams_are_written_from_the_room_of_the_directory(rt: HostRuntime) ->
     assert_same(&rt, written.outcome, ViewOutcome::Wrote(292));
     assert_same(&rt, written.bytes.as_slice(), crash.as_slice());
     let counts = written.counts;
-    assert!(rt; counts.held <= 312, "held {}", counts.held);
-    assert!(rt; counts.fetched <= 778, "fetched {}", counts.fetched);
+    assert_same_at(&rt, &counts.held, counts.held <= 312, true);
+    assert_same_at(&rt, &counts.fetched, counts.fetched <= 778, true);
     assert_same(&rt, counts.asked, 14);
     Ok(())
 }
@@ -55,9 +56,11 @@ fn what_is_fetched_is_that_of_the_opening_what_was_passed_and_asked(
         let written = write_over(rt.alloc(), MemoryStore::new(&six), NAMED, types, 7)?;
         let counts = written.counts;
         let paid = counts.opened.saturating_add(counts.passed);
-        assert!(rt;
+        assert_same_at(
+            &rt,
+            &counts,
             counts.fetched <= paid.saturating_add(counts.asked),
-            "{counts:?}"
+            true,
         );
     }
     Ok(())

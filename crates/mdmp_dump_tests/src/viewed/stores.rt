@@ -2,7 +2,7 @@
 use super::{ViewOutcome, write_over};
 use crate::dump::view::first_or_fault;
 use crate::files::{LEAST, NAMED};
-use crate::same::assert_same;
+use crate::same::{assert_same, assert_same_at};
 use crate::writer::write_view;
 use mdmp_dump::{DumpView, FileView, ReadFault, ViewFault};
 use mdmp_lister::{Choice, FaultKind, Limits, ListFault, OpenFault};
@@ -51,9 +51,9 @@ fn calls_that_fail(
             store_fault(written.outcome),
             Some(SourceFault::Failed { .. })
         );
-        assert!(rt; failed, "at {fail_at}");
+        assert_same_at(rt, &fail_at, failed, true);
         let first = expected.get(..written.bytes.len());
-        assert_eq!(rt; first, Some(written.bytes.as_slice()), "at {fail_at}");
+        assert_same_at(rt, &fail_at, first, Some(written.bytes.as_slice()));
     }
     Err(Fail::from("a call without a fault"))
 }
@@ -105,8 +105,8 @@ fn output_that_fails_has_what_it_took(rt: HostRuntime) -> Result<(), Fail> {
         for call in 0..444 {
             let (fault, bytes) = written_to(rt.alloc(), &six, call, room)?;
             let first = six.get(..call as usize);
-            assert_eq!(rt; fault, Some(WriteFault::Out), "at {call}");
-            assert_eq!(rt; Some(bytes.as_slice()), first, "at {call}");
+            assert_same_at(&rt, &call, fault, Some(WriteFault::Out));
+            assert_same_at(&rt, &call, Some(bytes.as_slice()), first);
         }
         let (fault, bytes) = written_to(rt.alloc(), &six, 444, room)?;
         assert_same(&rt, fault, None);

@@ -2,6 +2,7 @@
 use super::write_value;
 use crate::dump::built::read;
 use crate::files::LEAST;
+use crate::same::assert_same_at;
 use mdmp_dump::Dump;
 use mdmp_source::PatchyOut;
 use mdmp_test_support::{CRASH, file_of_numbers};
@@ -39,8 +40,8 @@ fn assert_refused(
         } = taking;
         let mut out = PatchyOut::with_room(alloc, all, cap, fail_at)?;
         let answer = write_value(dump, &mut out, room);
-        assert_eq!(rt; answer, Err(WriteFault::Out), "{taking:?} by {room}");
-        assert_eq!(rt; out.bytes(), first, "{taking:?} by {room}");
+        assert_same_at(rt, &(taking, room), answer, Err(WriteFault::Out));
+        assert_same_at(rt, &(taking, room), out.bytes(), first);
     }
     Ok(())
 }

@@ -8,7 +8,7 @@ ghost use Rattle.mdmp_dump_tests.specs.Sizes.{no_stray_parts};
 
 use super::{open_out, size_of, write_value, write_view};
 use crate::dump::built::{bytes, dump_of, of_one, two};
-use crate::same::assert_same;
+use crate::same::{assert_same, assert_same_at};
 use mdmp_dump::{DumpView, Fields, HeaderFields, Kind, Stream, ViewFault};
 use mdmp_source::SourceFault;
 use mdmp_writer::{LayoutFault, WriteFault, written_size};
@@ -126,11 +126,11 @@ fn raw_bytes_of_a_known_type_are_refused(rt: HostRuntime) -> Result<(), Fail> {
         let raw = Stream::Raw(stream_type, bytes(rt.alloc(), &[1])?);
         let dump = of_one(rt.alloc(), raw)?;
         let fault = LayoutFault::RawKnownType { stream: 0 };
-        assert_eq!(rt; size_of(&dump), Err(fault), "{stream_type}");
+        assert_same_at(&rt, &stream_type, size_of(&dump), Err(fault));
         let mut out = open_out(rt.alloc())?;
         let answer = write_value(&dump, &mut out, 1);
-        assert_eq!(rt; answer, Err(WriteFault::Layout(fault)), "{stream_type}");
-        assert_eq!(rt; out.bytes(), b"".as_slice(), "{stream_type}");
+        assert_same_at(&rt, &stream_type, answer, Err(WriteFault::Layout(fault)));
+        assert_same_at(&rt, &stream_type, out.bytes(), b"".as_slice());
     }
     Ok(())
 }
@@ -148,10 +148,10 @@ fn first_such_stream_is_told(rt: HostRuntime) -> Result<(), Fail> {
 fn streams_end_below_2_to_the_32(rt: HostRuntime) {
     let end: u64 = 1 << 32;
     for raw in [end - 88, end - 91, end, u64::MAX] {
-        assert_eq!(rt; size_by(10, raw, 0), Err(LayoutFault::TooLarge), "{raw}");
+        assert_same_at(&rt, &raw, size_by(10, raw, 0), Err(LayoutFault::TooLarge));
     }
     for raw in [end - 92, end - 95] {
-        assert_eq!(rt; size_by(10, raw, 0), Ok(end - 4), "{raw}");
+        assert_same_at(&rt, &raw, size_by(10, raw, 0), Ok(end - 4));
     }
     assert_same(&rt, size_by(10, end - 92, end), Ok(2 * end - 4));
 }
@@ -159,10 +159,10 @@ fn streams_end_below_2_to_the_32(rt: HostRuntime) {
 #[test]
 fn file_ends_below_2_to_the_64(rt: HostRuntime) {
     for far in [u64::MAX - 87, u64::MAX - 90, u64::MAX] {
-        assert_eq!(rt; size_by(10, 0, far), Err(LayoutFault::TooLarge), "{far}");
+        assert_same_at(&rt, &far, size_by(10, 0, far), Err(LayoutFault::TooLarge));
     }
     for far in [u64::MAX - 91, u64::MAX - 94] {
-        assert_eq!(rt; size_by(10, 0, far), Ok(u64::MAX - 3), "{far}");
+        assert_same_at(&rt, &far, size_by(10, 0, far), Ok(u64::MAX - 3));
     }
 }
 

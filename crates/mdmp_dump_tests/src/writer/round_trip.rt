@@ -1,7 +1,7 @@
 //! Dumps that are written into memory and read back.
 use crate::dump::built::{bytes, of_one, read};
 use crate::files::{LEAST, NAMED};
-use crate::same::assert_same;
+use crate::same::{assert_same, assert_that};
 use linked_list_allocator::LocalHeap;
 use mdmp_dump::{Dump, ReadFault, Stream};
 use mdmp_lister::Limits;
@@ -52,9 +52,9 @@ fn part_of_two_mebibytes_is_written_and_read_back(rt: HostRuntime) -> Result<(),
     let file = large_file(rt.alloc())?;
     let large = read(rt.alloc(), &file, LEAST, 2_097_152)?;
     let stored = stored(rt.alloc(), &large)?;
-    assert!(rt; stored.as_slice() == file.as_slice());
+    assert_that(&rt, stored.as_slice() == file.as_slice());
     let back = read_back(rt.alloc(), &large, LEAST, 2_097_152)?;
-    assert!(rt; back == large);
+    assert_that(&rt, back == large);
     Ok(())
 }
 

@@ -2,7 +2,7 @@
 use super::{assert_written, open_out, size_of, write_value};
 use crate::dump::built::{read, read_chosen};
 use crate::files::{LEAST, NAMED, chosen};
-use crate::same::assert_same;
+use crate::same::{assert_same, assert_same_at};
 use mdmp_source::PatchyOut;
 use mdmp_test_support::{CRASH, SIX, SYSTEM, file_of_numbers};
 use std::test::Fail;
@@ -33,8 +33,8 @@ fn any_buffer_writes_the_same_bytes(rt: HostRuntime) -> Result<(), Fail> {
     let system = read(rt.alloc(), &SYSTEM, NAMED, 0)?;
     for room in [1, 7, 4096] {
         let mut out = open_out(rt.alloc())?;
-        assert_eq!(rt; write_value(&system, &mut out, room), Ok(136), "by {room}");
-        assert_eq!(rt; out.bytes(), SYSTEM.as_slice(), "by {room}");
+        assert_same_at(&rt, &room, write_value(&system, &mut out, room), Ok(136));
+        assert_same_at(&rt, &room, out.bytes(), SYSTEM.as_slice());
     }
     Ok(())
 }

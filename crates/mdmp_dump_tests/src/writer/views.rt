@@ -6,7 +6,7 @@ ghost use Rattle.std.proofs.lemmas.Option.{none-some};
 use super::{open_out, write_view};
 use crate::dump::built::read;
 use crate::files::{LEAST, NAMED};
-use crate::same::assert_same;
+use crate::same::{assert_same, assert_same_at};
 use mdmp_dump::{Dump, DumpView, Fields, HeaderFields, Kind, ValueView, ViewFault};
 use mdmp_source::SourceFault;
 use mdmp_test_support::{MEMORY64, MODULE, OVERLAPPING, SIX, THRICE, file_of_numbers};
@@ -178,9 +178,9 @@ fn assert_first_parts(
             assert_same(rt, out.bytes(), file);
             return Ok(());
         }
-        assert_eq!(rt; answer, Err(WriteFault::View(FAULT)), "at {fail_at}");
+        assert_same_at(rt, &fail_at, answer, Err(WriteFault::View(FAULT)));
         let first = file.get(..out.bytes().len());
-        assert_eq!(rt; first, Some(out.bytes()), "at {fail_at}");
+        assert_same_at(rt, &fail_at, first, Some(out.bytes()));
     }
     Err(Fail::from("a call without a fault"))
 }
@@ -281,7 +281,7 @@ fn streams_are_begun_twice_at_most(rt: HostRuntime) -> Result<(), Fail> {
         let file = file_of_numbers(rt.alloc(), streams, numbers)?;
         let dump = read(rt.alloc(), &file, NAMED, 18)?;
         let view = written_view(rt.alloc(), &dump)?;
-        assert_eq!(rt; view.begun.counts, begun, "{what}");
+        assert_same_at(&rt, &what, view.begun.counts, begun);
     }
     Ok(())
 }
@@ -318,8 +318,8 @@ fn sizes_are_asked_once_a_pass(rt: HostRuntime) -> Result<(), Fail> {
         let file = file_of_numbers(rt.alloc(), streams, numbers)?;
         let dump = read(rt.alloc(), &file, NAMED, 18)?;
         let view = written_view(rt.alloc(), &dump)?;
-        assert_eq!(rt; view.bodies.counts, asked, "{what}");
-        assert_eq!(rt; view.parts.counts, asked, "{what}");
+        assert_same_at(&rt, &what, view.bodies.counts, asked);
+        assert_same_at(&rt, &what, view.parts.counts, asked);
     }
     Ok(())
 }

@@ -328,7 +328,12 @@ fn help_and_the_version_are_told(rt: HostRuntime) -> Result<(), Fail> {
     for (words, line) in rows {
         assert_same_at(&rt, &words, asked_by(rt.alloc(), words)?.as_str(), "help");
         let text = told_by(rt.alloc(), words)?;
-        assert!(rt; text.as_str().contains(line), "at {words:?}: {text}");
+        assert_same_at(
+            &rt,
+            &(words, text.as_str()),
+            text.as_str().contains(line),
+            true,
+        );
     }
     // What is said where there are no words is the help of the program too.
     let all = told_by(rt.alloc(), &["--help"])?;
@@ -355,13 +360,17 @@ fn help_tells_the_limits(rt: HostRuntime) -> Result<(), Fail> {
     for command in ["check", "list", "hex", "copy"] {
         let words = [command, "--help"];
         let text = told_by(rt.alloc(), &words)?;
-        assert!(rt;
+        assert_same_at(
+            &rt,
+            &(command, text.as_str()),
             text.as_str().contains(window.as_str()),
-            "at {command}: {text}"
+            true,
         );
-        assert!(rt;
+        assert_same_at(
+            &rt,
+            &(command, text.as_str()),
             text.as_str().contains(name.as_str()),
-            "at {command}: {text}"
+            true,
         );
     }
     Ok(())
