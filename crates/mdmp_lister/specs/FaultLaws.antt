@@ -1,10 +1,9 @@
 -- Which faults a listing may tell of a file, by its size alone.
-use Rattle.std.proofs.Common.{◌≡◌, ◌<◌, ℕ, zero, suc, List, Option, Some, None, Result, Ok, Err, arith, refl, subst, sym}
+use Rattle.std.proofs.Common.{◌≡◌, ℕ, zero, suc, List, Option, Some, None, Result, Ok, Err, arith, refl, subst, sym}
 use Rattle.mdmp_wire.specs.declared.entry.Entry.{Entry}
 use Rattle.mdmp_lister.specs.declared.choice.Choice.{Choice}
 use Rattle.mdmp_lister.specs.declared.fault.Fault.{Fault}
 use Rattle.mdmp_lister.specs.declared.fault.ListFault.{ListFault}
-use Rattle.mdmp_lister.specs.declared.item.Item.{Item}
 use Rattle.mdmp_lister.specs.declared.step.Step.{Step}
 use Rattle.mdmp_lister.specs.Fault.{IsListFaultOf}
 use Rattle.mdmp_lister.specs.Following.{Cursor, FitsFile, Follows, GoesOn, IsEntryFault, MeetsFault, MeetsRecordFault, Standing}
