@@ -2,21 +2,22 @@
 ghost use Rattle.std.specs.Prelude.{◌≡◌, ◌≤◌, ◌<◌, ◌+◌, ◌*◌, length};
 ghost use Rattle.mdmp_map.specs.Ranges.{AreSorted};
 
+use crate::files::file_of;
 use crate::given::{range, stream};
-use crate::same::{assert_same, assert_same_at, assert_that};
+use crate::opening::{close, counts_of, fetched_by, list_all, opened};
+use crate::same::{assert_same, assert_same_at};
 use crate::script::{
-    Call, LEAST, Played, ends, gives, has_room, other_in_bytes, other_in_numbers, play, read_fails,
-    reads, runs,
+    LEAST, STANDARD, assert_plays, assert_plays_numbers, assert_plays_patchy, ends, gives,
+    has_room, read_fails, reads, runs,
 };
-use mdmp_lister::{Choice, Limits, Lister, StopAt};
+use mdmp_lister::{Choice, Lister};
 use mdmp_map::Steps;
-use mdmp_source::{Extent, MemoryStore, PatchyStore, Source, SourceFault, Store};
-use mdmp_test_support::{MEMORY64, OVERLAPPING, file_of_numbers};
+use mdmp_source::{Extent, MemoryStore, SourceFault, Store};
+use mdmp_test_support::{MEMORY64, OVERLAPPING};
 use std::alloc::Global;
 use std::marker::Brand;
 use std::process::Abort;
 use std::sync::ledger::{Blank, Ledger};
-use std::test::Fail;
 
 /// Three sorted ranges, of which the second begins where the first one ends: ABCD, EFGH, IJ.
 const TOUCHING: [u32; 19] = [
@@ -25,8 +26,13 @@ const TOUCHING: [u32; 19] = [
     0x44434241, 0x48474645, 0x4a49,
 ];
 
+/// The ranges of `OVERLAPPING`, exchanged.
+const EXCHANGED: [u32; 14] = [
+    5, 36, 44, 2, 0x1002, 0, 4, 84, 0x1000, 0, 4, 80, 0x44434241, 0x7a797877,
+];
+
 #[test]
-fn nothing_is_known_before_a_range_is_given(rt: HostRuntime) -> Result<(), Fail> {
+fn nothing_is_known_before_a_range_is_given(rt: HostRuntime) {
     let script = [
         reads(0x1000, [0; 2], [false; 2]),
         gives(stream(0, 5, 36, 44)),
@@ -37,47 +43,38 @@ fn nothing_is_known_before_a_range_is_given(rt: HostRuntime) -> Result<(), Fail>
         reads(0x1003, *b"Dy", [true; 2]),
         reads(0x1003, [], []),
     ];
-    let other = other_in_numbers(&rt, LEAST, 1, &OVERLAPPING, &script)?;
-    assert_same(&rt, other, None);
-    Ok(())
+    assert_plays_numbers(&rt, rt.alloc(), LEAST, 1, &OVERLAPPING, &script);
 }
 
 #[test]
-fn range_that_was_given_first_decides(rt: HostRuntime) -> Result<(), Fail> {
-    // The descriptors as they stand, and exchanged.
-    let mut exchanged = OVERLAPPING;
-    exchanged[4..12].copy_from_slice(&[0x1002, 0, 4, 84, 0x1000, 0, 4, 80]);
+fn range_that_was_given_first_decides(rt: HostRuntime) {
     let known = [false, true, true, true, true, true, true, false];
-    for (numbers, bytes) in [(OVERLAPPING, *b"\0ABCDyz\0"), (exchanged, *b"\0ABwxyz\0")] {
-        let script = [runs(u64::MAX, None, 3), reads(0xfff, bytes, known)];
-        let other = other_in_numbers(&rt, LEAST, 1, &numbers, &script)?;
-        assert_same(&rt, other, None);
-    }
-    Ok(())
+    let given = runs(u64::MAX, None, 3);
+    let first = [given, reads(0xfff, *b"\0ABCDyz\0", known)];
+    assert_plays_numbers(&rt, rt.alloc(), LEAST, 1, &OVERLAPPING, &first);
+    let second = [given, reads(0xfff, *b"\0ABwxyz\0", known)];
+    assert_plays_numbers(&rt, rt.alloc(), LEAST, 1, &EXCHANGED, &second);
 }
 
 #[test]
-fn range_outside_the_file_is_not_known(rt: HostRuntime) -> Result<(), Fail> {
+fn range_outside_the_file_is_not_known(rt: HostRuntime) {
     // The file has two bytes where the second range should stand.
     let script = [
         runs(u64::MAX, None, 3),
         reads(0x1000, *b"ABCD", [true; 4]),
         reads(0x2000, [0; 2], [false; 2]),
     ];
-    let other = other_in_bytes(&rt, LEAST, &MEMORY64, &script)?;
-    assert_same(&rt, other, None);
-    Ok(())
+    assert_plays(&rt, rt.alloc(), LEAST, &MEMORY64, &script);
 }
 
 #[test]
-fn addresses_do_not_wrap(rt: HostRuntime) -> Result<(), Fail> {
+fn addresses_do_not_wrap(rt: HostRuntime) {
     // A range of 16 bytes, of which eight have an address.
     let numbers = [
         5, 20, 44, 1, 0xfffffff8, 0xffffffff, 16, 64, // and then ABCDEFGHIJKLMNOP
         0x44434241, 0x48474645, 0x4c4b4a49, 0x504f4e4d,
     ];
-    let mut known = [true; 9];
-    known[8] = false;
+    let known = [true, true, true, true, true, true, true, true, false];
     let script = [
         runs(u64::MAX, None, 2),
         has_room(1, 0),
@@ -85,38 +82,33 @@ fn addresses_do_not_wrap(rt: HostRuntime) -> Result<(), Fail> {
         reads(u64::MAX, *b"H\0", [true, false]),
         reads(0, [0; 8], [false; 8]),
     ];
-    let other = other_in_numbers(&rt, LEAST, 1, &numbers, &script)?;
-    assert_same(&rt, other, None);
-    Ok(())
+    assert_plays_numbers(&rt, rt.alloc(), LEAST, 1, &numbers, &script);
 }
 
-/// Plays a script over a store of these ranges whose one call fails, and whose calls 4 to 7 give one
-/// byte each.
-fn played(rt: &HostRuntime, fail_at: u64, script: &[Call]) -> Result<Played, Fail> {
-    let file = file_of_numbers(rt.alloc(), 1, &OVERLAPPING)?;
+/// Asserts what a lister of these ranges answers where a call of their store fails, while it reads four
+/// bytes of the first: the calls from the fourth on give one byte each.
+fn assert_read_fails(rt: &impl Abort, alloc: Global, fail_at: u64, at: u64) {
+    let script = [
+        gives(stream(0, 5, 36, 44)),
+        gives(range(0, 0x1000, 4, Extent::Inside, 80)),
+        read_fails(0x1000, 4, SourceFault::Failed { at }),
+        has_room(1, 1),
+        gives(range(1, 0x1002, 4, Extent::Inside, 84)),
+        reads(0x1002, *b"CDyz", [true; 4]),
+        ends(),
+        has_room(2, 0),
+    ];
+    let file = file_of(rt, alloc, 1, &OVERLAPPING);
     let caps = [4096, 4096, 4096, 4096, 1, 1, 1, 1];
-    let store = PatchyStore::new(&file, &caps, Some(fail_at));
-    play(rt, store, LEAST, Choice::All, script)
+    assert_plays_patchy(rt, alloc, LEAST, &file, &caps, Some(fail_at), &script);
 }
 
 #[test]
-fn store_fault_of_a_read_changes_no_item(rt: HostRuntime) -> Result<(), Fail> {
+fn store_fault_of_a_read_changes_no_item(rt: HostRuntime) {
     // Header, entry and count are read by calls 0 to 2, and the stream by call 3.
-    for (fail_at, at) in [(4, 80), (5, 81), (7, 83)] {
-        let script = [
-            gives(stream(0, 5, 36, 44)),
-            gives(range(0, 0x1000, 4, Extent::Inside, 80)),
-            read_fails(0x1000, 4, SourceFault::Failed { at }),
-            has_room(1, 1),
-            gives(range(1, 0x1002, 4, Extent::Inside, 84)),
-            reads(0x1002, *b"CDyz", [true; 4]),
-            ends(),
-            has_room(2, 0),
-        ];
-        let played = played(&rt, fail_at, &script)?;
-        assert_same(&rt, played.other, None);
-    }
-    Ok(())
+    assert_read_fails(&rt, rt.alloc(), 4, 80);
+    assert_read_fails(&rt, rt.alloc(), 5, 81);
+    assert_read_fails(&rt, rt.alloc(), 7, 83);
 }
 
 /// Memory that was read once all items were given, which of its bytes are known, and by how many
@@ -124,63 +116,68 @@ fn store_fault_of_a_read_changes_no_item(rt: HostRuntime) -> Result<(), Fail> {
 type Read<const N: usize> = ([u8; N], [bool; N], u128);
 
 /// A lister that has given all items of a file.
-fn listed<'a>(rt: &HostRuntime, file: &'a [u8]) -> Result<Lister<MemoryStore<'a>, Global>, Fail> {
-    let source = Source::new(MemoryStore::new(file));
-    let opened = Lister::open(rt.alloc(), source, Limits::default(), Choice::All);
-    let mut lister = opened.map_err(|_| "open")?;
-    let _ = lister.list_into(&mut StopAt::new(u64::MAX));
-    Ok(lister)
+fn listed<'a>(rt: &impl Abort, alloc: Global, file: &'a [u8]) -> Lister<MemoryStore<'a>, Global> {
+    let mut lister = opened(rt, alloc, MemoryStore::new(file), STANDARD, Choice::All);
+    let _ = list_all(&mut lister);
+    lister
+}
+
+/// Reads memory at an address.
+fn bytes_at<S: Store + Drop, const N: usize>(
+    rt: &impl Abort,
+    lister: &mut Lister<S, Global>,
+    address: u64,
+) -> ([u8; N], [bool; N]) {
+    let mut out = [0xee; N];
+    let mut known = [address % 2 == 0; N];
+    let read = lister.read_address(address, &mut out, &mut known);
+    read.expect(rt, "memory that is read");
+    (out, known)
 }
 
 /// Reads memory at an address of a file.
-fn read<const N: usize>(rt: &HostRuntime, file: &[u8], address: u64) -> Result<Read<N>, Fail> {
-    let mut lister = listed(rt, file)?;
-    let before = lister.counts().calls;
-    let mut out = [0xee; N];
-    let mut known = [address % 2 == 0; N];
-    lister
-        .read_address(address, &mut out, &mut known)
-        .map_err(|_| "read")?;
-    let fetches = lister.into_source().calls().saturating_sub(before);
-    Ok((out, known, fetches))
+fn read<const N: usize>(rt: &impl Abort, alloc: Global, file: &[u8], address: u64) -> Read<N> {
+    let mut lister = listed(rt, alloc, file);
+    let before = counts_of(&lister).calls;
+    let (out, known) = bytes_at(rt, &mut lister, address);
+    let (_, calls) = fetched_by(lister);
+    (out, known, calls.saturating_sub(before))
+}
+
+/// Asserts what is read of memory at an address of a file with one entry and these numbers.
+fn assert_read<const N: usize>(
+    rt: &impl Abort,
+    alloc: Global,
+    numbers: &[u32],
+    address: u64,
+    expected: Read<N>,
+) {
+    let file = file_of(rt, alloc, 1, numbers);
+    assert_same_at(rt, &address, read(rt, alloc, &file, address), expected);
 }
 
 #[test]
-fn each_stretch_of_bytes_is_one_fetch(rt: HostRuntime) -> Result<(), Fail> {
-    let file = file_of_numbers(rt.alloc(), 1, &OVERLAPPING)?;
+fn each_stretch_of_bytes_is_one_fetch(rt: HostRuntime) {
     let known = [false, true, true, true, true, true, true, false];
-    assert_same(&rt, read(&rt, &file, 0xfff)?, (*b"\0ABCDyz\0", known, 2));
-    assert_same(&rt, read(&rt, &file, 0x1002)?, (*b"CDyz", [true; 4], 2));
-    assert_same(
-        &rt,
-        read(&rt, &file, 0x1004)?,
-        (*b"yz\0", [true, true, false], 1),
-    );
-    Ok(())
+    let around = (*b"\0ABCDyz\0", known, 2);
+    assert_read(&rt, rt.alloc(), &OVERLAPPING, 0xfff, around);
+    let both = (*b"CDyz", [true; 4], 2);
+    assert_read(&rt, rt.alloc(), &OVERLAPPING, 0x1002, both);
+    let second = (*b"yz\0", [true, true, false], 1);
+    assert_read(&rt, rt.alloc(), &OVERLAPPING, 0x1004, second);
 }
 
 #[test]
-fn touching_ranges_are_a_fetch_each_and_a_gap_is_none(rt: HostRuntime) -> Result<(), Fail> {
-    let file = file_of_numbers(rt.alloc(), 1, &TOUCHING)?;
+fn touching_ranges_are_a_fetch_each_and_a_gap_is_none(rt: HostRuntime) {
     let known = [
         false, true, true, true, true, true, true, true, true, false, false, false, false, true,
         true, false,
     ];
-    assert_same(
-        &rt,
-        read(&rt, &file, 0xfff)?,
-        (*b"\0ABCDEFGH\0\0\0\0IJ\0", known, 3),
-    );
-    assert_same(
-        &rt,
-        read(&rt, &file, 0x1006)?,
-        (
-            *b"GH\0\0\0\0I",
-            [true, true, false, false, false, false, true],
-            2,
-        ),
-    );
-    Ok(())
+    let all = (*b"\0ABCDEFGH\0\0\0\0IJ\0", known, 3);
+    assert_read(&rt, rt.alloc(), &TOUCHING, 0xfff, all);
+    let known = [true, true, false, false, false, false, true];
+    let two = (*b"GH\0\0\0\0I", known, 2);
+    assert_read(&rt, rt.alloc(), &TOUCHING, 0x1006, two);
 }
 
 /// Reads memory by three sorted ranges, at most two of which are looked at for each byte.
@@ -231,40 +228,44 @@ fn read_counted<S: Store + Drop, const N: usize>(
     Ok((out, known))
 }
 
+/// Asserts what is read so of the ranges of `TOUCHING`: four bytes at each address.
+fn assert_read_counted(rt: &impl Abort, alloc: Global, rows: &[(u64, [u8; 4], [bool; 4])]) {
+    let file = file_of(rt, alloc, 1, &TOUCHING);
+    let mut lister = listed(rt, alloc, &file);
+    for (address, bytes, known) in rows {
+        let found = read_counted(rt, &mut lister, *address);
+        assert_same_at(rt, address, found, Ok((*bytes, *known)));
+    }
+    close(lister);
+}
+
 #[test]
-fn counted_read_is_the_same(rt: HostRuntime) -> Result<(), Fail> {
-    let file = file_of_numbers(rt.alloc(), 1, &TOUCHING)?;
-    let mut lister = listed(&rt, &file)?;
+fn counted_read_is_the_same(rt: HostRuntime) {
     let rows = [
-        (0xfff, (*b"\0ABC", [false, true, true, true])),
-        (0x1003, (*b"DEFG", [true; 4])),
-        (0x100b, (*b"\0IJ\0", [false, true, true, false])),
+        (0xfff, *b"\0ABC", [false, true, true, true]),
+        (0x1003, *b"DEFG", [true; 4]),
+        (0x100b, *b"\0IJ\0", [false, true, true, false]),
     ];
-    for (address, expected) in rows {
-        assert_same(&rt, read_counted(&rt, &mut lister, address), Ok(expected));
-    }
-    Ok(())
+    assert_read_counted(&rt, rt.alloc(), &rows);
 }
 
 #[test]
-fn what_no_range_holds_is_not_fetched(rt: HostRuntime) -> Result<(), Fail> {
-    let file = file_of_numbers(rt.alloc(), 1, &OVERLAPPING)?;
+fn what_no_range_holds_is_not_fetched(rt: HostRuntime) {
     for address in [0, 0xff0, 0x1006, u64::MAX - 2, u64::MAX] {
-        let expected = ([0; 16], [false; 16], 0);
-        assert_same_at(&rt, &address, read(&rt, &file, address)?, expected);
+        let nothing = ([0; 16], [false; 16], 0);
+        assert_read(&rt, rt.alloc(), &OVERLAPPING, address, nothing);
     }
-    Ok(())
+}
+
+/// Reads all memory of a range of 4096 bytes that are `m`.
+fn read_long_range(rt: &impl Abort, alloc: Global) -> Read<4096> {
+    let mut file = file_of(rt, alloc, 1, &[5, 20, 44, 1, 0x1000, 0, 4096, 64]);
+    file.resize(64 + 4096, b'm').expect(rt, "memory");
+    read(rt, alloc, &file, 0x1000)
 }
 
 #[test]
-fn long_range_is_one_fetch(rt: HostRuntime) -> Result<(), Fail> {
-    let mut file = file_of_numbers(rt.alloc(), 1, &[5, 20, 44, 1, 0x1000, 0, 4096, 64])?;
-    for _ in 0..1024 {
-        file.extend_from_slice(b"mmmm")?;
-    }
-    let (bytes, known, fetches) = read::<4096>(&rt, &file, 0x1000)?;
-    assert_same(&rt, fetches, 1);
-    assert_that(&rt, known == [true; 4096]);
-    assert_that(&rt, bytes == [b'm'; 4096]);
-    Ok(())
+fn long_range_is_one_fetch(rt: HostRuntime) {
+    let whole = ([b'm'; 4096], [true; 4096], 1);
+    assert_same(&rt, read_long_range(&rt, rt.alloc()), whole);
 }

@@ -1,192 +1,220 @@
 //! What a lister holds and fetches, beside its bounds.
+use crate::files::{FOUR, file_of, padded, repeated};
+use crate::opening::{counts_of, fetched_by, list_all, opened, patchy};
 use crate::same::{assert_same, assert_same_at};
-use crate::script::{LEAST, NAMED};
+use crate::script::{LEAST, NAMED, SHORT_NAMES, STANDARD, WHOLE_BLOCKS};
 use linked_list_allocator::LocalHeap;
-use mdmp_lister::{Choice, Counts, Limits, Lister, StopAt};
-use mdmp_source::{MemoryStore, PatchyStore, Source, Store};
-use mdmp_test_support::{MEMORY64, SYSTEM, THREAD_NAME, THRICE, file_of_numbers};
+use mdmp_lister::{Choice, Counts, Limits, Lister};
+use mdmp_source::{MemoryStore, Source, Store};
+use mdmp_test_support::{MEMORY64, SYSTEM, THREAD_NAME, THRICE};
 use std::alloc::{Allocator, Global};
-use std::test::Fail;
+use std::process::Abort;
 
 /// No entries, in a directory that stands nowhere.
 const EMPTY: [u8; 32] =
     *b"MDMP\x93\xa7\0\0\0\0\0\0\xff\xff\xff\xff\0\0\0\0\0\0\0\0\0\0\0\0\0\0\0\0";
 
-/// How many bytes and calls a source counts.
-#[derive(Clone, Copy, Debug, PartialEq, Eq)]
-struct Fetched {
-    bytes: u128,
-    calls: u128,
+/// Reads four bytes of memory.
+fn read_four<S: Store + Drop, A: Allocator + Copy>(lister: &mut Lister<S, A>) {
+    let _ = lister.read_address(0x1000, &mut [0; 4], &mut [false; 4]);
 }
 
-/// What a lister counts behind all its items and four bytes of memory, and what its source does.
+/// What a lister counts behind all its items and four bytes of memory, and how many bytes and calls its source
+/// does.
 fn counted<S: Store + Drop, A: Allocator + Copy>(
     alloc: A,
     store: S,
     limits: Limits,
-) -> Option<(Counts, Fetched)> {
-    let mut lister = Lister::open(alloc, Source::new(store), limits, Choice::All).ok()?;
-    let _ = lister.list_into(&mut StopAt::new(u64::MAX));
-    let _ = lister.read_address(0x1000, &mut [0; 4], &mut [false; 4]);
-    let counts = lister.counts();
-    let source = lister.into_source();
-    let fetched = Fetched {
-        bytes: source.fetched(),
-        calls: source.calls(),
+) -> Option<(Counts, (u128, u128))> {
+    let Ok(mut lister) = Lister::open(alloc, Source::new(store), limits, Choice::All) else {
+        return None;
     };
-    Some((counts, fetched))
+    let _ = list_all(&mut lister);
+    read_four(&mut lister);
+    let counts = counts_of(&lister);
+    Some((counts, fetched_by(lister)))
 }
 
 /// The numbers of a file's bound: entries, ranges, listed bytes and names, what it holds, and the
 /// most that it fetches.
 type Bound = [u128; 6];
 
-/// Those of a file whose listing fetches no more than that, each byte of it booked.
-fn bound_of(alloc: Global, file: &[u8], limits: Limits) -> Option<Bound> {
-    let (counts, fetched) = counted(alloc, MemoryStore::new(file), limits)?;
+/// The most that a file fetches by its numbers.
+fn most_of(counts: Counts, limits: Limits) -> u128 {
     let names = counts.m.saturating_mul(u128::from(limits.name) + 4);
     let directory = counts.s.saturating_mul(28).saturating_add(32);
-    let most = directory.saturating_add(counts.n).saturating_add(names);
-    if counts.fetched > most || fetched.bytes != counts.fetched.saturating_add(counts.aside) {
+    directory.saturating_add(counts.n).saturating_add(names)
+}
+
+/// Those of a file whose listing fetches no more than that, each byte of it booked.
+fn bound_of(alloc: Global, file: &[u8], limits: Limits) -> Option<Bound> {
+    let (counts, (bytes, _)) = counted(alloc, MemoryStore::new(file), limits)?;
+    let most = most_of(counts, limits);
+    if counts.fetched > most || bytes != counts.fetched.saturating_add(counts.aside) {
         return None;
     }
     Some([counts.s, counts.r, counts.n, counts.m, counts.held, most])
 }
 
-/// A list of 100 threads that 1000 entries name.
-fn repeated(rt: &HostRuntime) -> Result<Vec<u8, Global>, Fail> {
-    let mut numbers = Vec::new(rt.alloc());
-    for _ in 0..1000 {
-        numbers.extend_from_slice(&[3, 4804, 12032])?;
-    }
-    numbers.push(100)?;
-    numbers.resize(4201, 0)?;
-    Ok(file_of_numbers(rt.alloc(), 1000, &numbers)?)
+/// Asserts the bound of a file with so many entries and these numbers.
+fn assert_bound(
+    rt: &impl Abort,
+    alloc: Global,
+    entries: u32,
+    numbers: &[u32],
+    limits: Limits,
+    expected: Bound,
+) {
+    let file = file_of(rt, alloc, entries, numbers);
+    assert_same(rt, bound_of(alloc, &file, limits), Some(expected));
+}
+
+/// The bound of a list of 100 threads that 1000 entries name.
+fn bound_of_thousand(rt: &impl Abort, alloc: Global) -> Option<Bound> {
+    let mut numbers = repeated(rt, alloc, [3, 4804, 12032], 1000);
+    numbers.push(100).expect(rt, "memory");
+    numbers.resize(4201, 0).expect(rt, "memory");
+    bound_of(alloc, &file_of(rt, alloc, 1000, &numbers), LEAST)
 }
 
 #[test]
-fn list_that_a_thousand_entries_name_counts_a_thousand_times(rt: HostRuntime) -> Result<(), Fail> {
-    let repeated = repeated(&rt)?;
-    let bound = bound_of(rt.alloc(), &repeated, LEAST);
+fn list_that_a_thousand_entries_name_counts_a_thousand_times(rt: HostRuntime) {
+    let bound = bound_of_thousand(&rt, rt.alloc());
     assert_same(&rt, bound, Some([1000, 0, 4804000, 0, 12168, 4832032]));
-    Ok(())
+}
+
+/// An unloaded module whose name has ten bytes.
+const LONG_NAME: [u32; 16] = [
+    14, 36, 44, 12, 24, 1, 0, 0, 0, 0, 0, 80, 10, 0x00620061, 0x00640063, 0x65,
+];
+
+/// How many names are reached of it where names have at most eight bytes, what is held, and what is fetched.
+fn counts_of_long_name(rt: &impl Abort, alloc: Global) -> (u128, u128, u128) {
+    let file = file_of(rt, alloc, 1, &LONG_NAME);
+    let counted = counted(alloc, MemoryStore::new(&file), SHORT_NAMES);
+    let (counts, _) = counted.expect(rt, "a lister");
+    (counts.m, counts.held, counts.fetched)
 }
 
 #[test]
-fn long_name_costs_its_length(rt: HostRuntime) -> Result<(), Fail> {
-    // An unloaded module whose name of ten bytes is longer than the limit of eight.
-    let numbers = [
-        14, 36, 44, 12, 24, 1, 0, 0, 0, 0, 0, 80, 10, 0x00620061, 0x00640063, 0x65,
-    ];
-    let named = file_of_numbers(rt.alloc(), 1, &numbers)?;
-    let limits = Limits::new(168, 8).ok_or("limits")?;
-    let (counts, _) = counted(rt.alloc(), MemoryStore::new(&named), limits).ok_or("open")?;
-    assert_same(&rt, (counts.m, counts.held), (1, 188));
-    // Header, entry, head, record and the length of the name.
-    assert_same(&rt, counts.fetched, 32 + 12 + 12 + 24 + 4);
-    assert_same(
-        &rt,
-        bound_of(rt.alloc(), &named, limits),
-        Some([1, 0, 36, 1, 188, 108]),
-    );
-    Ok(())
+fn long_name_costs_its_length(rt: HostRuntime) {
+    // Header, entry, head, record and the length of the name are fetched.
+    let fetched = 32 + 12 + 12 + 24 + 4;
+    let counts = counts_of_long_name(&rt, rt.alloc());
+    assert_same(&rt, counts, (1, 188, fetched));
+    let bound = [1, 0, 36, 1, 188, 108];
+    assert_bound(&rt, rt.alloc(), 1, &LONG_NAME, SHORT_NAMES, bound);
 }
 
 #[test]
-fn name_of_a_thread_costs_as_any_other(rt: HostRuntime) -> Result<(), Fail> {
-    let named = file_of_numbers(rt.alloc(), 1, &THREAD_NAME)?;
-    let limits = Limits::new(168, 8).ok_or("limits")?;
-    assert_same(
-        &rt,
-        bound_of(rt.alloc(), &named, limits),
-        Some([1, 0, 16, 1, 188, 88]),
-    );
-    Ok(())
+fn name_of_a_thread_costs_as_any_other(rt: HostRuntime) {
+    let bound = [1, 0, 16, 1, 188, 88];
+    assert_bound(&rt, rt.alloc(), 1, &THREAD_NAME, SHORT_NAMES, bound);
+}
+
+/// The numbers of the file in a bound.
+fn numbers_in(bound: Option<Bound>) -> Option<[u128; 4]> {
+    match bound {
+        Some(numbers) => Some([numbers[0], numbers[1], numbers[2], numbers[3]]),
+        None => None,
+    }
 }
 
 #[test]
-fn counts_succeed_and_bound_small_files(rt: HostRuntime) -> Result<(), Fail> {
+fn counts_succeed_and_bound_small_files(rt: HostRuntime) {
     let bound = bound_of(rt.alloc(), &EMPTY, LEAST);
     assert_same(&rt, bound, Some([0, 0, 0, 0, 168, 32]));
 
     // Three modules behind their count, and behind it and four bytes more.
-    let mut numbers = [0; 86];
-    for (size, len, most) in [(328, 85, 388), (332, 86, 392)] {
-        numbers[..4].copy_from_slice(&[4, size, 44, 3]);
-        let modules = file_of_numbers(rt.alloc(), 1, &numbers[..len])?;
-        let bound = bound_of(rt.alloc(), &modules, LEAST);
-        assert_same(&rt, bound, Some([1, 0, u128::from(size), 0, 180, most]));
-    }
+    let modules = padded::<85>(&[4, 328, 44, 3], &[]);
+    let bound = [1, 0, 328, 0, 180, 388];
+    assert_bound(&rt, rt.alloc(), 1, &modules, LEAST, bound);
+    let modules = padded::<86>(&[4, 332, 44, 3], &[]);
+    let bound = [1, 0, 332, 0, 180, 392];
+    assert_bound(&rt, rt.alloc(), 1, &modules, LEAST, bound);
 
     // Two unloaded modules, 1000 bytes apart.
-    let mut numbers = [0; 506];
-    numbers[..7].copy_from_slice(&[14, 2012, 44, 12, 1000, 2, 1]);
-    let spread = file_of_numbers(rt.alloc(), 1, &numbers)?;
-    let bound = bound_of(rt.alloc(), &spread, LEAST);
-    assert_same(&rt, bound, Some([1, 0, 2012, 0, 180, 2072]));
+    let spread = padded::<506>(&[14, 2012, 44, 12, 1000, 2, 1], &[]);
+    let bound = [1, 0, 2012, 0, 180, 2072];
+    assert_bound(&rt, rt.alloc(), 1, &spread, LEAST, bound);
 
-    let thrice = file_of_numbers(rt.alloc(), 3, &THRICE)?;
-    let bound = bound_of(rt.alloc(), &thrice, LEAST);
-    assert_same(&rt, bound, Some([3, 0, 156, 0, 204, 272]));
+    let bound = [3, 0, 156, 0, 204, 272];
+    assert_bound(&rt, rt.alloc(), 3, &THRICE, LEAST, bound);
 
-    let bound = bound_of(rt.alloc(), &SYSTEM, Limits::default());
+    let bound = bound_of(rt.alloc(), &SYSTEM, STANDARD);
     assert_same(&rt, bound, Some([1, 0, 56, 1, 69644, 4216]));
 
     // Two ranges of 64-bit memory, of which one is read aside.
     let bound = bound_of(rt.alloc(), &MEMORY64, NAMED);
-    assert_same(
-        &rt,
-        bound.map(|[s, r, n, m, ..]| [s, r, n, m]),
-        Some([1, 2, 48, 0]),
-    );
-    Ok(())
+    assert_same(&rt, numbers_in(bound), Some([1, 2, 48, 0]));
 }
 
-#[test]
-fn heap_of_what_is_held_is_enough(rt: HostRuntime) -> Result<(), Fail> {
-    // Three unused entries, and a memory list of two ranges without bytes.
-    let numbers = [
-        0, 0, 0, 0, 0, 0, 0, 0, 0, 5, 36, 80, 2, 0x1000, 0, 0, 116, 0x2000, 0, 0, 116,
-    ];
-    let file = file_of_numbers(rt.alloc(), 4, &numbers)?;
-    let limits = Limits::new(176, 16).ok_or("limits")?;
-    for (size, held) in [(272, None), (288, Some(288))] {
-        let heap = LocalHeap::new(rt.alloc(), size)?;
-        let counts = counted(&heap, MemoryStore::new(&file), limits);
-        assert_same_at(&rt, &size, counts.map(|(counts, _)| counts.held), held);
+/// What a lister holds whose numbers these are.
+fn held_of(counted: Option<(Counts, (u128, u128))>) -> Option<u128> {
+    match counted {
+        Some((counts, _)) => Some(counts.held),
+        None => None,
     }
-    Ok(())
+}
+
+/// What a lister of `FOUR` holds in a heap of so many bytes, if it is opened there.
+fn held_in(rt: &impl Abort, alloc: Global, size: usize) -> Option<u128> {
+    let file = file_of(rt, alloc, 4, &FOUR);
+    let heap = LocalHeap::new(alloc, size).expect(rt, "a heap");
+    held_of(counted(&heap, MemoryStore::new(&file), WHOLE_BLOCKS))
 }
 
 #[test]
-fn store_that_fails_keeps_the_equation_of_the_counts(rt: HostRuntime) -> Result<(), Fail> {
-    for fail_at in 0..10 {
-        let store = PatchyStore::new(&MEMORY64, &[4096], Some(fail_at));
-        let counted = counted(rt.alloc(), store, LEAST);
-        // The header, the entry and the head that is read ahead are read as the file is opened.
-        assert_same_at(&rt, &fail_at, counted.is_some(), fail_at > 2);
-        if let Some((counts, fetched)) = counted {
-            // Once the ranges are listed, memory is read aside, by one call.
-            let aside = u128::from(fail_at > 3);
-            let booked = Fetched {
-                bytes: counts.fetched.saturating_add(counts.aside),
-                calls: counts.calls.saturating_add(aside),
-            };
-            assert_same_at(&rt, &fail_at, fetched, booked);
-        }
+fn heap_of_what_is_held_is_enough(rt: HostRuntime) {
+    assert_same(&rt, held_in(&rt, rt.alloc(), 272), None);
+    assert_same(&rt, held_in(&rt, rt.alloc(), 288), Some(288));
+}
+
+/// What is counted of 64-bit memory in a store that fails at this call.
+fn counted_failing(rt: &impl Abort, alloc: Global, fail_at: u64) -> Option<(Counts, (u128, u128))> {
+    counted(alloc, patchy(rt, &MEMORY64, &[4096], Some(fail_at)), LEAST)
+}
+
+/// Asserts that each byte and each call of such a store is counted, so many calls aside.
+fn assert_all_counted(rt: &impl Abort, alloc: Global, fail_at: u64, aside: u128) {
+    let (counts, fetched) = counted_failing(rt, alloc, fail_at).expect(rt, "a lister");
+    let bytes = counts.fetched.saturating_add(counts.aside);
+    let calls = counts.calls.saturating_add(aside);
+    assert_same_at(rt, &fail_at, fetched, (bytes, calls));
+}
+
+/// Whether a lister of such a store is opened.
+fn is_opened(rt: &impl Abort, alloc: Global, fail_at: u64) -> bool {
+    counted_failing(rt, alloc, fail_at).is_some()
+}
+
+#[test]
+fn store_that_fails_keeps_the_equation_of_the_counts(rt: HostRuntime) {
+    // The header, the entry and the head that is read ahead are read as the file is opened.
+    for fail_at in 0..3 {
+        assert_same_at(&rt, &fail_at, is_opened(&rt, rt.alloc(), fail_at), false);
     }
-    Ok(())
+    // Once the ranges are listed, memory is read aside, by one call.
+    assert_all_counted(&rt, rt.alloc(), 3, 0);
+    for fail_at in 4..10 {
+        assert_all_counted(&rt, rt.alloc(), fail_at, 1);
+    }
+}
+
+/// How many calls a lister of one system counts when it is opened and behind all its items, and how many its
+/// source counts.
+fn system_calls(rt: &impl Abort, alloc: Global) -> (u128, u128, u128) {
+    let store = MemoryStore::new(&SYSTEM);
+    let mut lister = opened(rt, alloc, store, NAMED, Choice::All);
+    let opened = counts_of(&lister).calls;
+    let _ = list_all(&mut lister);
+    let listed = counts_of(&lister).calls;
+    let (_, calls) = fetched_by(lister);
+    (opened, listed, calls)
 }
 
 #[test]
-fn calls_for_the_listing_are_counted(rt: HostRuntime) -> Result<(), Fail> {
-    let source = Source::new(MemoryStore::new(&SYSTEM));
-    let mut lister = Lister::open(rt.alloc(), source, NAMED, Choice::All).map_err(|_| "open")?;
-    let opened = lister.counts().calls;
-    let _ = lister.list_into(&mut StopAt::new(u64::MAX));
-    let counts = lister.counts();
+fn calls_for_the_listing_are_counted(rt: HostRuntime) {
     // The header and the entry; then the record, the length of its name and its units.
-    assert_same(&rt, (opened, counts.calls), (2, 5));
-    assert_same(&rt, lister.into_source().calls(), 5);
-    Ok(())
+    assert_same(&rt, system_calls(&rt, rt.alloc()), (2, 5, 5));
 }

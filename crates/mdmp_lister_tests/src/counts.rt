@@ -4,12 +4,14 @@ use crate::given::{What, nameless, range, stream};
 use crate::opening::{chosen, fault, open_and_close};
 use crate::same::assert_same;
 use crate::script::{
-    LEAST, ends, fails, finds, gives, has_room, other_in_numbers, other_of_chosen, runs, skips,
+    LEAST, assert_plays_chosen, assert_plays_numbers, ends, fails, finds, gives, has_room, runs,
+    skips,
 };
 use mdmp_lister::{Choice, FaultKind, OpenFault};
 use mdmp_source::{Extent, MemoryStore, Source};
 use mdmp_test_support::OVERLAPPING;
-use std::test::Fail;
+use std::alloc::Global;
+use std::process::Abort;
 
 /// A range of four bytes inside the file.
 fn inside(start: u64, offset: u128) -> What {
@@ -22,7 +24,7 @@ fn inside(start: u64, offset: u128) -> What {
 }
 
 #[test]
-fn each_list_adds_its_ranges_and_a_repeated_one_again(rt: HostRuntime) -> Result<(), Fail> {
+fn each_list_adds_its_ranges_and_a_repeated_one_again(rt: HostRuntime) {
     // A memory list, one of 64 bits, and the first once more; ABCD and EFGH stand behind them.
     let numbers = [
         5, 20, 68, 9, 32, 88, 5, 20, 68, // the directory
@@ -45,28 +47,29 @@ fn each_list_adds_its_ranges_and_a_repeated_one_again(rt: HostRuntime) -> Result
         finds(0x1003, 123, 1),
         finds(0x2000, 124, 4),
     ];
-    let other = other_in_numbers(&rt, LEAST, 3, &numbers, &script)?;
-    assert_same(&rt, other, None);
-    Ok(())
+    assert_plays_numbers(&rt, rt.alloc(), LEAST, 3, &numbers, &script);
+}
+
+/// Asserts that a lister of this type alone gives so many items of two ranges, and maps so many of them.
+fn assert_mapped(rt: &impl Abort, alloc: Global, stream_type: u32, items: u64, ranges: usize) {
+    let script = [
+        has_room(0, ranges),
+        runs(u64::MAX, None, items),
+        has_room(ranges, 0),
+    ];
+    let types = [stream_type];
+    assert_plays_chosen(rt, alloc, LEAST, 1, &OVERLAPPING, &types, &script);
 }
 
 #[test]
-fn list_that_is_not_chosen_is_not_mapped(rt: HostRuntime) -> Result<(), Fail> {
-    for (stream_type, items, ranges) in [(3, 0, 0), (9, 0, 0), (5, 3, 2)] {
-        let script = [
-            has_room(0, ranges),
-            runs(u64::MAX, None, items),
-            has_room(ranges, 0),
-        ];
-        let types = [stream_type];
-        let other = other_of_chosen(&rt, LEAST, 1, &OVERLAPPING, &types, &script)?;
-        assert_same(&rt, other, None);
-    }
-    Ok(())
+fn list_that_is_not_chosen_is_not_mapped(rt: HostRuntime) {
+    assert_mapped(&rt, rt.alloc(), 3, 0, 0);
+    assert_mapped(&rt, rt.alloc(), 9, 0, 0);
+    assert_mapped(&rt, rt.alloc(), 5, 3, 2);
 }
 
 #[test]
-fn list_with_a_bad_count_is_opened_and_told_later(rt: HostRuntime) -> Result<(), Fail> {
+fn list_with_a_bad_count_is_opened_and_told_later(rt: HostRuntime) {
     // A memory list of 20 bytes that counts two ranges, and one that counts one.
     let numbers = [
         5, 20, 56, 5, 20, 76, 2, 0x1000, 0, 4, 32, 1, 0x2000, 0, 4, 36,
@@ -83,46 +86,28 @@ fn list_with_a_bad_count_is_opened_and_told_later(rt: HostRuntime) -> Result<(),
         has_room(1, 0),
         finds(0x2000, 36, 4),
     ];
-    let other = other_in_numbers(&rt, LEAST, 2, &numbers, &script)?;
-    assert_same(&rt, other, None);
-    Ok(())
+    assert_plays_numbers(&rt, rt.alloc(), LEAST, 2, &numbers, &script);
 }
 
-/// What comes of a file of so many ranges that 16,384 entries name.
-#[derive(Clone, Copy, Debug, PartialEq, Eq)]
-struct RefusedRanges {
-    fault: Option<OpenFault>,
-    size: u64,
-    /// Whether the header, the directory and the counts were fetched, and no more.
-    is_fetched: bool,
-    /// The fault where they are not chosen, over the same source.
-    without: Option<OpenFault>,
-}
-
-fn open_crowded(rt: &HostRuntime, ranges: u16) -> Result<RefusedRanges, Fail> {
-    let crowded = crowded(rt, ranges)?;
-    let threads = chosen(&[3])?;
+/// What comes of a file of so many ranges that 16,384 entries name: its fault, the size of the source that is
+/// handed back, whether more than the header, the directory and the counts was fetched, and the fault where
+/// the ranges are not chosen, over the same source.
+fn open_crowded(
+    rt: &impl Abort,
+    alloc: Global,
+    ranges: u16,
+) -> (Option<OpenFault>, u64, bool, Option<OpenFault>) {
+    let crowded = crowded(rt, alloc, ranges);
     let source = Source::new(MemoryStore::new(&crowded));
-    let (fault, source) = open_and_close(rt.alloc(), source, LEAST, Choice::All);
-    let size = source.size();
-    let is_fetched = source.fetched() <= 32 + 28 * 16384;
-    let (without, _) = open_and_close(rt.alloc(), source, LEAST, threads);
-    Ok(RefusedRanges {
-        fault,
-        size,
-        is_fetched,
-        without,
-    })
+    let (fault, source) = open_and_close(alloc, source, LEAST, Choice::All);
+    let (size, fetched) = (source.size(), source.fetched());
+    let (without, _) = open_and_close(alloc, source, LEAST, chosen(rt, &[3]));
+    (fault, size, fetched > 32 + 28 * 16384, without)
 }
 
 #[test]
-fn too_many_ranges_are_refused(rt: HostRuntime) -> Result<(), Fail> {
-    let expected = RefusedRanges {
-        fault: Some(OpenFault::TooManyRanges { count: 268451840 }),
-        size: 458804,
-        is_fetched: true,
-        without: None,
-    };
-    assert_same(&rt, open_crowded(&rt, 16385)?, expected);
-    Ok(())
+fn too_many_ranges_are_refused(rt: HostRuntime) {
+    let refused = OpenFault::TooManyRanges { count: 268451840 };
+    let found = open_crowded(&rt, rt.alloc(), 16385);
+    assert_same(&rt, found, (Some(refused), 458804, false, None));
 }

@@ -1,8 +1,9 @@
 //! What a lister gives, as plain values.
-use mdmp_lister::{Item, ListFault, Lister, Name};
-use mdmp_source::{Extent, Store};
+use mdmp_lister::{Item, Name};
+use mdmp_source::Extent;
 use mdmp_wire::MemoryInfoRecord;
-use std::alloc::{AllocError, Allocator};
+use std::alloc::Global;
+use std::process::Abort;
 
 /// A short text: how many bytes it has, and the first sixteen, with zeros behind them.
 #[derive(Clone, Copy, Debug, PartialEq, Eq)]
@@ -107,6 +108,16 @@ pub fn thread(entry: u32, id: u32) -> GivenItem {
     nameless(entry, 0, what)
 }
 
+/// A module of the first entry without a name and without parts.
+pub fn module(index: u64, base: u64) -> GivenItem {
+    let what = What::Module {
+        base,
+        codeview: Extent::Empty,
+        misc: Extent::Empty,
+    };
+    nameless(0, index, what)
+}
+
 /// A range of the first entry.
 pub fn range(index: u64, start: u64, size: u64, extent: Extent, offset: u128) -> GivenItem {
     let what = What::Range {
@@ -148,21 +159,21 @@ fn with_name(entry: u32, index: u64, what: What, name: Named) -> GivenItem {
 }
 
 /// A name as a plain value.
-pub fn plain_name(rt: &HostRuntime, name: &Name<'_>) -> Result<Named, AllocError> {
+pub fn plain_name(rt: &impl Abort, alloc: Global, name: &Name<'_>) -> Named {
     match name {
-        Name::None => Ok(Named::None),
+        Name::None => Named::None,
         Name::Units(units) => {
-            let utf8 = units.to_utf8(rt.alloc())?;
-            Ok(spelled(utf8.as_str()))
+            let utf8 = units.to_utf8(alloc).expect(rt, "memory for a name");
+            spelled(utf8.as_str())
         }
-        Name::Long(bytes) => Ok(Named::Long(*bytes)),
+        Name::Long(bytes) => Named::Long(*bytes),
     }
 }
 
 /// An item as a plain value.
-pub fn plain(rt: &HostRuntime, item: &Item<'_>) -> Result<GivenItem, AllocError> {
-    let name = plain_name(rt, item.name())?;
-    Ok(with_name(item.entry(), item.index(), what_of(item), name))
+pub fn plain(rt: &impl Abort, alloc: Global, item: &Item<'_>) -> GivenItem {
+    let name = plain_name(rt, alloc, item.name());
+    with_name(item.entry(), item.index(), what_of(item), name)
 }
 
 /// The telling numbers of an item.
@@ -205,17 +216,5 @@ fn what_of(item: &Item<'_>) -> What {
             extent: item.extent,
             offset: item.offset,
         },
-    }
-}
-
-/// What the next call of a lister answers.
-pub fn next_of<S: Store + Drop, A: Allocator + Copy>(
-    rt: &HostRuntime,
-    lister: &mut Lister<S, A>,
-) -> Result<Result<Option<GivenItem>, ListFault>, AllocError> {
-    match lister.next() {
-        Ok(Some(item)) => Ok(Ok(Some(plain(rt, &item)?))),
-        Ok(None) => Ok(Ok(None)),
-        Err(fault) => Ok(Err(fault)),
     }
 }

@@ -1,27 +1,36 @@
 //! What listers and walkers ask of a heap: nothing, once they are opened.
-use crate::same::assert_same;
+use crate::codeview::told_at;
+use crate::files::file_of;
+use crate::opening::{counts_of, patchy};
+use crate::same::{assert_same, assert_same_at};
 use crate::script::{NAMED, ScriptStep, answer_of};
 use crate::walking;
 use mdmp_lister::{Choice, Lister, StopAt, Walker};
-use mdmp_source::{Location, MemoryStore, PatchyStore, Source, Store, inside};
+use mdmp_source::{Location, MemoryStore, Source, Store};
 use mdmp_test_support::{
     COMMENT, CRASH, FAULTY, MEMORY64, MODULE, MeteredHeap, OVERLAPPING, Refusal, SIX, SYSTEM,
-    THRICE, file_of_numbers,
+    THRICE,
 };
-use std::alloc::{AllocError, Allocator};
-use std::test::Fail;
+use std::alloc::{Allocator, Global};
+use std::process::Abort;
 
-/// How often a heap was asked for a block: by the opening, and by all calls behind it; and how many
-/// blocks were not given back.
-#[derive(Clone, Copy, Debug, PartialEq, Eq)]
-struct Growths {
-    opening: u64,
-    calls: u64,
-    out: u64,
+/// How often a heap was asked for a block, by the opening and by all calls behind it, and how many
+/// blocks were not given back; none where nothing is opened.
+type Growths = Option<(u64, u64, u64)>;
+
+/// An opening by so many growths, and nothing behind it.
+fn opened_by(opening: u64) -> Growths {
+    Some((opening, 0, 0))
+}
+
+/// What was asked of a heap by an opening, and since then.
+fn growths_of(heap: &MeteredHeap<Global>, opening: u64) -> Growths {
+    let counts = heap.counts();
+    Some((opening, counts.growths.saturating_sub(opening), counts.out))
 }
 
 /// Calls between two items, which change none of them.
-const ASIDE: [ScriptStep; 7] = [
+const ASIDE: [ScriptStep; 8] = [
     ScriptStep::Entries,
     ScriptStep::Room,
     ScriptStep::Find(0x1000),
@@ -29,6 +38,7 @@ const ASIDE: [ScriptStep; 7] = [
     ScriptStep::Part(28, 16),
     ScriptStep::Numbers,
     ScriptStep::RecordsLeft,
+    ScriptStep::Fresh,
 ];
 
 /// All items up to the end, with a call behind it.
@@ -53,54 +63,61 @@ const RUNS: [ScriptStep; 6] = [
     ScriptStep::SameSink,
 ];
 
-/// Reads bytes of the file as a CodeView record, and what a lister tells of itself.
-fn read_codeview<S: Store + Drop, A: Allocator + Copy>(lister: &mut Lister<S, A>) -> bool {
-    let at = Location { size: 30, rva: 4 };
-    if inside(u64::from(at.rva), u64::from(at.size), lister.size()) {
-        if let Ok(bytes) = lister.codeview(at) {
-            let _ = bytes.read();
-        }
+/// Makes the calls that stand aside.
+fn call_aside<S: Store + Drop, A: Allocator + Copy>(
+    rt: &impl Abort,
+    alloc: Global,
+    lister: &mut Lister<S, A>,
+    sink: &mut StopAt,
+) {
+    for step in ASIDE {
+        let _ = answer_of(rt, alloc, lister, sink, step);
     }
-    let _ = lister.counts();
-    lister.is_fresh()
+    let _ = told_at(lister, Location { size: 30, rva: 4 });
+    let _ = counts_of(lister);
 }
 
 /// Makes these calls of a lister, and behind each all that stand aside.
 fn make_calls<S: Store + Drop, A: Allocator + Copy>(
-    rt: &HostRuntime,
+    rt: &impl Abort,
+    alloc: Global,
     lister: &mut Lister<S, A>,
     steps: &[ScriptStep],
-) -> Result<(), AllocError> {
+) {
     let mut sink = StopAt::new(u64::MAX);
     for step in steps {
-        answer_of(rt, lister, &mut sink, *step)?;
-        for aside in ASIDE {
-            answer_of(rt, lister, &mut sink, aside)?;
-        }
-        let _ = read_codeview(lister);
+        let _ = answer_of(rt, alloc, lister, &mut sink, *step);
+        call_aside(rt, alloc, lister, &mut sink);
     }
-    Ok(())
 }
 
-/// What a lister of a store asks for that makes these calls, if it can be opened.
+/// Makes these calls of a lister in a heap of which the opening alone has asked: what was asked of it.
+fn asked_behind<S: Store + Drop>(
+    rt: &impl Abort,
+    alloc: Global,
+    heap: &MeteredHeap<Global>,
+    lister: Lister<S, &MeteredHeap<Global>>,
+    steps: &[ScriptStep],
+) -> Growths {
+    let opening = heap.counts().growths;
+    let mut lister = lister;
+    make_calls(rt, alloc, &mut lister, steps);
+    let _ = lister.into_source();
+    growths_of(heap, opening)
+}
+
+/// What a lister of a store asks for that makes these calls.
 fn asked_by_lister<S: Store + Drop>(
-    rt: &HostRuntime,
+    rt: &impl Abort,
+    alloc: Global,
     store: S,
     steps: &[ScriptStep],
-) -> Result<Option<Growths>, Fail> {
-    let heap = MeteredHeap::new(rt.alloc(), Refusal::Never);
-    let Ok(mut lister) = Lister::open(&heap, Source::new(store), NAMED, Choice::All) else {
-        return Ok(None);
-    };
-    let opening = heap.counts().growths;
-    make_calls(rt, &mut lister, steps)?;
-    let _ = lister.into_source();
-    let counts = heap.counts();
-    Ok(Some(Growths {
-        opening,
-        calls: counts.growths.saturating_sub(opening),
-        out: counts.out,
-    }))
+) -> Growths {
+    let heap = MeteredHeap::new(alloc, Refusal::Never);
+    match Lister::open(&heap, Source::new(store), NAMED, Choice::All) {
+        Ok(lister) => asked_behind(rt, alloc, &heap, lister, steps),
+        Err(_) => None,
+    }
 }
 
 /// Items and entries that a walker goes to.
@@ -122,112 +139,133 @@ const WALKS: [ScriptStep; 14] = [
 ];
 
 /// Reads bytes of the file, and what a walker tells of itself and of its first entry.
-fn read_aside<S: Store + Drop, A: Allocator + Copy>(walker: &mut Walker<S, A>) -> bool {
-    if inside(0, 4, walker.size()) {
-        let _ = walker.read_part(0, &mut [0; 4]);
-    }
-    let _ = walker.counts();
-    if walker.header().number_of_streams > 0 {
-        let _ = walker.entry(0);
-        let _ = walker.is_chosen(0);
-    }
-    walker.is_begun()
+fn read_aside<S: Store + Drop, A: Allocator + Copy>(walker: &mut Walker<S, A>) {
+    let _ = walking::part_of(walker, 0);
+    let _ = walking::counts_of(walker);
+    let _ = walking::entry_of(walker, 0);
+    let _ = walking::is_chosen(walker, 0);
+    let _ = walker.is_begun();
 }
 
-/// What a walker of a store asks for that makes all these calls, if it can be opened.
+/// Makes these calls of a walker, and behind each what stands aside.
+fn make_walks<S: Store + Drop, A: Allocator + Copy>(
+    rt: &impl Abort,
+    alloc: Global,
+    walker: &mut Walker<S, A>,
+    steps: &[ScriptStep],
+) {
+    for step in steps {
+        let _ = walking::answer_of(rt, alloc, walker, *step);
+        read_aside(walker);
+    }
+}
+
+/// What a walker of a store asks for that makes all these calls.
 fn asked_by_walker<S: Store + Drop>(
-    rt: &HostRuntime,
+    rt: &impl Abort,
+    alloc: Global,
     store: S,
     steps: &[ScriptStep],
-) -> Result<Option<Growths>, Fail> {
-    let heap = MeteredHeap::new(rt.alloc(), Refusal::Never);
+) -> Growths {
+    let heap = MeteredHeap::new(alloc, Refusal::Never);
     let Ok(mut walker) = Walker::open(&heap, Source::new(store), NAMED, Choice::All) else {
-        return Ok(None);
+        return None;
     };
     let opening = heap.counts().growths;
-    for step in steps {
-        walking::answer_of(rt, &mut walker, *step)?;
-        let _ = read_aside(&mut walker);
-    }
+    make_walks(rt, alloc, &mut walker, steps);
     let _ = walker.into_source();
-    let counts = heap.counts();
-    Ok(Some(Growths {
-        opening,
-        calls: counts.growths.saturating_sub(opening),
-        out: counts.out,
-    }))
+    growths_of(&heap, opening)
 }
 
-/// An opening by so many growths, and nothing behind it.
-fn opened_by(opening: u64) -> Option<Growths> {
-    Some(Growths {
-        opening,
-        calls: 0,
-        out: 0,
-    })
+/// Asserts that a lister of a file in memory asks for nothing but by so many growths of its opening, if it makes
+/// these calls.
+fn assert_asked(rt: &impl Abort, alloc: Global, file: &[u8], steps: &[ScriptStep], opening: u64) {
+    let store = MemoryStore::new(file);
+    let asked = asked_by_lister(rt, alloc, store, steps);
+    assert_same(rt, asked, opened_by(opening));
 }
 
-/// What listers of a file ask for that make all these calls.
-fn asked_by_listers(rt: &HostRuntime, file: &[u8]) -> Result<[Option<Growths>; 3], Fail> {
-    Ok([
-        asked_by_lister(rt, MemoryStore::new(file), &ITEMS)?,
-        asked_by_lister(rt, MemoryStore::new(file), &VERDICTS)?,
-        asked_by_lister(rt, MemoryStore::new(file), &RUNS)?,
-    ])
+/// The same of listers that make all these calls.
+fn assert_asked_by_listers(rt: &impl Abort, alloc: Global, file: &[u8], opening: u64) {
+    assert_asked(rt, alloc, file, &ITEMS, opening);
+    assert_asked(rt, alloc, file, &VERDICTS, opening);
+    assert_asked(rt, alloc, file, &RUNS, opening);
+}
+
+/// The same of a file with so many entries and these numbers.
+fn assert_asked_of_numbers(
+    rt: &impl Abort,
+    alloc: Global,
+    entries: u32,
+    numbers: &[u32],
+    opening: u64,
+) {
+    let file = file_of(rt, alloc, entries, numbers);
+    assert_asked_by_listers(rt, alloc, &file, opening);
 }
 
 #[test]
-fn lister_asks_for_no_memory_once_it_is_opened(rt: HostRuntime) -> Result<(), Fail> {
+fn lister_asks_for_no_memory_once_it_is_opened(rt: HostRuntime) {
     // A directory, a window, a name, and a map where memory is listed.
-    assert_same(&rt, asked_by_listers(&rt, &SYSTEM)?, [opened_by(3); 3]);
-    assert_same(&rt, asked_by_listers(&rt, &MEMORY64)?, [opened_by(4); 3]);
-    for (entries, numbers, opening) in [
-        (3, &FAULTY[..], 3),
-        (3, &THRICE[..], 3),
-        (1, &OVERLAPPING[..], 4),
-        (2, &CRASH[..], 3),
-        (6, &SIX[..], 3),
-        (1, &MODULE[..], 3),
-        (1, &COMMENT[..], 3),
-    ] {
-        let file = file_of_numbers(rt.alloc(), entries, numbers)?;
-        let asked = asked_by_listers(&rt, &file)?;
-        assert_same(&rt, asked, [opened_by(opening); 3]);
-    }
-    Ok(())
+    assert_asked_by_listers(&rt, rt.alloc(), &SYSTEM, 3);
+    assert_asked_by_listers(&rt, rt.alloc(), &MEMORY64, 4);
+    assert_asked_of_numbers(&rt, rt.alloc(), 3, &FAULTY, 3);
+    assert_asked_of_numbers(&rt, rt.alloc(), 3, &THRICE, 3);
+    assert_asked_of_numbers(&rt, rt.alloc(), 1, &OVERLAPPING, 4);
+    assert_asked_of_numbers(&rt, rt.alloc(), 2, &CRASH, 3);
+    assert_asked_of_numbers(&rt, rt.alloc(), 6, &SIX, 3);
+    assert_asked_of_numbers(&rt, rt.alloc(), 1, &MODULE, 3);
+    assert_asked_of_numbers(&rt, rt.alloc(), 1, &COMMENT, 3);
+}
+
+/// Asserts that a walker of a file in memory asks for nothing but by three growths of its opening.
+fn assert_asked_by_walker(rt: &impl Abort, alloc: Global, file: &[u8]) {
+    let asked = asked_by_walker(rt, alloc, MemoryStore::new(file), &WALKS);
+    assert_same(rt, asked, opened_by(3));
+}
+
+/// The same of a file with so many entries and these numbers.
+fn assert_walked_numbers(rt: &impl Abort, alloc: Global, entries: u32, numbers: &[u32]) {
+    let file = file_of(rt, alloc, entries, numbers);
+    assert_asked_by_walker(rt, alloc, &file);
 }
 
 #[test]
-fn walker_asks_for_no_memory_once_it_is_opened(rt: HostRuntime) -> Result<(), Fail> {
-    for (entries, numbers) in [
-        (3, &FAULTY[..]),
-        (3, &THRICE[..]),
-        (1, &OVERLAPPING[..]),
-        (2, &CRASH[..]),
-        (6, &SIX[..]),
-        (1, &MODULE[..]),
-    ] {
-        let file = file_of_numbers(rt.alloc(), entries, numbers)?;
-        let asked = asked_by_walker(&rt, MemoryStore::new(&file), &WALKS)?;
-        assert_same(&rt, asked, opened_by(3));
-    }
-    for file in [&SYSTEM[..], &MEMORY64[..]] {
-        let asked = asked_by_walker(&rt, MemoryStore::new(file), &WALKS)?;
-        assert_same(&rt, asked, opened_by(3));
-    }
-    Ok(())
+fn walker_asks_for_no_memory_once_it_is_opened(rt: HostRuntime) {
+    assert_walked_numbers(&rt, rt.alloc(), 3, &FAULTY);
+    assert_walked_numbers(&rt, rt.alloc(), 3, &THRICE);
+    assert_walked_numbers(&rt, rt.alloc(), 1, &OVERLAPPING);
+    assert_walked_numbers(&rt, rt.alloc(), 2, &CRASH);
+    assert_walked_numbers(&rt, rt.alloc(), 6, &SIX);
+    assert_walked_numbers(&rt, rt.alloc(), 1, &MODULE);
+    assert_asked_by_walker(&rt, rt.alloc(), &SYSTEM);
+    assert_asked_by_walker(&rt, rt.alloc(), &MEMORY64);
+}
+
+/// Asserts what a lister and a walker ask for over a store of 64-bit memory that fails at this call.
+fn assert_asked_failing(
+    rt: &impl Abort,
+    alloc: Global,
+    fail_at: u64,
+    by_lister: Growths,
+    by_walker: Growths,
+) {
+    let store = patchy(rt, &MEMORY64, &[20], Some(fail_at));
+    let asked = asked_by_lister(rt, alloc, store, &ITEMS);
+    assert_same_at(rt, &fail_at, asked, by_lister);
+    let store = patchy(rt, &MEMORY64, &[20], Some(fail_at));
+    let asked = asked_by_walker(rt, alloc, store, &WALKS);
+    assert_same_at(rt, &fail_at, asked, by_walker);
 }
 
 #[test]
-fn fault_of_the_store_takes_no_memory(rt: HostRuntime) -> Result<(), Fail> {
+fn fault_of_the_store_takes_no_memory(rt: HostRuntime) {
+    for fail_at in 0..3 {
+        assert_asked_failing(&rt, rt.alloc(), fail_at, None, None);
+    }
     // Of a lister the head of the list is read as the file is opened.
-    for fail_at in 0..12 {
-        let store = PatchyStore::new(&MEMORY64, &[20], Some(fail_at));
-        let expected = if fail_at < 4 { None } else { opened_by(4) };
-        assert_same(&rt, asked_by_lister(&rt, store, &ITEMS)?, expected);
-        let store = PatchyStore::new(&MEMORY64, &[20], Some(fail_at));
-        let expected = if fail_at < 3 { None } else { opened_by(3) };
-        assert_same(&rt, asked_by_walker(&rt, store, &WALKS)?, expected);
+    assert_asked_failing(&rt, rt.alloc(), 3, None, opened_by(3));
+    for fail_at in 4..12 {
+        assert_asked_failing(&rt, rt.alloc(), fail_at, opened_by(4), opened_by(3));
     }
-    Ok(())
 }

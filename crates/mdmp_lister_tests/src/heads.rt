@@ -1,9 +1,13 @@
 //! The header of a file in memory, and the ranges of a file listed for themselves.
+use crate::files::{file_of, first_bytes};
 use crate::opening::{fault, listed_ranges};
 use crate::same::assert_same;
-use mdmp_lister::{FaultKind, OpenFault, header_of};
-use mdmp_test_support::{OVERLAPPING, SYSTEM, file_of_numbers, header_of as header_bytes};
-use std::test::Fail;
+use crate::script::STANDARD;
+use mdmp_lister::{FaultKind, ListFault, OpenFault, header_of};
+use mdmp_source::MemoryStore;
+use mdmp_test_support::{OVERLAPPING, SYSTEM, header_of as header_bytes};
+use std::alloc::Global;
+use std::process::Abort;
 
 /// The number of streams that the header of a file tells, or its fault.
 fn streams_of(file: &[u8]) -> Result<u32, OpenFault> {
@@ -19,35 +23,46 @@ fn header_of_a_file_succeeds(rt: HostRuntime) {
     assert_same(&rt, streams_of(&header_bytes(0, 7)), Ok(0));
 }
 
-#[test]
-fn bad_headers_are_told_in_order(rt: HostRuntime) {
-    let mut version = header_bytes(1, 32);
-    version[4] = 0;
-    let mut signature = version;
-    signature[0] = 0;
-    for (file, told) in [
-        (&SYSTEM[..31], OpenFault::TooShort { size: 31 }),
-        (signature.as_slice(), OpenFault::BadSignature),
-        (version.as_slice(), OpenFault::BadVersion { low: 0xa700 }),
-        (
-            header_bytes(1, 32).as_slice(),
-            OpenFault::DirectoryOutside {
-                offset: 32,
-                size: 12,
-            },
-        ),
-    ] {
-        assert_same(&rt, streams_of(file), Err(told));
-    }
+/// A header of one stream at 32, whose signature begins with this byte, and whose version does with that.
+fn header_with(signature: u8, version: u8) -> [u8; 32] {
+    let mut header = header_bytes(1, 32);
+    header[0] = signature;
+    header[4] = version;
+    header
 }
 
 #[test]
-fn list_ranges_succeeds(rt: HostRuntime) -> Result<(), Fail> {
-    let mut file = file_of_numbers(rt.alloc(), 1, &OVERLAPPING)?;
-    assert_same(&rt, listed_ranges(rt.alloc(), &file)?, (Ok(()), 2));
+fn bad_headers_are_told_in_order(rt: HostRuntime) {
+    let short = OpenFault::TooShort { size: 31 };
+    let cut = first_bytes(&rt, &SYSTEM, 31);
+    assert_same(&rt, streams_of(cut), Err(short));
+    let both = header_with(0, 0);
+    assert_same(&rt, streams_of(&both), Err(OpenFault::BadSignature));
+    let version = OpenFault::BadVersion { low: 0xa700 };
+    let found = streams_of(&header_with(b'M', 0));
+    assert_same(&rt, found, Err(version));
+    let outside = OpenFault::DirectoryOutside {
+        offset: 32,
+        size: 12,
+    };
+    assert_same(&rt, streams_of(&header_bytes(1, 32)), Err(outside));
+}
+
+/// What ended a listing of the ranges of the first bytes of a file, as many as this, and how many were mapped.
+fn listed_in(
+    rt: &impl Abort,
+    alloc: Global,
+    size: usize,
+) -> Option<(Result<(), ListFault>, usize)> {
+    let file = file_of(rt, alloc, 1, &OVERLAPPING);
+    let store = MemoryStore::new(first_bytes(rt, &file, size));
+    listed_ranges(alloc, store, STANDARD)
+}
+
+#[test]
+fn list_ranges_succeeds(rt: HostRuntime) {
+    assert_same(&rt, listed_in(&rt, rt.alloc(), 88), Some((Ok(()), 2)));
     let outside = fault(None, FaultKind::StreamOutside, 44, 36);
-    file.truncate(60);
-    let cut = listed_ranges(rt.alloc(), &file)?;
-    assert_same(&rt, cut, (Err(outside), 0));
-    Ok(())
+    let cut = listed_in(&rt, rt.alloc(), 60);
+    assert_same(&rt, cut, Some((Err(outside), 0)));
 }

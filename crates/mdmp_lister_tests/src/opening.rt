@@ -1,10 +1,11 @@
 //! Listers that are opened, and how many items they give.
 use mdmp_lister::{
-    Choice, FaultKind, Limits, ListFault, Lister, OpenFault, OpenRefused, RunFault, StopAt, TypeSet,
+    Choice, Counts, FaultKind, Limits, ListFault, Lister, OpenFault, OpenRefused, RunFault, StopAt,
+    TypeSet,
 };
-use mdmp_source::{MemoryStore, Source, Store};
+use mdmp_source::{PatchyStore, Source, SourceFault, Store};
 use std::alloc::{Allocator, Global};
-use std::test::Fail;
+use std::process::Abort;
 
 /// All items and how many ranges of memory were mapped, or why there is no lister.
 #[derive(Clone, Copy, Debug, PartialEq, Eq)]
@@ -18,11 +19,41 @@ pub enum Outcome {
 }
 
 /// Each entry, or those of these types.
-pub fn chosen(types: &[u32]) -> Result<Choice, Fail> {
+pub fn chosen(rt: &impl Abort, types: &[u32]) -> Choice {
     if types.is_empty() {
-        return Ok(Choice::All);
+        return Choice::All;
     }
-    Ok(Choice::Types(TypeSet::new(types).ok_or("types")?))
+    Choice::Types(TypeSet::new(types).expect(rt, "types"))
+}
+
+/// A window of so many bytes, and names of at most so many.
+pub fn limits_of(rt: &impl Abort, window: u32, name: u32) -> Limits {
+    Limits::new(window, name).expect(rt, "limits")
+}
+
+/// A lister of a store.
+pub fn opened<S: Store + Drop, A: Allocator + Copy>(
+    rt: &impl Abort,
+    alloc: A,
+    store: S,
+    limits: Limits,
+    choice: Choice,
+) -> Lister<S, A> {
+    match Lister::open(alloc, Source::new(store), limits, choice) {
+        Ok(lister) => lister,
+        Err(_) => panic!(rt; "a lister was refused"),
+    }
+}
+
+/// A store that gives as many bytes a call as the caps say, in turn, and fails at this call, if at one.
+pub fn patchy<'a>(
+    rt: &impl Abort,
+    bytes: &'a [u8],
+    caps: &'a [usize],
+    fail_at: Option<u64>,
+) -> PatchyStore<'a> {
+    assert!(rt; !caps.is_empty());
+    PatchyStore::new(bytes, caps, fail_at)
 }
 
 /// A fault of the first entry.
@@ -53,6 +84,29 @@ pub const FAULTY_STREAM: ListFault = ListFault {
     offset: 236,
     size: 5,
 };
+
+/// Gives all items of a lister: what ended that.
+pub fn list_all<S: Store + Drop, A: Allocator + Copy>(
+    lister: &mut Lister<S, A>,
+) -> Option<RunFault> {
+    lister.list_into(&mut StopAt::new(u64::MAX)).err()
+}
+
+/// What a lister counts.
+pub fn counts_of<S: Store + Drop, A: Allocator + Copy>(lister: &Lister<S, A>) -> Counts {
+    lister.counts()
+}
+
+/// Closes a lister, which is short for the prover here, and long at the end of a function that does more.
+pub fn close<S: Store + Drop, A: Allocator + Copy>(lister: Lister<S, A>) {
+    let _ = lister.into_source();
+}
+
+/// How many bytes and calls the source of a lister counts.
+pub fn fetched_by<S: Store + Drop, A: Allocator + Copy>(lister: Lister<S, A>) -> (u128, u128) {
+    let source = lister.into_source();
+    (source.fetched(), source.calls())
+}
 
 /// Opens a lister and closes it again: why it was refused, and the source.
 pub fn open_and_close<S: Store + Drop, A: Allocator + Copy>(
@@ -103,14 +157,27 @@ pub fn all(items: u64, mapped: usize) -> Outcome {
     }
 }
 
-/// Lists the ranges of a file in memory: what ended that, and how many were mapped.
-pub fn listed_ranges(alloc: Global, file: &[u8]) -> Result<(Result<(), ListFault>, usize), Fail> {
-    let source = Source::new(MemoryStore::new(file));
-    let limits = Limits::default();
-    let mut lister = match Lister::open(alloc, source, limits, Choice::memory_lists()) {
-        Ok(lister) => lister,
-        Err(_) => return Err(Fail::from("refused")),
+/// What ended a listing of the ranges of a store, and how many were mapped; none where it is not opened.
+pub fn listed_ranges<S: Store + Drop>(
+    alloc: Global,
+    store: S,
+    limits: Limits,
+) -> Option<(Result<(), ListFault>, usize)> {
+    let opened = Lister::open(alloc, Source::new(store), limits, Choice::memory_lists());
+    let Ok(mut lister) = opened else {
+        return None;
     };
     let ended = lister.list_ranges();
-    Ok((ended, lister.map().len()))
+    Some((ended, lister.map().len()))
+}
+
+/// The fault of an entry whose byte at this place is not obtained.
+pub fn store_fault(entry: u32, at: u64) -> ListFault {
+    ListFault {
+        entry,
+        index: None,
+        kind: FaultKind::Source(SourceFault::Failed { at }),
+        offset: at,
+        size: 0,
+    }
 }

@@ -1,17 +1,17 @@
 //! Bytes of the file that are read beside the listing.
+use crate::files::file_of;
 use crate::given::{range, stream};
-use crate::same::assert_same;
 use crate::script::{
-    LEAST, ends, gives, has_numbers, has_part, has_room, other_in_bytes, part_fails, part_outside,
-    play,
+    LEAST, assert_plays, assert_plays_patchy, ends, gives, has_numbers, has_part, has_room,
+    part_fails, part_outside,
 };
-use mdmp_lister::Choice;
-use mdmp_source::{Extent, PatchyStore, SourceFault};
-use mdmp_test_support::{MEMORY64, OVERLAPPING, file_of_numbers};
-use std::test::Fail;
+use mdmp_source::{Extent, SourceFault};
+use mdmp_test_support::{MEMORY64, OVERLAPPING};
+use std::alloc::Global;
+use std::process::Abort;
 
 #[test]
-fn part_is_read_between_items_and_counted_aside(rt: HostRuntime) -> Result<(), Fail> {
+fn part_is_read_between_items_and_counted_aside(rt: HostRuntime) {
     let script = [
         has_numbers(98, 0),
         has_part(92, *b"ABCDEF"),
@@ -27,13 +27,11 @@ fn part_is_read_between_items_and_counted_aside(rt: HostRuntime) -> Result<(), F
         ends(),
         has_numbers(98, 27),
     ];
-    let other = other_in_bytes(&rt, LEAST, &MEMORY64, &script)?;
-    assert_same(&rt, other, None);
-    Ok(())
+    assert_plays(&rt, rt.alloc(), LEAST, &MEMORY64, &script);
 }
 
 #[test]
-fn size_tells_what_lies_inside(rt: HostRuntime) -> Result<(), Fail> {
+fn size_tells_what_lies_inside(rt: HostRuntime) {
     let script = [
         part_outside(98, 1),
         part_outside(97, 2),
@@ -41,32 +39,32 @@ fn size_tells_what_lies_inside(rt: HostRuntime) -> Result<(), Fail> {
         has_part(u64::MAX, []),
         has_numbers(98, 0),
     ];
-    let other = other_in_bytes(&rt, LEAST, &MEMORY64, &script)?;
-    assert_same(&rt, other, None);
-    Ok(())
+    assert_plays(&rt, rt.alloc(), LEAST, &MEMORY64, &script);
+}
+
+/// Asserts what a lister of two ranges answers where a call of their store fails, while it reads the first.
+fn assert_part_fails(rt: &impl Abort, alloc: Global, fail_at: u64, at: u64) {
+    let script = [
+        gives(stream(0, 5, 36, 44)),
+        gives(range(0, 0x1000, 4, Extent::Inside, 80)),
+        part_fails(80, 4, SourceFault::Failed { at }),
+        has_numbers(88, 4),
+        has_room(1, 1),
+        gives(range(1, 0x1002, 4, Extent::Inside, 84)),
+        has_part(80, *b"ABCDwxyz"),
+        ends(),
+        has_room(2, 0),
+        has_numbers(88, 12),
+    ];
+    let file = file_of(rt, alloc, 1, &OVERLAPPING);
+    let caps = [4096, 4096, 4096, 4096, 1, 2, 4096];
+    assert_plays_patchy(rt, alloc, LEAST, &file, &caps, Some(fail_at), &script);
 }
 
 #[test]
-fn store_fault_of_a_part_changes_no_item(rt: HostRuntime) -> Result<(), Fail> {
-    let file = file_of_numbers(rt.alloc(), 1, &OVERLAPPING)?;
+fn store_fault_of_a_part_changes_no_item(rt: HostRuntime) {
     // Header, entry and count are read by calls 0 to 2, and the stream by call 3.
-    let caps = [4096, 4096, 4096, 4096, 1, 2, 4096];
-    for (fail_at, at) in [(4, 80), (5, 81), (6, 83)] {
-        let store = PatchyStore::new(&file, &caps, Some(fail_at));
-        let script = [
-            gives(stream(0, 5, 36, 44)),
-            gives(range(0, 0x1000, 4, Extent::Inside, 80)),
-            part_fails(80, 4, SourceFault::Failed { at }),
-            has_numbers(88, 4),
-            has_room(1, 1),
-            gives(range(1, 0x1002, 4, Extent::Inside, 84)),
-            has_part(80, *b"ABCDwxyz"),
-            ends(),
-            has_room(2, 0),
-            has_numbers(88, 12),
-        ];
-        let played = play(&rt, store, LEAST, Choice::All, &script)?;
-        assert_same(&rt, played.other, None);
-    }
-    Ok(())
+    assert_part_fails(&rt, rt.alloc(), 4, 80);
+    assert_part_fails(&rt, rt.alloc(), 5, 81);
+    assert_part_fails(&rt, rt.alloc(), 6, 83);
 }

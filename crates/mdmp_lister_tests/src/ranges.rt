@@ -1,14 +1,12 @@
 //! Which ranges of memory are mapped as they are given.
 use crate::given::{GivenItem, range, stream};
-use crate::same::assert_same;
 use crate::script::{
-    LEAST, ends, finds, finds_nothing, gives, has_room, other_in_bytes, other_in_numbers, runs,
+    LEAST, assert_plays, assert_plays_numbers, ends, finds, finds_nothing, gives, has_room, runs,
     runs_on, skips,
 };
 use mdmp_lister::RunFault;
 use mdmp_source::Extent;
 use mdmp_test_support::{MEMORY64, OVERLAPPING};
-use std::test::Fail;
 
 /// The two ranges of `OVERLAPPING`.
 fn overlapping() -> [GivenItem; 2] {
@@ -19,7 +17,7 @@ fn overlapping() -> [GivenItem; 2] {
 }
 
 #[test]
-fn ranges_are_mapped_as_they_are_given(rt: HostRuntime) -> Result<(), Fail> {
+fn ranges_are_mapped_as_they_are_given(rt: HostRuntime) {
     let [first, second] = overlapping();
     let script = [
         has_room(0, 2),
@@ -34,13 +32,11 @@ fn ranges_are_mapped_as_they_are_given(rt: HostRuntime) -> Result<(), Fail> {
         finds(0x1000, 80, 4),
         finds(0x1004, 86, 2),
     ];
-    let other = other_in_numbers(&rt, LEAST, 1, &OVERLAPPING, &script)?;
-    assert_same(&rt, other, None);
-    Ok(())
+    assert_plays_numbers(&rt, rt.alloc(), LEAST, 1, &OVERLAPPING, &script);
 }
 
 #[test]
-fn ranges_without_bytes_in_the_file_are_not_mapped(rt: HostRuntime) -> Result<(), Fail> {
+fn ranges_without_bytes_in_the_file_are_not_mapped(rt: HostRuntime) {
     // One inside, one outside, one that is cut, an empty one and an absent one.
     let numbers = [
         5, 84, 44, 5, 0x1000, 0, 4, 128, 0x2000, 0, 4, 400, 0x3000, 0, 8, 128, 0x4000, 0, 0, 128,
@@ -56,8 +52,7 @@ fn ranges_without_bytes_in_the_file_are_not_mapped(rt: HostRuntime) -> Result<()
         finds_nothing(0x4000),
         finds_nothing(0x5000),
     ];
-    let other = other_in_numbers(&rt, LEAST, 1, &numbers, &script)?;
-    assert_same(&rt, other, None);
+    assert_plays_numbers(&rt, rt.alloc(), LEAST, 1, &numbers, &script);
 
     let script = [
         runs(u64::MAX, None, 3),
@@ -65,13 +60,11 @@ fn ranges_without_bytes_in_the_file_are_not_mapped(rt: HostRuntime) -> Result<()
         finds(0x1000, 92, 4),
         finds_nothing(0x2000),
     ];
-    let other = other_in_bytes(&rt, LEAST, &MEMORY64, &script)?;
-    assert_same(&rt, other, None);
-    Ok(())
+    assert_plays(&rt, rt.alloc(), LEAST, &MEMORY64, &script);
 }
 
 #[test]
-fn list_into_maps_what_it_hands_over(rt: HostRuntime) -> Result<(), Fail> {
+fn list_into_maps_what_it_hands_over(rt: HostRuntime) {
     let script = [
         runs(1, Some(RunFault::Stopped), 2),
         has_room(1, 1),
@@ -79,18 +72,18 @@ fn list_into_maps_what_it_hands_over(rt: HostRuntime) -> Result<(), Fail> {
         runs_on(None, 3),
         has_room(2, 0),
     ];
-    let other = other_in_numbers(&rt, LEAST, 1, &OVERLAPPING, &script)?;
-    assert_same(&rt, other, None);
-    Ok(())
+    assert_plays_numbers(&rt, rt.alloc(), LEAST, 1, &OVERLAPPING, &script);
 }
 
 #[test]
-fn ranges_that_were_skipped_are_not_mapped(rt: HostRuntime) -> Result<(), Fail> {
+fn ranges_that_were_skipped_are_not_mapped(rt: HostRuntime) {
     let entry = stream(0, 5, 36, 44);
     let [first, second] = overlapping();
     // After the Stream item none is left, after the first range one is mapped.
     let none = [gives(entry), skips(), ends(), has_room(0, 2)];
+    assert_plays_numbers(&rt, rt.alloc(), LEAST, 1, &OVERLAPPING, &none);
     let one = [gives(entry), gives(first), skips(), ends(), has_room(1, 1)];
+    assert_plays_numbers(&rt, rt.alloc(), LEAST, 1, &OVERLAPPING, &one);
     let both = [
         gives(entry),
         gives(first),
@@ -99,9 +92,5 @@ fn ranges_that_were_skipped_are_not_mapped(rt: HostRuntime) -> Result<(), Fail> 
         ends(),
         has_room(2, 0),
     ];
-    for script in [none.as_slice(), one.as_slice(), both.as_slice()] {
-        let other = other_in_numbers(&rt, LEAST, 1, &OVERLAPPING, script)?;
-        assert_same(&rt, other, None);
-    }
-    Ok(())
+    assert_plays_numbers(&rt, rt.alloc(), LEAST, 1, &OVERLAPPING, &both);
 }

@@ -1,28 +1,19 @@
 //! The items of whole files, of each kind of record.
+use crate::files::padded;
 use crate::given::{
-    GivenItem, Named, What, nameless, range, spelled, stream, thread, thread_name, unloaded,
+    GivenItem, Named, What, module, nameless, range, spelled, stream, thread, thread_name, unloaded,
 };
 use crate::opening::fault;
-use crate::same::assert_same;
-use crate::script::{LEAST, ends, fails, gives, other_in_bytes, other_in_numbers};
-use mdmp_lister::{FaultKind, Limits};
+use crate::script::{LEAST, SHORT_NAMES, assert_plays, assert_plays_numbers, ends, fails, gives};
+use mdmp_lister::FaultKind;
 use mdmp_source::Extent;
 use mdmp_test_support::{MEMORY64, THREAD_NAME, THRICE};
 use mdmp_wire::MemoryInfoRecord;
-use std::test::Fail;
-
-/// A module without a name, of the first entry.
-fn module(index: u64, base: u64) -> GivenItem {
-    let what = What::Module {
-        base,
-        codeview: Extent::Empty,
-        misc: Extent::Empty,
-    };
-    nameless(0, index, what)
-}
+use std::alloc::Global;
+use std::process::Abort;
 
 #[test]
-fn list_that_three_entries_name_is_listed_thrice(rt: HostRuntime) -> Result<(), Fail> {
+fn list_that_three_entries_name_is_listed_thrice(rt: HostRuntime) {
     let script = [
         gives(stream(0, 3, 52, 68)),
         gives(thread(0, 7)),
@@ -32,19 +23,13 @@ fn list_that_three_entries_name_is_listed_thrice(rt: HostRuntime) -> Result<(), 
         gives(thread(2, 7)),
         ends(),
     ];
-    let other = other_in_numbers(&rt, LEAST, 3, &THRICE, &script)?;
-    assert_same(&rt, other, None);
-    Ok(())
+    assert_plays_numbers(&rt, rt.alloc(), LEAST, 3, &THRICE, &script);
 }
 
 #[test]
-fn modules_stand_one_behind_the_other(rt: HostRuntime) -> Result<(), Fail> {
+fn modules_stand_one_behind_the_other(rt: HostRuntime) {
     // Three modules of 108 bytes, without names.
-    let mut numbers = [0; 85];
-    numbers[..4].copy_from_slice(&[4, 328, 44, 3]);
-    numbers[4] = 1;
-    numbers[31] = 2;
-    numbers[58] = 3;
+    let numbers = padded::<85>(&[4, 328, 44, 3, 1], &[(31, 2), (58, 3)]);
     let script = [
         gives(stream(0, 4, 328, 44)),
         gives(module(0, 1)),
@@ -52,43 +37,35 @@ fn modules_stand_one_behind_the_other(rt: HostRuntime) -> Result<(), Fail> {
         gives(module(2, 3)),
         ends(),
     ];
-    let other = other_in_numbers(&rt, LEAST, 1, &numbers, &script)?;
-    assert_same(&rt, other, None);
-    Ok(())
+    assert_plays_numbers(&rt, rt.alloc(), LEAST, 1, &numbers, &script);
 }
 
 #[test]
-fn records_stand_as_far_apart_as_their_list_says(rt: HostRuntime) -> Result<(), Fail> {
-    let mut numbers = [0; 506];
-    numbers[..7].copy_from_slice(&[14, 2012, 44, 12, 1000, 2, 1]);
+fn records_stand_as_far_apart_as_their_list_says(rt: HostRuntime) {
     // The second record stands 1000 bytes behind the first.
-    numbers[256] = 2;
+    let numbers = padded::<506>(&[14, 2012, 44, 12, 1000, 2, 1], &[(256, 2)]);
     let script = [
         gives(stream(0, 14, 2012, 44)),
         gives(unloaded(0, 1, Named::None)),
         gives(unloaded(1, 2, Named::None)),
         ends(),
     ];
-    let other = other_in_numbers(&rt, LEAST, 1, &numbers, &script)?;
-    assert_same(&rt, other, None);
-    Ok(())
+    assert_plays_numbers(&rt, rt.alloc(), LEAST, 1, &numbers, &script);
 }
 
 #[test]
-fn ranges_of_a_list_stand_one_behind_the_other(rt: HostRuntime) -> Result<(), Fail> {
+fn ranges_of_a_list_stand_one_behind_the_other(rt: HostRuntime) {
     let script = [
         gives(stream(0, 9, 48, 44)),
         gives(range(0, 0x1000, 4, Extent::Inside, 92)),
         gives(range(1, 0x2000, 4, Extent::Outside, 96)),
         ends(),
     ];
-    let other = other_in_bytes(&rt, LEAST, &MEMORY64, &script)?;
-    assert_same(&rt, other, None);
-    Ok(())
+    assert_plays(&rt, rt.alloc(), LEAST, &MEMORY64, &script);
 }
 
 #[test]
-fn offsets_of_ranges_may_pass_any_file(rt: HostRuntime) -> Result<(), Fail> {
+fn offsets_of_ranges_may_pass_any_file(rt: HostRuntime) {
     let most = u32::MAX;
     let numbers = [
         9, 64, 44, 3, 0, 108, 0, // three ranges, whose bytes begin at 108
@@ -101,13 +78,11 @@ fn offsets_of_ranges_may_pass_any_file(rt: HostRuntime) -> Result<(), Fail> {
         gives(range(2, 12288, 1, Extent::Outside, 36893488147419103338)),
         ends(),
     ];
-    let other = other_in_numbers(&rt, LEAST, 1, &numbers, &script)?;
-    assert_same(&rt, other, None);
-    Ok(())
+    assert_plays_numbers(&rt, rt.alloc(), LEAST, 1, &numbers, &script);
 }
 
 #[test]
-fn range_of_a_memory_list_is_inside_or_outside(rt: HostRuntime) -> Result<(), Fail> {
+fn range_of_a_memory_list_is_inside_or_outside(rt: HostRuntime) {
     // Two ranges at the end of a file of 80 bytes, the second of which passes it.
     let numbers = [5, 36, 44, 2, 4096, 0, 4, 76, 8192, 0, 4, 77];
     let script = [
@@ -116,13 +91,11 @@ fn range_of_a_memory_list_is_inside_or_outside(rt: HostRuntime) -> Result<(), Fa
         gives(range(1, 8192, 4, Extent::Outside, 77)),
         ends(),
     ];
-    let other = other_in_numbers(&rt, LEAST, 1, &numbers, &script)?;
-    assert_same(&rt, other, None);
-    Ok(())
+    assert_plays_numbers(&rt, rt.alloc(), LEAST, 1, &numbers, &script);
 }
 
 #[test]
-fn region_is_listed_with_its_numbers(rt: HostRuntime) -> Result<(), Fail> {
+fn region_is_listed_with_its_numbers(rt: HostRuntime) {
     let numbers = [
         16, 64, 44, 16, 48, 1, 0, // one region
         4096, 0, 4096, 0, 4, 0, 8192, 0, 4096, 4, 131072, 0,
@@ -141,58 +114,54 @@ fn region_is_listed_with_its_numbers(rt: HostRuntime) -> Result<(), Fail> {
         gives(nameless(0, 0, What::MemoryInfo(region))),
         ends(),
     ];
-    let other = other_in_numbers(&rt, LEAST, 1, &numbers, &script)?;
-    assert_same(&rt, other, None);
-    Ok(())
+    assert_plays_numbers(&rt, rt.alloc(), LEAST, 1, &numbers, &script);
+}
+
+/// Asserts what is given behind the Stream item of names of threads in so many bytes. At most eight bytes of a
+/// name are read.
+fn assert_thread_names(
+    rt: &impl Abort,
+    alloc: Global,
+    size: u32,
+    numbers: &[u32],
+    item: GivenItem,
+) {
+    let script = [gives(stream(0, 24, size, 44)), gives(item), ends()];
+    assert_plays_numbers(rt, alloc, SHORT_NAMES, 1, numbers, &script);
+}
+
+/// Asserts that the name of a thread is not there whose RVA of 64 bits has these halves.
+fn assert_name_outside(rt: &impl Abort, alloc: Global, low: u32, high: u32, offset: u64) {
+    let numbers = padded::<10>(&THREAD_NAME, &[(5, low), (6, high)]);
+    let outside = fault(Some(0), FaultKind::NameLengthOutside, offset, 4);
+    let script = [gives(stream(0, 24, 16, 44)), fails(outside)];
+    assert_plays_numbers(rt, alloc, SHORT_NAMES, 1, &numbers, &script);
 }
 
 #[test]
-fn name_of_a_thread_is_listed_or_its_fault_is(rt: HostRuntime) -> Result<(), Fail> {
-    let limits = Limits {
-        window: 168,
-        name: 8,
-    };
+fn name_of_a_thread_is_listed_or_its_fault_is(rt: HostRuntime) {
     // Behind its count, and behind the count and four bytes more.
-    let padded = [24, 20, 44, 1, 9, 7, 64, 0, 8, 0x00620061, 0x00640063];
-    for (size, numbers) in [(16, &THREAD_NAME as &[u32]), (20, &padded)] {
-        let script = [
-            gives(stream(0, 24, size, 44)),
-            gives(thread_name(7, spelled("abcd"))),
-            ends(),
-        ];
-        let other = other_in_numbers(&rt, limits, 1, numbers, &script)?;
-        assert_same(&rt, other, None);
-    }
+    let abcd = thread_name(7, spelled("abcd"));
+    assert_thread_names(&rt, rt.alloc(), 16, &THREAD_NAME, abcd);
+    let padding = [24, 20, 44, 1, 9, 7, 64, 0, 8, 0x00620061, 0x00640063];
+    assert_thread_names(&rt, rt.alloc(), 20, &padding, abcd);
 
     // An RVA of 64 bits: 0, and one past the file, whose sum with 4 is 2^64.
-    let mut numbers = THREAD_NAME;
-    numbers[5] = 0;
-    let script = [
-        gives(stream(0, 24, 16, 44)),
-        gives(thread_name(7, Named::None)),
-        ends(),
-    ];
-    let other = other_in_numbers(&rt, limits, 1, &numbers, &script)?;
-    assert_same(&rt, other, None);
-    for (low, high, offset) in [
-        (0xffff_fffc, 0xffff_ffff, 18446744073709551612),
-        (60, 1, 4294967356),
-    ] {
-        numbers[5..7].copy_from_slice(&[low, high]);
-        let outside = fault(Some(0), FaultKind::NameLengthOutside, offset, 4);
-        let script = [gives(stream(0, 24, 16, 44)), fails(outside)];
-        let other = other_in_numbers(&rt, limits, 1, &numbers, &script)?;
-        assert_same(&rt, other, None);
-    }
-    Ok(())
+    let zero = padded::<10>(&THREAD_NAME, &[(5, 0)]);
+    let unnamed = thread_name(7, Named::None);
+    assert_thread_names(&rt, rt.alloc(), 16, &zero, unnamed);
+    let last = 18446744073709551612;
+    assert_name_outside(&rt, rt.alloc(), 0xffff_fffc, 0xffff_ffff, last);
+    assert_name_outside(&rt, rt.alloc(), 60, 1, 4294967356);
 }
 
 #[test]
-fn exception_is_listed_and_a_thread_behind_it(rt: HostRuntime) -> Result<(), Fail> {
+fn exception_is_listed_and_a_thread_behind_it(rt: HostRuntime) {
     // Its context is four bytes at 56.
-    let mut numbers = [0; 61];
-    numbers[..9].copy_from_slice(&[6, 168, 56, 3, 52, 224, 7, 0, 3221225477]);
-    numbers[46..50].copy_from_slice(&[4, 56, 1, 7]);
+    let numbers = padded::<61>(
+        &[6, 168, 56, 3, 52, 224, 7, 0, 3221225477],
+        &[(46, 4), (47, 56), (48, 1), (49, 7)],
+    );
     let exception = What::Exception {
         thread: 7,
         code: 3221225477,
@@ -205,16 +174,13 @@ fn exception_is_listed_and_a_thread_behind_it(rt: HostRuntime) -> Result<(), Fai
         gives(thread(1, 7)),
         ends(),
     ];
-    let other = other_in_numbers(&rt, LEAST, 2, &numbers, &script)?;
-    assert_same(&rt, other, None);
-    Ok(())
+    assert_plays_numbers(&rt, rt.alloc(), LEAST, 2, &numbers, &script);
 }
 
 #[test]
-fn unused_entry_is_listed_as_it_stands(rt: HostRuntime) -> Result<(), Fail> {
+fn unused_entry_is_listed_as_it_stands(rt: HostRuntime) {
     let script = [gives(stream(0, 0, 7, 4294967295)), ends()];
-    let other = other_in_numbers(&rt, LEAST, 1, &[0, 7, 4294967295], &script)?;
-    assert_same(&rt, other, None);
+    assert_plays_numbers(&rt, rt.alloc(), LEAST, 1, &[0, 7, 4294967295], &script);
 
     // And one of a type that has no records, behind it.
     let script = [
@@ -222,7 +188,12 @@ fn unused_entry_is_listed_as_it_stands(rt: HostRuntime) -> Result<(), Fail> {
         gives(stream(1, 10, 4, 32)),
         ends(),
     ];
-    let other = other_in_numbers(&rt, LEAST, 2, &[0, 7, 4294967295, 10, 4, 32], &script)?;
-    assert_same(&rt, other, None);
-    Ok(())
+    assert_plays_numbers(
+        &rt,
+        rt.alloc(),
+        LEAST,
+        2,
+        &[0, 7, 4294967295, 10, 4, 32],
+        &script,
+    );
 }

@@ -1,9 +1,7 @@
 //! How many records of the current entry are still to come.
 use crate::given::{GivenItem, What, nameless, stream};
-use crate::same::assert_same;
-use crate::script::{LEAST, ends, gives, has_records_left, other_in_numbers, skips};
+use crate::script::{LEAST, assert_plays_numbers, ends, gives, has_records_left, skips};
 use mdmp_source::Extent;
-use std::test::Fail;
 
 /// An unused entry, and a memory list of three ranges of four bytes.
 const THREE: [u32; 19] = [
@@ -22,7 +20,7 @@ fn range(index: u64, start: u64, offset: u128) -> GivenItem {
 }
 
 #[test]
-fn records_left_are_told_once_the_first_was_given(rt: HostRuntime) -> Result<(), Fail> {
+fn records_left_are_told_once_the_first_was_given(rt: HostRuntime) {
     let script = [
         has_records_left(0),
         gives(stream(0, 0, 0, 0)),
@@ -38,13 +36,11 @@ fn records_left_are_told_once_the_first_was_given(rt: HostRuntime) -> Result<(),
         ends(),
         has_records_left(0),
     ];
-    let other = other_in_numbers(&rt, LEAST, 2, &THREE, &script)?;
-    assert_same(&rt, other, None);
-    Ok(())
+    assert_plays_numbers(&rt, rt.alloc(), LEAST, 2, &THREE, &script);
 }
 
 #[test]
-fn no_record_is_left_of_an_entry_that_is_skipped(rt: HostRuntime) -> Result<(), Fail> {
+fn no_record_is_left_of_an_entry_that_is_skipped(rt: HostRuntime) {
     let script = [
         gives(stream(0, 0, 0, 0)),
         gives(stream(1, 5, 52, 56)),
@@ -54,7 +50,5 @@ fn no_record_is_left_of_an_entry_that_is_skipped(rt: HostRuntime) -> Result<(), 
         has_records_left(0),
         ends(),
     ];
-    let other = other_in_numbers(&rt, LEAST, 2, &THREE, &script)?;
-    assert_same(&rt, other, None);
-    Ok(())
+    assert_plays_numbers(&rt, rt.alloc(), LEAST, 2, &THREE, &script);
 }

@@ -1,25 +1,24 @@
 //! Openings that are refused one of their growths.
+use crate::files::file_of;
 use crate::opening::{Outcome, all, run_over};
-use crate::same::assert_same;
+use crate::same::assert_same_at;
 use crate::script::{LEAST, NAMED};
+use crate::walking::step_of;
 use mdmp_lister::{Choice, Limits, OpenFault, OpenRefused, RunFault, Walker};
 use mdmp_source::{MemoryStore, Source, Store};
-use mdmp_test_support::{
-    FAULTY, MEMORY64, MeteredHeap, OVERLAPPING, Refusal, SYSTEM, THRICE, file_of_numbers,
-};
+use mdmp_test_support::{MEMORY64, MeteredHeap, OVERLAPPING, Refusal, SYSTEM, THRICE};
 use std::alloc::{Allocator, Global};
 use std::process::Abort;
-use std::test::Fail;
 
 /// Who opens a file.
-#[derive(Clone, Copy, Debug, PartialEq, Eq)]
+#[derive(Clone, Copy)]
 enum Opener {
     Lister,
     Walker,
 }
 
 /// What comes of a file that is opened in a heap.
-#[derive(Clone, Copy, Debug, PartialEq, Eq)]
+#[derive(Clone, Copy)]
 struct MeteredOpening {
     outcome: Outcome,
     /// What comes of the source that is handed back, with ample memory.
@@ -29,37 +28,40 @@ struct MeteredOpening {
     out: u64,
 }
 
+/// Counts all items of a walker, at most a hundred.
+fn count_items<S: Store + Drop, A: Allocator + Copy>(walker: &mut Walker<S, A>) -> Outcome {
+    for count in 0..100 {
+        match step_of(walker) {
+            Ok(Some(_)) => {}
+            Ok(None) => return all(count, 0),
+            Err(found) => {
+                return Outcome::Listed {
+                    fault: Some(RunFault::At(found)),
+                    items: count,
+                    mapped: 0,
+                };
+            }
+        }
+    }
+    all(100, 0)
+}
+
 /// Counts all items of a walker, and then hands its source back.
 fn walk_over<S: Store + Drop, A: Allocator + Copy>(
     alloc: A,
     source: Source<S>,
     limits: Limits,
 ) -> (Outcome, Source<S>) {
-    let mut walker = match Walker::open(alloc, source, limits, Choice::All) {
-        Ok(walker) => walker,
+    match Walker::open(alloc, source, limits, Choice::All) {
+        Ok(mut walker) => {
+            let outcome = count_items(&mut walker);
+            (outcome, walker.into_source())
+        }
         Err(refused) => {
             let OpenRefused { fault, source } = refused;
-            return (Outcome::Refused(fault), source);
-        }
-    };
-    let mut items: u64 = 0;
-    let mut fault = None;
-    for _ in 0..100 {
-        match walker.next_step() {
-            Ok(Some(_)) => items = items.saturating_add(1),
-            Ok(None) => break,
-            Err(found) => {
-                fault = Some(RunFault::At(found));
-                break;
-            }
+            (Outcome::Refused(fault), source)
         }
     }
-    let outcome = Outcome::Listed {
-        fault,
-        items,
-        mapped: 0,
-    };
-    (outcome, walker.into_source())
 }
 
 /// Counts all items of a file, and then hands its source back.
@@ -96,8 +98,21 @@ fn opened_without(
     }
 }
 
-/// Each of so many growths may be refused: that ends the opening, all that was taken is given back, and
-/// the source that is handed back is opened with ample memory as if it was never refused.
+/// Asserts what comes of a file that is opened in a heap which refuses this growth alone: all that was taken is
+/// given back, and the source that is handed back is opened with ample memory as if it was never refused.
+fn assert_opened_without(
+    rt: &impl Abort,
+    found: MeteredOpening,
+    outcome: Outcome,
+    again: Outcome,
+    growths: u64,
+) {
+    assert_same_at(rt, &growths, found.outcome, outcome);
+    assert_same_at(rt, &growths, found.again, again);
+    assert_same_at(rt, &growths, (found.growths, found.out), (growths, 0));
+}
+
+/// Asserts that each of so many growths may be refused, which ends the opening, and that there are no more.
 fn assert_each_may_be_refused(
     rt: &impl Abort,
     alloc: Global,
@@ -107,86 +122,67 @@ fn assert_each_may_be_refused(
     growths: u64,
     outcome: Outcome,
 ) {
+    let refused = Outcome::Refused(OpenFault::Memory);
     for growth in 0..growths {
-        let refused = MeteredOpening {
-            outcome: Outcome::Refused(OpenFault::Memory),
-            again: outcome,
-            growths: growth.saturating_add(1),
-            out: 0,
-        };
-        assert_same(
-            rt,
-            opened_without(alloc, growth, file, limits, opener),
-            refused,
-        );
+        let found = opened_without(alloc, growth, file, limits, opener);
+        assert_opened_without(rt, found, refused, outcome, growth.saturating_add(1));
     }
-    let opened = MeteredOpening {
-        outcome,
-        again: outcome,
-        growths,
-        out: 0,
-    };
-    assert_same(
-        rt,
-        opened_without(alloc, growths, file, limits, opener),
-        opened,
-    );
+    let found = opened_without(alloc, growths, file, limits, opener);
+    assert_opened_without(rt, found, outcome, outcome, growths);
+}
+
+/// The same of a lister.
+fn assert_lister(
+    rt: &impl Abort,
+    alloc: Global,
+    file: &[u8],
+    limits: Limits,
+    growths: u64,
+    outcome: Outcome,
+) {
+    assert_each_may_be_refused(rt, alloc, file, limits, Opener::Lister, growths, outcome);
+}
+
+/// The same of a lister of a file with so many entries and these numbers.
+fn assert_lister_of_numbers(
+    rt: &impl Abort,
+    alloc: Global,
+    entries: u32,
+    numbers: &[u32],
+    growths: u64,
+    outcome: Outcome,
+) {
+    let file = file_of(rt, alloc, entries, numbers);
+    assert_lister(rt, alloc, &file, NAMED, growths, outcome);
 }
 
 #[test]
-fn each_growth_of_a_lister_may_be_refused(rt: HostRuntime) -> Result<(), Fail> {
+fn each_growth_of_a_lister_may_be_refused(rt: HostRuntime) {
     // A directory, a window, a name, and a map where memory is listed.
-    for (limits, file, growths, outcome) in [
-        (NAMED, &SYSTEM[..], 3, all(2, 0)),
-        (LEAST, &SYSTEM[..], 2, all(2, 0)),
-        (NAMED, &MEMORY64[..], 4, all(3, 1)),
-        (LEAST, &MEMORY64[..], 3, all(3, 1)),
-    ] {
-        assert_each_may_be_refused(
-            &rt,
-            rt.alloc(),
-            file,
-            limits,
-            Opener::Lister,
-            growths,
-            outcome,
-        );
-    }
-    for (entries, numbers, growths, outcome) in [
-        (3, &THRICE[..], 3, all(6, 0)),
-        (1, &OVERLAPPING[..], 4, all(3, 2)),
-    ] {
-        let file = file_of_numbers(rt.alloc(), entries, numbers)?;
-        assert_each_may_be_refused(
-            &rt,
-            rt.alloc(),
-            &file,
-            NAMED,
-            Opener::Lister,
-            growths,
-            outcome,
-        );
-    }
-    Ok(())
+    assert_lister(&rt, rt.alloc(), &SYSTEM, NAMED, 3, all(2, 0));
+    assert_lister(&rt, rt.alloc(), &SYSTEM, LEAST, 2, all(2, 0));
+    assert_lister(&rt, rt.alloc(), &MEMORY64, NAMED, 4, all(3, 1));
+    assert_lister(&rt, rt.alloc(), &MEMORY64, LEAST, 3, all(3, 1));
+    assert_lister_of_numbers(&rt, rt.alloc(), 3, &THRICE, 3, all(6, 0));
+    assert_lister_of_numbers(&rt, rt.alloc(), 1, &OVERLAPPING, 4, all(3, 2));
+}
+
+/// The same of a walker.
+fn assert_walker(
+    rt: &impl Abort,
+    alloc: Global,
+    file: &[u8],
+    limits: Limits,
+    growths: u64,
+    outcome: Outcome,
+) {
+    assert_each_may_be_refused(rt, alloc, file, limits, Opener::Walker, growths, outcome);
 }
 
 #[test]
-fn each_growth_of_a_walker_may_be_refused(rt: HostRuntime) -> Result<(), Fail> {
+fn each_growth_of_a_walker_may_be_refused(rt: HostRuntime) {
     // A directory, a window and a name: it has no map.
-    for (limits, file, growths, outcome) in [
-        (NAMED, &SYSTEM[..], 3, all(2, 0)),
-        (LEAST, &SYSTEM[..], 2, all(2, 0)),
-        (NAMED, &MEMORY64[..], 3, all(3, 0)),
-    ] {
-        assert_each_may_be_refused(
-            &rt,
-            rt.alloc(),
-            file,
-            limits,
-            Opener::Walker,
-            growths,
-            outcome,
-        );
-    }
-    Ok(())
+    assert_walker(&rt, rt.alloc(), &SYSTEM, NAMED, 3, all(2, 0));
+    assert_walker(&rt, rt.alloc(), &SYSTEM, LEAST, 2, all(2, 0));
+    assert_walker(&rt, rt.alloc(), &MEMORY64, NAMED, 3, all(3, 0));
 }

@@ -1,12 +1,13 @@
 //! The calls of one lister, or of one walker, in a row, and what each is to answer.
-use crate::given::{GivenItem, next_of};
-use crate::opening::chosen;
-use mdmp_lister::{Choice, Limits, ListFault, Lister, RunFault, StopAt};
+use crate::files::file_of;
+use crate::given::{GivenItem, plain};
+use crate::opening::{chosen, opened, patchy};
+use crate::same::{assert_same, assert_same_at};
+use mdmp_lister::{Choice, Item, Limits, ListFault, Lister, RunFault, StopAt};
 use mdmp_map::Place;
-use mdmp_source::{MemoryStore, Source, SourceFault, Store, inside};
-use mdmp_test_support::file_of_numbers;
-use std::alloc::{AllocError, Allocator};
-use std::test::Fail;
+use mdmp_source::{MemoryStore, SourceFault, Store, inside};
+use std::alloc::{Allocator, Global};
+use std::process::Abort;
 
 /// The least window, and no room for a name.
 pub const LEAST: Limits = Limits {
@@ -20,8 +21,26 @@ pub const NAMED: Limits = Limits {
     name: 4096,
 };
 
+/// The window and the room for a name that a caller has who says nothing.
+pub const STANDARD: Limits = Limits {
+    window: 65536,
+    name: 4096,
+};
+
+/// The least window, and names of at most eight bytes.
+pub const SHORT_NAMES: Limits = Limits {
+    window: 168,
+    name: 8,
+};
+
+/// A window of 176 bytes and names of 16, both multiples of 16 as a heap's blocks are.
+pub const WHOLE_BLOCKS: Limits = Limits {
+    window: 176,
+    name: 16,
+};
+
 /// A call of a lister or of a walker.
-#[derive(Clone, Copy, Debug, PartialEq, Eq)]
+#[derive(Clone, Copy)]
 pub enum ScriptStep {
     /// How many entries its header counts.
     Entries,
@@ -51,6 +70,8 @@ pub enum ScriptStep {
     Seek(usize),
     /// How many records the stream has whose Stream item was given last.
     Records,
+    /// Whether nothing was given yet.
+    Fresh,
 }
 
 /// What a call answers.
@@ -77,24 +98,16 @@ pub enum Answer {
     Numbers { size: u64, aside: u128 },
     RecordsLeft(u64),
     Counted(u64),
+    Fresh(bool),
     /// It has no such call, or it may not be called there.
     NoCall,
 }
 
 /// A call and its answer.
-#[derive(Clone, Copy, Debug, PartialEq, Eq)]
+#[derive(Clone, Copy)]
 pub struct Call {
     pub step: ScriptStep,
     pub answer: Answer,
-}
-
-/// What came of a script.
-#[derive(Clone, Copy, Debug, PartialEq, Eq)]
-pub struct Played {
-    /// The first call that answered something else, by its number, and what it answered.
-    pub other: Option<(usize, Answer)>,
-    /// The size of the source that was handed back.
-    pub size: u64,
 }
 
 fn called(step: ScriptStep, answer: Answer) -> Call {
@@ -221,10 +234,19 @@ pub fn cannot_count() -> Call {
     called(ScriptStep::Records, Answer::NoCall)
 }
 
+/// Whether nothing was given yet.
+pub fn is_fresh(expected: bool) -> Call {
+    called(ScriptStep::Fresh, Answer::Fresh(expected))
+}
+
 /// An item, the end or a fault as an answer.
-pub fn answer_by(given: Result<Option<GivenItem>, ListFault>) -> Answer {
+pub fn answer_by(
+    rt: &impl Abort,
+    alloc: Global,
+    given: Result<Option<Item<'_>>, ListFault>,
+) -> Answer {
     match given {
-        Ok(Some(item)) => Answer::Item(item),
+        Ok(Some(item)) => Answer::Item(plain(rt, alloc, &item)),
         Ok(None) => Answer::End,
         Err(fault) => Answer::Fault(fault),
     }
@@ -249,23 +271,36 @@ fn check<S: Store + Drop, A: Allocator + Copy>(
     Answer::Ran(fault, sink.calls())
 }
 
+/// So many bytes that are no answer, with zeros behind them.
+fn unread(len: usize) -> [u8; 16] {
+    let mut bytes = [0; 16];
+    for i in 0..len.min(16) {
+        bytes[i] = 0xee;
+    }
+    bytes
+}
+
+/// The same of what is known of memory at an address.
+fn unknown(address: u64, len: usize) -> [bool; 16] {
+    let mut known = [false; 16];
+    for i in 0..len.min(16) {
+        known[i] = address % 2 == 0;
+    }
+    known
+}
+
 fn read<S: Store + Drop, A: Allocator + Copy>(
     lister: &mut Lister<S, A>,
     address: u64,
     len: usize,
 ) -> Answer {
     let len = len.min(16);
-    // What stands there before is no answer.
-    let mut out = [0xee; 16];
-    let mut known = [address % 2 == 0; 16];
-    if let Err(fault) = lister.read_address(address, &mut out[..len], &mut known[..len]) {
-        return Answer::Failed(fault);
+    let mut out = unread(len);
+    let mut known = unknown(address, len);
+    match lister.read_address(address, &mut out[..len], &mut known[..len]) {
+        Ok(()) => Answer::Memory(out, known),
+        Err(fault) => Answer::Failed(fault),
     }
-    for i in len..16 {
-        out[i] = 0;
-        known[i] = false;
-    }
-    Answer::Memory(out, known)
 }
 
 fn read_part<S: Store + Drop, A: Allocator + Copy>(
@@ -277,26 +312,24 @@ fn read_part<S: Store + Drop, A: Allocator + Copy>(
     if !inside(at, len as u64, lister.size()) {
         return Answer::Outside;
     }
-    let mut out = [0xee; 16];
-    if let Err(fault) = lister.read_part(at, &mut out[..len]) {
-        return Answer::Failed(fault);
+    let mut out = unread(len);
+    match lister.read_part(at, &mut out[..len]) {
+        Ok(()) => Answer::Bytes(out),
+        Err(fault) => Answer::Failed(fault),
     }
-    for i in len..16 {
-        out[i] = 0;
-    }
-    Answer::Bytes(out)
 }
 
 /// What a lister answers to a call, and its sink comes to.
 pub fn answer_of<S: Store + Drop, A: Allocator + Copy>(
-    rt: &HostRuntime,
+    rt: &impl Abort,
+    alloc: Global,
     lister: &mut Lister<S, A>,
     sink: &mut StopAt,
     step: ScriptStep,
-) -> Result<Answer, AllocError> {
-    let answer = match step {
+) -> Answer {
+    match step {
         ScriptStep::Entries => Answer::Entries(lister.header().number_of_streams),
-        ScriptStep::Next => answer_by(next_of(rt, lister)?),
+        ScriptStep::Next => answer_by(rt, alloc, lister.next()),
         ScriptStep::Skip => {
             lister.skip_entry();
             Answer::Done
@@ -322,69 +355,89 @@ pub fn answer_of<S: Store + Drop, A: Allocator + Copy>(
             aside: lister.counts().aside,
         },
         ScriptStep::RecordsLeft => Answer::RecordsLeft(lister.records_left()),
+        ScriptStep::Fresh => Answer::Fresh(lister.is_fresh()),
         ScriptStep::Seek(_) | ScriptStep::Records => Answer::NoCall,
-    };
-    Ok(answer)
+    }
 }
 
-/// Plays a script over a lister of a store, up to the first call that answers something else.
+/// Asserts that a lister gives the answers of a script.
+fn assert_answers<S: Store + Drop>(
+    rt: &impl Abort,
+    alloc: Global,
+    lister: &mut Lister<S, Global>,
+    script: &[Call],
+) {
+    let mut sink = StopAt::new(u64::MAX);
+    for i in 0..script.len() {
+        let call = script[i];
+        let answer = answer_of(rt, alloc, lister, &mut sink, call.step);
+        assert_same_at(rt, &i, answer, call.answer);
+    }
+}
+
+/// Plays a script over a lister of a store, each of whose answers has to be that of the script: the size
+/// of the source that it hands back.
 pub fn play<S: Store + Drop>(
-    rt: &HostRuntime,
+    rt: &impl Abort,
+    alloc: Global,
     store: S,
     limits: Limits,
     choice: Choice,
     script: &[Call],
-) -> Result<Played, Fail> {
-    let Ok(mut lister) = Lister::open(rt.alloc(), Source::new(store), limits, choice) else {
-        return Err(Fail::from("open"));
-    };
-    let mut sink = StopAt::new(u64::MAX);
-    let mut other = None;
-    for i in 0..script.len() {
-        let call = script[i];
-        let answer = answer_of(rt, &mut lister, &mut sink, call.step)?;
-        if answer != call.answer {
-            other = Some((i, answer));
-            break;
-        }
-    }
-    let size = lister.into_source().size();
-    Ok(Played { other, size })
+) -> u64 {
+    let mut lister = opened(rt, alloc, store, limits, choice);
+    assert_answers(rt, alloc, &mut lister, script);
+    lister.into_source().size()
 }
 
-/// Plays a script over a lister of each entry of a file: the first call that answers something else.
-pub fn other_in_bytes(
-    rt: &HostRuntime,
-    limits: Limits,
-    file: &[u8],
-    script: &[Call],
-) -> Result<Option<(usize, Answer)>, Fail> {
-    let played = play(rt, MemoryStore::new(file), limits, Choice::All, script)?;
-    Ok(played.other)
+/// Asserts that a lister of each entry of a file gives the answers of a script.
+pub fn assert_plays(rt: &impl Abort, alloc: Global, limits: Limits, file: &[u8], script: &[Call]) {
+    let store = MemoryStore::new(file);
+    let size = play(rt, alloc, store, limits, Choice::All, script);
+    assert_same(rt, size, file.len() as u64);
 }
 
-/// The same over a file with so many entries and these numbers.
-pub fn other_in_numbers(
-    rt: &HostRuntime,
+/// The same of a file with so many entries and these numbers.
+pub fn assert_plays_numbers(
+    rt: &impl Abort,
+    alloc: Global,
     limits: Limits,
     entries: u32,
     numbers: &[u32],
     script: &[Call],
-) -> Result<Option<(usize, Answer)>, Fail> {
-    let file = file_of_numbers(rt.alloc(), entries, numbers)?;
-    other_in_bytes(rt, limits, &file, script)
+) {
+    let file = file_of(rt, alloc, entries, numbers);
+    assert_plays(rt, alloc, limits, &file, script);
 }
 
-/// The same over the entries of these types alone.
-pub fn other_of_chosen(
-    rt: &HostRuntime,
+/// The same of the entries of these types alone.
+pub fn assert_plays_chosen(
+    rt: &impl Abort,
+    alloc: Global,
     limits: Limits,
     entries: u32,
     numbers: &[u32],
     types: &[u32],
     script: &[Call],
-) -> Result<Option<(usize, Answer)>, Fail> {
-    let file = file_of_numbers(rt.alloc(), entries, numbers)?;
-    let played = play(rt, MemoryStore::new(&file), limits, chosen(types)?, script)?;
-    Ok(played.other)
+) {
+    let file = file_of(rt, alloc, entries, numbers);
+    let store = MemoryStore::new(&file);
+    let size = play(rt, alloc, store, limits, chosen(rt, types), script);
+    assert_same(rt, size, file.len() as u64);
+}
+
+/// The same of each entry of a file in a store that gives as many bytes a call as the caps say, in turn,
+/// and fails at this call, if at one.
+pub fn assert_plays_patchy(
+    rt: &impl Abort,
+    alloc: Global,
+    limits: Limits,
+    file: &[u8],
+    caps: &[usize],
+    fail_at: Option<u64>,
+    script: &[Call],
+) {
+    let store = patchy(rt, file, caps, fail_at);
+    let size = play(rt, alloc, store, limits, Choice::All, script);
+    assert_same(rt, size, file.len() as u64);
 }

@@ -1,24 +1,23 @@
 //! Entries that a walker goes to.
+use crate::files::{file_of, padded};
 use crate::given::{GivenItem, stream, thread};
-use crate::opening::chosen;
-use crate::same::assert_same;
+use crate::opening::{chosen, store_fault};
 use crate::script::{
-    Answer, Call, LEAST, cannot_count, cannot_seek, count_fails, counts, ends, entries, fails,
-    gives, seeks, skips,
+    Call, LEAST, cannot_count, cannot_seek, count_fails, counts, ends, entries, fails, gives,
+    seeks, skips,
 };
-use crate::walking::{open, open_over, other_by};
-use mdmp_lister::{Choice, FaultKind, ListFault};
-use mdmp_source::{PatchyStore, SourceFault};
-use mdmp_test_support::{THRICE, file_of_numbers};
+use crate::walking::{assert_walk, assert_walks_patchy, close, open};
+use mdmp_lister::{FaultKind, ListFault};
+use mdmp_test_support::THRICE;
 use std::alloc::Global;
-use std::test::Fail;
+use std::process::Abort;
 
 /// A list of two threads that three entries name, and an entry of five bytes that stands outside.
-fn two_threads(rt: &HostRuntime) -> Result<Vec<u8, Global>, Fail> {
-    let mut numbers = [0; 37];
-    numbers[..14].copy_from_slice(&[3, 100, 80, 3, 100, 80, 3, 100, 80, 10, 5, 1000, 2, 7]);
-    numbers[25] = 8;
-    Ok(file_of_numbers(rt.alloc(), 4, &numbers)?)
+fn two_threads() -> [u32; 37] {
+    padded(
+        &[3, 100, 80, 3, 100, 80, 3, 100, 80, 10, 5, 1000, 2, 7],
+        &[(25, 8)],
+    )
 }
 
 /// The fault of that entry.
@@ -86,62 +85,56 @@ fn whole() -> [Call; 11] {
     ]
 }
 
-/// The first call that answers something else, of a walker that made these calls, and of those of a
-/// walker that goes to the second entry then.
-fn other_behind(
-    rt: &HostRuntime,
-    file: &[u8],
-    reached: &[Call],
-) -> Result<(Option<(usize, Answer)>, Option<(usize, Answer)>), Fail> {
-    let mut walker = open(rt, file, chosen(&[3])?)?;
-    let before = other_by(rt, &mut walker, reached)?;
-    let behind = other_by(rt, &mut walker, &behind_a_seek())?;
-    Ok((before, behind))
+/// Asserts that a walker of the threads gives these answers, and those of one that goes to the second entry then.
+fn assert_sought_behind(rt: &impl Abort, alloc: Global, reached: &[Call]) {
+    let file = file_of(rt, alloc, 4, &two_threads());
+    let mut walker = open(rt, alloc, &file, chosen(rt, &[3]));
+    assert_walk(rt, alloc, &mut walker, reached);
+    assert_walk(rt, alloc, &mut walker, &behind_a_seek());
+    close(walker);
 }
 
 #[test]
-fn entry_is_sought_wherever_a_listing_stands(rt: HostRuntime) -> Result<(), Fail> {
-    let file = two_threads(&rt)?;
-    for reached in [
-        // Fresh, and behind a Stream item, whose records may be counted.
-        &[entries(4), cannot_count()][..],
-        &[begins(0)][..],
-        &[begins(0), counts(2)][..],
-        // In a stream, behind its last record, behind an entry that was skipped, and at the end.
-        &[begins(0), first(0)][..],
-        &[begins(0), first(0), second(0), cannot_count()][..],
-        &[begins(0), first(0), skips()][..],
-        &whole()[..],
-    ] {
-        assert_same(&rt, other_behind(&rt, &file, reached)?, (None, None));
-    }
-    Ok(())
+fn entry_is_sought_wherever_a_listing_stands(rt: HostRuntime) {
+    // Fresh, and behind a Stream item, whose records may be counted.
+    assert_sought_behind(&rt, rt.alloc(), &[entries(4), cannot_count()]);
+    assert_sought_behind(&rt, rt.alloc(), &[begins(0)]);
+    assert_sought_behind(&rt, rt.alloc(), &[begins(0), counts(2)]);
+    // In a stream, behind its last record, behind an entry that was skipped, and at the end.
+    assert_sought_behind(&rt, rt.alloc(), &[begins(0), first(0)]);
+    let last = [begins(0), first(0), second(0), cannot_count()];
+    assert_sought_behind(&rt, rt.alloc(), &last);
+    assert_sought_behind(&rt, rt.alloc(), &[begins(0), first(0), skips()]);
+    assert_sought_behind(&rt, rt.alloc(), &whole());
 }
 
 #[test]
-fn entry_is_sought_behind_another_and_behind_a_fault(rt: HostRuntime) -> Result<(), Fail> {
-    let file = two_threads(&rt)?;
-    for reached in [
-        // Where another is sought, or one that is not there is asked for.
-        &[seeks(2)][..],
-        &[seeks(2), begins(2)][..],
-        &[begins(0), cannot_seek(4)][..],
-        // At a fault of an entry, which is not chosen.
-        &[seeks(3), begins_outside(), fails(OUTSIDE), fails(OUTSIDE)][..],
-        &[seeks(3), begins_outside(), count_fails(OUTSIDE)][..],
-    ] {
-        assert_same(&rt, other_behind(&rt, &file, reached)?, (None, None));
-    }
-    Ok(())
+fn entry_is_sought_behind_another_and_behind_a_fault(rt: HostRuntime) {
+    // Where another is sought, or one that is not there is asked for.
+    assert_sought_behind(&rt, rt.alloc(), &[seeks(2)]);
+    assert_sought_behind(&rt, rt.alloc(), &[seeks(2), begins(2)]);
+    assert_sought_behind(&rt, rt.alloc(), &[begins(0), cannot_seek(4)]);
+    // At a fault of an entry, which is not chosen.
+    let told = [seeks(3), begins_outside(), fails(OUTSIDE), fails(OUTSIDE)];
+    assert_sought_behind(&rt, rt.alloc(), &told);
+    let counted = [seeks(3), begins_outside(), count_fails(OUTSIDE)];
+    assert_sought_behind(&rt, rt.alloc(), &counted);
+}
+
+/// Asserts that a walker of the threads gives the answers of a script over a file of four entries.
+fn assert_threads(rt: &impl Abort, alloc: Global, numbers: &[u32], script: &[Call]) {
+    let file = file_of(rt, alloc, 4, numbers);
+    let mut walker = open(rt, alloc, &file, chosen(rt, &[3]));
+    assert_walk(rt, alloc, &mut walker, script);
+    close(walker);
 }
 
 #[test]
-fn entry_that_is_not_chosen_may_be_sought(rt: HostRuntime) -> Result<(), Fail> {
+fn entry_that_is_not_chosen_may_be_sought(rt: HostRuntime) {
     // An unused entry, a thread list, one of five bytes that stands outside, and a thread list of three bytes.
     let numbers = [
         0, 0, 0, 3, 52, 80, 10, 5, 130, 3, 3, 80, 1, 7, 0, 0, 0, 0, 0, 0, 0, 0, 0, 0, 0,
     ];
-    let file = file_of_numbers(rt.alloc(), 4, &numbers)?;
     let outside = ListFault {
         entry: 2,
         index: None,
@@ -180,36 +173,29 @@ fn entry_that_is_not_chosen_may_be_sought(rt: HostRuntime) -> Result<(), Fail> {
         seeks(0),
         gives(stream(0, 0, 0, 0)),
     ];
-    let mut walker = open(&rt, &file, chosen(&[3])?)?;
-    assert_same(&rt, other_by(&rt, &mut walker, &script)?, None);
-    Ok(())
+    assert_threads(&rt, rt.alloc(), &numbers, &script);
+}
+
+/// Asserts that an entry is not sought behind this answer, which a fault of the store has.
+fn assert_not_sought(rt: &impl Abort, alloc: Global, failed: ListFault, told: Call) {
+    let script = [
+        seeks(2),
+        gives(stream(2, 3, 52, 68)),
+        told,
+        seeks(0),
+        skips(),
+        fails(failed),
+        fails(failed),
+        cannot_count(),
+    ];
+    let file = file_of(rt, alloc, 3, &THRICE);
+    // The header and the directory are read, and then the head of a stream.
+    assert_walks_patchy(rt, alloc, LEAST, &file, &[4096], Some(2), &script);
 }
 
 #[test]
-fn no_entry_is_sought_behind_a_fault_of_the_store(rt: HostRuntime) -> Result<(), Fail> {
-    let file = file_of_numbers(rt.alloc(), 3, &THRICE)?;
-    let failed = ListFault {
-        entry: 2,
-        index: None,
-        kind: FaultKind::Source(SourceFault::Failed { at: 68 }),
-        offset: 68,
-        size: 0,
-    };
-    for told in [count_fails(failed), fails(failed)] {
-        // The header and the directory are read, and then the head of a stream.
-        let store = PatchyStore::new(&file, &[4096], Some(2));
-        let mut walker = open_over(&rt, store, LEAST, Choice::All)?;
-        let script = [
-            seeks(2),
-            gives(stream(2, 3, 52, 68)),
-            told,
-            seeks(0),
-            skips(),
-            fails(failed),
-            fails(failed),
-            cannot_count(),
-        ];
-        assert_same(&rt, other_by(&rt, &mut walker, &script)?, None);
-    }
-    Ok(())
+fn no_entry_is_sought_behind_a_fault_of_the_store(rt: HostRuntime) {
+    let failed = store_fault(2, 68);
+    assert_not_sought(&rt, rt.alloc(), failed, count_fails(failed));
+    assert_not_sought(&rt, rt.alloc(), failed, fails(failed));
 }

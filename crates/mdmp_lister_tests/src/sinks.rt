@@ -1,59 +1,55 @@
 //! Sinks that stop at each item of a file in turn, and at each verdict.
-use crate::given::GivenItem;
-use crate::opening::chosen;
-use crate::same::assert_same;
 use crate::script::{
-    Call, NAMED, Played, checks, ends, gives, has_begun, play, runs, runs_on, skips,
+    Call, NAMED, assert_plays_chosen, checks, ends, has_begun, runs, runs_on, skips,
 };
 use crate::six::{STREAMS, six_items};
-use mdmp_lister::{Choice, RunFault};
-use mdmp_source::MemoryStore;
-use mdmp_test_support::{SIX, file_of_numbers};
-use std::test::Fail;
+use mdmp_lister::RunFault;
+use mdmp_test_support::SIX;
+use std::alloc::Global;
+use std::process::Abort;
 
-/// What comes of a script that is played to its end over the six streams.
-const PLAYED: Played = Played {
-    other: None,
-    size: 444,
-};
-
-/// Plays a script over the chosen entries of the six streams.
-fn played(rt: &HostRuntime, choice: Choice, script: &[Call]) -> Result<Played, Fail> {
-    let file = file_of_numbers(rt.alloc(), 6, &SIX)?;
-    play(rt, MemoryStore::new(&file), NAMED, choice, script)
+/// Asserts that a lister of the six streams, or of those of these types, gives the answers of a script.
+fn assert_six(rt: &impl Abort, alloc: Global, types: &[u32], script: &[Call]) {
+    assert_plays_chosen(rt, alloc, NAMED, 6, &SIX, types, script);
 }
 
-/// The next answer: this item, or the end behind the last one.
-fn comes(item: Option<&GivenItem>) -> Call {
+/// The next call: it gives this item, or the end behind the last one.
+fn comes(item: Option<&Call>) -> Call {
     match item {
-        Some(item) => gives(*item),
+        Some(call) => *call,
         None => ends(),
     }
 }
 
 /// The Stream item of this stream, or the end where there is none.
-fn begins(items: &[GivenItem; 9], stream: usize) -> Call {
+fn begins(items: &[Call; 9], stream: usize) -> Call {
     match STREAMS.get(stream) {
         Some(place) => comes(items.get(*place)),
         None => ends(),
     }
 }
 
+/// A run into a new sink that stops at this item and has it then.
+fn stops(stop_at: usize) -> Call {
+    let calls = stop_at.saturating_add(1);
+    runs(stop_at as u64, Some(RunFault::Stopped), calls as u64)
+}
+
+/// Asserts that a sink has the item at which it stops; the one behind it comes next, and the same sink takes all
+/// that are left.
+fn assert_stops(rt: &impl Abort, alloc: Global, items: &[Call; 9], stop_at: usize) {
+    let next = comes(items.get(stop_at.saturating_add(1)));
+    assert_six(rt, alloc, &[], &[stops(stop_at), next]);
+    assert_six(rt, alloc, &[], &[stops(stop_at), runs_on(None, 9), ends()]);
+}
+
 #[test]
-fn sink_stops_at_each_item_in_turn(rt: HostRuntime) -> Result<(), Fail> {
+fn sink_stops_at_each_item_in_turn(rt: HostRuntime) {
     let items = six_items();
     for stop_at in 0..9 {
-        let next = stop_at + 1;
-        let stopped = runs(stop_at as u64, Some(RunFault::Stopped), next as u64);
-        // It has the item; the one behind it comes next, and the same sink takes all that are left.
-        let script = [stopped, comes(items.get(next))];
-        assert_same(&rt, played(&rt, Choice::All, &script)?, PLAYED);
-        let script = [stopped, runs_on(None, 9), ends()];
-        assert_same(&rt, played(&rt, Choice::All, &script)?, PLAYED);
+        assert_stops(&rt, rt.alloc(), &items, stop_at);
     }
-    let script = [runs(9, None, 9), ends()];
-    assert_same(&rt, played(&rt, Choice::All, &script)?, PLAYED);
-    Ok(())
+    assert_six(&rt, rt.alloc(), &[], &[runs(9, None, 9), ends()]);
 }
 
 /// How many streams were begun when so many items had been given.
@@ -67,48 +63,54 @@ fn begun_by(count: usize) -> usize {
     begun
 }
 
+/// Asserts that behind a sink that stops at this item its entry is skipped, and the next stream is begun.
+fn assert_skipped(rt: &impl Abort, alloc: Global, items: &[Call; 9], stop_at: usize) {
+    let begun = begun_by(stop_at.saturating_add(1));
+    let script = [stops(stop_at), skips(), begins(items, begun)];
+    assert_six(rt, alloc, &[], &script);
+}
+
 #[test]
-fn entry_of_the_last_item_of_a_sink_is_skipped(rt: HostRuntime) -> Result<(), Fail> {
+fn entry_of_the_last_item_of_a_sink_is_skipped(rt: HostRuntime) {
     let items = six_items();
     for stop_at in 0..9 {
-        let next = stop_at + 1;
-        let script = [
-            runs(stop_at as u64, Some(RunFault::Stopped), next as u64),
-            skips(),
-            begins(&items, begun_by(next)),
-        ];
-        assert_same(&rt, played(&rt, Choice::All, &script)?, PLAYED);
+        assert_skipped(&rt, rt.alloc(), &items, stop_at);
     }
-    Ok(())
+}
+
+/// Verdicts for a new sink that stops at this one and has it then.
+fn stops_checking(stop_at: usize) -> Call {
+    let calls = stop_at.saturating_add(1);
+    checks(stop_at as u64, Some(RunFault::Stopped), calls as u64)
+}
+
+/// Asserts that a sink of verdicts has the one at which it stops, and the next stream is begun.
+fn assert_verdict(rt: &impl Abort, alloc: Global, items: &[Call; 9], stop_at: usize) {
+    let next = begins(items, stop_at.saturating_add(1));
+    let script = [stops_checking(stop_at), has_begun(), next];
+    assert_six(rt, alloc, &[], &script);
 }
 
 #[test]
-fn sink_stops_at_each_verdict_in_turn(rt: HostRuntime) -> Result<(), Fail> {
+fn sink_stops_at_each_verdict_in_turn(rt: HostRuntime) {
     let items = six_items();
     for stop_at in 0..6 {
-        let next = stop_at + 1;
-        let script = [
-            checks(stop_at as u64, Some(RunFault::Stopped), next as u64),
-            has_begun(),
-            begins(&items, next),
-        ];
-        assert_same(&rt, played(&rt, Choice::All, &script)?, PLAYED);
+        assert_verdict(&rt, rt.alloc(), &items, stop_at);
     }
     let script = [checks(6, None, 6), has_begun(), ends()];
-    assert_same(&rt, played(&rt, Choice::All, &script)?, PLAYED);
-    Ok(())
+    assert_six(&rt, rt.alloc(), &[], &script);
+}
+
+/// Asserts that a sink of the verdicts on a system, a thread and a stream of bytes stops at this one, and that
+/// this stream is begun then.
+fn assert_chosen_verdict(rt: &impl Abort, alloc: Global, stop_at: usize, next: usize) {
+    let script = [stops_checking(stop_at), begins(&six_items(), next)];
+    assert_six(rt, alloc, &[3, 7, 12], &script);
 }
 
 #[test]
-fn next_chosen_entry_comes_behind_a_verdict(rt: HostRuntime) -> Result<(), Fail> {
-    // A system, a thread and a stream of bytes.
-    let items = six_items();
-    for (stop_at, next) in [(0, 1), (1, 5), (2, 6)] {
-        let script = [
-            checks(stop_at, Some(RunFault::Stopped), stop_at + 1),
-            begins(&items, next),
-        ];
-        assert_same(&rt, played(&rt, chosen(&[3, 7, 12])?, &script)?, PLAYED);
-    }
-    Ok(())
+fn next_chosen_entry_comes_behind_a_verdict(rt: HostRuntime) {
+    assert_chosen_verdict(&rt, rt.alloc(), 0, 1);
+    assert_chosen_verdict(&rt, rt.alloc(), 1, 5);
+    assert_chosen_verdict(&rt, rt.alloc(), 2, 6);
 }

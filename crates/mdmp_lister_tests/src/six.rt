@@ -1,9 +1,10 @@
 //! What a lister gives of a file with six streams.
-use crate::given::{GivenItem, What, nameless, spelled, stream, system};
+use crate::given::{What, nameless, spelled, stream, system};
+use crate::script::{Call, gives};
 use mdmp_source::Extent;
 
-/// The items of `SIX`, where a name is not longer than its limit.
-pub fn six_items() -> [GivenItem; 9] {
+/// The calls that give the items of `SIX`, where a name is not longer than its limit.
+pub fn six_items() -> [Call; 9] {
     let thread = What::Thread {
         id: 7,
         stack: Extent::Inside,
@@ -15,17 +16,17 @@ pub fn six_items() -> [GivenItem; 9] {
         context: Extent::Inside,
     };
     [
-        stream(0, 7, 56, 104),
-        system(4, 7601, spelled("Service Pack 1")),
-        stream(1, 3, 52, 196),
-        nameless(1, 0, thread),
-        stream(2, 4, 4, 260),
-        stream(3, 6, 168, 264),
-        nameless(3, 0, exception),
-        stream(4, 5, 4, 436),
-        stream(5, 12, 4, 440),
+        gives(stream(0, 7, 56, 104)),
+        gives(system(4, 7601, spelled("Service Pack 1"))),
+        gives(stream(1, 3, 52, 196)),
+        gives(nameless(1, 0, thread)),
+        gives(stream(2, 4, 4, 260)),
+        gives(stream(3, 6, 168, 264)),
+        gives(nameless(3, 0, exception)),
+        gives(stream(4, 5, 4, 436)),
+        gives(stream(5, 12, 4, 440)),
     ]
 }
 
-/// The items of its streams alone, by their numbers.
+/// Those of its streams alone, by their numbers.
 pub const STREAMS: [usize; 6] = [0, 2, 4, 5, 7, 8];

@@ -1,21 +1,23 @@
 //! Stores that give one byte a call, each of whose calls fails in turn: what a lister and a walker gave by
 //! then, and what they answer.
-use crate::given::{GivenItem, What, nameless, range, stream};
-use crate::opening::open_and_close;
-use crate::same::assert_same;
+use crate::files::{file_of, padded};
+use crate::given::{module, range, stream};
+use crate::opening::{open_and_close, patchy, store_fault};
+use crate::same::{assert_same, assert_same_at};
 use crate::script::{
-    Answer, Call, NAMED, Played, checks, ends, fails, gives, has_begun, play, runs, runs_on, skips,
+    Call, NAMED, assert_plays_patchy, checks, ends, fails, gives, has_begun, runs, runs_on, skips,
 };
 use crate::six::six_items;
-use crate::walking::{open_over, other_by};
-use mdmp_lister::{Choice, FaultKind, ListFault, OpenFault, OpenRefused, RunFault, Walker};
+use crate::walking;
+use crate::walking::assert_walks_patchy;
+use mdmp_lister::{Choice, ListFault, OpenFault, RunFault};
 use mdmp_source::{Extent, PatchyStore, Source, SourceFault};
-use mdmp_test_support::{MEMORY64, SIX, file_of_numbers};
-use std::alloc::{AllocError, Global};
-use std::test::Fail;
+use mdmp_test_support::{MEMORY64, SIX};
+use std::alloc::Global;
+use std::process::Abort;
 
 /// Calls of a store, one behind the other: how many they are, and where the byte of the first one stands.
-#[derive(Clone, Copy, Debug)]
+#[derive(Clone, Copy)]
 struct StoreCalls {
     count: u64,
     place: u64,
@@ -44,13 +46,14 @@ fn listed(count: u64, place: u64, entry: u32, given: usize) -> StoreCalls {
 struct ReadFile<'a> {
     bytes: &'a [u8],
     entries: u64,
-    items: &'a [GivenItem],
+    /// All its items, as calls that give them.
+    items: &'a [Call],
     opening: &'a [StoreCalls],
     listing: &'a [StoreCalls],
 }
 
 /// Who reads a file, and how.
-#[derive(Clone, Copy, Debug, PartialEq, Eq)]
+#[derive(Clone, Copy)]
 enum Reading {
     /// A lister, by an item a call.
     Next,
@@ -62,233 +65,175 @@ enum Reading {
     Walk,
 }
 
-/// The fault of an entry whose byte at this place is not obtained.
-fn failed_in(entry: u32, at: u64) -> ListFault {
-    ListFault {
-        entry,
-        index: None,
-        kind: FaultKind::Source(SourceFault::Failed { at }),
-        offset: at,
-        size: 0,
-    }
+/// Puts these calls into a script.
+fn put(rt: &impl Abort, script: &mut Vec<Call>, calls: &[Call]) {
+    script.extend_from_slice(calls).expect(rt, "memory");
 }
 
-/// The first of these items.
-fn first_items(
-    alloc: Global,
-    items: &[GivenItem],
-    count: usize,
-) -> Result<Vec<Call, Global>, AllocError> {
-    let mut script = Vec::new(alloc);
-    for item in items.iter().take(count) {
-        script.push(gives(*item))?;
-    }
-    Ok(script)
+/// Puts the first of these calls, so many, into a script.
+fn put_first(rt: &impl Abort, script: &mut Vec<Call>, calls: &[Call], count: usize) {
+    put(rt, script, calls.get(..count).expect(rt, "so many items"));
 }
 
 /// What is answered where a call of the store fails: what was given by then, and the fault for good.
 fn failing_script(
+    rt: &impl Abort,
     alloc: Global,
     reading: Reading,
-    file: ReadFile<'_>,
+    items: &[Call],
     calls: StoreCalls,
     fault: ListFault,
-) -> Result<Vec<Call, Global>, AllocError> {
+) -> Vec<Call> {
     let mut script = Vec::new(alloc);
     let at = Some(RunFault::At(fault));
     match reading {
-        Reading::Next | Reading::Walk => script = first_items(alloc, file.items, calls.given)?,
-        Reading::Run => script.push(runs(u64::MAX, at, calls.given as u64))?,
+        Reading::Next | Reading::Walk => put_first(rt, &mut script, items, calls.given),
+        Reading::Run => put(rt, &mut script, &[runs(u64::MAX, at, calls.given as u64)]),
         Reading::Check => {
-            script.push(checks(u64::MAX, at, u64::from(calls.entry)))?;
-            script.push(has_begun())?;
+            let told = checks(u64::MAX, at, u64::from(calls.entry));
+            put(rt, &mut script, &[told, has_begun()]);
         }
     }
-    script.extend_from_slice(&[fails(fault), skips(), fails(fault)])?;
-    Ok(script)
+    put(rt, &mut script, &[fails(fault), skips(), fails(fault)]);
+    script
 }
 
 /// What is answered where no call fails.
-fn whole_script(
-    alloc: Global,
-    reading: Reading,
-    file: ReadFile<'_>,
-) -> Result<Vec<Call, Global>, AllocError> {
-    let count = file.items.len();
+fn whole_script(rt: &impl Abort, alloc: Global, reading: Reading, file: ReadFile<'_>) -> Vec<Call> {
+    let count = file.items.len() as u64;
     let mut script = Vec::new(alloc);
     match reading {
-        Reading::Next | Reading::Walk => script = first_items(alloc, file.items, count)?,
+        Reading::Next | Reading::Walk => put(rt, &mut script, file.items),
         Reading::Run => {
-            script.push(runs(u64::MAX, None, count as u64))?;
-            script.push(runs_on(None, count as u64))?;
+            let told = runs(u64::MAX, None, count);
+            put(rt, &mut script, &[told, runs_on(None, count)]);
         }
-        Reading::Check => script.push(checks(u64::MAX, None, file.entries))?,
+        Reading::Check => put(rt, &mut script, &[checks(u64::MAX, None, file.entries)]),
     }
-    script.push(ends())?;
-    Ok(script)
+    put(rt, &mut script, &[ends()]);
+    script
 }
 
-/// A store that gives one byte a call, and fails at this one.
-fn failing_at(bytes: &[u8], fail_at: u64) -> PatchyStore<'_> {
-    PatchyStore::new(bytes, &[1], Some(fail_at))
-}
-
-/// The first call that answers something else, of a lister or a walker over such a store.
-fn other_of(
-    rt: &HostRuntime,
+/// Asserts that a lister or a walker gives the answers of a script, over a store that gives one byte a call and
+/// fails at this one.
+fn assert_answers(
+    rt: &impl Abort,
+    alloc: Global,
     reading: Reading,
     bytes: &[u8],
     fail_at: u64,
     script: &[Call],
-) -> Result<Option<(usize, Answer)>, Fail> {
-    let store = failing_at(bytes, fail_at);
-    if reading == Reading::Walk {
-        let mut walker = open_over(rt, store, NAMED, Choice::All)?;
-        return Ok(other_by(rt, &mut walker, script)?);
+) {
+    match reading {
+        Reading::Walk => {
+            assert_walks_patchy(rt, alloc, NAMED, bytes, &[1], Some(fail_at), script);
+        }
+        _ => assert_plays_patchy(rt, alloc, NAMED, bytes, &[1], Some(fail_at), script),
     }
-    let Played { other, .. } = play(rt, store, NAMED, Choice::All, script)?;
-    Ok(other)
 }
 
-/// Why a lister or a walker of such a store is refused, and the size of the source that is handed back.
-fn refusal_of(
-    alloc: Global,
-    reading: Reading,
-    source: Source<PatchyStore<'_>>,
-) -> (Option<OpenFault>, u64) {
-    if reading == Reading::Walk {
-        return match Walker::open(alloc, source, NAMED, Choice::All) {
-            Ok(walker) => (None, walker.size()),
-            Err(refused) => {
-                let OpenRefused { fault, source } = refused;
-                (Some(fault), source.size())
-            }
-        };
-    }
-    let (fault, source) = open_and_close(alloc, source, NAMED, Choice::All);
+/// Why a lister or a walker of a store is refused, and the size of the source that is handed back.
+fn refusal_of(alloc: Global, reading: Reading, store: PatchyStore<'_>) -> (Option<OpenFault>, u64) {
+    let source = Source::new(store);
+    let (fault, source) = match reading {
+        Reading::Walk => walking::open_and_close(alloc, source, NAMED),
+        _ => open_and_close(alloc, source, NAMED, Choice::All),
+    };
     (fault, source.size())
 }
 
-/// The first of these calls, numbered from `first` on, whose failure is not told by a refusal that hands the
-/// source back.
-fn other_opening(
+/// Asserts that a failure of this call is told by a refusal that hands the source back.
+fn assert_refused(
+    rt: &impl Abort,
     alloc: Global,
     reading: Reading,
     bytes: &[u8],
-    first: u64,
-    calls: StoreCalls,
-) -> Option<u64> {
-    for call in 0..calls.count {
-        let fail_at = first.saturating_add(call);
-        let failed = SourceFault::Failed {
-            at: calls.place.saturating_add(call),
-        };
-        let refused = (Some(OpenFault::Source(failed)), bytes.len() as u64);
-        let source = Source::new(failing_at(bytes, fail_at));
-        if refusal_of(alloc, reading, source) != refused {
-            return Some(fail_at);
-        }
-    }
-    None
+    fail_at: u64,
+    at: u64,
+) {
+    let failed = OpenFault::Source(SourceFault::Failed { at });
+    let refusal = refusal_of(alloc, reading, patchy(rt, bytes, &[1], Some(fail_at)));
+    assert_same_at(rt, &fail_at, refusal, (Some(failed), bytes.len() as u64));
 }
 
-/// The first of these calls, numbered from `first` on, whose failure is not told for good behind what was
-/// given by then.
-fn other_listing(
-    rt: &HostRuntime,
-    reading: Reading,
-    file: ReadFile<'_>,
-    first: u64,
-    calls: StoreCalls,
-) -> Result<Option<u64>, Fail> {
-    for call in 0..calls.count {
-        let fail_at = first.saturating_add(call);
-        let fault = failed_in(calls.entry, calls.place.saturating_add(call));
-        let script = failing_script(rt.alloc(), reading, file, calls, fault)?;
-        if other_of(rt, reading, file.bytes, fail_at, &script)?.is_some() {
-            return Ok(Some(fail_at));
-        }
-    }
-    Ok(None)
-}
-
-/// How many calls these are.
-fn count_of(calls: &[StoreCalls]) -> u64 {
-    let mut count: u64 = 0;
-    for some in calls {
-        count = count.saturating_add(some.count);
-    }
-    count
-}
-
-/// The first call of those that open a file whose failure is answered otherwise.
-fn other_in_opening(alloc: Global, reading: Reading, file: ReadFile<'_>) -> Option<u64> {
-    let mut first: u64 = 0;
+/// Asserts that of each of the calls by which a file is opened, and gives how many they are.
+fn assert_opening(rt: &impl Abort, alloc: Global, reading: Reading, file: ReadFile<'_>) -> u64 {
+    let mut number: u64 = 0;
     for calls in file.opening {
-        if let Some(call) = other_opening(alloc, reading, file.bytes, first, *calls) {
-            return Some(call);
+        for i in 0..calls.count {
+            let at = calls.place.saturating_add(i);
+            assert_refused(rt, alloc, reading, file.bytes, number, at);
+            number = number.saturating_add(1);
         }
-        first = first.saturating_add(calls.count);
     }
-    None
+    number
 }
 
-/// The first call of those behind the opening whose failure is answered otherwise.
-fn other_in_listing(
-    rt: &HostRuntime,
+/// Asserts that a failure of this call is told for good behind what was given by then.
+fn assert_told(
+    rt: &impl Abort,
+    alloc: Global,
     reading: Reading,
     file: ReadFile<'_>,
-) -> Result<Option<u64>, Fail> {
-    let mut first = count_of(file.opening);
+    fail_at: u64,
+    calls: StoreCalls,
+    at: u64,
+) {
+    let fault = store_fault(calls.entry, at);
+    let script = failing_script(rt, alloc, reading, file.items, calls, fault);
+    assert_answers(rt, alloc, reading, file.bytes, fail_at, &script);
+}
+
+/// Asserts that of each of the calls behind the opening, which are numbered from `first` on, and gives the
+/// number behind them.
+fn assert_listing(
+    rt: &impl Abort,
+    alloc: Global,
+    reading: Reading,
+    file: ReadFile<'_>,
+    first: u64,
+) -> u64 {
+    let mut number = first;
     for calls in file.listing {
-        let other = other_listing(rt, reading, file, first, *calls)?;
-        if other.is_some() {
-            return Ok(other);
+        for i in 0..calls.count {
+            let at = calls.place.saturating_add(i);
+            assert_told(rt, alloc, reading, file, number, *calls, at);
+            number = number.saturating_add(1);
         }
-        first = first.saturating_add(calls.count);
     }
-    Ok(None)
+    number
 }
 
-/// What is found where each call that a file is read by fails in turn: the first one whose failure is answered
-/// otherwise, when the file is opened and behind that; and the first answer that is another one where a call
-/// fails behind them all.
-type CallsAnswered = (Option<u64>, Option<u64>, Option<(usize, Answer)>);
-
-/// Nothing of that kind.
-const NOTHING: CallsAnswered = (None, None, None);
-
-fn found_by(rt: &HostRuntime, reading: Reading, file: ReadFile<'_>) -> Result<CallsAnswered, Fail> {
-    let opening = other_in_opening(rt.alloc(), reading, file);
-    let listing = other_in_listing(rt, reading, file)?;
-    let all = count_of(file.opening).saturating_add(count_of(file.listing));
-    let script = whole_script(rt.alloc(), reading, file)?;
-    let behind = other_of(rt, reading, file.bytes, all, &script)?;
-    Ok((opening, listing, behind))
+/// Asserts what is answered where each call that a file is read by fails in turn, and where the one behind them
+/// all does, which is not made.
+fn assert_each_may_fail(rt: &impl Abort, alloc: Global, reading: Reading, file: ReadFile<'_>) {
+    let opening = assert_opening(rt, alloc, reading, file);
+    let all = assert_listing(rt, alloc, reading, file, opening);
+    let script = whole_script(rt, alloc, reading, file);
+    assert_answers(rt, alloc, reading, file.bytes, all, &script);
 }
 
-/// What is found of a lister that is asked for items, that hands them to a sink, and that hands verdicts to one;
+/// Asserts that of a lister that is asked for items, that hands them to a sink, and that hands verdicts to one;
 /// and of a walker, which opens the file by these calls.
-fn found_by_each(
-    rt: &HostRuntime,
+fn assert_each_reading(
+    rt: &impl Abort,
+    alloc: Global,
     file: ReadFile<'_>,
     for_a_walker: &[StoreCalls],
-) -> Result<[CallsAnswered; 4], Fail> {
+) {
+    assert_each_may_fail(rt, alloc, Reading::Next, file);
+    assert_each_may_fail(rt, alloc, Reading::Run, file);
+    assert_each_may_fail(rt, alloc, Reading::Check, file);
     let walked = ReadFile {
         opening: for_a_walker,
         ..file
     };
-    Ok([
-        found_by(rt, Reading::Next, file)?,
-        found_by(rt, Reading::Run, file)?,
-        found_by(rt, Reading::Check, file)?,
-        found_by(rt, Reading::Walk, walked)?,
-    ])
+    assert_each_may_fail(rt, alloc, Reading::Walk, walked);
 }
 
-#[test]
-fn each_call_over_six_streams_may_fail(rt: HostRuntime) -> Result<(), Fail> {
-    let bytes = file_of_numbers(rt.alloc(), 6, &SIX)?;
+/// Reads six streams so.
+fn assert_six(rt: &impl Abort, alloc: Global) {
+    let bytes = file_of(rt, alloc, 6, &SIX);
     let file = ReadFile {
         bytes: &bytes,
         entries: 6,
@@ -304,17 +249,20 @@ fn each_call_over_six_streams_may_fail(rt: HostRuntime) -> Result<(), Fail> {
             listed(4, 436, 4, 8),
         ],
     };
-    let found = found_by_each(&rt, file, &[opens(104, 0)])?;
-    assert_same(&rt, found, [NOTHING; 4]);
-    Ok(())
+    assert_each_reading(rt, alloc, file, &[opens(104, 0)]);
 }
 
 #[test]
-fn each_call_over_64_bit_memory_may_fail(rt: HostRuntime) -> Result<(), Fail> {
+fn each_call_over_six_streams_may_fail(rt: HostRuntime) {
+    assert_six(&rt, rt.alloc());
+}
+
+#[test]
+fn each_call_over_64_bit_memory_may_fail(rt: HostRuntime) {
     let items = [
-        stream(0, 9, 48, 44),
-        range(0, 0x1000, 4, Extent::Inside, 92),
-        range(1, 0x2000, 4, Extent::Outside, 96),
+        gives(stream(0, 9, 48, 44)),
+        gives(range(0, 0x1000, 4, Extent::Inside, 92)),
+        gives(range(1, 0x2000, 4, Extent::Outside, 96)),
     ];
     let file = ReadFile {
         bytes: &MEMORY64,
@@ -323,31 +271,21 @@ fn each_call_over_64_bit_memory_may_fail(rt: HostRuntime) -> Result<(), Fail> {
         opening: &[opens(44, 0), opens(16, 44)],
         listing: &[listed(48, 44, 0, 1)],
     };
-    let found = found_by_each(&rt, file, &[opens(44, 0)])?;
-    assert_same(&rt, found, [NOTHING; 4]);
-    Ok(())
+    assert_each_reading(&rt, rt.alloc(), file, &[opens(44, 0)]);
 }
 
-/// A module that says nothing, and has no parts.
-fn module(index: u64) -> GivenItem {
-    let what = What::Module {
-        base: 0,
-        codeview: Extent::Empty,
-        misc: Extent::Empty,
-    };
-    nameless(0, index, what)
-}
-
-#[test]
-fn each_call_over_a_list_longer_than_the_window_may_fail(rt: HostRuntime) -> Result<(), Fail> {
-    // Three modules: a fill for the head and the first of them, and one for each of the others.
-    let mut numbers = [0; 85];
-    numbers[..4].copy_from_slice(&[4, 328, 44, 3]);
-    let bytes = file_of_numbers(rt.alloc(), 1, &numbers)?;
+/// Reads three modules so: by a fill for the head and the first of them, and one for each of the others.
+fn assert_modules(rt: &impl Abort, alloc: Global) {
+    let bytes = file_of(rt, alloc, 1, &padded::<85>(&[4, 328, 44, 3], &[]));
     let file = ReadFile {
         bytes: &bytes,
         entries: 1,
-        items: &[stream(0, 4, 328, 44), module(0), module(1), module(2)],
+        items: &[
+            gives(stream(0, 4, 328, 44)),
+            gives(module(0, 0)),
+            gives(module(1, 0)),
+            gives(module(2, 0)),
+        ],
         opening: &[opens(44, 0)],
         listing: &[
             listed(168, 44, 0, 1),
@@ -355,20 +293,25 @@ fn each_call_over_a_list_longer_than_the_window_may_fail(rt: HostRuntime) -> Res
             listed(48, 324, 0, 3),
         ],
     };
-    let found = found_by_each(&rt, file, &[opens(44, 0)])?;
-    assert_same(&rt, found, [NOTHING; 4]);
-    Ok(())
+    assert_each_reading(rt, alloc, file, &[opens(44, 0)]);
 }
 
 #[test]
-fn store_that_gives_nothing_is_handed_back(rt: HostRuntime) -> Result<(), Fail> {
-    // Of a directory of a thousand entries, a byte, three, and none.
-    let bytes = file_of_numbers(rt.alloc(), 1000, &[0; 3000])?;
+fn each_call_over_a_list_longer_than_the_window_may_fail(rt: HostRuntime) {
+    assert_modules(&rt, rt.alloc());
+}
+
+/// Asserts that a store is handed back that gives of a directory of a thousand entries a byte, three, and none.
+fn assert_handed_back(rt: &impl Abort, alloc: Global, reading: Reading) {
+    let bytes = file_of(rt, alloc, 1000, &[0; 3000]);
+    let store = patchy(rt, &bytes, &[1, 3, 0], None);
     let short = OpenFault::Source(SourceFault::ShortRead { at: 4 });
-    for reading in [Reading::Next, Reading::Walk] {
-        let source = Source::new(PatchyStore::new(&bytes, &[1, 3, 0], None));
-        let refusal = refusal_of(rt.alloc(), reading, source);
-        assert_same(&rt, refusal, (Some(short), 12_032));
-    }
-    Ok(())
+    let refusal = refusal_of(alloc, reading, store);
+    assert_same(rt, refusal, (Some(short), 12_032));
+}
+
+#[test]
+fn store_that_gives_nothing_is_handed_back(rt: HostRuntime) {
+    assert_handed_back(&rt, rt.alloc(), Reading::Next);
+    assert_handed_back(&rt, rt.alloc(), Reading::Walk);
 }

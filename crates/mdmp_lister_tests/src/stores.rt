@@ -1,52 +1,42 @@
 //! A lister over stores that give few bytes a call, or fail.
 use crate::given::{range, spelled, stream, system};
-use crate::opening::{fault, open_and_close};
+use crate::opening::{fault, open_and_close, patchy};
 use crate::same::assert_same;
-use crate::script::{Call, LEAST, NAMED, Played, ends, fails, gives, play, runs, skips};
-use mdmp_lister::{Choice, FaultKind, Limits, OpenFault, RunFault};
-use mdmp_source::{Extent, PatchyStore, Source, SourceFault};
+use crate::script::{LEAST, NAMED, STANDARD, assert_plays_patchy, ends, fails, gives, runs, skips};
+use mdmp_lister::{Choice, FaultKind, OpenFault, RunFault};
+use mdmp_source::{Extent, Source, SourceFault};
 use mdmp_test_support::{MEMORY64, SYSTEM};
-use std::test::Fail;
-
-/// Plays a script over a store of one system, whose calls give so many bytes and may fail.
-fn played(
-    rt: &HostRuntime,
-    caps: &[usize; 136],
-    fail_at: Option<u64>,
-    script: &[Call],
-) -> Result<Played, Fail> {
-    let store = PatchyStore::new(&SYSTEM, caps, fail_at);
-    play(rt, store, Limits::default(), Choice::All, script)
-}
+use std::alloc::Global;
+use std::process::Abort;
 
 #[test]
-fn one_byte_a_call_gives_the_same_items(rt: HostRuntime) -> Result<(), Fail> {
-    let store = PatchyStore::new(&SYSTEM, &[1], None);
+fn one_byte_a_call_gives_the_same_items(rt: HostRuntime) {
     let script = [
         gives(stream(0, 7, 56, 44)),
         gives(system(4, 7601, spelled("Service Pack 1"))),
         ends(),
     ];
-    let played = play(&rt, store, NAMED, Choice::All, &script)?;
-    assert_same(&rt, played.other, None);
+    assert_plays_patchy(&rt, rt.alloc(), NAMED, &SYSTEM, &[1], None, &script);
 
-    let store = PatchyStore::new(&MEMORY64, &[1, 3], None);
     let script = [
         gives(stream(0, 9, 48, 44)),
         gives(range(0, 0x1000, 4, Extent::Inside, 92)),
         gives(range(1, 0x2000, 4, Extent::Outside, 96)),
         ends(),
     ];
-    let played = play(&rt, store, LEAST, Choice::All, &script)?;
-    assert_same(&rt, played.other, None);
-    Ok(())
+    assert_plays_patchy(&rt, rt.alloc(), LEAST, &MEMORY64, &[1, 3], None, &script);
 }
 
 /// Why a store of one system is not opened, and the size of the source that is handed back.
-fn refusal(rt: &HostRuntime, cap: usize, fail_at: Option<u64>) -> (Option<OpenFault>, u64) {
+fn refusal(
+    rt: &impl Abort,
+    alloc: Global,
+    cap: usize,
+    fail_at: Option<u64>,
+) -> (Option<OpenFault>, u64) {
     let caps = [cap];
-    let source = Source::new(PatchyStore::new(&SYSTEM, &caps, fail_at));
-    let (fault, source) = open_and_close(rt.alloc(), source, Limits::default(), Choice::All);
+    let source = Source::new(patchy(rt, &SYSTEM, &caps, fail_at));
+    let (fault, source) = open_and_close(alloc, source, STANDARD, Choice::All);
     (fault, source.size())
 }
 
@@ -58,36 +48,42 @@ fn store_that_fails_at_once_is_handed_back(rt: HostRuntime) {
         (0, None, SourceFault::ShortRead { at: 0 }),
     ] {
         let expected = (Some(OpenFault::Source(fault)), 136);
-        assert_same(&rt, refusal(&rt, cap, fail_at), expected);
+        let found = refusal(&rt, rt.alloc(), cap, fail_at);
+        assert_same(&rt, found, expected);
     }
 }
 
+/// Asserts that a fault of a store of one system stands for good, whose calls give one byte each, but the 45th
+/// as many as `cap`.
+fn assert_for_good(
+    rt: &impl Abort,
+    alloc: Global,
+    cap: usize,
+    fail_at: Option<u64>,
+    source_fault: SourceFault,
+    offset: u64,
+) {
+    let mut caps = [1; 136];
+    caps[44] = cap;
+    let fault = fault(None, FaultKind::Source(source_fault), offset, 0);
+    let script = [
+        gives(stream(0, 7, 56, 44)),
+        fails(fault),
+        skips(),
+        fails(fault),
+        runs(0, Some(RunFault::At(fault)), 0),
+    ];
+    assert_plays_patchy(rt, alloc, STANDARD, &SYSTEM, &caps, fail_at, &script);
+}
+
 #[test]
-fn store_fault_stands_for_good(rt: HostRuntime) -> Result<(), Fail> {
+fn store_fault_stands_for_good(rt: HostRuntime) {
     // One byte a call: call k is of the byte at k. The calls from 44 on are of the record, those
-    // from 100 on of its name. The 45th cap is 0 in the last case.
-    for (cap, fail_at, source_fault, offset) in [
-        (1, Some(44), SourceFault::Failed { at: 44 }, 44),
-        (1, Some(99), SourceFault::Failed { at: 99 }, 99),
-        (1, Some(100), SourceFault::Failed { at: 100 }, 100),
-        (1, Some(131), SourceFault::Failed { at: 131 }, 131),
-        (0, None, SourceFault::ShortRead { at: 44 }, 44),
-    ] {
-        let mut caps = [1; 136];
-        caps[44] = cap;
-        let fault = fault(None, FaultKind::Source(source_fault), offset, 0);
-        let script = [
-            gives(stream(0, 7, 56, 44)),
-            fails(fault),
-            skips(),
-            fails(fault),
-            runs(0, Some(RunFault::At(fault)), 0),
-        ];
-        let expected = Played {
-            other: None,
-            size: 136,
-        };
-        assert_same(&rt, played(&rt, &caps, fail_at, &script)?, expected);
+    // from 100 on of its name.
+    for at in [44, 99, 100, 131] {
+        let failed = SourceFault::Failed { at };
+        assert_for_good(&rt, rt.alloc(), 1, Some(at), failed, at);
     }
-    Ok(())
+    let short = SourceFault::ShortRead { at: 44 };
+    assert_for_good(&rt, rt.alloc(), 0, None, short, 44);
 }

@@ -1,45 +1,39 @@
 //! A walker that is opened, and its calls in a row.
-use crate::given::{GivenItem, plain};
+use crate::files::file_of;
+use crate::opening::patchy;
+use crate::same::assert_same_at;
 use crate::script::{Answer, Call, LEAST, ScriptStep, answer_by};
-use mdmp_lister::{Choice, Counts, Limits, ListFault, Step as Read, Walker};
-use mdmp_source::{MemoryStore, Source, Store};
-use std::alloc::{AllocError, Allocator, Global};
-use std::test::Fail;
+use mdmp_lister::{
+    Choice, Counts, Limits, ListFault, OpenFault, OpenRefused, Step as Read, Walker,
+};
+use mdmp_source::{MemoryStore, Source, SourceFault, Store, inside};
+use mdmp_wire::Entry;
+use std::alloc::{Allocator, Global};
+use std::process::Abort;
 
 /// A walker over a file in memory.
 pub type Walking<'a> = Walker<MemoryStore<'a>, Global>;
 
 /// A walker over a store.
 pub fn open_over<S: Store + Drop>(
-    rt: &HostRuntime,
+    rt: &impl Abort,
+    alloc: Global,
     store: S,
     limits: Limits,
     choice: Choice,
-) -> Result<Walker<S, Global>, Fail> {
-    match Walker::open(rt.alloc(), Source::new(store), limits, choice) {
-        Ok(walker) => Ok(walker),
-        Err(_) => Err(Fail::from("open")),
+) -> Walker<S, Global> {
+    match Walker::open(alloc, Source::new(store), limits, choice) {
+        Ok(walker) => walker,
+        Err(_) => panic!(rt; "a walker was refused"),
     }
 }
 
 /// A walker over a file in memory, by the least window.
-pub fn open<'a>(rt: &HostRuntime, file: &'a [u8], choice: Choice) -> Result<Walking<'a>, Fail> {
-    open_over(rt, MemoryStore::new(file), LEAST, choice)
+pub fn open<'a>(rt: &impl Abort, alloc: Global, file: &'a [u8], choice: Choice) -> Walking<'a> {
+    open_over(rt, alloc, MemoryStore::new(file), LEAST, choice)
 }
 
-/// What the next call of a walker answers.
-pub fn next_of<S: Store + Drop, A: Allocator + Copy>(
-    rt: &HostRuntime,
-    walker: &mut Walker<S, A>,
-) -> Result<Result<Option<GivenItem>, ListFault>, AllocError> {
-    match walker.next() {
-        Ok(Some(item)) => Ok(Ok(Some(plain(rt, &item)?))),
-        Ok(None) => Ok(Ok(None)),
-        Err(fault) => Ok(Err(fault)),
-    }
-}
-
-/// The same as it was read.
+/// What the next call of a walker answers, as it was read.
 pub fn step_of<S: Store + Drop, A: Allocator + Copy>(
     walker: &mut Walker<S, A>,
 ) -> Result<Option<Read>, ListFault> {
@@ -51,9 +45,71 @@ pub fn counts_of<S: Store + Drop, A: Allocator + Copy>(walker: &Walker<S, A>) ->
     walker.counts()
 }
 
+/// Closes a walker, which is short for the prover here, and long at the end of a function that does more.
+pub fn close<S: Store + Drop, A: Allocator + Copy>(walker: Walker<S, A>) {
+    let _ = walker.into_source();
+}
+
 /// What its source has fetched, once it is closed.
 pub fn fetched_of<S: Store + Drop, A: Allocator + Copy>(walker: Walker<S, A>) -> u128 {
     walker.into_source().fetched()
+}
+
+/// Opens a walker and closes it again: why it was refused, and the source.
+pub fn open_and_close<S: Store + Drop, A: Allocator + Copy>(
+    alloc: A,
+    source: Source<S>,
+    limits: Limits,
+) -> (Option<OpenFault>, Source<S>) {
+    match Walker::open(alloc, source, limits, Choice::All) {
+        Ok(walker) => (None, walker.into_source()),
+        Err(refused) => {
+            let OpenRefused { fault, source } = refused;
+            (Some(fault), source)
+        }
+    }
+}
+
+/// An entry of the directory, if there is one.
+pub fn entry_of<S: Store + Drop, A: Allocator + Copy>(
+    walker: &Walker<S, A>,
+    number: usize,
+) -> Option<Entry> {
+    if number < walker.header().number_of_streams as usize {
+        Some(walker.entry(number))
+    } else {
+        None
+    }
+}
+
+/// Whether an entry is chosen, if there is one.
+pub fn is_chosen<S: Store + Drop, A: Allocator + Copy>(
+    walker: &Walker<S, A>,
+    number: usize,
+) -> Option<bool> {
+    if number < walker.header().number_of_streams as usize {
+        Some(walker.is_chosen(number))
+    } else {
+        None
+    }
+}
+
+/// Four bytes of the file, or the fault of the store; none where it has not so many there.
+pub type PartRead = Option<Result<[u8; 4], SourceFault>>;
+
+/// What a walker reads at this place.
+pub fn part_of<S: Store + Drop, A: Allocator + Copy>(
+    walker: &mut Walker<S, A>,
+    at: u64,
+) -> PartRead {
+    if !inside(at, 4, walker.size()) {
+        return None;
+    }
+    let mut bytes = [0; 4];
+    match walker.read_part(at, &mut bytes) {
+        Ok(()) => Some(Ok(bytes)),
+        Err(fault) => Some(Err(fault)),
+    }
 }
 
 /// How many records a stream has whose Stream item was given last, or the fault in their place.
@@ -85,13 +141,14 @@ fn count<S: Store + Drop, A: Allocator + Copy>(walker: &mut Walker<S, A>) -> Ans
 
 /// What a walker answers to a call.
 pub fn answer_of<S: Store + Drop, A: Allocator + Copy>(
-    rt: &HostRuntime,
+    rt: &impl Abort,
+    alloc: Global,
     walker: &mut Walker<S, A>,
     step: ScriptStep,
-) -> Result<Answer, AllocError> {
-    let answer = match step {
+) -> Answer {
+    match step {
         ScriptStep::Entries => Answer::Entries(walker.header().number_of_streams),
-        ScriptStep::Next => answer_by(next_of(rt, walker)?),
+        ScriptStep::Next => answer_by(rt, alloc, walker.next()),
         ScriptStep::Skip => {
             walker.skip_entry();
             Answer::Done
@@ -99,22 +156,58 @@ pub fn answer_of<S: Store + Drop, A: Allocator + Copy>(
         ScriptStep::Seek(number) => seek(walker, number),
         ScriptStep::Records => count(walker),
         _ => Answer::NoCall,
-    };
-    Ok(answer)
+    }
 }
 
-/// The first of these calls that answers something else, by its number, and what it answers.
-pub fn other_by<S: Store + Drop, A: Allocator + Copy>(
-    rt: &HostRuntime,
+/// Asserts that a walker gives the answers of a script.
+pub fn assert_walk<S: Store + Drop, A: Allocator + Copy>(
+    rt: &impl Abort,
+    alloc: Global,
     walker: &mut Walker<S, A>,
     script: &[Call],
-) -> Result<Option<(usize, Answer)>, AllocError> {
+) {
     for i in 0..script.len() {
         let call = script[i];
-        let answer = answer_of(rt, walker, call.step)?;
-        if answer != call.answer {
-            return Ok(Some((i, answer)));
-        }
+        let answer = answer_of(rt, alloc, walker, call.step);
+        assert_same_at(rt, &i, answer, call.answer);
     }
-    Ok(None)
+}
+
+/// Asserts that a walker over each entry of a store gives the answers of a script.
+pub fn assert_walks<S: Store + Drop>(
+    rt: &impl Abort,
+    alloc: Global,
+    limits: Limits,
+    store: S,
+    script: &[Call],
+) {
+    let mut walker = open_over(rt, alloc, store, limits, Choice::All);
+    assert_walk(rt, alloc, &mut walker, script);
+    close(walker);
+}
+
+/// The same of a file in a store that gives as many bytes a call as the caps say, in turn, and fails at
+/// this call, if at one.
+pub fn assert_walks_patchy(
+    rt: &impl Abort,
+    alloc: Global,
+    limits: Limits,
+    file: &[u8],
+    caps: &[usize],
+    fail_at: Option<u64>,
+    script: &[Call],
+) {
+    assert_walks(rt, alloc, limits, patchy(rt, file, caps, fail_at), script);
+}
+
+/// The same of a file in memory with so many entries and these numbers, by the least window.
+pub fn assert_walks_numbers(
+    rt: &impl Abort,
+    alloc: Global,
+    entries: u32,
+    numbers: &[u32],
+    script: &[Call],
+) {
+    let file = file_of(rt, alloc, entries, numbers);
+    assert_walks(rt, alloc, LEAST, MemoryStore::new(&file), script);
 }

@@ -1,130 +1,135 @@
 //! Streams that pass through a window: how few fetches that takes, what a fill that fails leaves, and
 //! the same items by any window.
+use crate::files::{file_of, padded};
 use crate::given::{Named, stream, unloaded};
-use crate::opening::fault;
-use crate::same::{assert_same, assert_same_at};
-use crate::script::{LEAST, ends, gives, other_in_numbers, play};
-use mdmp_lister::{Choice, Counts, FaultKind, Limits, Lister, RunFault, StopAt};
-use mdmp_source::{MemoryStore, PatchyStore, Source, SourceFault, Store};
-use mdmp_test_support::file_of_numbers;
+use crate::opening::{close, counts_of, limits_of, list_all, opened, store_fault};
+use crate::same::assert_same;
+use crate::script::{LEAST, assert_plays_numbers, assert_plays_patchy, ends, gives, runs};
+use mdmp_lister::{Choice, Counts, RunFault};
+use mdmp_source::MemoryStore;
 use std::alloc::Global;
-use std::test::Fail;
+use std::process::Abort;
 
 /// Two unloaded modules, of base 1 and 2, without a name, whose records stand so many bytes apart.
 const APART_24: [u32; 18] = [14, 60, 44, 12, 24, 2, 1, 0, 0, 0, 0, 0, 2, 0, 0, 0, 0, 0];
 
 /// The same 1000 bytes apart.
 fn apart_1000() -> [u32; 506] {
-    let mut numbers = [0; 506];
-    numbers[..7].copy_from_slice(&[14, 2012, 44, 12, 1000, 2, 1]);
-    numbers[256] = 2;
-    numbers
+    padded(&[14, 2012, 44, 12, 1000, 2, 1], &[(256, 2)])
 }
 
-/// What is counted behind all items of a store.
-fn counts_of<S: Store + Drop>(alloc: Global, store: S, limits: Limits) -> Result<Counts, Fail> {
-    let opened = Lister::open(alloc, Source::new(store), limits, Choice::All);
-    let mut lister = opened.map_err(|_| "open")?;
-    let _ = lister.list_into(&mut StopAt::new(u64::MAX));
-    Ok(lister.counts())
+/// So many modules in a list of so many bytes.
+fn modules<const N: usize>(size: u32, count: u32) -> [u32; N] {
+    padded(&[4, size, 44, count], &[])
 }
 
 /// How many calls and bytes all items take of a file with one entry, with names of up to 16 bytes.
-fn spent(rt: &HostRuntime, window: u32, numbers: &[u32]) -> Result<(u128, u128), Fail> {
-    let file = file_of_numbers(rt.alloc(), 1, numbers)?;
-    let limits = Limits::new(window, 16).ok_or("limits")?;
-    let counts = counts_of(rt.alloc(), MemoryStore::new(&file), limits)?;
-    Ok((counts.calls, counts.fetched))
+fn spent(rt: &impl Abort, alloc: Global, window: u32, numbers: &[u32]) -> (u128, u128) {
+    let file = file_of(rt, alloc, 1, numbers);
+    let limits = limits_of(rt, window, 16);
+    let mut lister = opened(rt, alloc, MemoryStore::new(&file), limits, Choice::All);
+    let _ = list_all(&mut lister);
+    let Counts { calls, fetched, .. } = counts_of(&lister);
+    close(lister);
+    (calls, fetched)
+}
+
+/// Asserts that by a window all items take so many calls and bytes.
+fn assert_spent(
+    rt: &impl Abort,
+    alloc: Global,
+    window: u32,
+    numbers: &[u32],
+    calls: u128,
+    bytes: u128,
+) {
+    assert_same(rt, spent(rt, alloc, window, numbers), (calls, bytes));
 }
 
 #[test]
-fn stream_that_fits_the_window_is_one_fetch(rt: HostRuntime) -> Result<(), Fail> {
-    // 100 modules.
-    let mut numbers = [0; 2704];
-    numbers[..4].copy_from_slice(&[4, 10804, 44, 100]);
-    assert_same(&rt, spent(&rt, 65536, &numbers)?, (3, 44 + 10804));
+fn stream_that_fits_the_window_is_one_fetch(rt: HostRuntime) {
+    let hundred = modules::<2704>(10804, 100);
+    assert_spent(&rt, rt.alloc(), 65536, &hundred, 3, 44 + 10804);
 
     // Three of them, two of which have no room in the least window.
-    let mut numbers = [0; 85];
-    numbers[..4].copy_from_slice(&[4, 328, 44, 3]);
-    assert_same(&rt, spent(&rt, 65536, &numbers)?, (3, 44 + 328));
-    assert_same(&rt, spent(&rt, 168, &numbers)?, (5, 44 + 328));
+    let three = modules::<85>(328, 3);
+    assert_spent(&rt, rt.alloc(), 65536, &three, 3, 44 + 328);
+    assert_spent(&rt, rt.alloc(), 168, &three, 5, 44 + 328);
 
     // The same behind a count and four bytes more.
-    let mut numbers = [0; 86];
-    numbers[..4].copy_from_slice(&[4, 332, 44, 3]);
-    assert_same(&rt, spent(&rt, 65536, &numbers)?, (3, 44 + 332));
-    assert_same(&rt, spent(&rt, 168, &numbers)?, (5, 44 + 332));
-    Ok(())
+    let behind = modules::<86>(332, 3);
+    assert_spent(&rt, rt.alloc(), 65536, &behind, 3, 44 + 332);
+    assert_spent(&rt, rt.alloc(), 168, &behind, 5, 44 + 332);
 }
 
 #[test]
-fn names_leave_the_window_as_it_is(rt: HostRuntime) -> Result<(), Fail> {
+fn names_leave_the_window_as_it_is(rt: HostRuntime) {
     // Two modules, both named ab: a name is two fetches, of its length and of its units.
-    let mut numbers = [0; 60];
-    numbers[..5].copy_from_slice(&[4, 220, 44, 2, 1]);
-    numbers[9] = 264;
-    numbers[36] = 264;
-    numbers[58..].copy_from_slice(&[4, 0x00620061]);
-    assert_same(&rt, spent(&rt, 65536, &numbers)?, (3 + 4, 44 + 220 + 16));
-    assert_same(&rt, spent(&rt, 168, &numbers)?, (4 + 4, 44 + 220 + 16));
-    Ok(())
+    let numbers = padded::<60>(
+        &[4, 220, 44, 2, 1],
+        &[(9, 264), (36, 264), (58, 4), (59, 0x00620061)],
+    );
+    assert_spent(&rt, rt.alloc(), 65536, &numbers, 3 + 4, 44 + 220 + 16);
+    assert_spent(&rt, rt.alloc(), 168, &numbers, 4 + 4, 44 + 220 + 16);
+}
+
+/// Asserts that a list of so many bytes gives two unloaded modules, by the least window.
+fn assert_two(rt: &impl Abort, alloc: Global, size: u32, numbers: &[u32]) {
+    let script = [
+        gives(stream(0, 14, size, 44)),
+        gives(unloaded(0, 1, Named::None)),
+        gives(unloaded(1, 2, Named::None)),
+        ends(),
+    ];
+    assert_plays_numbers(rt, alloc, LEAST, 1, numbers, &script);
 }
 
 #[test]
-fn long_stride_is_jumped_over(rt: HostRuntime) -> Result<(), Fail> {
-    assert_same(&rt, spent(&rt, 168, &APART_24)?, (3, 44 + 60));
+fn long_stride_is_jumped_over(rt: HostRuntime) {
+    assert_spent(&rt, rt.alloc(), 168, &APART_24, 3, 44 + 60);
     // The head and what the window holds behind it, and the second record alone.
-    assert_same(&rt, spent(&rt, 168, &apart_1000())?, (4, 44 + 168 + 168));
-    for (numbers, second) in [(&APART_24[..], 60), (&apart_1000(), 2012)] {
-        let script = [
-            gives(stream(0, 14, second, 44)),
-            gives(unloaded(0, 1, Named::None)),
-            gives(unloaded(1, 2, Named::None)),
-            ends(),
-        ];
-        let other = other_in_numbers(&rt, LEAST, 1, numbers, &script)?;
-        assert_same(&rt, other, None);
-    }
-    Ok(())
+    let apart = apart_1000();
+    assert_spent(&rt, rt.alloc(), 168, &apart, 4, 44 + 168 + 168);
+    assert_two(&rt, rt.alloc(), 60, &APART_24);
+    assert_two(&rt, rt.alloc(), 2012, &apart);
+}
+
+/// Asserts that a run over three modules ends where this call of the store fails, behind so many items.
+fn assert_fill_fails(rt: &impl Abort, alloc: Global, fail_at: u64, at: u64, items: u64) {
+    let failed = RunFault::At(store_fault(0, at));
+    let script = [runs(u64::MAX, Some(failed), items)];
+    let file = file_of(rt, alloc, 1, &modules::<85>(328, 3));
+    assert_plays_patchy(rt, alloc, LEAST, &file, &[4096], Some(fail_at), &script);
 }
 
 #[test]
-fn fill_that_fails_leaves_the_records_that_are_held(rt: HostRuntime) -> Result<(), Fail> {
+fn fill_that_fails_leaves_the_records_that_are_held(rt: HostRuntime) {
     // Three modules: behind the header and the entry a fill for the head and the first of them, one for
     // the second, and one for the third.
-    let mut numbers = [0; 85];
-    numbers[..4].copy_from_slice(&[4, 328, 44, 3]);
-    let file = file_of_numbers(rt.alloc(), 1, &numbers)?;
-    for (fail_at, at, items) in [(2, 44, 1), (3, 212, 2), (4, 324, 3)] {
-        let store = PatchyStore::new(&file, &[4096], Some(fail_at));
-        let opened = Lister::open(rt.alloc(), Source::new(store), LEAST, Choice::All);
-        let mut lister = opened.map_err(|_| "open")?;
-        let mut sink = StopAt::new(u64::MAX);
-        let ended = lister.list_into(&mut sink).err();
-        let failed = FaultKind::Source(SourceFault::Failed { at });
-        assert_same(&rt, ended, Some(RunFault::At(fault(None, failed, at, 0))));
-        assert_same_at(&rt, &fail_at, sink.calls(), items);
-    }
-    Ok(())
+    assert_fill_fails(&rt, rt.alloc(), 2, 44, 1);
+    assert_fill_fails(&rt, rt.alloc(), 3, 212, 2);
+    assert_fill_fails(&rt, rt.alloc(), 4, 324, 3);
+}
+
+/// Asserts what is given by a window of two modules that stand 1000 bytes apart, in a store that gives as many
+/// bytes a call as the caps say, in turn.
+fn assert_apart(rt: &impl Abort, alloc: Global, window: u32, caps: &[usize; 2]) {
+    let script = [
+        gives(stream(0, 14, 2012, 44)),
+        gives(unloaded(0, 1, Named::None)),
+        gives(unloaded(1, 2, Named::None)),
+        ends(),
+    ];
+    let file = file_of(rt, alloc, 1, &apart_1000());
+    let limits = limits_of(rt, window, 0);
+    assert_plays_patchy(rt, alloc, limits, &file, caps, None, &script);
 }
 
 #[test]
-fn any_window_and_any_store_give_the_same_items(rt: HostRuntime) -> Result<(), Fail> {
-    let file = file_of_numbers(rt.alloc(), 1, &apart_1000())?;
+fn any_window_and_any_store_give_the_same_items(rt: HostRuntime) {
     for window in [168, 169, 255, 1012, 65536] {
-        let limits = Limits::new(window, 0).ok_or("limits")?;
-        for caps in [[4096, 4096], [1, 1], [1, 3]] {
-            let script = [
-                gives(stream(0, 14, 2012, 44)),
-                gives(unloaded(0, 1, Named::None)),
-                gives(unloaded(1, 2, Named::None)),
-                ends(),
-            ];
-            let store = PatchyStore::new(&file, &caps, None);
-            let played = play(&rt, store, limits, Choice::All, &script)?;
-            assert_same_at(&rt, &window, played.other, None);
-        }
+        assert_apart(&rt, rt.alloc(), window, &[4096, 4096]);
+        assert_apart(&rt, rt.alloc(), window, &[1, 1]);
+        assert_apart(&rt, rt.alloc(), window, &[1, 3]);
     }
-    Ok(())
 }
