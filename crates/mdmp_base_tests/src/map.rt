@@ -1,40 +1,68 @@
 //! The place of an address, among ranges and in a map of them.
 mod finding;
 mod gaps;
-mod room;
+pub mod room;
 mod steps;
 mod table;
 
-use crate::same::assert_same_at;
+use crate::same::{assert_same, assert_same_at};
 use mdmp_map::{AddressMap, Place};
-use std::alloc::{AllocError, Allocator};
+use std::alloc::{Allocator, Global};
 use std::process::Abort;
 
-/// A row of a test: an address and where it stands.
-type PlaceRow = (u64, Option<Place>);
+/// A row of a test: an address and where it stands, by its offset in the file and how many bytes are left.
+type PlaceRow = (u64, Option<(u64, u64)>);
 
-fn place(offset: u64, left: u64) -> Option<Place> {
+/// A range of a map: its start, its length and its offset in the file.
+type RangeRow = (u64, u64, u64);
+
+/// The place of a row.
+fn place(row: Option<(u64, u64)>) -> Option<Place> {
+    let (offset, left) = row?;
     Some(Place { offset, left })
 }
 
 /// An empty map with that room.
-fn with_room<A: Allocator>(alloc: A, room: usize) -> Result<AddressMap<A>, AllocError> {
-    AddressMap::with_room(alloc, room)
+fn with_room<A: Allocator>(rt: &impl Abort, alloc: A, room: usize) -> AddressMap<A> {
+    AddressMap::with_room(alloc, room).expect(rt, "a map")
 }
 
-/// Pushes ranges, each of them given by its start, its length and its offset in the file.
-fn push_all<A: Allocator>(rt: &impl Abort, map: &mut AddressMap<A>, ranges: &[(u64, u64, u64)]) {
-    for &(start, length, offset) in ranges {
-        assert!(rt; 0 < map.free());
-        assert!(rt; 0 < length);
-        assert!(rt; length <= u64::MAX - offset);
-        map.push(start, length, offset);
+/// Pushes a range.
+fn push<A: Allocator>(rt: &impl Abort, map: &mut AddressMap<A>, range: RangeRow) {
+    let (start, length, offset) = range;
+    assert!(rt; 0 < map.free());
+    assert!(rt; 0 < length);
+    assert!(rt; length <= u64::MAX - offset);
+    map.push(start, length, offset);
+}
+
+/// A map of these ranges, with that room.
+fn map_of<A: Allocator>(
+    rt: &impl Abort,
+    alloc: A,
+    room: usize,
+    ranges: &[RangeRow],
+) -> AddressMap<A> {
+    let mut map = with_room(rt, alloc, room);
+    for range in ranges {
+        push(rt, &mut map, *range);
     }
+    map
 }
 
-/// The map places each address as its row says.
+/// Asserts that the map is sorted, or that it is not.
+fn assert_sorted<A: Allocator>(rt: &impl Abort, map: &AddressMap<A>, expected: bool) {
+    assert_same(rt, map.is_sorted(), expected);
+}
+
+/// Asserts that the map places each address as its row says.
 fn assert_places<A: Allocator>(rt: &impl Abort, map: &AddressMap<A>, rows: &[PlaceRow]) {
     for (address, expected) in rows {
-        assert_same_at(rt, &address, map.find(*address), *expected);
+        assert_same_at(rt, &address, map.find(*address), place(*expected));
     }
+}
+
+/// Asserts that a map of these ranges, with room for no more, places each address as its row says.
+fn assert_ranges_place(rt: &impl Abort, alloc: Global, ranges: &[RangeRow], rows: &[PlaceRow]) {
+    assert_places(rt, &map_of(rt, alloc, ranges.len(), ranges), rows);
 }

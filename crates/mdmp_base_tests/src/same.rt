@@ -18,6 +18,11 @@ pub fn assert_same_at<T: PartialEq + Debug + Drop>(
     assert_eq!(rt; found, expected, "at {at:?}")
 }
 
+/// Asserts that what was found is not the other value.
+pub fn assert_different<T: PartialEq + Drop>(rt: &impl Abort, found: T, other: T) {
+    assert!(rt; found != other)
+}
+
 /// Asserts that this is so.
 pub fn assert_that(rt: &impl Abort, is_so: bool) {
     assert!(rt; is_so)

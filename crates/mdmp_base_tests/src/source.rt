@@ -5,21 +5,47 @@ mod outputs;
 mod places;
 mod stores;
 mod test_stores;
-mod windows;
+pub mod windows;
 
 use crate::same::{assert_same, assert_same_at};
-use mdmp_source::{Out, OutFailed, PatchyOut, write_all};
-use std::alloc::{AllocError, Global};
+use mdmp_source::{
+    FileStore, Out, OutFailed, PatchyOut, Source, SourceFault, Store, send, write_all,
+};
+use std::alloc::Global;
+use std::fs;
 use std::process::Abort;
+use std::rt::Files;
+
+/// What a fetch of four bytes ends with, and what it gave, with zeros behind it.
+type Fetched = (Option<SourceFault>, [u8; 4]);
+
+/// A fetch of the four bytes at 1.
+fn four_at_one<S: Store>(rt: &impl Abort, source: &mut Source<S>) -> Fetched {
+    assert!(rt; source.size() >= 5);
+    let mut bytes = [0; 4];
+    let fault = source.fetch(1, &mut bytes).err();
+    (fault, bytes)
+}
+
+/// A store over this file of the system.
+fn file_store<R: Files + Abort>(rt: &R, path: &str) -> FileStore<R::File> {
+    FileStore::open(rt, path).expect(rt, "a store")
+}
+
+/// Removes this file of the system.
+fn remove(rt: &(impl Files + Abort), path: &str) {
+    fs::remove_file(rt, path).expect(rt, "the removal of a file");
+}
 
 /// An output in memory that takes `cap` bytes a call and `room` in all, and may fail once.
-fn patchy_out(
+pub fn patchy_out(
+    rt: &impl Abort,
     alloc: Global,
     room: usize,
     cap: usize,
     fail_at: Option<u64>,
-) -> Result<PatchyOut<Global>, AllocError> {
-    PatchyOut::with_room(alloc, room, cap, fail_at)
+) -> PatchyOut<Global> {
+    PatchyOut::with_room(alloc, room, cap, fail_at).expect(rt, "an output")
 }
 
 /// Writes all of some bytes, and tells how the output answered.
@@ -27,14 +53,48 @@ fn write_whole<O: Out>(out: &mut O, bytes: &[u8]) -> Result<(), OutFailed> {
     write_all(out, bytes)
 }
 
-/// The output took these bytes.
+/// Asserts that the output took these bytes.
 fn assert_taken(rt: &impl Abort, out: &PatchyOut<Global>, expected: &[u8]) {
     assert_same(rt, out.bytes(), expected);
 }
 
-/// The output answers each write of these bytes as its row says.
-fn assert_writes<O: Out>(rt: &impl Abort, out: &mut O, rows: &[(&[u8], Result<usize, OutFailed>)]) {
-    for (bytes, expected) in rows {
-        assert_same_at(rt, &bytes, out.write(*bytes), *expected);
+/// A call of an output with these bytes, and what it answers.
+#[derive(Clone, Copy)]
+enum OutStep {
+    /// One write.
+    Write(&'static [u8], Result<usize, OutFailed>),
+    /// A write of all bytes.
+    WriteAll(&'static [u8], Result<(), OutFailed>),
+    /// Writes up to a refusal, by which so many went out.
+    Send(&'static [u8], usize),
+}
+
+/// What one write of these bytes answers.
+fn write_once<O: Out>(out: &mut O, bytes: &[u8]) -> Result<usize, OutFailed> {
+    out.write(bytes)
+}
+
+/// Writes bytes up to a refusal, and tells how many went out.
+fn sent<O: Out>(out: &mut O, bytes: &[u8]) -> usize {
+    send(out, bytes)
+}
+
+/// Asserts that the output answers each call as its step says.
+fn assert_out<O: Out>(rt: &impl Abort, out: &mut O, steps: &[OutStep]) {
+    for step in steps {
+        match *step {
+            OutStep::Write(bytes, answer) => {
+                assert_same_at(rt, &bytes, write_once(out, bytes), answer)
+            }
+            OutStep::WriteAll(bytes, answer) => {
+                assert_same_at(rt, &bytes, write_whole(out, bytes), answer)
+            }
+            OutStep::Send(bytes, count) => assert_same_at(rt, &bytes, sent(out, bytes), count),
+        }
     }
+}
+
+/// The bytes from one place up to another.
+pub fn part<'a>(rt: &impl Abort, bytes: &'a [u8], from: usize, to: usize) -> &'a [u8] {
+    bytes.get(from..to).expect(rt, "a part")
 }

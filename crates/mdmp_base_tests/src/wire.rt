@@ -5,4 +5,4 @@ mod fields;
 mod header;
 mod records;
 mod structures;
-mod units;
+pub mod units;

@@ -12,9 +12,18 @@ fn assert_places(rt: &impl Abort, ranges: &[Range], rows: &[PlaceRow])
     requires { All IsPlaced ranges.now }
 {
     for (address, expected) in rows {
-        assert_same_at(rt, &address, place_of(ranges, *address), *expected);
+        assert_same_at(rt, &address, place_of(ranges, *address), place(*expected));
     }
 }
+
+/// Places by two ranges that overlap.
+const FIRST_DECIDES: [PlaceRow; 5] = [
+    (0x1000, Some((80, 4))),
+    (0x1002, Some((82, 2))),
+    (0x1004, Some((86, 2))),
+    (0xfff, None),
+    (0x1006, None),
+];
 
 #[test]
 fn first_of_two_ranges_decides(rt: HostRuntime) {
@@ -30,14 +39,7 @@ fn first_of_two_ranges_decides(rt: HostRuntime) {
             offset: 84,
         },
     ];
-    let rows = [
-        (0x1000, place(80, 4)),
-        (0x1002, place(82, 2)),
-        (0x1004, place(86, 2)),
-        (0xfff, None),
-        (0x1006, None),
-    ];
-    assert_places(&rt, &ranges, &rows);
+    assert_places(&rt, &ranges, &FIRST_DECIDES);
 }
 
 #[test]
@@ -54,7 +56,7 @@ fn range_given_first_cuts_one_that_begins_before_it(rt: HostRuntime) {
             offset: 80,
         },
     ];
-    let rows = [(0x1000, place(80, 2)), (0x1002, place(84, 4))];
+    let rows = [(0x1000, Some((80, 2))), (0x1002, Some((84, 4)))];
     assert_places(&rt, &ranges, &rows);
 }
 
@@ -65,7 +67,7 @@ fn addresses_end_and_do_not_wrap(rt: HostRuntime) {
         length: 16,
         offset: 44,
     }];
-    let rows = [(0xFFFF_FFFF_FFFF_FFF8, place(44, 8)), (0, None)];
+    let rows = [(0xFFFF_FFFF_FFFF_FFF8, Some((44, 8))), (0, None)];
     assert_places(&rt, &ranges, &rows);
 }
 

@@ -1,88 +1,104 @@
 //! How far no range holds an address.
-use super::{assert_places, place, push_all, with_room};
-use crate::same::{assert_same, assert_same_at};
+use super::{PlaceRow, RangeRow, assert_ranges_place, assert_sorted, map_of};
+use crate::same::assert_same_at;
 use mdmp_map::{AddressMap, Found};
-use std::alloc::Allocator;
+use std::alloc::{Allocator, Global};
 use std::process::Abort;
-use std::test::Fail;
 
 /// How many addresses there are.
 const ALL: u128 = 1 << 64;
 
-/// From each of these addresses on so many are free, and the map is sorted or not. A look tells the
-/// place where there is one, and else the gap.
-fn assert_gaps<A: Allocator>(
+/// A row of a test: an address, and how many are free from there on.
+type GapRow = (u64, u128);
+
+/// Asserts that from this address on so many are free. A look tells the place where there is one, and
+/// else the gap.
+fn assert_gap<A: Allocator>(rt: &impl Abort, map: &AddressMap<A>, address: u64, expected: u128) {
+    assert_same_at(rt, &address, map.gap(address), expected);
+    let looked_up = match map.find(address) {
+        Some(place) => Found::Held(place),
+        None => Found::Gap(expected),
+    };
+    assert_same_at(rt, &address, map.look_up(address), looked_up);
+}
+
+/// Asserts that a map of these ranges is sorted or not, and that from each of these addresses on so many
+/// are free.
+fn assert_gaps(
     rt: &impl Abort,
-    map: &AddressMap<A>,
+    alloc: Global,
+    ranges: &[RangeRow],
     is_sorted: bool,
-    rows: &[(u64, u128)],
+    rows: &[GapRow],
 ) {
-    assert_same(rt, map.is_sorted(), is_sorted);
+    let map = map_of(rt, alloc, ranges.len(), ranges);
+    assert_sorted(rt, &map, is_sorted);
     for (address, expected) in rows {
-        assert_same_at(rt, &address, map.gap(*address), *expected);
-        let looked_up = match map.find(*address) {
-            Some(place) => Found::Held(place),
-            None => Found::Gap(*expected),
-        };
-        assert_same_at(rt, &address, map.look_up(*address), looked_up);
+        assert_gap(rt, &map, *address, *expected);
     }
 }
 
-#[test]
-fn empty_map_is_free_up_to_the_last_address(rt: HostRuntime) -> Result<(), Fail> {
-    let map = with_room(rt.alloc(), 0)?;
-    let rows = [(0, ALL), (0x1000, ALL - 0x1000), (u64::MAX, 1)];
-    assert_gaps(&rt, &map, true, &rows);
-    Ok(())
-}
+/// The gaps of an empty map.
+const NO_RANGE: [GapRow; 3] = [(0, ALL), (0x1000, ALL - 0x1000), (u64::MAX, 1)];
 
 #[test]
-fn gap_ends_where_a_range_begins(rt: HostRuntime) -> Result<(), Fail> {
-    let first = (0x1000, 4, 80);
-    let second = (0x2000, 16, 100);
-    let rows = [
-        (0, 0x1000),
-        (0xfff, 1),
-        (0x1000, 0),
-        (0x1003, 0),
-        (0x1004, 0xffc),
-        (0x1fff, 1),
-        (0x200f, 0),
-        (0x2010, ALL - 0x2010),
-        (u64::MAX, 1),
-    ];
-    for (ranges, is_sorted) in [([first, second], true), ([second, first], false)] {
-        let mut map = with_room(rt.alloc(), 2)?;
-        push_all(&rt, &mut map, &ranges);
-        assert_gaps(&rt, &map, is_sorted, &rows);
-    }
-    Ok(())
+fn empty_map_is_free_up_to_the_last_address(rt: HostRuntime) {
+    assert_gaps(&rt, rt.alloc(), &[], true, &NO_RANGE);
 }
 
+/// Two sorted ranges.
+const SORTED: [RangeRow; 2] = [(0x1000, 4, 80), (0x2000, 16, 100)];
+
+/// The same ranges, exchanged.
+const EXCHANGED: [RangeRow; 2] = [(0x2000, 16, 100), (0x1000, 4, 80)];
+
+/// The gaps beside them.
+const GAPS: [GapRow; 9] = [
+    (0, 0x1000),
+    (0xfff, 1),
+    (0x1000, 0),
+    (0x1003, 0),
+    (0x1004, 0xffc),
+    (0x1fff, 1),
+    (0x200f, 0),
+    (0x2010, ALL - 0x2010),
+    (u64::MAX, 1),
+];
+
 #[test]
-fn no_gap_is_behind_a_range_that_runs_past_the_last_address(rt: HostRuntime) -> Result<(), Fail> {
-    // If addresses did wrap, the last of these would end at 8.
-    let low = (8, 4, 80);
-    let last = (0xFFFF_FFFF_FFFF_FFF8, 16, 100);
-    let gaps = [
-        (0, 8),
-        (12, 0xFFFF_FFFF_FFFF_FFEC),
-        (0xFFFF_FFFF_FFFF_FFF7, 1),
-        (0xFFFF_FFFF_FFFF_FFF8, 0),
-        (u64::MAX, 0),
-    ];
-    let places = [
-        (0, None),
-        (9, place(81, 3)),
-        (0xFFFF_FFFF_FFFF_FFF7, None),
-        (0xFFFF_FFFF_FFFF_FFF8, place(100, 8)),
-        (u64::MAX, place(107, 1)),
-    ];
-    for (ranges, is_sorted) in [([low, last], true), ([last, low], false)] {
-        let mut map = with_room(rt.alloc(), 2)?;
-        push_all(&rt, &mut map, &ranges);
-        assert_gaps(&rt, &map, is_sorted, &gaps);
-        assert_places(&rt, &map, &places);
-    }
-    Ok(())
+fn gap_ends_where_a_range_begins(rt: HostRuntime) {
+    assert_gaps(&rt, rt.alloc(), &SORTED, true, &GAPS);
+    assert_gaps(&rt, rt.alloc(), &EXCHANGED, false, &GAPS);
+}
+
+/// A range at 8, and one that runs past the last address: if addresses did wrap, it would end at 8.
+const PAST_THE_LAST: [RangeRow; 2] = [(8, 4, 80), (0xFFFF_FFFF_FFFF_FFF8, 16, 100)];
+
+/// The same ranges, exchanged.
+const FROM_THE_LAST: [RangeRow; 2] = [(0xFFFF_FFFF_FFFF_FFF8, 16, 100), (8, 4, 80)];
+
+/// The gaps beside them.
+const LAST_GAPS: [GapRow; 5] = [
+    (0, 8),
+    (12, 0xFFFF_FFFF_FFFF_FFEC),
+    (0xFFFF_FFFF_FFFF_FFF7, 1),
+    (0xFFFF_FFFF_FFFF_FFF8, 0),
+    (u64::MAX, 0),
+];
+
+/// Places by them.
+const LAST_PLACES: [PlaceRow; 5] = [
+    (0, None),
+    (9, Some((81, 3))),
+    (0xFFFF_FFFF_FFFF_FFF7, None),
+    (0xFFFF_FFFF_FFFF_FFF8, Some((100, 8))),
+    (u64::MAX, Some((107, 1))),
+];
+
+#[test]
+fn no_gap_is_behind_a_range_that_runs_past_the_last_address(rt: HostRuntime) {
+    assert_gaps(&rt, rt.alloc(), &PAST_THE_LAST, true, &LAST_GAPS);
+    assert_gaps(&rt, rt.alloc(), &FROM_THE_LAST, false, &LAST_GAPS);
+    assert_ranges_place(&rt, rt.alloc(), &PAST_THE_LAST, &LAST_PLACES);
+    assert_ranges_place(&rt, rt.alloc(), &FROM_THE_LAST, &LAST_PLACES);
 }

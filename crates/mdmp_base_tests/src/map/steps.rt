@@ -2,14 +2,13 @@
 ghost use Rattle.std.specs.Prelude.{◌≡◌, ◌≤◌, ◌<◌, ◌+◌, length};
 ghost use Rattle.mdmp_map.specs.Ranges.{AreSorted};
 
-use super::{assert_places, place, push_all, with_room};
-use crate::same::assert_same;
+use super::{PlaceRow, RangeRow, assert_places, assert_sorted, map_of, push};
+use crate::same::assert_same_at;
 use mdmp_map::{AddressMap, Found, Place, Steps};
 use std::alloc::Allocator;
 use std::marker::Brand;
 use std::process::Abort;
 use std::sync::ledger::{Blank, Ledger};
-use std::test::Fail;
 
 /// Finds an address among five sorted ranges, in at most four steps.
 #[tactic(auto, using(crate::proofs::Steps::at_most_four))]
@@ -85,33 +84,53 @@ fn answers_in_four_steps<A: Allocator>(
     answers_under::<Brand, A>(map, address, Blank::new(1))
 }
 
-#[test]
-fn range_that_begins_before_the_last_one_ends_the_order(rt: HostRuntime) -> Result<(), Fail> {
-    let mut map = with_room(rt.alloc(), 6)?;
-    let ranges = [
-        (0x1000, 4, 80),
-        (0x1004, 4, 84),
-        (0x2000, 16, 100),
-        (0x3000, 1, 120),
-        (0x4000, 1, 121),
-    ];
-    push_all(&rt, &mut map, &ranges);
-    let held = Place {
-        offset: 86,
-        left: 2,
-    };
-    let rows = [
-        (0x1006, (Some(held), Found::Held(held), 0)),
-        (0x1fff, (None, Found::Gap(1), 1)),
-        (0xff8, (None, Found::Gap(8), 8)),
-    ];
+/// Asserts that such a map answers of each address as its row says.
+fn assert_answers<A: Allocator>(rt: &impl Abort, map: &AddressMap<A>, rows: &[(u64, StepAnswers)]) {
     for (address, expected) in rows {
-        assert_same(&rt, answers_in_four_steps(&rt, &map, address), expected);
+        assert_same_at(
+            rt,
+            &address,
+            answers_in_four_steps(rt, map, *address),
+            *expected,
+        );
     }
-    assert_places(&rt, &map, &[(0x1fff, None)]);
+}
 
-    push_all(&rt, &mut map, &[(0x1002, 4, 200)]);
-    assert!(rt; !map.is_sorted());
-    assert_places(&rt, &map, &[(0x1002, place(82, 2))]);
-    Ok(())
+/// Five sorted ranges.
+const FIVE: [RangeRow; 5] = [
+    (0x1000, 4, 80),
+    (0x1004, 4, 84),
+    (0x2000, 16, 100),
+    (0x3000, 1, 120),
+    (0x4000, 1, 121),
+];
+
+/// Where the second of them holds an address.
+const HELD: Place = Place {
+    offset: 86,
+    left: 2,
+};
+
+/// What is answered of one address that is held, and of two that are not.
+const ANSWERS: [(u64, StepAnswers); 3] = [
+    (0x1006, (Some(HELD), Found::Held(HELD), 0)),
+    (0x1fff, (None, Found::Gap(1), 1)),
+    (0xff8, (None, Found::Gap(8), 8)),
+];
+
+/// An address that none of them holds.
+const FREE: [PlaceRow; 1] = [(0x1fff, None)];
+
+/// The place of an address that the first of them holds, and a sixth that is pushed behind them.
+const FIRST: [PlaceRow; 1] = [(0x1002, Some((82, 2)))];
+
+#[test]
+fn range_that_begins_before_the_last_one_ends_the_order(rt: HostRuntime) {
+    let mut map = map_of(&rt, rt.alloc(), 6, &FIVE);
+    assert_answers(&rt, &map, &ANSWERS);
+    assert_places(&rt, &map, &FREE);
+
+    push(&rt, &mut map, (0x1002, 4, 200));
+    assert_sorted(&rt, &map, false);
+    assert_places(&rt, &map, &FIRST);
 }

@@ -2,14 +2,13 @@
 ghost use Rattle.std.specs.Prelude.{◌≡◌, ◌<◌, All};
 ghost use Rattle.mdmp_map.specs.Ranges.{IsPlaced};
 
-use super::with_room;
+use super::{push, with_room};
 use crate::same::assert_same_at;
 use mdmp_map::{AddressMap, Place, Range, Steps, place_of};
-use std::alloc::{AllocError, Allocator, Global};
+use std::alloc::{Allocator, Global};
 use std::marker::Brand;
 use std::process::Abort;
 use std::sync::ledger::{Blank, Ledger};
-use std::test::Fail;
 
 /// How far a gap is counted.
 const FAR: u8 = 16;
@@ -80,26 +79,19 @@ fn found<A: Allocator>(map: &AddressMap<A>, address: u64) -> TableAnswers {
 }
 
 /// A map of these ranges.
-fn map_of<A: Allocator>(
-    rt: &impl Abort,
-    alloc: A,
-    ranges: &[Range],
-) -> Result<AddressMap<A>, AllocError>
-    requires { All IsPlaced ranges.now }
-{
-    let mut map = with_room(alloc, ranges.len())?;
+fn map_of(rt: &impl Abort, alloc: Global, ranges: &[Range]) -> AddressMap<Global> {
+    let mut map = with_room(rt, alloc, ranges.len());
     for range in ranges {
-        assert!(rt; 0 < map.free());
-        map.push(range.start, range.length, range.offset);
+        push(rt, &mut map, (range.start, range.length, range.offset));
     }
-    Ok(map)
+    map
 }
 
-/// A map of these ranges finds the addresses up to 12 where the ranges have them.
-fn assert_agrees(rt: &impl Abort, alloc: Global, ranges: &[Range]) -> Result<(), AllocError>
+/// Asserts that a map of these ranges finds the addresses up to 12 where the ranges have them.
+fn assert_agrees(rt: &impl Abort, alloc: Global, ranges: &[Range])
     requires { All IsPlaced ranges.now }
 {
-    let map = map_of(rt, alloc, ranges)?;
+    let map = map_of(rt, alloc, ranges);
     assert_same_at(rt, &ranges, map.is_sorted(), are_sorted(ranges));
     for address in 0..13 {
         assert_same_at(
@@ -109,22 +101,20 @@ fn assert_agrees(rt: &impl Abort, alloc: Global, ranges: &[Range]) -> Result<(),
             expected(ranges, address),
         );
     }
-    Ok(())
 }
 
 #[test]
-fn maps_of_up_to_three_ranges_agree_with_the_scan(rt: HostRuntime) -> Result<(), Fail> {
-    assert_agrees(&rt, rt.alloc(), &[])?;
+fn maps_of_up_to_three_ranges_agree_with_the_scan(rt: HostRuntime) {
+    assert_agrees(&rt, rt.alloc(), &[]);
     for first in 0..18 {
         let first = range_of(first, 80);
-        assert_agrees(&rt, rt.alloc(), &[first])?;
+        assert_agrees(&rt, rt.alloc(), &[first]);
         for second in 0..18 {
             let second = range_of(second, 100);
-            assert_agrees(&rt, rt.alloc(), &[first, second])?;
+            assert_agrees(&rt, rt.alloc(), &[first, second]);
             for third in 0..18 {
-                assert_agrees(&rt, rt.alloc(), &[first, second, range_of(third, 120)])?;
+                assert_agrees(&rt, rt.alloc(), &[first, second, range_of(third, 120)]);
             }
         }
     }
-    Ok(())
 }

@@ -1,32 +1,44 @@
 //! Outputs that gather small writes into blocks.
-ghost use Rattle.std.specs.Prelude.{◌<◌};
-
-use super::{assert_taken, assert_writes, patchy_out, write_whole};
-use crate::same::{assert_same, assert_same_at};
+use super::{OutStep, assert_out, assert_taken, patchy_out};
+use crate::same::assert_same;
 use mdmp_source::{BlockOut, Out, OutFailed, PatchyOut};
 use std::alloc::Global;
 use std::process::Abort;
-use std::test::Fail;
+
+/// Blocks over an output in memory.
+pub type PatchyBlocks = BlockOut<PatchyOut<Global>, Global>;
+
+/// A write of three bytes.
+const PIECE: OutStep = OutStep::WriteAll(b"abc", Ok(()));
 
 /// What gathers blocks of `room` bytes for an output.
-fn blocks_of<O: Out + Drop>(alloc: Global, room: usize, inner: O) -> Option<BlockOut<O, Global>>
-    requires { 0 < room }
-{
+fn blocks_of<O: Out + Drop>(
+    rt: &impl Abort,
+    alloc: Global,
+    room: usize,
+    inner: O,
+) -> BlockOut<O, Global> {
+    assert!(rt; 0 < room);
     match BlockOut::with_room(alloc, room, inner) {
-        Ok(blocks) => Some(blocks),
-        Err(_) => None,
+        Ok(blocks) => blocks,
+        Err(_) => rt.panic("a block"),
     }
 }
 
-/// Writes all of each piece.
-fn write_pieces<O: Out>(rt: &impl Abort, blocks: &mut BlockOut<O, Global>, pieces: &[&[u8]]) {
-    for piece in pieces {
-        assert_same_at(rt, &piece, write_whole(blocks, *piece), Ok(()));
-    }
+/// What gathers blocks for an output in a buffer of that room.
+fn blocks_over(
+    rt: &impl Abort,
+    alloc: Global,
+    room: usize,
+    inner: PatchyOut<Global>,
+) -> PatchyBlocks {
+    assert!(rt; 0 < room);
+    let buffer = Vec::with_capacity(alloc, room).expect(rt, "a buffer");
+    BlockOut::over(buffer, inner)
 }
 
-/// These bytes are pending.
-fn assert_pending<O: Out>(rt: &impl Abort, blocks: &BlockOut<O, Global>, expected: &[u8]) {
+/// Asserts that these bytes are pending.
+pub fn assert_pending<O: Out>(rt: &impl Abort, blocks: &BlockOut<O, Global>, expected: &[u8]) {
     assert_same(rt, blocks.pending(), expected);
 }
 
@@ -35,59 +47,114 @@ fn flush_all<O: Out>(rt: &impl Abort, blocks: &mut BlockOut<O, Global>) {
     assert_same(rt, blocks.flush(), Ok(()));
 }
 
+/// Asserts that an output that is lent gets three pieces of three bytes by blocks of four.
+fn assert_gathers(rt: &impl Abort, alloc: Global, inner: &mut PatchyOut<Global>) {
+    let mut blocks = blocks_of(rt, alloc, 4, inner);
+    assert_out(rt, &mut blocks, &[PIECE; 3]);
+    assert_taken(rt, *blocks.inner(), b"abcabcab");
+    assert_pending(rt, &blocks, b"c");
+    flush_all(rt, &mut blocks);
+    assert_pending(rt, &blocks, b"");
+}
+
 #[test]
-fn block_out_gathers_writes(rt: HostRuntime) -> Result<(), Fail> {
-    let mut inner = patchy_out(rt.alloc(), 100, 100, None)?;
-    {
-        let mut blocks = blocks_of(rt.alloc(), 4, &mut inner).ok_or("room")?;
-        write_pieces(&rt, &mut blocks, &[b"abc".as_slice(); 3]);
-        assert_taken(&rt, *blocks.inner(), b"abcabcab");
-        assert_pending(&rt, &blocks, b"c");
-        flush_all(&rt, &mut blocks);
-        assert_pending(&rt, &blocks, b"");
-    }
+fn block_out_gathers_writes(rt: HostRuntime) {
+    let mut inner = patchy_out(&rt, rt.alloc(), 100, 100, None);
+    assert_gathers(&rt, rt.alloc(), &mut inner);
     assert_taken(&rt, &inner, b"abcabcabc");
-    Ok(())
 }
 
-#[test]
-fn block_out_keeps_what_was_refused(rt: HostRuntime) -> Result<(), Fail> {
-    let inner = patchy_out(rt.alloc(), 100, 3, Some(1))?;
-    let mut blocks = blocks_of(rt.alloc(), 8, inner).ok_or("room")?;
-    write_pieces(&rt, &mut blocks, &[b"abcdefgh".as_slice()]);
-    assert_writes(&rt, &mut blocks, &[(b"i".as_slice(), Err(OutFailed))]);
-    assert_taken(&rt, blocks.inner(), b"abc");
-    assert_pending(&rt, &blocks, b"defgh");
-    assert_writes(&rt, &mut blocks, &[(b"i".as_slice(), Ok(1))]);
-    flush_all(&rt, &mut blocks);
-    assert_taken(&rt, blocks.inner(), b"abcdefghi");
-    Ok(())
+/// A step with blocks over an output in memory, and what it answers.
+#[derive(Clone, Copy)]
+enum BlockStep {
+    /// A call of an output.
+    Out(OutStep),
+    /// Writes what is pending.
+    Flush,
+    /// The inner output took the first bytes, and the others are pending.
+    Holds(&'static [u8], &'static [u8]),
 }
 
-#[test]
-fn block_of_a_buffer_is_its_room(rt: HostRuntime) -> Result<(), Fail> {
-    let inner = patchy_out(rt.alloc(), 100, 100, None)?;
-    let mut blocks = BlockOut::over(Vec::with_capacity(rt.alloc(), 2)?, inner);
-    write_pieces(&rt, &mut blocks, &[b"abc".as_slice()]);
-    assert_taken(&rt, blocks.inner(), b"ab");
-    assert_pending(&rt, &blocks, b"c");
-    Ok(())
+/// Blocks of `room` bytes over an output that takes `cap` bytes a call and 100 in all, and may fail once.
+pub fn patchy_blocks(
+    rt: &impl Abort,
+    alloc: Global,
+    room: usize,
+    cap: usize,
+    fail_at: Option<u64>,
+) -> PatchyBlocks {
+    blocks_of(rt, alloc, room, patchy_out(rt, alloc, 100, cap, fail_at))
 }
 
-#[test]
-fn inner_output_comes_back_without_what_is_pending(rt: HostRuntime) -> Result<(), Fail> {
-    let inner = patchy_out(rt.alloc(), 100, 100, None)?;
-    let mut blocks = blocks_of(rt.alloc(), 2, inner).ok_or("room")?;
-    write_pieces(&rt, &mut blocks, &[b"abc".as_slice()]);
-    assert_taken(&rt, &blocks.into_inner(), b"ab");
-    Ok(())
+/// Asserts that the inner output took some bytes, and that others are pending.
+fn assert_holds(rt: &impl Abort, blocks: &PatchyBlocks, taken: &[u8], pending: &[u8]) {
+    assert_taken(rt, blocks.inner(), taken);
+    assert_pending(rt, blocks, pending);
 }
 
+/// Asserts that the inner output that is had back took these bytes.
+pub fn assert_given_back(rt: &impl Abort, blocks: PatchyBlocks, expected: &[u8]) {
+    assert_taken(rt, &blocks.into_inner(), expected);
+}
+
+/// Asserts that the blocks answer each step as it says, and that the inner output has taken these bytes then.
+fn assert_blocks(
+    rt: &impl Abort,
+    mut blocks: PatchyBlocks,
+    steps: &[BlockStep],
+    given_back: &[u8],
+) {
+    for step in steps {
+        match *step {
+            BlockStep::Out(step) => assert_out(rt, &mut blocks, &[step]),
+            BlockStep::Flush => flush_all(rt, &mut blocks),
+            BlockStep::Holds(taken, pending) => assert_holds(rt, &blocks, taken, pending),
+        }
+    }
+    assert_given_back(rt, blocks, given_back);
+}
+
+/// A block that fills, a write behind it that the inner output refuses, and one that it takes.
+const REFUSED_ONCE: [BlockStep; 6] = [
+    BlockStep::Out(OutStep::WriteAll(b"abcdefgh", Ok(()))),
+    BlockStep::Out(OutStep::Write(b"i", Err(OutFailed))),
+    BlockStep::Holds(b"abc", b"defgh"),
+    BlockStep::Out(OutStep::Write(b"i", Ok(1))),
+    BlockStep::Flush,
+    BlockStep::Holds(b"abcdefghi", b""),
+];
+
 #[test]
-fn with_room_succeeds(rt: HostRuntime) -> Result<(), Fail> {
-    let inner = patchy_out(rt.alloc(), 5, 5, None)?;
-    assert_taken(&rt, &inner, b"");
-    let blocks = blocks_of(rt.alloc(), 5, inner).ok_or("room")?;
-    assert_pending(&rt, &blocks, b"");
-    Ok(())
+fn block_out_keeps_what_was_refused(rt: HostRuntime) {
+    let blocks = patchy_blocks(&rt, rt.alloc(), 8, 3, Some(1));
+    assert_blocks(&rt, blocks, &REFUSED_ONCE, b"abcdefghi");
+}
+
+/// What a block of two bytes makes of three.
+const TWO_OF_THREE: [BlockStep; 2] = [BlockStep::Out(PIECE), BlockStep::Holds(b"ab", b"c")];
+
+#[test]
+fn block_of_a_buffer_is_its_room(rt: HostRuntime) {
+    let inner = patchy_out(&rt, rt.alloc(), 100, 100, None);
+    let blocks = blocks_over(&rt, rt.alloc(), 2, inner);
+    assert_blocks(&rt, blocks, &TWO_OF_THREE, b"ab");
+}
+
+/// A write of three bytes, and no more.
+const ONE_PIECE: [BlockStep; 1] = [BlockStep::Out(PIECE)];
+
+#[test]
+fn inner_output_comes_back_without_what_is_pending(rt: HostRuntime) {
+    let blocks = patchy_blocks(&rt, rt.alloc(), 2, 100, None);
+    assert_blocks(&rt, blocks, &ONE_PIECE, b"ab");
+}
+
+/// Nothing is written.
+const NOTHING: [BlockStep; 1] = [BlockStep::Holds(b"", b"")];
+
+#[test]
+fn with_room_succeeds(rt: HostRuntime) {
+    let inner = patchy_out(&rt, rt.alloc(), 5, 5, None);
+    let blocks = blocks_of(&rt, rt.alloc(), 5, inner);
+    assert_blocks(&rt, blocks, &NOTHING, b"");
 }

@@ -1,19 +1,12 @@
 //! Stores, and fetches from them.
+use super::{Fetched, file_store, four_at_one, remove};
 use crate::same::{assert_same, assert_same_at, assert_that};
 use mdmp_source::{
     FileStore, MemoryStore, PatchyStore, Source, SourceFault, Store, StoreFailed, Tally,
 };
 use std::fs;
 use std::process::Abort;
-use std::test::Fail;
-
-/// Four bytes at 1, through the bound.
-fn four_at_one<S: Store>(rt: &impl Abort, source: &mut Source<S>) -> Result<[u8; 4], SourceFault> {
-    assert!(rt; source.size() >= 5);
-    let mut bytes = [0; 4];
-    source.fetch(1, &mut bytes)?;
-    Ok(bytes)
-}
+use std::rt::Files;
 
 /// A source over this store.
 fn source_of<S: Store>(store: S) -> Source<S> {
@@ -23,12 +16,6 @@ fn source_of<S: Store>(store: S) -> Source<S> {
 /// A store of these bytes.
 fn memory(bytes: &[u8]) -> MemoryStore<'_> {
     MemoryStore::new(bytes)
-}
-
-/// The source was fetched from so often, and was asked for so many bytes.
-fn assert_counts<S: Store>(rt: &impl Abort, source: &Source<S>, calls: u128, fetched: u128) {
-    assert_same(rt, source.calls(), calls);
-    assert_same(rt, source.fetched(), fetched);
 }
 
 /// A source of these bytes, as a patchy store gives them.
@@ -42,51 +29,86 @@ fn patchy<'a>(
     Source::new(PatchyStore::new(bytes, caps, fail_at))
 }
 
-#[test]
-fn memory_store_gives_its_bytes(rt: HostRuntime) -> Result<(), Fail> {
-    let mut source = source_of(memory(b"abcdef"));
-    assert_same(&rt, source.size(), 6);
-    assert_same(&rt, four_at_one(&rt, &mut source)?, *b"bcde");
-    assert_counts(&rt, &source, 1, 4);
-    assert_same(&rt, source.into_store().size(), 6);
-    Ok(())
+/// Asserts that each fetch of the four bytes at 1 ends and gives as its row says.
+fn assert_fetches<S: Store>(rt: &impl Abort, source: &mut Source<S>, rows: &[Fetched]) {
+    for expected in rows {
+        assert_same(rt, four_at_one(rt, source), *expected);
+    }
 }
+
+/// Asserts that the source has the six bytes `abcdef`.
+fn assert_has_six<S: Store>(rt: &impl Abort, source: &mut Source<S>) {
+    assert_same(rt, source.size(), 6);
+    assert_fetches(rt, source, &[(None, *b"bcde")]);
+}
+
+/// Asserts that the source was fetched from so often, and was asked for so many bytes.
+fn assert_counts<S: Store>(rt: &impl Abort, source: &Source<S>, calls: u128, fetched: u128) {
+    assert_same(rt, source.calls(), calls);
+    assert_same(rt, source.fetched(), fetched);
+}
+
+/// How many bytes the store has that comes back from the source.
+fn size_of_store(source: Source<MemoryStore<'_>>) -> u64 {
+    source.into_store().size()
+}
+
+#[test]
+fn memory_store_gives_its_bytes(rt: HostRuntime) {
+    let mut source = source_of(memory(b"abcdef"));
+    assert_has_six(&rt, &mut source);
+    assert_counts(&rt, &source, 1, 4);
+    assert_same(&rt, size_of_store(source), 6);
+}
+
+/// A fetch that fails at its third byte, and one that gives all.
+const FAILED_ONCE: [Fetched; 2] = [
+    (Some(SourceFault::Failed { at: 3 }), *b"bc\0\0"),
+    (None, *b"bcde"),
+];
 
 #[test]
 fn patchy_store_fails_once(rt: HostRuntime) {
     let mut source = patchy(&rt, b"abcdef", &[1], Some(2));
-    assert_same(
-        &rt,
-        four_at_one(&rt, &mut source),
-        Err(SourceFault::Failed { at: 3 }),
-    );
-    assert_same(&rt, four_at_one(&rt, &mut source), Ok(*b"bcde"));
+    assert_fetches(&rt, &mut source, &FAILED_ONCE);
     assert_counts(&rt, &source, 2, 8);
 }
+
+/// A fetch that is given nothing at its fourth byte.
+const SHORT: [Fetched; 1] = [(Some(SourceFault::ShortRead { at: 4 }), *b"bcd\0")];
 
 #[test]
 fn patchy_store_answers_nothing(rt: HostRuntime) {
     let mut source = patchy(&rt, b"abcdef", &[3, 0], None);
-    assert_same(
-        &rt,
-        four_at_one(&rt, &mut source),
-        Err(SourceFault::ShortRead { at: 4 }),
-    );
+    assert_fetches(&rt, &mut source, &SHORT);
 }
+
+/// Counts an answer to a call at this place, and tells the place that the tally has then.
+fn place_after(
+    tally: &mut Tally,
+    answer: Result<usize, StoreFailed>,
+    at: u64,
+    asked: usize,
+) -> u64 {
+    tally.count(&answer, at, asked);
+    tally.place
+}
+
+/// Answers to calls: where each begins and how much it asks for, and the place that the tally has then. A call
+/// that asks for nothing and gets it has no place.
+const COUNTED: [(Result<usize, StoreFailed>, u64, usize, u64); 5] = [
+    (Ok(3), 1, 4, 0),
+    (Ok(0), 5, 4, 5),
+    (Ok(0), 6, 0, 5),
+    (Err(StoreFailed), 7, 4, 7),
+    (Ok(4), 8, 4, 7),
+];
 
 #[test]
 fn tally_counts_answers(rt: HostRuntime) {
     let mut tally = Tally::new();
-    // A call that asks for nothing and gets it has no place.
-    for (answer, at, len, place) in [
-        (Ok(3), 1, 4, 0),
-        (Ok(0), 5, 4, 5),
-        (Ok(0), 6, 0, 5),
-        (Err(StoreFailed), 7, 4, 7),
-        (Ok(4), 8, 4, 7),
-    ] {
-        tally.count(&answer, at, len);
-        assert_same_at(&rt, &at, tally.place, place);
+    for (answer, at, len, place) in COUNTED {
+        assert_same_at(&rt, &at, place_after(&mut tally, answer, at, len), place);
     }
     let counted = Tally {
         calls: 5,
@@ -97,27 +119,34 @@ fn tally_counts_answers(rt: HostRuntime) {
     assert_same(&rt, tally, counted);
 }
 
-#[test]
-fn lent_store_is_had_back(rt: HostRuntime) -> Result<(), Fail> {
-    let mut store = memory(b"abcdef");
-    {
-        let mut source = source_of(&mut store);
-        assert_same(&rt, four_at_one(&rt, &mut source)?, *b"bcde");
-    }
+/// What a call with room for one byte answers, and the byte.
+fn byte_at(store: &mut MemoryStore<'_>, at: u64) -> (Result<usize, StoreFailed>, [u8; 1]) {
     let mut byte = [0];
-    assert_same(&rt, store.read_at(5, &mut byte), Ok(1));
-    assert_same(&rt, byte, *b"f");
-    Ok(())
+    let answer = store.read_at(at, &mut byte);
+    (answer, byte)
 }
 
 #[test]
-fn file_store_open_succeeds(rt: HostRuntime) -> Result<(), Fail> {
-    fs::write(&rt, "six", "abcdef")?;
-    let store = FileStore::open(&rt, "six").ok().ok_or("open")?;
-    let mut source = source_of(store);
-    assert_same(&rt, source.size(), 6);
-    assert_same(&rt, four_at_one(&rt, &mut source)?, *b"bcde");
-    fs::remove_file(&rt, "six")?;
-    assert_that(&rt, FileStore::open(&rt, "six").is_err());
-    Ok(())
+fn lent_store_is_had_back(rt: HostRuntime) {
+    let mut store = memory(b"abcdef");
+    assert_has_six(&rt, &mut source_of(&mut store));
+    assert_same(&rt, byte_at(&mut store, 5), (Ok(1), *b"f"));
+}
+
+/// Makes this file of six bytes, asserts that a source gives them, and removes it.
+fn assert_file_has_six(rt: &(impl Files + Abort), path: &str) {
+    fs::write(rt, path, "abcdef").expect(rt, "a file");
+    assert_has_six(rt, &mut source_of(file_store(rt, path)));
+    remove(rt, path);
+}
+
+/// Whether a store over this file is refused.
+fn is_refused(rt: &impl Files, path: &str) -> bool {
+    FileStore::open(rt, path).is_err()
+}
+
+#[test]
+fn file_store_open_succeeds(rt: HostRuntime) {
+    assert_file_has_six(&rt, "six");
+    assert_that(&rt, is_refused(&rt, "six"));
 }

@@ -1,14 +1,18 @@
 //! Stores over files of the system, of which no contract knows size or bytes, and the store that
 //! changes while it is read.
+use super::{file_store, remove};
 use crate::same::{assert_same, assert_same_at};
-use mdmp_source::{FileStore, Store, StoreFailed, TwoFaces};
+use mdmp_source::{Store, StoreFailed, TwoFaces};
 use std::fs::File;
 use std::io::{Seek, SeekFrom, Write};
-use std::test::Fail;
-use std::{fs, io};
+use std::process::Abort;
+use std::rt::Files;
 
 /// 4 GiB, the first offset that 32 bits do not hold.
 const FOUR_GIB: u64 = 4_294_967_296;
+
+/// A row of a test: where a call with room for four bytes begins, how many it gives, and the four.
+type ReadRow = (u64, usize, [u8; 4]);
 
 /// What one call with room for four bytes answers: how many it gave, and the four.
 fn four_at<S: Store>(store: &mut S, at: u64) -> Result<(usize, [u8; 4]), StoreFailed> {
@@ -17,80 +21,101 @@ fn four_at<S: Store>(store: &mut S, at: u64) -> Result<(usize, [u8; 4]), StoreFa
     Ok((count, bytes))
 }
 
-/// Makes a file of zeros up to the offset `at`, and `text` behind them. The zeros take no room on
-/// the disk.
-fn write_at(rt: &HostRuntime, path: &str, at: u64, text: &[u8]) -> io::Result<()> {
-    let mut file = File::create(rt, path)?;
-    file.seek(SeekFrom::Start(at))?;
-    file.write_all(text)
-}
-
-#[test]
-fn file_store_reads_a_file(rt: HostRuntime) -> Result<(), Fail> {
-    write_at(&rt, "six_bytes", 0, b"abcdef")?;
-    let mut store = FileStore::open(&rt, "six_bytes").ok().ok_or("open")?;
-    assert_same(&rt, store.size(), 6);
-    // Some begin where the one before it ended.
-    let rows = [
-        (4, 2, *b"ef\0\0"),
-        (0, 4, *b"abcd"),
-        (4, 2, *b"ef\0\0"),
-        (6, 0, [0; 4]),
-        (6, 0, [0; 4]),
-        (1, 4, *b"bcde"),
-        (5, 1, *b"f\0\0\0"),
-        (FOUR_GIB, 0, [0; 4]),
-        (2, 4, *b"cdef"),
-    ];
+/// Asserts that calls one behind the other answer as their rows say.
+fn assert_reads<S: Store>(rt: &impl Abort, store: &mut S, rows: &[ReadRow]) {
     for (at, count, bytes) in rows {
-        assert_same_at(&rt, &at, four_at(&mut store, at), Ok((count, bytes)));
+        assert_same_at(rt, &at, four_at(store, *at), Ok((*count, *bytes)));
     }
-    fs::remove_file(&rt, "six_bytes")?;
-    Ok(())
 }
 
-#[test]
-fn file_store_reads_past_4_gib(rt: HostRuntime) -> Result<(), Fail> {
-    write_at(&rt, "past_4_gib", FOUR_GIB, b"abcdef")?;
-    let mut store = FileStore::open(&rt, "past_4_gib").ok().ok_or("open")?;
-    assert_same(&rt, store.size(), FOUR_GIB + 6);
-    let rows = [
-        (FOUR_GIB, 4, *b"abcd"),
-        (0, 4, [0; 4]),
-        (FOUR_GIB - 2, 4, *b"\0\0ab"),
-        (FOUR_GIB + 3, 3, *b"def\0"),
-        (FOUR_GIB + 6, 0, [0; 4]),
-    ];
-    for (at, count, bytes) in rows {
-        assert_same_at(&rt, &at, four_at(&mut store, at), Ok((count, bytes)));
-    }
-    fs::remove_file(&rt, "past_4_gib")?;
-    Ok(())
+/// Writes bytes at the offset `at`.
+fn write_at<F: Seek + Write>(rt: &impl Abort, file: &mut F, at: u64, bytes: &[u8]) {
+    file.seek(SeekFrom::Start(at)).expect(rt, "a seek");
+    file.write_all(bytes).expect(rt, "a write");
 }
 
-/// The system opens a folder for reading, and refuses each read of it.
-#[test]
-fn file_store_tells_that_a_read_failed(rt: HostRuntime) -> Result<(), Fail> {
-    let mut store = FileStore::open(&rt, ".").ok().ok_or("open")?;
-    for at in [0, 0, 4] {
-        assert_same(&rt, four_at(&mut store, at), Err(StoreFailed));
-    }
-    Ok(())
+/// Makes a file of zeros up to the offset `at`, and the six bytes `abcdef` behind them. The zeros take no room
+/// on the disk.
+fn make_file(rt: &(impl Files + Abort), path: &str, at: u64) {
+    let mut file = File::create(rt, path).expect(rt, "a file");
+    write_at(rt, &mut file, at, b"abcdef");
 }
+
+/// Makes a file of zeros up to the offset `at`, and the six bytes `abcdef` behind them, asserts that it has
+/// that size and is read as the rows say, and removes it.
+fn assert_file_reads(rt: &(impl Files + Abort), path: &str, at: u64, size: u64, rows: &[ReadRow]) {
+    make_file(rt, path, at);
+    let mut store = file_store(rt, path);
+    assert_same(rt, store.size(), size);
+    assert_reads(rt, &mut store, rows);
+    remove(rt, path);
+}
+
+/// Reads of a file of six bytes. Some begin where the one before it ended.
+const SIX_BYTES: [ReadRow; 9] = [
+    (4, 2, *b"ef\0\0"),
+    (0, 4, *b"abcd"),
+    (4, 2, *b"ef\0\0"),
+    (6, 0, [0; 4]),
+    (6, 0, [0; 4]),
+    (1, 4, *b"bcde"),
+    (5, 1, *b"f\0\0\0"),
+    (FOUR_GIB, 0, [0; 4]),
+    (2, 4, *b"cdef"),
+];
+
+#[test]
+fn file_store_reads_a_file(rt: HostRuntime) {
+    assert_file_reads(&rt, "six_bytes", 0, 6, &SIX_BYTES);
+}
+
+/// Reads of a file of six bytes behind 4 GiB of zeros.
+const PAST_4_GIB: [ReadRow; 5] = [
+    (FOUR_GIB, 4, *b"abcd"),
+    (0, 4, [0; 4]),
+    (FOUR_GIB - 2, 4, *b"\0\0ab"),
+    (FOUR_GIB + 3, 3, *b"def\0"),
+    (FOUR_GIB + 6, 0, [0; 4]),
+];
+
+#[test]
+fn file_store_reads_past_4_gib(rt: HostRuntime) {
+    assert_file_reads(&rt, "past_4_gib", FOUR_GIB, FOUR_GIB + 6, &PAST_4_GIB);
+}
+
+/// Asserts that each read of this folder is refused, which the system opens for reading.
+fn assert_refuses(rt: &(impl Files + Abort), path: &str, places: &[u64]) {
+    let mut store = file_store(rt, path);
+    for at in places {
+        assert_same_at(rt, &at, four_at(&mut store, *at), Err(StoreFailed));
+    }
+}
+
+/// Where reads that are refused begin.
+const REFUSED: [u64; 3] = [0, 0, 4];
+
+#[test]
+fn file_store_tells_that_a_read_failed(rt: HostRuntime) {
+    assert_refuses(&rt, ".", &REFUSED);
+}
+
+/// How many bytes the store has, and how often it was read.
+fn size_and_reads(store: &TwoFaces<'_>) -> (u64, u64) {
+    (store.size(), store.reads())
+}
+
+/// Reads of `abcdef` in two of the calls, and of `uvwxyz` behind them.
+const TWO_FACES: [ReadRow; 4] = [
+    (0, 4, *b"abcd"),
+    (4, 2, *b"ef\0\0"),
+    (4, 2, *b"yz\0\0"),
+    (6, 0, [0; 4]),
+];
 
 #[test]
 fn two_faces_turns_at_its_read(rt: HostRuntime) {
     let mut store = TwoFaces::new(b"abcdef", b"uvwxyz", 2);
-    assert_same(&rt, store.size(), 6);
-    assert_same(&rt, store.reads(), 0);
-    let rows = [
-        (0, 4, *b"abcd"),
-        (4, 2, *b"ef\0\0"),
-        (4, 2, *b"yz\0\0"),
-        (6, 0, [0; 4]),
-    ];
-    for (at, count, bytes) in rows {
-        assert_same_at(&rt, &at, four_at(&mut store, at), Ok((count, bytes)));
-    }
-    assert_same(&rt, store.reads(), 4);
+    assert_same(&rt, size_and_reads(&store), (6, 0));
+    assert_reads(&rt, &mut store, &TWO_FACES);
+    assert_same(&rt, size_and_reads(&store), (6, 4));
 }

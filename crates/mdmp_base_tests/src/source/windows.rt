@@ -2,9 +2,8 @@
 use crate::same::{assert_same, assert_that};
 use linked_list_allocator::LocalHeap;
 use mdmp_source::{MemoryStore, PatchyStore, Source, SourceFault, Store, Window};
-use std::alloc::Allocator;
+use std::alloc::{Allocator, Global};
 use std::process::Abort;
-use std::test::Fail;
 
 /// The file of these tests.
 const FILE: &[u8] = b"abcdef";
@@ -17,6 +16,30 @@ fn memory() -> Source<MemoryStore<'static>> {
 /// A source of it whose store gives one byte a call, and may fail once.
 fn byte_by_byte(fail_at: Option<u64>) -> Source<PatchyStore<'static>> {
     Source::new(PatchyStore::new(FILE, &[1], fail_at))
+}
+
+/// A window of that room.
+fn window_of<A: Allocator>(rt: &impl Abort, alloc: A, room: usize) -> Window<A> {
+    Window::with_room(alloc, room).expect(rt, "a window")
+}
+
+/// A step with a window over a source, and what it answers.
+#[derive(Clone, Copy)]
+enum Step {
+    /// Begins the stretch from one place up to another.
+    Start(u64, u64),
+    /// The next fill fetches so many bytes.
+    NextLen(usize),
+    /// Fetches what comes next.
+    Fill,
+    /// Fetches what comes next, and fails at this byte.
+    FailsAt(u64),
+    /// Drops so many bytes at the front.
+    Consume(usize),
+    /// The window holds these bytes, from this place on.
+    Holds(u64, &'static [u8]),
+    /// The stretch ends here, and the window has that room.
+    Bounds(u64, usize),
 }
 
 /// Begins the stretch from `at` up to `end`.
@@ -41,102 +64,214 @@ fn consume<A: Allocator>(rt: &impl Abort, window: &mut Window<A>, count: usize) 
     window.consume(count);
 }
 
-/// The window holds these bytes, from this place on.
-fn assert_holds<A: Allocator>(rt: &impl Abort, window: &Window<A>, place: u64, bytes: &[u8]) {
-    assert_same(rt, window.bytes(), bytes);
-    assert_same(rt, window.place(), place);
+/// How many bytes the next fill fetches.
+fn next_len<A: Allocator>(window: &Window<A>) -> usize {
+    window.next_len()
 }
 
-/// So often was fetched from the source, and so many bytes.
+/// What the window holds, and from which place on.
+fn held<A: Allocator>(window: &Window<A>) -> (u64, &[u8]) {
+    (window.place(), window.bytes())
+}
+
+/// Where the stretch ends, and how much room the window has.
+fn bounds<A: Allocator>(window: &Window<A>) -> (u64, usize) {
+    (window.end(), window.room())
+}
+
+/// Takes a step, and asserts that it answers as it says.
+fn assert_step<A: Allocator, S: Store>(
+    rt: &impl Abort,
+    window: &mut Window<A>,
+    source: &mut Source<S>,
+    step: Step,
+) {
+    match step {
+        Step::Start(at, end) => start(rt, window, at, end),
+        Step::NextLen(len) => assert_same(rt, next_len(window), len),
+        Step::Fill => assert_same(rt, fill(rt, window, source), Ok(())),
+        Step::FailsAt(at) => {
+            assert_same(
+                rt,
+                fill(rt, window, source),
+                Err(SourceFault::Failed { at }),
+            )
+        }
+        Step::Consume(count) => consume(rt, window, count),
+        Step::Holds(place, bytes) => assert_same(rt, held(window), (place, bytes)),
+        Step::Bounds(end, room) => assert_same(rt, bounds(window), (end, room)),
+    }
+}
+
+/// Takes steps one behind the other, each of which answers as it says.
+fn assert_steps<A: Allocator, S: Store>(
+    rt: &impl Abort,
+    window: &mut Window<A>,
+    source: &mut Source<S>,
+    steps: &[Step],
+) {
+    for step in steps {
+        assert_step(rt, window, source, *step);
+    }
+}
+
+/// Asserts that so often was fetched from the source, and so many bytes.
 fn assert_fetched<S: Store>(rt: &impl Abort, source: &Source<S>, calls: u128, fetched: u128) {
     assert_same(rt, (source.calls(), source.fetched()), (calls, fetched));
 }
 
-#[test]
-fn with_room_succeeds_and_the_window_slides(rt: HostRuntime) -> Result<(), Fail> {
+/// Asserts that a window of that room over the file takes these steps, each of which answers as it says, and
+/// that so often is fetched then, and so many bytes.
+fn assert_slides(
+    rt: &impl Abort,
+    alloc: Global,
+    room: usize,
+    steps: &[Step],
+    calls: u128,
+    fetched: u128,
+) {
     let mut source = memory();
-    let mut window = Window::with_room(rt.alloc(), 4)?;
-    start(&rt, &mut window, 0, 6);
-    assert_same(&rt, window.next_len(), 4);
-    fill(&rt, &mut window, &mut source)?;
-    assert_holds(&rt, &window, 0, b"abcd");
-    consume(&rt, &mut window, 3);
-    assert_holds(&rt, &window, 3, b"d");
-    assert_same(&rt, window.next_len(), 2);
-    fill(&rt, &mut window, &mut source)?;
-    assert_holds(&rt, &window, 3, b"def");
-    assert_fetched(&rt, &source, 2, 6);
-    Ok(())
+    assert_steps(rt, &mut window_of(rt, alloc, room), &mut source, steps);
+    assert_fetched(rt, &source, calls, fetched);
 }
 
+/// Steps over the whole file.
+const SLIDES: [Step; 9] = [
+    Step::Start(0, 6),
+    Step::NextLen(4),
+    Step::Fill,
+    Step::Holds(0, b"abcd"),
+    Step::Consume(3),
+    Step::Holds(3, b"d"),
+    Step::NextLen(2),
+    Step::Fill,
+    Step::Holds(3, b"def"),
+];
+
 #[test]
-fn window_begins_anew(rt: HostRuntime) -> Result<(), Fail> {
-    let mut source = memory();
-    let mut window = Window::with_room(rt.alloc(), 4)?;
-    assert_holds(&rt, &window, 0, b"");
-    for (at, end, bytes) in [
-        (3, 6, b"def".as_slice()),
-        (1, 3, b"bc".as_slice()),
-        (0, 6, b"abcd".as_slice()),
-        (5, 6, b"f".as_slice()),
-    ] {
-        start(&rt, &mut window, at, end);
-        assert_holds(&rt, &window, at, b"");
-        fill(&rt, &mut window, &mut source)?;
-        assert_holds(&rt, &window, at, bytes);
-        assert_same(&rt, (window.end(), window.room()), (end, 4));
+fn with_room_succeeds_and_the_window_slides(rt: HostRuntime) {
+    assert_slides(&rt, rt.alloc(), 4, &SLIDES, 2, 6);
+}
+
+/// Steps over four stretches, one after another.
+const BEGINS_ANEW: [Step; 21] = [
+    Step::Holds(0, b""),
+    Step::Start(3, 6),
+    Step::Holds(3, b""),
+    Step::Fill,
+    Step::Holds(3, b"def"),
+    Step::Bounds(6, 4),
+    Step::Start(1, 3),
+    Step::Holds(1, b""),
+    Step::Fill,
+    Step::Holds(1, b"bc"),
+    Step::Bounds(3, 4),
+    Step::Start(0, 6),
+    Step::Holds(0, b""),
+    Step::Fill,
+    Step::Holds(0, b"abcd"),
+    Step::Bounds(6, 4),
+    Step::Start(5, 6),
+    Step::Holds(5, b""),
+    Step::Fill,
+    Step::Holds(5, b"f"),
+    Step::Bounds(6, 4),
+];
+
+#[test]
+fn window_begins_anew(rt: HostRuntime) {
+    assert_slides(&rt, rt.alloc(), 4, &BEGINS_ANEW, 4, 10);
+}
+
+/// Two fills where there is no stretch yet.
+const NO_STRETCH: [Step; 4] = [Step::Start(0, 0), Step::Fill, Step::NextLen(0), Step::Fill];
+
+/// Two fills of the whole file, where the second has nothing to fetch.
+const WHOLE_FILE: [Step; 4] = [Step::Start(0, 6), Step::Fill, Step::NextLen(0), Step::Fill];
+
+/// Two fills of an empty stretch.
+const EMPTY_STRETCH: [Step; 4] = [Step::Start(6, 6), Step::Fill, Step::NextLen(0), Step::Fill];
+
+#[test]
+fn window_without_room_or_rest_fetches_nothing(rt: HostRuntime) {
+    assert_slides(&rt, rt.alloc(), 4, &NO_STRETCH, 0, 0);
+    assert_slides(&rt, rt.alloc(), 0, &WHOLE_FILE, 0, 0);
+    assert_slides(&rt, rt.alloc(), 6, &WHOLE_FILE, 1, 6);
+    assert_slides(&rt, rt.alloc(), 4, &EMPTY_STRETCH, 0, 0);
+}
+
+/// Steps whose first fill fails at this byte, and is tried again.
+fn first_fails(at: u64) -> [Step; 7] {
+    [
+        Step::Start(0, 6),
+        Step::FailsAt(at),
+        Step::Holds(0, b""),
+        Step::Fill,
+        Step::Consume(3),
+        Step::Fill,
+        Step::Holds(3, b"def"),
+    ]
+}
+
+/// Steps whose second fill fails at this byte, and is tried again.
+fn second_fails(at: u64) -> [Step; 7] {
+    [
+        Step::Start(0, 6),
+        Step::Fill,
+        Step::Consume(3),
+        Step::FailsAt(at),
+        Step::Holds(3, b"d"),
+        Step::Fill,
+        Step::Holds(3, b"def"),
+    ]
+}
+
+/// The steps over a store of which no call fails.
+const NONE_FAILS: [Step; 5] = [
+    Step::Start(0, 6),
+    Step::Fill,
+    Step::Consume(3),
+    Step::Fill,
+    Step::Holds(3, b"def"),
+];
+
+/// Asserts that a window is as it was behind a fault of this call of a store that gives one byte a call: of one
+/// in the first fill, or in the second, or of none in the two.
+fn assert_fault(rt: &impl Abort, window: &mut Window<Global>, fail_at: u64) {
+    let mut source = byte_by_byte(Some(fail_at));
+    match fail_at {
+        0..=3 => assert_steps(rt, window, &mut source, &first_fails(fail_at)),
+        4 | 5 => assert_steps(rt, window, &mut source, &second_fails(fail_at)),
+        _ => assert_steps(rt, window, &mut source, &NONE_FAILS),
     }
-    assert_fetched(&rt, &source, 4, 10);
-    Ok(())
 }
 
 #[test]
-fn window_without_room_or_rest_fetches_nothing(rt: HostRuntime) -> Result<(), Fail> {
-    let mut source = memory();
-    // No stretch yet, room for nothing, the whole file, an empty stretch.
-    for (room, at, end) in [(4, 0, 0), (0, 0, 6), (6, 0, 6), (4, 6, 6)] {
-        let mut window = Window::with_room(rt.alloc(), room)?;
-        start(&rt, &mut window, at, end);
-        fill(&rt, &mut window, &mut source)?;
-        assert_same(&rt, window.next_len(), 0);
-        fill(&rt, &mut window, &mut source)?;
-    }
-    assert_fetched(&rt, &source, 1, 6);
-    Ok(())
-}
-
-#[test]
-fn window_is_as_it_was_behind_a_fault(rt: HostRuntime) -> Result<(), Fail> {
-    let mut window = Window::with_room(rt.alloc(), 4)?;
+fn window_is_as_it_was_behind_a_fault(rt: HostRuntime) {
+    let mut window = window_of(&rt, rt.alloc(), 4);
     for fail_at in 0..7 {
-        let mut source = byte_by_byte(Some(fail_at));
-        let failed = Err(SourceFault::Failed { at: fail_at });
-        start(&rt, &mut window, 0, 6);
-        if fail_at < 4 {
-            assert_same(&rt, fill(&rt, &mut window, &mut source), failed);
-            assert_holds(&rt, &window, 0, b"");
-        }
-        fill(&rt, &mut window, &mut source)?;
-        consume(&rt, &mut window, 3);
-        if fail_at == 4 || fail_at == 5 {
-            assert_same(&rt, fill(&rt, &mut window, &mut source), failed);
-            assert_holds(&rt, &window, 3, b"d");
-        }
-        fill(&rt, &mut window, &mut source)?;
-        assert_holds(&rt, &window, 3, b"def");
+        assert_fault(&rt, &mut window, fail_at);
     }
-    Ok(())
+}
+
+/// Whether there is memory for a window of that room.
+pub fn holds_window<A: Allocator>(alloc: A, room: usize) -> bool {
+    Window::with_room(alloc, room).is_ok()
+}
+
+/// Steps that hold the whole file.
+const FILLED: [Step; 3] = [Step::Start(0, 6), Step::Fill, Step::Holds(0, FILE)];
+
+/// Asserts that a window takes the room of a heap of 16 bytes, and no more.
+fn assert_takes_once(rt: &impl Abort, alloc: Global) {
+    let heap = LocalHeap::new(alloc, 16).expect(rt, "a heap");
+    assert_that(rt, !holds_window(&heap, 17));
+    let mut source = byte_by_byte(None);
+    assert_steps(rt, &mut window_of(rt, &heap, 16), &mut source, &FILLED);
+    assert_fetched(rt, &source, 1, 6);
 }
 
 #[test]
-fn window_takes_memory_once(rt: HostRuntime) -> Result<(), Fail> {
-    let heap = LocalHeap::new(rt.alloc(), 16)?;
-    assert_that(&rt, Window::with_room(&heap, 17).is_err());
-    let mut source = byte_by_byte(None);
-    let mut window = Window::with_room(&heap, 16)?;
-    start(&rt, &mut window, 0, 6);
-    fill(&rt, &mut window, &mut source)?;
-    assert_holds(&rt, &window, 0, FILE);
-    assert_fetched(&rt, &source, 1, 6);
-    Ok(())
+fn window_takes_memory_once(rt: HostRuntime) {
+    assert_takes_once(&rt, rt.alloc());
 }

@@ -1,5 +1,6 @@
 //! Records of known bytes, read and written.
-use crate::same::{assert_same, assert_same_at};
+use crate::same::assert_same;
+use crate::source::part;
 use mdmp_wire::{ExceptionRecord, Record, get_at, put_at};
 use std::fmt::Debug;
 use std::process::Abort;
@@ -13,45 +14,55 @@ fn counted() -> [u8; 168] {
     bytes
 }
 
-/// The record of these bytes, if they are as many as it has, and what it writes over `out`.
-fn read_and_write<R: Record>(rt: &impl Abort, bytes: &[u8], out: &mut [u8]) -> R {
-    // The macro, as a call without a contract would not tell the calls below of it.
-    assert_eq!(rt; bytes.len(), R::SIZE);
-    assert_eq!(rt; out.len(), R::SIZE);
-    let record = R::read(bytes);
-    record.write(out);
-    record
+/// The bytes, but for zeros in place of the four at each offset in `alignment`.
+fn with_zeros(rt: &impl Abort, bytes: [u8; 168], alignment: &[usize]) -> [u8; 168] {
+    let mut zeroed = bytes;
+    for &at in alignment {
+        assert!(rt; at <= 164);
+        zeroed[at..at + 4].fill(0);
+    }
+    zeroed
 }
 
-/// The bytes 0, 1, 2 and so on up to the size are read as `expected` and written as they are, but
-/// for the four bytes at each offset in `alignment`, which are written as zeros.
+/// The record of these bytes, which are as many as it has.
+fn read<R: Record>(rt: &impl Abort, bytes: &[u8]) -> R {
+    assert!(rt; bytes.len() == R::SIZE);
+    R::read(bytes)
+}
+
+/// What the record writes over `size` bytes that are 0x55, and such bytes behind it.
+fn written<R: Record>(rt: &impl Abort, record: &R, size: usize) -> [u8; 168] {
+    let mut out = [0x55; 168];
+    assert!(rt; size == R::SIZE);
+    assert!(rt; size <= 168);
+    record.write(&mut out[..size]);
+    out
+}
+
+/// Asserts that the bytes 0, 1, 2 and so on up to the size are read as `expected` and written as they are,
+/// but for the four bytes at each offset in `alignment`, which are written as zeros.
 pub fn assert_fields<R: Record + PartialEq + Debug>(
     rt: &impl Abort,
     size: usize,
     alignment: &[usize],
     expected: R,
 ) {
-    assert!(rt; size <= 168);
-    let mut bytes = counted();
-    let mut out = [0x55; 168];
-    let read: R = read_and_write(rt, &bytes[..size], &mut out[..size]);
-    assert_same(rt, read, expected);
-    for &at in alignment {
-        assert!(rt; at <= 164);
-        bytes[at..at + 4].fill(0);
-    }
-    assert_same(rt, &out[..size], &bytes[..size]);
+    let bytes = counted();
+    let record: R = read(rt, part(rt, &bytes, 0, size));
+    let out = written(rt, &record, size);
+    let zeroed = with_zeros(rt, bytes, alignment);
+    assert_same(rt, part(rt, &out, 0, size), part(rt, &zeroed, 0, size));
+    assert_same(rt, record, expected);
 }
+
+/// Bytes whose bits are all set.
+const ONES: [u8; 168] = [0xff; 168];
 
 #[test]
 fn alignment_is_ignored_and_written_as_zero(rt: HostRuntime) {
-    let mut out = [0x55; 168];
-    let _: ExceptionRecord = read_and_write(&rt, &[0xff; 168], &mut out);
-    for i in 0..168 {
-        let is_alignment = (4 <= i && i < 8) || (36 <= i && i < 40);
-        let expected = if is_alignment { 0 } else { 0xff };
-        assert_same_at(&rt, &i, out[i], expected);
-    }
+    let record: ExceptionRecord = read(&rt, &ONES);
+    let expected = with_zeros(&rt, ONES, &[4, 36]);
+    assert_same(&rt, written(&rt, &record, 168), expected);
 }
 
 #[test]

@@ -1,11 +1,14 @@
 //! Names, and the digits of printed numbers.
-use crate::same::{assert_same, assert_same_at, assert_that};
+use crate::same::{assert_different, assert_same, assert_same_at, assert_that};
+use crate::source::{part, patchy_out};
 use linked_list_allocator::LocalHeap;
 use mdmp_source::{OutFailed, PatchyOut};
 use mdmp_wire::{Units, UnitsRef, hex_digits, text_survives_utf16};
 use std::alloc::{AllocError, Allocator, Global};
 use std::process::Abort;
-use std::test::Fail;
+
+/// The nine units of `symbol.db`.
+pub const NINE: &[u8] = b"s\0y\0m\0b\0o\0l\0.\0d\0b\0";
 
 /// The units that stand in these bytes.
 fn over<'a>(rt: &impl Abort, bytes: &'a [u8]) -> UnitsRef<'a> {
@@ -39,7 +42,37 @@ fn text_of<A: Allocator + Copy>(alloc: A, units: &UnitsRef<'_>) -> Result<String
     units.to_utf8(alloc)
 }
 
-/// The units are these, one by one.
+/// The units that stand in these bytes, in memory of their own.
+fn own(rt: &impl Abort, alloc: Global, bytes: &[u8]) -> Units<Global> {
+    owned(alloc, &over(rt, bytes)).expect(rt, "units")
+}
+
+/// The units of a text.
+fn units_of(rt: &impl Abort, alloc: Global, text: &str) -> Units<Global> {
+    from_text(alloc, text).expect(rt, "units")
+}
+
+/// Whether there is memory for the units of a text.
+pub fn holds_text<A: Allocator>(alloc: A, text: &str) -> bool {
+    from_text(alloc, text).is_ok()
+}
+
+/// Whether there is memory for the units of these bytes.
+pub fn holds_bytes<A: Allocator>(rt: &impl Abort, alloc: A, bytes: &[u8]) -> bool {
+    from_bytes(rt, alloc, bytes).is_ok()
+}
+
+/// Whether there is memory for the units that stand in these bytes.
+pub fn holds_units<A: Allocator>(rt: &impl Abort, alloc: A, bytes: &[u8]) -> bool {
+    owned(alloc, &over(rt, bytes)).is_ok()
+}
+
+/// Whether there is memory for the text of the units that stand in these bytes.
+pub fn holds_text_of<A: Allocator + Copy>(rt: &impl Abort, alloc: A, bytes: &[u8]) -> bool {
+    text_of(alloc, &over(rt, bytes)).is_ok()
+}
+
+/// Asserts that the units are these, one by one.
 fn assert_units(rt: &impl Abort, units: &UnitsRef<'_>, expected: &[u16]) {
     assert_same(rt, units.is_empty(), expected.is_empty());
     assert_same(rt, units.len(), expected.len());
@@ -49,7 +82,13 @@ fn assert_units(rt: &impl Abort, units: &UnitsRef<'_>, expected: &[u16]) {
     }
 }
 
-/// The units of these bytes are printed as this text, and the output answers so.
+/// Asserts that this is the text of the units.
+fn assert_text(rt: &impl Abort, alloc: Global, units: &UnitsRef<'_>, expected: &str) {
+    let text = text_of(alloc, units).expect(rt, "a text");
+    assert_same(rt, text.as_str(), expected);
+}
+
+/// Asserts that the units of these bytes are printed as this text, and that the output answers so.
 fn assert_escaped(
     rt: &impl Abort,
     mut out: PatchyOut<Global>,
@@ -68,113 +107,113 @@ fn hexadecimal_digits_are_the_last_ones(rt: HostRuntime) {
     assert_same(&rt, digits, *b"fa09");
 }
 
-#[test]
-fn units_are_escaped_one_by_one(rt: HostRuntime) -> Result<(), Fail> {
-    let rows = [
-        (
-            b"\x22\x00\x5c\x00\x7f\x00".as_slice(),
-            b"\"\\u005c\\u007f".as_slice(),
-        ),
-        (
-            b"\x61\x00\x3d\xd8\x00\xde".as_slice(),
-            b"a\\ud83d\\ude00".as_slice(),
-        ),
-        (
-            b"\x1f\x00\x20\x00\x7e\x00\x41\x01".as_slice(),
-            b"\\u001f ~\\u0141".as_slice(),
-        ),
-    ];
-    for (bytes, text) in rows {
-        let out = PatchyOut::with_room(rt.alloc(), 100, 5, None)?;
-        assert_escaped(&rt, out, bytes, Ok(()), text);
-    }
-    Ok(())
+/// Asserts that the units of these bytes are printed as this text, to an output that takes five bytes a call.
+fn assert_escapes(rt: &impl Abort, alloc: Global, bytes: &[u8], text: &[u8]) {
+    let out = patchy_out(rt, alloc, 100, 5, None);
+    assert_escaped(rt, out, bytes, Ok(()), text);
 }
 
 #[test]
-fn refused_escape_leaves_its_first_part(rt: HostRuntime) -> Result<(), Fail> {
-    let out = PatchyOut::with_room(rt.alloc(), 4, 3, None)?;
+fn units_are_escaped_one_by_one(rt: HostRuntime) {
+    let quote = b"\x22\x00\x5c\x00\x7f\x00";
+    assert_escapes(&rt, rt.alloc(), quote, b"\"\\u005c\\u007f");
+    let surrogates = b"\x61\x00\x3d\xd8\x00\xde";
+    assert_escapes(&rt, rt.alloc(), surrogates, b"a\\ud83d\\ude00");
+    let edges = b"\x1f\x00\x20\x00\x7e\x00\x41\x01";
+    assert_escapes(&rt, rt.alloc(), edges, b"\\u001f ~\\u0141");
+}
+
+#[test]
+fn refused_escape_leaves_its_first_part(rt: HostRuntime) {
+    let out = patchy_out(&rt, rt.alloc(), 4, 3, None);
     let bytes = b"\x61\x00\x3d\xd8\x00\xde";
     assert_escaped(&rt, out, bytes, Err(OutFailed), b"a\\ud");
-    Ok(())
 }
 
 #[test]
-fn each_call_of_an_escape_may_fail(rt: HostRuntime) -> Result<(), Fail> {
+fn each_call_of_an_escape_may_fail(rt: HostRuntime) {
     let bytes = b"\x61\x00\x3d\xd8\x00\xde";
     let text = b"a\\ud83d\\ude00";
     for call in 0..14 {
-        let out = PatchyOut::with_room(rt.alloc(), 100, 1, Some(call as u64))?;
+        let out = patchy_out(&rt, rt.alloc(), 100, 1, Some(call as u64));
         let answer = if call < 13 { Err(OutFailed) } else { Ok(()) };
-        let first = text.get(..call).ok_or("a first part")?;
-        assert_escaped(&rt, out, bytes, answer, first);
+        assert_escaped(&rt, out, bytes, answer, part(&rt, text, 0, call));
     }
-    Ok(())
+}
+
+/// Asserts that the units of a text are these, and have that text.
+fn assert_units_of_text(rt: &impl Abort, alloc: Global, text: &str, expected: &[u16]) {
+    let units = units_of(rt, alloc, text);
+    assert_units(rt, &units.view(), expected);
+    assert_text(rt, alloc, &units.view(), text);
 }
 
 #[test]
-fn units_of_a_text_succeed(rt: HostRuntime) -> Result<(), Fail> {
-    let units = from_text(rt.alloc(), "a\u{1F600}")?;
-    assert_units(&rt, &units.view(), &[0x0061, 0xd83d, 0xde00]);
-    let text = text_of(rt.alloc(), &units.view())?;
-    assert_same(&rt, text.as_str(), "a\u{1F600}");
-    Ok(())
+fn units_of_a_text_succeed(rt: HostRuntime) {
+    assert_units_of_text(&rt, rt.alloc(), "a\u{1F600}", &[0x0061, 0xd83d, 0xde00]);
+}
+
+/// Asserts that the units of these bytes in memory of their own, and again in such memory, are these.
+fn assert_units_of_bytes(rt: &impl Abort, alloc: Global, bytes: &[u8], expected: &[u16]) {
+    let units = from_bytes(rt, alloc, bytes).expect(rt, "units");
+    let again = owned(alloc, &units.view()).expect(rt, "units");
+    assert_units(rt, &again.view(), expected);
 }
 
 #[test]
-fn units_of_bytes_succeed(rt: HostRuntime) -> Result<(), Fail> {
-    let units = from_bytes(&rt, rt.alloc(), b"\x34\x12\x00\xdc")?;
-    let again = owned(rt.alloc(), &units.view())?;
-    assert_units(&rt, &again.view(), &[0x1234, 0xdc00]);
+fn units_of_bytes_succeed(rt: HostRuntime) {
+    assert_units_of_bytes(&rt, rt.alloc(), b"\x34\x12\x00\xdc", &[0x1234, 0xdc00]);
     assert_units(&rt, &over(&rt, b""), &[]);
-    Ok(())
+}
+
+/// Asserts that the units of these bytes are printed as this text.
+fn assert_printed(rt: &impl Abort, alloc: Global, bytes: &[u8], expected: &str) {
+    let units = over(rt, bytes);
+    let text = format!(in alloc; "{units:?}").expect(rt, "a text");
+    assert_same(rt, text.as_str(), expected);
 }
 
 #[test]
-fn units_are_compared_and_printed(rt: HostRuntime) -> Result<(), Fail> {
-    let units = over(&rt, b"a\0\x5c\0");
-    assert_same(&rt, units, over(&rt, b"a\0\x5c\0"));
-    assert_that(&rt, units != over(&rt, b"a\0\x5c\x01"));
-    assert_that(&rt, units != over(&rt, b"a\0"));
-    assert_same(
-        &rt,
-        owned(rt.alloc(), &units)?,
-        from_text(rt.alloc(), "a\\")?,
-    );
-    assert_that(
-        &rt,
-        owned(rt.alloc(), &units)? != from_text(rt.alloc(), "b\\")?,
-    );
-    let text = format!(in rt.alloc(); "{units:?}")?;
-    assert_same(&rt, text.as_str(), "\"a\\u005c\"");
-    Ok(())
+fn units_are_compared_and_printed(rt: HostRuntime) {
+    let bytes = b"a\0\x5c\0";
+    assert_same(&rt, over(&rt, bytes), over(&rt, bytes));
+    assert_different(&rt, over(&rt, bytes), over(&rt, b"a\0\x5c\x01"));
+    assert_different(&rt, over(&rt, bytes), over(&rt, b"a\0"));
+    let alloc = rt.alloc();
+    assert_same(&rt, own(&rt, alloc, bytes), units_of(&rt, alloc, "a\\"));
+    assert_different(&rt, own(&rt, alloc, bytes), units_of(&rt, alloc, "b\\"));
+    assert_printed(&rt, alloc, bytes, "\"a\\u005c\"");
 }
 
 #[test]
-fn lone_surrogate_becomes_the_replacement_character(rt: HostRuntime) -> Result<(), Fail> {
-    let text = text_of(rt.alloc(), &over(&rt, &[0x3d, 0xd8]))?;
-    assert_same(&rt, text.as_bytes(), [0xef, 0xbf, 0xbd].as_slice());
-    Ok(())
+fn lone_surrogate_becomes_the_replacement_character(rt: HostRuntime) {
+    assert_text(&rt, rt.alloc(), &over(&rt, &[0x3d, 0xd8]), "\u{FFFD}");
+}
+
+/// Asserts that a heap of that size refuses nine units, however they are made, and their text.
+fn assert_refused(rt: &impl Abort, alloc: Global, size: usize) {
+    let heap = LocalHeap::new(alloc, size).expect(rt, "a heap");
+    assert_that(rt, !holds_text(&heap, "symbol.db"));
+    assert_that(rt, !holds_bytes(rt, &heap, &[0; 18]));
+    assert_that(rt, !holds_units(rt, &heap, NINE));
+    assert_that(rt, !holds_text_of(rt, &heap, NINE));
 }
 
 #[test]
-fn refused_memory_is_told(rt: HostRuntime) -> Result<(), Fail> {
+fn refused_memory_is_told(rt: HostRuntime) {
     // The smallest heap has 16 bytes, so 9 units do not fit.
-    let heap = LocalHeap::new(rt.alloc(), 0)?;
-    let units = over(&rt, b"s\0y\0m\0b\0o\0l\0.\0d\0b\0");
-    assert_that(&rt, from_text(&heap, "symbol.db").is_err());
-    assert_that(&rt, from_bytes(&rt, &heap, &[0; 18]).is_err());
-    assert_that(&rt, owned(&heap, &units).is_err());
-    assert_that(&rt, text_of(&heap, &units).is_err());
-    Ok(())
+    assert_refused(&rt, rt.alloc(), 0);
+}
+
+/// Asserts that a heap of that size has memory for nine units, and none for their text.
+fn assert_text_refused(rt: &impl Abort, alloc: Global, size: usize) {
+    let heap = LocalHeap::new(alloc, size).expect(rt, "a heap");
+    assert_that(rt, holds_units(rt, &heap, NINE));
+    assert_that(rt, !holds_text_of(rt, &heap, NINE));
 }
 
 #[test]
-fn refused_memory_for_the_text_is_told(rt: HostRuntime) -> Result<(), Fail> {
+fn refused_memory_for_the_text_is_told(rt: HostRuntime) {
     // The units fit, and no text beside them.
-    let heap = LocalHeap::new(rt.alloc(), 32)?;
-    let units = over(&rt, b"s\0y\0m\0b\0o\0l\0.\0d\0b\0");
-    assert_that(&rt, owned(&heap, &units).is_ok());
-    assert_that(&rt, text_of(&heap, &units).is_err());
-    Ok(())
+    assert_text_refused(&rt, rt.alloc(), 32);
 }
