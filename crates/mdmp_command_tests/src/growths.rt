@@ -1,21 +1,19 @@
 //! Commands that are told, and command lines, each of whose growths is refused.
+use crate::files::{numbers_file, remove_file, write_made};
 use crate::prints::{Shown, copy_status, print_status};
-use crate::runs::{status_of, status_of_args, status_on_disk, texts_of, write_file};
+use crate::runs::{arguments, new_out, status_of, status_of_args, status_on_disk, text_of};
 use crate::same::assert_same_at;
 use mdmp_disk::{GivenFile, MemoryDisk};
 use mdmp_source::{MemoryStore, PatchyOut};
-use mdmp_test_support::{
-    FOR_LONG_TEXT, HeapCounts, MeteredHeap, Refusal, SIX, empty_out, file_of_numbers, text_in,
-};
+use mdmp_test_support::{FOR_LONG_TEXT, HeapCounts, MeteredHeap, Refusal, SIX, file_of_numbers};
 use mdmp_tool::Limits;
 use std::alloc::{AllocGlobal, Global};
 use std::fs;
 use std::process::Abort;
 use std::rt::Files;
-use std::test::Fail;
 
 /// A way to a command.
-#[derive(Clone, Copy, Debug, PartialEq, Eq)]
+#[derive(Clone, Copy)]
 enum CommandWay {
     /// What is printed of a source.
     Printed(Shown),
@@ -32,30 +30,13 @@ enum CommandWay {
 /// What came of a command in a heap that refuses a growth: its status, how many bytes it wrote, those of a
 /// file that it made among them, what it told, how often it asked for a block, and how many blocks were not
 /// given back.
-#[derive(Drop, Debug, PartialEq, Eq)]
+#[derive(Drop)]
 struct EndInHeap {
     status: u8,
     written: usize,
     told: String,
     growths: u64,
     out: u64,
-}
-
-/// The status of a command over a source, with memory of this heap.
-fn told_status(
-    alloc: Global,
-    heap: &MeteredHeap<Global>,
-    way: CommandWay,
-    file: &[u8],
-    out: &mut PatchyOut<Global>,
-    err: &mut PatchyOut<Global>,
-) -> Result<u8, Fail> {
-    let store = MemoryStore::new(file);
-    let limits = Limits::default();
-    match way {
-        CommandWay::Printed(shown) => print_status(alloc, heap, shown, store, limits, out, err),
-        _ => copy_status(heap, store, limits, &[3, 6], out, err),
-    }
 }
 
 /// How many bytes the file has that was made on a disk.
@@ -72,121 +53,141 @@ fn made_by<R: Files>(rt: &R) -> usize {
         Ok(metadata) => metadata.len() as usize,
         Err(_) => 0,
     };
-    let _ = fs::remove_file(rt, "growth.dmp");
+    remove_file(rt, "growth.dmp");
     size
 }
 
-/// The status of a command line, with memory of this heap, and how many bytes the file has that it made.
-fn words_status<R: Files + AllocGlobal>(
+/// The status of a command line over a disk with this file, or of a program over it, with memory of this
+/// heap, and how many bytes the file has that it made.
+fn status_over<R: AllocGlobal + Abort>(
     rt: &R,
+    alloc: Global,
     heap: &MeteredHeap<Global>,
     way: CommandWay,
     file: &[u8],
     words: &[&str],
     out: &mut PatchyOut<Global>,
     err: &mut PatchyOut<Global>,
-) -> Result<(u8, usize), Fail> {
+) -> (u8, usize) {
     let files = [GivenFile {
         name: "six.dmp",
         bytes: file,
         fail_at: None,
     }];
-    let mut disk = MemoryDisk::new(rt.alloc(), &files);
+    let mut disk = MemoryDisk::new(alloc, &files);
+    let status = if matches!(way, CommandWay::Arguments) {
+        let given = arguments(rt, alloc, &["mdmp"], words);
+        status_of_args(rt, heap, &mut disk, Ok(given), out, err)
+    } else {
+        status_on_disk(rt, heap, &mut disk, words, out, err)
+    };
+    (status, made_on(&disk))
+}
+
+/// The status of a command, with memory of this heap, and how many bytes the file has that it made.
+fn status_by<R: Files + AllocGlobal + Abort>(
+    rt: &R,
+    alloc: Global,
+    heap: &MeteredHeap<Global>,
+    way: CommandWay,
+    words: &[&str],
+    out: &mut PatchyOut<Global>,
+    err: &mut PatchyOut<Global>,
+) -> (u8, usize) {
+    let six = numbers_file(rt, alloc, 6, &SIX);
+    let file = six.as_slice();
     match way {
-        CommandWay::OnDisk => {
-            let status = status_on_disk(rt, heap, &mut disk, words, out, err);
-            Ok((status, made_on(&disk)))
+        CommandWay::Printed(shown) => {
+            let store = MemoryStore::new(file);
+            (print_status(rt, alloc, heap, shown, store, out, err), 0)
         }
-        CommandWay::Arguments => {
-            let mut given = texts_of(rt.alloc(), &["mdmp"])?;
-            for word in words {
-                given.push(word.to_string(rt.alloc())?)?;
-            }
-            let status = status_of_args(rt, heap, &mut disk, Ok(given), out, err);
-            Ok((status, made_on(&disk)))
+        CommandWay::Copied => {
+            let store = MemoryStore::new(file);
+            let limits = Limits::default();
+            (copy_status(rt, heap, store, limits, &[3, 6], out, err), 0)
         }
-        _ => {
-            let status = status_of(rt, heap, words, out, err);
-            Ok((status, made_by(rt)))
-        }
+        CommandWay::System => (status_of(rt, heap, words, out, err), made_by(rt)),
+        _ => status_over(rt, alloc, heap, way, file, words, out, err),
     }
 }
 
 /// What comes of a command whose growth with this number is refused, and of no other.
-fn taken_without<R: Files + AllocGlobal>(
+fn taken_without<R: Files + AllocGlobal + Abort>(
     rt: &R,
+    alloc: Global,
     growth: u64,
     way: CommandWay,
     words: &[&str],
-) -> Result<EndInHeap, Fail> {
-    let alloc = rt.alloc();
-    let six = file_of_numbers(alloc, 6, &SIX)?;
+) -> EndInHeap {
     let heap = MeteredHeap::new(alloc, Refusal::Only(growth));
-    let mut out = empty_out(alloc, FOR_LONG_TEXT)?;
-    let mut err = empty_out(alloc, FOR_LONG_TEXT)?;
-    let (status, made) = match way {
-        CommandWay::Printed(_) | CommandWay::Copied => {
-            let status = told_status(alloc, &heap, way, &six, &mut out, &mut err)?;
-            (status, 0)
-        }
-        _ => words_status(rt, &heap, way, &six, words, &mut out, &mut err)?,
-    };
+    let mut out = new_out(rt, alloc, FOR_LONG_TEXT);
+    let mut err = new_out(rt, alloc, FOR_LONG_TEXT);
+    let (status, made) = status_by(rt, alloc, &heap, way, words, &mut out, &mut err);
     let HeapCounts {
         growths,
         out: kept,
         ..
     } = heap.counts();
-    Ok(EndInHeap {
+    EndInHeap {
         status,
         written: out.bytes().len().saturating_add(made),
-        told: text_in(alloc, &err)?,
+        told: text_of(rt, alloc, &err),
         growths,
         out: kept,
-    })
+    }
 }
 
-/// By how many growths a command ends with this status, each of which may be refused: it is told, nothing is
-/// written, no block is asked for behind it, and all that was taken is given back.
+/// Asserts that a command whose growth with this number was refused told so: nothing is written, no block is
+/// asked for behind it, and all that was taken is given back.
+fn assert_refused(rt: &impl Abort, growth: u64, words: &[&str], taken: &EndInHeap) {
+    let found = (taken.status, taken.told.as_str(), taken.written);
+    let wanted = (3, "mdmp: out of memory\n", 0);
+    assert_same_at(rt, &(words, growth), found, wanted);
+    let found = (taken.growths, taken.out);
+    assert_same_at(rt, &(words, growth), found, (growth.saturating_add(1), 0));
+}
+
+/// By how many growths a command ends with this status, each of which may be refused.
 fn growths_of<R: Files + AllocGlobal + Abort>(
     rt: &R,
+    alloc: Global,
     way: CommandWay,
     words: &[&str],
     status: u8,
-) -> Result<u64, Fail> {
+) -> u64 {
     for growth in 0..20 {
-        let taken = taken_without(rt, growth, way, words)?;
+        let taken = taken_without(rt, alloc, growth, way, words);
         if taken.growths <= growth {
-            assert_same_at(rt, &way, (taken.status, taken.out), (status, 0));
-            assert_same_at(rt, &(way, words), taken.written > 0, status == 0);
-            return Ok(taken.growths);
+            let found = (taken.status, taken.out, taken.written > 0);
+            assert_same_at(rt, &words, found, (status, 0, status == 0));
+            return taken.growths;
         }
-        let refused = EndInHeap {
-            status: 3,
-            written: 0,
-            told: "mdmp: out of memory\n".to_string(rt.alloc())?,
-            growths: growth + 1,
-            out: 0,
-        };
-        assert_same_at(rt, &(way, growth), taken, refused);
+        assert_refused(rt, growth, words, &taken);
     }
-    Err(Fail::new("too many growths"))
+    panic!(rt; "too many growths")
 }
 
+/// Ways to commands over a source, the command of each, and by how many growths it ends: a directory, a
+/// window and a name, and where memory is printed, its bytes and which of them are known; where streams are
+/// copied, a directory, a window, two lists and a buffer.
+const TOLD: [(CommandWay, &[&str], u64); 5] = [
+    (CommandWay::Printed(Shown::Verdicts), &["check"], 3),
+    (CommandWay::Printed(Shown::Items), &["list"], 3),
+    (
+        CommandWay::Printed(Shown::ItemsAndSymbols),
+        &["list", "--pdb"],
+        3,
+    ),
+    (CommandWay::Printed(Shown::Memory), &["hex"], 5),
+    (CommandWay::Copied, &["copy"], 5),
+];
+
 #[test]
-fn each_growth_of_what_is_told_may_be_refused(rt: HostRuntime) -> Result<(), Fail> {
-    // A directory, a window and a name, and where memory is printed, its bytes and which of them are
-    // known; where streams are copied, a directory, a window, two lists and a buffer.
-    for (way, expected) in [
-        (CommandWay::Printed(Shown::Verdicts), 3),
-        (CommandWay::Printed(Shown::Items), 3),
-        (CommandWay::Printed(Shown::ItemsAndSymbols), 3),
-        (CommandWay::Printed(Shown::Memory), 5),
-        (CommandWay::Copied, 5),
-    ] {
-        let growths = growths_of(&rt, way, &[], 0)?;
-        assert_same_at(&rt, &way, growths, expected);
+fn each_growth_of_what_is_told_may_be_refused(rt: HostRuntime) {
+    for &(way, words, expected) in &TOLD {
+        let growths = growths_of(&rt, rt.alloc(), way, words, 0);
+        assert_same_at(&rt, &words, growths, expected);
     }
-    Ok(())
 }
 
 /// Command lines, the status of each, and by how many growths it ends. The words themselves are read with
@@ -208,29 +209,32 @@ const LINES: [(&[&str], u8, u64); 11] = [
 ];
 
 /// Asserts that each growth of each command line may be refused.
-fn assert_lines<R: Files + AllocGlobal + Abort>(rt: &R, way: CommandWay) -> Result<(), Fail> {
-    for (words, status, expected) in LINES {
-        let growths = growths_of(rt, way, words, status)?;
+fn assert_lines<R: Files + AllocGlobal + Abort>(rt: &R, alloc: Global, way: CommandWay) {
+    for &(words, status, expected) in &LINES {
+        let growths = growths_of(rt, alloc, way, words, status);
         assert_same_at(rt, &words, growths, expected);
     }
-    Ok(())
 }
 
 #[test]
-fn each_growth_of_a_command_line_over_a_disk_may_be_refused(rt: HostRuntime) -> Result<(), Fail> {
-    assert_lines(&rt, CommandWay::OnDisk)
+fn each_growth_of_a_command_line_over_a_disk_may_be_refused(rt: HostRuntime) {
+    assert_lines(&rt, rt.alloc(), CommandWay::OnDisk);
 }
 
 #[test]
-fn each_growth_of_a_program_may_be_refused(rt: HostRuntime) -> Result<(), Fail> {
-    assert_lines(&rt, CommandWay::Arguments)
+fn each_growth_of_a_program_may_be_refused(rt: HostRuntime) {
+    assert_lines(&rt, rt.alloc(), CommandWay::Arguments);
+}
+
+/// Writes the file of these command lines, and takes away the others.
+fn write_files(rt: &(impl Files + Abort), alloc: Global) {
+    write_made(rt, "six.dmp", file_of_numbers(alloc, 6, &SIX));
+    remove_file(rt, "none.dmp");
+    remove_file(rt, "growth.dmp");
 }
 
 #[test]
-fn each_growth_of_a_command_line_over_files_may_be_refused(rt: HostRuntime) -> Result<(), Fail> {
-    let six = file_of_numbers(rt.alloc(), 6, &SIX)?;
-    write_file(&rt, "six.dmp", six.as_slice())?;
-    let _ = fs::remove_file(&rt, "none.dmp");
-    let _ = fs::remove_file(&rt, "growth.dmp");
-    assert_lines(&rt, CommandWay::System)
+fn each_growth_of_a_command_line_over_files_may_be_refused(rt: HostRuntime) {
+    write_files(&rt, rt.alloc());
+    assert_lines(&rt, rt.alloc(), CommandWay::System);
 }

@@ -1,9 +1,11 @@
 //! Command lines that ask for help or the version.
-use crate::runs::{assert_ended, run_with};
+use crate::runs::{CommandEnd, assert_end, assert_line, first_part, run_with};
 use crate::same::{assert_same_at, assert_that};
-use mdmp_test_support::{BY_WHOLE, FOR_LONG_TEXT, Room, start_of};
+use mdmp_test_support::{FOR_LONG_TEXT, Room};
 use mdmp_tool::copied;
-use std::test::Fail;
+use std::alloc::{AllocGlobal, Global};
+use std::process::Abort;
+use std::rt::Files;
 
 /// The command lines that ask for help or the version.
 const ASKING: [&[&str]; 13] = [
@@ -22,105 +24,156 @@ const ASKING: [&[&str]; 13] = [
     &["copy", "none.dmp", "--help"],
 ];
 
-#[test]
-fn what_is_asked_for_is_printed(rt: HostRuntime) -> Result<(), Fail> {
-    for words in ASKING {
-        let ended = run_with(&rt, rt.alloc(), rt.alloc(), words, FOR_LONG_TEXT, BY_WHOLE)?;
-        assert_same_at(&rt, &words, ended.status, 0);
-        assert_same_at(&rt, &words, ended.told.as_str(), "");
-        assert_same_at(&rt, &words, ended.text.as_str().contains("mdmp"), true);
-    }
-    Ok(())
+/// Runs a command line to outputs of which the one for what is printed has this room.
+fn asked_in<R: Files + AllocGlobal + Abort>(
+    rt: &R,
+    alloc: Global,
+    words: &[&str],
+    room: Room,
+) -> CommandEnd {
+    run_with(rt, alloc, alloc, words, room, FOR_LONG_TEXT)
+}
+
+/// Asserts that what a command line asks for is printed, and that the program is named in it.
+fn assert_printed<R: Files + AllocGlobal + Abort>(rt: &R, alloc: Global, words: &[&str]) {
+    let ended = asked_in(rt, alloc, words, FOR_LONG_TEXT);
+    let is_named = ended.text.as_str().contains("mdmp");
+    let found = (ended.status, is_named, ended.told.as_str());
+    assert_same_at(rt, &words, found, (0, true, ""))
 }
 
 #[test]
-fn output_that_refuses_the_help_is_told(rt: HostRuntime) -> Result<(), Fail> {
-    for words in ASKING {
-        let whole = run_with(&rt, rt.alloc(), rt.alloc(), words, FOR_LONG_TEXT, BY_WHOLE)?;
-        let full = Room { all: 9, call: 4 };
-        let ended = run_with(&rt, rt.alloc(), rt.alloc(), words, full, BY_WHOLE)?;
-        let start = start_of(whole.text.as_str(), 9)?;
-        assert_ended(&rt, words, &ended, 3, start, "mdmp: output failed\n");
+fn what_is_asked_for_is_printed(rt: HostRuntime) {
+    for &words in &ASKING {
+        assert_printed(&rt, rt.alloc(), words);
     }
-    Ok(())
+}
+
+/// Asserts that an output that takes nine bytes has the first of what is printed, and that this is told.
+fn assert_output_failed<R: Files + AllocGlobal + Abort>(rt: &R, alloc: Global, words: &[&str]) {
+    let whole = asked_in(rt, alloc, words, FOR_LONG_TEXT);
+    let ended = asked_in(rt, alloc, words, Room { all: 9, call: 4 });
+    let start = first_part(rt, whole.text.as_str(), 9);
+    assert_end(rt, &words, &ended, (3, start, "mdmp: output failed\n"))
 }
 
 #[test]
-fn help_names_the_commands_and_the_exit_statuses(rt: HostRuntime) -> Result<(), Fail> {
-    let words = ["--help"];
-    let help = run_with(&rt, rt.alloc(), rt.alloc(), &words, FOR_LONG_TEXT, BY_WHOLE)?;
-    for part in [
-        "\n  check  ",
-        "\n  list   ",
-        "\n  hex    ",
-        "\n  copy   ",
-        "Exit status:\n  0  ",
-        "\n  1  ",
-        "\n  2  ",
-        "\n  3  ",
-    ] {
-        assert_same_at(&rt, &part, help.text.as_str().contains(part), true);
+fn output_that_refuses_the_help_is_told(rt: HostRuntime) {
+    for &words in &ASKING {
+        assert_output_failed(&rt, rt.alloc(), words);
     }
-    Ok(())
 }
 
+/// Asserts that each of these parts stands in a text.
+fn assert_parts(rt: &impl Abort, text: &str, parts: &[&str]) {
+    for part in parts {
+        assert_same_at(rt, part, text.contains(*part), true);
+    }
+}
+
+/// Asserts that each of these parts stands in what is printed by a command line.
+fn assert_parts_printed<R: Files + AllocGlobal + Abort>(
+    rt: &R,
+    alloc: Global,
+    words: &[&str],
+    parts: &[&str],
+) {
+    let help = asked_in(rt, alloc, words, FOR_LONG_TEXT);
+    assert_parts(rt, help.text.as_str(), parts)
+}
+
+/// The commands, and the exit statuses.
+const NAMED: [&str; 8] = [
+    "\n  check  ",
+    "\n  list   ",
+    "\n  hex    ",
+    "\n  copy   ",
+    "Exit status:\n  0  ",
+    "\n  1  ",
+    "\n  2  ",
+    "\n  3  ",
+];
+
 #[test]
-fn help_of_copy_names_the_types_that_are_copied(rt: HostRuntime) -> Result<(), Fail> {
-    let words = ["copy", "--help"];
-    let help = run_with(&rt, rt.alloc(), rt.alloc(), &words, FOR_LONG_TEXT, BY_WHOLE)?;
-    let (_, listed) = help
-        .text
-        .as_str()
-        .split_once("Types that are copied:\n")
-        .ok_or("types")?;
-    let (listed, behind) = listed.split_once("\n\n").ok_or("end")?;
+fn help_names_the_commands_and_the_exit_statuses(rt: HostRuntime) {
+    assert_parts_printed(&rt, rt.alloc(), &["--help"], &NAMED);
+}
+
+/// Whether this number stands in a text between these two.
+fn has_between(
+    rt: &impl Abort,
+    alloc: Global,
+    text: &str,
+    before: &str,
+    number: u32,
+    behind: &str,
+) -> bool {
+    let part = format!(in alloc; "{before}{number}{behind}").expect(rt, "memory for a number");
+    text.contains(part.as_str())
+}
+
+/// Whether a list of types has this one: alone in its line, the first there, or the last.
+fn is_listed(rt: &impl Abort, alloc: Global, listed: &str, stream_type: u32) -> bool {
+    has_between(rt, alloc, listed, "  ", stream_type, "  ")
+        || has_between(rt, alloc, listed, "  ", stream_type, ", ")
+        || has_between(rt, alloc, listed, ", ", stream_type, "  ")
+}
+
+/// Asserts that a list of types has those that are copied.
+fn assert_types(rt: &impl Abort, alloc: Global, listed: &str) {
     for stream_type in 0..100 {
-        let alone = format!(in rt.alloc(); "  {stream_type}  ")?;
-        let first = format!(in rt.alloc(); "  {stream_type}, ")?;
-        let last = format!(in rt.alloc(); ", {stream_type}  ")?;
-        let is_named = [alone, first, last]
-            .iter()
-            .any(|part| listed.contains(part.as_str()));
-        assert_same_at(&rt, &stream_type, is_named, copied(stream_type));
+        let is_named = is_listed(rt, alloc, listed, stream_type);
+        assert_same_at(rt, &stream_type, is_named, copied(stream_type));
     }
-    assert_that(&rt, listed.ends_with("\n  65536 and on  streams of users"));
+    assert_that(rt, listed.ends_with("\n  65536 and on  streams of users"));
+}
+
+/// What stands in a text before and behind the first of these.
+fn parted<'a>(rt: &impl Abort, text: &'a str, by: &str) -> (&'a str, &'a str) {
+    text.split_once(by).expect(rt, "two parts")
+}
+
+/// What the help of `copy` says behind the types.
+const BEHIND_TYPES: [&str; 2] = [
+    "Locations inside a user's stream are not\nmoved",
+    "After a fault OUT is left\nas far as it was written.",
+];
+
+/// Asserts that the help of `copy` names the types that are copied.
+fn assert_help_of_copy(rt: &impl Abort, alloc: Global, text: &str) {
+    let (_, types) = parted(rt, text, "Types that are copied:\n");
+    let (listed, behind) = parted(rt, types, "\n\n");
+    assert_types(rt, alloc, listed);
+    assert_parts(rt, behind, &BEHIND_TYPES);
+    assert_parts(rt, text, &["there must be none of its name"]);
+}
+
+/// The help of `copy`.
+fn help_of_copy<R: Files + AllocGlobal + Abort>(rt: &R, alloc: Global) -> String {
+    asked_in(rt, alloc, &["copy", "--help"], FOR_LONG_TEXT).text
+}
+
+#[test]
+fn help_of_copy_names_the_types_that_are_copied(rt: HostRuntime) {
+    let help = help_of_copy(&rt, rt.alloc());
+    assert_help_of_copy(&rt, rt.alloc(), help.as_str());
     assert_same_at(&rt, &65535, copied(65535), false);
     assert_same_at(&rt, &65536, copied(65536), true);
-    for part in [
-        "Locations inside a user's stream are not\nmoved",
-        "After a fault OUT is left\nas far as it was written.",
-    ] {
-        assert_same_at(&rt, &part, behind.contains(part), true);
-    }
-    assert_that(
-        &rt,
-        help.text
-            .as_str()
-            .contains("there must be none of its name"),
-    );
-    Ok(())
+}
+
+/// Asserts that a command line without words is answered by the help.
+fn assert_answered_by_help<R: Files + AllocGlobal + Abort>(rt: &R, alloc: Global) {
+    let help = asked_in(rt, alloc, &["--help"], FOR_LONG_TEXT);
+    let none = asked_in(rt, alloc, &[], FOR_LONG_TEXT);
+    assert_end(rt, &"no words", &none, (2, "", help.text.as_str()))
 }
 
 #[test]
-fn no_words_are_answered_by_the_help(rt: HostRuntime) -> Result<(), Fail> {
-    let words = ["--help"];
-    let help = run_with(&rt, rt.alloc(), rt.alloc(), &words, FOR_LONG_TEXT, BY_WHOLE)?;
-    let none = run_with(
-        &rt,
-        rt.alloc(),
-        rt.alloc(),
-        &[],
-        FOR_LONG_TEXT,
-        FOR_LONG_TEXT,
-    )?;
-    assert_ended(&rt, &[], &none, 2, "", help.text.as_str());
-    Ok(())
+fn no_words_are_answered_by_the_help(rt: HostRuntime) {
+    assert_answered_by_help(&rt, rt.alloc());
 }
 
 #[test]
-fn version_is_one_line(rt: HostRuntime) -> Result<(), Fail> {
-    let words = ["--version"];
-    let ended = run_with(&rt, rt.alloc(), rt.alloc(), &words, FOR_LONG_TEXT, BY_WHOLE)?;
-    assert_ended(&rt, &words, &ended, 0, "mdmp 0.1.0\n", "");
-    Ok(())
+fn version_is_one_line(rt: HostRuntime) {
+    assert_line(&rt, rt.alloc(), &["--version"], (0, "mdmp 0.1.0\n", ""));
 }

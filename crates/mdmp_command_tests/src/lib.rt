@@ -1,8 +1,9 @@
 //! Tests of the words of a command line, of the command lines, and of the commands over a source and two
 //! outputs, by the public calls of `mdmp_words` and `mdmp_tool` alone.
 //!
-//! `runs` and `prints` make the calls whose contracts are long, in helpers without a contract; the tests
-//! compare what they give, which is plain values.
+//! `files`, `runs` and `prints` make the calls whose contracts are long, in helpers without a contract, which
+//! end a test by themselves where a call fails that should not. A test hands constants to helpers, mostly the
+//! rows of a table.
 #![tactic(auto)]
 
 #[cfg(test)]
@@ -17,6 +18,8 @@ mod failing_outputs;
 mod failing_stores;
 #[cfg(test)]
 mod failing_system;
+#[cfg(test)]
+mod files;
 #[cfg(test)]
 mod growths;
 #[cfg(test)]

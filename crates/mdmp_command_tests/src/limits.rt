@@ -1,118 +1,131 @@
 //! Command lines with options at their limits.
-use crate::runs::{assert_ended, run, run_with, write_file};
+use crate::files::{remove_file, write_file};
+use crate::runs::{Line, assert_line, assert_lines, run_in_heap};
 use crate::same::assert_same_at;
-use linked_list_allocator::LocalHeap;
-use mdmp_test_support::{BY_SEVEN, SYSTEM_TEXT, WIDE_TEXT, system_file, wide_file};
-use std::alloc::Global;
-use std::fs;
+use mdmp_test_support::{BY_SEVEN, MEMORY64, SYSTEM, SYSTEM_TEXT, WIDE_TEXT};
+use std::alloc::{AllocGlobal, Global};
+use std::process::Abort;
 use std::rt::Files;
-use std::test::Fail;
 
-/// Writes the files of these command lines.
-fn write_files(rt: &impl Files, alloc: Global) -> Result<(), Fail> {
-    write_file(rt, "system.dmp", system_file(alloc)?.as_slice())?;
-    write_file(rt, "wide.dmp", wide_file(alloc)?.as_slice())?;
-    Ok(())
+/// Writes the files of these command lines, and takes away the copy of this name.
+fn write_files(rt: &(impl Files + Abort), copy: &str) {
+    write_file(rt, "system.dmp", &SYSTEM);
+    write_file(rt, "wide.dmp", &MEMORY64);
+    remove_file(rt, copy);
 }
 
-#[test]
-fn least_window_serves_each_command(rt: HostRuntime) -> Result<(), Fail> {
-    write_files(&rt, rt.alloc())?;
-    let _ = fs::remove_file(&rt, "least.dmp");
-    let rows: [(&[&str], &str); 4] = [
-        (&["check", "--window", "168", "system.dmp"], "entry 0: ok\n"),
-        (&["list", "--window", "168", "system.dmp"], SYSTEM_TEXT),
-        (
-            &["hex", "--window", "168", "wide.dmp", "0x1000", "4"],
-            WIDE_TEXT,
-        ),
-        (
-            &["copy", "--window", "168", "system.dmp", "least.dmp", "7"],
-            "",
-        ),
-    ];
-    for (words, text) in rows {
-        let ended = run(&rt, rt.alloc(), words)?;
-        assert_ended(&rt, words, &ended, 0, text, "");
-    }
-    Ok(())
-}
+/// Command lines with the least window.
+const LEAST_WINDOW: [Line<'static>; 4] = [
+    (
+        &["check", "--window", "168", "system.dmp"],
+        (0, "entry 0: ok\n", ""),
+    ),
+    (
+        &["list", "--window", "168", "system.dmp"],
+        (0, SYSTEM_TEXT, ""),
+    ),
+    (
+        &["hex", "--window", "168", "wide.dmp", "0x1000", "4"],
+        (0, WIDE_TEXT, ""),
+    ),
+    (
+        &["copy", "--window", "168", "system.dmp", "least.dmp", "7"],
+        (0, "", ""),
+    ),
+];
 
 #[test]
-fn names_of_no_byte_serve_each_command(rt: HostRuntime) -> Result<(), Fail> {
-    write_files(&rt, rt.alloc())?;
-    let _ = fs::remove_file(&rt, "nameless.dmp");
-    let long = "mdmp: entry 0 item 0: name too long: 28\n";
-    let rows: [(&[&str], u8, &str, &str); 3] = [
-        (
-            &["check", "--name", "0", "system.dmp"],
-            0,
-            "entry 0: ok\n",
-            "",
-        ),
-        (
-            &["hex", "--name", "0", "wide.dmp", "0x1000", "4"],
-            0,
-            WIDE_TEXT,
-            "",
-        ),
-        (
-            &["copy", "--name", "0", "system.dmp", "nameless.dmp", "7"],
-            1,
-            "",
-            long,
-        ),
-    ];
-    for (words, code, text, told) in rows {
-        let ended = run(&rt, rt.alloc(), words)?;
-        assert_ended(&rt, words, &ended, code, text, told);
-    }
-    Ok(())
+fn least_window_serves_each_command(rt: HostRuntime) {
+    write_files(&rt, "least.dmp");
+    assert_lines(&rt, rt.alloc(), &LEAST_WINDOW);
 }
 
+/// Command lines with names of no byte.
+const NO_NAME: [Line<'static>; 3] = [
+    (
+        &["check", "--name", "0", "system.dmp"],
+        (0, "entry 0: ok\n", ""),
+    ),
+    (
+        &["hex", "--name", "0", "wide.dmp", "0x1000", "4"],
+        (0, WIDE_TEXT, ""),
+    ),
+    (
+        &["copy", "--name", "0", "system.dmp", "nameless.dmp", "7"],
+        (1, "", "mdmp: entry 0 item 0: name too long: 28\n"),
+    ),
+];
+
 #[test]
-fn name_that_is_too_long_is_listed_as_its_length(rt: HostRuntime) -> Result<(), Fail> {
-    write_files(&rt, rt.alloc())?;
+fn names_of_no_byte_serve_each_command(rt: HostRuntime) {
+    write_files(&rt, "nameless.dmp");
+    assert_lines(&rt, rt.alloc(), &NO_NAME);
+}
+
+/// What is listed of the system, with its name as its length.
+fn text_of_long_name(rt: &impl Abort, alloc: Global) -> String {
+    let text = SYSTEM_TEXT.strip_suffix("\"Service Pack 1\"\n");
+    let text = text.expect(rt, "a name");
+    format!(in alloc; "{text}long 28\n").expect(rt, "memory for a text")
+}
+
+/// Asserts that a list with names of no byte has the length of the system's.
+fn assert_long_name<R: Files + AllocGlobal + Abort>(rt: &R, alloc: Global) {
+    let text = text_of_long_name(rt, alloc);
     let words = ["list", "--name", "0", "system.dmp"];
-    let ended = run(&rt, rt.alloc(), &words)?;
-    let text = SYSTEM_TEXT
-        .strip_suffix("\"Service Pack 1\"\n")
-        .ok_or("a name")?;
-    let text = format!(in rt.alloc(); "{text}long 28\n")?;
-    assert_ended(&rt, &words, &ended, 0, text.as_str(), "");
-    Ok(())
+    assert_line(rt, alloc, &words, (0, text.as_str(), ""))
 }
 
 #[test]
-fn limits_are_those_of_the_words(rt: HostRuntime) -> Result<(), Fail> {
-    write_files(&rt, rt.alloc())?;
-    let _ = fs::remove_file(&rt, "small.dmp");
-    let small = "--window=168";
-    let great = "--window=1073741824";
-    let long = "--name=1073741824";
-    let rows: [(&[&str], u8); 9] = [
-        (&["check", "system.dmp", small], 0),
-        (&["list", "system.dmp", small, "--name", "0"], 0),
-        (&["hex", "wide.dmp", "0x1000", "4", small], 0),
-        (&["check", "system.dmp"], 3),
-        (&["check", "system.dmp", great], 3),
-        (&["list", "system.dmp", great], 3),
-        (&["hex", "wide.dmp", "0x1000", "4", great], 3),
-        (&["copy", "system.dmp", "small.dmp", "7", great], 3),
-        (&["list", "system.dmp", small, long], 3),
-    ];
-    for (words, code) in rows {
-        // Room for the block of output, 65536 bytes, and for a small window and a short name.
-        let heap = LocalHeap::new(rt.alloc(), 70_000)?;
-        let ended = run_with(&rt, rt.alloc(), &heap, words, BY_SEVEN, BY_SEVEN)?;
-        let told = if code == 0 {
-            ""
-        } else {
-            "mdmp: out of memory\n"
-        };
-        assert_same_at(&rt, &words, ended.status, code);
-        assert_same_at(&rt, &words, ended.told.as_str(), told);
-        assert_same_at(&rt, &words, code == 0 || ended.text.is_empty(), true);
+fn name_that_is_too_long_is_listed_as_its_length(rt: HostRuntime) {
+    write_files(&rt, "nameless.dmp");
+    assert_long_name(&rt, rt.alloc());
+}
+
+/// A small window, a great one, and a long name.
+const SMALL: &str = "--window=168";
+
+const GREAT: &str = "--window=1073741824";
+
+const LONG: &str = "--name=1073741824";
+
+/// Command lines, and the status of each where there is memory for little.
+const IN_LITTLE: [(&[&str], u8); 9] = [
+    (&["check", "system.dmp", SMALL], 0),
+    (&["list", "system.dmp", SMALL, "--name", "0"], 0),
+    (&["hex", "wide.dmp", "0x1000", "4", SMALL], 0),
+    (&["check", "system.dmp"], 3),
+    (&["check", "system.dmp", GREAT], 3),
+    (&["list", "system.dmp", GREAT], 3),
+    (&["hex", "wide.dmp", "0x1000", "4", GREAT], 3),
+    (&["copy", "system.dmp", "small.dmp", "7", GREAT], 3),
+    (&["list", "system.dmp", SMALL, LONG], 3),
+];
+
+/// Asserts the status of a command line where there is memory for the block of output, 65536 bytes, and for
+/// a small window and a short name.
+fn assert_in_little<R: Files + AllocGlobal + Abort>(
+    rt: &R,
+    alloc: Global,
+    words: &[&str],
+    status: u8,
+) {
+    let ended = run_in_heap(rt, alloc, 70_000, words, BY_SEVEN);
+    let told = if status == 0 {
+        ""
+    } else {
+        "mdmp: out of memory\n"
+    };
+    let found = (ended.status, ended.told.as_str());
+    assert_same_at(rt, &words, found, (status, told));
+    let is_right = status == 0 || ended.text.is_empty();
+    assert_same_at(rt, &words, is_right, true);
+}
+
+#[test]
+fn limits_are_those_of_the_words(rt: HostRuntime) {
+    write_files(&rt, "small.dmp");
+    for &(words, status) in &IN_LITTLE {
+        assert_in_little(&rt, rt.alloc(), words, status);
     }
-    Ok(())
 }

@@ -1,32 +1,46 @@
 //! Command lines of `list` with the CodeView records of modules.
-use crate::runs::{assert_ended, run, write_file};
+use crate::files::write_made;
+use crate::runs::assert_line;
 use mdmp_test_support::{CODEVIEW_LINE, CODEVIEW_RECORD, MODULE_FILE_TEXT, module_file};
-use std::test::Fail;
+use std::alloc::{AllocGlobal, Global};
+use std::process::Abort;
+use std::rt::Files;
+
+/// Writes a file of one module with its CodeView record.
+fn write_module(rt: &(impl Files + Abort), alloc: Global) {
+    write_made(rt, "module.dmp", module_file(alloc, 30, CODEVIEW_RECORD))
+}
+
+/// The line of the record where its name is cut.
+const CUT_LINE: &str = "pdb 00112233-4455-6677-8899-aabbccddeeff age 1 name \"\" cut\n";
+
+/// Command lines, and the line that each prints behind the module's.
+const LINES: [(&[&str], &str); 5] = [
+    (
+        &["list", "--pdb", "--name", "4096", "module.dmp"],
+        CODEVIEW_LINE,
+    ),
+    (&["list", "module.dmp", "--pdb"], CODEVIEW_LINE),
+    (&["list", "--pdb", "--name", "0", "module.dmp"], CUT_LINE),
+    (&["list", "--name", "4096", "module.dmp"], ""),
+    (&["list", "module.dmp"], ""),
+];
+
+/// Asserts that a command line prints the module, and this behind it.
+fn assert_listed<R: Files + AllocGlobal + Abort>(
+    rt: &R,
+    alloc: Global,
+    words: &[&str],
+    line: &str,
+) {
+    let text = format!(in alloc; "{MODULE_FILE_TEXT}{line}").expect(rt, "memory for a text");
+    assert_line(rt, alloc, words, (0, text.as_str(), ""))
+}
 
 #[test]
-fn symbols_are_listed_where_they_are_asked_for(rt: HostRuntime) -> Result<(), Fail> {
-    let bytes = module_file(rt.alloc(), 30, CODEVIEW_RECORD)?;
-    write_file(&rt, "module.dmp", bytes.as_slice())?;
-    let whole = format!(in rt.alloc(); "{MODULE_FILE_TEXT}{CODEVIEW_LINE}")?;
-    let cut = format!(in rt.alloc();
-        "{MODULE_FILE_TEXT}pdb 00112233-4455-6677-8899-aabbccddeeff age 1 name \"\" cut\n"
-    )?;
-    let rows: [(&[&str], &str); 5] = [
-        (
-            &["list", "--pdb", "--name", "4096", "module.dmp"],
-            whole.as_str(),
-        ),
-        (&["list", "module.dmp", "--pdb"], whole.as_str()),
-        (
-            &["list", "--pdb", "--name", "0", "module.dmp"],
-            cut.as_str(),
-        ),
-        (&["list", "--name", "4096", "module.dmp"], MODULE_FILE_TEXT),
-        (&["list", "module.dmp"], MODULE_FILE_TEXT),
-    ];
-    for (words, text) in rows {
-        let ended = run(&rt, rt.alloc(), words)?;
-        assert_ended(&rt, words, &ended, 0, text, "");
+fn symbols_are_listed_where_they_are_asked_for(rt: HostRuntime) {
+    write_module(&rt, rt.alloc());
+    for &(words, line) in &LINES {
+        assert_listed(&rt, rt.alloc(), words, line);
     }
-    Ok(())
 }

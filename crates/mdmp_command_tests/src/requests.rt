@@ -1,377 +1,455 @@
 //! What the words of a command line ask for.
-use crate::same::{assert_same, assert_same_at};
-use mdmp_lister::Limits;
-use mdmp_words::{Asked, Command, Print, Request, request_of};
-use std::alloc::{AllocError, Global};
-use std::test::Fail;
+use crate::same::assert_same_at;
+use mdmp_lister::{Limits, TypeSet};
+use mdmp_words::{Asked, Command, Print, Request, Span, request_of};
+use std::alloc::Global;
+use std::process::Abort;
 
-/// A request as a text: the command and what it is asked for, with the names in brackets, and then
-/// the window and the longest name.
-fn text_of(alloc: Global, request: &Request<'_>) -> Result<String, AllocError> {
-    let file = request.file;
-    let mut text = match &request.command {
-        Command::Print(Print::Check) => format!(in alloc; "check [{file}]")?,
-        Command::Print(Print::List { pdb: true }) => format!(in alloc; "list [{file}] pdb")?,
-        Command::Print(Print::List { pdb: false }) => format!(in alloc; "list [{file}]")?,
-        Command::Print(Print::Hex(span)) => {
-            let address = span.address;
-            let length = span.length;
-            format!(in alloc; "hex [{file}] {address} {length}")?
-        }
-        Command::Copy { target, types } => {
-            let mut text = format!(in alloc; "copy [{file}] [{target}]")?;
-            for stream_type in types.types() {
-                write!(text, " {stream_type}")?;
-            }
-            text
-        }
+/// The request for a span of memory as a text.
+fn hex_text(rt: &impl Abort, alloc: Global, file: &str, span: &Span) -> String {
+    let address = span.address;
+    let length = span.length;
+    format!(in alloc; "hex [{file}] {address} {length}").expect(rt, "memory for a text")
+}
+
+/// The request for a copy as a text.
+fn copy_text(rt: &impl Abort, alloc: Global, file: &str, target: &str, types: &TypeSet) -> String {
+    let mut text = format!(in alloc; "copy [{file}] [{target}]").expect(rt, "memory for a text");
+    for stream_type in types.types() {
+        write!(text, " {stream_type}").expect(rt, "memory for a type");
+    }
+    text
+}
+
+/// A command and what it is asked for as a text, with the names in brackets.
+fn command_text(rt: &impl Abort, alloc: Global, file: &str, command: &Command<'_>) -> String {
+    let text = match command {
+        Command::Print(Print::Check) => format!(in alloc; "check [{file}]"),
+        Command::Print(Print::List { pdb: true }) => format!(in alloc; "list [{file}] pdb"),
+        Command::Print(Print::List { pdb: false }) => format!(in alloc; "list [{file}]"),
+        Command::Print(Print::Hex(span)) => return hex_text(rt, alloc, file, span),
+        Command::Copy { target, types } => return copy_text(rt, alloc, file, target, types),
     };
+    text.expect(rt, "memory for a text")
+}
+
+/// A request as a text: the command and what it is asked for, and then the window and the longest name.
+fn text_of(rt: &impl Abort, alloc: Global, request: &Request<'_>) -> String {
+    let asked = command_text(rt, alloc, request.file, &request.command);
     let window = request.limits.window;
     let name = request.limits.name;
-    write!(text, " window {window} name {name}")?;
-    Ok(text)
+    format!(in alloc; "{asked} window {window} name {name}").expect(rt, "memory for a text")
+}
+
+/// A text of its own.
+fn text_from(rt: &impl Abort, alloc: Global, text: &str) -> String {
+    String::from_str(alloc, text).expect(rt, "memory for a text")
 }
 
 /// What words come to, as a text: a request, or why there is none.
-fn asked_by<'a>(alloc: Global, words: &'a [&'a str]) -> Result<String, AllocError> {
+fn asked_by<'a>(rt: &impl Abort, alloc: Global, words: &'a [&'a str]) -> String {
     match request_of(alloc, words) {
-        Asked::Run(request) => text_of(alloc, &request),
-        Asked::Help(_) => String::from_str(alloc, "help"),
-        Asked::Refused(_) => String::from_str(alloc, "refused"),
-        Asked::Bad => String::from_str(alloc, "bad"),
-        Asked::Memory => String::from_str(alloc, "memory"),
+        Asked::Run(request) => text_of(rt, alloc, &request),
+        Asked::Help(_) => text_from(rt, alloc, "help"),
+        Asked::Refused(_) => text_from(rt, alloc, "refused"),
+        Asked::Bad => text_from(rt, alloc, "bad"),
+        Asked::Memory => text_from(rt, alloc, "memory"),
     }
 }
 
 /// The text of help that words ask for, or of their refusal.
-fn told_by<'a>(alloc: Global, words: &'a [&'a str]) -> Result<String, Fail> {
+fn told_by<'a>(rt: &impl Abort, alloc: Global, words: &'a [&'a str]) -> String {
     match request_of(alloc, words) {
-        Asked::Help(text) | Asked::Refused(text) => Ok(text),
-        _ => Err(Fail::new("no text")),
+        Asked::Help(text) | Asked::Refused(text) => text,
+        _ => panic!(rt; "no text"),
     }
 }
 
-#[test]
-fn request_of_succeeds(rt: HostRuntime) -> Result<(), Fail> {
-    let usual = "window 65536 name 4096";
-    let rows: [(&[&str], &str); 12] = [
-        (&["check", "a.dmp"], "check [a.dmp]"),
-        (&["list", "a.dmp"], "list [a.dmp]"),
-        (&["list", "a.dmp", "--pdb"], "list [a.dmp] pdb"),
-        (&["list", "--pdb", "a.dmp"], "list [a.dmp] pdb"),
-        (&["hex", "a.dmp", "0x10", "5"], "hex [a.dmp] 16 5"),
-        (&["copy", "a", "b", "3"], "copy [a] [b] 3"),
-        (&["copy", "a", "b", "17", "0", "17"], "copy [a] [b] 17 0 17"),
-        // Names are kept as they are.
-        (&["list", " a b "], "list [ a b ]"),
-        (&["list", "-"], "list [-]"),
-        (&["list", "list"], "list [list]"),
-        (&["list", "help"], "list [help]"),
-        (&["list", "--", "--pdb"], "list [--pdb]"),
-    ];
-    for (words, wanted) in rows {
-        let wanted = format!(in rt.alloc(); "{wanted} {usual}")?;
-        assert_same_at(
-            &rt,
-            &words,
-            asked_by(rt.alloc(), words)?.as_str(),
-            wanted.as_str(),
-        );
-    }
-    Ok(())
+/// Words, and what they come to.
+type AskedRow = (&'static [&'static str], &'static str);
+
+/// Asserts what words come to.
+fn assert_asked(rt: &impl Abort, alloc: Global, words: &[&str], wanted: &str) {
+    let asked = asked_by(rt, alloc, words);
+    assert_same_at(rt, &words, asked.as_str(), wanted)
 }
 
-#[test]
-fn each_command_has_its_own_limits(rt: HostRuntime) -> Result<(), Fail> {
-    let rows: [(&[&str], &str); 7] = [
-        (
-            &["check", "--window", "168", "--name", "0", "a"],
-            "check [a] window 168 name 0",
-        ),
-        (
-            &["list", "a", "--name", "1073741824"],
-            "list [a] window 65536 name 1073741824",
-        ),
-        (
-            &["list", "a", "--window=1073741824", "--pdb"],
-            "list [a] pdb window 1073741824 name 4096",
-        ),
-        (
-            &[
-                "hex",
-                "a",
-                "--window",
-                "00000000000000000000000000000200",
-                "7",
-                "1",
-            ],
-            "hex [a] 7 1 window 200 name 4096",
-        ),
-        (
-            &["copy", "--name", "1", "a", "b", "3", "4"],
-            "copy [a] [b] 3 4 window 65536 name 1",
-        ),
-        (
-            &["copy", "a", "b", "3", "--window", "300", "4"],
-            "copy [a] [b] 3 4 window 300 name 4096",
-        ),
-        // In front of the command there are no options.
-        (&["--window", "300", "list", "a"], "refused"),
-    ];
-    for (words, wanted) in rows {
-        assert_same_at(&rt, &words, asked_by(rt.alloc(), words)?.as_str(), wanted);
-    }
-    Ok(())
+/// Asserts what words come to, which is a request with the usual limits, or none.
+fn assert_usual(rt: &impl Abort, alloc: Global, words: &[&str], wanted: &str) {
+    let asked = asked_by(rt, alloc, words);
+    let text = asked.as_str();
+    let usual = text.strip_suffix(" window 65536 name 4096");
+    assert_same_at(rt, &words, usual.unwrap_or(text), wanted)
 }
 
-#[test]
-fn limits_at_their_ends_are_taken_by_each_command(rt: HostRuntime) -> Result<(), Fail> {
-    let great = ["--window", "1073741824", "--name", "1073741824"];
-    let least = ["--window", "168", "--name", "0"];
-    let commands: [(&[&str], &str); 4] = [
-        (&["check", "a"], "check [a]"),
-        (&["list", "a"], "list [a]"),
-        (&["hex", "a", "0", "1"], "hex [a] 0 1"),
-        (&["copy", "a", "b", "3"], "copy [a] [b] 3"),
-    ];
-    for (command, asked) in commands {
-        for options in [great, least] {
-            let mut words = Vec::new(rt.alloc());
-            words.extend_from_slice(command)?;
-            words.extend_from_slice(&options)?;
-            let [_, window, _, name] = options;
-            let wanted = format!(in rt.alloc(); "{asked} window {window} name {name}")?;
-            let told = asked_by(rt.alloc(), words.as_slice())?;
-            assert_same_at(&rt, &words, told.as_str(), wanted.as_str());
-        }
-    }
-    Ok(())
-}
+/// Words, and their requests, with the usual limits.
+const REQUESTS: [AskedRow; 12] = [
+    (&["check", "a.dmp"], "check [a.dmp]"),
+    (&["list", "a.dmp"], "list [a.dmp]"),
+    (&["list", "a.dmp", "--pdb"], "list [a.dmp] pdb"),
+    (&["list", "--pdb", "a.dmp"], "list [a.dmp] pdb"),
+    (&["hex", "a.dmp", "0x10", "5"], "hex [a.dmp] 16 5"),
+    (&["copy", "a", "b", "3"], "copy [a] [b] 3"),
+    (&["copy", "a", "b", "17", "0", "17"], "copy [a] [b] 17 0 17"),
+    // Names are kept as they are.
+    (&["list", " a b "], "list [ a b ]"),
+    (&["list", "-"], "list [-]"),
+    (&["list", "list"], "list [list]"),
+    (&["list", "help"], "list [help]"),
+    (&["list", "--", "--pdb"], "list [--pdb]"),
+];
 
 #[test]
-fn limits_are_judged_at_their_ends(rt: HostRuntime) -> Result<(), Fail> {
-    let rows = [
-        ("--window", "167", "bad"),
-        ("--window", "168", "list [a] window 168 name 4096"),
-        (
+fn request_of_succeeds(rt: HostRuntime) {
+    for &(words, wanted) in &REQUESTS {
+        assert_usual(&rt, rt.alloc(), words, wanted);
+    }
+}
+
+/// Words with limits, and their requests.
+const LIMITED: [AskedRow; 7] = [
+    (
+        &["check", "--window", "168", "--name", "0", "a"],
+        "check [a] window 168 name 0",
+    ),
+    (
+        &["list", "a", "--name", "1073741824"],
+        "list [a] window 65536 name 1073741824",
+    ),
+    (
+        &["list", "a", "--window=1073741824", "--pdb"],
+        "list [a] pdb window 1073741824 name 4096",
+    ),
+    (
+        &[
+            "hex",
+            "a",
+            "--window",
+            "00000000000000000000000000000200",
+            "7",
+            "1",
+        ],
+        "hex [a] 7 1 window 200 name 4096",
+    ),
+    (
+        &["copy", "--name", "1", "a", "b", "3", "4"],
+        "copy [a] [b] 3 4 window 65536 name 1",
+    ),
+    (
+        &["copy", "a", "b", "3", "--window", "300", "4"],
+        "copy [a] [b] 3 4 window 300 name 4096",
+    ),
+    // In front of the command there are no options.
+    (&["--window", "300", "list", "a"], "refused"),
+];
+
+#[test]
+fn each_command_has_its_own_limits(rt: HostRuntime) {
+    for &(words, wanted) in &LIMITED {
+        assert_asked(&rt, rt.alloc(), words, wanted);
+    }
+}
+
+/// Words with limits at their ends, and their requests.
+const AT_THE_ENDS: [AskedRow; 8] = [
+    (
+        &[
+            "check",
+            "a",
             "--window",
             "1073741824",
-            "list [a] window 1073741824 name 4096",
-        ),
-        ("--window", "1073741825", "bad"),
-        ("--window", "4294967296", "bad"),
-        ("--window", "4294967464", "bad"),
-        ("--window", "0x200", "bad"),
-        ("--name", "0", "list [a] window 65536 name 0"),
-        (
             "--name",
             "1073741824",
-            "list [a] window 65536 name 1073741824",
-        ),
-        ("--name", "1073741825", "bad"),
-        ("--name", "4294967296", "bad"),
-        ("--name", "18446744073709551616", "bad"),
-        ("--name", "", "bad"),
-        ("--name", "+5", "bad"),
-        ("--name", " 5", "bad"),
-        ("--name", "5 ", "bad"),
-        ("--name", "1_0", "bad"),
-        ("--name", "-5", "refused"),
-        ("--budget", "5", "refused"),
-    ];
-    for (option, number, wanted) in rows {
-        let words = ["list", "a", option, number];
-        let told = asked_by(rt.alloc(), &words)?;
-        assert_same_at(&rt, &(option, number), told.as_str(), wanted);
-    }
-    Ok(())
-}
-
-#[test]
-fn spans_are_judged_at_their_ends(rt: HostRuntime) -> Result<(), Fail> {
-    let rows = [
-        ("00000000000000000000001", "1", "hex [a] 1 1"),
-        ("0xfFfFfFfFfFfFfFfF", "1", "hex [a] 18446744073709551615 1"),
-        ("0xffffffffffffffff", "2", "bad"),
-        (
-            "18446744073709551615",
+        ],
+        "check [a] window 1073741824 name 1073741824",
+    ),
+    (
+        &["check", "a", "--window", "168", "--name", "0"],
+        "check [a] window 168 name 0",
+    ),
+    (
+        &[
+            "list",
+            "a",
+            "--window",
+            "1073741824",
+            "--name",
+            "1073741824",
+        ],
+        "list [a] window 1073741824 name 1073741824",
+    ),
+    (
+        &["list", "a", "--window", "168", "--name", "0"],
+        "list [a] window 168 name 0",
+    ),
+    (
+        &[
+            "hex",
+            "a",
             "0",
-            "hex [a] 18446744073709551615 0",
-        ),
-        ("18446744073709551616", "0", "bad"),
-        (
-            "18446744073708503040",
-            "1048576",
-            "hex [a] 18446744073708503040 1048576",
-        ),
-        ("18446744073708503041", "1048576", "bad"),
-        ("0", "1048576", "hex [a] 0 1048576"),
-        ("0", "1048577", "bad"),
-        ("0", "0x10", "bad"),
-        ("0", "", "bad"),
-        ("+5", "1", "bad"),
-        ("0x+1", "1", "bad"),
-        ("0x", "1", "bad"),
-        ("0x00000000000000001", "1", "bad"),
-        ("0XFF", "1", "bad"),
-        ("5 ", "1", "bad"),
-        (" 5", "1", "bad"),
-        ("", "1", "bad"),
-        ("1_0", "1", "bad"),
-        ("-5", "1", "refused"),
-    ];
-    for (address, length, wanted) in rows {
-        let words = ["hex", "a", address, length];
-        let told = asked_by(rt.alloc(), &words)?;
-        let told = told
-            .as_str()
-            .strip_suffix(" window 65536 name 4096")
-            .unwrap_or(told.as_str());
-        assert_same_at(&rt, &(address, length), told, wanted);
+            "1",
+            "--window",
+            "1073741824",
+            "--name",
+            "1073741824",
+        ],
+        "hex [a] 0 1 window 1073741824 name 1073741824",
+    ),
+    (
+        &["hex", "a", "0", "1", "--window", "168", "--name", "0"],
+        "hex [a] 0 1 window 168 name 0",
+    ),
+    (
+        &[
+            "copy",
+            "a",
+            "b",
+            "3",
+            "--window",
+            "1073741824",
+            "--name",
+            "1073741824",
+        ],
+        "copy [a] [b] 3 window 1073741824 name 1073741824",
+    ),
+    (
+        &["copy", "a", "b", "3", "--window", "168", "--name", "0"],
+        "copy [a] [b] 3 window 168 name 0",
+    ),
+];
+
+#[test]
+fn limits_at_their_ends_are_taken_by_each_command(rt: HostRuntime) {
+    for &(words, wanted) in &AT_THE_ENDS {
+        assert_asked(&rt, rt.alloc(), words, wanted);
     }
-    Ok(())
+}
+
+/// Options of a list, a number for each, and what that comes to.
+const OPTIONS: [(&str, &str, &str); 19] = [
+    ("--window", "167", "bad"),
+    ("--window", "168", "list [a] window 168 name 4096"),
+    (
+        "--window",
+        "1073741824",
+        "list [a] window 1073741824 name 4096",
+    ),
+    ("--window", "1073741825", "bad"),
+    ("--window", "4294967296", "bad"),
+    ("--window", "4294967464", "bad"),
+    ("--window", "0x200", "bad"),
+    ("--name", "0", "list [a] window 65536 name 0"),
+    (
+        "--name",
+        "1073741824",
+        "list [a] window 65536 name 1073741824",
+    ),
+    ("--name", "1073741825", "bad"),
+    ("--name", "4294967296", "bad"),
+    ("--name", "18446744073709551616", "bad"),
+    ("--name", "", "bad"),
+    ("--name", "+5", "bad"),
+    ("--name", " 5", "bad"),
+    ("--name", "5 ", "bad"),
+    ("--name", "1_0", "bad"),
+    ("--name", "-5", "refused"),
+    ("--budget", "5", "refused"),
+];
+
+#[test]
+fn limits_are_judged_at_their_ends(rt: HostRuntime) {
+    for &(option, number, wanted) in &OPTIONS {
+        assert_asked(&rt, rt.alloc(), &["list", "a", option, number], wanted);
+    }
+}
+
+/// Addresses and lengths, and what they come to.
+const SPANS: [(&str, &str, &str); 21] = [
+    ("00000000000000000000001", "1", "hex [a] 1 1"),
+    ("0xfFfFfFfFfFfFfFfF", "1", "hex [a] 18446744073709551615 1"),
+    ("0xffffffffffffffff", "2", "bad"),
+    (
+        "18446744073709551615",
+        "0",
+        "hex [a] 18446744073709551615 0",
+    ),
+    ("18446744073709551616", "0", "bad"),
+    (
+        "18446744073708503040",
+        "1048576",
+        "hex [a] 18446744073708503040 1048576",
+    ),
+    ("18446744073708503041", "1048576", "bad"),
+    ("0", "1048576", "hex [a] 0 1048576"),
+    ("0", "1048577", "bad"),
+    ("0", "0x10", "bad"),
+    ("0", "", "bad"),
+    ("+5", "1", "bad"),
+    ("0x+1", "1", "bad"),
+    ("0x", "1", "bad"),
+    ("0x00000000000000001", "1", "bad"),
+    ("0XFF", "1", "bad"),
+    ("5 ", "1", "bad"),
+    (" 5", "1", "bad"),
+    ("", "1", "bad"),
+    ("1_0", "1", "bad"),
+    ("-5", "1", "refused"),
+];
+
+#[test]
+fn spans_are_judged_at_their_ends(rt: HostRuntime) {
+    for &(address, length, wanted) in &SPANS {
+        assert_usual(&rt, rt.alloc(), &["hex", "a", address, length], wanted);
+    }
+}
+
+/// Copies of types, and what they come to.
+const TYPES: [AskedRow; 10] = [
+    (&["copy", "a", "b", "4294967295"], "copy [a] [b] 4294967295"),
+    (&["copy", "a", "b", "4294967296"], "bad"),
+    (&["copy", "a", "b", "0x3"], "bad"),
+    (&["copy", "a", "b", "3", "+4"], "bad"),
+    (&["copy", "a", "b", "3", ""], "bad"),
+    (&["copy", "a", "b", "3", "3 "], "bad"),
+    (&["copy", "a", "b", "-3"], "refused"),
+    (&["copy", "a", "b"], "refused"),
+    (
+        &[
+            "copy", "a", "b", "1", "2", "3", "4", "5", "6", "7", "8", "9", "10", "11", "12", "13",
+            "14", "15", "016",
+        ],
+        "copy [a] [b] 1 2 3 4 5 6 7 8 9 10 11 12 13 14 15 16",
+    ),
+    (
+        &[
+            "copy", "a", "b", "1", "2", "3", "4", "5", "6", "7", "8", "9", "10", "11", "12", "13",
+            "14", "15", "16", "17",
+        ],
+        "bad",
+    ),
+];
+
+#[test]
+fn one_to_sixteen_types_are_named(rt: HostRuntime) {
+    for &(words, wanted) in &TYPES {
+        assert_usual(&rt, rt.alloc(), words, wanted);
+    }
+}
+
+/// Words that `clap` refuses.
+const REFUSED: [&[&str]; 19] = [
+    &[],
+    &[""],
+    &["print", "a"],
+    &["List", "a"],
+    &["lis", "a"],
+    &["list"],
+    &["list", "a", "b"],
+    &["list", "a", "--pdb", "--pdb"],
+    &["list", "a", "--pdb=x"],
+    &["list", "a", "--window"],
+    &["list", "a", "--window", "200", "--window", "200"],
+    &["list", "-x"],
+    &["check", "a", "--pdb"],
+    &["check", "--", "a", "--name", "5"],
+    &["hex", "a"],
+    &["hex", "a", "0"],
+    &["hex", "a", "0", "1", "2"],
+    &["copy", "a"],
+    &["--", "list", "a"],
+];
+
+#[test]
+fn other_words_are_refused(rt: HostRuntime) {
+    for &words in &REFUSED {
+        assert_asked(&rt, rt.alloc(), words, "refused");
+    }
+}
+
+/// Asserts that the help that words ask for has this line.
+fn assert_help(rt: &impl Abort, alloc: Global, words: &[&str], line: &str) {
+    assert_asked(rt, alloc, words, "help");
+    assert_told(rt, alloc, words, line)
+}
+
+/// Asserts that what is told of words has this line.
+fn assert_told(rt: &impl Abort, alloc: Global, words: &[&str], line: &str) {
+    let told = told_by(rt, alloc, &*words);
+    let text = told.as_str();
+    assert_same_at(rt, &(words, text), text.contains(line), true)
+}
+
+/// Words that ask for help or the version, and a line of it.
+const ASKING: [AskedRow; 10] = [
+    (&["--help"], "Usage: mdmp <COMMAND>\n"),
+    (&["-h"], "Usage: mdmp <COMMAND>\n"),
+    (&["help"], "Usage: mdmp <COMMAND>\n"),
+    (&["check", "--help"], "Usage: mdmp check [OPTIONS] <FILE>\n"),
+    (&["list", "-h"], "Usage: mdmp list [OPTIONS] <FILE>\n"),
+    (&["help", "list"], "Usage: mdmp list [OPTIONS] <FILE>\n"),
+    (
+        &["hex", "a", "0", "--help"],
+        "Usage: mdmp hex [OPTIONS] <FILE> <ADDRESS> <LENGTH>\n",
+    ),
+    (
+        &["copy", "--help"],
+        "Usage: mdmp copy [OPTIONS] <IN> <OUT> <TYPE>...\n",
+    ),
+    (&["--version"], "mdmp 0.1.0\n"),
+    (&["-V"], "mdmp 0.1.0\n"),
+];
+
+/// Asserts that what is said where there are no words is the help of the program.
+fn assert_said_of_none(rt: &impl Abort, alloc: Global) {
+    let all = told_by(rt, alloc, &["--help"]);
+    let none = told_by(rt, alloc, &[]);
+    assert_same_at(rt, &"no words", none.as_str(), all.as_str())
 }
 
 #[test]
-fn one_to_sixteen_types_are_named(rt: HostRuntime) -> Result<(), Fail> {
-    let usual = "window 65536 name 4096";
-    let rows: [(&[&str], &str); 10] = [
-        (&["copy", "a", "b", "4294967295"], "copy [a] [b] 4294967295"),
-        (&["copy", "a", "b", "4294967296"], "bad"),
-        (&["copy", "a", "b", "0x3"], "bad"),
-        (&["copy", "a", "b", "3", "+4"], "bad"),
-        (&["copy", "a", "b", "3", ""], "bad"),
-        (&["copy", "a", "b", "3", "3 "], "bad"),
-        (&["copy", "a", "b", "-3"], "refused"),
-        (&["copy", "a", "b"], "refused"),
-        (
-            &[
-                "copy", "a", "b", "1", "2", "3", "4", "5", "6", "7", "8", "9", "10", "11", "12",
-                "13", "14", "15", "016",
-            ],
-            "copy [a] [b] 1 2 3 4 5 6 7 8 9 10 11 12 13 14 15 16",
-        ),
-        (
-            &[
-                "copy", "a", "b", "1", "2", "3", "4", "5", "6", "7", "8", "9", "10", "11", "12",
-                "13", "14", "15", "16", "17",
-            ],
-            "bad",
-        ),
-    ];
-    for (words, wanted) in rows {
-        let told = asked_by(rt.alloc(), words)?;
-        let told = told
-            .as_str()
-            .strip_suffix(usual)
-            .unwrap_or(told.as_str())
-            .trim_end();
-        assert_same_at(&rt, &words, told, wanted);
+fn help_and_the_version_are_told(rt: HostRuntime) {
+    for &(words, line) in &ASKING {
+        assert_help(&rt, rt.alloc(), words, line);
     }
-    Ok(())
+    assert_said_of_none(&rt, rt.alloc());
 }
 
-#[test]
-fn other_words_are_refused(rt: HostRuntime) -> Result<(), Fail> {
-    let rows: [&[&str]; 19] = [
-        &[],
-        &[""],
-        &["print", "a"],
-        &["List", "a"],
-        &["lis", "a"],
-        &["list"],
-        &["list", "a", "b"],
-        &["list", "a", "--pdb", "--pdb"],
-        &["list", "a", "--pdb=x"],
-        &["list", "a", "--window"],
-        &["list", "a", "--window", "200", "--window", "200"],
-        &["list", "-x"],
-        &["check", "a", "--pdb"],
-        &["check", "--", "a", "--name", "5"],
-        &["hex", "a"],
-        &["hex", "a", "0"],
-        &["hex", "a", "0", "1", "2"],
-        &["copy", "a"],
-        &["--", "list", "a"],
-    ];
-    for words in rows {
-        assert_same_at(
-            &rt,
-            &words,
-            asked_by(rt.alloc(), words)?.as_str(),
-            "refused",
-        );
-    }
-    Ok(())
-}
-
-#[test]
-fn help_and_the_version_are_told(rt: HostRuntime) -> Result<(), Fail> {
-    let rows: [(&[&str], &str); 10] = [
-        (&["--help"], "Usage: mdmp <COMMAND>\n"),
-        (&["-h"], "Usage: mdmp <COMMAND>\n"),
-        (&["help"], "Usage: mdmp <COMMAND>\n"),
-        (&["check", "--help"], "Usage: mdmp check [OPTIONS] <FILE>\n"),
-        (&["list", "-h"], "Usage: mdmp list [OPTIONS] <FILE>\n"),
-        (&["help", "list"], "Usage: mdmp list [OPTIONS] <FILE>\n"),
-        (
-            &["hex", "a", "0", "--help"],
-            "Usage: mdmp hex [OPTIONS] <FILE> <ADDRESS> <LENGTH>\n",
-        ),
-        (
-            &["copy", "--help"],
-            "Usage: mdmp copy [OPTIONS] <IN> <OUT> <TYPE>...\n",
-        ),
-        (&["--version"], "mdmp 0.1.0\n"),
-        (&["-V"], "mdmp 0.1.0\n"),
-    ];
-    for (words, line) in rows {
-        assert_same_at(&rt, &words, asked_by(rt.alloc(), words)?.as_str(), "help");
-        let text = told_by(rt.alloc(), words)?;
-        assert_same_at(
-            &rt,
-            &(words, text.as_str()),
-            text.as_str().contains(line),
-            true,
-        );
-    }
-    // What is said where there are no words is the help of the program too.
-    let all = told_by(rt.alloc(), &["--help"])?;
-    let none = told_by(rt.alloc(), &[])?;
-    assert_same(&rt, none.as_str(), all.as_str());
-    Ok(())
-}
-
-/// The help of a command says what its limits are where no words set them.
-#[test]
-fn help_tells_the_limits(rt: HostRuntime) -> Result<(), Fail> {
+/// What the help of a command says of its window where no words set it.
+fn window_help(rt: &impl Abort, alloc: Global) -> String {
     let usual = Limits::default();
-    let window = format!(in rt.alloc();
+    let help = format!(in alloc;
         "at most N bytes, {} to {} [default: {}]",
         Limits::LEAST_WINDOW,
         Limits::MOST_BYTES,
         usual.window
-    )?;
-    let name = format!(in rt.alloc();
+    );
+    help.expect(rt, "memory for a text")
+}
+
+/// What the help of a command says of the longest name where no words set it.
+fn name_help(rt: &impl Abort, alloc: Global) -> String {
+    let usual = Limits::default();
+    let help = format!(in alloc;
         "at most N bytes, up to {} [default: {}]",
         Limits::MOST_BYTES,
         usual.name
-    )?;
-    for command in ["check", "list", "hex", "copy"] {
-        let words = [command, "--help"];
-        let text = told_by(rt.alloc(), &words)?;
-        assert_same_at(
-            &rt,
-            &(command, text.as_str()),
-            text.as_str().contains(window.as_str()),
-            true,
-        );
-        assert_same_at(
-            &rt,
-            &(command, text.as_str()),
-            text.as_str().contains(name.as_str()),
-            true,
-        );
-    }
-    Ok(())
+    );
+    help.expect(rt, "memory for a text")
+}
+
+/// Asserts that the help of each command has this line.
+fn assert_each_help(rt: &impl Abort, alloc: Global, line: &str) {
+    assert_told(rt, alloc, &["check", "--help"], line);
+    assert_told(rt, alloc, &["list", "--help"], line);
+    assert_told(rt, alloc, &["hex", "--help"], line);
+    assert_told(rt, alloc, &["copy", "--help"], line);
+}
+
+/// The help of a command says what its limits are where no words set them.
+#[test]
+fn help_tells_the_limits(rt: HostRuntime) {
+    let window = window_help(&rt, rt.alloc());
+    assert_each_help(&rt, rt.alloc(), window.as_str());
+    let name = name_help(&rt, rt.alloc());
+    assert_each_help(&rt, rt.alloc(), name.as_str());
 }
