@@ -1,56 +1,79 @@
 //! `list` and `hex` to an output that gathers blocks.
-use crate::runs::{FOUR, assert_printed, bad_name, hex_blocks, list_blocks};
-use crate::same::assert_same;
-use mdmp_test_support::{
-    FAULTY_TEXT, Room, SYSTEM_TEXT, WIDE_TEXT, faulty_file, start_of, system_file, wide_file,
+use crate::commands::{Task, Way};
+use crate::files::File;
+use crate::runs::{
+    BAD_NAME, FOUR, assert_in_blocks, assert_printed, default_run, run_file, start_of, with_room,
 };
+use crate::same::{assert_same, assert_same_at};
+use mdmp_test_support::{FAULTY, FAULTY_TEXT, MEMORY64, Room, SYSTEM, SYSTEM_TEXT, WIDE_TEXT};
 use mdmp_tool::ToolFault;
-use std::test::Fail;
+use std::alloc::Global;
+use std::process::Abort;
 
 /// An output that takes all, by nine bytes a call.
 const BY_NINE: Room = Room { all: 1000, call: 9 };
 
-#[test]
-fn blocks_bring_the_same_text(rt: HostRuntime) -> Result<(), Fail> {
-    let bytes = faulty_file(rt.alloc())?;
-    let good = system_file(rt.alloc())?;
-    for block in [1, 7, 100, 1000] {
-        let listed = list_blocks(rt.alloc(), &good, block, BY_NINE)?;
-        assert_printed(&rt, &listed.printed, None, SYSTEM_TEXT);
-        let listed = list_blocks(rt.alloc(), &bytes, block, BY_NINE)?;
-        assert_printed(
-            &rt,
-            &listed.printed,
-            Some(ToolFault::List(bad_name())),
-            FAULTY_TEXT,
-        );
-    }
-    Ok(())
-}
+/// An output whose last block is refused.
+const SHORT: Room = Room {
+    all: 100,
+    call: 100,
+};
 
 #[test]
-fn refused_last_block_is_told_in_place_of_the_fault(rt: HostRuntime) -> Result<(), Fail> {
-    let bytes = faulty_file(rt.alloc())?;
-    let room = Room {
-        all: 100,
-        call: 100,
-    };
-    let listed = list_blocks(rt.alloc(), &bytes, 1000, room)?;
-    let start = start_of(FAULTY_TEXT, 100)?;
-    assert_printed(&rt, &listed.printed, Some(ToolFault::Out), start);
+fn blocks_bring_the_same_text(rt: HostRuntime) {
+    let alloc = rt.alloc();
+    let good = File::Bytes(&SYSTEM);
+    let sizes = [1, 7, 100, 1000];
+    assert_in_blocks(
+        &rt,
+        alloc,
+        &good,
+        Task::List,
+        &sizes,
+        BY_NINE,
+        Ok(0),
+        SYSTEM_TEXT,
+    );
+    let faulty = File::Numbers(3, &FAULTY);
+    assert_in_blocks(
+        &rt,
+        alloc,
+        &faulty,
+        Task::List,
+        &sizes,
+        BY_NINE,
+        Err(BAD_NAME),
+        FAULTY_TEXT,
+    );
+}
+
+/// Asserts it of the list of `FAULTY`, all of which is one block.
+fn assert_last_block_refused(rt: &impl Abort, alloc: Global) {
+    let run = with_room(&default_run(Task::List, Way::Blocks(1000)), SHORT);
+    let outcome = run_file(rt, alloc, &File::Numbers(3, &FAULTY), &run);
+    let start = start_of(rt, FAULTY_TEXT, 100);
+    assert_printed(rt, &outcome, Err(ToolFault::Out), start);
     // The header, three entries, the system, the count of the modules and the first one.
-    assert_same(&rt, listed.fetched, 236);
-    Ok(())
+    assert_same(rt, outcome.end.fetched, 236);
 }
 
 #[test]
-fn blocks_bring_the_same_bytes(rt: HostRuntime) -> Result<(), Fail> {
-    let bytes = wide_file(rt.alloc())?;
-    for block in [1, 7, 100] {
-        let counted = hex_blocks(rt.alloc(), &bytes, FOUR, block, BY_NINE)?;
-        assert_printed(&rt, &counted.printed, None, WIDE_TEXT);
+fn refused_last_block_is_told_in_place_of_the_fault(rt: HostRuntime) {
+    assert_last_block_refused(&rt, rt.alloc());
+}
+
+/// Asserts how many bytes are fetched where memory is printed in blocks of this size.
+fn assert_fetched_for_memory(rt: &impl Abort, alloc: Global, size: usize, fetched: u128) {
+    let run = with_room(&default_run(FOUR, Way::Blocks(size)), BY_NINE);
+    let outcome = run_file(rt, alloc, &File::Bytes(&MEMORY64), &run);
+    assert_printed(rt, &outcome, Ok(0), WIDE_TEXT);
+    assert_same_at(rt, &size, outcome.end.fetched, fetched);
+}
+
+#[test]
+fn blocks_bring_the_same_bytes(rt: HostRuntime) {
+    for size in [1, 7, 100] {
         // The header, an entry, the head of the list, the list, and four bytes.
-        assert_same(&rt, counted.fetched, 112);
+        assert_fetched_for_memory(&rt, rt.alloc(), size, 112);
     }
-    Ok(())
 }

@@ -1,154 +1,187 @@
 //! Commands to an output that takes one byte a call, of which each call fails in turn.
-use crate::calls::{CommandCall, ended_by};
-use crate::runs::{bad_name, least};
-use crate::same::assert_same_at;
-use mdmp_source::{MemoryStore, PatchyOut};
-use mdmp_test_support::{
-    CODEVIEW_LINE, CODEVIEW_RECORD, CRASH, FAULTY_TEXT, FAULTY_TOLD, FAULTY_VERDICTS,
-    MODULE_FILE_TEXT, SIX, SYSTEM_TEXT, WIDE_TEXT, faulty_file, file_of_numbers, module_file,
-    system_file, wide_file,
+use crate::commands::{Run, Task, Way};
+use crate::faults::told;
+use crate::files::{File, bytes_of};
+use crate::runs::{
+    BAD_NAME, FOUR, assert_wrote, first_of, in_way, least_run, run_file, symbols_text,
+    with_failing_output, with_room,
 };
-use mdmp_tool::{ToolFault, fault_line};
+use crate::same::assert_same_at;
+use mdmp_test_support::{
+    CODEVIEW_RECORD, CRASH, FAULTY, FAULTY_TEXT, FAULTY_TOLD, FAULTY_VERDICTS, MEMORY64, Room, SIX,
+    SYSTEM, SYSTEM_TEXT, WIDE_TEXT,
+};
+use mdmp_tool::ToolFault;
 use std::alloc::Global;
 use std::process::Abort;
-use std::test::Fail;
+
+/// The ways of a list.
+pub const EACH_WAY: [Way; 4] = [Way::Store, Way::Source, Way::Blocks(64), Way::Items];
+
+/// The ways of a command that has no items.
+pub const WITHOUT_ITEMS: [Way; 3] = [Way::Store, Way::Source, Way::Blocks(64)];
+
+/// The ways of a copy.
+pub const COPY_WAYS: [Way; 2] = [Way::Store, Way::Source];
+
+/// An output that takes all, by one byte a call.
+pub const BY_ONE: Room = Room { all: 2000, call: 1 };
+
+/// Asserts what a run answers where this call of the output fails, and that the bytes before are written.
+fn assert_taken(
+    rt: &impl Abort,
+    alloc: Global,
+    run: &Run<'_>,
+    file: &File<'_>,
+    taken: usize,
+    answer: Result<u64, ToolFault>,
+    whole: &[u8],
+) {
+    let failing = with_failing_output(run, taken as u64);
+    let outcome = run_file(rt, alloc, file, &failing);
+    let start = first_of(rt, whole, taken);
+    assert_wrote(rt, &(run.way, taken), &outcome, answer, start);
+}
 
 /// Asserts that each call of the output that fails is told, behind the bytes that were taken before, that
 /// nothing is written behind it, and that all is written where none fails.
 fn assert_swept(
     rt: &impl Abort,
     alloc: Global,
-    call: CommandCall,
-    file: &[u8],
-    fault: Option<ToolFault>,
+    run: &Run<'_>,
+    file: &File<'_>,
+    answer: Result<u64, ToolFault>,
     whole: &[u8],
-) -> Result<(), Fail> {
-    // The least window, so that a copy is written as it is read.
-    let limits = least(48)?;
+) {
     for taken in 0..whole.len() {
-        let failing = Some(taken as u64);
-        let (told, bytes) = ended_by(alloc, MemoryStore::new(file), call, limits, failing)?;
-        assert_same_at(rt, &(call, taken), told, Some(ToolFault::Out));
-        let start = whole.get(..taken);
-        assert_same_at(rt, &(call, taken), Some(bytes.as_slice()), start);
+        assert_taken(rt, alloc, run, file, taken, Err(ToolFault::Out), whole);
     }
-    let failing = Some(whole.len() as u64);
-    let (told, bytes) = ended_by(alloc, MemoryStore::new(file), call, limits, failing)?;
-    assert_same_at(rt, &call, told, fault);
-    assert_same_at(rt, &call, bytes.as_slice(), whole);
-    Ok(())
+    assert_taken(rt, alloc, run, file, whole.len(), answer, whole);
+}
+
+/// Asserts it in each of these ways.
+fn assert_swept_in(
+    rt: &impl Abort,
+    alloc: Global,
+    ways: &[Way],
+    task: Task<'_>,
+    file: &File<'_>,
+    answer: Result<u64, ToolFault>,
+    whole: &[u8],
+) {
+    // With the least window, so that a copy is written as it is read.
+    let run = with_room(&least_run(rt, task, 48), BY_ONE);
+    for way in ways {
+        assert_swept(rt, alloc, &in_way(&run, *way), file, answer, whole);
+    }
 }
 
 #[test]
-fn list_tells_each_call_that_fails(rt: HostRuntime) -> Result<(), Fail> {
-    let system = system_file(rt.alloc())?;
-    let faulty = faulty_file(rt.alloc())?;
-    let fault = Some(ToolFault::List(bad_name()));
-    for call in [
-        CommandCall::RunList,
-        CommandCall::ListSource,
-        CommandCall::ListInBlocks,
-        CommandCall::ListByItems,
-    ] {
-        assert_swept(&rt, rt.alloc(), call, &system, None, SYSTEM_TEXT.as_bytes())?;
-        assert_swept(
-            &rt,
-            rt.alloc(),
-            call,
-            &faulty,
-            fault,
-            FAULTY_TEXT.as_bytes(),
-        )?;
-    }
-    Ok(())
+fn list_tells_each_call_that_fails(rt: HostRuntime) {
+    let alloc = rt.alloc();
+    let system = File::Bytes(&SYSTEM);
+    let text = SYSTEM_TEXT.as_bytes();
+    assert_swept_in(&rt, alloc, &EACH_WAY, Task::List, &system, Ok(0), text);
+    let faulty = File::Numbers(3, &FAULTY);
+    let text = FAULTY_TEXT.as_bytes();
+    assert_swept_in(
+        &rt,
+        alloc,
+        &EACH_WAY,
+        Task::List,
+        &faulty,
+        Err(BAD_NAME),
+        text,
+    );
+}
+
+/// Asserts it of a list with the line of a CodeView record.
+fn assert_symbols_swept(rt: &impl Abort, alloc: Global) {
+    let file = File::Module(30, CODEVIEW_RECORD);
+    let text = symbols_text(rt, alloc);
+    assert_swept_in(
+        rt,
+        alloc,
+        &EACH_WAY,
+        Task::Symbols,
+        &file,
+        Ok(0),
+        text.as_bytes(),
+    );
 }
 
 #[test]
-fn list_of_symbols_tells_each_call_that_fails(rt: HostRuntime) -> Result<(), Fail> {
-    let file = module_file(rt.alloc(), 30, CODEVIEW_RECORD)?;
-    let text = format!(in rt.alloc(); "{MODULE_FILE_TEXT}{CODEVIEW_LINE}")?;
-    for call in [
-        CommandCall::RunSymbols,
-        CommandCall::SymbolsSource,
-        CommandCall::SymbolsInBlocks,
-        CommandCall::SymbolsByItems,
-    ] {
-        assert_swept(&rt, rt.alloc(), call, &file, None, text.as_bytes())?;
-    }
-    Ok(())
+fn list_of_symbols_tells_each_call_that_fails(rt: HostRuntime) {
+    assert_symbols_swept(&rt, rt.alloc());
 }
 
 #[test]
-fn check_tells_each_call_that_fails(rt: HostRuntime) -> Result<(), Fail> {
-    let file = faulty_file(rt.alloc())?;
+fn check_tells_each_call_that_fails(rt: HostRuntime) {
+    let file = File::Numbers(3, &FAULTY);
     let text = FAULTY_VERDICTS.as_bytes();
-    for call in [
-        CommandCall::RunCheck,
-        CommandCall::CheckSource,
-        CommandCall::CheckInBlocks,
-    ] {
-        assert_swept(&rt, rt.alloc(), call, &file, None, text)?;
-    }
-    Ok(())
+    assert_swept_in(
+        &rt,
+        rt.alloc(),
+        &WITHOUT_ITEMS,
+        Task::Check,
+        &file,
+        Ok(2),
+        text,
+    );
 }
 
 #[test]
-fn hex_tells_each_call_that_fails(rt: HostRuntime) -> Result<(), Fail> {
-    let file = wide_file(rt.alloc())?;
+fn hex_tells_each_call_that_fails(rt: HostRuntime) {
+    let file = File::Bytes(&MEMORY64);
     let text = WIDE_TEXT.as_bytes();
-    for call in [
-        CommandCall::RunHex,
-        CommandCall::HexSource,
-        CommandCall::HexInBlocks,
-    ] {
-        assert_swept(&rt, rt.alloc(), call, &file, None, text)?;
-    }
-    Ok(())
+    assert_swept_in(&rt, rt.alloc(), &WITHOUT_ITEMS, FOUR, &file, Ok(0), text);
+}
+
+/// Asserts it of a copy of threads and exceptions.
+fn assert_copy_swept(rt: &impl Abort, alloc: Global) {
+    let six = File::Numbers(6, &SIX);
+    let crash = bytes_of(rt, alloc, &File::Numbers(2, &CRASH));
+    let task = Task::Copy(&[3, 6]);
+    assert_swept_in(rt, alloc, &COPY_WAYS, task, &six, Ok(292), &crash);
 }
 
 #[test]
-fn copy_tells_each_call_that_fails(rt: HostRuntime) -> Result<(), Fail> {
-    let six = file_of_numbers(rt.alloc(), 6, &SIX)?;
-    let crash = file_of_numbers(rt.alloc(), 2, &CRASH)?;
-    for call in [CommandCall::RunCopy, CommandCall::CopySource] {
-        assert_swept(&rt, rt.alloc(), call, &six, None, &crash)?;
-    }
-    Ok(())
+fn copy_tells_each_call_that_fails(rt: HostRuntime) {
+    assert_copy_swept(&rt, rt.alloc());
 }
 
-/// The first part of the line of a fault, of which this byte is refused.
-fn told_up_to(alloc: Global, fault: &ToolFault, taken: usize) -> Result<(bool, Vec<u8>), Fail> {
-    let mut out = PatchyOut::with_room(alloc, 200, 1, Some(taken as u64))?;
-    let is_told = fault_line(fault, &mut out).is_ok();
-    Ok((is_told, out.bytes().to_vec(alloc)?))
+/// Asserts whether a line is told of which this byte is refused, and that these bytes are written before.
+fn assert_told_up_to(
+    rt: &impl Abort,
+    alloc: Global,
+    fault: &ToolFault,
+    taken: usize,
+    is_whole: bool,
+    line: &[u8],
+) {
+    let (is_told, bytes) = told(rt, alloc, fault, BY_ONE, Some(taken as u64));
+    assert_same_at(rt, &(fault, taken), is_told, is_whole);
+    assert_same_at(
+        rt,
+        &(fault, taken),
+        bytes.as_slice(),
+        first_of(rt, line, taken),
+    );
 }
 
 /// Asserts that each byte of the line of a fault may be refused, and that all of it is told where none is.
-fn assert_told(rt: &impl Abort, alloc: Global, fault: &ToolFault, line: &[u8]) -> Result<(), Fail> {
+fn assert_told(rt: &impl Abort, alloc: Global, fault: &ToolFault, line: &str) {
     for taken in 0..line.len() {
-        let (is_told, bytes) = told_up_to(alloc, fault, taken)?;
-        assert_same_at(rt, &(fault, taken), is_told, false);
-        assert_same_at(
-            rt,
-            &(fault, taken),
-            Some(bytes.as_slice()),
-            line.get(..taken),
-        );
+        assert_told_up_to(rt, alloc, fault, taken, false, line.as_bytes());
     }
-    let (is_told, bytes) = told_up_to(alloc, fault, line.len())?;
-    assert_same_at(rt, fault, is_told, true);
-    assert_same_at(rt, fault, bytes.as_slice(), line);
-    Ok(())
+    assert_told_up_to(rt, alloc, fault, line.len(), true, line.as_bytes());
 }
 
 #[test]
-fn line_of_a_fault_has_the_first_bytes(rt: HostRuntime) -> Result<(), Fail> {
-    for (fault, line) in [
-        (ToolFault::List(bad_name()), FAULTY_TOLD),
-        (ToolFault::Memory, "mdmp: out of memory\n"),
-        (ToolFault::NotCopied(12), "mdmp: type 12 is not copied\n"),
-    ] {
-        assert_told(&rt, rt.alloc(), &fault, line.as_bytes())?;
-    }
-    Ok(())
+fn line_of_a_fault_has_the_first_bytes(rt: HostRuntime) {
+    let alloc = rt.alloc();
+    assert_told(&rt, alloc, &BAD_NAME, FAULTY_TOLD);
+    assert_told(&rt, alloc, &ToolFault::Memory, "mdmp: out of memory\n");
+    let not_copied = ToolFault::NotCopied(12);
+    assert_told(&rt, alloc, &not_copied, "mdmp: type 12 is not copied\n");
 }

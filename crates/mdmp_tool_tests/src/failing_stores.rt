@@ -1,16 +1,18 @@
 //! Commands over a store that gives one byte a call, of which each call fails in turn.
-use crate::calls::{CommandCall, ended_by};
-use crate::runs::least;
-use crate::same::assert_same_at;
-use mdmp_source::{PatchyStore, SourceFault};
-use mdmp_test_support::{
-    CODEVIEW_LINE, CODEVIEW_RECORD, CRASH, FAULTY_VERDICTS, MODULE_FILE_TEXT, SIX, SYSTEM_TEXT,
-    WIDE_TEXT, faulty_file, file_of_numbers, module_file, system_file, wide_file,
+use crate::commands::{Run, Task, Way};
+use crate::copy::{COPY_READS, assert_copies_behind_failures};
+use crate::failing_outputs::{BY_ONE, COPY_WAYS, EACH_WAY, WITHOUT_ITEMS};
+use crate::files::{File, bytes_of};
+use crate::runs::{
+    FOUR, assert_wrote, default_run, failed_at, first_of, in_way, least_run, run_patchy,
+    symbols_text, with_room,
 };
-use mdmp_tool::{Limits, ToolFault};
+use mdmp_test_support::{
+    CODEVIEW_RECORD, FAULTY, FAULTY_VERDICTS, MEMORY64, SYSTEM, SYSTEM_TEXT, WIDE_TEXT,
+};
+use mdmp_tool::ToolFault;
 use std::alloc::Global;
 use std::process::Abort;
-use std::test::Fail;
 
 /// Bytes that are read one behind the other.
 #[derive(Clone, Copy)]
@@ -24,76 +26,80 @@ struct ReadSpan {
 }
 
 /// A command over a file, in each way that it is called.
-#[derive(Drop)]
-struct StoreSweep<'a> {
-    calls: &'a [CommandCall],
-    file: &'a [u8],
+#[derive(Clone, Copy)]
+struct StoreSweep {
+    ways: &'static [Way],
+    task: Task<'static>,
+    file: File<'static>,
     /// All that it reads.
-    spans: &'a [ReadSpan],
+    spans: &'static [ReadSpan],
     reads: u64,
-    /// All that it writes.
-    text: &'a str,
+    answer: Result<u64, ToolFault>,
 }
 
 /// The span of the byte that is read behind so many.
-fn span_of(spans: &[ReadSpan], read: u64) -> Option<ReadSpan> {
-    spans
-        .iter()
-        .copied()
-        .filter(|span| span.read <= read)
-        .last()
+fn span_of(spans: &[ReadSpan], read: u64) -> ReadSpan {
+    let mut found = OPENING;
+    for span in spans {
+        if span.read <= read {
+            found = *span;
+        }
+    }
+    found
 }
 
-/// The fault of a store whose call of this number fails, and how much is written then.
-fn expected_of(sweep: &StoreSweep<'_>, fail_at: u64) -> Result<(ToolFault, usize), Fail> {
-    let span = span_of(sweep.spans, fail_at).ok_or("a span")?;
-    let behind = fail_at.saturating_sub(span.read);
-    let at = span.place.saturating_add(behind);
-    Ok((ToolFault::Source(SourceFault::Failed { at }), span.written))
-}
-
-/// Why a command ended over a store whose call of this number fails, and what it wrote.
-fn ended_of(
+/// Asserts that the failure of this call of the store is told, behind what was written up to there.
+fn assert_failed(
+    rt: &impl Abort,
     alloc: Global,
-    file: &[u8],
-    call: CommandCall,
+    bytes: &[u8],
+    run: &Run<'_>,
+    sweep: &StoreSweep,
+    text: &str,
     fail_at: u64,
-) -> Result<(Option<ToolFault>, Vec<u8>), Fail> {
-    let store = PatchyStore::new(file, &[1], Some(fail_at));
-    ended_by(alloc, store, call, Limits::default(), None)
+) {
+    let span = span_of(sweep.spans, fail_at);
+    let at = span.place.saturating_add(fail_at.saturating_sub(span.read));
+    let outcome = run_patchy(rt, alloc, bytes, &[1], Some(fail_at), run);
+    let start = first_of(rt, text.as_bytes(), span.written);
+    assert_wrote(
+        rt,
+        &(run.way, fail_at),
+        &outcome,
+        failed_at(Some(at)),
+        start,
+    );
 }
 
-/// Asserts that each call of the store that fails is told, behind what was written up to there, and that
-/// none is left behind the last of them.
+/// Asserts it of each call, and that none is left behind the last of them.
 fn assert_swept(
     rt: &impl Abort,
     alloc: Global,
-    sweep: &StoreSweep<'_>,
-    call: CommandCall,
-) -> Result<(), Fail> {
-    let text = sweep.text.as_bytes();
+    bytes: &[u8],
+    run: &Run<'_>,
+    sweep: &StoreSweep,
+    text: &str,
+) {
     for fail_at in 0..sweep.reads {
-        let (fault, bytes) = ended_of(alloc, sweep.file, call, fail_at)?;
-        let (failed, written) = expected_of(sweep, fail_at)?;
-        assert_same_at(rt, &(call, fail_at), fault, Some(failed));
-        let start = text.get(..written);
-        assert_same_at(rt, &(call, fail_at), Some(bytes.as_slice()), start);
+        assert_failed(rt, alloc, bytes, run, sweep, text, fail_at);
     }
-    let (_, bytes) = ended_of(alloc, sweep.file, call, sweep.reads)?;
-    assert_same_at(rt, &call, bytes.as_slice(), text);
-    Ok(())
+    let outcome = run_patchy(rt, alloc, bytes, &[1], Some(sweep.reads), run);
+    assert_wrote(
+        rt,
+        &(run.way, sweep.reads),
+        &outcome,
+        sweep.answer,
+        text.as_bytes(),
+    );
 }
 
-/// Asserts it of a command in each way that it is called.
-fn assert_swept_in_each_way(
-    rt: &impl Abort,
-    alloc: Global,
-    sweep: &StoreSweep<'_>,
-) -> Result<(), Fail> {
-    for call in sweep.calls {
-        assert_swept(rt, alloc, sweep, *call)?;
+/// Asserts it of a command in each way that it is called, whose whole text is this.
+fn assert_swept_in_each_way(rt: &impl Abort, alloc: Global, sweep: &StoreSweep, text: &str) {
+    let bytes = bytes_of(rt, alloc, &sweep.file);
+    for way in sweep.ways {
+        let run = with_room(&default_run(sweep.task, *way), BY_ONE);
+        assert_swept(rt, alloc, &bytes, &run, sweep, text);
     }
-    Ok(())
 }
 
 /// The header and the directory, before whose last byte nothing is written.
@@ -103,146 +109,124 @@ const OPENING: ReadSpan = ReadSpan {
     written: 0,
 };
 
+/// A list of a system.
+///
+/// Behind the directory of one entry the first two lines are written. The two zeros behind the name are not
+/// read.
+const LIST: StoreSweep = StoreSweep {
+    ways: &EACH_WAY,
+    task: Task::List,
+    file: File::Bytes(&SYSTEM),
+    spans: &[
+        OPENING,
+        ReadSpan {
+            read: 44,
+            place: 44,
+            written: 117,
+        },
+    ],
+    reads: 132,
+    answer: Ok(0),
+};
+
 #[test]
-fn list_tells_each_call_that_fails(rt: HostRuntime) -> Result<(), Fail> {
-    let system = system_file(rt.alloc())?;
-    // Behind the directory of one entry the first two lines are written. The two zeros behind the name
-    // are not read.
-    let sweep = StoreSweep {
-        calls: &[
-            CommandCall::RunList,
-            CommandCall::ListSource,
-            CommandCall::ListInBlocks,
-            CommandCall::ListByItems,
-        ],
-        file: &system,
-        spans: &[
-            OPENING,
-            ReadSpan {
-                read: 44,
-                place: 44,
-                written: 117,
-            },
-        ],
-        reads: 132,
-        text: SYSTEM_TEXT,
-    };
-    assert_swept_in_each_way(&rt, rt.alloc(), &sweep)
+fn list_tells_each_call_that_fails(rt: HostRuntime) {
+    assert_swept_in_each_way(&rt, rt.alloc(), &LIST, SYSTEM_TEXT);
+}
+
+/// A list with the line of a CodeView record.
+///
+/// Of the 186 bytes those of the record are read behind the line of its module, up to which 230 bytes are
+/// written.
+const SYMBOLS: StoreSweep = StoreSweep {
+    ways: &EACH_WAY,
+    task: Task::Symbols,
+    file: File::Module(30, CODEVIEW_RECORD),
+    spans: &[
+        OPENING,
+        ReadSpan {
+            read: 44,
+            place: 44,
+            written: 118,
+        },
+        ReadSpan {
+            read: 156,
+            place: 156,
+            written: 230,
+        },
+    ],
+    reads: 186,
+    answer: Ok(0),
+};
+
+/// Asserts it of this list.
+fn assert_symbols_swept(rt: &impl Abort, alloc: Global) {
+    let text = symbols_text(rt, alloc);
+    assert_swept_in_each_way(rt, alloc, &SYMBOLS, text.as_str());
 }
 
 #[test]
-fn list_of_symbols_tells_each_call_that_fails(rt: HostRuntime) -> Result<(), Fail> {
-    let text = format!(in rt.alloc(); "{MODULE_FILE_TEXT}{CODEVIEW_LINE}")?;
-    let module = module_file(rt.alloc(), 30, CODEVIEW_RECORD)?;
-    // Of the 186 bytes those of the CodeView record are read behind the module's line.
-    let sweep = StoreSweep {
-        calls: &[
-            CommandCall::RunSymbols,
-            CommandCall::SymbolsSource,
-            CommandCall::SymbolsInBlocks,
-            CommandCall::SymbolsByItems,
-        ],
-        file: &module,
-        spans: &[
-            OPENING,
-            ReadSpan {
-                read: 44,
-                place: 44,
-                written: 118,
-            },
-            ReadSpan {
-                read: 156,
-                place: 156,
-                written: MODULE_FILE_TEXT.len(),
-            },
-        ],
-        reads: 186,
-        text: text.as_str(),
-    };
-    assert_swept_in_each_way(&rt, rt.alloc(), &sweep)
+fn list_of_symbols_tells_each_call_that_fails(rt: HostRuntime) {
+    assert_symbols_swept(&rt, rt.alloc());
+}
+
+/// A check of which the first entry is judged behind the 56 bytes of its system.
+const CHECK: StoreSweep = StoreSweep {
+    ways: &WITHOUT_ITEMS,
+    task: Task::Check,
+    file: File::Numbers(3, &FAULTY),
+    spans: &[
+        OPENING,
+        ReadSpan {
+            read: 124,
+            place: 124,
+            written: 12,
+        },
+    ],
+    reads: 236,
+    answer: Ok(2),
+};
+
+#[test]
+fn check_tells_each_call_that_fails(rt: HostRuntime) {
+    assert_swept_in_each_way(&rt, rt.alloc(), &CHECK, FAULTY_VERDICTS);
+}
+
+/// Memory of a 64-bit list.
+///
+/// The 16 bytes of the head of the list are read, and then again with its ranges and the four bytes, before
+/// anything is written.
+const HEX: StoreSweep = StoreSweep {
+    ways: &WITHOUT_ITEMS,
+    task: FOUR,
+    file: File::Bytes(&MEMORY64),
+    spans: &[
+        OPENING,
+        ReadSpan {
+            read: 60,
+            place: 44,
+            written: 0,
+        },
+    ],
+    reads: 112,
+    answer: Ok(0),
+};
+
+#[test]
+fn hex_tells_each_call_that_fails(rt: HostRuntime) {
+    assert_swept_in_each_way(&rt, rt.alloc(), &HEX, WIDE_TEXT);
+}
+
+/// Asserts of a copy in this way that each call that fails is told behind a first part of it, and that the
+/// copy is whole where the call behind the last one fails.
+fn assert_copy_swept(rt: &impl Abort, alloc: Global, way: Way) {
+    let run = with_room(&least_run(rt, Task::Copy(&[3, 6]), 0), BY_ONE);
+    assert_copies_behind_failures(rt, alloc, &in_way(&run, way), COPY_READS + 1);
 }
 
 #[test]
-fn check_tells_each_call_that_fails(rt: HostRuntime) -> Result<(), Fail> {
-    let faulty = faulty_file(rt.alloc())?;
-    // The first entry is judged behind the 56 bytes of its system.
-    let sweep = StoreSweep {
-        calls: &[
-            CommandCall::RunCheck,
-            CommandCall::CheckSource,
-            CommandCall::CheckInBlocks,
-        ],
-        file: &faulty,
-        spans: &[
-            OPENING,
-            ReadSpan {
-                read: 124,
-                place: 124,
-                written: 12,
-            },
-        ],
-        reads: 236,
-        text: FAULTY_VERDICTS,
-    };
-    assert_swept_in_each_way(&rt, rt.alloc(), &sweep)
-}
-
-#[test]
-fn hex_tells_each_call_that_fails(rt: HostRuntime) -> Result<(), Fail> {
-    let wide = wide_file(rt.alloc())?;
-    // The 16 bytes of the head of the list are read, and then again with its ranges and the four bytes,
-    // before anything is written.
-    let sweep = StoreSweep {
-        calls: &[
-            CommandCall::RunHex,
-            CommandCall::HexSource,
-            CommandCall::HexInBlocks,
-        ],
-        file: &wide,
-        spans: &[
-            OPENING,
-            ReadSpan {
-                read: 60,
-                place: 44,
-                written: 0,
-            },
-        ],
-        reads: 112,
-        text: WIDE_TEXT,
-    };
-    assert_swept_in_each_way(&rt, rt.alloc(), &sweep)
-}
-
-/// Which call of the store may fail so that the copy of threads and exceptions is whole, where each one
-/// before it is told behind a first part of the copy.
-fn failures_of_copy(
-    rt: &impl Abort,
-    alloc: Global,
-    call: CommandCall,
-    copy: &[u8],
-) -> Result<u64, Fail> {
-    let six = file_of_numbers(alloc, 6, &SIX)?;
-    for fail_at in 0..1000 {
-        let store = PatchyStore::new(&six, &[1], Some(fail_at));
-        let (fault, bytes) = ended_by(alloc, store, call, least(0)?, None)?;
-        if fault.is_none() {
-            assert_same_at(rt, &fail_at, bytes.as_slice(), copy);
-            return Ok(fail_at);
-        }
-        let is_failed = matches!(fault, Some(ToolFault::Source(SourceFault::Failed { .. })));
-        let is_start = copy.starts_with(bytes.as_slice());
-        assert_same_at(rt, &(call, fail_at), (is_failed, is_start), (true, true));
+fn copy_tells_each_call_that_fails(rt: HostRuntime) {
+    for way in COPY_WAYS {
+        assert_copy_swept(&rt, rt.alloc(), way);
     }
-    Err(Fail::new("no copy"))
-}
-
-#[test]
-fn copy_tells_each_call_that_fails(rt: HostRuntime) -> Result<(), Fail> {
-    let crash = file_of_numbers(rt.alloc(), 2, &CRASH)?;
-    for call in [CommandCall::RunCopy, CommandCall::CopySource] {
-        let failures = failures_of_copy(&rt, rt.alloc(), call, &crash)?;
-        // The header, the directory, both streams three times, and their parts.
-        assert_same_at(&rt, &call, failures, 32 + 72 + 3 * (52 + 168) + 14);
-    }
-    Ok(())
 }

@@ -1,19 +1,15 @@
 //! Tests of the commands over stores and outputs, by the public calls of `mdmp_tool` alone.
 //!
-//! `calls`, `runs`, `checks` and `copies` make the calls whose contracts are long, in helpers without a
-//! contract; the tests compare what they give, which is plain values.
+//! `commands` makes the calls whose contracts are long, in functions without one; `runs` compares what comes
+//! of them, which is plain values; and a test is a few calls of such functions, on constants.
 #![tactic(auto)]
 
 #[cfg(test)]
 mod blocks;
 #[cfg(test)]
-mod calls;
-#[cfg(test)]
 mod check;
 #[cfg(test)]
-mod checks;
-#[cfg(test)]
-mod copies;
+mod commands;
 #[cfg(test)]
 mod copy;
 #[cfg(test)]
@@ -22,6 +18,8 @@ mod failing_outputs;
 mod failing_stores;
 #[cfg(test)]
 mod faults;
+#[cfg(test)]
+mod files;
 #[cfg(test)]
 mod hex;
 #[cfg(test)]

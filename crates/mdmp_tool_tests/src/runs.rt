@@ -1,270 +1,348 @@
-//! What the commands do, as plain values.
-//!
-//! No function that a test calls here has a contract, so that the test knows nothing of what it did,
-//! and its own proof stays short.
-ghost use Rattle.std.specs.Prelude.{◌+◌, ◌^◌, ◌≤◌, IfOk};
-
-use crate::same::{assert_same, assert_same_at};
-use mdmp_lister::{Choice, Lister};
-use mdmp_source::{BlockOut, MemoryStore, PatchyOut, Source, Store, write_all};
-use mdmp_test_support::{BY_SEVEN, Room, empty_out, text_in};
-use mdmp_tool::{
-    FaultKind, Limits, ListFault, RunAnswered, ToolFault, fault_line, hex_in_blocks, hex_source,
-    list_in_blocks, list_next, list_source, put_dump_line, run_hex, run_list,
-};
+//! Runs of the commands over files, and what they come to.
+use crate::commands::{AddressSpan, End, Run, Task, Way, end_over};
+use crate::files::{File, bytes_of};
+use crate::same::{assert_same, assert_same_at, assert_that};
+use linked_list_allocator::LocalHeap;
+use mdmp_source::{MemoryStore, PatchyOut, PatchyStore, SourceFault, Store};
+use mdmp_test_support::{BY_SEVEN, CODEVIEW_LINE, MODULE_FILE_TEXT, Room};
+use mdmp_tool::{FaultKind, Limits, ListFault, ToolFault};
 use std::alloc::{Allocator, Global};
+use std::fmt::Debug;
 use std::process::Abort;
-use std::test::Fail;
-
-/// What a run printed, and the fault that ended it.
-#[derive(Drop)]
-pub struct Printed {
-    pub text: String,
-    pub fault: Option<ToolFault>,
-}
-
-/// What a run printed, and the counts of its source.
-#[derive(Drop)]
-pub struct CountedRun {
-    pub printed: Printed,
-    pub calls: u128,
-    pub fetched: u128,
-}
-
-/// Addresses that follow each other.
-#[derive(Clone, Copy)]
-pub struct AddressSpan {
-    pub address: u64,
-    pub length: u32,
-}
 
 /// The four bytes at 0x1000.
-pub const FOUR: AddressSpan = AddressSpan {
+pub const FOUR: Task<'static> = Task::Hex(AddressSpan {
     address: 0x1000,
     length: 4,
+});
+
+/// The limits of the program.
+pub const DEFAULT: Limits = Limits {
+    window: 65536,
+    name: 4096,
 };
 
-/// Asserts how a run ended, and what it printed.
-pub fn assert_printed(rt: &impl Abort, printed: &Printed, fault: Option<ToolFault>, text: &str) {
-    assert_same(rt, printed.fault, fault);
-    assert_same(rt, printed.text.as_str(), text);
-}
+/// The fault of the file `FAULTY`.
+pub const BAD_NAME: ToolFault = ToolFault::List(ListFault {
+    entry: 1,
+    index: Some(0),
+    kind: FaultKind::NameLengthOutside,
+    offset: 4294967295,
+    size: 4,
+});
 
-/// Asserts how the run of this row ended, and what it printed.
-pub fn assert_row(
-    rt: &impl Abort,
-    row: u64,
-    printed: &Printed,
-    fault: Option<ToolFault>,
-    text: &str,
-) {
-    assert_same_at(rt, &row, printed.fault, fault);
-    assert_same_at(rt, &row, printed.text.as_str(), text);
-}
-
-/// Asserts how a run ended, and with what its text ended.
-pub fn assert_ends(rt: &impl Abort, printed: &Printed, fault: Option<ToolFault>, line: &str) {
-    assert_same(rt, printed.fault, fault);
-    assert_same_at(
-        rt,
-        &printed.text,
-        printed.text.as_str().ends_with(line),
-        true,
-    );
+/// How a run ended, and the bytes that it wrote.
+#[derive(Drop)]
+pub struct Outcome {
+    pub end: End,
+    pub bytes: Vec<u8>,
 }
 
 /// A window of 168 bytes, and names up to this many.
-pub fn least(name: u32) -> Result<Limits, Fail> {
-    Ok(Limits::new(168, name).ok_or("limits")?)
+pub fn least(rt: &impl Abort, name: u32) -> Limits {
+    Limits::new(168, name).expect(rt, "limits")
 }
 
-fn printed_in(
+/// A run over a store with the least window and names up to this many bytes, to an output that takes all.
+pub fn least_run<'a>(rt: &impl Abort, task: Task<'a>, name: u32) -> Run<'a> {
+    Run {
+        task,
+        way: Way::Store,
+        limits: least(rt, name),
+        room: BY_SEVEN,
+        out_fail_at: None,
+    }
+}
+
+/// A run with the limits of the program, to an output that takes all.
+pub fn default_run(task: Task<'_>, way: Way) -> Run<'_> {
+    Run {
+        task,
+        way,
+        limits: DEFAULT,
+        room: BY_SEVEN,
+        out_fail_at: None,
+    }
+}
+
+/// The same run to an output of this room.
+pub fn with_room<'a>(run: &Run<'a>, room: Room) -> Run<'a> {
+    Run { room, ..*run }
+}
+
+/// The same run in this way.
+pub fn in_way<'a>(run: &Run<'a>, way: Way) -> Run<'a> {
+    Run { way, ..*run }
+}
+
+/// The same run to an output of which this call fails.
+pub fn with_failing_output<'a>(run: &Run<'a>, fail_at: u64) -> Run<'a> {
+    Run {
+        out_fail_at: Some(fail_at),
+        ..*run
+    }
+}
+
+/// An output of this room, of which this call fails.
+pub fn out_of(
+    rt: &impl Abort,
     alloc: Global,
-    answer: Result<(), ToolFault>,
-    out: &PatchyOut<Global>,
-) -> Result<Printed, Fail> {
-    Ok(Printed {
-        text: text_in(alloc, out)?,
-        fault: answer.err(),
-    })
+    room: Room,
+    fail_at: Option<u64>,
+) -> PatchyOut<Global> {
+    PatchyOut::with_room(alloc, room.all, room.call, fail_at).expect(rt, "room")
 }
 
-fn counted_in<S: Store + Drop>(
-    alloc: Global,
-    answered: RunAnswered<(), S>,
-    out: &PatchyOut<Global>,
-) -> Result<CountedRun, Fail> {
-    let RunAnswered { answer, source } = answered;
-    Ok(CountedRun {
-        printed: printed_in(alloc, answer, out)?,
-        calls: source.calls(),
-        fetched: source.fetched(),
-    })
+/// The bytes that an output took.
+pub fn bytes_in(rt: &impl Abort, alloc: Global, out: &PatchyOut<Global>) -> Vec<u8> {
+    out.bytes()
+        .to_vec(alloc)
+        .expect(rt, "memory for what was written")
 }
 
-/// Lists a store with memory of this heap.
-pub fn list_store<S: Store + Drop, A: Allocator + Copy>(
+/// What comes of a run over this store, with memory of this heap.
+pub fn run_over<S: Store + Drop, A: Allocator + Copy>(
+    rt: &impl Abort,
     alloc: Global,
     heap: A,
     store: S,
-    limits: Limits,
-    room: Room,
-) -> Result<Printed, Fail> {
-    let mut out = empty_out(alloc, room)?;
-    let answer = run_list(heap, store, limits, false, &mut out);
-    printed_in(alloc, answer, &out)
+    run: &Run<'_>,
+) -> Outcome {
+    let mut out = out_of(rt, alloc, run.room, run.out_fail_at);
+    let end = end_over(rt, alloc, heap, store, run, &mut out);
+    let bytes = bytes_in(rt, alloc, &out);
+    Outcome { end, bytes }
 }
 
-/// Lists a file with the least window and this limit of names, to an output that takes all.
-pub fn list(alloc: Global, bytes: &[u8], name: u32) -> Result<Printed, Fail> {
-    list_store(
+/// What comes of a run over these bytes.
+pub fn run_bytes(rt: &impl Abort, alloc: Global, bytes: &[u8], run: &Run<'_>) -> Outcome {
+    run_over(rt, alloc, alloc, MemoryStore::new(bytes), run)
+}
+
+/// What comes of a run over a file.
+pub fn run_file(rt: &impl Abort, alloc: Global, file: &File<'_>, run: &Run<'_>) -> Outcome {
+    let bytes = bytes_of(rt, alloc, file);
+    run_bytes(rt, alloc, &bytes, run)
+}
+
+/// What comes of a run over these bytes where each call of the store gives as many as these caps say, in
+/// turn, and this call fails.
+pub fn run_patchy(
+    rt: &impl Abort,
+    alloc: Global,
+    bytes: &[u8],
+    caps: &[usize],
+    fail_at: Option<u64>,
+    run: &Run<'_>,
+) -> Outcome {
+    if caps.is_empty() {
+        rt.panic("no caps");
+    }
+    run_over(
+        rt,
         alloc,
         alloc,
-        MemoryStore::new(bytes),
-        least(name)?,
-        BY_SEVEN,
+        PatchyStore::new(bytes, caps, fail_at),
+        run,
     )
 }
 
-/// Prints the header of a file and then each item that is left by a call of its own, with a bar behind each
-/// call that printed something.
-pub fn list_by_items(alloc: Global, bytes: &[u8], name: u32, pdb: bool) -> Result<Printed, Fail> {
-    let source = Source::new(MemoryStore::new(bytes));
-    let opened = Lister::open(alloc, source, least(name)?, Choice::All);
-    let mut lister = opened.ok().ok_or("refused")?;
-    let mut out = empty_out(alloc, BY_SEVEN)?;
-    put_dump_line(&lister.header(), &mut out).ok().ok_or("out")?;
-    loop {
-        write_all(&mut out, b"|").ok().ok_or("out")?;
-        match list_next(&mut lister, pdb, &mut out) {
-            Ok(true) => {}
-            Ok(false) => return printed_in(alloc, Ok(()), &out),
-            Err(fault) => return printed_in(alloc, Err(fault), &out),
+/// The text that was written.
+pub fn text_of<'a>(rt: &impl Abort, bytes: &'a [u8]) -> &'a str {
+    str::from_utf8(bytes).ok().expect(rt, "text")
+}
+
+/// The first part of a text, of this size.
+pub fn start_of<'a>(rt: &impl Abort, text: &'a str, size: usize) -> &'a str {
+    text.get(..size).expect(rt, "a first part")
+}
+
+/// The first bytes, of this number.
+pub fn first_of<'a>(rt: &impl Abort, bytes: &'a [u8], size: usize) -> &'a [u8] {
+    bytes.get(..size).expect(rt, "so many bytes")
+}
+
+/// Asserts what a run answered, and what it printed.
+pub fn assert_printed(
+    rt: &impl Abort,
+    outcome: &Outcome,
+    answer: Result<u64, ToolFault>,
+    text: &str,
+) {
+    let printed = text_of(rt, &outcome.bytes);
+    assert_same_at(rt, &printed, outcome.end.answer, answer);
+    assert_same(rt, printed, text);
+}
+
+/// Asserts that a run answered that all went well, and with what its text ended.
+pub fn assert_ends(rt: &impl Abort, outcome: &Outcome, line: &str) {
+    let printed = text_of(rt, &outcome.bytes);
+    assert_same_at(rt, &printed, outcome.end.answer, Ok(0));
+    assert_same_at(rt, &printed, printed.ends_with(line), true);
+}
+
+/// Asserts what the run of this row, call or size answered, and what it wrote.
+pub fn assert_wrote(
+    rt: &impl Abort,
+    at: &impl Debug,
+    outcome: &Outcome,
+    answer: Result<u64, ToolFault>,
+    bytes: &[u8],
+) {
+    assert_same_at(rt, at, outcome.end.answer, answer);
+    assert_same_at(rt, at, outcome.bytes.as_slice(), bytes);
+}
+
+/// Asserts what a run over a file answers, and what it prints.
+pub fn assert_run(
+    rt: &impl Abort,
+    alloc: Global,
+    file: &File<'_>,
+    run: &Run<'_>,
+    answer: Result<u64, ToolFault>,
+    text: &str,
+) {
+    assert_printed(rt, &run_file(rt, alloc, file, run), answer, text);
+}
+
+/// Asserts it of a run with the least window and names up to this many bytes.
+pub fn assert_least_run(
+    rt: &impl Abort,
+    alloc: Global,
+    file: &File<'_>,
+    task: Task<'_>,
+    name: u32,
+    answer: Result<u64, ToolFault>,
+    text: &str,
+) {
+    assert_run(rt, alloc, file, &least_run(rt, task, name), answer, text);
+}
+
+/// Asserts what is listed of a file, all of which can be, with names up to this many bytes.
+pub fn assert_listed(rt: &impl Abort, alloc: Global, file: &File<'_>, name: u32, text: &str) {
+    assert_least_run(rt, alloc, file, Task::List, name, Ok(0), text);
+}
+
+/// Asserts with what the list of a file ends.
+pub fn assert_list_ends(rt: &impl Abort, alloc: Global, file: &File<'_>, name: u32, line: &str) {
+    let run = least_run(rt, Task::List, name);
+    assert_ends(rt, &run_file(rt, alloc, file, &run), line);
+}
+
+/// Asserts what a run through blocks of each of these sizes answers, and what it prints to an output that
+/// takes all.
+pub fn assert_in_blocks(
+    rt: &impl Abort,
+    alloc: Global,
+    file: &File<'_>,
+    task: Task<'_>,
+    sizes: &[usize],
+    room: Room,
+    answer: Result<u64, ToolFault>,
+    text: &str,
+) {
+    for size in sizes {
+        let run = with_room(&default_run(task, Way::Blocks(*size)), room);
+        assert_run(rt, alloc, file, &run, answer, text);
+    }
+}
+
+/// Asserts that a run to an output that takes so many bytes in all, by few writes, is told that it is full,
+/// behind the first part of what is written to others.
+pub fn assert_cut(
+    rt: &impl Abort,
+    alloc: Global,
+    bytes: &[u8],
+    run: &Run<'_>,
+    all: usize,
+    whole: &[u8],
+) {
+    let outcome = run_bytes(rt, alloc, bytes, &with_room(run, Room { all, call: 1000 }));
+    let first = first_of(rt, whole, all);
+    assert_wrote(rt, &all, &outcome, Err(ToolFault::Out), first);
+}
+
+/// Asserts it of outputs that take any number of bytes that is too few.
+pub fn assert_cut_anywhere(
+    rt: &impl Abort,
+    alloc: Global,
+    file: &File<'_>,
+    run: &Run<'_>,
+    whole: &str,
+) {
+    let bytes = bytes_of(rt, alloc, file);
+    for all in 0..whole.len() {
+        assert_cut(rt, alloc, &bytes, run, all, whole.as_bytes());
+    }
+}
+
+/// A call of a store by its number; where it fails, at which offset the store is told to fail, or nothing,
+/// where all goes well; and what is printed.
+pub type FailingRead<'a> = (u64, Option<u64>, &'a str);
+
+/// Asserts for each of these calls, of a store that gives one byte a call, what comes of its failure.
+pub fn assert_failing_reads(
+    rt: &impl Abort,
+    alloc: Global,
+    file: &File<'_>,
+    run: &Run<'_>,
+    rows: &[FailingRead<'_>],
+) {
+    let bytes = bytes_of(rt, alloc, file);
+    for (fail_at, told_at, text) in rows {
+        let outcome = run_patchy(rt, alloc, &bytes, &[1], Some(*fail_at), run);
+        assert_wrote(rt, fail_at, &outcome, failed_at(*told_at), text.as_bytes());
+    }
+}
+
+/// What a run answers whose store failed at this offset, or nowhere.
+pub fn failed_at(at: Option<u64>) -> Result<u64, ToolFault> {
+    match at {
+        Some(at) => Err(ToolFault::Source(SourceFault::Failed { at })),
+        None => Ok(0),
+    }
+}
+
+/// What comes of a run in a heap of so many blocks of 16 bytes.
+fn run_in_blocks_of_memory(
+    rt: &impl Abort,
+    alloc: Global,
+    bytes: &[u8],
+    run: &Run<'_>,
+    blocks: usize,
+) -> Outcome {
+    let heap = LocalHeap::new(alloc, 16usize.saturating_mul(blocks)).expect(rt, "a heap");
+    run_over(rt, alloc, &heap, MemoryStore::new(bytes), run)
+}
+
+/// Asserts that a run in heaps of fewer than so many blocks of 16 bytes either tells the want of memory and
+/// writes nothing, or answers and writes this; that it does so in some of them, and in each larger one.
+pub fn assert_memory(
+    rt: &impl Abort,
+    alloc: Global,
+    file: &File<'_>,
+    run: &Run<'_>,
+    most: usize,
+    answer: Result<u64, ToolFault>,
+    written: &[u8],
+) {
+    let bytes = bytes_of(rt, alloc, file);
+    let mut enough = false;
+    for blocks in 0..most {
+        let outcome = run_in_blocks_of_memory(rt, alloc, &bytes, run, blocks);
+        if outcome.end.answer.is_ok() {
+            enough = true;
+        }
+        if enough {
+            assert_wrote(rt, &blocks, &outcome, answer, written);
+        } else {
+            assert_wrote(rt, &blocks, &outcome, Err(ToolFault::Memory), b"");
         }
     }
+    assert_that(rt, enough);
 }
 
-/// Lists a store with a line for each CodeView record of a module.
-pub fn list_pdb<S: Store + Drop>(
-    alloc: Global,
-    store: S,
-    limits: Limits,
-    room: Room,
-) -> Result<Printed, Fail> {
-    let mut out = empty_out(alloc, room)?;
-    let answer = run_list(alloc, store, limits, true, &mut out);
-    printed_in(alloc, answer, &out)
-}
-
-/// Lists a file with the least window and no name, and counts what was read.
-pub fn list_counted(alloc: Global, bytes: &[u8], room: Room) -> Result<CountedRun, Fail> {
-    let mut out = empty_out(alloc, room)?;
-    let source = Source::new(MemoryStore::new(bytes));
-    let answered = list_source(alloc, source, least(0)?, false, &mut out);
-    counted_in(alloc, answered, &out)
-}
-
-/// Prints memory of a dump in a store, with memory of this heap.
-pub fn hex_store<S: Store + Drop, A: Allocator + Copy>(
-    alloc: Global,
-    heap: A,
-    store: S,
-    limits: Limits,
-    span: AddressSpan,
-    room: Room,
-) -> Result<Printed, Fail> {
-    let AddressSpan { address, length } = limited(span)?;
-    let mut out = empty_out(alloc, room)?;
-    let answer = run_hex(heap, store, limits, address, length, &mut out);
-    printed_in(alloc, answer, &out)
-}
-
-/// Prints memory of a file, to an output that takes all.
-pub fn hex(alloc: Global, bytes: &[u8], span: AddressSpan) -> Result<Printed, Fail> {
-    let limits = Limits::default();
-    hex_store(
-        alloc,
-        alloc,
-        MemoryStore::new(bytes),
-        limits,
-        span,
-        BY_SEVEN,
-    )
-}
-
-/// Prints memory of a file, and counts what was read.
-pub fn hex_counted(alloc: Global, bytes: &[u8], span: AddressSpan) -> Result<CountedRun, Fail> {
-    let AddressSpan { address, length } = limited(span)?;
-    let mut out = empty_out(alloc, BY_SEVEN)?;
-    let source = Source::new(MemoryStore::new(bytes));
-    let limits = Limits::default();
-    let answered = hex_source(alloc, source, limits, address, length, &mut out);
-    counted_in(alloc, answered, &out)
-}
-
-/// The addresses, where a command may be asked for them.
-fn limited(span: AddressSpan) -> Result<AddressSpan, Fail>
-    ensures within { IfOk result (λ asked. asked.address + asked.length ≤ 2 ^ 64) }
-    ensures limited { IfOk result (λ asked. asked.length ≤ 2 ^ 20) }
-{
-    let end = u128::from(span.address) + u128::from(span.length);
-    if end > 1 << 64 || span.length > 1 << 20 {
-        return Err(Fail::new("no such addresses"));
-    }
-    Ok(span)
-}
-
-/// Lists a file in blocks of this many bytes.
-pub fn list_blocks(
-    alloc: Global,
-    bytes: &[u8],
-    block: usize,
-    room: Room,
-) -> Result<CountedRun, Fail> {
-    if block == 0 {
-        return Err(Fail::new("empty blocks"));
-    }
-    let out = empty_out(alloc, room)?;
-    let mut blocks = BlockOut::with_room(alloc, block, out).ok().ok_or("room")?;
-    let source = Source::new(MemoryStore::new(bytes));
-    let answered = list_in_blocks(alloc, source, Limits::default(), false, &mut blocks);
-    counted_in(alloc, answered, blocks.inner())
-}
-
-/// Prints memory of a file in blocks of this many bytes.
-pub fn hex_blocks(
-    alloc: Global,
-    bytes: &[u8],
-    span: AddressSpan,
-    block: usize,
-    room: Room,
-) -> Result<CountedRun, Fail> {
-    let AddressSpan { address, length } = limited(span)?;
-    if block == 0 {
-        return Err(Fail::new("empty blocks"));
-    }
-    let out = empty_out(alloc, room)?;
-    let mut blocks = BlockOut::with_room(alloc, block, out).ok().ok_or("room")?;
-    let source = Source::new(MemoryStore::new(bytes));
-    let limits = Limits::default();
-    let answered = hex_in_blocks(alloc, source, limits, address, length, &mut blocks);
-    counted_in(alloc, answered, blocks.inner())
-}
-
-/// What is said of a fault, and whether all of it was.
-pub fn told(alloc: Global, fault: &ToolFault, room: Room) -> Result<(String, bool), Fail> {
-    let mut out = empty_out(alloc, room)?;
-    let is_told = fault_line(fault, &mut out).is_ok();
-    Ok((text_in(alloc, &out)?, is_told))
-}
-
-/// The fault of the file `FAULTY`.
-pub fn bad_name() -> ListFault {
-    ListFault {
-        entry: 1,
-        index: Some(0),
-        kind: FaultKind::NameLengthOutside,
-        offset: 4294967295,
-        size: 4,
-    }
+/// What `list` prints of a file of one module with a line for its CodeView record.
+pub fn symbols_text(rt: &impl Abort, alloc: Global) -> String {
+    format!(in alloc; "{MODULE_FILE_TEXT}{CODEVIEW_LINE}").expect(rt, "memory for a text")
 }

@@ -1,62 +1,67 @@
 //! `list` over stores that give few bytes or fail, and with little memory.
-use crate::runs::{Printed, assert_printed, assert_row, bad_name, least, list_store};
-use linked_list_allocator::LocalHeap;
-use mdmp_source::{MemoryStore, PatchyStore, SourceFault};
-use mdmp_test_support::{
-    BY_WHOLE, FAULTY_TEXT, Room, SYSTEM_TEXT, faulty_file, start_of, system_file,
+use crate::commands::{Task, Way};
+use crate::files::{File, bytes_of};
+use crate::runs::{
+    BAD_NAME, assert_failing_reads, assert_printed, assert_wrote, default_run, least_run, run_over,
+    run_patchy, start_of, with_room,
 };
-use mdmp_tool::{Limits, ToolFault};
+use linked_list_allocator::LocalHeap;
+use mdmp_source::{MemoryStore, SourceFault};
+use mdmp_test_support::{BY_WHOLE, FAULTY, FAULTY_TEXT, Room, SYSTEM, SYSTEM_TEXT};
+use mdmp_tool::ToolFault;
 use std::alloc::Global;
-use std::test::Fail;
+use std::process::Abort;
 
-/// Lists a file in a store of which each call gives as many bytes as these say, in turn, and this
-/// one fails, to an output that takes all, by three bytes a call.
-fn list_patchy(
+/// An output that takes all, by three bytes a call.
+const BY_THREE: Room = Room { all: 1000, call: 3 };
+
+/// Asserts what the list of a file in a store answers of which each call gives as many bytes as these caps
+/// say, in turn, and what it prints.
+fn assert_patchy(
+    rt: &impl Abort,
     alloc: Global,
-    bytes: &[u8],
+    file: &File<'_>,
     caps: &[usize],
-    fail_at: Option<u64>,
-) -> Result<Printed, Fail> {
-    if caps.is_empty() {
-        return Err(Fail::new("no caps"));
-    }
-    let store = PatchyStore::new(bytes, caps, fail_at);
-    let room = Room { all: 1000, call: 3 };
-    list_store(alloc, alloc, store, Limits::default(), room)
+    answer: Result<u64, ToolFault>,
+    text: &str,
+) {
+    let bytes = bytes_of(rt, alloc, file);
+    let run = with_room(&default_run(Task::List, Way::Store), BY_THREE);
+    let outcome = run_patchy(rt, alloc, &bytes, caps, None, &run);
+    assert_printed(rt, &outcome, answer, text);
 }
 
 #[test]
-fn store_of_one_byte_a_call_gives_the_whole_text(rt: HostRuntime) -> Result<(), Fail> {
-    let bytes = system_file(rt.alloc())?;
-    for caps in [&[1usize] as &[usize], &[5, 2]] {
-        let listed = list_patchy(rt.alloc(), &bytes, caps, None)?;
-        assert_printed(&rt, &listed, None, SYSTEM_TEXT);
-    }
-    Ok(())
+fn store_of_one_byte_a_call_gives_the_whole_text(rt: HostRuntime) {
+    let system = File::Bytes(&SYSTEM);
+    assert_patchy(&rt, rt.alloc(), &system, &[1], Ok(0), SYSTEM_TEXT);
+    assert_patchy(&rt, rt.alloc(), &system, &[5, 2], Ok(0), SYSTEM_TEXT);
 }
 
 #[test]
-fn fault_of_the_file_is_told_over_a_slow_store(rt: HostRuntime) -> Result<(), Fail> {
-    let bytes = faulty_file(rt.alloc())?;
-    let listed = list_patchy(rt.alloc(), &bytes, &[1], None)?;
-    assert_printed(&rt, &listed, Some(ToolFault::List(bad_name())), FAULTY_TEXT);
-    Ok(())
+fn fault_of_the_file_is_told_over_a_slow_store(rt: HostRuntime) {
+    let faulty = File::Numbers(3, &FAULTY);
+    assert_patchy(&rt, rt.alloc(), &faulty, &[1], Err(BAD_NAME), FAULTY_TEXT);
 }
 
 #[test]
-fn store_that_ends_is_told_before_anything_is_printed(rt: HostRuntime) -> Result<(), Fail> {
-    let bytes = system_file(rt.alloc())?;
-    let listed = list_patchy(rt.alloc(), &bytes, &[0], None)?;
-    let ended = SourceFault::ShortRead { at: 0 };
-    assert_printed(&rt, &listed, Some(ToolFault::Source(ended)), "");
-    Ok(())
+fn store_that_ends_is_told_before_anything_is_printed(rt: HostRuntime) {
+    let ended = Err(ToolFault::Source(SourceFault::ShortRead { at: 0 }));
+    assert_patchy(&rt, rt.alloc(), &File::Bytes(&SYSTEM), &[0], ended, "");
+}
+
+/// Asserts where the store is told to fail whose call of this number does, by one byte a call, and how many
+/// bytes of the list of `SYSTEM` are printed before.
+fn assert_lines_before(rt: &impl Abort, alloc: Global, fail_at: u64, written: usize) {
+    let start = start_of(rt, SYSTEM_TEXT, written);
+    let run = with_room(&default_run(Task::List, Way::Store), BY_THREE);
+    let rows = [(fail_at, Some(fail_at), start)];
+    assert_failing_reads(rt, alloc, &File::Bytes(&SYSTEM), &run, &rows);
 }
 
 #[test]
-fn store_that_fails_leaves_the_lines_before(rt: HostRuntime) -> Result<(), Fail> {
-    let bytes = system_file(rt.alloc())?;
-    // By one byte a call: in the header, in the directory, in the record, in the length of the name
-    // and in its last unit.
+fn store_that_fails_leaves_the_lines_before(rt: HostRuntime) {
+    // In the header, in the directory, in the record, in the length of the name and in its last unit.
     for (fail_at, written) in [
         (0, 0),
         (43, 0),
@@ -65,33 +70,30 @@ fn store_that_fails_leaves_the_lines_before(rt: HostRuntime) -> Result<(), Fail>
         (100, 117),
         (131, 117),
     ] {
-        let listed = list_patchy(rt.alloc(), &bytes, &[1], Some(fail_at))?;
-        let failed = ToolFault::Source(SourceFault::Failed { at: fail_at });
-        let start = start_of(SYSTEM_TEXT, written)?;
-        assert_row(&rt, fail_at, &listed, Some(failed), start);
+        assert_lines_before(&rt, rt.alloc(), fail_at, written);
     }
-    Ok(())
+}
+
+/// Asserts what the list of `FAULTY` answers in a heap of this size, and what it prints.
+fn assert_in_heap(
+    rt: &impl Abort,
+    alloc: Global,
+    size: usize,
+    answer: Result<u64, ToolFault>,
+    text: &str,
+) {
+    let heap = LocalHeap::new(alloc, size).expect(rt, "a heap");
+    let bytes = bytes_of(rt, alloc, &File::Numbers(3, &FAULTY));
+    let run = with_room(&least_run(rt, Task::List, 48), BY_WHOLE);
+    let outcome = run_over(rt, alloc, &heap, MemoryStore::new(&bytes), &run);
+    assert_wrote(rt, &size, &outcome, answer, text.as_bytes());
 }
 
 #[test]
-fn memory_is_the_directory_the_window_and_the_name(rt: HostRuntime) -> Result<(), Fail> {
-    let bytes = faulty_file(rt.alloc())?;
-    let no_memory = ToolFault::Memory;
-    let fault = ToolFault::List(bad_name());
+fn memory_is_the_directory_the_window_and_the_name(rt: HostRuntime) {
     // Of 36, 168 and 48 bytes, each rounded up to a multiple of 16.
-    for (size, fault, text) in [
-        (0, no_memory, ""),
-        (32, no_memory, ""),
-        (48, no_memory, ""),
-        (208, no_memory, ""),
-        (224, no_memory, ""),
-        (256, no_memory, ""),
-        (272, fault, FAULTY_TEXT),
-    ] {
-        let heap = LocalHeap::new(rt.alloc(), size)?;
-        let store = MemoryStore::new(&bytes);
-        let listed = list_store(rt.alloc(), &heap, store, least(48)?, BY_WHOLE)?;
-        assert_row(&rt, size as u64, &listed, Some(fault), text);
+    for size in [0, 32, 48, 208, 224, 256] {
+        assert_in_heap(&rt, rt.alloc(), size, Err(ToolFault::Memory), "");
     }
-    Ok(())
+    assert_in_heap(&rt, rt.alloc(), 272, Err(BAD_NAME), FAULTY_TEXT);
 }

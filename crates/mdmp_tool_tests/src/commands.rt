@@ -1,0 +1,399 @@
+//! The commands, by what they are asked for and by which calls they read and write.
+//!
+//! A function that calls a command has no contract, or a short one, and makes one such call, so that
+//! nobody above it knows what the command did, and each proof stays short.
+ghost use Rattle.std.specs.Prelude.{◌+◌, ◌^◌, ◌≤◌, ◌≡◌, [], None};
+
+use mdmp_lister::{Choice, Lister, TypeSet};
+use mdmp_source::{BlockOut, Out, PatchyOut, Source, Store, write_all};
+use mdmp_test_support::Room;
+use mdmp_tool::{
+    Limits, OpenFault, RunAnswered, ToolFault, check_in_blocks, check_source, copy_source,
+    hex_in_blocks, hex_source, list_in_blocks, list_next, list_source, put_dump_line, run_check,
+    run_copy, run_hex, run_list,
+};
+use std::alloc::{Allocator, Global};
+use std::process::Abort;
+
+/// Addresses that follow each other.
+#[derive(Clone, Copy)]
+pub struct AddressSpan {
+    pub address: u64,
+    pub length: u32,
+}
+
+/// What a command is asked for.
+#[derive(Clone, Copy)]
+pub enum Task<'a> {
+    Check,
+    List,
+    /// A list with a line for each CodeView record of a module.
+    Symbols,
+    /// The memory at these addresses.
+    Hex(AddressSpan),
+    /// A copy of the streams of these types.
+    Copy(&'a [u32]),
+}
+
+/// By which calls it reads and writes.
+#[derive(Clone, Copy, Debug)]
+pub enum Way {
+    /// Over a store.
+    Store,
+    /// Over a source.
+    Source,
+    /// Over a source, to an output that gathers blocks of so many bytes.
+    Blocks(usize),
+    /// Over a source, by a call for each item of a list.
+    Items,
+    /// The same, with a bar before each of these calls.
+    BarredItems,
+}
+
+/// A run of a command.
+#[derive(Clone, Copy)]
+pub struct Run<'a> {
+    pub task: Task<'a>,
+    pub way: Way,
+    pub limits: Limits,
+    /// The room of its output.
+    pub room: Room,
+    /// Which call of its output fails.
+    pub out_fail_at: Option<u64>,
+}
+
+/// How a run ended: with how many bad entries or copied bytes, or why; and by how many calls it read how
+/// many bytes of a source, or 0 and 0 where it was given a store.
+#[derive(Clone, Copy)]
+pub struct End {
+    pub answer: Result<u64, ToolFault>,
+    pub calls: u128,
+    pub fetched: u128,
+}
+
+/// The answer of a command that counts nothing.
+fn uncounted(answer: Result<(), ToolFault>) -> Result<u64, ToolFault> {
+    match answer {
+        Ok(()) => Ok(0),
+        Err(fault) => Err(fault),
+    }
+}
+
+fn end_of<S: Store + Drop>(answer: Result<u64, ToolFault>, source: Source<S>) -> End {
+    End {
+        answer,
+        calls: source.calls(),
+        fetched: source.fetched(),
+    }
+}
+
+/// The addresses, where a command may be asked for them.
+fn limited(rt: &impl Abort, span: AddressSpan) -> AddressSpan
+    ensures within { result.address + result.length ≤ 2 ^ 64 }
+    ensures limited { result.length ≤ 2 ^ 20 }
+{
+    let end = u128::from(span.address) + u128::from(span.length);
+    if end > 1 << 64 || span.length > 1 << 20 {
+        rt.panic("no such addresses");
+    }
+    span
+}
+
+fn types_of(rt: &impl Abort, types: &[u32]) -> TypeSet {
+    TypeSet::new(types).expect(rt, "types")
+}
+
+fn check_store<S: Store + Drop, A: Allocator + Copy>(
+    heap: A,
+    store: S,
+    limits: Limits,
+    out: &mut PatchyOut<Global>,
+) -> Result<u64, ToolFault> {
+    run_check(heap, store, limits, out)
+}
+
+fn list_store<S: Store + Drop, A: Allocator + Copy>(
+    heap: A,
+    store: S,
+    limits: Limits,
+    pdb: bool,
+    out: &mut PatchyOut<Global>,
+) -> Result<u64, ToolFault> {
+    uncounted(run_list(heap, store, limits, pdb, out))
+}
+
+fn hex_store<S: Store + Drop, A: Allocator + Copy>(
+    rt: &impl Abort,
+    heap: A,
+    store: S,
+    limits: Limits,
+    span: AddressSpan,
+    out: &mut PatchyOut<Global>,
+) -> Result<u64, ToolFault> {
+    let AddressSpan { address, length } = limited(rt, span);
+    uncounted(run_hex(heap, store, limits, address, length, out))
+}
+
+fn copy_store<S: Store + Drop, A: Allocator + Copy>(
+    rt: &impl Abort,
+    heap: A,
+    store: S,
+    limits: Limits,
+    types: &[u32],
+    out: &mut PatchyOut<Global>,
+) -> Result<u64, ToolFault> {
+    run_copy(heap, store, limits, types_of(rt, types), out)
+}
+
+/// What a command over a store answers.
+fn answer_over_store<S: Store + Drop, A: Allocator + Copy>(
+    rt: &impl Abort,
+    heap: A,
+    store: S,
+    run: &Run<'_>,
+    out: &mut PatchyOut<Global>,
+) -> Result<u64, ToolFault> {
+    let limits = run.limits;
+    match run.task {
+        Task::Check => check_store(heap, store, limits, out),
+        Task::List => list_store(heap, store, limits, false, out),
+        Task::Symbols => list_store(heap, store, limits, true, out),
+        Task::Hex(span) => hex_store(rt, heap, store, limits, span, out),
+        Task::Copy(types) => copy_store(rt, heap, store, limits, types, out),
+    }
+}
+
+fn check_by_source<S: Store + Drop, A: Allocator + Copy>(
+    heap: A,
+    source: Source<S>,
+    limits: Limits,
+    out: &mut PatchyOut<Global>,
+) -> End {
+    let RunAnswered { answer, source } = check_source(heap, source, limits, out);
+    end_of(answer, source)
+}
+
+fn list_by_source<S: Store + Drop, A: Allocator + Copy>(
+    heap: A,
+    source: Source<S>,
+    limits: Limits,
+    pdb: bool,
+    out: &mut PatchyOut<Global>,
+) -> End {
+    let RunAnswered { answer, source } = list_source(heap, source, limits, pdb, out);
+    end_of(uncounted(answer), source)
+}
+
+fn hex_by_source<S: Store + Drop, A: Allocator + Copy>(
+    rt: &impl Abort,
+    heap: A,
+    source: Source<S>,
+    limits: Limits,
+    span: AddressSpan,
+    out: &mut PatchyOut<Global>,
+) -> End {
+    let AddressSpan { address, length } = limited(rt, span);
+    let RunAnswered { answer, source } = hex_source(heap, source, limits, address, length, out);
+    end_of(uncounted(answer), source)
+}
+
+fn copy_by_source<S: Store + Drop, A: Allocator + Copy>(
+    rt: &impl Abort,
+    heap: A,
+    source: Source<S>,
+    limits: Limits,
+    types: &[u32],
+    out: &mut PatchyOut<Global>,
+) -> End {
+    let types = types_of(rt, types);
+    let RunAnswered { answer, source } = copy_source(heap, source, limits, types, out);
+    end_of(answer, source)
+}
+
+fn end_by_source<S: Store + Drop, A: Allocator + Copy>(
+    rt: &impl Abort,
+    heap: A,
+    source: Source<S>,
+    run: &Run<'_>,
+    out: &mut PatchyOut<Global>,
+) -> End {
+    let limits = run.limits;
+    match run.task {
+        Task::Check => check_by_source(heap, source, limits, out),
+        Task::List => list_by_source(heap, source, limits, false, out),
+        Task::Symbols => list_by_source(heap, source, limits, true, out),
+        Task::Hex(span) => hex_by_source(rt, heap, source, limits, span, out),
+        Task::Copy(types) => copy_by_source(rt, heap, source, limits, types, out),
+    }
+}
+
+fn check_by_blocks<S: Store + Drop, A: Allocator + Copy, O: Out>(
+    heap: A,
+    source: Source<S>,
+    limits: Limits,
+    blocks: &mut BlockOut<O, Global>,
+) -> End
+    requires { blocks.old.pending ≡ [] }
+{
+    let RunAnswered { answer, source } = check_in_blocks(heap, source, limits, blocks);
+    end_of(answer, source)
+}
+
+fn list_by_blocks<S: Store + Drop, A: Allocator + Copy, O: Out>(
+    heap: A,
+    source: Source<S>,
+    limits: Limits,
+    pdb: bool,
+    blocks: &mut BlockOut<O, Global>,
+) -> End
+    requires { blocks.old.pending ≡ [] }
+{
+    let RunAnswered { answer, source } = list_in_blocks(heap, source, limits, pdb, blocks);
+    end_of(uncounted(answer), source)
+}
+
+fn hex_by_blocks<S: Store + Drop, A: Allocator + Copy, O: Out>(
+    rt: &impl Abort,
+    heap: A,
+    source: Source<S>,
+    limits: Limits,
+    span: AddressSpan,
+    blocks: &mut BlockOut<O, Global>,
+) -> End
+    requires { blocks.old.pending ≡ [] }
+{
+    let AddressSpan { address, length } = limited(rt, span);
+    let RunAnswered { answer, source } = hex_in_blocks(
+        heap, source, limits, address, length, blocks,
+    );
+    end_of(uncounted(answer), source)
+}
+
+fn end_by_blocks<S: Store + Drop, A: Allocator + Copy, O: Out>(
+    rt: &impl Abort,
+    heap: A,
+    source: Source<S>,
+    run: &Run<'_>,
+    blocks: &mut BlockOut<O, Global>,
+) -> End
+    requires { blocks.old.pending ≡ [] }
+{
+    let limits = run.limits;
+    match run.task {
+        Task::Check => check_by_blocks(heap, source, limits, blocks),
+        Task::List => list_by_blocks(heap, source, limits, false, blocks),
+        Task::Symbols => list_by_blocks(heap, source, limits, true, blocks),
+        Task::Hex(span) => hex_by_blocks(rt, heap, source, limits, span, blocks),
+        Task::Copy(_) => rt.panic("no copy in blocks"),
+    }
+}
+
+/// How a run through blocks of this many bytes ends.
+fn end_by_blocks_of<S: Store + Drop, A: Allocator + Copy>(
+    rt: &impl Abort,
+    alloc: Global,
+    heap: A,
+    source: Source<S>,
+    run: &Run<'_>,
+    size: usize,
+    out: &mut PatchyOut<Global>,
+) -> End {
+    if size == 0 {
+        rt.panic("empty blocks");
+    }
+    let mut blocks = BlockOut::with_room(alloc, size, out)
+        .ok()
+        .expect(rt, "room");
+    end_by_blocks(rt, heap, source, run, &mut blocks)
+}
+
+/// A fault of the opening, as a command has it.
+fn opening_fault(fault: OpenFault) -> ToolFault {
+    match fault {
+        OpenFault::Source(fault) => ToolFault::Source(fault),
+        OpenFault::Memory => ToolFault::Memory,
+        fault => ToolFault::Opening(fault),
+    }
+}
+
+/// Writes a bar where one is wanted, and tells whether the output took it.
+fn put_bar(is_barred: bool, out: &mut PatchyOut<Global>) -> bool {
+    !is_barred || write_all(out, b"|").is_ok()
+}
+
+/// What a list answers of which each item that is left is printed by a call of its own.
+fn answer_by_items<S: Store + Drop, A: Allocator + Copy>(
+    lister: &mut Lister<S, A>,
+    pdb: bool,
+    is_barred: bool,
+    out: &mut PatchyOut<Global>,
+) -> Result<u64, ToolFault>
+    requires { lister.old.stop ≡ None }
+{
+    loop {
+        if !put_bar(is_barred, out) {
+            return Err(ToolFault::Out);
+        }
+        match list_next(lister, pdb, out) {
+            Ok(true) => {}
+            Ok(false) => return Ok(0),
+            Err(fault) => return Err(fault),
+        }
+    }
+}
+
+/// What such a list answers from the line of the header on.
+fn answer_by_header<S: Store + Drop, A: Allocator + Copy>(
+    heap: A,
+    source: Source<S>,
+    run: &Run<'_>,
+    out: &mut PatchyOut<Global>,
+) -> Result<u64, ToolFault> {
+    let pdb = matches!(run.task, Task::Symbols);
+    let is_barred = matches!(run.way, Way::BarredItems);
+    let mut lister = match Lister::open(heap, source, run.limits, Choice::All) {
+        Ok(lister) => lister,
+        Err(refused) => return Err(opening_fault(refused.fault)),
+    };
+    if !is_header_put(&lister, out) {
+        return Err(ToolFault::Out);
+    }
+    answer_by_items(&mut lister, pdb, is_barred, out)
+}
+
+/// Prints the line of the header, and tells whether the output took it.
+fn is_header_put<S: Store + Drop, A: Allocator + Copy>(
+    lister: &Lister<S, A>,
+    out: &mut PatchyOut<Global>,
+) -> bool {
+    put_dump_line(&lister.header(), out).is_ok()
+}
+
+fn end_of_answer(answer: Result<u64, ToolFault>) -> End {
+    End {
+        answer,
+        calls: 0,
+        fetched: 0,
+    }
+}
+
+/// How a run over this store ends, with memory of this heap.
+pub fn end_over<S: Store + Drop, A: Allocator + Copy>(
+    rt: &impl Abort,
+    alloc: Global,
+    heap: A,
+    store: S,
+    run: &Run<'_>,
+    out: &mut PatchyOut<Global>,
+) -> End {
+    match run.way {
+        Way::Store => end_of_answer(answer_over_store(rt, heap, store, run, out)),
+        Way::Source => end_by_source(rt, heap, Source::new(store), run, out),
+        Way::Blocks(size) => {
+            end_by_blocks_of(rt, alloc, heap, Source::new(store), run, size, out)
+        }
+        Way::Items | Way::BarredItems => {
+            end_of_answer(answer_by_header(heap, Source::new(store), run, out))
+        }
+    }
+}
