@@ -14,7 +14,7 @@ use std::process::Abort;
 type PlaceRow = (u64, Option<(u64, u64)>);
 
 /// A range of a map: its start, its length and its offset in the file.
-type RangeRow = (u64, u64, u64);
+type MapRange = (u64, u64, u64);
 
 /// The place of a row.
 fn place(row: Option<(u64, u64)>) -> Option<Place> {
@@ -28,7 +28,7 @@ fn with_room<A: Allocator>(rt: &impl Abort, alloc: A, room: usize) -> AddressMap
 }
 
 /// Pushes a range.
-fn push<A: Allocator>(rt: &impl Abort, map: &mut AddressMap<A>, range: RangeRow) {
+fn push<A: Allocator>(rt: &impl Abort, map: &mut AddressMap<A>, range: MapRange) {
     let (start, length, offset) = range;
     assert!(rt; 0 < map.free());
     assert!(rt; 0 < length);
@@ -41,7 +41,7 @@ fn map_of<A: Allocator>(
     rt: &impl Abort,
     alloc: A,
     room: usize,
-    ranges: &[RangeRow],
+    ranges: &[MapRange],
 ) -> AddressMap<A> {
     let mut map = with_room(rt, alloc, room);
     for range in ranges {
@@ -63,6 +63,6 @@ fn assert_places<A: Allocator>(rt: &impl Abort, map: &AddressMap<A>, rows: &[Pla
 }
 
 /// Asserts that a map of these ranges, with room for no more, places each address as its row says.
-fn assert_ranges_place(rt: &impl Abort, alloc: Global, ranges: &[RangeRow], rows: &[PlaceRow]) {
+fn assert_ranges_place(rt: &impl Abort, alloc: Global, ranges: &[MapRange], rows: &[PlaceRow]) {
     assert_places(rt, &map_of(rt, alloc, ranges.len(), ranges), rows);
 }

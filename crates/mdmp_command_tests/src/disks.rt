@@ -26,10 +26,10 @@ const FILES: [GivenFile<'static>; 2] = [
 ];
 
 /// How many files were opened and made, and how often that was refused.
-pub type Asked = (u128, u128, u128);
+pub type DiskRequests = (u128, u128, u128);
 
 /// The words of a command line, how it ends, and what it asks of the disk.
-type DiskLine = (&'static [&'static str], Ending<'static>, Asked);
+type DiskLine = (&'static [&'static str], Ending<'static>, DiskRequests);
 
 /// Lines that print.
 const PRINTS: [DiskLine; 5] = [
@@ -100,7 +100,7 @@ fn new_disk<'a>(alloc: Global, files: &'a [GivenFile<'a>]) -> MemoryDisk<'a, Glo
 }
 
 /// What was asked of a disk.
-pub fn asked<A: Allocator + Copy>(disk: &MemoryDisk<'_, A>) -> Asked {
+pub fn asked<A: Allocator + Copy>(disk: &MemoryDisk<'_, A>) -> DiskRequests {
     let requests = disk.requests();
     (requests.opened, requests.made, requests.refused)
 }
@@ -123,7 +123,7 @@ fn assert_over<R: AllocGlobal + Abort>(
     disk: &mut MemoryDisk<'_, Global>,
     words: &[&str],
     wanted: Ending<'_>,
-    requests: Asked,
+    requests: DiskRequests,
 ) {
     let ended = run_over(rt, alloc, disk, words);
     assert_end(rt, &words, &ended, wanted);

@@ -13,7 +13,7 @@ use std::process::Abort;
 
 /// What is printed where a call of the store up to this one fails, and by how many bytes the place of the
 /// failure is behind the number of the call.
-struct Stage {
+struct FailingStage {
     end: u64,
     text: &'static str,
     again: u64,
@@ -26,7 +26,7 @@ fn assert_stage(
     shown: Shown,
     file: &[u8],
     first: u64,
-    stage: &Stage,
+    stage: &FailingStage,
 ) {
     for fail_at in first..stage.end {
         let ended = print_patchy(rt, alloc, shown, file, fail_at, BY_SEVEN);
@@ -43,7 +43,7 @@ fn assert_stages(
     alloc: Global,
     shown: Shown,
     file: &[u8],
-    stages: &[Stage],
+    stages: &[FailingStage],
     (status, text): (u8, &str),
 ) {
     let mut first = 0;
@@ -61,13 +61,13 @@ fn assert_whole(rt: &impl Abort, ended: &CommandEnd, status: u8, text: &str) {
 }
 
 /// A list of the system has two lines behind its header and its directory.
-const SYSTEM_STAGES: [Stage; 2] = [
-    Stage {
+const SYSTEM_STAGES: [FailingStage; 2] = [
+    FailingStage {
         end: 44,
         text: "",
         again: 0,
     },
-    Stage {
+    FailingStage {
         end: 132,
         text: "dump version 0x0000 streams 1 directory 32 checksum 0 time 0 flags 0x0000000000000000
 stream 0 type 7 size 56 rva 44\n",
@@ -89,19 +89,19 @@ fn list_has_two_lines_behind_its_directory(rt: HostRuntime) {
 }
 
 /// A list of a module has two lines behind its header and its directory, and that of the module behind it.
-const MODULE_STAGES: [Stage; 3] = [
-    Stage {
+const MODULE_STAGES: [FailingStage; 3] = [
+    FailingStage {
         end: 44,
         text: "",
         again: 0,
     },
-    Stage {
+    FailingStage {
         end: 156,
         text: "dump version 0x0000 streams 1 directory 32 checksum 0 time 0 flags 0x0000000000000000
 stream 0 type 4 size 112 rva 44\n",
         again: 0,
     },
-    Stage {
+    FailingStage {
         end: 186,
         text: MODULE_FILE_TEXT,
         again: 0,
@@ -123,13 +123,13 @@ fn list_of_symbols_has_a_line_behind_each_part(rt: HostRuntime) {
 }
 
 /// A check has a verdict behind its first entry.
-const FAULTY_STAGES: [Stage; 2] = [
-    Stage {
+const FAULTY_STAGES: [FailingStage; 2] = [
+    FailingStage {
         end: 124,
         text: "",
         again: 0,
     },
-    Stage {
+    FailingStage {
         end: 236,
         text: "entry 0: ok\n",
         again: 0,
@@ -151,13 +151,13 @@ fn check_has_a_verdict_behind_each_entry(rt: HostRuntime) {
 
 /// Two bytes from 16 on, of which none is known: the head of the list is read, and then again with its
 /// ranges.
-const MEMORY_STAGES: [Stage; 2] = [
-    Stage {
+const MEMORY_STAGES: [FailingStage; 2] = [
+    FailingStage {
         end: 60,
         text: "",
         again: 0,
     },
-    Stage {
+    FailingStage {
         end: 108,
         text: "",
         again: 16,

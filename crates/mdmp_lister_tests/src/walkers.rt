@@ -119,7 +119,7 @@ fn store_that_gives_few_bytes_a_call_gives_the_same_items(rt: HostRuntime) {
 }
 
 /// What came of a walk: how many items it gave, and the fault behind them; or why it was refused.
-type Walk = Result<(u64, Option<ListFault>), OpenFault>;
+type WalkEnd = Result<(u64, Option<ListFault>), OpenFault>;
 
 /// Counts the items of a walker, at most four.
 fn walk<S: Store + Drop>(walker: &mut Walker<S, Global>) -> (u64, Option<ListFault>) {
@@ -134,7 +134,7 @@ fn walk<S: Store + Drop>(walker: &mut Walker<S, Global>) -> (u64, Option<ListFau
 }
 
 /// A walk over a store of one system that gives a byte a call and fails at this one.
-fn walk_failing(rt: &impl Abort, alloc: Global, fail_at: u64) -> Walk {
+fn walk_failing(rt: &impl Abort, alloc: Global, fail_at: u64) -> WalkEnd {
     let source = Source::new(patchy(rt, &SYSTEM, &[1], Some(fail_at)));
     match Walker::open(alloc, source, NAMED, Choice::All) {
         Ok(mut walker) => Ok(walk(&mut walker)),
@@ -143,7 +143,7 @@ fn walk_failing(rt: &impl Abort, alloc: Global, fail_at: u64) -> Walk {
 }
 
 /// Call k is of the byte at k: of the header, the entry, the record from 44 on, its name from 100 on.
-fn expected_walk(fail_at: u64) -> Walk {
+fn expected_walk(fail_at: u64) -> WalkEnd {
     if fail_at < 44 {
         Err(OpenFault::Source(SourceFault::Failed { at: fail_at }))
     } else if fail_at < 132 {

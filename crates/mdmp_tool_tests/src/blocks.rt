@@ -1,5 +1,5 @@
 //! `list` and `hex` to an output that gathers blocks.
-use crate::commands::{Task, Way};
+use crate::commands::{CallWay, Task};
 use crate::files::File;
 use crate::runs::{
     BAD_NAME, FOUR, assert_in_blocks, assert_printed, default_run, run_file, start_of, with_room,
@@ -49,7 +49,7 @@ fn blocks_bring_the_same_text(rt: HostRuntime) {
 
 /// Asserts it of the list of `FAULTY`, all of which is one block.
 fn assert_last_block_refused(rt: &impl Abort, alloc: Global) {
-    let run = with_room(&default_run(Task::List, Way::Blocks(1000)), SHORT);
+    let run = with_room(&default_run(Task::List, CallWay::Blocks(1000)), SHORT);
     let outcome = run_file(rt, alloc, &File::Numbers(3, &FAULTY), &run);
     let start = start_of(rt, FAULTY_TEXT, 100);
     assert_printed(rt, &outcome, Err(ToolFault::Out), start);
@@ -64,7 +64,7 @@ fn refused_last_block_is_told_in_place_of_the_fault(rt: HostRuntime) {
 
 /// Asserts how many bytes are fetched where memory is printed in blocks of this size.
 fn assert_fetched_for_memory(rt: &impl Abort, alloc: Global, size: usize, fetched: u128) {
-    let run = with_room(&default_run(FOUR, Way::Blocks(size)), BY_NINE);
+    let run = with_room(&default_run(FOUR, CallWay::Blocks(size)), BY_NINE);
     let outcome = run_file(rt, alloc, &File::Bytes(&MEMORY64), &run);
     assert_printed(rt, &outcome, Ok(0), WIDE_TEXT);
     assert_same_at(rt, &size, outcome.end.fetched, fetched);

@@ -1,5 +1,5 @@
 //! `check` over files, stores and outputs, and with little memory.
-use crate::commands::{Run, Task, Way};
+use crate::commands::{CallWay, CommandRun, Task};
 use crate::files::{EMPTY, File, bytes_of};
 use crate::runs::{
     assert_cut_anywhere, assert_in_blocks, assert_least_run, assert_memory, assert_printed,
@@ -33,7 +33,7 @@ fn assert_source_checked(rt: &impl Abort, alloc: Global, fetched: u128) {
         rt,
         alloc,
         &BAD_TWICE,
-        &default_run(Task::Check, Way::Source),
+        &default_run(Task::Check, CallWay::Source),
     );
     assert_printed(rt, &outcome, Ok(2), FAULTY_VERDICTS);
     assert_same(rt, outcome.end.fetched, fetched);
@@ -84,7 +84,7 @@ fn assert_verdicts_before(
     rt: &impl Abort,
     alloc: Global,
     bytes: &[u8],
-    run: &Run<'_>,
+    run: &CommandRun<'_>,
     fail_at: u64,
 ) {
     let outcome = run_patchy(rt, alloc, bytes, &[1], Some(fail_at), run);

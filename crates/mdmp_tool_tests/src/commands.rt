@@ -37,7 +37,7 @@ pub enum Task<'a> {
 
 /// By which calls it reads and writes.
 #[derive(Clone, Copy, Debug)]
-pub enum Way {
+pub enum CallWay {
     /// Over a store.
     Store,
     /// Over a source.
@@ -52,9 +52,9 @@ pub enum Way {
 
 /// A run of a command.
 #[derive(Clone, Copy)]
-pub struct Run<'a> {
+pub struct CommandRun<'a> {
     pub task: Task<'a>,
-    pub way: Way,
+    pub way: CallWay,
     pub limits: Limits,
     /// The room of its output.
     pub room: Room,
@@ -150,7 +150,7 @@ fn answer_over_store<S: Store + Drop, A: Allocator + Copy>(
     rt: &impl Abort,
     heap: A,
     store: S,
-    run: &Run<'_>,
+    run: &CommandRun<'_>,
     out: &mut PatchyOut<Global>,
 ) -> Result<u64, ToolFault> {
     let limits = run.limits;
@@ -214,7 +214,7 @@ fn end_by_source<S: Store + Drop, A: Allocator + Copy>(
     rt: &impl Abort,
     heap: A,
     source: Source<S>,
-    run: &Run<'_>,
+    run: &CommandRun<'_>,
     out: &mut PatchyOut<Global>,
 ) -> End {
     let limits = run.limits;
@@ -273,7 +273,7 @@ fn end_by_blocks<S: Store + Drop, A: Allocator + Copy, O: Out>(
     rt: &impl Abort,
     heap: A,
     source: Source<S>,
-    run: &Run<'_>,
+    run: &CommandRun<'_>,
     blocks: &mut BlockOut<O, Global>,
 ) -> End
     requires { blocks.old.pending ≡ [] }
@@ -294,7 +294,7 @@ fn end_by_blocks_of<S: Store + Drop, A: Allocator + Copy>(
     alloc: Global,
     heap: A,
     source: Source<S>,
-    run: &Run<'_>,
+    run: &CommandRun<'_>,
     size: usize,
     out: &mut PatchyOut<Global>,
 ) -> End {
@@ -346,11 +346,11 @@ fn answer_by_items<S: Store + Drop, A: Allocator + Copy>(
 fn answer_by_header<S: Store + Drop, A: Allocator + Copy>(
     heap: A,
     source: Source<S>,
-    run: &Run<'_>,
+    run: &CommandRun<'_>,
     out: &mut PatchyOut<Global>,
 ) -> Result<u64, ToolFault> {
     let pdb = matches!(run.task, Task::Symbols);
-    let is_barred = matches!(run.way, Way::BarredItems);
+    let is_barred = matches!(run.way, CallWay::BarredItems);
     let mut lister = match Lister::open(heap, source, run.limits, Choice::All) {
         Ok(lister) => lister,
         Err(refused) => return Err(opening_fault(refused.fault)),
@@ -383,16 +383,16 @@ pub fn end_over<S: Store + Drop, A: Allocator + Copy>(
     alloc: Global,
     heap: A,
     store: S,
-    run: &Run<'_>,
+    run: &CommandRun<'_>,
     out: &mut PatchyOut<Global>,
 ) -> End {
     match run.way {
-        Way::Store => end_of_answer(answer_over_store(rt, heap, store, run, out)),
-        Way::Source => end_by_source(rt, heap, Source::new(store), run, out),
-        Way::Blocks(size) => {
+        CallWay::Store => end_of_answer(answer_over_store(rt, heap, store, run, out)),
+        CallWay::Source => end_by_source(rt, heap, Source::new(store), run, out),
+        CallWay::Blocks(size) => {
             end_by_blocks_of(rt, alloc, heap, Source::new(store), run, size, out)
         }
-        Way::Items | Way::BarredItems => {
+        CallWay::Items | CallWay::BarredItems => {
             end_of_answer(answer_by_header(heap, Source::new(store), run, out))
         }
     }

@@ -1,8 +1,8 @@
 //! `copy` over files, stores and outputs, and with little memory.
-use crate::commands::{Run, Task, Way};
+use crate::commands::{CallWay, CommandRun, Task};
 use crate::files::{File, bytes_of};
 use crate::runs::{
-    Outcome, assert_memory, assert_wrote, default_run, first_of, least_run, run_bytes, run_file,
+    RunOutcome, assert_memory, assert_wrote, default_run, first_of, least_run, run_bytes, run_file,
     run_over, run_patchy, with_room,
 };
 use crate::same::{assert_same, assert_same_at, assert_that};
@@ -135,7 +135,7 @@ fn output_that_is_full_has_the_first_bytes_of_the_copy(rt: HostRuntime) {
 /// Asserts that these types are refused for the first that is not copied, before the first call of the
 /// store, which would fail.
 fn assert_refused_unread(rt: &impl Abort, alloc: Global, types: &[u32], first: u32) {
-    let run = default_run(Task::Copy(types), Way::Source);
+    let run = default_run(Task::Copy(types), CallWay::Source);
     let outcome = run_patchy(rt, alloc, b"MDMP", &[1], Some(0), &run);
     assert_wrote(rt, &first, &outcome, Err(ToolFault::NotCopied(first)), b"");
     assert_same(rt, outcome.end.calls, 0);
@@ -148,7 +148,7 @@ fn type_that_is_not_copied_is_refused_before_the_store_is_read(rt: HostRuntime) 
 }
 
 /// What comes of a copy over a store, and how often that was read.
-fn copy_watched(rt: &impl Abort, alloc: Global, types: &[u32]) -> (Outcome, u64) {
+fn copy_watched(rt: &impl Abort, alloc: Global, types: &[u32]) -> (RunOutcome, u64) {
     let six = bytes_of(rt, alloc, &SIX_FILE);
     let reads = Cell::new(0);
     let store = Watched {
@@ -187,7 +187,12 @@ fn type_that_is_not_copied_is_refused_before_a_store_is_read_that_is_dropped(rt:
 
 /// Asserts a copy out of a source.
 fn assert_source_copied(rt: &impl Abort, alloc: Global) {
-    let outcome = run_file(rt, alloc, &SIX_FILE, &default_run(OF_CRASH, Way::Source));
+    let outcome = run_file(
+        rt,
+        alloc,
+        &SIX_FILE,
+        &default_run(OF_CRASH, CallWay::Source),
+    );
     assert_wrote(rt, &0, &outcome, Ok(292), &bytes_of(rt, alloc, &CRASH_FILE));
     assert_that(rt, outcome.end.calls > 0);
 }
@@ -251,7 +256,7 @@ fn name_that_is_too_long_is_not_copied(rt: HostRuntime) {
 /// directory, both streams three times, and their parts.
 pub const COPY_READS: u64 = 32 + 72 + 3 * (52 + 168) + 14;
 
-fn is_failed(outcome: &Outcome) -> bool {
+fn is_failed(outcome: &RunOutcome) -> bool {
     matches!(
         outcome.end.answer,
         Err(ToolFault::Source(SourceFault::Failed { .. }))
@@ -260,7 +265,7 @@ fn is_failed(outcome: &Outcome) -> bool {
 
 /// Asserts that the failure of a call of the store is told behind a first part of the copy, if there is such
 /// a call, and else that the copy is whole.
-fn assert_copy_behind_failure(rt: &impl Abort, outcome: &Outcome, fail_at: u64, copy: &[u8]) {
+fn assert_copy_behind_failure(rt: &impl Abort, outcome: &RunOutcome, fail_at: u64, copy: &[u8]) {
     if fail_at < COPY_READS {
         let is_start = copy.starts_with(outcome.bytes.as_slice());
         assert_same_at(rt, &fail_at, (is_failed(outcome), is_start), (true, true));
@@ -270,7 +275,12 @@ fn assert_copy_behind_failure(rt: &impl Abort, outcome: &Outcome, fail_at: u64, 
 }
 
 /// Asserts it of each of the first calls, of this number.
-pub fn assert_copies_behind_failures(rt: &impl Abort, alloc: Global, run: &Run<'_>, calls: u64) {
+pub fn assert_copies_behind_failures(
+    rt: &impl Abort,
+    alloc: Global,
+    run: &CommandRun<'_>,
+    calls: u64,
+) {
     let six = bytes_of(rt, alloc, &SIX_FILE);
     let crash = bytes_of(rt, alloc, &CRASH_FILE);
     for fail_at in 0..calls {
@@ -323,10 +333,10 @@ fn unused_entries(alloc: Global, entries: u32, size: usize) -> Result<Vec<u8>, A
 }
 
 /// What comes of a copy of these bytes with two windows of 176 bytes, and a heap of this size.
-fn copy_in_heap(rt: &impl Abort, alloc: Global, file: &[u8], heap_size: usize) -> Outcome {
-    let run = Run {
+fn copy_in_heap(rt: &impl Abort, alloc: Global, file: &[u8], heap_size: usize) -> RunOutcome {
+    let run = CommandRun {
         task: Task::Copy(&[0]),
-        way: Way::Store,
+        way: CallWay::Store,
         limits: Limits {
             window: 176,
             name: 0,

@@ -1,5 +1,5 @@
 //! Commands to an output that takes one byte a call, of which each call fails in turn.
-use crate::commands::{Run, Task, Way};
+use crate::commands::{CallWay, CommandRun, Task};
 use crate::faults::told;
 use crate::files::{File, bytes_of};
 use crate::runs::{
@@ -16,13 +16,18 @@ use std::alloc::Global;
 use std::process::Abort;
 
 /// The ways of a list.
-pub const EACH_WAY: [Way; 4] = [Way::Store, Way::Source, Way::Blocks(64), Way::Items];
+pub const EACH_WAY: [CallWay; 4] = [
+    CallWay::Store,
+    CallWay::Source,
+    CallWay::Blocks(64),
+    CallWay::Items,
+];
 
 /// The ways of a command that has no items.
-pub const WITHOUT_ITEMS: [Way; 3] = [Way::Store, Way::Source, Way::Blocks(64)];
+pub const WITHOUT_ITEMS: [CallWay; 3] = [CallWay::Store, CallWay::Source, CallWay::Blocks(64)];
 
 /// The ways of a copy.
-pub const COPY_WAYS: [Way; 2] = [Way::Store, Way::Source];
+pub const COPY_WAYS: [CallWay; 2] = [CallWay::Store, CallWay::Source];
 
 /// An output that takes all, by one byte a call.
 pub const BY_ONE: Room = Room { all: 2000, call: 1 };
@@ -31,7 +36,7 @@ pub const BY_ONE: Room = Room { all: 2000, call: 1 };
 fn assert_taken(
     rt: &impl Abort,
     alloc: Global,
-    run: &Run<'_>,
+    run: &CommandRun<'_>,
     file: &File<'_>,
     taken: usize,
     answer: Result<u64, ToolFault>,
@@ -48,7 +53,7 @@ fn assert_taken(
 fn assert_swept(
     rt: &impl Abort,
     alloc: Global,
-    run: &Run<'_>,
+    run: &CommandRun<'_>,
     file: &File<'_>,
     answer: Result<u64, ToolFault>,
     whole: &[u8],
@@ -63,7 +68,7 @@ fn assert_swept(
 fn assert_swept_in(
     rt: &impl Abort,
     alloc: Global,
-    ways: &[Way],
+    ways: &[CallWay],
     task: Task<'_>,
     file: &File<'_>,
     answer: Result<u64, ToolFault>,

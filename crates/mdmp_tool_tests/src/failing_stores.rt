@@ -1,5 +1,5 @@
 //! Commands over a store that gives one byte a call, of which each call fails in turn.
-use crate::commands::{Run, Task, Way};
+use crate::commands::{CallWay, CommandRun, Task};
 use crate::copy::{COPY_READS, assert_copies_behind_failures};
 use crate::failing_outputs::{BY_ONE, COPY_WAYS, EACH_WAY, WITHOUT_ITEMS};
 use crate::files::{File, bytes_of};
@@ -28,7 +28,7 @@ struct ReadSpan {
 /// A command over a file, in each way that it is called.
 #[derive(Clone, Copy)]
 struct StoreSweep {
-    ways: &'static [Way],
+    ways: &'static [CallWay],
     task: Task<'static>,
     file: File<'static>,
     /// All that it reads.
@@ -53,7 +53,7 @@ fn assert_failed(
     rt: &impl Abort,
     alloc: Global,
     bytes: &[u8],
-    run: &Run<'_>,
+    run: &CommandRun<'_>,
     sweep: &StoreSweep,
     text: &str,
     fail_at: u64,
@@ -76,7 +76,7 @@ fn assert_swept(
     rt: &impl Abort,
     alloc: Global,
     bytes: &[u8],
-    run: &Run<'_>,
+    run: &CommandRun<'_>,
     sweep: &StoreSweep,
     text: &str,
 ) {
@@ -219,7 +219,7 @@ fn hex_tells_each_call_that_fails(rt: HostRuntime) {
 
 /// Asserts of a copy in this way that each call that fails is told behind a first part of it, and that the
 /// copy is whole where the call behind the last one fails.
-fn assert_copy_swept(rt: &impl Abort, alloc: Global, way: Way) {
+fn assert_copy_swept(rt: &impl Abort, alloc: Global, way: CallWay) {
     let run = with_room(&least_run(rt, Task::Copy(&[3, 6]), 0), BY_ONE);
     assert_copies_behind_failures(rt, alloc, &in_way(&run, way), COPY_READS + 1);
 }

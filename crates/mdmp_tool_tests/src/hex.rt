@@ -1,5 +1,5 @@
 //! `hex` over the memory lists of files.
-use crate::commands::{AddressSpan, Task, Way};
+use crate::commands::{AddressSpan, CallWay, Task};
 use crate::files::File;
 use crate::runs::{FOUR, assert_printed, assert_run, default_run, run_file};
 use crate::same::assert_same;
@@ -18,7 +18,7 @@ pub fn assert_memory_rows(rt: &impl Abort, alloc: Global, rows: &[MemoryRow<'_>]
             address: *address,
             length: *length,
         };
-        let run = default_run(Task::Hex(span), Way::Store);
+        let run = default_run(Task::Hex(span), CallWay::Store);
         assert_run(rt, alloc, file, &run, Ok(0), *text);
     }
 }
@@ -71,7 +71,7 @@ fn run_hex_succeeds(rt: HostRuntime) {
 
 /// Asserts it of a source, which is read by so many calls for so many bytes.
 fn assert_source_printed(rt: &impl Abort, alloc: Global, calls: u128, fetched: u128) {
-    let run = default_run(FOUR, Way::Source);
+    let run = default_run(FOUR, CallWay::Source);
     let outcome = run_file(rt, alloc, &File::Bytes(&MEMORY64), &run);
     assert_printed(rt, &outcome, Ok(0), WIDE_TEXT);
     assert_same(
@@ -94,7 +94,7 @@ fn assert_refused(rt: &impl Abort, alloc: Global, file: &File<'_>, fault: ToolFa
             address: 0x1000,
             length,
         };
-        let run = default_run(Task::Hex(span), Way::Store);
+        let run = default_run(Task::Hex(span), CallWay::Store);
         assert_run(rt, alloc, file, &run, Err(fault), "");
     }
 }

@@ -1,5 +1,5 @@
 //! The lines of `hex`.
-use crate::commands::{AddressSpan, Task, Way};
+use crate::commands::{AddressSpan, CallWay, Task};
 use crate::files::File;
 use crate::hex::{MemoryRow, assert_memory_rows};
 use crate::runs::{assert_cut_anywhere, default_run};
@@ -129,7 +129,7 @@ fn output_that_refuses_has_the_first_part(rt: HostRuntime) {
         address: 0x10,
         length: 3,
     };
-    let run = default_run(Task::Hex(span), Way::Store);
+    let run = default_run(Task::Hex(span), CallWay::Store);
     let file = File::TwoRanges(LETTERS, b"ABC");
     let text = "0x0000000000000010: 41 ?? 43\n";
     assert_cut_anywhere(&rt, rt.alloc(), &file, &run, text);

@@ -1,5 +1,5 @@
 //! `hex` over stores and outputs that fail, and with little memory.
-use crate::commands::Way;
+use crate::commands::CallWay;
 use crate::files::File;
 use crate::runs::{
     FOUR, FailingRead, assert_cut_anywhere, assert_failing_reads, assert_memory, default_run,
@@ -23,14 +23,14 @@ const FAILING_READS: [FailingRead<'static>; 9] = [
 
 #[test]
 fn store_that_fails_leaves_nothing_printed(rt: HostRuntime) {
-    let run = default_run(FOUR, Way::Store);
+    let run = default_run(FOUR, CallWay::Store);
     let file = File::Bytes(&MEMORY64);
     assert_failing_reads(&rt, rt.alloc(), &file, &run, &FAILING_READS);
 }
 
 #[test]
 fn output_that_fails_has_the_first_part(rt: HostRuntime) {
-    let run = default_run(FOUR, Way::Store);
+    let run = default_run(FOUR, CallWay::Store);
     assert_cut_anywhere(&rt, rt.alloc(), &File::Bytes(&MEMORY64), &run, WIDE_TEXT);
 }
 

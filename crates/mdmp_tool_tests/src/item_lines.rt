@@ -2,8 +2,8 @@
 use crate::commands::Task;
 use crate::files::{File, bytes_of};
 use crate::runs::{
-    Outcome, assert_ends, assert_list_ends, assert_wrote, first_of, least_run, run_bytes, run_file,
-    text_of, with_room,
+    RunOutcome, assert_ends, assert_list_ends, assert_wrote, first_of, least_run, run_bytes,
+    run_file, text_of, with_room,
 };
 use crate::same::assert_that;
 use mdmp_test_support::{CRASH, Room};
@@ -12,7 +12,7 @@ use std::alloc::{AllocError, Global};
 use std::process::Abort;
 
 /// Where the last line of a whole listing begins, which is to be this one.
-fn before_last(rt: &impl Abort, outcome: &Outcome, line: &str) -> usize {
+fn before_last(rt: &impl Abort, outcome: &RunOutcome, line: &str) -> usize {
     assert_ends(rt, outcome, line);
     let before = text_of(rt, &outcome.bytes)
         .strip_suffix(line)
@@ -28,7 +28,7 @@ fn assert_cut(
     alloc: Global,
     bytes: &[u8],
     name: u32,
-    whole: &Outcome,
+    whole: &RunOutcome,
     all: usize,
 ) {
     let run = with_room(&least_run(rt, Task::List, name), Room { all, call: 1000 });

@@ -1,5 +1,5 @@
 //! `list` over headers, directories and outputs.
-use crate::commands::{Task, Way};
+use crate::commands::{CallWay, Task};
 use crate::files::{EMPTY, File, bytes_of};
 use crate::runs::{
     BAD_NAME, assert_cut_anywhere, assert_ends, assert_least_run, assert_listed, assert_printed,
@@ -133,7 +133,7 @@ fn assert_items(
     answer: Result<u64, ToolFault>,
     text: &str,
 ) {
-    let run = in_way(&least_run(rt, Task::List, name), Way::BarredItems);
+    let run = in_way(&least_run(rt, Task::List, name), CallWay::BarredItems);
     assert_run(rt, alloc, file, &run, answer, text);
 }
 
@@ -167,7 +167,7 @@ fn thirty_entries(alloc: Global) -> Result<Vec<u8>, AllocError> {
 /// Asserts with what the list of it ends, and by how many calls its bytes are read.
 fn assert_thirty_listed(rt: &impl Abort, alloc: Global, line: &str, calls: u128, fetched: u128) {
     let bytes = thirty_entries(alloc).expect(rt, "memory for a file");
-    let run = in_way(&least_run(rt, Task::List, 0), Way::Source);
+    let run = in_way(&least_run(rt, Task::List, 0), CallWay::Source);
     let run = with_room(&run, BY_WHOLE);
     let outcome = run_bytes(rt, alloc, &bytes, &run);
     assert_ends(rt, &outcome, line);

@@ -3,8 +3,8 @@ use crate::commands::Task;
 use crate::faults::assert_line;
 use crate::files::File;
 use crate::runs::{
-    Outcome, assert_list_ends, assert_listed, first_of, least_run, run_bytes, run_file, start_of,
-    text_of,
+    RunOutcome, assert_list_ends, assert_listed, first_of, least_run, run_bytes, run_file,
+    start_of, text_of,
 };
 use crate::same::{assert_same, assert_same_at};
 use mdmp_test_support::{SYSTEM, SYSTEM_TEXT, THREAD_NAME, UNLOADED};
@@ -51,7 +51,7 @@ threadname 0 id 7 name {name}\n"
 }
 
 /// Asserts the line of the fault that ended a run.
-fn assert_fault_line(rt: &impl Abort, alloc: Global, outcome: &Outcome, line: &str) {
+fn assert_fault_line(rt: &impl Abort, alloc: Global, outcome: &RunOutcome, line: &str) {
     let fault = outcome.end.answer.err().expect(rt, "a fault");
     assert_line(rt, alloc, &fault, line);
 }

@@ -1,5 +1,5 @@
 //! `list` with the CodeView records of modules.
-use crate::commands::{Task, Way};
+use crate::commands::{CallWay, Task};
 use crate::files::{File, bytes_of};
 use crate::runs::{
     FailingRead, assert_cut, assert_ends, assert_failing_reads, assert_least_run, assert_listed,
@@ -111,7 +111,7 @@ const FAILING_READS: [FailingRead<'static>; 4] = [
 
 #[test]
 fn store_that_fails_at_a_record_leaves_the_line_of_its_module(rt: HostRuntime) {
-    let run = default_run(Task::Symbols, Way::Store);
+    let run = default_run(Task::Symbols, CallWay::Store);
     assert_failing_reads(&rt, rt.alloc(), &MODULE, &run, &FAILING_READS);
 }
 

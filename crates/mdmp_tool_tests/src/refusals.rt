@@ -1,8 +1,8 @@
 //! Commands each of whose growths is refused.
-use crate::commands::{Run, Task, Way};
+use crate::commands::{CallWay, CommandRun, Task};
 use crate::failing_outputs::{COPY_WAYS, EACH_WAY, WITHOUT_ITEMS};
 use crate::files::{File, bytes_of};
-use crate::runs::{FOUR, Outcome, in_way, least_run, run_over, with_room};
+use crate::runs::{FOUR, RunOutcome, in_way, least_run, run_over, with_room};
 use crate::same::{assert_same_at, assert_that};
 use mdmp_source::MemoryStore;
 use mdmp_test_support::{CODEVIEW_RECORD, FOR_LONG_TEXT, HeapCounts, MeteredHeap, Refusal, SIX};
@@ -16,9 +16,9 @@ fn run_without(
     rt: &impl Abort,
     alloc: Global,
     bytes: &[u8],
-    run: &Run<'_>,
+    run: &CommandRun<'_>,
     growth: u64,
-) -> (Outcome, HeapCounts) {
+) -> (RunOutcome, HeapCounts) {
     let heap = MeteredHeap::new(alloc, Refusal::Only(growth));
     let outcome = run_over(rt, alloc, &heap, MemoryStore::new(bytes), run);
     (outcome, heap.counts())
@@ -26,7 +26,7 @@ fn run_without(
 
 /// Asserts that this growth may be refused: it is told, nothing is written, no block is asked for behind it,
 /// and all that was taken is given back.
-fn assert_refused(rt: &impl Abort, alloc: Global, bytes: &[u8], run: &Run<'_>, growth: u64) {
+fn assert_refused(rt: &impl Abort, alloc: Global, bytes: &[u8], run: &CommandRun<'_>, growth: u64) {
     let (outcome, counts) = run_without(rt, alloc, bytes, run, growth);
     let at = (run.way, growth);
     assert_same_at(rt, &at, outcome.end.answer, Err(ToolFault::Memory));
@@ -44,7 +44,7 @@ fn assert_succeeds(
     rt: &impl Abort,
     alloc: Global,
     bytes: &[u8],
-    run: &Run<'_>,
+    run: &CommandRun<'_>,
     growths: u64,
     answer: Result<u64, ToolFault>,
 ) {
@@ -59,7 +59,7 @@ fn assert_succeeds(
 fn assert_growths(
     rt: &impl Abort,
     alloc: Global,
-    ways: &[Way],
+    ways: &[CallWay],
     task: Task<'_>,
     file: &File<'_>,
     growths: u64,

@@ -1,5 +1,5 @@
 //! Runs of the commands over files, and what they come to.
-use crate::commands::{AddressSpan, End, Run, Task, Way, end_over};
+use crate::commands::{AddressSpan, CallWay, CommandRun, End, Task, end_over};
 use crate::files::{File, bytes_of};
 use crate::same::{assert_same, assert_same_at, assert_that};
 use linked_list_allocator::LocalHeap;
@@ -33,7 +33,7 @@ pub const BAD_NAME: ToolFault = ToolFault::List(ListFault {
 
 /// How a run ended, and the bytes that it wrote.
 #[derive(Drop)]
-pub struct Outcome {
+pub struct RunOutcome {
     pub end: End,
     pub bytes: Vec<u8>,
 }
@@ -44,10 +44,10 @@ pub fn least(rt: &impl Abort, name: u32) -> Limits {
 }
 
 /// A run over a store with the least window and names up to this many bytes, to an output that takes all.
-pub fn least_run<'a>(rt: &impl Abort, task: Task<'a>, name: u32) -> Run<'a> {
-    Run {
+pub fn least_run<'a>(rt: &impl Abort, task: Task<'a>, name: u32) -> CommandRun<'a> {
+    CommandRun {
         task,
-        way: Way::Store,
+        way: CallWay::Store,
         limits: least(rt, name),
         room: BY_SEVEN,
         out_fail_at: None,
@@ -55,8 +55,8 @@ pub fn least_run<'a>(rt: &impl Abort, task: Task<'a>, name: u32) -> Run<'a> {
 }
 
 /// A run with the limits of the program, to an output that takes all.
-pub fn default_run(task: Task<'_>, way: Way) -> Run<'_> {
-    Run {
+pub fn default_run(task: Task<'_>, way: CallWay) -> CommandRun<'_> {
+    CommandRun {
         task,
         way,
         limits: DEFAULT,
@@ -66,18 +66,18 @@ pub fn default_run(task: Task<'_>, way: Way) -> Run<'_> {
 }
 
 /// The same run to an output of this room.
-pub fn with_room<'a>(run: &Run<'a>, room: Room) -> Run<'a> {
-    Run { room, ..*run }
+pub fn with_room<'a>(run: &CommandRun<'a>, room: Room) -> CommandRun<'a> {
+    CommandRun { room, ..*run }
 }
 
 /// The same run in this way.
-pub fn in_way<'a>(run: &Run<'a>, way: Way) -> Run<'a> {
-    Run { way, ..*run }
+pub fn in_way<'a>(run: &CommandRun<'a>, way: CallWay) -> CommandRun<'a> {
+    CommandRun { way, ..*run }
 }
 
 /// The same run to an output of which this call fails.
-pub fn with_failing_output<'a>(run: &Run<'a>, fail_at: u64) -> Run<'a> {
-    Run {
+pub fn with_failing_output<'a>(run: &CommandRun<'a>, fail_at: u64) -> CommandRun<'a> {
+    CommandRun {
         out_fail_at: Some(fail_at),
         ..*run
     }
@@ -106,21 +106,26 @@ pub fn run_over<S: Store + Drop, A: Allocator + Copy>(
     alloc: Global,
     heap: A,
     store: S,
-    run: &Run<'_>,
-) -> Outcome {
+    run: &CommandRun<'_>,
+) -> RunOutcome {
     let mut out = out_of(rt, alloc, run.room, run.out_fail_at);
     let end = end_over(rt, alloc, heap, store, run, &mut out);
     let bytes = bytes_in(rt, alloc, &out);
-    Outcome { end, bytes }
+    RunOutcome { end, bytes }
 }
 
 /// What comes of a run over these bytes.
-pub fn run_bytes(rt: &impl Abort, alloc: Global, bytes: &[u8], run: &Run<'_>) -> Outcome {
+pub fn run_bytes(rt: &impl Abort, alloc: Global, bytes: &[u8], run: &CommandRun<'_>) -> RunOutcome {
     run_over(rt, alloc, alloc, MemoryStore::new(bytes), run)
 }
 
 /// What comes of a run over a file.
-pub fn run_file(rt: &impl Abort, alloc: Global, file: &File<'_>, run: &Run<'_>) -> Outcome {
+pub fn run_file(
+    rt: &impl Abort,
+    alloc: Global,
+    file: &File<'_>,
+    run: &CommandRun<'_>,
+) -> RunOutcome {
     let bytes = bytes_of(rt, alloc, file);
     run_bytes(rt, alloc, &bytes, run)
 }
@@ -133,8 +138,8 @@ pub fn run_patchy(
     bytes: &[u8],
     caps: &[usize],
     fail_at: Option<u64>,
-    run: &Run<'_>,
-) -> Outcome {
+    run: &CommandRun<'_>,
+) -> RunOutcome {
     if caps.is_empty() {
         rt.panic("no caps");
     }
@@ -165,7 +170,7 @@ pub fn first_of<'a>(rt: &impl Abort, bytes: &'a [u8], size: usize) -> &'a [u8] {
 /// Asserts what a run answered, and what it printed.
 pub fn assert_printed(
     rt: &impl Abort,
-    outcome: &Outcome,
+    outcome: &RunOutcome,
     answer: Result<u64, ToolFault>,
     text: &str,
 ) {
@@ -175,7 +180,7 @@ pub fn assert_printed(
 }
 
 /// Asserts that a run answered that all went well, and with what its text ended.
-pub fn assert_ends(rt: &impl Abort, outcome: &Outcome, line: &str) {
+pub fn assert_ends(rt: &impl Abort, outcome: &RunOutcome, line: &str) {
     let printed = text_of(rt, &outcome.bytes);
     assert_same_at(rt, &printed, outcome.end.answer, Ok(0));
     assert_same_at(rt, &printed, printed.ends_with(line), true);
@@ -185,7 +190,7 @@ pub fn assert_ends(rt: &impl Abort, outcome: &Outcome, line: &str) {
 pub fn assert_wrote(
     rt: &impl Abort,
     at: &impl Debug,
-    outcome: &Outcome,
+    outcome: &RunOutcome,
     answer: Result<u64, ToolFault>,
     bytes: &[u8],
 ) {
@@ -198,7 +203,7 @@ pub fn assert_run(
     rt: &impl Abort,
     alloc: Global,
     file: &File<'_>,
-    run: &Run<'_>,
+    run: &CommandRun<'_>,
     answer: Result<u64, ToolFault>,
     text: &str,
 ) {
@@ -242,7 +247,7 @@ pub fn assert_in_blocks(
     text: &str,
 ) {
     for size in sizes {
-        let run = with_room(&default_run(task, Way::Blocks(*size)), room);
+        let run = with_room(&default_run(task, CallWay::Blocks(*size)), room);
         assert_run(rt, alloc, file, &run, answer, text);
     }
 }
@@ -253,7 +258,7 @@ pub fn assert_cut(
     rt: &impl Abort,
     alloc: Global,
     bytes: &[u8],
-    run: &Run<'_>,
+    run: &CommandRun<'_>,
     all: usize,
     whole: &[u8],
 ) {
@@ -267,7 +272,7 @@ pub fn assert_cut_anywhere(
     rt: &impl Abort,
     alloc: Global,
     file: &File<'_>,
-    run: &Run<'_>,
+    run: &CommandRun<'_>,
     whole: &str,
 ) {
     let bytes = bytes_of(rt, alloc, file);
@@ -285,7 +290,7 @@ pub fn assert_failing_reads(
     rt: &impl Abort,
     alloc: Global,
     file: &File<'_>,
-    run: &Run<'_>,
+    run: &CommandRun<'_>,
     rows: &[FailingRead<'_>],
 ) {
     let bytes = bytes_of(rt, alloc, file);
@@ -308,9 +313,9 @@ fn run_in_blocks_of_memory(
     rt: &impl Abort,
     alloc: Global,
     bytes: &[u8],
-    run: &Run<'_>,
+    run: &CommandRun<'_>,
     blocks: usize,
-) -> Outcome {
+) -> RunOutcome {
     let heap = LocalHeap::new(alloc, 16usize.saturating_mul(blocks)).expect(rt, "a heap");
     run_over(rt, alloc, &heap, MemoryStore::new(bytes), run)
 }
@@ -321,7 +326,7 @@ pub fn assert_memory(
     rt: &impl Abort,
     alloc: Global,
     file: &File<'_>,
-    run: &Run<'_>,
+    run: &CommandRun<'_>,
     most: usize,
     answer: Result<u64, ToolFault>,
     written: &[u8],

@@ -1,5 +1,5 @@
 //! `list` over stores that give few bytes or fail, and with little memory.
-use crate::commands::{Task, Way};
+use crate::commands::{CallWay, Task};
 use crate::files::{File, bytes_of};
 use crate::runs::{
     BAD_NAME, assert_failing_reads, assert_printed, assert_wrote, default_run, least_run, run_over,
@@ -26,7 +26,7 @@ fn assert_patchy(
     text: &str,
 ) {
     let bytes = bytes_of(rt, alloc, file);
-    let run = with_room(&default_run(Task::List, Way::Store), BY_THREE);
+    let run = with_room(&default_run(Task::List, CallWay::Store), BY_THREE);
     let outcome = run_patchy(rt, alloc, &bytes, caps, None, &run);
     assert_printed(rt, &outcome, answer, text);
 }
@@ -54,7 +54,7 @@ fn store_that_ends_is_told_before_anything_is_printed(rt: HostRuntime) {
 /// bytes of the list of `SYSTEM` are printed before.
 fn assert_lines_before(rt: &impl Abort, alloc: Global, fail_at: u64, written: usize) {
     let start = start_of(rt, SYSTEM_TEXT, written);
-    let run = with_room(&default_run(Task::List, Way::Store), BY_THREE);
+    let run = with_room(&default_run(Task::List, CallWay::Store), BY_THREE);
     let rows = [(fail_at, Some(fail_at), start)];
     assert_failing_reads(rt, alloc, &File::Bytes(&SYSTEM), &run, &rows);
 }

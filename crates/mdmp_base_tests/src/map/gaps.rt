@@ -1,5 +1,5 @@
 //! How far no range holds an address.
-use super::{PlaceRow, RangeRow, assert_ranges_place, assert_sorted, map_of};
+use super::{MapRange, PlaceRow, assert_ranges_place, assert_sorted, map_of};
 use crate::same::assert_same_at;
 use mdmp_map::{AddressMap, Found};
 use std::alloc::{Allocator, Global};
@@ -27,7 +27,7 @@ fn assert_gap<A: Allocator>(rt: &impl Abort, map: &AddressMap<A>, address: u64, 
 fn assert_gaps(
     rt: &impl Abort,
     alloc: Global,
-    ranges: &[RangeRow],
+    ranges: &[MapRange],
     is_sorted: bool,
     rows: &[GapRow],
 ) {
@@ -47,10 +47,10 @@ fn empty_map_is_free_up_to_the_last_address(rt: HostRuntime) {
 }
 
 /// Two sorted ranges.
-const SORTED: [RangeRow; 2] = [(0x1000, 4, 80), (0x2000, 16, 100)];
+const SORTED: [MapRange; 2] = [(0x1000, 4, 80), (0x2000, 16, 100)];
 
 /// The same ranges, exchanged.
-const EXCHANGED: [RangeRow; 2] = [(0x2000, 16, 100), (0x1000, 4, 80)];
+const EXCHANGED: [MapRange; 2] = [(0x2000, 16, 100), (0x1000, 4, 80)];
 
 /// The gaps beside them.
 const GAPS: [GapRow; 9] = [
@@ -72,10 +72,10 @@ fn gap_ends_where_a_range_begins(rt: HostRuntime) {
 }
 
 /// A range at 8, and one that runs past the last address: if addresses did wrap, it would end at 8.
-const PAST_THE_LAST: [RangeRow; 2] = [(8, 4, 80), (0xFFFF_FFFF_FFFF_FFF8, 16, 100)];
+const PAST_THE_LAST: [MapRange; 2] = [(8, 4, 80), (0xFFFF_FFFF_FFFF_FFF8, 16, 100)];
 
 /// The same ranges, exchanged.
-const FROM_THE_LAST: [RangeRow; 2] = [(0xFFFF_FFFF_FFFF_FFF8, 16, 100), (8, 4, 80)];
+const FROM_THE_LAST: [MapRange; 2] = [(0xFFFF_FFFF_FFFF_FFF8, 16, 100), (8, 4, 80)];
 
 /// The gaps beside them.
 const LAST_GAPS: [GapRow; 5] = [

@@ -1,5 +1,5 @@
 //! Where addresses stand by a map, and its room.
-use super::{PlaceRow, RangeRow, assert_places, assert_ranges_place, map_of};
+use super::{MapRange, PlaceRow, assert_places, assert_ranges_place, map_of};
 use crate::same::{assert_same, assert_that};
 use linked_list_allocator::LocalHeap;
 use mdmp_map::AddressMap;
@@ -22,7 +22,7 @@ fn assert_counts(
     rt: &impl Abort,
     alloc: Global,
     room: usize,
-    ranges: &[RangeRow],
+    ranges: &[MapRange],
     len: usize,
     free: usize,
 ) {
@@ -33,7 +33,7 @@ fn assert_counts(
 }
 
 /// One range.
-const ONE_RANGE: [RangeRow; 1] = [(0x1000, 4, 80)];
+const ONE_RANGE: [MapRange; 1] = [(0x1000, 4, 80)];
 
 #[test]
 fn with_room_succeeds(rt: HostRuntime) {
@@ -51,7 +51,7 @@ fn map_with_no_room_finds_nothing(rt: HostRuntime) {
 }
 
 /// Two ranges that overlap.
-const OVERLAPPING: [RangeRow; 2] = [(0x1000, 4, 80), (0x1002, 4, 84)];
+const OVERLAPPING: [MapRange; 2] = [(0x1000, 4, 80), (0x1002, 4, 84)];
 
 /// Places by these ranges.
 const OVERLAPPING_PLACES: [PlaceRow; 3] = [
@@ -61,7 +61,7 @@ const OVERLAPPING_PLACES: [PlaceRow; 3] = [
 ];
 
 /// The same two ranges, exchanged.
-const EXCHANGED: [RangeRow; 2] = [(0x1002, 4, 84), (0x1000, 4, 80)];
+const EXCHANGED: [MapRange; 2] = [(0x1002, 4, 84), (0x1000, 4, 80)];
 
 /// Places by them.
 const EXCHANGED_PLACES: [PlaceRow; 2] = [(0x1000, Some((80, 2))), (0x1002, Some((84, 4)))];
@@ -73,7 +73,7 @@ fn range_pushed_first_decides(rt: HostRuntime) {
 }
 
 /// A range that runs past the last address.
-const LAST_RANGE: [RangeRow; 1] = [(0xFFFF_FFFF_FFFF_FFF8, 16, 44)];
+const LAST_RANGE: [MapRange; 1] = [(0xFFFF_FFFF_FFFF_FFF8, 16, 44)];
 
 /// Places by it.
 const LAST_PLACES: [PlaceRow; 2] = [(0xFFFF_FFFF_FFFF_FFF8, Some((44, 8))), (0, None)];
@@ -84,7 +84,7 @@ fn map_ends_with_the_addresses(rt: HostRuntime) {
 }
 
 /// Three ranges out of order.
-const DISORDERED: [RangeRow; 3] = [(0x3000, 16, 400), (0x1000, 16, 500), (0x2000, 16, 600)];
+const DISORDERED: [MapRange; 3] = [(0x3000, 16, 400), (0x1000, 16, 500), (0x2000, 16, 600)];
 
 /// Places by them.
 const DISORDERED_PLACES: [PlaceRow; 3] = [
@@ -103,7 +103,7 @@ fn assert_fills_heap(
     rt: &impl Abort,
     alloc: Global,
     size: usize,
-    ranges: &[RangeRow],
+    ranges: &[MapRange],
     row: PlaceRow,
 ) {
     let heap = LocalHeap::new(alloc, size).expect(rt, "a heap");

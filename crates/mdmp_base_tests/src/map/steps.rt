@@ -2,7 +2,7 @@
 ghost use Rattle.std.specs.Prelude.{◌≡◌, ◌≤◌, ◌<◌, ◌+◌, length};
 ghost use Rattle.mdmp_map.specs.Ranges.{AreSorted};
 
-use super::{PlaceRow, RangeRow, assert_places, assert_sorted, map_of, push};
+use super::{MapRange, PlaceRow, assert_places, assert_sorted, map_of, push};
 use crate::same::assert_same_at;
 use mdmp_map::{AddressMap, Found, Place, Steps};
 use std::alloc::Allocator;
@@ -97,7 +97,7 @@ fn assert_answers<A: Allocator>(rt: &impl Abort, map: &AddressMap<A>, rows: &[(u
 }
 
 /// Five sorted ranges.
-const FIVE: [RangeRow; 5] = [
+const FIVE: [MapRange; 5] = [
     (0x1000, 4, 80),
     (0x1004, 4, 84),
     (0x2000, 16, 100),

@@ -25,7 +25,7 @@ fn window_of<A: Allocator>(rt: &impl Abort, alloc: A, room: usize) -> Window<A> 
 
 /// A step with a window over a source, and what it answers.
 #[derive(Clone, Copy)]
-enum Step {
+enum WindowStep {
     /// Begins the stretch from one place up to another.
     Start(u64, u64),
     /// The next fill fetches so many bytes.
@@ -84,22 +84,22 @@ fn assert_step<A: Allocator, S: Store>(
     rt: &impl Abort,
     window: &mut Window<A>,
     source: &mut Source<S>,
-    step: Step,
+    step: WindowStep,
 ) {
     match step {
-        Step::Start(at, end) => start(rt, window, at, end),
-        Step::NextLen(len) => assert_same(rt, next_len(window), len),
-        Step::Fill => assert_same(rt, fill(rt, window, source), Ok(())),
-        Step::FailsAt(at) => {
+        WindowStep::Start(at, end) => start(rt, window, at, end),
+        WindowStep::NextLen(len) => assert_same(rt, next_len(window), len),
+        WindowStep::Fill => assert_same(rt, fill(rt, window, source), Ok(())),
+        WindowStep::FailsAt(at) => {
             assert_same(
                 rt,
                 fill(rt, window, source),
                 Err(SourceFault::Failed { at }),
             )
         }
-        Step::Consume(count) => consume(rt, window, count),
-        Step::Holds(place, bytes) => assert_same(rt, held(window), (place, bytes)),
-        Step::Bounds(end, room) => assert_same(rt, bounds(window), (end, room)),
+        WindowStep::Consume(count) => consume(rt, window, count),
+        WindowStep::Holds(place, bytes) => assert_same(rt, held(window), (place, bytes)),
+        WindowStep::Bounds(end, room) => assert_same(rt, bounds(window), (end, room)),
     }
 }
 
@@ -108,7 +108,7 @@ fn assert_steps<A: Allocator, S: Store>(
     rt: &impl Abort,
     window: &mut Window<A>,
     source: &mut Source<S>,
-    steps: &[Step],
+    steps: &[WindowStep],
 ) {
     for step in steps {
         assert_step(rt, window, source, *step);
@@ -126,7 +126,7 @@ fn assert_slides(
     rt: &impl Abort,
     alloc: Global,
     room: usize,
-    steps: &[Step],
+    steps: &[WindowStep],
     calls: u128,
     fetched: u128,
 ) {
@@ -136,16 +136,16 @@ fn assert_slides(
 }
 
 /// Steps over the whole file.
-const SLIDES: [Step; 9] = [
-    Step::Start(0, 6),
-    Step::NextLen(4),
-    Step::Fill,
-    Step::Holds(0, b"abcd"),
-    Step::Consume(3),
-    Step::Holds(3, b"d"),
-    Step::NextLen(2),
-    Step::Fill,
-    Step::Holds(3, b"def"),
+const SLIDES: [WindowStep; 9] = [
+    WindowStep::Start(0, 6),
+    WindowStep::NextLen(4),
+    WindowStep::Fill,
+    WindowStep::Holds(0, b"abcd"),
+    WindowStep::Consume(3),
+    WindowStep::Holds(3, b"d"),
+    WindowStep::NextLen(2),
+    WindowStep::Fill,
+    WindowStep::Holds(3, b"def"),
 ];
 
 #[test]
@@ -154,28 +154,28 @@ fn with_room_succeeds_and_the_window_slides(rt: HostRuntime) {
 }
 
 /// Steps over four stretches, one after another.
-const BEGINS_ANEW: [Step; 21] = [
-    Step::Holds(0, b""),
-    Step::Start(3, 6),
-    Step::Holds(3, b""),
-    Step::Fill,
-    Step::Holds(3, b"def"),
-    Step::Bounds(6, 4),
-    Step::Start(1, 3),
-    Step::Holds(1, b""),
-    Step::Fill,
-    Step::Holds(1, b"bc"),
-    Step::Bounds(3, 4),
-    Step::Start(0, 6),
-    Step::Holds(0, b""),
-    Step::Fill,
-    Step::Holds(0, b"abcd"),
-    Step::Bounds(6, 4),
-    Step::Start(5, 6),
-    Step::Holds(5, b""),
-    Step::Fill,
-    Step::Holds(5, b"f"),
-    Step::Bounds(6, 4),
+const BEGINS_ANEW: [WindowStep; 21] = [
+    WindowStep::Holds(0, b""),
+    WindowStep::Start(3, 6),
+    WindowStep::Holds(3, b""),
+    WindowStep::Fill,
+    WindowStep::Holds(3, b"def"),
+    WindowStep::Bounds(6, 4),
+    WindowStep::Start(1, 3),
+    WindowStep::Holds(1, b""),
+    WindowStep::Fill,
+    WindowStep::Holds(1, b"bc"),
+    WindowStep::Bounds(3, 4),
+    WindowStep::Start(0, 6),
+    WindowStep::Holds(0, b""),
+    WindowStep::Fill,
+    WindowStep::Holds(0, b"abcd"),
+    WindowStep::Bounds(6, 4),
+    WindowStep::Start(5, 6),
+    WindowStep::Holds(5, b""),
+    WindowStep::Fill,
+    WindowStep::Holds(5, b"f"),
+    WindowStep::Bounds(6, 4),
 ];
 
 #[test]
@@ -184,13 +184,28 @@ fn window_begins_anew(rt: HostRuntime) {
 }
 
 /// Two fills where there is no stretch yet.
-const NO_STRETCH: [Step; 4] = [Step::Start(0, 0), Step::Fill, Step::NextLen(0), Step::Fill];
+const NO_STRETCH: [WindowStep; 4] = [
+    WindowStep::Start(0, 0),
+    WindowStep::Fill,
+    WindowStep::NextLen(0),
+    WindowStep::Fill,
+];
 
 /// Two fills of the whole file, where the second has nothing to fetch.
-const WHOLE_FILE: [Step; 4] = [Step::Start(0, 6), Step::Fill, Step::NextLen(0), Step::Fill];
+const WHOLE_FILE: [WindowStep; 4] = [
+    WindowStep::Start(0, 6),
+    WindowStep::Fill,
+    WindowStep::NextLen(0),
+    WindowStep::Fill,
+];
 
 /// Two fills of an empty stretch.
-const EMPTY_STRETCH: [Step; 4] = [Step::Start(6, 6), Step::Fill, Step::NextLen(0), Step::Fill];
+const EMPTY_STRETCH: [WindowStep; 4] = [
+    WindowStep::Start(6, 6),
+    WindowStep::Fill,
+    WindowStep::NextLen(0),
+    WindowStep::Fill,
+];
 
 #[test]
 fn window_without_room_or_rest_fetches_nothing(rt: HostRuntime) {
@@ -201,38 +216,38 @@ fn window_without_room_or_rest_fetches_nothing(rt: HostRuntime) {
 }
 
 /// Steps whose first fill fails at this byte, and is tried again.
-fn first_fails(at: u64) -> [Step; 7] {
+fn first_fails(at: u64) -> [WindowStep; 7] {
     [
-        Step::Start(0, 6),
-        Step::FailsAt(at),
-        Step::Holds(0, b""),
-        Step::Fill,
-        Step::Consume(3),
-        Step::Fill,
-        Step::Holds(3, b"def"),
+        WindowStep::Start(0, 6),
+        WindowStep::FailsAt(at),
+        WindowStep::Holds(0, b""),
+        WindowStep::Fill,
+        WindowStep::Consume(3),
+        WindowStep::Fill,
+        WindowStep::Holds(3, b"def"),
     ]
 }
 
 /// Steps whose second fill fails at this byte, and is tried again.
-fn second_fails(at: u64) -> [Step; 7] {
+fn second_fails(at: u64) -> [WindowStep; 7] {
     [
-        Step::Start(0, 6),
-        Step::Fill,
-        Step::Consume(3),
-        Step::FailsAt(at),
-        Step::Holds(3, b"d"),
-        Step::Fill,
-        Step::Holds(3, b"def"),
+        WindowStep::Start(0, 6),
+        WindowStep::Fill,
+        WindowStep::Consume(3),
+        WindowStep::FailsAt(at),
+        WindowStep::Holds(3, b"d"),
+        WindowStep::Fill,
+        WindowStep::Holds(3, b"def"),
     ]
 }
 
 /// The steps over a store of which no call fails.
-const NONE_FAILS: [Step; 5] = [
-    Step::Start(0, 6),
-    Step::Fill,
-    Step::Consume(3),
-    Step::Fill,
-    Step::Holds(3, b"def"),
+const NONE_FAILS: [WindowStep; 5] = [
+    WindowStep::Start(0, 6),
+    WindowStep::Fill,
+    WindowStep::Consume(3),
+    WindowStep::Fill,
+    WindowStep::Holds(3, b"def"),
 ];
 
 /// Asserts that a window is as it was behind a fault of this call of a store that gives one byte a call: of one
@@ -260,7 +275,11 @@ pub fn holds_window<A: Allocator>(alloc: A, room: usize) -> bool {
 }
 
 /// Steps that hold the whole file.
-const FILLED: [Step; 3] = [Step::Start(0, 6), Step::Fill, Step::Holds(0, FILE)];
+const FILLED: [WindowStep; 3] = [
+    WindowStep::Start(0, 6),
+    WindowStep::Fill,
+    WindowStep::Holds(0, FILE),
+];
 
 /// Asserts that a window takes the room of a heap of 16 bytes, and no more.
 fn assert_takes_once(rt: &impl Abort, alloc: Global) {
