@@ -1,8 +1,10 @@
-//! Files of numbers, and the limits under which they are read.
+//! The files of the tests, and the limits under which they are read.
 use mdmp_lister::{Choice, Limits, TypeSet};
-use mdmp_test_support::{UNLOADED, file_of_numbers};
+use mdmp_test_support::{
+    ABSENT_STACK, CRASH, MEMORY64, SIX, SYSTEM, UNLOADED, file_of_numbers, file_of_parts,
+};
 use std::alloc::Global;
-use std::test::Fail;
+use std::process::Abort;
 
 /// The least window, and no room for a name.
 pub const LEAST: Limits = Limits {
@@ -16,14 +18,116 @@ pub const NAMED: Limits = Limits {
     name: 4096,
 };
 
-/// The entries of these types.
-pub fn chosen(types: &[u32]) -> Result<Choice, Fail> {
-    Ok(Choice::Types(TypeSet::new(types).ok_or("types")?))
+/// What a file is made of.
+#[derive(Clone, Copy)]
+pub enum Sample<'a> {
+    /// A header, so many entries of the directory, and these numbers.
+    Numbers(u32, &'a [u32]),
+    /// The first bytes, as many as this, of such a file.
+    Cut(u32, &'a [u32], usize),
+    /// These parts, and zeros up to this size.
+    Parts(&'a [&'a [u8]], usize),
+    /// An unloaded module whose name is these bytes.
+    Named(&'a [u8]),
 }
 
-/// A file with an unloaded module whose name is these bytes.
-pub fn named(rt: &HostRuntime, name: &[u8]) -> Result<Vec<u8, Global>, Fail> {
-    let mut file = file_of_numbers(rt.alloc(), 1, &UNLOADED)?;
-    file.extend_from_slice(name)?;
-    Ok(file)
+/// The file `CRASH`, of 292 bytes.
+pub const CRASH_FILE: Sample<'static> = Sample::Numbers(2, &CRASH);
+
+/// The file `SIX`, of 444 bytes.
+pub const SIX_FILE: Sample<'static> = Sample::Numbers(6, &SIX);
+
+/// The file `SYSTEM`.
+pub const SYSTEM_FILE: Sample<'static> = Sample::Parts(&[&SYSTEM], 136);
+
+/// The file `MEMORY64`, with the bytes `EFGH` of its second range.
+pub const MEMORY64_FILE: Sample<'static> = Sample::Parts(&[&MEMORY64, b"GH"], 100);
+
+/// The file `ABSENT_STACK`, up to the byte of the thread's context.
+pub const ABSENT_STACK_FILE: Sample<'static> = Sample::Cut(1, &ABSENT_STACK, 97);
+
+/// A file, the limits under which it is read, and how many bytes its parts may have.
+#[derive(Clone, Copy)]
+pub struct DumpReading<'a> {
+    pub sample: Sample<'a>,
+    pub limits: Limits,
+    pub parts: u64,
+}
+
+/// The thread and the exception, whose parts have 14 bytes.
+pub const CRASH_READING: DumpReading<'static> = DumpReading {
+    sample: CRASH_FILE,
+    limits: LEAST,
+    parts: 14,
+};
+
+/// The six streams, whose parts have 18 bytes.
+pub const SIX_READING: DumpReading<'static> = DumpReading {
+    sample: SIX_FILE,
+    limits: NAMED,
+    parts: 18,
+};
+
+/// The system, with its name.
+pub const SYSTEM_READING: DumpReading<'static> = DumpReading {
+    sample: SYSTEM_FILE,
+    limits: NAMED,
+    parts: 0,
+};
+
+/// The ranges of 64-bit memory, whose parts have 8 bytes.
+pub const MEMORY64_READING: DumpReading<'static> = DumpReading {
+    sample: MEMORY64_FILE,
+    limits: LEAST,
+    parts: 8,
+};
+
+/// The thread without its stack, whose context has 1 byte.
+pub const ABSENT_STACK_READING: DumpReading<'static> = DumpReading {
+    sample: ABSENT_STACK_FILE,
+    limits: LEAST,
+    parts: 1,
+};
+
+/// The bytes of a file.
+pub fn file_of(rt: &impl Abort, alloc: Global, sample: Sample<'_>) -> Vec<u8, Global> {
+    match sample {
+        Sample::Numbers(entries, numbers) => numbers_file(rt, alloc, entries, numbers),
+        Sample::Cut(entries, numbers, size) => cut_file(rt, alloc, entries, numbers, size),
+        Sample::Parts(parts, size) => {
+            file_of_parts(alloc, parts, size).expect(rt, "memory for a file")
+        }
+        Sample::Named(name) => named_file(rt, alloc, name),
+    }
+}
+
+fn numbers_file(rt: &impl Abort, alloc: Global, entries: u32, numbers: &[u32]) -> Vec<u8, Global> {
+    file_of_numbers(alloc, entries, numbers).expect(rt, "memory for a file")
+}
+
+fn cut_file(
+    rt: &impl Abort,
+    alloc: Global,
+    entries: u32,
+    numbers: &[u32],
+    size: usize,
+) -> Vec<u8, Global> {
+    let mut file = numbers_file(rt, alloc, entries, numbers);
+    file.truncate(size);
+    file
+}
+
+fn named_file(rt: &impl Abort, alloc: Global, name: &[u8]) -> Vec<u8, Global> {
+    let mut file = numbers_file(rt, alloc, 1, &UNLOADED);
+    file.extend_from_slice(name).expect(rt, "memory for a name");
+    file
+}
+
+/// The entries of these types, or all where none is named.
+pub fn choice_of(rt: &impl Abort, types: &[u32]) -> Choice {
+    if types.is_empty() {
+        Choice::All
+    } else {
+        Choice::Types(TypeSet::new(types).expect(rt, "types"))
+    }
 }

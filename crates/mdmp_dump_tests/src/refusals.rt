@@ -1,20 +1,19 @@
 //! Calls that take memory, each of whose growths is refused.
-use crate::dump::built::read;
-use crate::files::NAMED;
-use crate::same::{assert_same, assert_same_at};
-use mdmp_dump::{FileView, ReadAnswered, ReadFault, ViewRefused, read_dump, read_source};
+use crate::dump::built::{fault_of, fault_of_source, read};
+use crate::files::{CRASH_FILE, NAMED, SIX_FILE, Sample, file_of};
+use crate::same::assert_same_at;
+use crate::viewed::view_fault_of;
+use crate::writer::{fault_back, stored_size};
+use mdmp_dump::{Dump, FileView, ReadAnswered, ReadFault, ViewRefused, read_source};
 use mdmp_lister::Choice;
 use mdmp_source::{MemoryStore, Source};
-use mdmp_test_support::{
-    CRASH, HeapCounts, MODULE, MeteredHeap, OVERLAPPING, Refusal, SIX, file_of_numbers,
-};
-use mdmp_writer::{RoundTripFault, ToMemoryFault, to_memory, write_and_read};
-use std::alloc::Global;
+use mdmp_test_support::{HeapCounts, MODULE, MeteredHeap, OVERLAPPING, Refusal};
+use mdmp_writer::{RoundTripFault, ToMemoryFault};
+use std::alloc::{Allocator, Global};
 use std::process::Abort;
-use std::test::Fail;
 
 /// A call that takes memory.
-#[derive(Clone, Copy, Debug, PartialEq, Eq)]
+#[derive(Clone, Copy, Debug)]
 enum DumpCall {
     Read,
     ReadSource,
@@ -24,147 +23,176 @@ enum DumpCall {
     WriteAndRead,
 }
 
-/// Why a call did not succeed.
+/// How a call ended.
 #[derive(Clone, Copy, Debug, PartialEq, Eq)]
-enum DumpCallFault {
-    Reading(ReadFault),
-    Storing(ToMemoryFault),
-    GoingRound(RoundTripFault),
+enum DumpCallEnded {
+    Well,
+    /// It told want of memory.
+    WithoutMemory,
+    Otherwise,
 }
 
-/// What came of a call in a heap that refuses a growth.
-#[derive(Clone, Copy, Debug, PartialEq, Eq)]
-struct DumpCallInHeap {
-    fault: Option<DumpCallFault>,
-    /// What comes of the source, where that is handed back, with ample memory.
-    again: Option<ReadFault>,
-    /// How often the call asked for a block, and how many blocks were not given back.
-    growths: u64,
-    out: u64,
-}
+/// What came of a call in a heap that refuses a growth: how it ended, how often it asked for a block, and how
+/// many blocks were not given back.
+type InHeap = (DumpCallEnded, u64, u64);
 
-/// How a call of a source ended, and the source that it handed back.
-type SourceLeft<'a> = (Option<ReadFault>, Option<Source<MemoryStore<'a>>>);
-
-/// Reads or opens a file in a heap, and closes it again.
-fn read_in<'a>(heap: &MeteredHeap<Global>, file: &'a [u8], call: DumpCall) -> SourceLeft<'a> {
-    let source = Source::new(MemoryStore::new(file));
-    match call {
-        DumpCall::ReadSource => {
-            let ReadAnswered { answer, source } = read_source(heap, source, NAMED, Choice::All, 18);
-            (answer.err(), Some(source))
-        }
-        DumpCall::Open => (FileView::open(heap, source, NAMED, Choice::All).err(), None),
-        DumpCall::OpenSource => match FileView::open_source(heap, source, NAMED, Choice::All) {
-            Ok(view) => (None, Some(view.into_source())),
-            Err(refused) => {
-                let ViewRefused { fault, source } = refused;
-                (Some(fault), Some(source))
-            }
-        },
-        _ => (read_dump(heap, source, NAMED, Choice::All, 18).err(), None),
+/// How reading ends that has this fault.
+fn ended_by(fault: Option<ReadFault>) -> DumpCallEnded {
+    match fault {
+        None => DumpCallEnded::Well,
+        Some(ReadFault::Memory) => DumpCallEnded::WithoutMemory,
+        Some(_) => DumpCallEnded::Otherwise,
     }
+}
+
+/// A file in memory.
+fn source_of<'a>(file: &'a [u8]) -> Source<MemoryStore<'a>> {
+    Source::new(MemoryStore::new(file))
+}
+
+/// Why a file is not read in a heap, and the source that is handed back.
+fn read_source_in<'a>(
+    heap: &MeteredHeap<Global>,
+    file: &'a [u8],
+) -> (Option<ReadFault>, Source<MemoryStore<'a>>) {
+    let ReadAnswered { answer, source } = read_source(
+        heap,
+        source_of(file),
+        NAMED,
+        Choice::All,
+        18,
+    );
+    match answer {
+        Ok(_) => (None, source),
+        Err(fault) => (Some(fault), source),
+    }
+}
+
+/// Why a file gives no view in a heap, and the source that is handed back, or that the view had.
+fn open_source_in<'a>(
+    heap: &MeteredHeap<Global>,
+    file: &'a [u8],
+) -> (Option<ReadFault>, Source<MemoryStore<'a>>) {
+    match FileView::open_source(heap, source_of(file), NAMED, Choice::All) {
+        Ok(view) => (None, view.into_source()),
+        Err(ViewRefused { fault, source }) => (Some(fault), source),
+    }
+}
+
+/// Asserts that a source that was handed back is read with ample memory, and gives why it was not before.
+fn read_again(
+    rt: &impl Abort,
+    alloc: Global,
+    left: (Option<ReadFault>, Source<MemoryStore<'_>>),
+) -> Option<ReadFault> {
+    let (fault, source) = left;
+    assert_same_at(rt, &fault, fault_of_source(alloc, source, NAMED, 18), None);
+    fault
 }
 
 /// What comes of reading or opening a file where this growth is refused.
-fn read_without(alloc: Global, growth: u64, file: &[u8], call: DumpCall) -> DumpCallInHeap {
+fn read_without(
+    rt: &impl Abort,
+    alloc: Global,
+    growth: u64,
+    file: &[u8],
+    call: DumpCall,
+) -> InHeap {
     let heap = MeteredHeap::new(alloc, Refusal::Only(growth));
-    let (fault, source) = read_in(&heap, file, call);
-    let HeapCounts { growths, out, .. } = heap.counts();
-    let again = match source {
-        Some(source) => read_dump(alloc, source, NAMED, Choice::All, 18).err(),
-        None => None,
+    let fault = match call {
+        DumpCall::ReadSource => read_again(rt, alloc, read_source_in(&heap, file)),
+        DumpCall::Open => view_fault_of(&heap, source_of(file), NAMED),
+        DumpCall::OpenSource => read_again(rt, alloc, open_source_in(&heap, file)),
+        _ => fault_of(&heap, file, NAMED, 18),
     };
-    DumpCallInHeap {
-        fault: fault.map(DumpCallFault::Reading),
-        again,
-        growths,
-        out,
-    }
+    let HeapCounts { growths, out, .. } = heap.counts();
+    (ended_by(fault), growths, out)
 }
 
 /// By how many growths a file is read.
 fn growths_to_read(alloc: Global, file: &[u8]) -> u64 {
     let heap = MeteredHeap::new(alloc, Refusal::Never);
-    let _ = read_in(&heap, file, DumpCall::Read);
+    let _ = fault_of(&heap, file, NAMED, 18);
     heap.counts().growths
+}
+
+/// How writing a dump into memory ends.
+fn stored_in<A: Allocator + Copy>(heap: A, dump: &Dump<A>) -> DumpCallEnded {
+    match stored_size(heap, dump) {
+        Ok(_) => DumpCallEnded::Well,
+        Err(ToMemoryFault::Memory) => DumpCallEnded::WithoutMemory,
+        Err(_) => DumpCallEnded::Otherwise,
+    }
+}
+
+/// How writing a dump and reading it back ends.
+fn read_back_in<A: Allocator + Copy>(heap: A, dump: &Dump<A>) -> DumpCallEnded {
+    match fault_back(heap, dump, NAMED, 18) {
+        None => DumpCallEnded::Well,
+        Some(RoundTripFault::Memory) => DumpCallEnded::WithoutMemory,
+        Some(_) => DumpCallEnded::Otherwise,
+    }
 }
 
 /// What comes of writing the dump of a file into memory, or of writing it and reading it back, where this
 /// growth of that is refused.
 fn written_without(
+    rt: &impl Abort,
     alloc: Global,
     growth: u64,
     file: &[u8],
     call: DumpCall,
-) -> Result<DumpCallInHeap, Fail> {
+) -> InHeap {
     let reading = growths_to_read(alloc, file);
     let heap = MeteredHeap::new(alloc, Refusal::Only(reading.saturating_add(growth)));
-    let Ok(dump) = read(&heap, file, NAMED, 18) else {
-        return Err(Fail::from("read"));
-    };
+    let dump = read(&heap, file, NAMED, 18).expect(rt, "a value");
     let before = heap.counts();
-    let fault = match call {
-        DumpCall::ToMemory => to_memory(&heap, &dump).err().map(DumpCallFault::Storing),
-        _ => write_and_read(&heap, &dump, NAMED, 18)
-            .err()
-            .map(DumpCallFault::GoingRound),
+    let ended = match call {
+        DumpCall::ToMemory => stored_in(&heap, &dump),
+        _ => read_back_in(&heap, &dump),
     };
     let behind = heap.counts();
-    Ok(DumpCallInHeap {
-        fault,
-        again: None,
-        growths: behind.growths.saturating_sub(before.growths),
-        out: behind.out.saturating_sub(before.out),
-    })
+    (
+        ended,
+        behind.growths.saturating_sub(before.growths),
+        behind.out.saturating_sub(before.out),
+    )
 }
 
+/// What comes of a call where this growth is refused.
 fn taken_without(
+    rt: &impl Abort,
     alloc: Global,
     growth: u64,
     file: &[u8],
     call: DumpCall,
-) -> Result<DumpCallInHeap, Fail> {
+) -> InHeap {
     match call {
-        DumpCall::ToMemory | DumpCall::WriteAndRead => written_without(alloc, growth, file, call),
-        _ => Ok(read_without(alloc, growth, file, call)),
-    }
-}
-
-/// Want of memory, as this call tells it.
-fn want_of(call: DumpCall) -> DumpCallFault {
-    match call {
-        DumpCall::ToMemory => DumpCallFault::Storing(ToMemoryFault::Memory),
-        DumpCall::WriteAndRead => DumpCallFault::GoingRound(RoundTripFault::Memory),
-        _ => DumpCallFault::Reading(ReadFault::Memory),
-    }
-}
-
-/// By how many growths a call succeeds, each of which may be refused: it is told, none is asked for behind
-/// it, all that was taken is given back, and the source that is handed back is read with ample memory.
-fn growths_of(rt: &impl Abort, alloc: Global, file: &[u8], call: DumpCall) -> Result<u64, Fail> {
-    for growth in 0..40 {
-        let taken = taken_without(alloc, growth, file, call)?;
-        let mut expected = DumpCallInHeap {
-            fault: None,
-            again: None,
-            growths: growth,
-            out: 0,
-        };
-        if taken == expected {
-            return Ok(growth);
+        DumpCall::ToMemory | DumpCall::WriteAndRead => {
+            written_without(rt, alloc, growth, file, call)
         }
-        expected.fault = Some(want_of(call));
-        expected.growths = growth + 1;
-        assert_same(rt, taken, expected);
+        _ => read_without(rt, alloc, growth, file, call),
     }
-    Err(Fail::from("too many growths"))
 }
 
-/// Each growth of each call over a file may be refused. A view takes a directory, a window and two lists,
-/// and what is written takes one block.
-fn assert_growths(rt: &impl Abort, alloc: Global, file: &[u8], reading: u64) -> Result<(), Fail> {
-    for (call, expected) in [
+/// Asserts that a call succeeds by so many growths, each of which may be refused: it is told, none is asked
+/// for behind it, all that was taken is given back, and the source that is handed back is read with ample
+/// memory.
+fn assert_growths_of(rt: &impl Abort, alloc: Global, file: &[u8], call: DumpCall, growths: u64) {
+    for growth in 0..growths {
+        let taken = taken_without(rt, alloc, growth, file, call);
+        let expected = (DumpCallEnded::WithoutMemory, growth.saturating_add(1), 0);
+        assert_same_at(rt, &(call, growth), taken, expected);
+    }
+    let taken = taken_without(rt, alloc, growths, file, call);
+    assert_same_at(rt, &call, taken, (DumpCallEnded::Well, growths, 0));
+}
+
+/// Asserts that each growth of each call over a file may be refused. A view takes a directory, a window and
+/// two lists, and what is written takes one block.
+fn assert_growths(rt: &impl Abort, alloc: Global, sample: Sample<'_>, reading: u64) {
+    let file = file_of(rt, alloc, sample);
+    for (call, growths) in [
         (DumpCall::Read, reading),
         (DumpCall::ReadSource, reading),
         (DumpCall::Open, 4),
@@ -172,24 +200,18 @@ fn assert_growths(rt: &impl Abort, alloc: Global, file: &[u8], reading: u64) -> 
         (DumpCall::ToMemory, 1),
         (DumpCall::WriteAndRead, reading.saturating_add(1)),
     ] {
-        let growths = growths_of(rt, alloc, file, call)?;
-        assert_same_at(rt, &call, growths, expected);
+        assert_growths_of(rt, alloc, &file, call, growths);
     }
-    Ok(())
 }
 
 #[test]
-fn each_growth_may_be_refused(rt: HostRuntime) -> Result<(), Fail> {
+fn each_growth_may_be_refused(rt: HostRuntime) {
     // To read one takes what a lister takes, a list of streams, a list for each that has records of which
     // there may be several, and each name, part and stream of bytes.
-    for (entries, numbers, reading) in [
-        (1, &OVERLAPPING[..], 4 + 1 + 1 + 2),
-        (1, &MODULE[..], 3 + 1 + 1 + 3),
-        (2, &CRASH[..], 3 + 1 + 1 + 3),
-        (6, &SIX[..], 3 + 1 + 1 + 5),
-    ] {
-        let file = file_of_numbers(rt.alloc(), entries, numbers)?;
-        assert_growths(&rt, rt.alloc(), &file, reading)?;
-    }
-    Ok(())
+    let overlapping = Sample::Numbers(1, &OVERLAPPING);
+    assert_growths(&rt, rt.alloc(), overlapping, 4 + 1 + 1 + 2);
+    let module = Sample::Numbers(1, &MODULE);
+    assert_growths(&rt, rt.alloc(), module, 3 + 1 + 1 + 3);
+    assert_growths(&rt, rt.alloc(), CRASH_FILE, 3 + 1 + 1 + 3);
+    assert_growths(&rt, rt.alloc(), SIX_FILE, 3 + 1 + 1 + 5);
 }

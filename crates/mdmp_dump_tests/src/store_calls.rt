@@ -1,17 +1,17 @@
 //! Stores that give one byte a call, each of whose calls fails in turn: a file that is read into a value, and
 //! one of which a view is opened.
-use crate::dump::built::read;
-use crate::files::NAMED;
-use crate::same::assert_same;
+use crate::dump::built::{fault_of_source, value_of};
+use crate::files::{CRASH_READING, DumpReading, NAMED, SIX_READING, Sample, file_of};
+use crate::same::{assert_same, assert_same_at};
+use crate::viewed::view_fault_of;
 use mdmp_dump::{Dump, FileView, ReadAnswered, ReadFault, ViewRefused, read_dump, read_source};
 use mdmp_lister::{Choice, FaultKind, ListFault, OpenFault};
 use mdmp_source::{PatchyStore, Source, SourceFault, Store};
-use mdmp_test_support::{CRASH, SIX, file_of_numbers};
 use std::alloc::Global;
-use std::test::Fail;
+use std::process::Abort;
 
 /// What a call of a store is made for.
-#[derive(Clone, Copy, Debug, PartialEq, Eq)]
+#[derive(Clone, Copy)]
 enum ReadFor {
     Opening,
     /// The records of an entry, and the names of a value's.
@@ -42,59 +42,43 @@ fn told_of(read_for: ReadFor, at: u64) -> ReadFault {
 
 /// What came of a store: its fault, and whether the value is that of its bytes, or behind a fault that of the
 /// source that comes back.
-#[derive(Clone, Copy, Debug, PartialEq, Eq)]
-struct StoreOutcome {
-    fault: Option<ReadFault>,
-    is_good: bool,
-}
+type StoreOutcome = (Option<ReadFault>, bool);
 
-/// Reads a source whose parts have at most 18 bytes.
-fn read_all<S: Store + Drop>(alloc: Global, source: Source<S>) -> Result<Dump<Global>, ReadFault> {
-    read_dump(alloc, source, NAMED, Choice::All, 18)
+/// Whether a source is read as this value.
+fn is_read_as<S: Store + Drop>(alloc: Global, source: Source<S>, expected: &Dump<Global>) -> bool {
+    match read_dump(alloc, source, NAMED, Choice::All, 18) {
+        Ok(dump) => dump == *expected,
+        Err(_) => false,
+    }
 }
 
 /// What came of reading a source into a value.
-fn value_of<S: Store + Drop>(
+fn outcome_of_value<S: Store + Drop>(
     alloc: Global,
     source: Source<S>,
-    expected: &Result<Dump<Global>, ReadFault>,
+    expected: &Dump<Global>,
 ) -> StoreOutcome {
     let ReadAnswered { answer, source } = read_source(alloc, source, NAMED, Choice::All, 18);
     match answer {
-        Ok(dump) => StoreOutcome {
-            fault: None,
-            is_good: Ok(dump) == *expected,
-        },
-        Err(fault) => StoreOutcome {
-            fault: Some(fault),
-            is_good: read_all(alloc, source) == *expected,
-        },
+        Ok(dump) => (None, dump == *expected),
+        Err(fault) => (Some(fault), is_read_as(alloc, source, expected)),
     }
 }
 
 /// What came of opening a view of a source, whose own streams are compared elsewhere.
-fn view_of<S: Store + Drop>(
+fn outcome_of_view<S: Store + Drop>(
     alloc: Global,
     source: Source<S>,
-    expected: &Result<Dump<Global>, ReadFault>,
+    expected: &Dump<Global>,
 ) -> StoreOutcome {
     match FileView::open_source(alloc, source, NAMED, Choice::All) {
-        Ok(_) => StoreOutcome {
-            fault: None,
-            is_good: true,
-        },
-        Err(refused) => {
-            let ViewRefused { fault, source } = refused;
-            StoreOutcome {
-                fault: Some(fault),
-                is_good: read_all(alloc, source) == *expected,
-            }
-        }
+        Ok(_) => (None, true),
+        Err(ViewRefused { fault, source }) => (Some(fault), is_read_as(alloc, source, expected)),
     }
 }
 
 /// What a source is read into.
-#[derive(Clone, Copy, Debug, PartialEq, Eq)]
+#[derive(Clone, Copy)]
 enum ReadInto {
     Value,
     View,
@@ -106,81 +90,59 @@ fn outcome_of(
     into: ReadInto,
     bytes: &[u8],
     fail_at: u64,
-    expected: &Result<Dump<Global>, ReadFault>,
+    expected: &Dump<Global>,
 ) -> StoreOutcome {
     let source = Source::new(PatchyStore::new(bytes, &[1], Some(fail_at)));
     match into {
-        ReadInto::Value => value_of(alloc, source, expected),
-        ReadInto::View => view_of(alloc, source, expected),
+        ReadInto::Value => outcome_of_value(alloc, source, expected),
+        ReadInto::View => outcome_of_view(alloc, source, expected),
     }
 }
 
-/// The first of these calls, numbered from `first` on, whose failure is told otherwise.
-fn other_call(
+/// Asserts that the failure of each of these calls is told, which are numbered from `first` on.
+fn assert_told(
+    rt: &impl Abort,
     alloc: Global,
     into: ReadInto,
     bytes: &[u8],
     first: u64,
     calls: ReadCalls,
-    expected: &Result<Dump<Global>, ReadFault>,
-) -> Option<(u64, StoreOutcome)> {
+    expected: &Dump<Global>,
+) {
     let (count, place, read_for) = calls;
     for call in 0..count {
-        let told = StoreOutcome {
-            fault: Some(told_of(read_for, place.saturating_add(call))),
-            is_good: true,
-        };
         let fail_at = first.saturating_add(call);
         let outcome = outcome_of(alloc, into, bytes, fail_at, expected);
-        if outcome != told {
-            return Some((fail_at, outcome));
-        }
+        let fault = told_of(read_for, place.saturating_add(call));
+        assert_same_at(rt, &fail_at, outcome, (Some(fault), true));
     }
-    None
 }
 
-/// What is found where each call by which a file is read fails in turn: the first one whose failure is told
-/// otherwise; and how many there are, and what comes of a store that fails behind them all.
-#[derive(Clone, Copy, Debug, PartialEq, Eq)]
-struct CallsTold {
-    other: Option<(u64, StoreOutcome)>,
-    calls: u64,
-    behind: StoreOutcome,
-}
-
-fn found_in(alloc: Global, into: ReadInto, bytes: &[u8], calls: &[ReadCalls]) -> CallsTold {
-    let expected = read(alloc, bytes, NAMED, 18);
+/// Asserts it of all these calls, by which a file is read, and that a store that fails behind them all does
+/// not; and how many they are.
+fn assert_all_told(
+    rt: &impl Abort,
+    alloc: Global,
+    into: ReadInto,
+    reading: DumpReading<'_>,
+    calls: &[ReadCalls],
+    count: u64,
+) {
+    let bytes = file_of(rt, alloc, reading.sample);
+    let expected = value_of(rt, alloc, reading);
     let mut first: u64 = 0;
-    let mut other = None;
     for some in calls {
-        if other.is_none() {
-            other = other_call(alloc, into, bytes, first, *some, &expected);
-        }
-        let (count, _, _) = *some;
-        first = first.saturating_add(count);
+        assert_told(rt, alloc, into, &bytes, first, *some, &expected);
+        let (more, _, _) = *some;
+        first = first.saturating_add(more);
     }
-    CallsTold {
-        other,
-        calls: first,
-        behind: outcome_of(alloc, into, bytes, first, &expected),
-    }
-}
-
-/// So many calls, and each that fails is told.
-fn all_told(calls: u64) -> CallsTold {
-    CallsTold {
-        other: None,
-        calls,
-        behind: StoreOutcome {
-            fault: None,
-            is_good: true,
-        },
-    }
+    assert_same(rt, first, count);
+    let behind = outcome_of(alloc, into, &bytes, first, &expected);
+    assert_same(rt, behind, (None, true));
 }
 
 #[test]
-fn each_call_of_reading_a_value_may_fail(rt: HostRuntime) -> Result<(), Fail> {
-    let crash = file_of_numbers(rt.alloc(), 2, &CRASH)?;
+fn each_call_of_reading_a_value_may_fail(rt: HostRuntime) {
     let calls = [
         (56, 0, ReadFor::Opening),
         (52, 56, ReadFor::Entry(0)),
@@ -188,10 +150,8 @@ fn each_call_of_reading_a_value_may_fail(rt: HostRuntime) -> Result<(), Fail> {
         (168, 120, ReadFor::Entry(1)),
         (4, 288, ReadFor::Bytes),
     ];
-    let found = found_in(rt.alloc(), ReadInto::Value, &crash, &calls);
-    assert_same(&rt, found, all_told(290));
+    assert_all_told(&rt, rt.alloc(), ReadInto::Value, CRASH_READING, &calls, 290);
 
-    let six = file_of_numbers(rt.alloc(), 6, &SIX)?;
     let calls = [
         // The header and the directory, and the head of the memory list.
         (104, 0, ReadFor::Opening),
@@ -206,23 +166,18 @@ fn each_call_of_reading_a_value_may_fail(rt: HostRuntime) -> Result<(), Fail> {
         (4, 436, ReadFor::Entry(4)),
         (4, 440, ReadFor::Bytes),
     ];
-    let found = found_in(rt.alloc(), ReadInto::Value, &six, &calls);
-    assert_same(&rt, found, all_told(442));
-    Ok(())
+    assert_all_told(&rt, rt.alloc(), ReadInto::Value, SIX_READING, &calls, 442);
 }
 
 #[test]
-fn each_call_of_opening_a_view_may_fail(rt: HostRuntime) -> Result<(), Fail> {
-    let crash = file_of_numbers(rt.alloc(), 2, &CRASH)?;
+fn each_call_of_opening_a_view_may_fail(rt: HostRuntime) {
     let calls = [
         (56, 0, ReadFor::Opening),
         (52, 56, ReadFor::Entry(0)),
         (168, 120, ReadFor::Entry(1)),
     ];
-    let found = found_in(rt.alloc(), ReadInto::View, &crash, &calls);
-    assert_same(&rt, found, all_told(276));
+    assert_all_told(&rt, rt.alloc(), ReadInto::View, CRASH_READING, &calls, 276);
 
-    let six = file_of_numbers(rt.alloc(), 6, &SIX)?;
     let calls = [
         (104, 0, ReadFor::Opening),
         // A system, and of its name the length.
@@ -232,26 +187,27 @@ fn each_call_of_opening_a_view_may_fail(rt: HostRuntime) -> Result<(), Fail> {
         (168, 264, ReadFor::Entry(3)),
         (4, 436, ReadFor::Entry(4)),
     ];
-    let found = found_in(rt.alloc(), ReadInto::View, &six, &calls);
-    assert_same(&rt, found, all_told(392));
-    Ok(())
+    assert_all_told(&rt, rt.alloc(), ReadInto::View, SIX_READING, &calls, 392);
 }
 
-/// Why a store gives neither a value nor a view whose calls give a byte, three, and none.
-fn faults_of(alloc: Global, bytes: &[u8]) -> [Option<ReadFault>; 2] {
-    let source = Source::new(PatchyStore::new(bytes, &[1, 3, 0], None));
-    let value = read_all(alloc, source).err();
-    let source = Source::new(PatchyStore::new(bytes, &[1, 3, 0], None));
-    let view = FileView::open(alloc, source, NAMED, Choice::All).err();
-    [value, view]
+/// A file whose calls give a byte, three, and none.
+fn stopping<'a>(bytes: &'a [u8]) -> Source<PatchyStore<'a>> {
+    Source::new(PatchyStore::new(bytes, &[1, 3, 0], None))
+}
+
+/// Asserts that this is why it gives neither a value nor a view.
+fn assert_stops(rt: &impl Abort, alloc: Global, sample: Sample<'_>, fault: ReadFault) {
+    let bytes = file_of(rt, alloc, sample);
+    let value = fault_of_source(alloc, stopping(&bytes), NAMED, 18);
+    assert_same(rt, value, Some(fault));
+    let view = view_fault_of(alloc, stopping(&bytes), NAMED);
+    assert_same(rt, view, Some(fault));
 }
 
 #[test]
-fn store_that_gives_nothing_is_told(rt: HostRuntime) -> Result<(), Fail> {
+fn store_that_gives_nothing_is_told(rt: HostRuntime) {
     // Of a directory of a thousand entries.
-    let bytes = file_of_numbers(rt.alloc(), 1000, &[0; 3000])?;
+    let thousand = Sample::Numbers(1000, &[0; 3000]);
     let short = OpenFault::Source(SourceFault::ShortRead { at: 4 });
-    let faults = faults_of(rt.alloc(), &bytes);
-    assert_same(&rt, faults, [Some(ReadFault::Opening(short)); 2]);
-    Ok(())
+    assert_stops(&rt, rt.alloc(), thousand, ReadFault::Opening(short));
 }

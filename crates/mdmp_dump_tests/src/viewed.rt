@@ -8,14 +8,15 @@ mod refused;
 mod rows;
 mod stores;
 
-use crate::files::chosen;
-use crate::writer::{open_out, write_view};
+use crate::dump::view::{CallFault, Wanted, first_record, raw_bytes};
+use crate::files::{NAMED, Sample, choice_of, file_of};
+use crate::writer::{open_out, size_of, write_view};
 use mdmp_dump::{DumpView, FileView, ReadFault};
 use mdmp_lister::{Choice, Limits};
-use mdmp_source::{Source, Store, TwoFaces};
-use mdmp_writer::{WriteFault, written_size};
+use mdmp_source::{MemoryStore, Source, Store, TwoFaces};
+use mdmp_writer::WriteFault;
 use std::alloc::{Allocator, Global};
-use std::test::Fail;
+use std::process::Abort;
 
 /// What came of writing a file through a view of it.
 #[derive(Clone, Copy, Debug, PartialEq, Eq)]
@@ -29,7 +30,7 @@ enum ViewOutcome {
 }
 
 /// What a view counted, and `opened`, what it had fetched as it was opened.
-#[derive(Clone, Copy, Debug, PartialEq, Eq)]
+#[derive(Clone, Copy)]
 struct ViewCounts {
     held: u128,
     opened: u128,
@@ -57,13 +58,33 @@ struct Written {
     counts: ViewCounts,
 }
 
-/// The entries of these types, or all where none is named.
-fn choice_of(types: &[u32]) -> Result<Choice, Fail> {
-    if types.is_empty() {
-        Ok(Choice::All)
-    } else {
-        chosen(types)
+/// A buffer of so many bytes through which a file is written, and the limits under which it is read.
+#[derive(Clone, Copy)]
+struct Through {
+    limits: Limits,
+    room: usize,
+}
+
+/// Why a source gives no view of all its entries.
+pub fn view_fault_of<S: Store + Drop, A: Allocator + Copy>(
+    alloc: A,
+    source: Source<S>,
+    limits: Limits,
+) -> Option<ReadFault> {
+    match FileView::open(alloc, source, limits, Choice::All) {
+        Ok(_) => None,
+        Err(fault) => Some(fault),
     }
+}
+
+/// A view of all entries of a store.
+fn view_of<S: Store + Drop>(
+    rt: &impl Abort,
+    alloc: Global,
+    store: S,
+    limits: Limits,
+) -> FileView<S, Global> {
+    FileView::open(alloc, Source::new(store), limits, Choice::All).expect(rt, "a view")
 }
 
 /// What a view has counted by now.
@@ -80,75 +101,147 @@ fn counts_of<S: Store + Drop, A: Allocator + Copy>(
     }
 }
 
-/// Writes the entries of these types of a file through a view of it and a buffer of so many bytes.
-fn write_over<S: Store + Drop>(
+/// Writes what a view gives, and hands on what went out.
+fn outcome_of<V: DumpView>(
+    rt: &impl Abort,
     alloc: Global,
-    store: S,
-    limits: Limits,
-    types: &[u32],
+    view: &mut V,
     room: usize,
-) -> Result<Written, Fail> {
-    let source = Source::new(store);
-    let mut view = match FileView::open(alloc, source, limits, choice_of(types)?) {
-        Ok(view) => view,
-        Err(fault) => {
-            return Ok(Written {
-                outcome: ViewOutcome::Refused(fault),
-                told: 0,
-                bytes: Vec::new(alloc),
-                counts: NOTHING,
-            });
-        }
-    };
-    let opened = view.fetched();
-    let told = written_size(&mut view).unwrap_or(0);
-    let mut out = open_out(alloc)?;
-    let outcome = match write_view(&mut view, &mut out, room) {
+) -> (ViewOutcome, Vec<u8, Global>) {
+    let mut out = open_out(rt, alloc);
+    let outcome = match write_view(view, &mut out, room) {
         Ok(size) => ViewOutcome::Wrote(size),
         Err(fault) => ViewOutcome::Stopped(fault),
     };
-    Ok(Written {
+    let bytes = out.bytes().to_vec(alloc).expect(rt, "memory for bytes");
+    (outcome, bytes)
+}
+
+/// Writes the entries of a view that is open.
+fn write_opened<S: Store + Drop>(
+    rt: &impl Abort,
+    alloc: Global,
+    opened: FileView<S, Global>,
+    room: usize,
+) -> Written {
+    let mut view = opened;
+    let fetched = view.fetched();
+    let told = match size_of(&mut view) {
+        Ok(size) => size,
+        Err(_) => 0,
+    };
+    let (outcome, bytes) = outcome_of(rt, alloc, &mut view, room);
+    Written {
         outcome,
         told,
-        bytes: out.bytes().to_vec(alloc)?,
-        counts: counts_of(&mut view, opened),
-    })
+        bytes,
+        counts: counts_of(&mut view, fetched),
+    }
+}
+
+/// Writes the entries of these types of a file through a view of it.
+fn write_over<S: Store + Drop>(
+    rt: &impl Abort,
+    alloc: Global,
+    store: S,
+    types: &[u32],
+    through: Through,
+) -> Written {
+    let Through { limits, room } = through;
+    match FileView::open(alloc, Source::new(store), limits, choice_of(rt, types)) {
+        Ok(view) => write_opened(rt, alloc, view, room),
+        Err(fault) => Written {
+            outcome: ViewOutcome::Refused(fault),
+            told: 0,
+            bytes: Vec::new(alloc),
+            counts: NOTHING,
+        },
+    }
+}
+
+/// Writes the entries of these types of a sample through a view of it.
+fn write_sample(
+    rt: &impl Abort,
+    alloc: Global,
+    sample: Sample<'_>,
+    types: &[u32],
+    through: Through,
+) -> Written {
+    let file = file_of(rt, alloc, sample);
+    write_over(rt, alloc, MemoryStore::new(&file), types, through)
+}
+
+/// A file that becomes another one of the same length at this read.
+fn two_faces<'a>(rt: &impl Abort, first: &'a [u8], second: &'a [u8], turn: u64) -> TwoFaces<'a> {
+    if first.len() != second.len() {
+        rt.panic("a file of another length")
+    }
+    TwoFaces::new(first, second, turn)
 }
 
 /// How many reads of a store it takes to open a view of all entries of this file.
-fn reads_to_open(alloc: Global, file: &[u8], limits: Limits) -> Result<u64, Fail> {
-    let source = Source::new(TwoFaces::new(file, file, u64::MAX));
-    match FileView::open(alloc, source, limits, Choice::All) {
-        Ok(view) => Ok(view.into_source().into_store().reads()),
-        Err(_) => Err(Fail::from("open")),
-    }
+fn reads_to_open(rt: &impl Abort, alloc: Global, file: &[u8], limits: Limits) -> u64 {
+    let view = view_of(rt, alloc, two_faces(rt, file, file, u64::MAX), limits);
+    view.into_source().into_store().reads()
 }
 
 /// How many reads of a store it takes to open a view of all entries of this file and to write them
-/// through a buffer of so many bytes.
-fn reads_to_write(alloc: Global, file: &[u8], limits: Limits, room: usize) -> Result<u64, Fail> {
-    let source = Source::new(TwoFaces::new(file, file, u64::MAX));
-    let Ok(mut view) = FileView::open(alloc, source, limits, Choice::All) else {
-        return Err(Fail::from("open"));
-    };
-    let mut out = open_out(alloc)?;
-    if write_view(&mut view, &mut out, room).is_err() {
-        return Err(Fail::from("write"));
+/// through a buffer.
+fn reads_to_write(rt: &impl Abort, alloc: Global, file: &[u8], through: Through) -> u64 {
+    let store = two_faces(rt, file, file, u64::MAX);
+    let mut view = view_of(rt, alloc, store, through.limits);
+    if let (ViewOutcome::Wrote(_), _) = outcome_of(rt, alloc, &mut view, through.room) {
+        return view.into_source().into_store().reads();
     }
-    Ok(view.into_source().into_store().reads())
+    rt.panic("a file that is written")
 }
 
 /// Writes all entries of a file that becomes another one of the same length at this read.
 fn written_by_turns(
+    rt: &impl Abort,
     alloc: Global,
     first: &[u8],
     second: &[u8],
     turn: u64,
-    limits: Limits,
-    room: usize,
-) -> Result<Written, Fail> {
-    if first.len() != second.len() {
-        return Err(Fail::from("a file of the same length"));
+    through: Through,
+) -> Written {
+    write_over(rt, alloc, two_faces(rt, first, second, turn), &[], through)
+}
+
+/// Four bytes of a stream, zeros where there are none, or the fault of the call that did not give them.
+type FourBytes = Result<[u8; 4], CallFault>;
+
+/// Asks for four bytes of a stream of raw bytes, or of one that has records.
+fn four_bytes<V: DumpView>(view: &mut V, wanted: Wanted) -> FourBytes {
+    let mut out = [0; 4];
+    match raw_bytes(view, wanted, &mut out) {
+        Ok(true) => Ok(out),
+        Ok(false) => four_of_record(view, wanted),
+        Err(fault) => Err(fault),
     }
-    write_over(alloc, TwoFaces::new(first, second, turn), limits, &[], room)
+}
+
+/// Asks for four bytes of the first record of a stream.
+fn four_of_record<V: DumpView>(view: &mut V, wanted: Wanted) -> FourBytes {
+    let mut out = [0; 4];
+    match first_record(view, wanted, &mut out) {
+        Ok(_) => Ok(out),
+        Err(fault) => Err(fault),
+    }
+}
+
+/// What a view of a store answers that is asked three times.
+fn asked_thrice<S: Store + Drop>(
+    rt: &impl Abort,
+    alloc: Global,
+    store: S,
+    limits: Limits,
+    wanted: Wanted,
+) -> [FourBytes; 3] {
+    let mut view = view_of(rt, alloc, store, limits);
+    [
+        four_bytes(&mut view, wanted),
+        four_bytes(&mut view, wanted),
+        four_bytes(&mut view, wanted),
+    ]
 }

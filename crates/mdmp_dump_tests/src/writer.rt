@@ -6,22 +6,26 @@ mod round_trip;
 mod vectors;
 mod views;
 
+use crate::files::{Sample, file_of};
 use crate::same::assert_same;
 use mdmp_dump::{Dump, DumpView};
+use mdmp_lister::Limits;
 use mdmp_source::PatchyOut;
-use mdmp_writer::{LayoutFault, WriteFault, write_dump, written_size};
-use std::alloc::{AllocError, Global};
+use mdmp_writer::{
+    LayoutFault, RoundTripFault, ToMemoryFault, WriteFault, to_memory, write_and_read, write_dump,
+    written_size,
+};
+use std::alloc::{Allocator, Global};
 use std::process::Abort;
-use std::test::Fail;
 
 /// An output in memory that takes all of a small dump.
-pub fn open_out(alloc: Global) -> Result<PatchyOut<Global>, AllocError> {
-    PatchyOut::with_room(alloc, 4096, 4096, None)
+pub fn open_out(rt: &impl Abort, alloc: Global) -> PatchyOut<Global> {
+    PatchyOut::with_room(alloc, 4096, 4096, None).expect(rt, "memory for an output")
 }
 
 /// How many bytes a dump has as it is written, or why it can't be.
-fn size_of(dump: &Dump<Global>) -> Result<u64, LayoutFault> {
-    written_size(&mut dump.view())
+pub fn size_of<V: DumpView>(view: &mut V) -> Result<u64, LayoutFault> {
+    written_size(view)
 }
 
 /// Writes what a view gives through a buffer of so many bytes, from 1 to 4096.
@@ -34,26 +38,52 @@ pub fn write_view<V: DumpView>(
     write_dump(view, out, &mut buffer[..room.clamp(1, 4096)])
 }
 
-/// Writes a dump through a buffer of so many bytes, from 1 to 4096.
-pub fn write_value(
+/// Writes a dump to an output through a buffer of so many bytes, and asserts what is answered and what the
+/// output took.
+fn assert_wrote(
+    rt: &impl Abort,
     dump: &Dump<Global>,
-    out: &mut PatchyOut<Global>,
+    out: PatchyOut<Global>,
     room: usize,
-) -> Result<u64, WriteFault> {
-    write_view(&mut dump.view(), out, room)
+    expected: Result<u64, WriteFault>,
+    bytes: &[u8],
+) {
+    let mut taking = out;
+    let answer = write_view(&mut dump.view(), &mut taking, room);
+    assert_same(rt, answer, expected);
+    assert_same(rt, taking.bytes(), bytes);
 }
 
-/// The dump is written as this file, and its size is told as that.
-fn assert_written(
-    rt: &impl Abort,
-    alloc: Global,
-    dump: &Dump<Global>,
-    file: &[u8],
-) -> Result<(), Fail> {
+/// Asserts how many bytes a dump has as it is written, or why it can't be.
+fn assert_size(rt: &impl Abort, dump: &Dump<Global>, size: Result<u64, LayoutFault>) {
+    assert_same(rt, size_of(&mut dump.view()), size);
+}
+
+/// Asserts that a dump is written as this file, and its size is told as that.
+fn assert_written(rt: &impl Abort, alloc: Global, dump: Dump<Global>, sample: Sample<'_>) {
+    let file = file_of(rt, alloc, sample);
     let size = file.len() as u64;
-    let mut out = open_out(alloc)?;
-    assert_same(rt, size_of(dump), Ok(size));
-    assert_same(rt, write_value(dump, &mut out, 64), Ok(size));
-    assert_same(rt, out.bytes(), file);
-    Ok(())
+    assert_size(rt, &dump, Ok(size));
+    assert_wrote(rt, &dump, open_out(rt, alloc), 64, Ok(size), &file);
+}
+
+/// How many bytes a dump has in memory, or why it is not written there.
+pub fn stored_size<A: Allocator + Copy>(alloc: A, dump: &Dump<A>) -> Result<usize, ToMemoryFault> {
+    match to_memory(alloc, dump) {
+        Ok(bytes) => Ok(bytes.len()),
+        Err(fault) => Err(fault),
+    }
+}
+
+/// Why a dump that is written is not read back.
+pub fn fault_back<A: Allocator + Copy>(
+    alloc: A,
+    dump: &Dump<A>,
+    limits: Limits,
+    parts: u64,
+) -> Option<RoundTripFault> {
+    match write_and_read(alloc, dump, limits, parts) {
+        Ok(_) => None,
+        Err(fault) => Some(fault),
+    }
 }

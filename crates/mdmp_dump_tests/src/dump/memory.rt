@@ -1,12 +1,14 @@
 //! The memory that a dump takes.
-use super::built::read;
+use super::built::{fault_of, read};
+use crate::files::{CRASH_FILE, SYSTEM_FILE, Sample, file_of};
 use crate::same::assert_same;
 use linked_list_allocator::LocalHeap;
 use mdmp_dump::{MemoryRange, ReadFault, Stream, Thread};
 use mdmp_lister::Limits;
-use mdmp_test_support::{CRASH, MODULE, OVERLAPPING, SYSTEM, file_of_numbers};
+use mdmp_test_support::{MODULE, OVERLAPPING};
+use std::alloc::Global;
 use std::mem::size_of;
-use std::test::Fail;
+use std::process::Abort;
 
 /// A window of 176 bytes and names of 32, both multiples of 16 as a heap's blocks are.
 const LIMITS: Limits = Limits {
@@ -16,62 +18,62 @@ const LIMITS: Limits = Limits {
 
 /// Why a file is not read in a heap of so many bytes, and how much of the heap is used behind it.
 fn fault_in(
-    rt: &HostRuntime,
+    rt: &impl Abort,
+    alloc: Global,
     heap_size: usize,
     file: &[u8],
-) -> Result<(Option<ReadFault>, usize), Fail> {
-    let heap = LocalHeap::new(rt.alloc(), heap_size)?;
-    let fault = read(&heap, file, LIMITS, 14).err();
-    Ok((fault, heap.used()))
+) -> (Option<ReadFault>, usize) {
+    let heap = LocalHeap::new(alloc, heap_size).expect(rt, "a heap");
+    let fault = fault_of(&heap, file, LIMITS, 14);
+    (fault, heap.used())
+}
+
+/// Asserts what comes of reading a file in a heap of so many bytes, of which nothing is used behind it.
+fn assert_read_in(
+    rt: &impl Abort,
+    alloc: Global,
+    heap_size: usize,
+    sample: Sample<'_>,
+    fault: Option<ReadFault>,
+) {
+    let file = file_of(rt, alloc, sample);
+    assert_same(rt, fault_in(rt, alloc, heap_size, &file), (fault, 0));
 }
 
 /// Reads a file in greater and greater heaps, as long as memory is wanted and all of it given back:
 /// what comes of the first heap of which another thing does.
-fn first_other(rt: &HostRuntime, file: &[u8]) -> Result<(Option<ReadFault>, usize), Fail> {
+fn first_other(rt: &impl Abort, alloc: Global, file: &[u8]) -> Option<(Option<ReadFault>, usize)> {
     for step in 0..200 {
-        let (fault, used) = fault_in(rt, 16 * step, file)?;
-        if fault != Some(ReadFault::Memory) || used != 0 {
-            return Ok((fault, used));
+        let found = fault_in(rt, alloc, 16 * step, file);
+        if found != (Some(ReadFault::Memory), 0) {
+            return Some(found);
         }
     }
-    Err(Fail::from("no heap suffices"))
+    None
+}
+
+/// Asserts that a file is read in a heap that suffices, and memory is wanted in each smaller one.
+fn assert_wants_memory(rt: &impl Abort, alloc: Global, sample: Sample<'_>) {
+    let file = file_of(rt, alloc, sample);
+    assert_same(rt, first_other(rt, alloc, &file), Some((None, 0)));
 }
 
 #[test]
-fn want_of_memory_is_told_at_each_growth(rt: HostRuntime) -> Result<(), Fail> {
-    assert_same(&rt, first_other(&rt, &SYSTEM)?, (None, 0));
-    assert_same(
-        &rt,
-        first_other(&rt, &file_of_numbers(rt.alloc(), 2, &CRASH)?)?,
-        (None, 0),
-    );
-    assert_same(
-        &rt,
-        first_other(&rt, &file_of_numbers(rt.alloc(), 1, &MODULE)?)?,
-        (None, 0),
-    );
-    assert_same(
-        &rt,
-        first_other(&rt, &file_of_numbers(rt.alloc(), 1, &OVERLAPPING)?)?,
-        (None, 0),
-    );
+fn want_of_memory_is_told_at_each_growth(rt: HostRuntime) {
+    assert_wants_memory(&rt, rt.alloc(), SYSTEM_FILE);
+    assert_wants_memory(&rt, rt.alloc(), CRASH_FILE);
+    assert_wants_memory(&rt, rt.alloc(), Sample::Numbers(1, &MODULE));
+    assert_wants_memory(&rt, rt.alloc(), Sample::Numbers(1, &OVERLAPPING));
     // The window, the directory and the name alone take 224 bytes.
-    assert_same(
-        &rt,
-        fault_in(&rt, 224, &SYSTEM)?,
-        (Some(ReadFault::Memory), 0),
-    );
-    Ok(())
+    assert_read_in(&rt, rt.alloc(), 224, SYSTEM_FILE, Some(ReadFault::Memory));
 }
 
-/// How much of a heap a dump uses.
-fn used_by(rt: &HostRuntime, file: &[u8]) -> Result<usize, Fail> {
-    let heap = LocalHeap::new(rt.alloc(), 1 << 16)?;
-    let dump = read(&heap, file, LIMITS, 14);
-    if dump.is_err() {
-        return Err(Fail::from("read"));
-    }
-    Ok(heap.used())
+/// Asserts how much of a heap a dump uses.
+fn assert_used(rt: &impl Abort, alloc: Global, sample: Sample<'_>, size: usize) {
+    let file = file_of(rt, alloc, sample);
+    let heap = LocalHeap::new(alloc, 1 << 16).expect(rt, "a heap");
+    let _dump = read(&heap, &file, LIMITS, 14).expect(rt, "a value");
+    assert_same(rt, heap.used(), size);
 }
 
 /// How much of a heap a list of so many bytes takes.
@@ -79,35 +81,37 @@ fn block(bytes: usize) -> usize {
     bytes.div_ceil(16).saturating_mul(16)
 }
 
-#[test]
-fn memory_is_that_of_the_lists_which_take_their_room_once(rt: HostRuntime) -> Result<(), Fail> {
-    let file = file_of_numbers(rt.alloc(), 2, &CRASH)?;
+/// How much two streams take, a thread, and three parts of one block each.
+fn crash_size() -> usize {
     let streams = block(2 * size_of::<Stream<&LocalHeap>>());
     let threads = block(size_of::<Thread<&LocalHeap>>());
-    // And three parts of one block each.
-    let value = streams.saturating_add(threads).saturating_add(48);
-    assert_same(&rt, used_by(&rt, &file)?, value);
-    // Beside it stand a directory of 32 bytes, a window of 176 and a name of 32.
-    assert_same(
-        &rt,
-        fault_in(&rt, value.saturating_add(224), &file)?,
-        (Some(ReadFault::Memory), 0),
-    );
-    assert_same(
-        &rt,
-        fault_in(&rt, value.saturating_add(240), &file)?,
-        (None, 0),
-    );
-    Ok(())
+    streams.saturating_add(threads).saturating_add(48)
 }
 
 #[test]
-fn list_of_records_takes_no_more_room_than_its_records(rt: HostRuntime) -> Result<(), Fail> {
-    let file = file_of_numbers(rt.alloc(), 1, &OVERLAPPING)?;
+fn memory_is_that_of_the_lists_which_take_their_room_once(rt: HostRuntime) {
+    let size = crash_size();
+    assert_used(&rt, rt.alloc(), CRASH_FILE, size);
+    // Beside it stand a directory of 32 bytes, a window of 176 and a name of 32.
+    let less = size.saturating_add(224);
+    assert_read_in(&rt, rt.alloc(), less, CRASH_FILE, Some(ReadFault::Memory));
+    let enough = size.saturating_add(240);
+    assert_read_in(&rt, rt.alloc(), enough, CRASH_FILE, None);
+}
+
+/// How much a stream takes, two ranges, and the bytes of each of these, a block each.
+fn ranges_size() -> usize {
     let streams = block(size_of::<Stream<&LocalHeap>>());
     let ranges = block(2 * size_of::<MemoryRange<&LocalHeap>>());
-    // And the bytes of each range, a block each.
-    let value = streams.saturating_add(ranges).saturating_add(32);
-    assert_same(&rt, used_by(&rt, &file)?, value);
-    Ok(())
+    streams.saturating_add(ranges).saturating_add(32)
+}
+
+#[test]
+fn list_of_records_takes_no_more_room_than_its_records(rt: HostRuntime) {
+    assert_used(
+        &rt,
+        rt.alloc(),
+        Sample::Numbers(1, &OVERLAPPING),
+        ranges_size(),
+    );
 }

@@ -3,7 +3,10 @@ use crate::same::assert_same;
 use mdmp_dump::{Fields, PartSize};
 use mdmp_source::Location;
 use mdmp_wire::{AnyRecord, Descriptor, ThreadRecord};
-use std::test::Fail;
+use std::process::Abort;
+
+/// Where no byte stands.
+const NOWHERE: Location = Location { size: 0, rva: 0 };
 
 /// A thread whose stack and registers have these locations.
 fn thread(stack: Location, thread_context: Location) -> AnyRecord {
@@ -29,41 +32,52 @@ fn placed(fields: &Fields, at: u64) -> Option<AnyRecord> {
     Some(fields.placed(at))
 }
 
-#[test]
-fn parts_are_placed_one_behind_the_other(rt: HostRuntime) -> Result<(), Fail> {
-    let nowhere = Location { size: 0, rva: 0 };
+/// How much room the name and parts of a record take.
+fn room_of(fields: &Fields) -> u128 {
+    fields.room()
+}
+
+/// Asserts how much room the stack and the registers of a thread take, and where they are written from 100 on.
+fn assert_placed(
+    rt: &impl Abort,
+    sizes: (PartSize, PartSize),
+    room: u128,
+    stack: Location,
+    thread_context: Location,
+) {
+    let (first, second) = sizes;
     let fields = Fields {
-        wire: thread(nowhere, nowhere),
-        parts: [PartSize::Size(6), PartSize::Size(4), PartSize::NoPart],
+        wire: thread(NOWHERE, NOWHERE),
+        parts: [first, second, PartSize::NoPart],
     };
-    assert_same(&rt, fields.room(), 12);
-    let expected = thread(
-        Location { size: 6, rva: 100 },
-        Location { size: 4, rva: 108 },
-    );
-    assert_same(&rt, placed(&fields, 100), Some(expected));
-    Ok(())
+    assert_same(rt, room_of(&fields), room);
+    let expected = thread(stack, thread_context);
+    assert_same(rt, placed(&fields, 100), Some(expected));
 }
 
 #[test]
-fn absent_and_empty_parts_take_no_room(rt: HostRuntime) -> Result<(), Fail> {
-    let nowhere = Location { size: 0, rva: 0 };
-    let fields = Fields {
-        wire: thread(nowhere, nowhere),
-        parts: [PartSize::Absent(256), PartSize::Size(0), PartSize::NoPart],
-    };
-    assert_same(&rt, fields.room(), 0);
-    assert_same(
-        &rt,
-        placed(&fields, 100),
-        Some(thread(Location { size: 256, rva: 0 }, nowhere)),
-    );
-    Ok(())
+fn parts_are_placed_one_behind_the_other(rt: HostRuntime) {
+    let stack = Location { size: 6, rva: 100 };
+    let context = Location { size: 4, rva: 108 };
+    let sizes = (PartSize::Size(6), PartSize::Size(4));
+    assert_placed(&rt, sizes, 12, stack, context);
+}
+
+#[test]
+fn absent_and_empty_parts_take_no_room(rt: HostRuntime) {
+    let stack = Location { size: 256, rva: 0 };
+    let sizes = (PartSize::Absent(256), PartSize::Size(0));
+    assert_placed(&rt, sizes, 0, stack, NOWHERE);
+}
+
+/// Asserts how many bytes a part has.
+fn assert_size(rt: &impl Abort, part: PartSize, size: u64) {
+    assert_same(rt, part.size(), size);
 }
 
 #[test]
 fn size_of_a_part_is_that_of_its_bytes(rt: HostRuntime) {
-    assert_same(&rt, PartSize::Size(5).size(), 5);
-    assert_same(&rt, PartSize::Absent(5).size(), 0);
-    assert_same(&rt, PartSize::NoPart.size(), 0);
+    assert_size(&rt, PartSize::Size(5), 5);
+    assert_size(&rt, PartSize::Absent(5), 0);
+    assert_size(&rt, PartSize::NoPart, 0);
 }

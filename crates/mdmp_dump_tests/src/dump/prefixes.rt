@@ -1,25 +1,13 @@
 //! A dump that is cut at each of its bytes.
-use super::built::read;
-use crate::files::NAMED;
-use crate::same::{assert_same, assert_same_at};
-use mdmp_dump::{FileView, PartName, ReadFault};
-use mdmp_lister::{Choice, FaultKind, ListFault, OpenFault};
+use super::built::fault_of;
+use crate::files::{CRASH_FILE, NAMED, file_of};
+use crate::same::assert_same_at;
+use crate::viewed::view_fault_of;
+use mdmp_dump::{PartName, ReadFault};
+use mdmp_lister::{FaultKind, ListFault, OpenFault};
 use mdmp_source::{MemoryStore, Source};
-use mdmp_test_support::{CRASH, file_of_numbers};
 use std::alloc::Global;
 use std::process::Abort;
-use std::test::Fail;
-
-/// Why the first bytes of a file, as many as this, give no value with parts of at most 100 bytes, and no view.
-type PrefixRefusals = (Option<ReadFault>, Option<ReadFault>);
-
-fn refusals_of(alloc: Global, file: &[u8], size: usize) -> Result<PrefixRefusals, Fail> {
-    let first = file.get(..size).ok_or("a prefix")?;
-    let value = read(alloc, first, NAMED, 100).err();
-    let source = Source::new(MemoryStore::new(first));
-    let view = FileView::open(alloc, source, NAMED, Choice::All).err();
-    Ok((value, view))
-}
 
 /// A stream that stands outside.
 fn stream_outside(entry: u32, offset: u64, size: u64) -> Option<ReadFault> {
@@ -43,41 +31,54 @@ fn part_outside(entry: u32, part: PartName, offset: u128, size: u64) -> Option<R
     })
 }
 
-/// Each prefix of `from` to `to` bytes gives neither a value nor a view, for this reason, or both where there
-/// is none.
-fn assert_span(
+/// Asserts that the first bytes of a file, as many as this, give neither a value with parts of at most 100
+/// bytes nor a view, for this reason, or both where there is none.
+fn assert_prefix(
     rt: &impl Abort,
     alloc: Global,
     file: &[u8],
-    from: usize,
-    to: usize,
+    size: usize,
     fault: Option<ReadFault>,
-) -> Result<(), Fail> {
-    for size in from..to.saturating_add(1) {
-        assert_same_at(rt, &size, refusals_of(alloc, file, size)?, (fault, fault));
-    }
-    Ok(())
+) {
+    let first = file.get(..size).expect(rt, "a prefix");
+    assert_same_at(rt, &size, fault_of(alloc, first, NAMED, 100), fault);
+    let source = Source::new(MemoryStore::new(first));
+    assert_same_at(rt, &size, view_fault_of(alloc, source, NAMED), fault);
 }
 
-#[test]
-fn header_that_is_cut_is_too_short(rt: HostRuntime) -> Result<(), Fail> {
-    let crash = file_of_numbers(rt.alloc(), 2, &CRASH)?;
+/// Asserts it of each prefix that has fewer bytes than a header.
+fn assert_too_short(rt: &impl Abort, alloc: Global, file: &[u8]) {
     for size in 0..32 {
         let short = OpenFault::TooShort { size: size as u64 };
-        let fault = Some(ReadFault::Opening(short));
-        assert_same(&rt, refusals_of(rt.alloc(), &crash, size)?, (fault, fault));
+        assert_prefix(rt, alloc, file, size, Some(ReadFault::Opening(short)));
     }
-    Ok(())
 }
 
 #[test]
-fn each_prefix_of_a_dump_is_told_by_what_is_cut(rt: HostRuntime) -> Result<(), Fail> {
-    let crash = file_of_numbers(rt.alloc(), 2, &CRASH)?;
+fn header_that_is_cut_is_too_short(rt: HostRuntime) {
+    assert_too_short(&rt, rt.alloc(), &file_of(&rt, rt.alloc(), CRASH_FILE));
+}
+
+/// The fewest and the most bytes of some prefixes, and what comes of each of these.
+type PrefixSpan = (usize, usize, Option<ReadFault>);
+
+/// Asserts it of each prefix of some spans.
+fn assert_spans(rt: &impl Abort, alloc: Global, file: &[u8], spans: &[PrefixSpan]) {
+    for span in spans {
+        let (from, to, fault) = *span;
+        for size in from..to.saturating_add(1) {
+            assert_prefix(rt, alloc, file, size, fault);
+        }
+    }
+}
+
+#[test]
+fn each_prefix_of_a_dump_is_told_by_what_is_cut(rt: HostRuntime) {
     let directory = OpenFault::DirectoryOutside {
         offset: 32,
         size: 24,
     };
-    for (from, to, fault) in [
+    let spans = [
         (32, 55, Some(ReadFault::Opening(directory))),
         (56, 107, stream_outside(0, 56, 52)),
         (108, 111, part_outside(0, PartName::Stack, 108, 4)),
@@ -85,8 +86,11 @@ fn each_prefix_of_a_dump_is_told_by_what_is_cut(rt: HostRuntime) -> Result<(), F
         (118, 287, stream_outside(1, 120, 168)),
         (288, 291, part_outside(1, PartName::Context, 288, 4)),
         (292, 292, None),
-    ] {
-        assert_span(&rt, rt.alloc(), &crash, from, to, fault)?;
-    }
-    Ok(())
+    ];
+    assert_spans(
+        &rt,
+        rt.alloc(),
+        &file_of(&rt, rt.alloc(), CRASH_FILE),
+        &spans,
+    );
 }

@@ -1,92 +1,117 @@
 //! Files that give no dump.
-use super::built::read;
-use crate::files::{LEAST, named};
+use super::built::{fault_of, fault_of_source};
+use crate::files::{ABSENT_STACK_FILE, CRASH_FILE, DumpReading, LEAST, Sample, file_of};
 use crate::same::{assert_same, assert_same_at};
-use mdmp_dump::{PartName, ReadAnswered, ReadFault, read_dump, read_source};
+use mdmp_dump::{PartName, ReadAnswered, ReadFault, read_source};
 use mdmp_lister::{Choice, FaultKind, Limits, ListFault, OpenFault};
 use mdmp_source::{PatchyStore, Source, SourceFault};
-use mdmp_test_support::{ABSENT_STACK, COMMENT, CRASH, FAULTY, MEMORY64, file_of_numbers};
-use std::test::Fail;
+use mdmp_test_support::{ABSENT_STACK, COMMENT, FAULTY, MEMORY64};
+use std::alloc::Global;
+use std::process::Abort;
 
-/// Why a file gives no dump whose parts have at most so many bytes.
-fn fault_of(rt: &HostRuntime, file: &[u8], limits: Limits, parts: u64) -> Option<ReadFault> {
-    read(rt.alloc(), file, limits, parts).err()
+/// Asserts that a file is not read under these limits, for this reason.
+fn assert_fault(rt: &impl Abort, alloc: Global, reading: DumpReading<'_>, fault: ReadFault) {
+    let file = file_of(rt, alloc, reading.sample);
+    let found = fault_of(alloc, &file, reading.limits, reading.parts);
+    assert_same(rt, found, Some(fault));
+}
+
+/// Asserts it of a file that is read without names, and whose parts have at most so many bytes.
+fn assert_refused(
+    rt: &impl Abort,
+    alloc: Global,
+    sample: Sample<'_>,
+    parts: u64,
+    fault: ReadFault,
+) {
+    let reading = DumpReading {
+        sample,
+        limits: LEAST,
+        parts,
+    };
+    assert_fault(rt, alloc, reading, fault);
 }
 
 /// A part of the first entry, outside the file.
-fn outside(index: u64, part: PartName, offset: u128, size: u64) -> Option<ReadFault> {
-    Some(ReadFault::PartOutside {
+fn outside(index: u64, part: PartName, offset: u128, size: u64) -> ReadFault {
+    ReadFault::PartOutside {
         entry: 0,
         index,
         part,
         offset,
         size,
-    })
+    }
 }
 
 /// With a part of the first record of this entry the parts are too large.
-fn too_large(entry: u32) -> Option<ReadFault> {
-    Some(ReadFault::PartsTooLarge { entry, index: 0 })
+fn too_large(entry: u32) -> ReadFault {
+    ReadFault::PartsTooLarge { entry, index: 0 }
 }
 
 #[test]
 fn file_that_is_not_listed_gives_no_dump(rt: HostRuntime) {
-    let short = OpenFault::TooShort { size: 31 };
-    assert_same(
+    let short = ReadFault::Opening(OpenFault::TooShort { size: 31 });
+    assert_refused(&rt, rt.alloc(), Sample::Parts(&[], 31), 0, short);
+}
+
+#[test]
+fn parts_over_their_limit_give_no_dump(rt: HostRuntime) {
+    assert_refused(&rt, rt.alloc(), ABSENT_STACK_FILE, 0, too_large(0));
+    assert_refused(&rt, rt.alloc(), CRASH_FILE, 13, too_large(1));
+    assert_refused(
         &rt,
-        fault_of(&rt, &[0; 31], LEAST, 0),
-        Some(ReadFault::Opening(short)),
+        rt.alloc(),
+        Sample::Cut(1, &COMMENT, 49),
+        4,
+        too_large(0),
     );
 }
 
 #[test]
-fn parts_over_their_limit_give_no_dump(rt: HostRuntime) -> Result<(), Fail> {
-    let mut absent_stack = file_of_numbers(rt.alloc(), 1, &ABSENT_STACK)?;
-    absent_stack.truncate(97);
-    assert_same(&rt, fault_of(&rt, &absent_stack, LEAST, 0), too_large(0));
-    let crash = file_of_numbers(rt.alloc(), 2, &CRASH)?;
-    assert_same(&rt, fault_of(&rt, &crash, LEAST, 13), too_large(1));
-    let mut comment = file_of_numbers(rt.alloc(), 1, &COMMENT)?;
-    comment.truncate(49);
-    assert_same(&rt, fault_of(&rt, &comment, LEAST, 4), too_large(0));
-    Ok(())
-}
-
-#[test]
-fn part_outside_the_file_gives_no_dump(rt: HostRuntime) -> Result<(), Fail> {
-    let mut file = file_of_numbers(rt.alloc(), 1, &ABSENT_STACK)?;
-    file.truncate(96);
-    let context = outside(0, PartName::Context, 96, 1);
-    assert_same(&rt, fault_of(&rt, &file, LEAST, 1), context);
-    Ok(())
+fn part_outside_the_file_gives_no_dump(rt: HostRuntime) {
+    let cut = Sample::Cut(1, &ABSENT_STACK, 96);
+    assert_refused(
+        &rt,
+        rt.alloc(),
+        cut,
+        1,
+        outside(0, PartName::Context, 96, 1),
+    );
 }
 
 #[test]
 fn first_of_two_reasons_is_told(rt: HostRuntime) {
-    let memory = outside(1, PartName::Memory, 96, 4);
-    assert_same(&rt, fault_of(&rt, &MEMORY64, LEAST, 4), memory);
-    assert_same(&rt, fault_of(&rt, &MEMORY64, LEAST, 3), too_large(0));
+    let wide = Sample::Parts(&[&MEMORY64], 98);
+    assert_refused(
+        &rt,
+        rt.alloc(),
+        wide,
+        4,
+        outside(1, PartName::Memory, 96, 4),
+    );
+    assert_refused(&rt, rt.alloc(), wide, 3, too_large(0));
 }
 
 #[test]
-fn long_name_gives_no_dump(rt: HostRuntime) -> Result<(), Fail> {
-    let file = named(&rt, b"\x0a\0\0\0a\0b\0c\0d\0e\0")?;
-    let limits = Limits {
-        window: 168,
-        name: 8,
+fn long_name_gives_no_dump(rt: HostRuntime) {
+    let reading = DumpReading {
+        sample: Sample::Named(b"\x0a\0\0\0a\0b\0c\0d\0e\0"),
+        limits: Limits {
+            window: 168,
+            name: 8,
+        },
+        parts: 0,
     };
     let long = ReadFault::NameTooLong {
         entry: 0,
         index: 0,
         length: 10,
     };
-    assert_same(&rt, fault_of(&rt, &file, limits, 0), Some(long));
-    Ok(())
+    assert_fault(&rt, rt.alloc(), reading, long);
 }
 
 #[test]
-fn fault_of_the_listing_gives_no_dump(rt: HostRuntime) -> Result<(), Fail> {
-    let faulty = file_of_numbers(rt.alloc(), 3, &FAULTY)?;
+fn fault_of_the_listing_gives_no_dump(rt: HostRuntime) {
     let name = ListFault {
         entry: 1,
         index: Some(0),
@@ -94,13 +119,8 @@ fn fault_of_the_listing_gives_no_dump(rt: HostRuntime) -> Result<(), Fail> {
         offset: 4294967295,
         size: 4,
     };
-    assert_same(
-        &rt,
-        fault_of(&rt, &faulty, LEAST, 0),
-        Some(ReadFault::List(name)),
-    );
-    let mut comment = file_of_numbers(rt.alloc(), 1, &COMMENT)?;
-    comment.truncate(48);
+    let faulty = Sample::Numbers(3, &FAULTY);
+    assert_refused(&rt, rt.alloc(), faulty, 0, ReadFault::List(name));
     let stream = ListFault {
         entry: 0,
         index: None,
@@ -108,12 +128,8 @@ fn fault_of_the_listing_gives_no_dump(rt: HostRuntime) -> Result<(), Fail> {
         offset: 44,
         size: 5,
     };
-    assert_same(
-        &rt,
-        fault_of(&rt, &comment, LEAST, 4),
-        Some(ReadFault::List(stream)),
-    );
-    Ok(())
+    let comment = Sample::Cut(1, &COMMENT, 48);
+    assert_refused(&rt, rt.alloc(), comment, 4, ReadFault::List(stream));
 }
 
 /// Where a store that fails at this call failed, if the fault tells it.
@@ -135,41 +151,61 @@ fn place_of(fault: ReadFault) -> Option<u64> {
     }
 }
 
-#[test]
-fn store_that_fails_gives_no_dump(rt: HostRuntime) -> Result<(), Fail> {
-    let file = file_of_numbers(rt.alloc(), 2, &CRASH)?;
-    // The header, the directory, then of each entry its stream, by one fetch, and the parts of its record.
-    for (call, place) in [
-        (0, Some(0)),
-        (1, Some(32)),
-        (2, Some(56)),
-        (3, Some(108)),
-        (4, Some(112)),
-        (5, Some(120)),
-        (6, Some(288)),
-        (7, None),
-    ] {
-        let store = PatchyStore::new(&file, &[4096], Some(call));
-        let read = read_dump(rt.alloc(), Source::new(store), LEAST, Choice::All, 14);
-        assert_same_at(&rt, &call, read.err().and_then(place_of), place);
+/// Where reading a file fails whose store fails at this call.
+fn place_in(alloc: Global, file: &[u8], call: u64) -> Option<u64> {
+    let source = Source::new(PatchyStore::new(file, &[4096], Some(call)));
+    match fault_of_source(alloc, source, LEAST, 14) {
+        Some(fault) => place_of(fault),
+        None => None,
     }
-    Ok(())
+}
+
+/// Asserts of each call of a store, from the first on, where reading a file fails that fails at it.
+fn assert_places(rt: &impl Abort, alloc: Global, sample: Sample<'_>, places: &[Option<u64>]) {
+    let file = file_of(rt, alloc, sample);
+    let mut call: u64 = 0;
+    for place in places {
+        assert_same_at(rt, &call, place_in(alloc, &file, call), *place);
+        call = call.saturating_add(1);
+    }
 }
 
 #[test]
-fn source_of_a_file_comes_back(rt: HostRuntime) -> Result<(), Fail> {
-    let file = file_of_numbers(rt.alloc(), 2, &CRASH)?;
-    for (call, place, calls) in [(3, Some(108), 4), (7, None, 7)] {
-        let source = Source::new(PatchyStore::new(&file, &[4096], Some(call)));
-        let ReadAnswered { answer, source } = read_source(
-            rt.alloc(),
-            source,
-            LEAST,
-            Choice::All,
-            14,
-        );
-        assert_same(&rt, answer.err().and_then(place_of), place);
-        assert_same(&rt, source.calls(), calls);
-    }
-    Ok(())
+fn store_that_fails_gives_no_dump(rt: HostRuntime) {
+    // The header, the directory, then of each entry its stream, by one fetch, and the parts of its record.
+    let places = [
+        Some(0),
+        Some(32),
+        Some(56),
+        Some(108),
+        Some(112),
+        Some(120),
+        Some(288),
+        None,
+    ];
+    assert_places(&rt, rt.alloc(), CRASH_FILE, &places);
+}
+
+/// Where reading a file fails whose store fails at this call, and how many calls its source has made that
+/// comes back.
+fn place_and_calls(alloc: Global, file: &[u8], call: u64) -> (Option<u64>, u128) {
+    let source = Source::new(PatchyStore::new(file, &[4096], Some(call)));
+    let ReadAnswered { answer, source } = read_source(alloc, source, LEAST, Choice::All, 14);
+    let place = match answer {
+        Ok(_) => None,
+        Err(fault) => place_of(fault),
+    };
+    (place, source.calls())
+}
+
+/// Asserts where reading the thread and the exception fails, and how many calls were made.
+fn assert_comes_back(rt: &impl Abort, alloc: Global, call: u64, place: Option<u64>, calls: u128) {
+    let file = file_of(rt, alloc, CRASH_FILE);
+    assert_same(rt, place_and_calls(alloc, &file, call), (place, calls));
+}
+
+#[test]
+fn source_of_a_file_comes_back(rt: HostRuntime) {
+    assert_comes_back(&rt, rt.alloc(), 3, Some(108), 4);
+    assert_comes_back(&rt, rt.alloc(), 7, None, 7);
 }

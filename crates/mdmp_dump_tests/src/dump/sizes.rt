@@ -1,11 +1,14 @@
 //! Sizes over 0.
+use super::built::assert_printed;
 use crate::same::{assert_same, assert_that};
 use mdmp_dump::PositiveSize;
-use std::test::Fail;
 
 /// The size, if it is over 0.
 fn told(size: u32) -> Option<u32> {
-    PositiveSize::new(size).map(|positive| positive.get())
+    match PositiveSize::new(size) {
+        Some(positive) => Some(positive.get()),
+        None => None,
+    }
 }
 
 #[test]
@@ -20,10 +23,9 @@ fn size_of_zero_is_none(rt: HostRuntime) {
 }
 
 #[test]
-fn sizes_are_compared_and_printed(rt: HostRuntime) -> Result<(), Fail> {
+fn sizes_are_compared_and_printed(rt: HostRuntime) {
     assert_same(&rt, PositiveSize::new(7), PositiveSize::new(7));
     assert_that(&rt, PositiveSize::new(7) != PositiveSize::new(8));
-    let text = format!(in rt.alloc(); "{:?}", PositiveSize::new(7))?;
-    assert_same(&rt, text.as_str(), "Some(PositiveSize { size: 7 })");
-    Ok(())
+    let text = "Some(PositiveSize { size: 7 })";
+    assert_printed(&rt, rt.alloc(), PositiveSize::new(7), text);
 }

@@ -2,38 +2,28 @@
 ghost use Rattle.std.specs.Prelude.{◌≡◌, ◌<◌, length, IsTrue};
 ghost use Rattle.mdmp_dump.specs.Shape.{head_of, stream_at};
 
-use super::built::read;
-use crate::files::{LEAST, NAMED};
+use super::built::{records, value_of};
+use crate::files::{ABSENT_STACK_READING, DumpReading, MEMORY64_READING, SIX_READING};
 use crate::same::{assert_same, assert_same_at};
-use mdmp_dump::{DumpView, Fields, HeaderFields, Kind, PartSize, ViewFault};
+use mdmp_dump::{Dump, DumpView, Fields, HeaderFields, Kind, PartSize, ViewFault};
 use mdmp_source::Location;
-use mdmp_test_support::{ABSENT_STACK, MEMORY64, SIX, file_of_numbers};
 use mdmp_wire::{AnyRecord, Descriptor, Descriptor64, ThreadRecord};
-use std::test::Fail;
+use std::alloc::Global;
+use std::process::Abort;
 
-/// What is told of a stream.
-#[derive(Clone, Copy, Debug, PartialEq, Eq)]
-pub struct StreamTold {
-    kind: Kind,
-    body: u64,
-    parts: u64,
-}
+/// What a stream is, how many bytes its body has, and how many its names and parts take.
+pub type StreamTold = (Kind, u64, u64);
 
 /// What is told of a stream, if there is one with this number.
 pub fn told_of<V: DumpView>(view: &mut V, stream: u64) -> Option<StreamTold> {
     if stream >= view.streams() {
         return None;
     }
-    Some(StreamTold {
-        kind: view.kind(stream),
-        body: view.body_size(stream),
-        parts: view.parts_size(stream),
-    })
-}
-
-/// The numbers of the header.
-fn header_of<V: DumpView>(view: &mut V) -> HeaderFields {
-    view.header()
+    Some((
+        view.kind(stream),
+        view.body_size(stream),
+        view.parts_size(stream),
+    ))
 }
 
 /// The bytes that stand before the records of a stream of this type.
@@ -65,99 +55,147 @@ pub fn has_records<V: DumpView>(view: &mut V, stream: u64) -> bool
     }
 }
 
-/// The first record of a stream, if it has records, and of one of its parts the bytes from a place
-/// on, if there are so many; or the fault of the view.
-pub fn first_or_fault<V: DumpView>(
+/// A call of a view.
+#[derive(Clone, Copy, Debug, PartialEq, Eq)]
+pub enum ViewCall {
+    Rewind,
+    NextRecord,
+    Part,
+}
+
+/// The fault of a view, and the call that told it.
+pub type CallFault = (ViewCall, ViewFault);
+
+/// What of a view is asked for: bytes of a stream, of its own or of a part of its first record, from a place
+/// on.
+#[derive(Clone, Copy, Debug)]
+pub struct Wanted {
+    pub stream: u64,
+    pub which: usize,
+    pub at: u64,
+}
+
+/// Bytes of a part of a stream, from a place on.
+pub fn bytes_at(stream: u64, which: usize, at: u64) -> Wanted {
+    Wanted { stream, which, at }
+}
+
+/// The first record of a stream, if it has records, and of one of its parts the bytes from a place on, if
+/// there are so many.
+pub fn first_record<V: DumpView>(
     view: &mut V,
-    stream: u64,
-    which: usize,
-    at: u64,
+    wanted: Wanted,
     out: &mut [u8],
-) -> Option<Result<Fields, ViewFault>> {
+) -> Result<Option<Fields>, CallFault> {
+    let Wanted { stream, which, at } = wanted;
     if stream >= view.streams() || !has_records(view, stream) {
-        return None;
+        return Ok(None);
     }
     if let Err(fault) = view.rewind(stream) {
-        return Some(Err(fault));
+        return Err((ViewCall::Rewind, fault));
     }
     let fields = match view.next_record() {
         Ok(fields) => fields,
-        Err(fault) => return Some(Err(fault)),
+        Err(fault) => return Err((ViewCall::NextRecord, fault)),
     };
     if let Some(PartSize::Size(size)) = fields.parts.get(which) {
         if at <= *size && out.len() as u64 <= *size - at {
             if let Err(fault) = view.part(which, at, out) {
-                return Some(Err(fault));
+                return Err((ViewCall::Part, fault));
             }
         }
     }
-    Some(Ok(fields))
+    Ok(Some(fields))
 }
 
-/// The first record of a stream, if it has records, and of one of its parts the bytes from a place
-/// on, if there are so many.
-fn first_record<V: DumpView>(
+/// Whether a stream is one of raw bytes, and of these those from a place on, if there are so many.
+pub fn raw_bytes<V: DumpView>(
     view: &mut V,
-    stream: u64,
-    which: usize,
-    at: u64,
+    wanted: Wanted,
     out: &mut [u8],
-) -> Option<Fields> {
-    first_or_fault(view, stream, which, at, out)?.ok()
-}
-
-/// The raw bytes of a stream from a place on, if there are so many.
-pub fn raw_bytes<V: DumpView>(view: &mut V, stream: u64, at: u64, out: &mut [u8]) -> Option<()> {
+) -> Result<bool, CallFault> {
+    let Wanted { stream, at, .. } = wanted;
     if stream >= view.streams() {
-        return None;
+        return Ok(false);
     }
     let Kind::Raw(_) = view.kind(stream) else {
-        return None;
+        return Ok(false);
     };
     let size = view.body_size(stream);
-    view.rewind(stream).ok()?;
+    if let Err(fault) = view.rewind(stream) {
+        return Err((ViewCall::Rewind, fault));
+    }
     if at <= size && out.len() as u64 <= size - at {
-        view.part(0, at, out).ok()?;
+        if let Err(fault) = view.part(0, at, out) {
+            return Err((ViewCall::Part, fault));
+        }
     }
-    Some(())
+    Ok(true)
+}
+
+/// Asserts what is told of each stream of a dump.
+fn assert_told(rt: &impl Abort, alloc: Global, reading: DumpReading<'_>, streams: &[StreamTold]) {
+    let dump = value_of(rt, alloc, reading);
+    let mut view = dump.view();
+    let mut stream: u64 = 0;
+    for told in streams {
+        assert_same_at(rt, &stream, told_of(&mut view, stream), Some(*told));
+        stream = stream.saturating_add(1);
+    }
+    assert_same(rt, told_of(&mut view, stream), None);
 }
 
 #[test]
-fn streams_are_told_by_their_kinds_and_sizes(rt: HostRuntime) -> Result<(), Fail> {
-    let six = read(
+fn streams_are_told_by_their_kinds_and_sizes(rt: HostRuntime) {
+    let streams = [
+        (Kind::Known(7), 56, 36),
+        (Kind::Known(3), 52, 12),
+        (Kind::Known(4), 4, 0),
+        (Kind::Known(6), 168, 4),
+        (Kind::Known(5), 4, 0),
+        (Kind::Raw(12), 4, 0),
+    ];
+    assert_told(&rt, rt.alloc(), SIX_READING, &streams);
+}
+
+/// Asserts what is given as the first record of a stream of a dump.
+fn assert_record(
+    rt: &impl Abort,
+    alloc: Global,
+    reading: DumpReading<'_>,
+    stream: u64,
+    fields: Option<Fields>,
+) {
+    let dump = value_of(rt, alloc, reading);
+    let found = first_record(&mut dump.view(), bytes_at(stream, 0, 0), &mut []);
+    assert_same(rt, found, Ok(fields));
+}
+
+/// Asserts that the first record of a stream of a dump is given, and these bytes of one of its parts.
+fn assert_part(
+    rt: &impl Abort,
+    alloc: Global,
+    reading: DumpReading<'_>,
+    wanted: Wanted,
+    expected: &[u8],
+) {
+    let mut buffer = [0; 8];
+    let out = buffer.get_mut(..expected.len()).expect(rt, "room");
+    let dump = value_of(rt, alloc, reading);
+    let found = first_record(&mut dump.view(), wanted, out);
+    assert_same_at(rt, &wanted, matches!(found, Ok(Some(_))), true);
+    let out = buffer.get(..expected.len());
+    assert_same_at(rt, &wanted, out, Some(expected));
+}
+
+#[test]
+fn memory_of_64_bits_is_told_by_its_bytes(rt: HostRuntime) {
+    assert_told(
+        &rt,
         rt.alloc(),
-        &file_of_numbers(rt.alloc(), 6, &SIX)?,
-        NAMED,
-        18,
-    )?;
-    let mut view = six.view();
-    for (stream, kind, body, parts) in [
-        (0, Kind::Known(7), 56, 36),
-        (1, Kind::Known(3), 52, 12),
-        (2, Kind::Known(4), 4, 0),
-        (3, Kind::Known(6), 168, 4),
-        (4, Kind::Known(5), 4, 0),
-        (5, Kind::Raw(12), 4, 0),
-    ] {
-        let told = StreamTold { kind, body, parts };
-        assert_same_at(&rt, &stream, told_of(&mut view, stream), Some(told));
-    }
-    assert_same(&rt, told_of(&mut view, 6), None);
-    Ok(())
-}
-
-#[test]
-fn memory_of_64_bits_is_told_by_its_bytes(rt: HostRuntime) -> Result<(), Fail> {
-    let mut file = MEMORY64.to_vec(rt.alloc())?;
-    file.extend_from_slice(b"GH")?;
-    let dump = read(rt.alloc(), &file, LEAST, 8)?;
-    let told = StreamTold {
-        kind: Kind::Known(9),
-        body: 48,
-        parts: 8,
-    };
-    assert_same(&rt, told_of(&mut dump.view(), 0), Some(told));
-    let mut out = [0; 3];
+        MEMORY64_READING,
+        &[(Kind::Known(9), 48, 8)],
+    );
     let fields = Fields {
         wire: AnyRecord::Memory64(Descriptor64 {
             start_of_memory_range: 0x1000,
@@ -165,115 +203,95 @@ fn memory_of_64_bits_is_told_by_its_bytes(rt: HostRuntime) -> Result<(), Fail> {
         }),
         parts: [PartSize::Size(4), PartSize::NoPart, PartSize::NoPart],
     };
-    assert_same(
-        &rt,
-        first_record(&mut dump.view(), 0, 0, 1, &mut out),
-        Some(fields),
-    );
-    assert_same(&rt, out, *b"BCD");
-    Ok(())
+    assert_record(&rt, rt.alloc(), MEMORY64_READING, 0, Some(fields));
+    assert_part(&rt, rt.alloc(), MEMORY64_READING, bytes_at(0, 0, 1), b"BCD");
+}
+
+/// The numbers of the header that the view of a dump gives.
+fn header_of(dump: &Dump<Global>) -> HeaderFields {
+    dump.view().header()
 }
 
 #[test]
-fn numbers_of_the_header_are_given(rt: HostRuntime) -> Result<(), Fail> {
-    let mut dump = read(rt.alloc(), &file_of_numbers(rt.alloc(), 0, &[])?, LEAST, 0)?;
-    dump.version_high = 1;
-    dump.checksum = 2;
-    dump.time = 3;
-    dump.flags = 4;
+fn numbers_of_the_header_are_given(rt: HostRuntime) {
+    let dump = Dump {
+        version_high: 1,
+        checksum: 2,
+        time: 3,
+        flags: 4,
+        streams: records(&rt, rt.alloc(), []),
+    };
     let header = HeaderFields {
         version_high: 1,
         checksum: 2,
         time: 3,
         flags: 4,
     };
-    assert_same(&rt, header_of(&mut dump.view()), header);
-    Ok(())
+    assert_same(&rt, header_of(&dump), header);
+}
+
+/// Where nothing is.
+const NOWHERE: Location = Location { size: 0, rva: 0 };
+
+/// A thread, whose stack begins there, without its locations.
+fn thread(teb: u64, priority_class: u32) -> AnyRecord {
+    AnyRecord::Thread(ThreadRecord {
+        thread_id: 7,
+        suspend_count: 0,
+        priority_class,
+        priority: 0,
+        teb,
+        stack: Descriptor {
+            start_of_memory_range: 0x7000,
+            memory: NOWHERE,
+        },
+        thread_context: NOWHERE,
+    })
 }
 
 #[test]
-fn record_is_given_without_its_locations(rt: HostRuntime) -> Result<(), Fail> {
-    let six = read(
-        rt.alloc(),
-        &file_of_numbers(rt.alloc(), 6, &SIX)?,
-        NAMED,
-        18,
-    )?;
-    let nowhere = Location { size: 0, rva: 0 };
+fn record_is_given_without_its_locations(rt: HostRuntime) {
     let fields = Fields {
-        wire: AnyRecord::Thread(ThreadRecord {
-            thread_id: 7,
-            suspend_count: 0,
-            priority_class: 32,
-            priority: 0,
-            teb: 0x5000,
-            stack: Descriptor {
-                start_of_memory_range: 0x7000,
-                memory: nowhere,
-            },
-            thread_context: nowhere,
-        }),
+        wire: thread(0x5000, 32),
         parts: [PartSize::Size(4), PartSize::Size(6), PartSize::NoPart],
     };
-    let mut view = six.view();
-    assert_same(&rt, first_record(&mut view, 1, 0, 0, &mut []), Some(fields));
-    assert_same(&rt, first_record(&mut view, 2, 0, 0, &mut []), None);
-    Ok(())
+    assert_record(&rt, rt.alloc(), SIX_READING, 1, Some(fields));
+    assert_record(&rt, rt.alloc(), SIX_READING, 2, None);
 }
 
 #[test]
-fn absent_part_is_given_as_its_size(rt: HostRuntime) -> Result<(), Fail> {
-    let mut file = file_of_numbers(rt.alloc(), 1, &ABSENT_STACK)?;
-    file.truncate(97);
-    let dump = read(rt.alloc(), &file, LEAST, 1)?;
-    let parts = first_record(&mut dump.view(), 0, 0, 0, &mut []).map(|fields| fields.parts);
-    let expected = [PartSize::Absent(256), PartSize::Size(1), PartSize::NoPart];
-    assert_same(&rt, parts, Some(expected));
-    Ok(())
+fn absent_part_is_given_as_its_size(rt: HostRuntime) {
+    let fields = Fields {
+        wire: thread(0, 0),
+        parts: [PartSize::Absent(256), PartSize::Size(1), PartSize::NoPart],
+    };
+    assert_record(&rt, rt.alloc(), ABSENT_STACK_READING, 0, Some(fields));
 }
 
 #[test]
-fn parts_are_given_by_pieces(rt: HostRuntime) -> Result<(), Fail> {
-    let six = read(
-        rt.alloc(),
-        &file_of_numbers(rt.alloc(), 6, &SIX)?,
-        NAMED,
-        18,
-    )?;
-    let mut view = six.view();
-    let rows: [(u64, usize, u64, &[u8]); 9] = [
-        (0, 0, 0, b"S\0e"),
-        (0, 0, 3, b"\0r\0v"),
-        (0, 0, 26, b"1\0"),
-        (1, 0, 0, b"STAK"),
-        (1, 1, 0, &[1, 2, 3, 4]),
-        (1, 1, 4, &[5, 6]),
-        (1, 1, 6, &[]),
-        (3, 0, 0, &[0xaa]),
-        (3, 0, 1, &[0xbb, 0xcc, 0xdd]),
-    ];
-    for (stream, which, at, expected) in rows {
-        let mut buffer = [0; 8];
-        let out = buffer.get_mut(..expected.len()).ok_or("room")?;
-        let given = first_record(&mut view, stream, which, at, out).is_some();
-        assert_same_at(&rt, &(stream, which, at), given, true);
-        let out = buffer.get(..expected.len());
-        assert_same_at(&rt, &(stream, which, at), out, Some(expected));
-    }
-    Ok(())
+fn parts_are_given_by_pieces(rt: HostRuntime) {
+    let six = SIX_READING;
+    assert_part(&rt, rt.alloc(), six, bytes_at(0, 0, 0), b"S\0e");
+    assert_part(&rt, rt.alloc(), six, bytes_at(0, 0, 3), b"\0r\0v");
+    assert_part(&rt, rt.alloc(), six, bytes_at(0, 0, 26), b"1\0");
+    assert_part(&rt, rt.alloc(), six, bytes_at(1, 0, 0), b"STAK");
+    assert_part(&rt, rt.alloc(), six, bytes_at(1, 1, 0), &[1, 2, 3, 4]);
+    assert_part(&rt, rt.alloc(), six, bytes_at(1, 1, 4), &[5, 6]);
+    assert_part(&rt, rt.alloc(), six, bytes_at(1, 1, 6), &[]);
+    assert_part(&rt, rt.alloc(), six, bytes_at(3, 0, 0), &[0xaa]);
+    assert_part(&rt, rt.alloc(), six, bytes_at(3, 0, 1), &[0xbb, 0xcc, 0xdd]);
 }
 
-#[test]
-fn raw_bytes_are_given_by_pieces(rt: HostRuntime) -> Result<(), Fail> {
-    let six = read(
-        rt.alloc(),
-        &file_of_numbers(rt.alloc(), 6, &SIX)?,
-        NAMED,
-        18,
-    )?;
+/// Asserts what is found where two bytes of a stream of the six are asked for.
+fn assert_raw(rt: &impl Abort, alloc: Global, wanted: Wanted, is_raw: bool, expected: [u8; 2]) {
+    let six = value_of(rt, alloc, SIX_READING);
     let mut out = [0; 2];
-    assert_same(&rt, raw_bytes(&mut six.view(), 5, 1, &mut out), Some(()));
-    assert_same(&rt, out, [2, 3]);
-    assert_same(&rt, raw_bytes(&mut six.view(), 4, 0, &mut out), None);
-    Ok(())
+    let found = raw_bytes(&mut six.view(), wanted, &mut out);
+    assert_same(rt, (found, out), (Ok(is_raw), expected));
+}
+
+#[test]
+fn raw_bytes_are_given_by_pieces(rt: HostRuntime) {
+    assert_raw(&rt, rt.alloc(), bytes_at(5, 0, 1), true, [2, 3]);
+    assert_raw(&rt, rt.alloc(), bytes_at(4, 0, 0), false, [0, 0]);
 }

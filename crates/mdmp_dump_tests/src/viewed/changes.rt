@@ -1,20 +1,15 @@
 //! Files that change while a view of them is opened or written.
-use super::{ViewOutcome, Written, reads_to_open, reads_to_write, written_by_turns};
-use crate::files::NAMED;
+use super::{Through, ViewOutcome, Written, reads_to_open, reads_to_write, written_by_turns};
+use crate::files::{NAMED, SIX_FILE, file_of};
 use crate::same::assert_same_at;
-use mdmp_test_support::{SIX, file_of_numbers};
 use std::alloc::Global;
 use std::process::Abort;
-use std::test::Fail;
 
 /// The file of six streams with another byte at this offset.
-fn changed(alloc: Global, six: &[u8], at: usize, byte: u8) -> Result<Vec<u8, Global>, Fail> {
-    let mut file = six.to_vec(alloc)?;
-    match file.get_mut(at) {
-        Some(there) => *there = byte,
-        None => return Err(Fail::from("a byte of the file")),
-    }
-    Ok(file)
+fn changed(rt: &impl Abort, alloc: Global, at: usize, byte: u8) -> Vec<u8, Global> {
+    let mut file = file_of(rt, alloc, SIX_FILE);
+    *file.get_mut(at).expect(rt, "a byte of the file") = byte;
+    file
 }
 
 /// Asserts that what went out has the length that was told, or is shorter where the writing stopped.
@@ -31,6 +26,12 @@ fn assert_length(rt: &impl Abort, turn: u64, written: &Written) {
         ViewOutcome::Stopped(_) => assert_same_at(rt, &turn, bytes < written.told, true),
     }
 }
+
+/// How the files are written.
+const BY_SEVEN: Through = Through {
+    limits: NAMED,
+    room: 7,
+};
 
 /// A byte of the file of six streams, and another number in its place.
 const CHANGES: [(usize, u8); 18] = [
@@ -54,34 +55,46 @@ const CHANGES: [(usize, u8); 18] = [
     (440, 9), // a byte of the last stream
 ];
 
-#[test]
-fn file_that_changes_is_never_written_with_another_length(rt: HostRuntime) -> Result<(), Fail> {
-    let six = file_of_numbers(rt.alloc(), 6, &SIX)?;
-    let reads = reads_to_write(rt.alloc(), &six, NAMED, 7)?;
-    for (at, byte) in CHANGES {
-        let other = changed(rt.alloc(), &six, at, byte)?;
-        for turn in 0..reads {
-            let written = written_by_turns(rt.alloc(), &six, &other, turn, NAMED, 7)?;
-            assert_length(&rt, turn, &written);
-        }
+/// Asserts the lengths of what is written of the six streams, a byte of which changes, at each read.
+fn assert_lengths(rt: &impl Abort, alloc: Global, reads: u64, at: usize, byte: u8) {
+    let six = file_of(rt, alloc, SIX_FILE);
+    let other = changed(rt, alloc, at, byte);
+    for turn in 0..reads {
+        let written = written_by_turns(rt, alloc, &six, &other, turn, BY_SEVEN);
+        assert_length(rt, turn, &written);
     }
-    Ok(())
 }
 
 #[test]
-fn list_that_changes_behind_the_opening_leaves_a_first_part(rt: HostRuntime) -> Result<(), Fail> {
-    let six = file_of_numbers(rt.alloc(), 6, &SIX)?;
-    let opened = reads_to_open(rt.alloc(), &six, NAMED)?;
-    let reads = reads_to_write(rt.alloc(), &six, NAMED, 7)?;
-    // The number of threads, the size of a name, the sizes of a stack and of two contexts.
-    for (at, byte) in [(196, 0), (160, 40), (232, 8), (240, 12), (425, 0xff)] {
-        let other = changed(rt.alloc(), &six, at, byte)?;
-        for turn in opened..reads {
-            let written = written_by_turns(rt.alloc(), &six, &other, turn, NAMED, 7)?;
-            let first = six.get(..written.bytes.len());
-            assert_same_at(&rt, &(at, turn), first, Some(written.bytes.as_slice()));
-            assert_length(&rt, turn, &written);
-        }
+fn file_that_changes_is_never_written_with_another_length(rt: HostRuntime) {
+    let six = file_of(&rt, rt.alloc(), SIX_FILE);
+    let reads = reads_to_write(&rt, rt.alloc(), &six, BY_SEVEN);
+    for (at, byte) in CHANGES {
+        assert_lengths(&rt, rt.alloc(), reads, at, byte);
     }
-    Ok(())
+}
+
+/// Asserts that a first part of the six streams is written, a byte of which changes, at each read behind the
+/// opening of their view.
+fn assert_first_part(rt: &impl Abort, alloc: Global, at: usize, byte: u8) {
+    let six = file_of(rt, alloc, SIX_FILE);
+    let other = changed(rt, alloc, at, byte);
+    let opened = reads_to_open(rt, alloc, &six, NAMED);
+    let reads = reads_to_write(rt, alloc, &six, BY_SEVEN);
+    for turn in opened..reads {
+        let written = written_by_turns(rt, alloc, &six, &other, turn, BY_SEVEN);
+        let first = six.get(..written.bytes.len());
+        assert_same_at(rt, &turn, first, Some(written.bytes.as_slice()));
+        assert_length(rt, turn, &written);
+    }
+}
+
+#[test]
+fn list_that_changes_behind_the_opening_leaves_a_first_part(rt: HostRuntime) {
+    // The number of threads, the size of a name, the sizes of a stack and of two contexts.
+    assert_first_part(&rt, rt.alloc(), 196, 0);
+    assert_first_part(&rt, rt.alloc(), 160, 40);
+    assert_first_part(&rt, rt.alloc(), 232, 8);
+    assert_first_part(&rt, rt.alloc(), 240, 12);
+    assert_first_part(&rt, rt.alloc(), 425, 0xff);
 }

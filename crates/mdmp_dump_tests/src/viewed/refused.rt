@@ -1,72 +1,53 @@
 //! Files that give no view, and the source that comes back.
-use crate::dump::built::read;
-use crate::files::{LEAST, named};
+use super::view_fault_of;
+use crate::dump::built::fault_of;
+use crate::files::{CRASH_FILE, LEAST, Sample, file_of};
 use crate::same::{assert_same, assert_same_at};
 use mdmp_dump::{FileView, PartName, ReadFault, ViewRefused};
 use mdmp_lister::{Choice, FaultKind, ListFault, OpenFault};
 use mdmp_source::{MemoryStore, PatchyStore, Source, SourceFault, Store};
-use mdmp_test_support::{
-    ABSENT_STACK, COMMENT, CRASH, FAULTY, MEMORY64, entry, file_of_numbers, file_of_parts,
-    header_of,
-};
+use mdmp_test_support::{ABSENT_STACK, COMMENT, FAULTY, MEMORY64};
 use std::alloc::Global;
 use std::process::Abort;
-use std::test::Fail;
 
 /// Why a file gives no view, what was fetched of it by then, and why the source that comes back gives none.
-#[derive(Clone, Copy, Debug, PartialEq, Eq)]
-struct RefusedView {
-    fault: ReadFault,
-    fetched: u128,
-    again: Option<ReadFault>,
-}
+type RefusedView = (ReadFault, u128, Option<ReadFault>);
 
 /// Opens a view of all entries, and another one over the source that comes back.
 fn refusal_of<S: Store + Drop>(alloc: Global, store: S) -> Option<RefusedView> {
-    let source = Source::new(store);
-    let ViewRefused { fault, source } = FileView::open_source(
-        alloc,
-        source,
-        LEAST,
-        Choice::All,
-    ).err()?;
-    let fetched = source.fetched();
-    let again = FileView::open(alloc, source, LEAST, Choice::All).err();
-    Some(RefusedView {
-        fault,
-        fetched,
-        again,
-    })
+    match FileView::open_source(alloc, Source::new(store), LEAST, Choice::All) {
+        Ok(_) => None,
+        Err(ViewRefused { fault, source }) => {
+            let fetched = source.fetched();
+            Some((fault, fetched, view_fault_of(alloc, source, LEAST)))
+        }
+    }
 }
 
 /// Asserts that a file is refused for this, which is why it gives no value either, and its source comes back.
-fn assert_refused(rt: &impl Abort, alloc: Global, file: &[u8], fault: ReadFault, fetched: u128) {
-    let expected = RefusedView {
-        fault,
-        fetched,
-        again: Some(fault),
-    };
-    let refusal = refusal_of(alloc, MemoryStore::new(file));
-    assert_same(rt, refusal, Some(expected));
-    let value = read(alloc, file, LEAST, u64::MAX);
-    assert_same(rt, value.err(), Some(fault));
+fn assert_refused(
+    rt: &impl Abort,
+    alloc: Global,
+    sample: Sample<'_>,
+    fault: ReadFault,
+    fetched: u128,
+) {
+    let file = file_of(rt, alloc, sample);
+    let refusal = refusal_of(alloc, MemoryStore::new(&file));
+    assert_same(rt, refusal, Some((fault, fetched, Some(fault))));
+    let value = fault_of(alloc, &file, LEAST, u64::MAX);
+    assert_same(rt, value, Some(fault));
 }
 
 #[test]
 fn file_that_is_not_opened_is_handed_back(rt: HostRuntime) {
     let short = ReadFault::Opening(OpenFault::TooShort { size: 31 });
-    assert_refused(&rt, rt.alloc(), &[0; 31], short, 0);
-    let outside = OpenFault::DirectoryOutside {
+    assert_refused(&rt, rt.alloc(), Sample::Parts(&[], 31), short, 0);
+    let outside = ReadFault::Opening(OpenFault::DirectoryOutside {
         offset: 32,
         size: 12,
-    };
-    assert_refused(
-        &rt,
-        rt.alloc(),
-        &header_of(1, 32),
-        ReadFault::Opening(outside),
-        32,
-    );
+    });
+    assert_refused(&rt, rt.alloc(), Sample::Numbers(1, &[]), outside, 32);
 }
 
 /// A fault of the listing.
@@ -81,27 +62,22 @@ fn listed(entry: u32, index: Option<u64>, kind: FaultKind, offset: u64, size: u6
 }
 
 #[test]
-fn file_that_is_not_listed_is_handed_back(rt: HostRuntime) -> Result<(), Fail> {
-    let faulty = file_of_numbers(rt.alloc(), 3, &FAULTY)?;
+fn file_that_is_not_listed_is_handed_back(rt: HostRuntime) {
     // A system and a module, and of the module's name not even the length.
+    let faulty = Sample::Numbers(3, &FAULTY);
     let name = listed(1, Some(0), FaultKind::NameLengthOutside, 4294967295, 4);
-    assert_refused(&rt, rt.alloc(), &faulty, name, 32 + 36 + 56 + 112);
-    let mut comment = file_of_numbers(rt.alloc(), 1, &COMMENT)?;
-    comment.truncate(48);
+    assert_refused(&rt, rt.alloc(), faulty, name, 32 + 36 + 56 + 112);
+    let comment = Sample::Cut(1, &COMMENT, 48);
     let stream = listed(0, None, FaultKind::StreamOutside, 44, 5);
-    assert_refused(&rt, rt.alloc(), &comment, stream, 32 + 12);
+    assert_refused(&rt, rt.alloc(), comment, stream, 32 + 12);
     // A list of two threads in the room of one: its head is read, and the window is filled behind it.
-    let parts: [&[u8]; 3] = [&header_of(1, 32), &entry(3, 52, 44), &2u32.to_le_bytes()];
-    let crowded = file_of_parts(rt.alloc(), &parts, 96)?;
+    let crowded = Sample::Numbers(1, &[3, 52, 44, 2, 0, 0, 0, 0, 0, 0, 0, 0, 0, 0, 0, 0]);
     let count = listed(0, None, FaultKind::BadCount, 44, 2);
-    assert_refused(&rt, rt.alloc(), &crowded, count, 32 + 12 + 52);
-    Ok(())
+    assert_refused(&rt, rt.alloc(), crowded, count, 32 + 12 + 52);
 }
 
 #[test]
-fn file_whose_parts_lie_outside_is_handed_back(rt: HostRuntime) -> Result<(), Fail> {
-    let mut absent = file_of_numbers(rt.alloc(), 1, &ABSENT_STACK)?;
-    absent.truncate(96);
+fn file_whose_parts_lie_outside_is_handed_back(rt: HostRuntime) {
     let context = ReadFault::PartOutside {
         entry: 0,
         index: 0,
@@ -109,7 +85,8 @@ fn file_whose_parts_lie_outside_is_handed_back(rt: HostRuntime) -> Result<(), Fa
         offset: 96,
         size: 1,
     };
-    assert_refused(&rt, rt.alloc(), &absent, context, 32 + 12 + 52);
+    let absent = Sample::Cut(1, &ABSENT_STACK, 96);
+    assert_refused(&rt, rt.alloc(), absent, context, 32 + 12 + 52);
     let memory = ReadFault::PartOutside {
         entry: 0,
         index: 1,
@@ -117,47 +94,55 @@ fn file_whose_parts_lie_outside_is_handed_back(rt: HostRuntime) -> Result<(), Fa
         offset: 96,
         size: 4,
     };
-    assert_refused(&rt, rt.alloc(), &MEMORY64, memory, 32 + 12 + 48);
-    Ok(())
+    let wide = Sample::Parts(&[&MEMORY64], 98);
+    assert_refused(&rt, rt.alloc(), wide, memory, 32 + 12 + 48);
 }
 
 #[test]
-fn file_with_a_long_name_is_handed_back(rt: HostRuntime) -> Result<(), Fail> {
+fn file_with_a_long_name_is_handed_back(rt: HostRuntime) {
     // The units are not fetched.
-    let file = named(&rt, b"\x02\0\0\0a\0")?;
+    let named = Sample::Named(b"\x02\0\0\0a\0");
     let long = ReadFault::NameTooLong {
         entry: 0,
         index: 0,
         length: 2,
     };
-    assert_refused(&rt, rt.alloc(), &file, long, 32 + 12 + 36 + 4);
-    Ok(())
+    assert_refused(&rt, rt.alloc(), named, long, 32 + 12 + 36 + 4);
+}
+
+/// Why the thread and the exception give no view over a store that fails at this call, and why the source that
+/// comes back gives none.
+fn refusal_at(rt: &impl Abort, alloc: Global, call: u64) -> Option<(ReadFault, Option<ReadFault>)> {
+    let file = file_of(rt, alloc, CRASH_FILE);
+    match refusal_of(alloc, PatchyStore::new(&file, &[4096], Some(call))) {
+        Some((fault, _, again)) => Some((fault, again)),
+        None => None,
+    }
+}
+
+/// Asserts that this is why they give none, and that the source that comes back gives one.
+fn assert_fails_once(rt: &impl Abort, alloc: Global, call: u64, fault: ReadFault) {
+    assert_same_at(rt, &call, refusal_at(rt, alloc, call), Some((fault, None)));
+}
+
+/// The fault of opening a file at this place.
+fn opening(at: u64) -> ReadFault {
+    ReadFault::Opening(OpenFault::Source(SourceFault::Failed { at }))
+}
+
+/// The fault of reading an entry at this place.
+fn reading(entry: u32, at: u64) -> ReadFault {
+    let failed = FaultKind::Source(SourceFault::Failed { at });
+    listed(entry, None, failed, at, 0)
 }
 
 #[test]
-fn store_that_fails_is_handed_back(rt: HostRuntime) -> Result<(), Fail> {
-    let crash = file_of_numbers(rt.alloc(), 2, &CRASH)?;
+fn store_that_fails_is_handed_back(rt: HostRuntime) {
     // The header, the directory, and both streams, each by one read. It fails once, and so is opened then.
-    for (call, entry, place) in [
-        (0, None, 0),
-        (1, None, 32),
-        (2, Some(0), 56),
-        (3, Some(1), 120),
-    ] {
-        let store = PatchyStore::new(&crash, &[4096], Some(call));
-        let Some(refusal) = refusal_of(rt.alloc(), store) else {
-            return Err(Fail::from("refusal"));
-        };
-        let failed = SourceFault::Failed { at: place };
-        let fault = match entry {
-            None => ReadFault::Opening(OpenFault::Source(failed)),
-            Some(entry) => listed(entry, None, FaultKind::Source(failed), place, 0),
-        };
-        assert_same_at(&rt, &call, refusal.fault, fault);
-        assert_same_at(&rt, &call, refusal.again, None);
-    }
+    assert_fails_once(&rt, rt.alloc(), 0, opening(0));
+    assert_fails_once(&rt, rt.alloc(), 1, opening(32));
+    assert_fails_once(&rt, rt.alloc(), 2, reading(0, 56));
+    assert_fails_once(&rt, rt.alloc(), 3, reading(1, 120));
     // No read of a part is made.
-    let store = PatchyStore::new(&crash, &[4096], Some(4));
-    assert_same(&rt, refusal_of(rt.alloc(), store), None);
-    Ok(())
+    assert_same(&rt, refusal_at(&rt, rt.alloc(), 4), None);
 }

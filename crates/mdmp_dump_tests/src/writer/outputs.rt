@@ -1,18 +1,14 @@
 //! Outputs that refuse, and what they have then.
-use super::write_value;
-use crate::dump::built::read;
-use crate::files::LEAST;
-use crate::same::assert_same_at;
-use mdmp_dump::Dump;
+use super::assert_wrote;
+use crate::dump::built::value_of;
+use crate::files::{CRASH_READING, file_of};
 use mdmp_source::PatchyOut;
-use mdmp_test_support::{CRASH, file_of_numbers};
 use mdmp_writer::WriteFault;
 use std::alloc::Global;
 use std::process::Abort;
-use std::test::Fail;
 
 /// How much an output takes.
-#[derive(Clone, Copy, Debug)]
+#[derive(Clone, Copy)]
 struct Taking {
     /// Bytes in all.
     room: usize,
@@ -22,68 +18,57 @@ struct Taking {
     fail_at: Option<u64>,
 }
 
-/// The output refuses the dump, and has so many of its first bytes then.
-fn assert_refused(
-    rt: &impl Abort,
-    alloc: Global,
-    dump: &Dump<Global>,
-    file: &[u8],
-    taking: Taking,
-    taken: usize,
-) -> Result<(), Fail> {
-    let first = file.get(..taken).ok_or("a first part")?;
-    for room in [1, 4096] {
-        let Taking {
-            room: all,
-            cap,
-            fail_at,
-        } = taking;
-        let mut out = PatchyOut::with_room(alloc, all, cap, fail_at)?;
-        let answer = write_value(dump, &mut out, room);
-        assert_same_at(rt, &(taking, room), answer, Err(WriteFault::Out));
-        assert_same_at(rt, &(taking, room), out.bytes(), first);
-    }
-    Ok(())
+/// An output that takes so much.
+fn out_of(rt: &impl Abort, alloc: Global, taking: Taking) -> PatchyOut<Global> {
+    let Taking { room, cap, fail_at } = taking;
+    PatchyOut::with_room(alloc, room, cap, fail_at).expect(rt, "memory for an output")
+}
+
+/// Asserts that the output refuses the thread and the exception, and has so many of their first bytes then.
+fn assert_refused(rt: &impl Abort, alloc: Global, taking: Taking, taken: usize) {
+    let crash = value_of(rt, alloc, CRASH_READING);
+    let file = file_of(rt, alloc, CRASH_READING.sample);
+    let first = file.get(..taken).expect(rt, "a first part");
+    let refused = Err(WriteFault::Out);
+    assert_wrote(rt, &crash, out_of(rt, alloc, taking), 1, refused, first);
+    assert_wrote(rt, &crash, out_of(rt, alloc, taking), 4096, refused, first);
+}
+
+/// Asserts it of an output that is full behind so many bytes.
+fn assert_full(rt: &impl Abort, alloc: Global, room: usize) {
+    let full = Taking {
+        room,
+        cap: 4096,
+        fail_at: None,
+    };
+    assert_refused(rt, alloc, full, room);
 }
 
 #[test]
-fn output_that_is_full_has_the_first_bytes(rt: HostRuntime) -> Result<(), Fail> {
-    let file = file_of_numbers(rt.alloc(), 2, &CRASH)?;
-    let crash = read(rt.alloc(), &file, LEAST, 14)?;
-    for room in [0, 40, 291] {
-        let full = Taking {
-            room,
-            cap: 4096,
-            fail_at: None,
-        };
-        assert_refused(&rt, rt.alloc(), &crash, &file, full, room)?;
-    }
-    Ok(())
+fn output_that_is_full_has_the_first_bytes(rt: HostRuntime) {
+    assert_full(&rt, rt.alloc(), 0);
+    assert_full(&rt, rt.alloc(), 40);
+    assert_full(&rt, rt.alloc(), 291);
 }
 
 #[test]
-fn output_that_fails_at_once_has_nothing(rt: HostRuntime) -> Result<(), Fail> {
-    let file = file_of_numbers(rt.alloc(), 2, &CRASH)?;
-    let crash = read(rt.alloc(), &file, LEAST, 14)?;
+fn output_that_fails_at_once_has_nothing(rt: HostRuntime) {
     let failing = Taking {
         room: 4096,
         cap: 4096,
         fail_at: Some(0),
     };
-    assert_refused(&rt, rt.alloc(), &crash, &file, failing, 0)
+    assert_refused(&rt, rt.alloc(), failing, 0);
 }
 
 #[test]
-fn output_that_fails_later_has_what_it_took(rt: HostRuntime) -> Result<(), Fail> {
-    let file = file_of_numbers(rt.alloc(), 2, &CRASH)?;
-    let crash = read(rt.alloc(), &file, LEAST, 14)?;
+fn output_that_fails_later_has_what_it_took(rt: HostRuntime) {
     for call in 0..292 {
         let slow = Taking {
             room: 4096,
             cap: 1,
             fail_at: Some(call),
         };
-        assert_refused(&rt, rt.alloc(), &crash, &file, slow, call as usize)?;
+        assert_refused(&rt, rt.alloc(), slow, call as usize);
     }
-    Ok(())
 }

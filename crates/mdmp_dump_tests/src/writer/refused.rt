@@ -6,14 +6,14 @@ ghost use Rattle.mdmp_dump.specs.declared.view.Kind.TheVariants as kinds;
 ghost use Rattle.std.proofs.lemmas.Option.{none-some};
 ghost use Rattle.mdmp_dump_tests.specs.Sizes.{no_stray_parts};
 
-use super::{open_out, size_of, write_value, write_view};
-use crate::dump::built::{bytes, dump_of, of_one, two};
+use super::{assert_size, assert_wrote, open_out, size_of, write_view};
+use crate::dump::built::{bytes, dump_of, of_one, records};
 use crate::same::{assert_same, assert_same_at};
 use mdmp_dump::{DumpView, Fields, HeaderFields, Kind, Stream, ViewFault};
 use mdmp_source::SourceFault;
-use mdmp_writer::{LayoutFault, WriteFault, written_size};
+use mdmp_writer::{LayoutFault, WriteFault};
 use std::alloc::Global;
-use std::test::Fail;
+use std::process::Abort;
 
 /// A view that only tells sizes: of a stream of raw bytes, and of one of 64-bit memory in one range.
 #[derive(Drop)]
@@ -110,78 +110,89 @@ fn no_bytes() -> ViewFault
     ViewFault::Source(SourceFault::Failed { at: 0 })
 }
 
-/// How large a dump of a raw stream of so many bytes and of so much 64-bit memory is. Its streams end
-/// 88 bytes behind the raw ones, up to a multiple of 4.
-fn size_by(stream_type: u32, raw: u64, far: u64) -> Result<u64, LayoutFault> {
-    written_size(&mut SizesView {
-        stream_type,
-        raw,
-        far,
-    })
+/// Asserts that raw bytes of a type whose records are known are refused.
+fn assert_type_refused(rt: &impl Abort, alloc: Global, stream_type: u32) {
+    let raw = Stream::Raw(stream_type, bytes(rt, alloc, &[1]));
+    let dump = of_one(rt, alloc, raw);
+    let fault = LayoutFault::RawKnownType { stream: 0 };
+    assert_size(rt, &dump, Err(fault));
+    let refused = Err(WriteFault::Layout(fault));
+    assert_wrote(rt, &dump, open_out(rt, alloc), 1, refused, b"");
 }
 
 #[test]
-fn raw_bytes_of_a_known_type_are_refused(rt: HostRuntime) -> Result<(), Fail> {
+fn raw_bytes_of_a_known_type_are_refused(rt: HostRuntime) {
     for stream_type in [0, 3, 4, 5, 6, 7, 9, 14, 16, 24] {
-        let raw = Stream::Raw(stream_type, bytes(rt.alloc(), &[1])?);
-        let dump = of_one(rt.alloc(), raw)?;
-        let fault = LayoutFault::RawKnownType { stream: 0 };
-        assert_same_at(&rt, &stream_type, size_of(&dump), Err(fault));
-        let mut out = open_out(rt.alloc())?;
-        let answer = write_value(&dump, &mut out, 1);
-        assert_same_at(&rt, &stream_type, answer, Err(WriteFault::Layout(fault)));
-        assert_same_at(&rt, &stream_type, out.bytes(), b"".as_slice());
+        assert_type_refused(&rt, rt.alloc(), stream_type);
     }
-    Ok(())
 }
 
 #[test]
-fn first_such_stream_is_told(rt: HostRuntime) -> Result<(), Fail> {
-    let raw = Stream::Raw(3, bytes(rt.alloc(), &[])?);
-    let dump = dump_of(two(rt.alloc(), Stream::Unused, raw)?);
-    let fault = LayoutFault::RawKnownType { stream: 1 };
-    assert_same(&rt, size_of(&dump), Err(fault));
-    Ok(())
+fn first_such_stream_is_told(rt: HostRuntime) {
+    let raw = Stream::Raw(3, bytes(&rt, rt.alloc(), &[]));
+    let dump = dump_of(records(&rt, rt.alloc(), [Stream::Unused, raw]));
+    assert_size(&rt, &dump, Err(LayoutFault::RawKnownType { stream: 1 }));
 }
+
+/// Asserts how large a dump is of a raw stream of this type and of so much 64-bit memory, for each number of
+/// raw bytes. Its streams end 88 bytes behind these, up to a multiple of 4.
+fn assert_sizes(
+    rt: &impl Abort,
+    stream_type: u32,
+    rows: &[(u64, u64)],
+    size: Result<u64, LayoutFault>,
+) {
+    for row in rows {
+        let (raw, far) = *row;
+        let mut view = SizesView {
+            stream_type,
+            raw,
+            far,
+        };
+        assert_same_at(rt, row, size_of(&mut view), size);
+    }
+}
+
+/// Where no stream ends, nor begins.
+const END: u64 = 1 << 32;
 
 #[test]
 fn streams_end_below_2_to_the_32(rt: HostRuntime) {
-    let end: u64 = 1 << 32;
-    for raw in [end - 88, end - 91, end, u64::MAX] {
-        assert_same_at(&rt, &raw, size_by(10, raw, 0), Err(LayoutFault::TooLarge));
-    }
-    for raw in [end - 92, end - 95] {
-        assert_same_at(&rt, &raw, size_by(10, raw, 0), Ok(end - 4));
-    }
-    assert_same(&rt, size_by(10, end - 92, end), Ok(2 * end - 4));
+    let large = [(END - 88, 0), (END - 91, 0), (END, 0), (u64::MAX, 0)];
+    assert_sizes(&rt, 10, &large, Err(LayoutFault::TooLarge));
+    assert_sizes(&rt, 10, &[(END - 92, 0), (END - 95, 0)], Ok(END - 4));
+    assert_sizes(&rt, 10, &[(END - 92, END)], Ok(2 * END - 4));
 }
 
 #[test]
 fn file_ends_below_2_to_the_64(rt: HostRuntime) {
-    for far in [u64::MAX - 87, u64::MAX - 90, u64::MAX] {
-        assert_same_at(&rt, &far, size_by(10, 0, far), Err(LayoutFault::TooLarge));
-    }
-    for far in [u64::MAX - 91, u64::MAX - 94] {
-        assert_same_at(&rt, &far, size_by(10, 0, far), Ok(u64::MAX - 3));
-    }
+    let large = [(0, u64::MAX - 87), (0, u64::MAX - 90), (0, u64::MAX)];
+    assert_sizes(&rt, 10, &large, Err(LayoutFault::TooLarge));
+    let last = [(0, u64::MAX - 91), (0, u64::MAX - 94)];
+    assert_sizes(&rt, 10, &last, Ok(u64::MAX - 3));
+}
+
+/// Asserts that nothing is written of what a view gives that is too large.
+fn assert_not_begun(rt: &impl Abort, alloc: Global, view: SizesView) {
+    let mut large = view;
+    let mut out = open_out(rt, alloc);
+    let fault = WriteFault::Layout(LayoutFault::TooLarge);
+    assert_same(rt, write_view(&mut large, &mut out, 1), Err(fault));
+    assert_same(rt, out.bytes(), b"".as_slice());
 }
 
 #[test]
-fn dump_that_is_too_large_is_not_begun(rt: HostRuntime) -> Result<(), Fail> {
-    let mut view = SizesView {
+fn dump_that_is_too_large_is_not_begun(rt: HostRuntime) {
+    let large = SizesView {
         stream_type: 10,
-        raw: 1 << 32,
+        raw: END,
         far: 0,
     };
-    let mut out = open_out(rt.alloc())?;
-    let fault = WriteFault::Layout(LayoutFault::TooLarge);
-    assert_same(&rt, write_view(&mut view, &mut out, 1), Err(fault));
-    assert_same(&rt, out.bytes(), b"".as_slice());
-    Ok(())
+    assert_not_begun(&rt, rt.alloc(), large);
 }
 
 #[test]
 fn type_is_told_before_the_size(rt: HostRuntime) {
     let fault = LayoutFault::RawKnownType { stream: 0 };
-    assert_same(&rt, size_by(3, u64::MAX, u64::MAX), Err(fault));
+    assert_sizes(&rt, 3, &[(u64::MAX, u64::MAX)], Err(fault));
 }

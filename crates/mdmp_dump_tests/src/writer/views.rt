@@ -4,16 +4,15 @@ ghost use Rattle.std.specs.Prelude.{false, None};
 ghost use Rattle.std.proofs.lemmas.Option.{none-some};
 
 use super::{open_out, write_view};
-use crate::dump::built::read;
-use crate::files::{LEAST, NAMED};
+use crate::dump::built::value_of;
+use crate::files::{DumpReading, MEMORY64_READING, NAMED, SIX_FILE, SIX_READING, Sample, file_of};
 use crate::same::{assert_same, assert_same_at};
-use mdmp_dump::{Dump, DumpView, Fields, HeaderFields, Kind, ValueView, ViewFault};
+use mdmp_dump::{Dump, DumpView, Fields, HeaderFields, Kind, ViewFault};
 use mdmp_source::SourceFault;
-use mdmp_test_support::{MEMORY64, MODULE, OVERLAPPING, SIX, THRICE, file_of_numbers};
+use mdmp_test_support::{MODULE, OVERLAPPING, THRICE};
 use mdmp_writer::WriteFault;
 use std::alloc::Global;
 use std::process::Abort;
-use std::test::Fail;
 
 /// The fault that is answered.
 const FAULT: ViewFault = ViewFault::Source(SourceFault::Failed { at: 7 });
@@ -160,177 +159,157 @@ impl<V: DumpView> DumpView for WatchedView<V> {
     }
 }
 
-/// Writes the dump of a file with each call of its view failing in turn: what went out is a first part
-/// of the file, and all of it where no call failed.
-fn assert_first_parts(
+/// What is answered where a dump is written through a buffer of so many bytes, this call of whose view fails,
+/// and what goes out.
+fn written_with(
     rt: &impl Abort,
     alloc: Global,
     dump: &Dump<Global>,
-    file: &[u8],
+    fail_at: u64,
     room: usize,
-) -> Result<(), Fail> {
+) -> (Result<u64, WriteFault>, Vec<u8, Global>) {
+    let mut view = WatchedView::new(dump.view(), fail_at);
+    let mut out = open_out(rt, alloc);
+    let answer = write_view(&mut view, &mut out, room);
+    let bytes = out.bytes().to_vec(alloc).expect(rt, "memory for bytes");
+    (answer, bytes)
+}
+
+/// Writes the dump of a file with each call of its view failing in turn, and asserts that what went out is a
+/// first part of the file, and all of it where no call failed.
+fn assert_first_parts(rt: &impl Abort, alloc: Global, reading: DumpReading<'_>, room: usize) {
+    let file = file_of(rt, alloc, reading.sample);
+    let dump = value_of(rt, alloc, reading);
     for fail_at in 0..1000 {
-        let mut view = WatchedView::new(dump.view(), fail_at);
-        let mut out = open_out(alloc)?;
-        let answer = write_view(&mut view, &mut out, room);
+        let (answer, bytes) = written_with(rt, alloc, &dump, fail_at, room);
         if answer.is_ok() {
             assert_same(rt, answer, Ok(file.len() as u64));
-            assert_same(rt, out.bytes(), file);
-            return Ok(());
+            assert_same(rt, bytes.as_slice(), file.as_slice());
+            return;
         }
         assert_same_at(rt, &fail_at, answer, Err(WriteFault::View(FAULT)));
-        let first = file.get(..out.bytes().len());
-        assert_same_at(rt, &fail_at, first, Some(out.bytes()));
+        let first = file.get(..bytes.len());
+        assert_same_at(rt, &fail_at, first, Some(bytes.as_slice()));
     }
-    Err(Fail::from("a call without a fault"))
+    rt.panic("a call without a fault")
 }
 
 #[test]
-fn fault_of_a_view_leaves_a_first_part(rt: HostRuntime) -> Result<(), Fail> {
-    let file = file_of_numbers(rt.alloc(), 6, &SIX)?;
-    let six = read(rt.alloc(), &file, NAMED, 18)?;
-    for room in [1, 64] {
-        assert_first_parts(&rt, rt.alloc(), &six, &file, room)?;
-    }
-    Ok(())
+fn fault_of_a_view_leaves_a_first_part(rt: HostRuntime) {
+    assert_first_parts(&rt, rt.alloc(), SIX_READING, 1);
+    assert_first_parts(&rt, rt.alloc(), SIX_READING, 64);
 }
 
 #[test]
-fn fault_in_64_bit_memory_leaves_a_first_part(rt: HostRuntime) -> Result<(), Fail> {
-    let mut file = MEMORY64.to_vec(rt.alloc())?;
-    file.extend_from_slice(b"GH")?;
-    let dump = read(rt.alloc(), &file, LEAST, 8)?;
-    for room in [1, 64] {
-        assert_first_parts(&rt, rt.alloc(), &dump, &file, room)?;
-    }
-    Ok(())
+fn fault_in_64_bit_memory_leaves_a_first_part(rt: HostRuntime) {
+    assert_first_parts(&rt, rt.alloc(), MEMORY64_READING, 1);
+    assert_first_parts(&rt, rt.alloc(), MEMORY64_READING, 64);
 }
 
-/// Writes the dump of a file, and hands back its view.
-fn written_view<'d>(
-    alloc: Global,
-    dump: &'d Dump<Global>,
-) -> Result<WatchedView<ValueView<'d, Global>>, Fail> {
+/// How often each of the first six streams of a file was begun, and asked for the sizes of its body and of its
+/// parts, as it was written.
+fn counts_of(rt: &impl Abort, alloc: Global, sample: Sample<'_>) -> ([u32; 6], [u32; 6], [u32; 6]) {
+    let reading = DumpReading {
+        sample,
+        limits: NAMED,
+        parts: 18,
+    };
+    let dump = value_of(rt, alloc, reading);
     let mut view = WatchedView::new(dump.view(), u64::MAX);
-    let mut out = open_out(alloc)?;
-    write_view(&mut view, &mut out, 64).map_err(|_| "a dump that is written")?;
-    Ok(view)
+    let mut out = open_out(rt, alloc);
+    assert_same_at(
+        rt,
+        &"written",
+        write_view(&mut view, &mut out, 64).is_ok(),
+        true,
+    );
+    (view.begun.counts, view.bodies.counts, view.parts.counts)
+}
+
+/// Asserts how often each stream of a file was begun as it was written.
+fn assert_begun(rt: &impl Abort, alloc: Global, sample: Sample<'_>, begun: [u32; 6]) {
+    let (found, _, _) = counts_of(rt, alloc, sample);
+    assert_same(rt, found, begun);
+}
+
+/// A range of 64-bit memory, a byte, and no range.
+const FAR_RANGE: [u32; 23] = [
+    9, 32, 68, 10, 1, 100, 9, 16, 104, // the directory
+    1, 0, 120, 0, 0x3000, 0, 2, 0, // one range
+    1, // the byte
+    0, 0, 124, 0, // no range
+    0x4847,
+];
+
+/// Raw bytes, none and some.
+const RAW: [u32; 15] = [10, 5, 80, 0, 0, 0, 11, 0, 0, 12, 1, 88, 0x04030201, 5, 6];
+
+#[test]
+fn streams_are_begun_twice_at_most(rt: HostRuntime) {
+    // Two of the six are empty lists.
+    assert_begun(&rt, rt.alloc(), SIX_FILE, [2, 2, 1, 2, 1, 1]);
+    // Threads without parts.
+    let threads = Sample::Numbers(3, &THRICE);
+    assert_begun(&rt, rt.alloc(), threads, [1, 1, 1, 0, 0, 0]);
+    // With its name and parts.
+    let module = Sample::Numbers(1, &MODULE);
+    assert_begun(&rt, rt.alloc(), module, [2, 0, 0, 0, 0, 0]);
+    let memory = Sample::Numbers(1, &OVERLAPPING);
+    assert_begun(&rt, rt.alloc(), memory, [2, 0, 0, 0, 0, 0]);
+    // Memory without bytes.
+    let empty = [5, 36, 44, 2, 0x1000, 0, 4, 0, 0x2000, 0, 0, 0];
+    let memory = Sample::Numbers(1, &empty);
+    assert_begun(&rt, rt.alloc(), memory, [1, 0, 0, 0, 0, 0]);
+    // An unloaded module and its name.
+    let unloaded = [14, 36, 44, 12, 24, 1, 0, 0, 0, 0, 0, 80, 0, 0];
+    let module = Sample::Numbers(1, &unloaded);
+    assert_begun(&rt, rt.alloc(), module, [2, 0, 0, 0, 0, 0]);
+    let thread_name = Sample::Numbers(1, &[24, 16, 44, 1, 7, 60, 0, 0]);
+    assert_begun(&rt, rt.alloc(), thread_name, [2, 0, 0, 0, 0, 0]);
+    let region = [16, 64, 44, 16, 48, 1, 0, 0, 0, 0, 0, 0, 0, 0, 0, 0, 0, 0, 0];
+    let memory = Sample::Numbers(1, &region);
+    assert_begun(&rt, rt.alloc(), memory, [1, 0, 0, 0, 0, 0]);
+    let far = Sample::Numbers(3, &FAR_RANGE);
+    assert_begun(&rt, rt.alloc(), far, [2, 1, 2, 0, 0, 0]);
+    assert_begun(
+        &rt,
+        rt.alloc(),
+        Sample::Numbers(4, &RAW),
+        [1, 0, 1, 1, 0, 0],
+    );
+}
+
+/// Asserts how often each stream of a file was asked for the sizes of its body and of its parts.
+fn assert_asked(rt: &impl Abort, alloc: Global, sample: Sample<'_>, asked: [u32; 6]) {
+    let (_, bodies, parts) = counts_of(rt, alloc, sample);
+    assert_same(rt, (bodies, parts), (asked, asked));
 }
 
 #[test]
-fn streams_are_begun_twice_at_most(rt: HostRuntime) -> Result<(), Fail> {
-    let rows: [(&str, u32, &[u32], [u32; 6]); 10] = [
-        (
-            "six streams, two of them empty lists",
-            6,
-            &SIX,
-            [2, 2, 1, 2, 1, 1],
-        ),
-        ("threads without parts", 3, &THRICE, [1, 1, 1, 0, 0, 0]),
-        (
-            "a module with its name and parts",
-            1,
-            &MODULE,
-            [2, 0, 0, 0, 0, 0],
-        ),
-        ("memory", 1, &OVERLAPPING, [2, 0, 0, 0, 0, 0]),
-        (
-            "memory without bytes",
-            1,
-            &[5, 36, 44, 2, 0x1000, 0, 4, 0, 0x2000, 0, 0, 0],
-            [1, 0, 0, 0, 0, 0],
-        ),
-        (
-            "an unloaded module and its name",
-            1,
-            &[14, 36, 44, 12, 24, 1, 0, 0, 0, 0, 0, 80, 0, 0],
-            [2, 0, 0, 0, 0, 0],
-        ),
-        (
-            "the name of a thread",
-            1,
-            &[24, 16, 44, 1, 7, 60, 0, 0],
-            [2, 0, 0, 0, 0, 0],
-        ),
-        (
-            "a region of memory",
-            1,
-            &[16, 64, 44, 16, 48, 1, 0, 0, 0, 0, 0, 0, 0, 0, 0, 0, 0, 0, 0],
-            [1, 0, 0, 0, 0, 0],
-        ),
-        (
-            "a range of 64-bit memory, a byte, and no range",
-            3,
-            &[
-                9, 32, 68, 10, 1, 100, 9, 16, 104, // the directory
-                1, 0, 120, 0, 0x3000, 0, 2, 0, // one range
-                1, // the byte
-                0, 0, 124, 0, // no range
-                0x4847,
-            ],
-            [2, 1, 2, 0, 0, 0],
-        ),
-        (
-            "raw bytes, none and some",
-            4,
-            &[10, 5, 80, 0, 0, 0, 11, 0, 0, 12, 1, 88, 0x04030201, 5, 6],
-            [1, 0, 1, 1, 0, 0],
-        ),
-    ];
-    for (what, streams, numbers, begun) in rows {
-        let file = file_of_numbers(rt.alloc(), streams, numbers)?;
-        let dump = read(rt.alloc(), &file, NAMED, 18)?;
-        let view = written_view(rt.alloc(), &dump)?;
-        assert_same_at(&rt, &what, view.begun.counts, begun);
-    }
-    Ok(())
+fn sizes_are_asked_once_a_pass(rt: HostRuntime) {
+    // For the layout, the directory and their blocks.
+    assert_asked(&rt, rt.alloc(), SIX_FILE, [3, 3, 3, 3, 3, 3]);
+    // For the bytes of 64-bit memory behind all streams too.
+    let far = Sample::Numbers(3, &FAR_RANGE);
+    assert_asked(&rt, rt.alloc(), far, [4, 3, 4, 0, 0, 0]);
+    assert_asked(
+        &rt,
+        rt.alloc(),
+        Sample::Numbers(4, &RAW),
+        [3, 3, 3, 3, 0, 0],
+    );
+}
+
+/// How much is passed and asked of a value as it is written.
+fn spent_of(rt: &impl Abort, alloc: Global, dump: &Dump<Global>, size: u64) -> (u128, u128) {
+    let mut view = dump.view();
+    let mut out = open_out(rt, alloc);
+    assert_same(rt, write_view(&mut view, &mut out, 64), Ok(size));
+    (view.passed(), view.asked())
 }
 
 #[test]
-fn sizes_are_asked_once_a_pass(rt: HostRuntime) -> Result<(), Fail> {
-    let rows: [(&str, u32, &[u32], [u32; 6]); 3] = [
-        (
-            "six streams, for the layout, the directory and their blocks",
-            6,
-            &SIX,
-            [3, 3, 3, 3, 3, 3],
-        ),
-        (
-            "64-bit memory, for its bytes behind all streams too",
-            3,
-            &[
-                9, 32, 68, 10, 1, 100, 9, 16, 104, // the directory
-                1, 0, 120, 0, 0x3000, 0, 2, 0, // one range
-                1, // the byte
-                0, 0, 124, 0, // no range
-                0x4847,
-            ],
-            [4, 3, 4, 0, 0, 0],
-        ),
-        (
-            "raw bytes, none and some",
-            4,
-            &[10, 5, 80, 0, 0, 0, 11, 0, 0, 12, 1, 88, 0x04030201, 5, 6],
-            [3, 3, 3, 3, 0, 0],
-        ),
-    ];
-    for (what, streams, numbers, asked) in rows {
-        let file = file_of_numbers(rt.alloc(), streams, numbers)?;
-        let dump = read(rt.alloc(), &file, NAMED, 18)?;
-        let view = written_view(rt.alloc(), &dump)?;
-        assert_same_at(&rt, &what, view.bodies.counts, asked);
-        assert_same_at(&rt, &what, view.parts.counts, asked);
-    }
-    Ok(())
-}
-
-#[test]
-fn nothing_is_spent_of_a_value(rt: HostRuntime) -> Result<(), Fail> {
-    let file = file_of_numbers(rt.alloc(), 6, &SIX)?;
-    let six = read(rt.alloc(), &file, NAMED, 18)?;
-    let mut view = six.view();
-    let mut out = open_out(rt.alloc())?;
-    assert_same(&rt, write_view(&mut view, &mut out, 64), Ok(444));
-    assert_same(&rt, (view.passed(), view.asked()), (0, 0));
-    Ok(())
+fn nothing_is_spent_of_a_value(rt: HostRuntime) {
+    let six = value_of(&rt, rt.alloc(), SIX_READING);
+    assert_same(&rt, spent_of(&rt, rt.alloc(), &six, 444), (0, 0));
 }
