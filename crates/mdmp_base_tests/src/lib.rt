@@ -3,7 +3,7 @@
 //! A crate with tests is proved twice, so those of the libraries stand in crates on top, which
 //! docs/LAYERS.md names. What is dear to prove of a test is a call with many clauses. So such calls stand
 //! in small helper functions without a contract, which end by themselves where something fails that should
-//! not. The tests hand on plain values, and rows and steps that stand in constants.
+//! not. The tests hand on plain values, rows and steps.
 #![tactic(auto)]
 
 #[cfg(test)]

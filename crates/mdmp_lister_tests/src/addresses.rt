@@ -85,8 +85,8 @@ fn addresses_do_not_wrap(rt: HostRuntime) {
     assert_plays_numbers(&rt, rt.alloc(), LEAST, 1, &numbers, &script);
 }
 
-/// Asserts what a lister of these ranges answers where a call of their store fails, while it reads four
-/// bytes of the first: the calls from the fourth on give one byte each.
+/// Asserts what a lister of overlapping ranges answers where a call of their store fails, while it reads four
+/// bytes of the first: calls 4 to 7 give one byte each.
 fn assert_read_fails(rt: &impl Abort, alloc: Global, fail_at: u64, at: u64) {
     let script = [
         gives(stream(0, 5, 36, 44)),

@@ -46,7 +46,7 @@ fn most_of(counts: Counts, limits: Limits) -> u128 {
     directory.saturating_add(counts.n).saturating_add(names)
 }
 
-/// Those of a file whose listing fetches no more than that, each byte of it booked.
+/// What is told of a file whose listing fetches no more than its bound, each byte of it booked.
 fn bound_of(alloc: Global, file: &[u8], limits: Limits) -> Option<Bound> {
     let (counts, (bytes, _)) = counted(alloc, MemoryStore::new(file), limits)?;
     let most = most_of(counts, limits);

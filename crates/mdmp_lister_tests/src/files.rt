@@ -1,4 +1,4 @@
-//! Files of numbers.
+//! Files of numbers, and their first bytes.
 use mdmp_test_support::{UNLOADED, file_of_numbers};
 use std::alloc::Global;
 use std::process::Abort;

@@ -115,11 +115,12 @@ fn assert_context(rt: &impl Abort, alloc: Global, numbers: &[u32], context: Exte
 
 #[test]
 fn parts_of_a_thread_are_classified(rt: HostRuntime) {
-    // The context is the four bytes behind the list, and is cut off.
+    // The context is the four bytes behind the list.
     let whole = [
         3, 52, 44, 1, 7, 0, 0, 0, 0, 0, 28672, 0, 256, 0, 4, 96, 0xaa,
     ];
     assert_context(&rt, rt.alloc(), &whole, Extent::Inside);
+    // It is cut off.
     let cut = [3, 52, 44, 1, 7, 0, 0, 0, 0, 0, 28672, 0, 256, 0, 4, 96];
     assert_context(&rt, rt.alloc(), &cut, Extent::Outside);
 }

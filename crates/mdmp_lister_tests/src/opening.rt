@@ -1,4 +1,4 @@
-//! Listers that are opened, and how many items they give.
+//! Listers that are opened, how many items they give, and what they are opened with.
 use mdmp_lister::{
     Choice, Counts, FaultKind, Limits, ListFault, Lister, OpenFault, OpenRefused, RunFault, StopAt,
     TypeSet,
@@ -102,7 +102,7 @@ pub fn close<S: Store + Drop, A: Allocator + Copy>(lister: Lister<S, A>) {
     let _ = lister.into_source();
 }
 
-/// How many bytes and calls the source of a lister counts.
+/// Closes a lister: how many bytes and calls its source counts.
 pub fn fetched_by<S: Store + Drop, A: Allocator + Copy>(lister: Lister<S, A>) -> (u128, u128) {
     let source = lister.into_source();
     (source.fetched(), source.calls())

@@ -98,8 +98,8 @@ fn opened_without(
     }
 }
 
-/// Asserts what comes of a file that is opened in a heap which refuses this growth alone: all that was taken is
-/// given back, and the source that is handed back is opened with ample memory as if it was never refused.
+/// Asserts what came of a file that was opened in a heap: its outcome by so many growths, that all which was
+/// taken is given back, and what the source that is handed back gives with ample memory.
 fn assert_opened_without(
     rt: &impl Abort,
     found: MeteredOpening,

@@ -63,7 +63,7 @@ fn begun_by(count: usize) -> usize {
     begun
 }
 
-/// Asserts that behind a sink that stops at this item its entry is skipped, and the next stream is begun.
+/// Asserts that behind a sink that stops at this item its entry is skipped, and the next stream is begun or the end comes.
 fn assert_skipped(rt: &impl Abort, alloc: Global, items: &[Call; 9], stop_at: usize) {
     let begun = begun_by(stop_at.saturating_add(1));
     let script = [stops(stop_at), skips(), begins(items, begun)];
@@ -84,7 +84,7 @@ fn stops_checking(stop_at: usize) -> Call {
     checks(stop_at as u64, Some(RunFault::Stopped), calls as u64)
 }
 
-/// Asserts that a sink of verdicts has the one at which it stops, and the next stream is begun.
+/// Asserts that a sink of verdicts has the one at which it stops, and the next stream is begun or the end comes.
 fn assert_verdict(rt: &impl Abort, alloc: Global, items: &[Call; 9], stop_at: usize) {
     let next = begins(items, stop_at.saturating_add(1));
     let script = [stops_checking(stop_at), has_begun(), next];
@@ -102,7 +102,7 @@ fn sink_stops_at_each_verdict_in_turn(rt: HostRuntime) {
 }
 
 /// Asserts that a sink of the verdicts on a system, a thread and a stream of bytes stops at this one, and that
-/// this stream is begun then.
+/// this stream is begun then, or the end comes.
 fn assert_chosen_verdict(rt: &impl Abort, alloc: Global, stop_at: usize, next: usize) {
     let script = [stops_checking(stop_at), begins(&six_items(), next)];
     assert_six(rt, alloc, &[3, 7, 12], &script);

@@ -111,8 +111,8 @@ fn fill_that_fails_leaves_the_records_that_are_held(rt: HostRuntime) {
     assert_fill_fails(&rt, rt.alloc(), 4, 324, 3);
 }
 
-/// Asserts what is given by a window of two modules that stand 1000 bytes apart, in a store that gives as many
-/// bytes a call as the caps say, in turn.
+/// Asserts what a window of so many bytes gives of two modules that stand 1000 bytes apart, in a store that gives
+/// as many bytes a call as the caps say, in turn.
 fn assert_apart(rt: &impl Abort, alloc: Global, window: u32, caps: &[usize; 2]) {
     let script = [
         gives(stream(0, 14, 2012, 44)),

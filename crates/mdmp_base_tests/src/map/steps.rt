@@ -121,7 +121,7 @@ const ANSWERS: [(u64, StepAnswers); 3] = [
 /// An address that none of them holds.
 const FREE: [PlaceRow; 1] = [(0x1fff, None)];
 
-/// The place of an address that the first of them holds, and a sixth that is pushed behind them.
+/// The place of an address that the first of them holds, as a sixth does that is pushed behind them.
 const FIRST: [PlaceRow; 1] = [(0x1002, Some((82, 2)))];
 
 #[test]

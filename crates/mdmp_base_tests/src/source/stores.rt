@@ -36,7 +36,7 @@ fn assert_fetches<S: Store>(rt: &impl Abort, source: &mut Source<S>, rows: &[Fet
     }
 }
 
-/// Asserts that the source has the six bytes `abcdef`.
+/// Asserts that the source has six bytes, of which those at 1 to 4 are `bcde`.
 fn assert_has_six<S: Store>(rt: &impl Abort, source: &mut Source<S>) {
     assert_same(rt, source.size(), 6);
     assert_fetches(rt, source, &[(None, *b"bcde")]);

@@ -183,7 +183,7 @@ fn window_begins_anew(rt: HostRuntime) {
     assert_slides(&rt, rt.alloc(), 4, &BEGINS_ANEW, 4, 10);
 }
 
-/// Two fills where there is no stretch yet.
+/// Two fills of an empty stretch, at the start of the file.
 const NO_STRETCH: [WindowStep; 4] = [
     WindowStep::Start(0, 0),
     WindowStep::Fill,
@@ -191,7 +191,7 @@ const NO_STRETCH: [WindowStep; 4] = [
     WindowStep::Fill,
 ];
 
-/// Two fills of the whole file, where the second has nothing to fetch.
+/// Two fills of the whole file: the second has nothing to fetch, nor has the first where there is no room.
 const WHOLE_FILE: [WindowStep; 4] = [
     WindowStep::Start(0, 6),
     WindowStep::Fill,

@@ -153,7 +153,7 @@ fn units_of_a_text_succeed(rt: HostRuntime) {
     assert_units_of_text(&rt, rt.alloc(), "a\u{1F600}", &[0x0061, 0xd83d, 0xde00]);
 }
 
-/// Asserts that the units of these bytes in memory of their own, and again in such memory, are these.
+/// Asserts that the units of these bytes are these, copied from memory of their own to such memory.
 fn assert_units_of_bytes(rt: &impl Abort, alloc: Global, bytes: &[u8], expected: &[u16]) {
     let units = from_bytes(rt, alloc, bytes).expect(rt, "units");
     let again = owned(alloc, &units.view()).expect(rt, "units");
@@ -176,7 +176,7 @@ fn assert_printed(rt: &impl Abort, alloc: Global, bytes: &[u8], expected: &str) 
 #[test]
 fn units_are_compared_and_printed(rt: HostRuntime) {
     let bytes = b"a\0\x5c\0";
-    assert_same(&rt, over(&rt, bytes), over(&rt, bytes));
+    assert_same(&rt, over(&rt, bytes), over(&rt, b"a\0\x5c\0"));
     assert_different(&rt, over(&rt, bytes), over(&rt, b"a\0\x5c\x01"));
     assert_different(&rt, over(&rt, bytes), over(&rt, b"a\0"));
     let alloc = rt.alloc();
