@@ -16,7 +16,8 @@ fn write_files(rt: &(impl Files + Abort), alloc: Global, copy: &str) {
     remove_file(rt, copy);
 }
 
-/// Asserts how a command line ends that makes a file of this name, and which bytes that has.
+/// Writes the files, removes the one of this name, and asserts how a command line ends that makes it, and which
+/// bytes it has.
 fn assert_copied<R: Files + AllocGlobal + Abort>(
     rt: &R,
     alloc: Global,

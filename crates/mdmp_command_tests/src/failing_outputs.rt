@@ -125,7 +125,7 @@ fn what_is_told_may_fail_at_each_byte(rt: HostRuntime) {
     }
 }
 
-/// Asserts that it is told that the third call of the output failed.
+/// Asserts that it is told that call 3 of the output, counted from 0, failed.
 fn assert_output_failed<R: AllocGlobal + Abort>(rt: &R, alloc: Global, words: &[&str]) {
     let whole = run_failing(rt, alloc, words, out_at(3));
     let found = (whole.status, whole.told.as_str());

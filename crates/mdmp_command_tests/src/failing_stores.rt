@@ -11,8 +11,8 @@ use mdmp_test_support::{
 use std::alloc::{AllocGlobal, Global};
 use std::process::Abort;
 
-/// What is printed where a call of the store up to this one fails, and by how many bytes the place of the
-/// failure is behind the number of the call.
+/// What is printed where a call of the store before this one fails, and by how many bytes the place of the
+/// failure is less than the number of the call.
 struct FailingStage {
     end: u64,
     text: &'static str,

@@ -1,4 +1,5 @@
-//! The files that the tests write, remove and compare. Each call ends the test by itself where it fails.
+//! The files that the tests write, remove and compare. Each call ends the test by itself where it fails, but
+//! for one that removes a file, which may not be there.
 use crate::same::assert_same_at;
 use mdmp_test_support::{FAULTY, faulty_file, file_of_numbers};
 use std::alloc::{Alloc, AllocError, Global};

@@ -8,7 +8,7 @@ use std::alloc::{AllocGlobal, Global};
 use std::process::Abort;
 use std::rt::Files;
 
-/// Writes a file whose last range ends at the last address.
+/// Writes a file whose range reaches past the last address.
 fn write_last(rt: &(impl Files + Abort), alloc: Global) {
     write_made(rt, "last.dmp", last_file(alloc))
 }
@@ -81,7 +81,7 @@ fn hex_prints_or_tells_the_fault(rt: HostRuntime) {
     assert_lines(&rt, rt.alloc(), &LINES);
 }
 
-/// Words that are no addresses or no lengths.
+/// Words that are no addresses or no lengths, or that span more than the addresses there are.
 const BAD_WORDS: [&[&str]; 6] = [
     &["hex", "none.dmp", "0xFFFFFFFFFFFFFFF8", "9"],
     &["hex", "none.dmp", "0x1000", "1048577"],

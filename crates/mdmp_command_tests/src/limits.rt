@@ -82,11 +82,13 @@ fn name_that_is_too_long_is_listed_as_its_length(rt: HostRuntime) {
     assert_long_name(&rt, rt.alloc());
 }
 
-/// A small window, a great one, and a long name.
+/// A small window.
 const SMALL: &str = "--window=168";
 
+/// A great one.
 const GREAT: &str = "--window=1073741824";
 
+/// A long name.
 const LONG: &str = "--name=1073741824";
 
 /// Command lines, and the status of each where there is memory for little.

@@ -372,7 +372,7 @@ fn assert_help(rt: &impl Abort, alloc: Global, words: &[&str], line: &str) {
     assert_told(rt, alloc, words, line)
 }
 
-/// Asserts that what is told of words has this line.
+/// Asserts that what is told of words has this text.
 fn assert_told(rt: &impl Abort, alloc: Global, words: &[&str], line: &str) {
     let told = told_by(rt, alloc, &*words);
     let text = told.as_str();
@@ -437,7 +437,7 @@ fn name_help(rt: &impl Abort, alloc: Global) -> String {
     help.expect(rt, "memory for a text")
 }
 
-/// Asserts that the help of each command has this line.
+/// Asserts that the help of each command has this text.
 fn assert_each_help(rt: &impl Abort, alloc: Global, line: &str) {
     assert_told(rt, alloc, &["check", "--help"], line);
     assert_told(rt, alloc, &["list", "--help"], line);
