@@ -1,5 +1,5 @@
 //! Files made of their parts.
-use crate::small_files::{CRASH, FAULTY, SYSTEM};
+use crate::small_files::FAULTY;
 use std::alloc::{AllocError, Global};
 
 /// The bytes of a header with version 0x0000a793 and zeros beside these two fields.
@@ -47,17 +47,7 @@ fn put_number(bytes: &mut Vec<u8>, number: u32) -> Result<(), AllocError> {
     bytes.extend_from_slice(&number.to_le_bytes())
 }
 
-/// The file `SYSTEM`.
-pub fn system_file(alloc: Global) -> Result<Vec<u8>, AllocError> {
-    SYSTEM.to_vec(alloc)
-}
-
 /// The file whose numbers are `FAULTY`.
 pub fn faulty_file(alloc: Global) -> Result<Vec<u8>, AllocError> {
     file_of_numbers(alloc, 3, &FAULTY)
-}
-
-/// The file whose numbers are `CRASH`. No byte stands behind the context of its exception.
-pub fn crash_file(alloc: Global) -> Result<Vec<u8>, AllocError> {
-    file_of_numbers(alloc, 2, &CRASH)
 }

@@ -1,4 +1,4 @@
-//! Small files, what is printed of them, outputs of a set room, and a heap that counts and refuses, for the
+//! Small files, what is printed of them, how much an output takes, and a heap that counts and refuses, for the
 //! tests of the other crates.
 //!
 //! No function here has a contract, but for those of a trait, so that a test knows nothing of what it
@@ -13,16 +13,14 @@ mod outputs;
 mod small_files;
 mod texts;
 
-pub use crate::files::{
-    crash_file, entry, faulty_file, file_of_numbers, file_of_parts, header_of, system_file,
-};
+pub use crate::files::{entry, faulty_file, file_of_numbers, file_of_parts, header_of};
 pub use crate::memory_files::{
     ABCD_RANGE, FourByteRange, ListedRange, NO_RANGE, WXYZ_RANGE, endless_ranges_file, large_file,
-    last_file, memory_file, short_threads_file, two_ranges_file, wide_file,
+    last_file, memory_file, short_threads_file, two_ranges_file,
 };
 pub use crate::metered_heap::{HeapCounts, MeteredHeap, Refusal};
 pub use crate::module_files::{CODEVIEW_RECORD, module_file};
-pub use crate::outputs::{BY_SEVEN, BY_WHOLE, FOR_LONG_TEXT, Room, empty_out, start_of, text_in};
+pub use crate::outputs::{BY_SEVEN, BY_WHOLE, FOR_LONG_TEXT, Room};
 pub use crate::small_files::{
     ABSENT_STACK, COMMENT, CRASH, FAULTY, MEMORY64, MODULE, OVERLAPPING, SIX, SYSTEM, THREAD_NAME,
     THRICE, UNLOADED,

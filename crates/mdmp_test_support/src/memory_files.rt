@@ -1,13 +1,6 @@
 //! Files that hold memory of a process.
 use crate::files::file_of_numbers;
-use crate::small_files::MEMORY64;
 use std::alloc::{AllocError, Global};
-
-/// A file of 98 bytes with a 64-bit list of two ranges of four bytes, at 0x1000 and at 0x2000. The
-/// bytes of the first are `ABCD`, and of the second only `EF` are left.
-pub fn wide_file(alloc: Global) -> Result<Vec<u8>, AllocError> {
-    MEMORY64.to_vec(alloc)
-}
 
 /// A file of 2,097,216 bytes with a memory list of one range of 2 MiB at 0x1000, whose bytes are the
 /// numbers from 0 on, four bytes each. It stands as it would be written.

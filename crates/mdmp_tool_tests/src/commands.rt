@@ -63,7 +63,7 @@ pub struct CommandRun<'a> {
 }
 
 /// How a run ended: with how many bad entries or copied bytes, or why; and by how many calls it read how
-/// many bytes of a source, or 0 and 0 where it was given a store.
+/// many bytes of a source, or 0 and 0 where that is not asked: of a store, and of a list by its items.
 #[derive(Clone, Copy)]
 pub struct End {
     pub answer: Result<u64, ToolFault>,

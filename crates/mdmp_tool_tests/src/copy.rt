@@ -274,7 +274,7 @@ fn assert_copy_behind_failure(rt: &impl Abort, outcome: &RunOutcome, fail_at: u6
     }
 }
 
-/// Asserts it of each of the first calls, of this number.
+/// Asserts it of each of so many first calls, for a run that copies the crash from a store of one byte a call.
 pub fn assert_copies_behind_failures(
     rt: &impl Abort,
     alloc: Global,
@@ -313,7 +313,7 @@ fn store_that_fails_before_the_view_is_opened_leaves_nothing(rt: HostRuntime) {
     }
 }
 
-/// Asserts it of heaps of fewer than 1000 blocks.
+/// Asserts what a copy of the crash comes to in heaps of fewer than 1000 blocks.
 fn assert_memory_of_a_copy(rt: &impl Abort, alloc: Global) {
     let run = least_run(rt, OF_CRASH, 0);
     let crash = bytes_of(rt, alloc, &CRASH_FILE);

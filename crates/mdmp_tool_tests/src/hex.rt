@@ -23,7 +23,7 @@ pub fn assert_memory_rows(rt: &impl Abort, alloc: Global, rows: &[MemoryRow<'_>]
     }
 }
 
-/// Memory in the files that other tests list, too.
+/// Memory in small files.
 const ROWS: [MemoryRow<'static>; 7] = [
     (
         File::Bytes(&MEMORY64),

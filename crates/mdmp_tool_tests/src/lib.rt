@@ -1,6 +1,6 @@
 //! Tests of the commands over stores and outputs, by the public calls of `mdmp_tool` alone.
 //!
-//! `commands` makes the calls whose contracts are long, in functions without one; `runs` compares what comes
+//! `commands` makes the calls whose contracts are long, in functions without one or with a short one; `runs` compares what comes
 //! of them, which is plain values; and a test is a few calls of such functions, on constants.
 #![tactic(auto)]
 

@@ -234,8 +234,8 @@ pub fn assert_list_ends(rt: &impl Abort, alloc: Global, file: &File<'_>, name: u
     assert_ends(rt, &run_file(rt, alloc, file, &run), line);
 }
 
-/// Asserts what a run through blocks of each of these sizes answers, and what it prints to an output that
-/// takes all.
+/// Asserts what a run through blocks of each of these sizes answers, and what it prints to an output of
+/// this room.
 pub fn assert_in_blocks(
     rt: &impl Abort,
     alloc: Global,
