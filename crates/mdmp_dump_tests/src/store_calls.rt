@@ -118,8 +118,8 @@ fn assert_told(
     }
 }
 
-/// Asserts it of all these calls, by which a file is read, and that a store that fails behind them all does
-/// not; and how many they are.
+/// Asserts it of all these calls, by which a file is read or a view of it opened, how many they are, and that a
+/// store which fails at none of them is read well.
 fn assert_all_told(
     rt: &impl Abort,
     alloc: Global,

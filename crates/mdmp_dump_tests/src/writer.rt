@@ -75,7 +75,7 @@ pub fn stored_size<A: Allocator + Copy>(alloc: A, dump: &Dump<A>) -> Result<usiz
     }
 }
 
-/// Why a dump that is written is not read back.
+/// Why a dump is not written and read back.
 pub fn fault_back<A: Allocator + Copy>(
     alloc: A,
     dump: &Dump<A>,

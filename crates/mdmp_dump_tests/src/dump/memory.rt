@@ -41,7 +41,7 @@ fn assert_read_in(
 }
 
 /// Reads a file in greater and greater heaps, as long as memory is wanted and all of it given back:
-/// what comes of the first heap of which another thing does.
+/// what comes of the first heap of which another thing does, or none where there is no such heap.
 fn first_other(rt: &impl Abort, alloc: Global, file: &[u8]) -> Option<(Option<ReadFault>, usize)> {
     for step in 0..200 {
         let found = fault_in(rt, alloc, 16 * step, file);

@@ -3,7 +3,9 @@ ghost use Rattle.std.specs.Prelude.{◌≡◌, ◌<◌, length, IsTrue};
 ghost use Rattle.mdmp_dump.specs.Shape.{head_of, stream_at};
 
 use super::built::{records, value_of};
-use crate::files::{ABSENT_STACK_READING, DumpReading, MEMORY64_READING, SIX_READING};
+use crate::files::{
+    ABSENT_STACK_READING, DumpReading, LEAST, MEMORY64_READING, SIX_READING, Sample,
+};
 use crate::same::{assert_same, assert_same_at};
 use mdmp_dump::{Dump, DumpView, Fields, HeaderFields, Kind, PartSize, ViewFault};
 use mdmp_source::Location;
@@ -158,34 +160,46 @@ fn streams_are_told_by_their_kinds_and_sizes(rt: HostRuntime) {
     assert_told(&rt, rt.alloc(), SIX_READING, &streams);
 }
 
-/// Asserts what is given as the first record of a stream of a dump.
-fn assert_record(
-    rt: &impl Abort,
-    alloc: Global,
-    reading: DumpReading<'_>,
-    stream: u64,
-    fields: Option<Fields>,
-) {
-    let dump = value_of(rt, alloc, reading);
-    let found = first_record(&mut dump.view(), bytes_at(stream, 0, 0), &mut []);
-    assert_same(rt, found, Ok(fields));
+/// Asserts what is given as the first record of a stream.
+fn assert_record<V: DumpView>(rt: &impl Abort, view: &mut V, stream: u64, fields: Option<Fields>) {
+    let found = first_record(view, bytes_at(stream, 0, 0), &mut []);
+    assert_same_at(rt, &stream, found, Ok(fields));
 }
 
-/// Asserts that the first record of a stream of a dump is given, and these bytes of one of its parts.
-fn assert_part(
+/// Asserts what one view of a dump gives as the first records of these streams, one after another.
+fn assert_records(
     rt: &impl Abort,
     alloc: Global,
     reading: DumpReading<'_>,
-    wanted: Wanted,
-    expected: &[u8],
+    rows: &[(u64, Option<Fields>)],
 ) {
+    let dump = value_of(rt, alloc, reading);
+    let mut view = dump.view();
+    for (stream, fields) in rows {
+        assert_record(rt, &mut view, *stream, *fields);
+    }
+}
+
+/// A part of the first record of a stream, a place in it, and the bytes from there on.
+type PartRow = (u64, usize, u64, &'static [u8]);
+
+/// Asserts that the first record of a stream is given, and these bytes of one of its parts.
+fn assert_part<V: DumpView>(rt: &impl Abort, view: &mut V, wanted: Wanted, expected: &[u8]) {
     let mut buffer = [0; 8];
     let out = buffer.get_mut(..expected.len()).expect(rt, "room");
-    let dump = value_of(rt, alloc, reading);
-    let found = first_record(&mut dump.view(), wanted, out);
+    let found = first_record(view, wanted, out);
     assert_same_at(rt, &wanted, matches!(found, Ok(Some(_))), true);
     let out = buffer.get(..expected.len());
     assert_same_at(rt, &wanted, out, Some(expected));
+}
+
+/// Asserts it of one view of a dump and each of these rows, one after another.
+fn assert_parts(rt: &impl Abort, alloc: Global, reading: DumpReading<'_>, rows: &[PartRow]) {
+    let dump = value_of(rt, alloc, reading);
+    let mut view = dump.view();
+    for (stream, which, at, expected) in rows {
+        assert_part(rt, &mut view, bytes_at(*stream, *which, *at), expected);
+    }
 }
 
 #[test]
@@ -203,8 +217,8 @@ fn memory_of_64_bits_is_told_by_its_bytes(rt: HostRuntime) {
         }),
         parts: [PartSize::Size(4), PartSize::NoPart, PartSize::NoPart],
     };
-    assert_record(&rt, rt.alloc(), MEMORY64_READING, 0, Some(fields));
-    assert_part(&rt, rt.alloc(), MEMORY64_READING, bytes_at(0, 0, 1), b"BCD");
+    assert_records(&rt, rt.alloc(), MEMORY64_READING, &[(0, Some(fields))]);
+    assert_parts(&rt, rt.alloc(), MEMORY64_READING, &[(0, 0, 1, b"BCD")]);
 }
 
 /// The numbers of the header that the view of a dump gives.
@@ -212,28 +226,38 @@ fn header_of(dump: &Dump<Global>) -> HeaderFields {
     dump.view().header()
 }
 
+/// A dump that was read of a file without streams, with other numbers of its header.
+fn dump_with_numbers(rt: &impl Abort, alloc: Global) -> Dump<Global> {
+    let mut dump = value_of(rt, alloc, NO_STREAMS);
+    dump.version_high = 1;
+    dump.checksum = 2;
+    dump.time = 3;
+    dump.flags = 4;
+    dump
+}
+
+/// A file without streams.
+const NO_STREAMS: DumpReading<'static> = DumpReading {
+    sample: Sample::Numbers(0, &[]),
+    limits: LEAST,
+    parts: 0,
+};
+
 #[test]
 fn numbers_of_the_header_are_given(rt: HostRuntime) {
-    let dump = Dump {
-        version_high: 1,
-        checksum: 2,
-        time: 3,
-        flags: 4,
-        streams: records(&rt, rt.alloc(), []),
-    };
     let header = HeaderFields {
         version_high: 1,
         checksum: 2,
         time: 3,
         flags: 4,
     };
-    assert_same(&rt, header_of(&dump), header);
+    assert_same(&rt, header_of(&dump_with_numbers(&rt, rt.alloc())), header);
 }
 
 /// Where nothing is.
 const NOWHERE: Location = Location { size: 0, rva: 0 };
 
-/// A thread, whose stack begins there, without its locations.
+/// A thread, whose stack begins at 0x7000, without its locations.
 fn thread(teb: u64, priority_class: u32) -> AnyRecord {
     AnyRecord::Thread(ThreadRecord {
         thread_id: 7,
@@ -255,8 +279,8 @@ fn record_is_given_without_its_locations(rt: HostRuntime) {
         wire: thread(0x5000, 32),
         parts: [PartSize::Size(4), PartSize::Size(6), PartSize::NoPart],
     };
-    assert_record(&rt, rt.alloc(), SIX_READING, 1, Some(fields));
-    assert_record(&rt, rt.alloc(), SIX_READING, 2, None);
+    let rows = [(1, Some(fields)), (2, None)];
+    assert_records(&rt, rt.alloc(), SIX_READING, &rows);
 }
 
 #[test]
@@ -265,21 +289,25 @@ fn absent_part_is_given_as_its_size(rt: HostRuntime) {
         wire: thread(0, 0),
         parts: [PartSize::Absent(256), PartSize::Size(1), PartSize::NoPart],
     };
-    assert_record(&rt, rt.alloc(), ABSENT_STACK_READING, 0, Some(fields));
+    assert_records(&rt, rt.alloc(), ABSENT_STACK_READING, &[(0, Some(fields))]);
 }
+
+/// Parts of the six streams, by pieces.
+const PIECES: [PartRow; 9] = [
+    (0, 0, 0, b"S\0e"),
+    (0, 0, 3, b"\0r\0v"),
+    (0, 0, 26, b"1\0"),
+    (1, 0, 0, b"STAK"),
+    (1, 1, 0, &[1, 2, 3, 4]),
+    (1, 1, 4, &[5, 6]),
+    (1, 1, 6, &[]),
+    (3, 0, 0, &[0xaa]),
+    (3, 0, 1, &[0xbb, 0xcc, 0xdd]),
+];
 
 #[test]
 fn parts_are_given_by_pieces(rt: HostRuntime) {
-    let six = SIX_READING;
-    assert_part(&rt, rt.alloc(), six, bytes_at(0, 0, 0), b"S\0e");
-    assert_part(&rt, rt.alloc(), six, bytes_at(0, 0, 3), b"\0r\0v");
-    assert_part(&rt, rt.alloc(), six, bytes_at(0, 0, 26), b"1\0");
-    assert_part(&rt, rt.alloc(), six, bytes_at(1, 0, 0), b"STAK");
-    assert_part(&rt, rt.alloc(), six, bytes_at(1, 1, 0), &[1, 2, 3, 4]);
-    assert_part(&rt, rt.alloc(), six, bytes_at(1, 1, 4), &[5, 6]);
-    assert_part(&rt, rt.alloc(), six, bytes_at(1, 1, 6), &[]);
-    assert_part(&rt, rt.alloc(), six, bytes_at(3, 0, 0), &[0xaa]);
-    assert_part(&rt, rt.alloc(), six, bytes_at(3, 0, 1), &[0xbb, 0xcc, 0xdd]);
+    assert_parts(&rt, rt.alloc(), SIX_READING, &PIECES);
 }
 
 /// Asserts what is found where two bytes of a stream of the six are asked for.

@@ -28,7 +28,7 @@ fn assert_most(rt: &impl Abort, found: u128, most: u128) {
     assert_same_at(rt, &found, found <= most, true);
 }
 
-/// A list of three modules without names and parts, of 372 bytes.
+/// A file of 372 bytes with a list of three modules without names and parts.
 const MODULES: Sample<'static> = Sample::Parts(
     &[
         b"MDMP\x93\xa7\0\0\x01\0\0\0\x20\0\0\0\0\0\0\0\0\0\0\0\0\0\0\0\0\0\0\0",

@@ -2,6 +2,7 @@
 use super::assert_written;
 use crate::dump::built::{absent, bytes, dump_of, of_one, part, records, units, value_of};
 use crate::files::{DumpReading, LEAST, NAMED, Sample};
+use crate::same::assert_same;
 use mdmp_dump::{Dump, Memory64Range, MemoryRange, Stream, Thread, Unloaded};
 use mdmp_test_support::{ABSENT_STACK, MODULE, THREAD_NAME, THRICE};
 use mdmp_wire::Units;
@@ -59,8 +60,9 @@ fn absent_part_is_written_as_its_size(rt: HostRuntime) {
     };
     let threads = Stream::Threads(records(&rt, rt.alloc(), [thread]));
     let dump = of_one(&rt, rt.alloc(), threads);
-    // All of its 100 bytes.
-    assert_written(&rt, rt.alloc(), dump, Sample::Cut(1, &ABSENT_STACK, 100));
+    // The header, and the numbers.
+    assert_same(&rt, 32 + 4 * ABSENT_STACK.len(), 100);
+    assert_written(&rt, rt.alloc(), dump, Sample::Numbers(1, &ABSENT_STACK));
 }
 
 #[test]

@@ -134,8 +134,8 @@ fn first_such_stream_is_told(rt: HostRuntime) {
     assert_size(&rt, &dump, Err(LayoutFault::RawKnownType { stream: 1 }));
 }
 
-/// Asserts how large a dump is of a raw stream of this type and of so much 64-bit memory, for each number of
-/// raw bytes. Its streams end 88 bytes behind these, up to a multiple of 4.
+/// Asserts how large a dump is of a raw stream of this type and of so much 64-bit memory, for each row of
+/// both numbers. Its streams end 88 bytes behind these, up to a multiple of 4.
 fn assert_sizes(
     rt: &impl Abort,
     stream_type: u32,
