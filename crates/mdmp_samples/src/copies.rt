@@ -1,9 +1,8 @@
 //! Streams of a dump, copied.
 
-use crate::digest::{ByteSummary, summary_of};
-use crate::status::{DIFFERS, UNWRITTEN};
+use crate::digest::summary_of;
 use mdmp_lister::{Limits, TypeSet};
-use mdmp_source::{FileStore, WriteOut};
+use mdmp_source::{FileStore, Out, WriteOut};
 use mdmp_tool::run_copy;
 use std::io::Write;
 
@@ -48,28 +47,25 @@ pub const CHOSEN: [Chosen; 6] = [
 ];
 
 /// Prints how long the copy of a dump's chosen streams is, and its SHA-256.
-pub fn tell_copy(rt: &HostRuntime, chosen: &Chosen) -> Result<(), u8> {
+pub fn tell_copy(rt: &HostRuntime, chosen: &Chosen) -> Option<()> {
     let Chosen { dump, types } = chosen;
-    let Some(ByteSummary { size, sha256 }) = copied(rt, *dump, *types) else {
-        return Err(DIFFERS);
-    };
-    writeln!(
-        rt.stdout(),
-        "{dump}: copy of types {types:?} has {size} bytes, sha256 {sha256}"
-    )
-    .map_err(|_| UNWRITTEN)
+    let copy = copied(rt, dump, types)?;
+    let summary = summary_of(rt.alloc(), &copy)?;
+    writeln!(rt.stdout(), "{dump}: copy of types {types:?} has {summary}").ok()
 }
 
-/// What is told of the copy, or none where there is none, or its answer is not how many bytes went out.
-fn copied(rt: &HostRuntime, dump: &str, types: &[u32]) -> Option<ByteSummary> {
-    let store = FileStore::open(rt, dump).ok()?;
-    let types = TypeSet::new(types)?;
+/// The copy, or none where there is none, or its answer is not how many bytes went out.
+fn copied(rt: &HostRuntime, dump: &str, types: &[u32]) -> Option<Vec<u8>> {
     let mut out = WriteOut::new(Vec::new(rt.alloc()));
-    let size = run_copy(rt.alloc(), store, Limits::default(), types, &mut out).ok()?;
-    let summary = summary_of(rt.alloc(), &out.into_inner())?;
-    if summary.size == size {
-        Some(summary)
-    } else {
-        None
-    }
+    let size = copy_to(rt, dump, types, &mut out)?;
+    let copy = out.into_inner();
+    let is_of_size = copy.len() as u64 == size;
+    is_of_size.then_some(copy)
+}
+
+/// Copies to this output, and gives what is answered.
+fn copy_to<O: Out>(rt: &HostRuntime, dump: &str, types: &[u32], out: &mut O) -> Option<u64> {
+    let types = TypeSet::new(types)?;
+    let store = FileStore::open(rt, dump).ok()?;
+    run_copy(rt.alloc(), store, Limits::default(), types, out).ok()
 }

@@ -6,11 +6,12 @@
 #![tactic(auto)]
 
 mod checks;
+mod commands;
 mod copies;
 mod digest;
 mod lists;
+mod opening;
 mod outputs;
-mod status;
 mod symbols;
 mod value;
 mod walks;
@@ -38,44 +39,64 @@ const DUMPS: [&str; 6] = [
     "wine8-child-normal.dmp",
 ];
 
-/// Prints all of it, up to the first that fails: the error is its exit status.
-fn tell_all(rt: &HostRuntime) -> Result<(), u8> {
-    for dump in DUMPS {
-        list(rt, dump)?;
+/// What is told of a dump.
+#[derive(Clone, Copy)]
+enum Aspect {
+    List,
+    Check,
+    Symbols,
+    Windows,
+    Walk,
+    Items,
+    Totals,
+    Value,
+    View,
+}
+
+/// What is told of all dumps, one behind the other.
+const ASPECTS: [Aspect; 9] = [
+    Aspect::List,
+    Aspect::Check,
+    Aspect::Symbols,
+    Aspect::Windows,
+    Aspect::Walk,
+    Aspect::Items,
+    Aspect::Totals,
+    Aspect::Value,
+    Aspect::View,
+];
+
+/// Tells this of a dump, or gives none where something differs, or can't be read or printed.
+fn tell(rt: &HostRuntime, aspect: Aspect, dump: &str) -> Option<()> {
+    match aspect {
+        Aspect::List => list(rt, dump),
+        Aspect::Check => tell_check(rt, dump),
+        Aspect::Symbols => tell_symbols(rt, dump),
+        Aspect::Windows => tell_windows(rt, dump),
+        Aspect::Walk => tell_walk(rt, dump),
+        Aspect::Items => tell_items(rt, dump),
+        Aspect::Totals => tell_totals(rt, dump),
+        Aspect::Value => tell_value(rt, dump),
+        Aspect::View => tell_view(rt, dump),
     }
-    for dump in DUMPS {
-        tell_check(rt, dump)?;
+}
+
+/// Prints all of it, up to the first that gives none.
+fn tell_all(rt: &HostRuntime) -> Option<()> {
+    for aspect in &ASPECTS {
+        for dump in &DUMPS {
+            tell(rt, *aspect, dump)?;
+        }
     }
-    for dump in DUMPS {
-        tell_symbols(rt, dump)?;
-    }
-    for dump in DUMPS {
-        tell_windows(rt, dump)?;
-    }
-    for dump in DUMPS {
-        tell_walk(rt, dump)?;
-    }
-    for dump in DUMPS {
-        tell_items(rt, dump)?;
-    }
-    for dump in DUMPS {
-        tell_totals(rt, dump)?;
-    }
-    for dump in DUMPS {
-        tell_value(rt, dump)?;
-    }
-    for dump in DUMPS {
-        tell_view(rt, dump)?;
-    }
-    for chosen in CHOSEN {
-        tell_copy(rt, &chosen)?;
+    for chosen in &CHOSEN {
+        tell_copy(rt, chosen)?;
     }
     tell_outputs(rt)
 }
 
 fn main(rt: HostRuntime) -> ExitCode {
     match tell_all(&rt) {
-        Ok(()) => ExitCode::from(0),
-        Err(status) => ExitCode::from(status),
+        Some(()) => ExitCode::from(0),
+        None => ExitCode::from(1),
     }
 }

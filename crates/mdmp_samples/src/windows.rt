@@ -1,31 +1,24 @@
 //! The list of a dump, by small windows and by the greatest.
 
-use crate::status::{DIFFERS, UNWRITTEN};
-use mdmp_source::WriteOut;
-use mdmp_tool::run_words;
-use std::alloc::Global;
+use crate::commands::printed_by;
 use std::io::Write;
 
 /// Prints that `list` prints of a dump by small windows, and by the greatest, what it prints by the usual one.
-pub fn tell_windows(rt: &HostRuntime, dump: &str) -> Result<(), u8> {
-    let (usual_status, usual) = listed(rt, &["list", dump]);
-    for window in ["168", "169", "255", "1073741824"] {
-        let (status, text) = listed(rt, &["list", dump, "--window", window]);
-        if status != usual_status || text[..] != usual[..] {
-            return Err(DIFFERS);
+pub fn tell_windows(rt: &HostRuntime, dump: &str) -> Option<()> {
+    let usual = printed_by(rt, &["list", dump]);
+    for window in &["168", "169", "255", "1073741824"] {
+        if !is_printed_by(rt, dump, window, &usual) {
+            return None;
         }
     }
     writeln!(
         rt.stdout(),
         "{dump}: the same list by windows of 168, 169, 255 and 1073741824 bytes"
     )
-    .map_err(|_| UNWRITTEN)
+    .ok()
 }
 
-/// The exit status of a command, and what it prints.
-fn listed(rt: &HostRuntime, words: &[&str]) -> (u8, Vec<u8, Global>) {
-    let mut out = WriteOut::new(Vec::new(rt.alloc()));
-    let mut err = WriteOut::new(rt.stderr());
-    let status = run_words(rt, rt.alloc(), words, &mut out, &mut err);
-    (status, out.into_inner())
+/// Whether `list` ends so, and prints this, by a window of so many bytes.
+fn is_printed_by(rt: &HostRuntime, dump: &str, window: &str, usual: &(u8, Vec<u8>)) -> bool {
+    printed_by(rt, &["list", dump, "--window", window]) == *usual
 }
