@@ -1,33 +1,40 @@
 //! What a lister may hold, fetch and call.
 
-use crate::trouble::{Trouble, agree};
+use crate::census::Census;
 use mdmp_lister::{Counts, Limits, Lister};
 use mdmp_source::MemoryStore;
 use std::alloc::Global;
 
-/// Trouble where a lister that ended counts more than it may, or otherwise than its source.
-pub fn check_bounds(
-    lister: Lister<MemoryStore<'_>, Global>,
-    limits: Limits,
-) -> Result<(), Trouble> {
-    let counts = lister.counts();
-    agree(
+/// Keeps it as trouble where a lister that ended counts more than it may, or otherwise than its source.
+pub fn check_bounds(lister: Lister<MemoryStore<'_>, Global>, limits: Limits, census: &mut Census) {
+    let counts = counts_of(&lister);
+    census.agree(
         counts.held == held_bound(&counts, limits),
         "held is not as told",
-    )?;
-    agree(
+    );
+    census.agree(
         counts.fetched <= fetch_bound(&counts, limits),
         "more was fetched than may be",
-    )?;
-    agree(
+    );
+    census.agree(
         counts.calls <= call_bound(&counts, limits),
         "more calls were made than may be",
-    )?;
-    let source = lister.into_source();
-    agree(
-        source.fetched() == counts.fetched && source.calls() == counts.calls,
+    );
+    census.agree(
+        counts_as_its_source(lister, &counts),
         "the source counts otherwise",
-    )
+    );
+}
+
+/// What a lister counts.
+pub fn counts_of(lister: &Lister<MemoryStore<'_>, Global>) -> Counts {
+    lister.counts()
+}
+
+/// Whether the source of a lister counts the same.
+fn counts_as_its_source(lister: Lister<MemoryStore<'_>, Global>, counts: &Counts) -> bool {
+    let source = lister.into_source();
+    source.fetched() == counts.fetched && source.calls() == counts.calls
 }
 
 /// The window, 12 bytes for each entry, 24 for each range, and the longest name.

@@ -1,8 +1,9 @@
-//! What is counted of the files.
+//! What is counted of the files, and what troubles one of them: two calls that do not agree, a bound that is
+//! not kept, or memory that is wanting.
 
 use std::io::{Error, Write};
 
-/// A thing that is counted.
+/// A thing that is counted, in the order of the lines.
 #[derive(Clone, Copy)]
 pub enum Counted {
     Files,
@@ -61,89 +62,76 @@ pub enum Counted {
     TooLarge,
 }
 
+/// What troubles a file where memory is wanting.
+pub const OUT_OF_MEMORY: &str = "out of memory";
+
 /// How many things are counted.
 const THINGS: usize = 54;
 
-/// What is printed of each, in the order of the lines.
-const TOLD: [(Counted, &str); THINGS] = [
-    (Counted::Files, "files"),
-    (Counted::Bytes, "bytes of files"),
-    (Counted::Damaged, "files that were damaged"),
-    (Counted::Opened, "files opened"),
-    (Counted::TooShort, "refused: file too short"),
-    (Counted::BadSignature, "refused: bad signature"),
-    (Counted::BadVersion, "refused: bad version"),
-    (
-        Counted::DirectoryOutside,
-        "refused: directory outside the file",
-    ),
-    (Counted::TooManyRanges, "refused: too many memory ranges"),
-    (Counted::Items, "items listed"),
-    (Counted::Unused, "unused entries"),
-    (Counted::ThreadLists, "thread lists"),
-    (Counted::ModuleLists, "module lists"),
-    (Counted::MemoryLists, "memory lists"),
-    (Counted::ExceptionStreams, "exception streams"),
-    (Counted::SystemStreams, "system streams"),
-    (Counted::Memory64Lists, "64-bit memory lists"),
-    (Counted::UnloadedLists, "unloaded module lists"),
-    (Counted::MemoryInfoLists, "memory info lists"),
-    (Counted::ThreadNameLists, "thread name lists"),
-    (Counted::Opaque, "opaque streams"),
-    (Counted::Users, "streams of users"),
-    (Counted::Threads, "threads"),
-    (Counted::Modules, "modules"),
-    (Counted::Unloaded, "unloaded modules"),
-    (Counted::Exceptions, "exceptions"),
-    (Counted::Systems, "systems"),
-    (Counted::Regions, "regions"),
-    (Counted::ThreadNames, "names of threads"),
-    (Counted::Ranges, "ranges"),
-    (Counted::Names, "names"),
-    (Counted::LongNames, "names over the limit"),
-    (Counted::Whole, "files listed to their end"),
-    (
-        Counted::StreamOutside,
-        "listed up to a stream outside the file",
-    ),
-    (Counted::ShortStream, "listed up to a stream too short"),
-    (Counted::BadHeaderSize, "listed up to a bad header size"),
-    (Counted::BadEntrySize, "listed up to a bad entry size"),
-    (Counted::BadCount, "listed up to a bad count"),
-    (
-        Counted::NameLengthOutside,
-        "listed up to a name length outside the file",
-    ),
-    (Counted::NameOdd, "listed up to an odd name length"),
-    (
-        Counted::NameUnitsOutside,
-        "listed up to a name outside the file",
-    ),
-    (Counted::Verdicts, "verdicts"),
-    (Counted::BadVerdicts, "verdicts with a fault"),
-    (Counted::Values, "values read"),
-    (Counted::StackOutside, "not read: stack outside the file"),
-    (
-        Counted::ContextOutside,
-        "not read: context outside the file",
-    ),
-    (
-        Counted::CodeViewOutside,
-        "not read: codeview outside the file",
-    ),
-    (Counted::MiscOutside, "not read: misc outside the file"),
-    (Counted::MemoryOutside, "not read: memory outside the file"),
-    (Counted::NameTooLong, "not read: name too long"),
-    (Counted::PartsTooLarge, "not read: parts too large"),
-    (Counted::Copies, "copies"),
-    (Counted::CopyBytes, "bytes of copies"),
-    (Counted::TooLarge, "not written: too large"),
+/// What is printed of each.
+const TOLD: [&str; THINGS] = [
+    "files",
+    "bytes of files",
+    "files that were damaged",
+    "files opened",
+    "refused: file too short",
+    "refused: bad signature",
+    "refused: bad version",
+    "refused: directory outside the file",
+    "refused: too many memory ranges",
+    "items listed",
+    "unused entries",
+    "thread lists",
+    "module lists",
+    "memory lists",
+    "exception streams",
+    "system streams",
+    "64-bit memory lists",
+    "unloaded module lists",
+    "memory info lists",
+    "thread name lists",
+    "opaque streams",
+    "streams of users",
+    "threads",
+    "modules",
+    "unloaded modules",
+    "exceptions",
+    "systems",
+    "regions",
+    "names of threads",
+    "ranges",
+    "names",
+    "names over the limit",
+    "files listed to their end",
+    "listed up to a stream outside the file",
+    "listed up to a stream too short",
+    "listed up to a bad header size",
+    "listed up to a bad entry size",
+    "listed up to a bad count",
+    "listed up to a name length outside the file",
+    "listed up to an odd name length",
+    "listed up to a name outside the file",
+    "verdicts",
+    "verdicts with a fault",
+    "values read",
+    "not read: stack outside the file",
+    "not read: context outside the file",
+    "not read: codeview outside the file",
+    "not read: misc outside the file",
+    "not read: memory outside the file",
+    "not read: name too long",
+    "not read: parts too large",
+    "copies",
+    "bytes of copies",
+    "not written: too large",
 ];
 
-/// How often each thing was counted.
+/// How often each thing was counted, and what troubles a file.
 #[derive(Clone, Copy)]
 pub struct Census {
     counts: [u64; THINGS],
+    /// What troubles a file: the first thing that does since it was taken.
+    pub trouble: Option<&'static str>,
 }
 
 impl Census {
@@ -151,6 +139,7 @@ impl Census {
     pub fn new() -> Self {
         Census {
             counts: [0; THINGS],
+            trouble: None,
         }
     }
 
@@ -166,12 +155,25 @@ impl Census {
         }
     }
 
+    /// Keeps what troubles a file, where nothing did before.
+    pub fn keep_trouble(&mut self, what: &'static str) {
+        if self.trouble.is_none() {
+            self.trouble = Some(what);
+        }
+    }
+
+    /// Keeps this as what troubles a file where it does not hold.
+    pub fn agree(&mut self, holds: bool, what: &'static str) {
+        if !holds {
+            self.keep_trouble(what);
+        }
+    }
+
     /// Prints a line for each thing that is counted.
     pub fn tell(&self, rt: &HostRuntime) -> Result<(), Error> {
-        for (what, told) in TOLD {
-            if let Some(count) = self.counts.get(what as usize) {
-                writeln!(rt.stdout(), "{count} {told}")?;
-            }
+        for k in 0..THINGS {
+            let (count, told) = (self.counts[k], TOLD[k]);
+            writeln!(rt.stdout(), "{count} {told}")?;
         }
         Ok(())
     }

@@ -2,7 +2,6 @@
 
 use crate::chance::Chance;
 use crate::draft::{Belongs, Draft, DraftNumber};
-use std::alloc::AllocError;
 
 /// Numbers at the edges of their fields, and counts whose records pass 2^32 or 2^64 bytes.
 const EDGES: [u64; 16] = [
@@ -25,37 +24,29 @@ const EDGES: [u64; 16] = [
 ];
 
 /// Damages a file in one of some ways.
-pub fn damage(draft: &mut Draft, chance: &mut Chance) -> Result<(), AllocError> {
+pub fn damage(draft: &mut Draft, chance: &mut Chance) {
     match chance.below(20) {
         0 => become_noise(draft, chance),
-        1 | 2 => {
-            cut(draft, chance);
-            Ok(())
-        },
-        3 | 4 => {
-            strike(draft, chance);
-            Ok(())
-        },
+        1 | 2 => cut(draft, chance),
+        3 | 4 => strike(draft, chance),
         _ => {
             for _ in 0..chance.below(3).saturating_add(1) {
                 turn_number(draft, chance);
             }
-            Ok(())
         },
     }
 }
 
 /// Any bytes in place of all, at times behind a header of a directory that stands behind it.
-fn become_noise(draft: &mut Draft, chance: &mut Chance) -> Result<(), AllocError> {
+fn become_noise(draft: &mut Draft, chance: &mut Chance) {
     draft.bytes.clear();
     if chance.once_in(2) {
-        draft.bytes.extend_from_slice(b"MDMP\x93\xa7")?;
-        draft.put_noise(chance, 2)?;
-        draft.put_word(chance.below(4))?;
-        draft.put_word(32)?;
+        draft.put_bytes(b"MDMP\x93\xa7");
+        draft.put_noise(chance, 2);
+        draft.put_words(&[chance.below(4), 32]);
     }
     let size = chance.below(300);
-    draft.put_noise(chance, size)
+    draft.put_noise(chance, size);
 }
 
 /// Drops bytes at the end.
@@ -88,7 +79,7 @@ fn turn_number(draft: &mut Draft, chance: &mut Chance) {
         return;
     };
     let value = breaking_value(draft, chance, number);
-    draft.set(number, value);
+    draft.set(number.at, number.width, value);
 }
 
 /// One of the numbers that belong to these, or none where there is none.

@@ -2,7 +2,7 @@
 
 use crate::chance::Chance;
 use mdmp_source::Location;
-use std::alloc::{AllocError, Global};
+use std::alloc::Global;
 
 /// What a number of a file belongs to.
 #[derive(Clone, Copy, PartialEq, Eq)]
@@ -30,13 +30,28 @@ pub struct DraftNumber {
     pub width: usize,
 }
 
-/// A file in the making: its bytes, and which of them are numbers that a reader goes by.
+/// An entry of the directory, and how many records its stream has.
+#[derive(Clone, Copy)]
+pub struct DraftEntry {
+    /// `StreamType`.
+    pub stream_type: u32,
+    /// `Location`.
+    pub location: Location,
+    /// How many records are listed of it.
+    pub records: u32,
+}
+
+/// A file in the making: its bytes, which of them are numbers that a reader goes by, and its entries.
 #[derive(Drop)]
 pub struct Draft {
     /// Its bytes so far.
     pub bytes: Vec<u8>,
     /// Its numbers so far.
     pub numbers: Vec<DraftNumber>,
+    /// Its entries so far.
+    pub entries: Vec<DraftEntry>,
+    /// Whether memory was wanting for any of these, so that it is not as it was to be.
+    pub lacks_memory: bool,
 }
 
 impl Draft {
@@ -45,6 +60,8 @@ impl Draft {
         Draft {
             bytes: Vec::new(alloc),
             numbers: Vec::new(alloc),
+            entries: Vec::new(alloc),
+            lacks_memory: false,
         }
     }
 
@@ -53,64 +70,86 @@ impl Draft {
         u32::try_from(self.bytes.len()).unwrap_or(u32::MAX)
     }
 
-    /// Puts a number of four bytes that a reader goes by.
-    pub fn put_number(&mut self, belongs: Belongs, value: u32) -> Result<(), AllocError> {
-        self.mark(belongs, 4)?;
-        self.put_word(value)
-    }
-
-    /// Puts a number of eight bytes that a reader goes by.
-    pub fn put_wide_number(&mut self, belongs: Belongs, value: u64) -> Result<(), AllocError> {
-        self.mark(belongs, 8)?;
-        self.bytes.extend_from_slice(&value.to_le_bytes())
-    }
-
-    /// Puts the location of a part of a record.
-    pub fn put_location(&mut self, location: Location) -> Result<(), AllocError> {
-        self.put_number(Belongs::Record, location.size)?;
-        self.put_number(Belongs::Record, location.rva)
+    /// Puts bytes.
+    pub fn put_bytes(&mut self, bytes: &[u8]) {
+        if self.bytes.extend_from_slice(bytes).is_err() {
+            self.lacks_memory = true;
+        }
     }
 
     /// Puts a number of four bytes.
-    pub fn put_word(&mut self, value: u32) -> Result<(), AllocError> {
-        self.bytes.extend_from_slice(&value.to_le_bytes())
+    pub fn put_word(&mut self, value: u32) {
+        self.put_bytes(&value.to_le_bytes());
+    }
+
+    /// Puts numbers of four bytes.
+    pub fn put_words(&mut self, values: &[u32]) {
+        for value in values {
+            self.put_word(*value);
+        }
+    }
+
+    /// Puts a number of four bytes that a reader goes by.
+    pub fn put_number(&mut self, belongs: Belongs, value: u32) {
+        self.mark(belongs, 4);
+        self.put_word(value);
+    }
+
+    /// Puts a number of eight bytes that a reader goes by.
+    pub fn put_wide_number(&mut self, belongs: Belongs, value: u64) {
+        self.mark(belongs, 8);
+        self.put_bytes(&value.to_le_bytes());
     }
 
     /// Puts any bytes.
-    pub fn put_noise(&mut self, chance: &mut Chance, size: u32) -> Result<(), AllocError> {
+    pub fn put_noise(&mut self, chance: &mut Chance, size: u32) {
         for _ in 0..size {
-            self.bytes.push(chance.byte())?;
+            self.put_bytes(&[chance.byte()]);
         }
-        Ok(())
     }
 
     /// Puts bytes so that what follows begins at a multiple of 4, or does not.
-    pub fn put_gap(&mut self, chance: &mut Chance) -> Result<(), AllocError> {
+    pub fn put_gap(&mut self, chance: &mut Chance) {
         let gap = if chance.once_in(2) {
             3 - (self.end().wrapping_sub(1) & 3)
         } else {
             chance.below(4)
         };
-        self.put_noise(chance, gap)
+        self.put_noise(chance, gap);
     }
 
-    /// Writes a number over what stands there.
-    pub fn set(&mut self, number: DraftNumber, value: u64) {
+    /// Adds an entry, which is not written yet.
+    pub fn add_entry(&mut self, entry: DraftEntry) {
+        if self.entries.push(entry).is_err() {
+            self.lacks_memory = true;
+        }
+    }
+
+    /// How many entries and records a list of it has.
+    pub fn item_count(&self) -> u64 {
+        let mut items: u64 = 0;
+        for entry in &self.entries {
+            items = items.saturating_add(u64::from(entry.records).saturating_add(1));
+        }
+        items
+    }
+
+    /// Writes a number of so many bytes, at most 8, over what stands there.
+    pub fn set(&mut self, at: usize, width: usize, value: u64) {
         let new = value.to_le_bytes();
-        for k in 0..number.width.min(8) {
-            if let Some(byte) = self.bytes.get_mut(number.at.saturating_add(k)) {
+        for k in 0..width.min(8) {
+            if let Some(byte) = self.bytes.get_mut(at.saturating_add(k)) {
                 *byte = new[k];
             }
         }
     }
 
     /// Keeps where the next number stands.
-    fn mark(&mut self, belongs: Belongs, width: usize) -> Result<(), AllocError> {
-        self.numbers.push(DraftNumber {
-            belongs,
-            at: self.bytes.len(),
-            width,
-        })?;
-        Ok(())
+    fn mark(&mut self, belongs: Belongs, width: usize) {
+        let at = self.bytes.len();
+        let number = DraftNumber { belongs, at, width };
+        if self.numbers.push(number).is_err() {
+            self.lacks_memory = true;
+        }
     }
 }

@@ -1,82 +1,61 @@
 //! Files without a fault.
 
 use crate::chance::Chance;
-use crate::draft::{Belongs, Draft, DraftNumber};
+use crate::draft::{Belongs, Draft, DraftEntry};
 use crate::pool::DraftNames;
-use crate::streams::{DraftEntry, put_stream};
-use std::alloc::{AllocError, Global};
-
-/// A file without a fault, and how many items a list of it has.
-#[derive(Drop)]
-pub struct GoodFile {
-    /// The file.
-    pub draft: Draft,
-    /// How many entries and records it has.
-    pub items: u64,
-}
+use crate::streams::put_stream;
+use std::alloc::Global;
 
 /// A file of any streams, whose directory stands behind the header or behind all else.
-pub fn make_good_file(alloc: Global, chance: &mut Chance) -> Result<GoodFile, AllocError> {
+pub fn make_good_file(alloc: Global, chance: &mut Chance) -> Draft {
     let mut draft = Draft::new(alloc);
     let count = chance.below(13);
-    put_header(&mut draft, chance, count)?;
+    put_header(&mut draft, chance, count);
     let in_front = chance.once_in(2);
-    let front = if in_front {
-        put_directory(&mut draft, chance, count)?
-    } else {
-        0
-    };
-    let names = DraftNames::put(alloc, &mut draft, chance)?;
-    let mut entries = Vec::new(alloc);
+    let mut place = 0;
+    if in_front {
+        place = put_directory(&mut draft, chance, count);
+    }
+    let names = DraftNames::put(&mut draft, chance);
     for _ in 0..count {
-        let entry = any_entry(&mut draft, &names, chance, &entries)?;
-        entries.push(entry)?;
+        let entry = any_entry(&mut draft, &names, chance);
+        draft.add_entry(entry);
     }
-    let directory = if in_front {
-        front
-    } else {
-        put_directory(&mut draft, chance, count)?
-    };
+    if !in_front {
+        place = put_directory(&mut draft, chance, count);
+    }
     if chance.once_in(2) {
-        entries.reverse();
+        draft.entries.reverse();
     }
-    set_directory(&mut draft, directory, &entries);
-    let items = item_count(&entries);
-    Ok(GoodFile { draft, items })
+    set_directory(&mut draft, place);
+    draft
 }
 
 /// Puts a header, whose directory stands anywhere.
-fn put_header(draft: &mut Draft, chance: &mut Chance, count: u32) -> Result<(), AllocError> {
-    draft.put_number(Belongs::Header, 0x504d_444d)?;
+fn put_header(draft: &mut Draft, chance: &mut Chance, count: u32) {
+    draft.put_number(Belongs::Header, 0x504d_444d);
     let version = u32::from(chance.unit()) << 16 | 0xa793;
-    draft.put_number(Belongs::Header, version)?;
-    draft.put_number(Belongs::Header, count)?;
-    draft.put_number(Belongs::Header, chance.word())?;
-    draft.put_noise(chance, 16)
+    draft.put_number(Belongs::Header, version);
+    draft.put_number(Belongs::Header, count);
+    draft.put_number(Belongs::Header, chance.word());
+    draft.put_noise(chance, 16);
 }
 
 /// Puts a directory of so many entries, any bytes as yet, and gives its place.
-fn put_directory(draft: &mut Draft, chance: &mut Chance, count: u32) -> Result<usize, AllocError> {
-    draft.put_gap(chance)?;
+fn put_directory(draft: &mut Draft, chance: &mut Chance, count: u32) -> usize {
+    draft.put_gap(chance);
     let place = draft.bytes.len();
-    for _ in 0..count {
-        draft.put_number(Belongs::Directory, 0)?;
-        draft.put_number(Belongs::Directory, 0)?;
-        draft.put_number(Belongs::Directory, 0)?;
+    for _ in 0..count.saturating_mul(3) {
+        draft.put_number(Belongs::Directory, 0);
     }
-    Ok(place)
+    place
 }
 
 /// The entry of a new stream, or at times one that another entry names too.
-fn any_entry(
-    draft: &mut Draft,
-    names: &DraftNames,
-    chance: &mut Chance,
-    entries: &[DraftEntry],
-) -> Result<DraftEntry, AllocError> {
+fn any_entry(draft: &mut Draft, names: &DraftNames, chance: &mut Chance) -> DraftEntry {
     if chance.once_in(6) {
-        if let Some(entry) = entries.get(chance.index(entries.len())) {
-            return Ok(*entry);
+        if let Some(entry) = draft.entries.get(chance.index(draft.entries.len())) {
+            return *entry;
         }
     }
     put_stream(draft, names, chance)
@@ -84,33 +63,23 @@ fn any_entry(
 
 /// Writes the entries over what stands at a place, and the place into the header. With no entry it is
 /// not looked at, and stays anywhere.
-fn set_directory(draft: &mut Draft, place: usize, entries: &[DraftEntry]) {
+fn set_directory(draft: &mut Draft, place: usize) {
     let mut at = place;
-    for entry in entries {
-        let location = entry.location;
-        for value in [entry.stream_type, location.size, location.rva] {
-            set_word(draft, at, u64::from(value));
-            at = at.saturating_add(4);
+    for k in 0..draft.entries.len() {
+        if let Some(entry) = draft.entries.get(k) {
+            let entry = *entry;
+            set_entry(draft, at, entry);
         }
+        at = at.saturating_add(12);
     }
-    if !entries.is_empty() {
-        set_word(draft, 12, place as u64);
+    if !draft.entries.is_empty() {
+        draft.set(12, 4, place as u64);
     }
 }
 
-fn set_word(draft: &mut Draft, at: usize, value: u64) {
-    let number = DraftNumber {
-        belongs: Belongs::Directory,
-        at,
-        width: 4,
-    };
-    draft.set(number, value);
-}
-
-fn item_count(entries: &[DraftEntry]) -> u64 {
-    let mut items: u64 = 0;
-    for entry in entries {
-        items = items.saturating_add(u64::from(entry.records).saturating_add(1));
-    }
-    items
+fn set_entry(draft: &mut Draft, at: usize, entry: DraftEntry) {
+    let location = entry.location;
+    draft.set(at, 4, u64::from(entry.stream_type));
+    draft.set(at.saturating_add(4), 4, u64::from(location.size));
+    draft.set(at.saturating_add(8), 4, u64::from(location.rva));
 }

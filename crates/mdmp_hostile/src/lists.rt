@@ -1,11 +1,11 @@
 //! A file listed through two windows.
 
-use crate::bounds::check_bounds;
-use crate::census::{Census, Counted};
-use crate::trouble::{Trouble, agree};
+use crate::bounds::{check_bounds, counts_of};
+use crate::census::{Census, Counted, OUT_OF_MEMORY};
 use crate::windows::{TwoWindows, open};
 use mdmp_lister::{
-    Item, ListFault, Lister, Name, OpenFault, RunFault, Sink, Stopped, StreamItem, StreamKind,
+    Counts, Item, ListFault, Lister, Name, OpenFault, RunFault, Sink, Stopped, StreamItem,
+    StreamKind,
 };
 use mdmp_source::MemoryStore;
 use std::alloc::Global;
@@ -22,7 +22,7 @@ pub enum ListEnd {
 }
 
 /// What is told of the list of a file.
-#[derive(Clone, Copy, PartialEq, Eq)]
+#[derive(Clone, Copy)]
 pub struct FileListed {
     /// How it ends.
     pub end: ListEnd,
@@ -32,22 +32,40 @@ pub struct FileListed {
 
 /// Takes the items of one lister, and compares each with the next one of another.
 #[derive(Drop)]
-struct Companion<'a, 'c> {
+struct Companion<'a> {
     other: Lister<MemoryStore<'a>, Global>,
-    census: &'c mut Census,
+    census: Census,
     items: u64,
 }
 
-impl<'a, 'c> Sink for Companion<'a, 'c> {
+impl<'a> Sink for Companion<'a> {
     ghost step = { λ _ _ _ _. Unit {0} };
 
     fn take(&mut self, item: &Item<'_>) -> Result<(), Stopped> {
-        count_item(self.census, item);
+        count_item(&mut self.census, item);
         self.items = self.items.saturating_add(1);
-        match self.other.next() {
-            Ok(Some(other)) if other == *item => Ok(()),
-            _ => Err(Stopped),
+        if gives_next(&mut self.other, item) {
+            Ok(())
+        } else {
+            Err(Stopped)
         }
+    }
+}
+
+/// Whether this is the item that a lister gives next.
+fn gives_next(lister: &mut Lister<MemoryStore<'_>, Global>, item: &Item<'_>) -> bool {
+    match lister.next() {
+        Ok(Some(given)) => given == *item,
+        Ok(None) | Err(_) => false,
+    }
+}
+
+/// Whether a lister ends next, at this fault or at none.
+fn ends_next(lister: &mut Lister<MemoryStore<'_>, Global>, fault: Option<ListFault>) -> bool {
+    match lister.next() {
+        Ok(Some(_)) => false,
+        Ok(None) => fault.is_none(),
+        Err(given) => fault == Some(given),
     }
 }
 
@@ -57,28 +75,32 @@ pub fn list_file(
     file: &[u8],
     windows: TwoWindows,
     census: &mut Census,
-) -> Result<FileListed, Trouble> {
+) -> FileListed {
     let one = open(alloc, file, windows.one);
     let other = open(alloc, file, windows.other);
     match (one, other) {
         (Ok(one), Ok(other)) => list_beside(one, other, windows, census),
         (Err(one), Err(other)) => {
-            agree(one == other, "the windows refuse otherwise")?;
-            refused(one)
+            census.agree(one == other, "the windows refuse otherwise");
+            refused(one, census)
         },
-        (Ok(_), Err(_)) | (Err(_), Ok(_)) => Err(Trouble::Differs("one window refuses")),
+        (Ok(_), Err(fault)) | (Err(fault), Ok(_)) => {
+            census.keep_trouble("one window refuses");
+            refused(fault, census)
+        },
     }
 }
 
-/// The list of a file that can't be opened, by a fault that a store in memory may have.
-fn refused(fault: OpenFault) -> Result<FileListed, Trouble> {
+/// The list of a file that is refused, by a fault that one in memory may have.
+fn refused(fault: OpenFault, census: &mut Census) -> FileListed {
     match fault {
-        OpenFault::Memory => Err(Trouble::Memory),
-        OpenFault::Source(_) => Err(Trouble::Differs("opening: the store is at fault")),
-        _ => Ok(FileListed {
-            end: ListEnd::Refused(fault),
-            items: 0,
-        }),
+        OpenFault::Memory => census.keep_trouble(OUT_OF_MEMORY),
+        OpenFault::Source(_) => census.keep_trouble("opening: the store is at fault"),
+        _ => {},
+    }
+    FileListed {
+        end: ListEnd::Refused(fault),
+        items: 0,
     }
 }
 
@@ -87,49 +109,62 @@ fn list_beside<'a>(
     other: Lister<MemoryStore<'a>, Global>,
     windows: TwoWindows,
     census: &mut Census,
-) -> Result<FileListed, Trouble> {
+) -> FileListed {
     let mut companion = Companion {
         other,
-        census,
+        census: *census,
         items: 0,
     };
-    let ended = one.list_into(&mut companion);
+    let fault = run(&mut one, &mut companion);
     let Companion {
         mut other,
+        census: counted,
         items,
-        ..
     } = companion;
-    let end = end_of(ended, &mut other)?;
-    let counts = one.counts();
-    let others = other.counts();
-    agree(
-        counts.s == others.s
-            && counts.r == others.r
-            && counts.n == others.n
-            && counts.m == others.m,
+    *census = counted;
+    let end = end_of(fault, &mut other, census);
+    census.agree(
+        count_the_same(&counts_of(&one), &counts_of(&other)),
         "the windows count otherwise",
-    )?;
-    check_bounds(one, windows.one)?;
-    check_bounds(other, windows.other)?;
-    Ok(FileListed { end, items })
+    );
+    check_bounds(one, windows.one, census);
+    check_bounds(other, windows.other, census);
+    FileListed { end, items }
 }
 
-/// How a run ended, where the other lister ends so too.
+/// Why a run ended before the end of the list.
+fn run<'a>(
+    lister: &mut Lister<MemoryStore<'a>, Global>,
+    companion: &mut Companion<'a>,
+) -> Option<RunFault> {
+    lister.list_into(companion).err()
+}
+
+/// How a run ended. The other lister has to end so too.
 fn end_of(
-    ended: Result<(), RunFault>,
+    fault: Option<RunFault>,
     other: &mut Lister<MemoryStore<'_>, Global>,
-) -> Result<ListEnd, Trouble> {
-    match ended {
-        Ok(()) => match other.next() {
-            Ok(None) => Ok(ListEnd::Whole),
-            Ok(Some(_)) | Err(_) => Err(Trouble::Differs("one window ends the list")),
+    census: &mut Census,
+) -> ListEnd {
+    match fault {
+        None => {
+            census.agree(ends_next(other, None), "one window ends the list");
+            ListEnd::Whole
         },
-        Err(RunFault::At(fault)) => match other.next() {
-            Err(same) if same == fault => Ok(ListEnd::At(fault)),
-            Ok(_) | Err(_) => Err(Trouble::Differs("one window has a fault")),
+        Some(RunFault::At(fault)) => {
+            census.agree(ends_next(other, Some(fault)), "one window has a fault");
+            ListEnd::At(fault)
         },
-        Err(RunFault::Stopped) => Err(Trouble::Differs("the windows give other items")),
+        Some(RunFault::Stopped) => {
+            census.keep_trouble("the windows give other items");
+            ListEnd::Whole
+        },
     }
+}
+
+/// Whether the listed bytes, entries, ranges and names are counted the same.
+fn count_the_same(one: &Counts, other: &Counts) -> bool {
+    one.s == other.s && one.r == other.r && one.n == other.n && one.m == other.m
 }
 
 /// Counts an item by its kind.

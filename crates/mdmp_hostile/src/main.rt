@@ -17,7 +17,6 @@ mod pool;
 mod records;
 mod runs;
 mod streams;
-mod trouble;
 mod values;
 mod vast_files;
 mod verdicts;
@@ -25,7 +24,6 @@ mod windows;
 
 use crate::census::Census;
 use crate::runs::run_number;
-use crate::trouble::Trouble;
 use crate::vast_files::run_vast_files;
 use crate::windows::TwoWindows;
 use std::io::{Error, Write};
@@ -39,25 +37,23 @@ fn tell_all(rt: &HostRuntime, windows: TwoWindows) -> Result<bool, Error> {
     let mut census = Census::new();
     let mut agrees = true;
     for number in 0..FILES {
-        if let Err(trouble) = run_number(rt.alloc(), number, windows, &mut census) {
-            agrees = false;
-            tell_trouble(rt, number, trouble)?;
-        }
+        run_number(rt.alloc(), number, windows, &mut census);
+        agrees = tell_trouble(rt, number, &mut census)? && agrees;
     }
-    if let Err(trouble) = run_vast_files(rt.alloc(), windows, &mut census) {
-        agrees = false;
-        tell_trouble(rt, FILES, trouble)?;
-    }
+    run_vast_files(rt.alloc(), windows, &mut census);
+    agrees = tell_trouble(rt, FILES, &mut census)? && agrees;
     census.tell(rt)?;
     Ok(agrees)
 }
 
-/// Prints what troubles a file. The vast ones have the number behind those of all others.
-fn tell_trouble(rt: &HostRuntime, number: u64, trouble: Trouble) -> Result<(), Error> {
-    match trouble {
-        Trouble::Memory => writeln!(rt.stdout(), "file {number}: out of memory"),
-        Trouble::Differs(what) => writeln!(rt.stdout(), "file {number}: {what}"),
-    }
+/// Prints what troubles a file, if anything, and gives whether nothing does. The vast ones have the number
+/// behind those of all others.
+fn tell_trouble(rt: &HostRuntime, number: u64, census: &mut Census) -> Result<bool, Error> {
+    let Some(what) = census.trouble.take() else {
+        return Ok(true);
+    };
+    writeln!(rt.stdout(), "file {number}: {what}")?;
+    Ok(false)
 }
 
 fn main(rt: HostRuntime) -> ExitCode {

@@ -3,36 +3,30 @@
 use crate::chance::Chance;
 use crate::draft::{Belongs, Draft};
 use mdmp_source::Location;
-use std::alloc::{AllocError, Global};
 
 /// The longest name that is read, in bytes.
 pub const NAME_LIMIT: u32 = 64;
 
-/// Where the names of a file stand.
-#[derive(Drop)]
+/// Where the names of a file stand, of which there are at most four.
+#[derive(Clone, Copy)]
 pub struct DraftNames {
-    rvas: Vec<u32>,
+    rvas: [u32; 4],
+    count: usize,
 }
 
 impl DraftNames {
     /// Puts some names into a file.
-    pub fn put(
-        alloc: Global,
-        draft: &mut Draft,
-        chance: &mut Chance,
-    ) -> Result<DraftNames, AllocError> {
-        let mut rvas = Vec::new(alloc);
-        for _ in 0..chance.below(5) {
-            draft.put_gap(chance)?;
-            rvas.push(draft.end())?;
-            let units = unit_count(chance);
-            draft.put_number(Belongs::Name, units.saturating_mul(2))?;
-            for _ in 0..units {
-                draft.bytes.extend_from_slice(&chance.unit().to_le_bytes())?;
+    pub fn put(draft: &mut Draft, chance: &mut Chance) -> Self {
+        let mut rvas = [0; 4];
+        let count = chance.index(5);
+        for k in 0..count {
+            draft.put_gap(chance);
+            if let Some(rva) = rvas.get_mut(k) {
+                *rva = draft.end();
             }
-            draft.bytes.extend_from_slice(&[0, 0])?;
+            put_name(draft, chance);
         }
-        Ok(DraftNames { rvas })
+        DraftNames { rvas, count }
     }
 
     /// Where one of them stands, or 0 for none.
@@ -40,11 +34,21 @@ impl DraftNames {
         if chance.once_in(5) {
             return 0;
         }
-        match self.rvas.get(chance.index(self.rvas.len())) {
+        match self.rvas.get(chance.index(self.count)) {
             Some(rva) => *rva,
             None => 0,
         }
     }
+}
+
+/// Puts a name of any units.
+fn put_name(draft: &mut Draft, chance: &mut Chance) {
+    let units = unit_count(chance);
+    draft.put_number(Belongs::Name, units.saturating_mul(2));
+    for _ in 0..units {
+        draft.put_bytes(&chance.unit().to_le_bytes());
+    }
+    draft.put_bytes(&[0, 0]);
 }
 
 /// How many units a name has: mostly as many as are read, at times none, the most, or too many.

@@ -4,10 +4,9 @@
 use crate::chance::Chance;
 use crate::draft::{Belongs, Draft};
 use crate::pool::{DraftNames, any_part};
-use std::alloc::AllocError;
 
 /// A record that lists have.
-#[derive(Clone, Copy, PartialEq, Eq)]
+#[derive(Clone, Copy)]
 pub enum ListedRecord {
     /// `MINIDUMP_THREAD`.
     Thread,
@@ -36,12 +35,7 @@ impl ListedRecord {
     }
 
     /// Puts one into a file.
-    pub fn put(
-        self,
-        draft: &mut Draft,
-        names: &DraftNames,
-        chance: &mut Chance,
-    ) -> Result<(), AllocError> {
+    pub fn put(self, draft: &mut Draft, names: &DraftNames, chance: &mut Chance) {
         match self {
             ListedRecord::Thread => put_thread(draft, chance),
             ListedRecord::Module => put_module(draft, names, chance),
@@ -53,68 +47,53 @@ impl ListedRecord {
     }
 }
 
-fn put_thread(draft: &mut Draft, chance: &mut Chance) -> Result<(), AllocError> {
-    draft.put_noise(chance, 32)?;
-    put_part(draft, chance)?;
+fn put_thread(draft: &mut Draft, chance: &mut Chance) {
+    draft.put_noise(chance, 32);
+    put_part(draft, chance);
     put_part(draft, chance)
 }
 
-fn put_module(
-    draft: &mut Draft,
-    names: &DraftNames,
-    chance: &mut Chance,
-) -> Result<(), AllocError> {
-    draft.put_noise(chance, 20)?;
-    draft.put_number(Belongs::Record, names.any(chance))?;
-    draft.put_noise(chance, 52)?;
-    put_part(draft, chance)?;
-    put_part(draft, chance)?;
+fn put_module(draft: &mut Draft, names: &DraftNames, chance: &mut Chance) {
+    draft.put_noise(chance, 20);
+    draft.put_number(Belongs::Record, names.any(chance));
+    draft.put_noise(chance, 52);
+    put_part(draft, chance);
+    put_part(draft, chance);
     draft.put_noise(chance, 16)
 }
 
-fn put_range(draft: &mut Draft, chance: &mut Chance) -> Result<(), AllocError> {
-    draft.put_noise(chance, 8)?;
+fn put_range(draft: &mut Draft, chance: &mut Chance) {
+    draft.put_noise(chance, 8);
     put_part(draft, chance)
 }
 
-fn put_unloaded(
-    draft: &mut Draft,
-    names: &DraftNames,
-    chance: &mut Chance,
-) -> Result<(), AllocError> {
-    draft.put_noise(chance, 20)?;
+fn put_unloaded(draft: &mut Draft, names: &DraftNames, chance: &mut Chance) {
+    draft.put_noise(chance, 20);
     draft.put_number(Belongs::Record, names.any(chance))
 }
 
-fn put_thread_name(
-    draft: &mut Draft,
-    names: &DraftNames,
-    chance: &mut Chance,
-) -> Result<(), AllocError> {
-    draft.put_noise(chance, 4)?;
+fn put_thread_name(draft: &mut Draft, names: &DraftNames, chance: &mut Chance) {
+    draft.put_noise(chance, 4);
     draft.put_wide_number(Belongs::Record, u64::from(names.any(chance)))
 }
 
 /// Puts a `MINIDUMP_EXCEPTION_STREAM`.
-pub fn put_exception(draft: &mut Draft, chance: &mut Chance) -> Result<(), AllocError> {
-    draft.put_noise(chance, 32)?;
-    draft.put_number(Belongs::Record, chance.below(20))?;
-    draft.put_noise(chance, 124)?;
+pub fn put_exception(draft: &mut Draft, chance: &mut Chance) {
+    draft.put_noise(chance, 32);
+    draft.put_number(Belongs::Record, chance.below(20));
+    draft.put_noise(chance, 124);
     put_part(draft, chance)
 }
 
 /// Puts a `MINIDUMP_SYSTEM_INFO`.
-pub fn put_system(
-    draft: &mut Draft,
-    names: &DraftNames,
-    chance: &mut Chance,
-) -> Result<(), AllocError> {
-    draft.put_noise(chance, 24)?;
-    draft.put_number(Belongs::Record, names.any(chance))?;
+pub fn put_system(draft: &mut Draft, names: &DraftNames, chance: &mut Chance) {
+    draft.put_noise(chance, 24);
+    draft.put_number(Belongs::Record, names.any(chance));
     draft.put_noise(chance, 28)
 }
 
-fn put_part(draft: &mut Draft, chance: &mut Chance) -> Result<(), AllocError> {
+fn put_part(draft: &mut Draft, chance: &mut Chance) {
     let part = any_part(draft, chance);
-    draft.put_location(part)
+    draft.put_number(Belongs::Record, part.size);
+    draft.put_number(Belongs::Record, part.rva);
 }

@@ -1,12 +1,11 @@
 //! One file, run through.
 
-use crate::census::{Census, Counted};
+use crate::census::{Census, Counted, OUT_OF_MEMORY};
 use crate::chance::Chance;
 use crate::copies::copy_file;
 use crate::damage::damage;
-use crate::good_file::{GoodFile, make_good_file};
+use crate::good_file::make_good_file;
 use crate::lists::{FileListed, ListEnd, list_file};
-use crate::trouble::{Trouble, agree};
 use crate::values::read_file;
 use crate::verdicts::check_file;
 use crate::windows::TwoWindows;
@@ -18,50 +17,49 @@ use std::alloc::Global;
 const SEED: u64 = 0x6d64_6d70;
 
 /// Makes the file of a number, of which each second one is damaged, and runs through it.
-pub fn run_number(
-    alloc: Global,
-    number: u64,
-    windows: TwoWindows,
-    census: &mut Census,
-) -> Result<(), Trouble> {
+pub fn run_number(alloc: Global, number: u64, windows: TwoWindows, census: &mut Census) {
     let mut chance = Chance::new(SEED, number);
-    let GoodFile { mut draft, items } = make_good_file(alloc, &mut chance)?;
-    census.count(Counted::Files);
-    if number % 2 == 0 {
-        census.add(Counted::Bytes, draft.bytes.len() as u64);
-        let listed = run_file(alloc, &draft.bytes, windows, census)?;
-        return agree(
-            listed.end == ListEnd::Whole && listed.items == items,
-            "a good file is listed otherwise than it was made",
-        );
+    let mut draft = make_good_file(alloc, &mut chance);
+    let is_damaged = number % 2 == 1;
+    if is_damaged {
+        damage(&mut draft, &mut chance);
     }
-    damage(&mut draft, &mut chance)?;
-    census.count(Counted::Damaged);
+    if draft.lacks_memory {
+        return census.keep_trouble(OUT_OF_MEMORY);
+    }
+    census.count(Counted::Files);
     census.add(Counted::Bytes, draft.bytes.len() as u64);
-    let _ = run_file(alloc, &draft.bytes, windows, census)?;
-    Ok(())
+    if is_damaged {
+        census.count(Counted::Damaged);
+    }
+    let listed = run_file(alloc, &draft.bytes, windows, census);
+    census.agree(
+        is_damaged || listed.end == ListEnd::Whole && listed.items == draft.item_count(),
+        "a good file is listed otherwise than it was made",
+    );
 }
 
 /// Makes all calls over a file, and compares what they answer.
-fn run_file(
-    alloc: Global,
-    file: &[u8],
-    windows: TwoWindows,
-    census: &mut Census,
-) -> Result<FileListed, Trouble> {
-    let listed = list_file(alloc, file, windows, census)?;
+fn run_file(alloc: Global, file: &[u8], windows: TwoWindows, census: &mut Census) -> FileListed {
+    let listed = list_file(alloc, file, windows, census);
     let mut uncounted = Census::new();
-    let swapped = list_file(alloc, file, windows.swapped(), &mut uncounted)?;
-    agree(
-        listed == swapped,
+    let swapped = list_file(alloc, file, windows.swapped(), &mut uncounted);
+    if let Some(what) = uncounted.trouble {
+        census.keep_trouble(what);
+    }
+    census.agree(
+        listed.end == swapped.end && listed.items == swapped.items,
         "the windows the other way about list otherwise",
-    )?;
+    );
+    if census.trouble.is_some() {
+        return listed;
+    }
     count_end(census, &listed);
-    check_file(alloc, file, windows, listed.end, census)?;
-    let value = read_file(alloc, file, windows, listed.end)?;
+    check_file(alloc, file, windows, listed.end, census);
+    let value = read_file(alloc, file, windows, listed.end, census);
     count_value(census, &value);
-    copy_file(alloc, file, windows, value, census)?;
-    Ok(listed)
+    copy_file(alloc, file, windows, value, census);
+    listed
 }
 
 /// Counts how a list ends.
@@ -80,7 +78,8 @@ fn count_end(census: &mut Census, listed: &FileListed) {
     }
 }
 
-fn count_refusal(census: &mut Census, fault: OpenFault) {
+/// Counts why a file is refused.
+pub fn count_refusal(census: &mut Census, fault: OpenFault) {
     match fault {
         OpenFault::TooShort { .. } => census.count(Counted::TooShort),
         OpenFault::BadSignature => census.count(Counted::BadSignature),

@@ -1,33 +1,17 @@
 //! Streams, as they stand in a file.
 
 use crate::chance::Chance;
-use crate::draft::{Belongs, Draft};
+use crate::draft::{Belongs, Draft, DraftEntry};
 use crate::pool::{DraftNames, stretch};
 use crate::records::{ListedRecord, put_exception, put_system};
 use mdmp_lister::StreamKind;
 use mdmp_source::Location;
-use std::alloc::AllocError;
-
-/// An entry of the directory, and how many records its stream has.
-#[derive(Clone, Copy)]
-pub struct DraftEntry {
-    /// `StreamType`.
-    pub stream_type: u32,
-    /// `Location`.
-    pub location: Location,
-    /// How many records are listed of it.
-    pub records: u32,
-}
 
 /// Puts a stream of any type into a file, and gives its entry.
-pub fn put_stream(
-    draft: &mut Draft,
-    names: &DraftNames,
-    chance: &mut Chance,
-) -> Result<DraftEntry, AllocError> {
-    draft.put_gap(chance)?;
+pub fn put_stream(draft: &mut Draft, names: &DraftNames, chance: &mut Chance) -> DraftEntry {
+    draft.put_gap(chance);
     match chance.below(13) {
-        0 => Ok(unused(chance)),
+        0 => unused(chance),
         1 => put_list(draft, names, chance, 3, ListedRecord::Thread),
         2 | 3 => put_list(draft, names, chance, 4, ListedRecord::Module),
         4 => put_list(draft, names, chance, 5, ListedRecord::Range),
@@ -37,7 +21,7 @@ pub fn put_stream(
         8 | 9 => put_strided_list(draft, names, chance, ListedRecord::Unloaded),
         10 => put_strided_list(draft, names, chance, ListedRecord::MemoryInfo),
         11 => put_list(draft, names, chance, 24, ListedRecord::ThreadName),
-        _ => Ok(opaque(draft, chance)),
+        _ => opaque(draft, chance),
     }
 }
 
@@ -91,21 +75,21 @@ fn put_list(
     chance: &mut Chance,
     stream_type: u32,
     record: ListedRecord,
-) -> Result<DraftEntry, AllocError> {
+) -> DraftEntry {
     let rva = draft.end();
     let count = chance.below(6);
-    draft.put_number(Belongs::Head, count)?;
+    draft.put_number(Belongs::Head, count);
     let padded = chance.once_in(3);
     if padded {
-        draft.put_noise(chance, 4)?;
+        draft.put_noise(chance, 4);
     }
     for _ in 0..count {
-        record.put(draft, names, chance)?;
+        record.put(draft, names, chance);
     }
     if !padded {
-        put_slack(draft, chance)?;
+        put_slack(draft, chance);
     }
-    Ok(entry_from(draft, stream_type, rva, count))
+    entry_from(draft, stream_type, rva, count)
 }
 
 /// Type 6 or 7: one record.
@@ -114,33 +98,33 @@ fn put_single(
     names: &DraftNames,
     chance: &mut Chance,
     stream_type: u32,
-) -> Result<DraftEntry, AllocError> {
+) -> DraftEntry {
     let rva = draft.end();
     if stream_type == 6 {
-        put_exception(draft, chance)?;
+        put_exception(draft, chance);
     } else {
-        put_system(draft, names, chance)?;
+        put_system(draft, names, chance);
     }
-    put_slack(draft, chance)?;
-    Ok(entry_from(draft, stream_type, rva, 1))
+    put_slack(draft, chance);
+    entry_from(draft, stream_type, rva, 1)
 }
 
 /// Type 9: ranges whose bytes stand behind each other, anywhere in the file so far.
-fn put_wide_ranges(draft: &mut Draft, chance: &mut Chance) -> Result<DraftEntry, AllocError> {
+fn put_wide_ranges(draft: &mut Draft, chance: &mut Chance) -> DraftEntry {
     let rva = draft.end();
     let count = chance.below(6);
     let base = chance.below(rva);
     let mut left = rva.saturating_sub(base);
-    draft.put_wide_number(Belongs::Head, u64::from(count))?;
-    draft.put_wide_number(Belongs::Head, u64::from(base))?;
+    draft.put_wide_number(Belongs::Head, u64::from(count));
+    draft.put_wide_number(Belongs::Head, u64::from(base));
     for _ in 0..count {
         let size = chance.below(left.saturating_add(1).min(80));
         left = left.saturating_sub(size);
-        draft.put_noise(chance, 8)?;
-        draft.put_wide_number(Belongs::Record, u64::from(size))?;
+        draft.put_noise(chance, 8);
+        draft.put_wide_number(Belongs::Record, u64::from(size));
     }
-    put_slack(draft, chance)?;
-    Ok(entry_from(draft, 9, rva, count))
+    put_slack(draft, chance);
+    entry_from(draft, 9, rva, count)
 }
 
 /// Type 14 or 16: records that may be larger than they are known, behind a head that may be.
@@ -149,27 +133,27 @@ fn put_strided_list(
     names: &DraftNames,
     chance: &mut Chance,
     record: ListedRecord,
-) -> Result<DraftEntry, AllocError> {
+) -> DraftEntry {
     let rva = draft.end();
-    let wide = record == ListedRecord::MemoryInfo;
+    let wide = matches!(record, ListedRecord::MemoryInfo);
     let count = chance.below(6);
     let more_head = any_growth(chance);
     let more_record = any_growth(chance);
     let head_size: u32 = if wide { 16 } else { 12 };
-    draft.put_number(Belongs::Head, head_size.saturating_add(more_head))?;
-    draft.put_number(Belongs::Head, stride_of(record, count, more_record, chance))?;
+    draft.put_number(Belongs::Head, head_size.saturating_add(more_head));
+    draft.put_number(Belongs::Head, stride_of(record, count, more_record, chance));
     if wide {
-        draft.put_wide_number(Belongs::Head, u64::from(count))?;
+        draft.put_wide_number(Belongs::Head, u64::from(count));
     } else {
-        draft.put_number(Belongs::Head, count)?;
+        draft.put_number(Belongs::Head, count);
     }
-    draft.put_noise(chance, more_head)?;
+    draft.put_noise(chance, more_head);
     for _ in 0..count {
-        record.put(draft, names, chance)?;
-        draft.put_noise(chance, more_record)?;
+        record.put(draft, names, chance);
+        draft.put_noise(chance, more_record);
     }
-    put_slack(draft, chance)?;
-    Ok(entry_from(draft, if wide { 16 } else { 14 }, rva, count))
+    put_slack(draft, chance);
+    entry_from(draft, if wide { 16 } else { 14 }, rva, count)
 }
 
 /// How far the records stand apart. Where there is none, any number will do.
@@ -191,7 +175,7 @@ fn any_growth(chance: &mut Chance) -> u32 {
 }
 
 /// Puts bytes behind the records that are not looked at: any number but four, which would be padding.
-fn put_slack(draft: &mut Draft, chance: &mut Chance) -> Result<(), AllocError> {
+fn put_slack(draft: &mut Draft, chance: &mut Chance) {
     let slack = match chance.below(6) {
         0 => chance.below(4),
         1 => chance.below(60).saturating_add(5),

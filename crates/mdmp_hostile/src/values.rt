@@ -1,37 +1,41 @@
 //! A file read into a value, through two windows.
 
+use crate::census::Census;
 use crate::lists::ListEnd;
-use crate::trouble::{Trouble, agree};
 use crate::windows::TwoWindows;
 use mdmp_dump::{Dump, ReadFault, read_dump};
 use mdmp_lister::{Choice, Limits, ListFault};
 use mdmp_source::{MemoryStore, Source};
 use std::alloc::Global;
 
-/// The value of a file, or why it gives none, where both windows and the end of its list agree.
+/// The value of a file, or why it gives none. Both windows and the end of its list have to agree.
 pub fn read_file(
     alloc: Global,
     file: &[u8],
     windows: TwoWindows,
     end: ListEnd,
-) -> Result<Result<Dump<Global>, ReadFault>, Trouble> {
+    census: &mut Census,
+) -> Result<Dump<Global>, ReadFault> {
     let one = value_of(alloc, file, windows.one);
     let other = value_of(alloc, file, windows.other);
     match (one, other) {
         (Ok(one), Ok(other)) => {
-            agree(one == other, "the windows read other values")?;
-            agree(end == ListEnd::Whole, "what is not listed is read")?;
-            Ok(Ok(one))
+            census.agree(one == other, "the windows read other values");
+            census.agree(end == ListEnd::Whole, "what is not listed is read");
+            Ok(one)
         },
         (Err(one), Err(other)) => {
-            agree(one == other, "the windows read other faults")?;
-            agree(
+            census.agree(one == other, "the windows read other faults");
+            census.agree(
                 can_follow(one, end),
                 "the list ends otherwise than the value",
-            )?;
-            Ok(Err(one))
+            );
+            Err(one)
         },
-        (Ok(_), Err(_)) | (Err(_), Ok(_)) => Err(Trouble::Differs("one window reads no value")),
+        (Ok(_), Err(fault)) | (Err(fault), Ok(_)) => {
+            census.keep_trouble("one window reads no value");
+            Err(fault)
+        },
     }
 }
 
@@ -42,7 +46,7 @@ pub fn value_of(alloc: Global, file: &[u8], limits: Limits) -> Result<Dump<Globa
 }
 
 /// Whether a file whose list ends so may give no value for this reason.
-pub fn can_follow(fault: ReadFault, end: ListEnd) -> bool {
+fn can_follow(fault: ReadFault, end: ListEnd) -> bool {
     match fault {
         ReadFault::Opening(fault) => end == ListEnd::Refused(fault),
         ReadFault::List(fault) => end == ListEnd::At(fault),

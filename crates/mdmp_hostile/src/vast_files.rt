@@ -1,13 +1,16 @@
 //! Files of which a few bytes say more than is read or written.
 
-use crate::census::{Census, Counted};
-use crate::trouble::{Trouble, agree};
+use crate::census::{Census, Counted, OUT_OF_MEMORY};
+use crate::copies::{open_view, write};
+use crate::draft::Draft;
+use crate::runs::count_refusal;
+use crate::values::value_of;
 use crate::windows::{TwoWindows, open};
-use mdmp_dump::{FileView, ReadFault, read_dump};
+use mdmp_dump::{DumpView, ReadFault, read_dump};
 use mdmp_lister::{Choice, Limits, OpenFault};
 use mdmp_source::{MemoryStore, Source, WriteOut};
-use mdmp_writer::{LayoutFault, WriteFault, write_dump};
-use std::alloc::{AllocError, Global};
+use mdmp_writer::{LayoutFault, WriteFault};
+use std::alloc::Global;
 
 /// How many entries name one stream.
 const ENTRIES: u32 = 20_000;
@@ -15,91 +18,84 @@ const ENTRIES: u32 = 20_000;
 /// How many ranges that stream has where it is a memory list: together more than 2^28.
 const RANGES: u32 = 13_422;
 
-/// Runs through both files.
-pub fn run_vast_files(
-    alloc: Global,
-    windows: TwoWindows,
-    census: &mut Census,
-) -> Result<(), Trouble> {
-    for limits in [windows.one, windows.other] {
-        run_crowded(alloc, limits, census)?;
-        run_swollen(alloc, limits, census)?;
-    }
-    Ok(())
+/// Runs through both files, through each window.
+pub fn run_vast_files(alloc: Global, windows: TwoWindows, census: &mut Census) {
+    run_crowded(alloc, windows.one, census);
+    run_swollen(alloc, windows.one, census);
+    run_crowded(alloc, windows.other, census);
+    run_swollen(alloc, windows.other, census);
 }
 
 /// A file that names one memory list too often is refused, with the number of ranges.
-fn run_crowded(alloc: Global, limits: Limits, census: &mut Census) -> Result<(), Trouble> {
-    let file = repeated(alloc, 5, RANGES)?;
+fn run_crowded(alloc: Global, limits: Limits, census: &mut Census) {
+    let draft = repeated(alloc, 5, census);
     let fault = OpenFault::TooManyRanges {
         count: u128::from(ENTRIES).saturating_mul(u128::from(RANGES)),
     };
-    match open(alloc, &file, limits) {
-        Ok(_) => return Err(Trouble::Differs("too many ranges are listed")),
-        Err(other) => agree(other == fault, "too many ranges are refused otherwise")?,
+    match open(alloc, &draft.bytes, limits) {
+        Ok(_) => census.keep_trouble("too many ranges are listed"),
+        Err(other) => {
+            census.agree(other == fault, "too many ranges are refused otherwise");
+            count_refusal(census, other);
+        },
     }
-    let source = Source::new(MemoryStore::new(&file));
-    match read_dump(alloc, source, limits, Choice::All, u64::MAX) {
-        Ok(_) => return Err(Trouble::Differs("too many ranges are read")),
-        Err(other) => agree(
+    match value_of(alloc, &draft.bytes, limits) {
+        Ok(_) => census.keep_trouble("too many ranges are read"),
+        Err(other) => census.agree(
             other == ReadFault::Opening(fault),
             "too many ranges are not read otherwise",
-        )?,
+        ),
     }
-    census.count(Counted::TooManyRanges);
-    Ok(())
 }
 
 /// A file that names one stream so often that its copy would be too large is read up to the limit on
 /// parts, and refused to be written.
-fn run_swollen(alloc: Global, limits: Limits, census: &mut Census) -> Result<(), Trouble> {
-    let file = repeated(alloc, 0x10000, RANGES)?;
-    let source = Source::new(MemoryStore::new(&file));
-    match read_dump(alloc, source, limits, Choice::All, 1 << 20) {
-        Err(ReadFault::PartsTooLarge { entry: 4, index: 0 }) => census.count(
-            Counted::PartsTooLarge,
-        ),
-        Ok(_) | Err(_) => return Err(Trouble::Differs("parts that are too large are read")),
+fn run_swollen(alloc: Global, limits: Limits, census: &mut Census) {
+    let draft = repeated(alloc, 0x10000, census);
+    if has_too_large_parts(alloc, &draft.bytes, limits) {
+        census.count(Counted::PartsTooLarge);
+    } else {
+        census.keep_trouble("parts that are too large are read");
     }
-    let source = Source::new(MemoryStore::new(&file));
-    let Ok(mut view) = FileView::open(alloc, source, limits, Choice::All) else {
-        return Err(Trouble::Differs("a large file has no view"));
-    };
+    match open_view(alloc, &draft.bytes, limits) {
+        Ok(mut view) => refuse_copy(alloc, &mut view, census),
+        Err(_) => census.keep_trouble("a large file has no view"),
+    }
+}
+
+/// Whether the fifth entry of a file has the parts that pass the limit.
+fn has_too_large_parts(alloc: Global, file: &[u8], limits: Limits) -> bool {
+    let source = Source::new(MemoryStore::new(file));
+    let answer = read_dump(alloc, source, limits, Choice::All, 1 << 20);
+    matches!(answer, Err(ReadFault::PartsTooLarge { entry: 4, index: 0 }))
+}
+
+/// A copy that is too large is refused, before anything goes out.
+fn refuse_copy<V: DumpView>(alloc: Global, view: &mut V, census: &mut Census) {
     let mut out = WriteOut::new(Vec::new(alloc));
-    let mut buffer = [0; 512];
-    let fault = write_dump(&mut view, &mut out, &mut buffer).err();
-    agree(
-        fault == Some(WriteFault::Layout(LayoutFault::TooLarge)),
-        "a copy that is too large is written",
-    )?;
-    agree(
+    match write(view, &mut out) {
+        Err(WriteFault::Layout(LayoutFault::TooLarge)) => census.count(Counted::TooLarge),
+        Ok(_) | Err(_) => census.keep_trouble("a copy that is too large is written"),
+    }
+    census.agree(
         out.into_inner().is_empty(),
         "a copy that is too large goes out",
-    )?;
-    census.count(Counted::TooLarge);
-    Ok(())
+    );
 }
 
-/// A file of so many entries of this type, which name one stream: a count, and so many ranges without bytes.
-fn repeated(alloc: Global, stream_type: u32, ranges: u32) -> Result<Vec<u8>, AllocError> {
-    let size = ranges.saturating_mul(16).saturating_add(4);
-    let mut file = Vec::new(alloc);
-    for number in [0x504d_444d, 0xa793, ENTRIES, 32, 0, 0, 0, 0] {
-        put_word(&mut file, number)?;
-    }
+/// A file of entries of this type, which name one stream: a count, and the ranges without bytes.
+fn repeated(alloc: Global, stream_type: u32, census: &mut Census) -> Draft {
+    let mut file = Draft::new(alloc);
+    file.put_words(&[0x504d_444d, 0xa793, ENTRIES, 32, 0, 0, 0, 0]);
+    let size = RANGES.saturating_mul(16).saturating_add(4);
+    let rva = ENTRIES.saturating_mul(12).saturating_add(32);
     for _ in 0..ENTRIES {
-        put_word(&mut file, stream_type)?;
-        put_word(&mut file, size)?;
-        put_word(&mut file, ENTRIES.saturating_mul(12).saturating_add(32))?;
+        file.put_words(&[stream_type, size, rva]);
     }
-    put_word(&mut file, ranges)?;
-    let length = file
-        .len()
-        .saturating_add(ranges.saturating_mul(16) as usize);
-    file.resize(length, 0)?;
-    Ok(file)
-}
-
-fn put_word(file: &mut Vec<u8>, word: u32) -> Result<(), AllocError> {
-    file.extend_from_slice(&word.to_le_bytes())
+    file.put_word(RANGES);
+    for _ in 0..RANGES {
+        file.put_bytes(&[0; 16]);
+    }
+    census.agree(!file.lacks_memory, OUT_OF_MEMORY);
+    file
 }

@@ -1,10 +1,11 @@
 //! The verdicts on the entries of a file, through two windows.
 
-use crate::census::{Census, Counted};
+use crate::bounds::counts_of;
+use crate::census::{Census, Counted, OUT_OF_MEMORY};
 use crate::lists::ListEnd;
-use crate::trouble::{Trouble, agree};
 use crate::windows::{TwoWindows, open};
-use mdmp_lister::{Limits, ListFault, RunFault, Stopped, Verdict, VerdictSink};
+use mdmp_lister::{Limits, ListFault, Lister, RunFault, Stopped, Verdict, VerdictSink};
+use mdmp_source::MemoryStore;
 use std::alloc::Global;
 
 /// Keeps all verdicts.
@@ -28,48 +29,57 @@ pub fn check_file(
     windows: TwoWindows,
     end: ListEnd,
     census: &mut Census,
-) -> Result<(), Trouble> {
+) {
     if let ListEnd::Refused(_) = end {
-        return Ok(());
+        return;
     }
-    let one = verdicts_of(alloc, file, windows.one)?;
-    let other = verdicts_of(alloc, file, windows.other)?;
-    agree(one == other, "the windows give other verdicts")?;
-    agree(
+    let one = verdicts_of(alloc, file, windows.one, census);
+    let other = verdicts_of(alloc, file, windows.other, census);
+    census.agree(one == other, "the windows give other verdicts");
+    census.agree(
         first_fault(&one) == fault_of(end),
         "the first bad verdict is not the end of the list",
-    )?;
+    );
     for verdict in &one {
         census.count(Counted::Verdicts);
         if verdict.fault.is_some() {
             census.count(Counted::BadVerdicts);
         }
     }
-    Ok(())
 }
 
 /// The verdict on each entry of a file.
-fn verdicts_of(alloc: Global, file: &[u8], limits: Limits) -> Result<Vec<Verdict>, Trouble> {
-    let Ok(mut lister) = open(alloc, file, limits) else {
-        return Err(Trouble::Differs("opened once, and then refused"));
-    };
-    if !lister.is_fresh() {
-        return Err(Trouble::Differs("a new lister has begun"));
-    }
+fn verdicts_of(alloc: Global, file: &[u8], limits: Limits, census: &mut Census) -> Vec<Verdict> {
     let mut sink = VerdictList {
         verdicts: Vec::new(alloc),
     };
-    match lister.check_into(&mut sink) {
-        Ok(()) => {},
-        Err(RunFault::Stopped) => return Err(Trouble::Memory),
-        Err(RunFault::At(_)) => return Err(Trouble::Differs("a check ends at a fault")),
+    match open(alloc, file, limits) {
+        Ok(mut lister) => {
+            check(&mut lister, &mut sink, census);
+            census.agree(
+                sink.verdicts.len() as u128 == counts_of(&lister).s,
+                "an entry has no verdict",
+            );
+        },
+        Err(_) => census.keep_trouble("opened once, and then refused"),
     }
-    let entries = lister.counts().s;
-    agree(
-        sink.verdicts.len() as u128 == entries,
-        "an entry has no verdict",
-    )?;
-    Ok(sink.verdicts)
+    sink.verdicts
+}
+
+/// Puts all verdicts of a new lister into a sink.
+fn check(
+    lister: &mut Lister<MemoryStore<'_>, Global>,
+    sink: &mut VerdictList,
+    census: &mut Census,
+) {
+    if !lister.is_fresh() {
+        return census.keep_trouble("a new lister has begun");
+    }
+    match lister.check_into(sink) {
+        Ok(()) => {},
+        Err(RunFault::Stopped) => census.keep_trouble(OUT_OF_MEMORY),
+        Err(RunFault::At(_)) => census.keep_trouble("a check ends at a fault"),
+    }
 }
 
 fn first_fault(verdicts: &[Verdict]) -> Option<ListFault> {
