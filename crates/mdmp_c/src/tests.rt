@@ -1,4 +1,8 @@
 //! The calls over small files.
+//!
+//! What is dear to prove of a test is a call with a long contract, and the text of `assert_eq!`. So each such
+//! call stands in a helper without a contract that gives plain numbers and bytes, `assert_same` compares
+//! them, and a test is a few calls of these on constants.
 use crate::copy::mdmp_copy_;
 use crate::directory::mdmp_header_;
 use crate::fault::{NO_FAULT, PlainFault};
@@ -11,7 +15,9 @@ use crate::records::mdmp_ranges_;
 use crate::rows::RangeRow;
 use crate::texts::{mdmp_check_, mdmp_list_};
 use crate::verdicts::mdmp_verdicts_;
-use std::test::Fail;
+use std::alloc::Global;
+use std::fmt::Debug;
+use std::process::Abort;
 
 const LIMITS: PlainLimits = PlainLimits {
     window: 65536,
@@ -33,97 +39,81 @@ const MEMORY64: [u8; 98] = *b"MDMP\x93\xa7\0\0\x01\0\0\0\x20\0\0\0\0\0\0\0\0\0\0
 \0\x10\0\0\0\0\0\0\x04\0\0\0\0\0\0\0\
 \0\x20\0\0\0\0\0\0\x04\0\0\0\0\0\0\0ABCDEF";
 
-#[test]
-fn check_gives_its_text(rt: HostRuntime) -> Result<(), Fail> {
-    let mut out = [0; 64];
+/// Asserts that what was found is what was expected.
+fn assert_same<T: PartialEq + Debug + Drop>(rt: &impl Abort, found: T, expected: T) {
+    assert_eq!(rt; found, expected)
+}
+
+/// Checks a file under these limits: the status, the size and the kind of the fault, and the buffer.
+fn check<const N: usize>(
+    alloc: Global,
+    file: &[u8],
+    limits: &PlainLimits,
+) -> ((u32, u64, u32), [u8; N]) {
+    let mut out = [7; N];
     let mut size = 0;
     let mut fault = NO_FAULT;
-    let status = mdmp_check_(
-        rt.alloc(),
-        &SYSTEM,
-        &LIMITS,
-        &mut out,
-        &mut size,
-        &mut fault,
-    );
-    assert_eq!(rt; (status, size), (0, 12));
-    assert_eq!(rt; &out[..12], b"entry 0: ok\n".as_slice());
-    Ok(())
+    let status = mdmp_check_(alloc, file, limits, &mut out, &mut size, &mut fault);
+    ((status, size, fault.kind), out)
 }
 
 #[test]
-fn a_short_buffer_is_told(rt: HostRuntime) -> Result<(), Fail> {
+fn check_gives_its_text(rt: HostRuntime) {
+    let (told, out) = check::<64>(rt.alloc(), &SYSTEM, &LIMITS);
+    assert_same(&rt, told, (0, 12, 0));
+    assert_same(&rt, out.get(..12), Some(b"entry 0: ok\n".as_slice()));
+}
+
+/// Lists a file into five bytes: the status, the size, and these bytes.
+fn list(alloc: Global, file: &[u8]) -> (u32, u64, [u8; 5]) {
     let mut out = [0; 5];
     let mut size = 0;
     let mut fault = NO_FAULT;
-    let status = mdmp_list_(
-        rt.alloc(),
-        &SYSTEM,
-        &LIMITS,
-        false,
-        &mut out,
-        &mut size,
-        &mut fault,
-    );
-    assert_eq!(rt; (status, size), (4, 240));
-    assert_eq!(rt; out.as_slice(), b"dump ".as_slice());
-    Ok(())
+    let status = mdmp_list_(alloc, file, &LIMITS, false, &mut out, &mut size, &mut fault);
+    (status, size, out)
 }
 
 #[test]
-fn a_part_of_a_list_is_given(rt: HostRuntime) -> Result<(), Fail> {
+fn a_short_buffer_is_told(rt: HostRuntime) {
+    assert_same(&rt, list(rt.alloc(), &SYSTEM), (4, 240, *b"dump "));
+}
+
+/// Gives seven bytes of the list of a file, behind so many: the status, the size, and these bytes.
+fn list_part(alloc: Global, file: &[u8], skip: u64) -> (u32, u64, [u8; 7]) {
     let mut out = [0; 7];
     let mut size = 0;
     let mut fault = NO_FAULT;
     let status = mdmp_list_part_(
-        rt.alloc(),
-        &SYSTEM,
-        &LIMITS,
-        false,
-        5,
-        &mut out,
-        &mut size,
-        &mut fault,
+        alloc, file, &LIMITS, false, skip, &mut out, &mut size, &mut fault,
     );
-    assert_eq!(rt; (status, size), (4, 235));
-    assert_eq!(rt; out.as_slice(), b"version".as_slice());
-    // The last of its lines ends it.
-    let status = mdmp_list_part_(
-        rt.alloc(),
-        &SYSTEM,
-        &LIMITS,
-        false,
-        233,
-        &mut out,
-        &mut size,
-        &mut fault,
-    );
-    assert_eq!(rt; (status, size), (0, 7));
-    assert_eq!(rt; out.as_slice(), b"ack 1\"\n".as_slice());
-    Ok(())
+    (status, size, out)
 }
 
 #[test]
-fn a_copy_is_the_same(rt: HostRuntime) -> Result<(), Fail> {
+fn a_part_of_a_list_is_given(rt: HostRuntime) {
+    let part = list_part(rt.alloc(), &SYSTEM, 5);
+    assert_same(&rt, part, (4, 235, *b"version"));
+    // The last of its lines ends it.
+    let part = list_part(rt.alloc(), &SYSTEM, 233);
+    assert_same(&rt, part, (0, 7, *b"ack 1\"\n"));
+}
+
+/// Copies the streams of these types of a file: the status, the size, and the 136 bytes of a new file.
+fn copy(alloc: Global, file: &[u8], types: &[u32]) -> (u32, u64, [u8; 136]) {
     let mut out = [0; 136];
     let mut size = 0;
     let mut fault = NO_FAULT;
-    let status = mdmp_copy_(
-        rt.alloc(),
-        &SYSTEM,
-        &LIMITS,
-        &[7],
-        &mut out,
-        &mut size,
-        &mut fault,
-    );
-    assert_eq!(rt; (status, size), (0, 136));
-    assert_eq!(rt; out.as_slice(), SYSTEM.as_slice());
-    Ok(())
+    let status = mdmp_copy_(alloc, file, &LIMITS, types, &mut out, &mut size, &mut fault);
+    (status, size, out)
 }
 
 #[test]
-fn memory_is_read_by_kept_ranges(rt: HostRuntime) -> Result<(), Fail> {
+fn a_copy_is_the_same(rt: HostRuntime) {
+    assert_same(&rt, copy(rt.alloc(), &SYSTEM, &[7]), (0, 136, SYSTEM));
+}
+
+/// Gives the ranges of a file: the status and the count, and the first two.
+fn ranges(alloc: Global, file: &[u8]) -> ((u32, u64), [RangeRow; 2]) {
     let none = RangeRow {
         index: 0,
         start: 0,
@@ -134,40 +124,45 @@ fn memory_is_read_by_kept_ranges(rt: HostRuntime) -> Result<(), Fail> {
         extent: 0,
         reserved: [0; 2],
     };
-    let mut ranges = [none; 2];
+    let mut out = [none; 2];
     let mut count = 0;
     let mut fault = NO_FAULT;
-    let status = mdmp_ranges_(
-        rt.alloc(),
-        &MEMORY64,
-        &LIMITS,
-        &mut ranges,
-        &mut count,
-        &mut fault,
-    );
-    assert_eq!(rt; (status, count), (0, 2));
+    let status = mdmp_ranges_(alloc, file, &LIMITS, &mut out, &mut count, &mut fault);
+    ((status, count), out)
+}
+
+/// Reads six bytes of memory at an address by ranges that were kept: the status, and these bytes.
+fn read(file: &[u8], ranges: &[RangeRow], address: u64) -> (u32, [u8; 6]) {
     let mut out = [7; 6];
     let mut known = [true; 6];
-    let status = mdmp_read_(&MEMORY64, &ranges, 0xfff, &mut out, &mut known, &mut fault);
-    assert_eq!(rt; status, 0);
-    assert_eq!(rt; out.as_slice(), b"\0ABCD\0".as_slice());
-    let mut again = [7; 6];
+    let mut fault = NO_FAULT;
+    let status = mdmp_read_(file, ranges, address, &mut out, &mut known, &mut fault);
+    (status, out)
+}
+
+/// Reads six bytes of memory at an address by all ranges of a file: the status, and these bytes.
+fn memory(alloc: Global, file: &[u8], address: u64) -> (u32, [u8; 6]) {
+    let mut out = [7; 6];
+    let mut known = [true; 6];
+    let mut fault = NO_FAULT;
     let status = mdmp_memory_(
-        rt.alloc(),
-        &MEMORY64,
-        &LIMITS,
-        0xfff,
-        &mut again,
-        &mut known,
-        &mut fault,
+        alloc, file, &LIMITS, address, &mut out, &mut known, &mut fault,
     );
-    assert_eq!(rt; status, 0);
-    assert_eq!(rt; again.as_slice(), out.as_slice());
-    Ok(())
+    (status, out)
 }
 
 #[test]
-fn a_header_is_given(rt: HostRuntime) -> Result<(), Fail> {
+fn memory_is_read_by_kept_ranges(rt: HostRuntime) {
+    let (told, kept) = ranges(rt.alloc(), &MEMORY64);
+    assert_same(&rt, told, (0, 2));
+    let by_kept = read(&MEMORY64, &kept, 0xfff);
+    assert_same(&rt, by_kept, (0, *b"\0ABCD\0"));
+    let by_all = memory(rt.alloc(), &MEMORY64, 0xfff);
+    assert_same(&rt, by_all, by_kept);
+}
+
+/// Gives the header of a file: the status, how many streams it has, and the kind and the size of the fault.
+fn header(file: &[u8]) -> (u32, u32, u32, u64) {
     let mut header = HeaderRow {
         flags: 0,
         signature: 0,
@@ -179,94 +174,73 @@ fn a_header_is_given(rt: HostRuntime) -> Result<(), Fail> {
         reserved: [0; 2],
     };
     let mut fault = NO_FAULT;
-    assert_eq!(rt; mdmp_header_(&SYSTEM, &mut header, &mut fault), 0);
-    assert_eq!(rt; header.number_of_streams, 1);
-    assert_eq!(rt; mdmp_header_(&SYSTEM[..31], &mut header, &mut fault), 1);
-    assert_eq!(rt; (fault.kind, fault.size), (1, 31));
-    Ok(())
+    let status = mdmp_header_(file, &mut header, &mut fault);
+    (status, header.number_of_streams, fault.kind, fault.size)
 }
 
 #[test]
-fn a_budget_is_a_bad_limit(rt: HostRuntime) -> Result<(), Fail> {
-    let mut out = [7; 4];
-    let mut size = 0;
-    let mut fault = NO_FAULT;
+fn a_header_is_given(rt: HostRuntime) {
+    assert_same(&rt, header(&SYSTEM), (0, 1, 0, 0));
+    assert_same(&rt, header(&SYSTEM[..31]), (1, 0, 1, 31));
+}
+
+#[test]
+fn a_budget_is_a_bad_limit(rt: HostRuntime) {
     let limits = PlainLimits {
         budget: 1,
         ..LIMITS
     };
-    let status = mdmp_check_(
-        rt.alloc(),
-        &SYSTEM,
-        &limits,
-        &mut out,
-        &mut size,
-        &mut fault,
-    );
-    assert_eq!(rt; (status, size, fault.kind), (2, 0, 67));
-    assert_eq!(rt; out, [7; 4]);
-    Ok(())
+    let checked = check(rt.alloc(), &SYSTEM, &limits);
+    assert_same(&rt, checked, ((2, 0, 67), [7; 4]));
 }
 
-#[test]
-fn each_entry_has_a_verdict(rt: HostRuntime) -> Result<(), Fail> {
-    let mut verdicts = [NO_FAULT; 2];
-    let mut count = 0;
-    let mut fault = NO_FAULT;
-    // The bytes of the name are cut off.
-    let status = mdmp_verdicts_(
-        rt.alloc(),
-        &SYSTEM[..104],
-        &LIMITS,
-        &mut verdicts,
-        &mut count,
-        &mut fault,
-    );
-    assert_eq!(rt; (status, count), (1, 1));
-    assert_eq!(rt; (fault.kind, fault.size), (64, 1));
-    let PlainFault {
-        kind,
-        entry,
-        index,
-        offset,
-        size,
-        ..
-    } = verdicts[0];
-    assert_eq!(rt; (kind, entry, index), (23, 0, 0));
-    assert_eq!(rt; (offset, size), (104, 28));
-    Ok(())
-}
-
-#[test]
-fn a_fault_has_its_words(rt: HostRuntime) -> Result<(), Fail> {
-    let outside = PlainFault {
+/// The fault of `SYSTEM` where the bytes of its name are cut off.
+fn name_outside() -> PlainFault {
+    PlainFault {
         kind: 23,
         has_index: 1,
         offset: 104,
         size: 28,
         ..NO_FAULT
-    };
-    let mut out = [0; 57];
-    let mut size = 0;
-    let status = mdmp_fault_text_(rt.alloc(), &outside, &mut out, &mut size);
-    assert_eq!(rt; (status, size), (0, 57));
-    assert_eq!(rt;
-        &out,
-        b"entry 0 item 0: name outside the file: offset 104 size 28"
-    );
-    Ok(())
+    }
+}
+
+/// Judges a file: the status and the count, the kind and the size of the fault, and the first verdict.
+fn verdict(alloc: Global, file: &[u8]) -> ((u32, u64), (u32, u64), PlainFault) {
+    let mut verdicts = [NO_FAULT; 2];
+    let mut count = 0;
+    let mut fault = NO_FAULT;
+    let status = mdmp_verdicts_(alloc, file, &LIMITS, &mut verdicts, &mut count, &mut fault);
+    ((status, count), (fault.kind, fault.size), verdicts[0])
 }
 
 #[test]
-fn a_kind_that_is_not_known_has_no_words(rt: HostRuntime) -> Result<(), Fail> {
+fn each_entry_has_a_verdict(rt: HostRuntime) {
+    let judged = verdict(rt.alloc(), &SYSTEM[..104]);
+    assert_same(&rt, judged, ((1, 1), (64, 1), name_outside()));
+}
+
+/// Tells a fault in words: the status, the size, and the buffer.
+fn fault_text<const N: usize>(alloc: Global, fault: &PlainFault) -> (u32, u64, [u8; N]) {
+    let mut out = [7; N];
+    let mut size = 1;
+    let status = mdmp_fault_text_(alloc, fault, &mut out, &mut size);
+    (status, size, out)
+}
+
+#[test]
+fn a_fault_has_its_words(rt: HostRuntime) {
+    let words = *b"entry 0 item 0: name outside the file: offset 104 size 28";
+    let told = fault_text(rt.alloc(), &name_outside());
+    assert_same(&rt, told, (0, 57, words));
+}
+
+#[test]
+fn a_kind_that_is_not_known_has_no_words(rt: HostRuntime) {
     let unknown = PlainFault {
         kind: 1000,
         ..NO_FAULT
     };
-    let mut out = [7; 4];
-    let mut size = 1;
-    let status = mdmp_fault_text_(rt.alloc(), &unknown, &mut out, &mut size);
-    assert_eq!(rt; (status, size), (2, 0));
-    assert_eq!(rt; out, [7; 4]);
-    Ok(())
+    let told = fault_text(rt.alloc(), &unknown);
+    assert_same(&rt, told, (2, 0, [7; 4]));
 }
