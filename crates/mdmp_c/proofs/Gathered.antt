@@ -1,14 +1,17 @@
 -- Rows that are put into an array, one behind the other.
-use Rattle.std.proofs.Common.{◌≡◌, ◌∙◌, ◌≤◌, ◌<◌, ◌+◌, ◌-◌, ◌^◌, ◌++◌, ℕ, suc, List, [], ◌∷◌, Option, Some, None, ap, refl, sym, length, drop, arith, set, append_assoc, append-nil}
+use Rattle.std.proofs.Common.{◌≡◌, ◌∙◌, ◌⊎◌, ◌≤◌, ◌<◌, ◌+◌, ◌-◌, ◌^◌, ◌++◌, ℕ, suc, List, [], ◌∷◌, Option, Some, None, ap, inl, inr, refl, sym, length, drop, arith, set, append_assoc, append-nil}
 use Rattle.std.specs.Prelude.{filter_map, min, slice_get}
 use Rattle.std.proofs.Math.Seq.{take-nil}
 use Rattle.std.proofs.lemmas.List.Elements.{filter_map-append}
 use Rattle.mdmp_c.specs.Giving.{put_front, told_count}
+use Rattle.mdmp_lister.specs.declared.fault.FaultKind.TheVariants as kinds
 use Rattle.mdmp_lister.specs.declared.fault.ListFault.{ListFault}
+use Rattle.mdmp_lister.specs.Fault.{IsOfStore, IsUnobtained}
 use Rattle.mdmp_lister.specs.declared.item.Item.{Item}
-use Rattle.mdmp_lister.specs.Format.Listing.{Run}
+use Rattle.mdmp_lister.specs.Format.Listing.{Run, only_fault}
 use Rattle.mdmp_lister.specs.Lister.{tail}
-use Rattle.mdmp_c.specs.Table.{Collects}
+use Rattle.mdmp_c.specs.Table.{Collects, collects_all, collects_some}
+use Rattle.mdmp_c.proofs.Stopping.{of_budget}
 
 pub put_front-nothing : {X : Type 0} (before : List X) → put_front [] before ≡ before
 put_front-nothing before = ap (λ xs. xs ++ before) (take-nil (length before))
@@ -97,12 +100,24 @@ module _ {T : Type 0} (row : Item → Option T) where
   }
 
   -- nothing is left, but this fault or none
-  pub Collects-end : (run left : Run) (count : ℕ) (fault : Option ListFault) (before now : List T) → HasCollected row run left count before now
-      → left ≡ record { items = []; fault = fault } → Collects row run count fault before now
-  Collects-end run left count fault before now h end =
+  pub Collects-end : (budget : Option ℕ) (run left : Run) (count : ℕ) (fault : Option ListFault) (before now : List T) → HasCollected row run left count before now
+      → left ≡ record { items = []; fault = fault } → Collects row budget run count fault before now
+  Collects-end budget run left count fault before now h end =
       let all : run.items ≡ h.given = h.items ∙ ap (λ (r : Run). h.given ++ r.items) end ∙ append-nil h.given in
+      collects_all (sym (h.fault ∙ ap (λ (r : Run). r.fault) end))
       record {
         count_is = h.count_is ∙ ap (λ (xs : List Item). told_count (length (filter_map row xs))) (sym all);
-        fault_is = sym (h.fault ∙ ap (λ (r : Run). r.fault) end);
         out = h.out ∙ ap (λ (xs : List Item). put_front (filter_map row xs) before) (sym all);
       }
+
+  -- or it is told that the budget was reached
+  pub Collects-fault : (budget : Option ℕ) (run left : Run) (count : ℕ) (fault : ListFault) (before now : List T) → HasCollected row run left count before now
+      → (IsOfStore fault.kind → ⊥) → ((IsUnobtained fault.kind → ⊥) → left ≡ only_fault fault) → (fault.kind ≡ kinds.Budget → budget ≡ None → ⊥)
+      → Collects row budget run count (Some fault) before now
+  Collects-fault budget run left count fault before now h good gives can = by (of_budget fault.kind good) where
+    by : (fault.kind ≡ kinds.Budget) ⊎ (IsUnobtained fault.kind → ⊥) → Collects row budget run count (Some fault) before now
+    by (inr of_file) = Collects-end budget run left count (Some fault) before now h (gives of_file)
+    by (inl is) =
+        collects_some h.given
+        record { can_stop = can is; rest = left.items; items = h.items; told = fault; told_is = refl; kind = is }
+        record { count_is = h.count_is; out = h.out }

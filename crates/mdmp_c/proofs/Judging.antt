@@ -1,7 +1,7 @@
 -- The verdicts that a sink has put into an array, and how a call that gives them ends.
-use Rattle.std.proofs.Common.{◌≡◌, ◌∙◌, ◌<◌, ◌+◌, ◌-◌, ◌^◌, ◌++◌, ℕ, List, [], ◌∷◌, Some, None, ap, arith, inl, inr, length, length-append, map, refl, sym, append_assoc, append-nil}
+use Rattle.std.proofs.Common.{◌≡◌, ◌∙◌, ◌<◌, ◌+◌, ◌-◌, ◌^◌, ◌++◌, ℕ, List, [], ◌∷◌, Option, Some, None, ap, arith, inl, inr, length, length-append, map, refl, sym, append_assoc, append-nil}
 use Rattle.std.specs.Prelude.{Result, min, nat_lt, if◌then◌else◌}
-use Rattle.std.proofs.lemmas.List.{length-map}
+use Rattle.std.proofs.lemmas.List.{length-map, map-append}
 use Rattle.mdmp_lister.specs.declared.choice.Choice.TheVariants.{All}
 use Rattle.mdmp_lister.specs.declared.fault.OpenFault.{OpenFault}
 use Rattle.mdmp_lister.specs.declared.sink.Stopped.{Stopped}
@@ -13,10 +13,12 @@ use Rattle.mdmp_tool.specs.CheckText.{bad_count, fault_count}
 use Rattle.mdmp_tool.proofs.Checking.{bad_entries as few_entries}
 use Rattle.mdmp_c.specs.declared.fault.PlainFault.{PlainFault}
 use Rattle.mdmp_c.specs.declared.verdict_rows.Judged.{Judged}
-use Rattle.mdmp_c.specs.Fault.{open_fault, status_of}
-use Rattle.mdmp_c.specs.Giving.{Ends, answers, bad_limits, put_front, told_count}
+use Rattle.mdmp_c.specs.Fault.{open_fault, status_of, told_unless}
+use Rattle.mdmp_c.specs.Giving.{Ends, GivesList, answers, bad_limits, put_front, stops, told_count}
+use Rattle.mdmp_c.specs.Table.{rows_unless}
 use Rattle.mdmp_c.specs.ToolFault.{bad_entries}
-use Rattle.mdmp_c.specs.Verdicts.{AreVerdicts, HasJudged, TakesRow, verdict_row}
+use Rattle.mdmp_c.specs.Verdicts.{AreVerdicts, Judges, PutsVerdicts, TakesRow, ending_told, judges_all, judges_some, verdict_row}
+use Rattle.mdmp_c.proofs.Ending.{WouldTell, plain_budget}
 
 -- ---- what the sink has put
 
@@ -74,18 +76,46 @@ no_verdicts F limit fault is = record { told_is = rw is refl; rows_are = rw is r
 few_told : (F : List ℕ) (limit : ℕ) → entry_count F < 2 ^ 32 → told_count (bad_count (verdicts F All limit)) ≡ bad_count (verdicts F All limit)
 few_told F limit few = omega (arith, few_entries F limit, few)
 
-pub Ends-judged : (F : List ℕ) (limit : ℕ) (valid : Type 0) (judged : Judged) (status count : ℕ) (told fault : PlainFault) (before after : List PlainFault) → valid → opening_fault F All ≡ None
-    → entry_count F < 2 ^ 32 → HasJudged F All limit judged before after → told ≡ bad_entries judged.bad
+pub all_verdicts : (F : List ℕ) (limit : ℕ) → WouldTell (AreVerdicts F limit)
+all_verdicts F limit = record {
+  whole = told_unless (opening_fault F All) (bad_entries (bad_count (verdicts F All limit)));
+  all = rows_unless (opening_fault F All) (map verdict_row (verdicts F All limit));
+  is = record { told_is = refl; rows_are = refl };
+}
+
+verdicts_given : (vs : List Verdict) (judged : Judged) (status count : ℕ) (told fault : PlainFault) (before after : List PlainFault) → PutsVerdicts vs judged before after
     → ((n : ℕ) → judged.count ≡ told_count n → status ≡ (if nat_lt (length before) n then 4 else status_of told)) → count ≡ judged.count → fault ≡ told
-    → Ends (AreVerdicts F limit) valid bad_limits status count fault before after
-Ends-judged F limit valid judged status count told fault before after ok opened few h tells ends counts same =
-    let bad : judged.bad ≡ bad_count (verdicts F All limit) = h.bad_is ∙ few_told F limit few in
-    let long : length (map verdict_row (verdicts F All limit)) ≡ length (verdicts F All limit) = length-map (verdicts F All limit) verdict_row in
-    answers told (map verdict_row (verdicts F All limit)) ok
-    record { told_is = tells ∙ ap bad_entries bad ∙ (rw opened refl); rows_are = rw opened refl }
+    → GivesList told (map verdict_row vs) status count fault before after
+verdicts_given vs judged status count told fault before after h ends counts same =
+    let long : length (map verdict_row vs) ≡ length vs = length-map vs verdict_row in
     record {
-      status_is = ends (length (map verdict_row (verdicts F All limit))) (h.count_is ∙ ap told_count (sym long));
+      status_is = ends (length (map verdict_row vs)) (h.count_is ∙ ap told_count (sym long));
       count_is = counts ∙ h.count_is ∙ ap told_count (sym long);
       fault_is = same;
       out = h.out;
     }
+
+pub Ends-judged : (F : List ℕ) (limit : ℕ) (valid can_stop : Type 0) (budget : Option ℕ) (judged : Judged) (status count : ℕ) (told fault : PlainFault) (before after : List PlainFault) → valid
+    → ((budget ≡ None → ⊥) → can_stop) → opening_fault F All ≡ None
+    → entry_count F < 2 ^ 32 → Judges F All limit budget judged before after → told ≡ ending_told judged.bad judged.fault
+    → ((n : ℕ) → judged.count ≡ told_count n → status ≡ (if nat_lt (length before) n then 4 else status_of told)) → count ≡ judged.count → fault ≡ told
+    → Ends (AreVerdicts F limit) valid can_stop bad_limits status count fault before after
+Ends-judged F limit valid can_stop budget judged status count told fault before after ok can opened few (judges_all none h) tells ends counts same =
+    let bad : judged.bad ≡ bad_count (verdicts F All limit) = h.bad_is ∙ few_told F limit few in
+    answers told (map verdict_row (verdicts F All limit)) ok
+    record { told_is = tells ∙ ap (ending_told judged.bad) none ∙ ap bad_entries bad ∙ (rw opened refl); rows_are = rw opened refl }
+    (verdicts_given (verdicts F All limit) judged status count told fault before after h ends counts same)
+Ends-judged F limit valid can_stop budget judged status count told fault before after ok can opened few (judges_some vs cut h) tells ends counts same =
+    stops told (map verdict_row vs) ok (can cut.can_stop)
+    record {
+      offset = cut.told.offset;
+      size = cut.told.size;
+      told_is = tells ∙ ap (ending_told judged.bad) cut.told_is ∙ plain_budget cut.told cut.kind;
+      whole = bad_entries (bad_count (verdicts F All limit));
+      rest = map verdict_row cut.rest;
+      begins = record {
+        told_is = rw opened refl;
+        rows_are = rw opened (sym (ap (map verdict_row) cut.first ∙ map-append verdict_row vs cut.rest));
+      };
+    }
+    (verdicts_given vs judged status count told fault before after h ends counts same)

@@ -1,3 +1,4 @@
+pub mod Stopping
 pub mod Ending
 pub mod Gathered
 pub mod Kept

@@ -1,15 +1,17 @@
 -- Lines of items given one by one.
-use Rattle.std.proofs.Common.{◌≡◌, ◌∙◌, ◌++◌, ℕ, List, [], Bool, false, Option, Some, None, refl, ap, sym, length, inr, append_assoc, append-nil}
+use Rattle.std.proofs.Common.{◌≡◌, ◌∙◌, ◌++◌, ◌-◌, ℕ, List, [], Bool, false, Option, Some, None, refl, ap, sym, length, inl, inr, append_assoc, append-nil}
 use Rattle.std.specs.Prelude.{Ok, Err, Result, drop, take}
 use Rattle.std.specs.List.{flat_map}
 use Rattle.std.proofs.lemmas.List.{take-append-drop}
 use Rattle.std.proofs.lemmas.List.Concat.{flat_map-append}
 use Rattle.std.proofs.Math.Seq.{drop-nil}
 use Rattle.mdmp_c.specs.declared.fault.PlainFault.{PlainFault}
-use Rattle.mdmp_c.specs.Fault.{list_told, no_memory, open_fault}
+use Rattle.mdmp_c.specs.Fault.{budget_fault, list_told, no_memory, open_fault, told_unless}
 use Rattle.mdmp_c.specs.Giving.{Ends, Fails, GivesOrWants, bad_limits, told_count, wants}
 use Rattle.mdmp_c.specs.TextPart.{IsListPart, IsPartOf, PutsRun}
 use Rattle.mdmp_c.specs.ToolFault.{list_answer}
+use Rattle.mdmp_c.proofs.Ending.{WouldTell}
+use Rattle.mdmp_c.proofs.Parted.{drop-append}
 use Rattle.mdmp_c.proofs.Told.{Ends-given}
 use Rattle.mdmp_lister.specs.declared.choice.Choice.TheVariants.{All}
 use Rattle.mdmp_lister.specs.declared.fault.OpenFault.{OpenFault}
@@ -22,9 +24,9 @@ use Rattle.mdmp_lister.specs.Format.Listing.{Run, listing}
 use Rattle.mdmp_source.specs.Output.{OutState, PutsAll}
 use Rattle.mdmp_tool.specs.Causes.{IsNoSourceFault}
 use Rattle.mdmp_tool.specs.declared.fault.ToolFault.{ToolFault}
-use Rattle.mdmp_tool.specs.declared.fault.ToolFault.TheVariants.{List as BadList, Memory, Source, Out}
+use Rattle.mdmp_tool.specs.declared.fault.ToolFault.TheVariants.{List as BadList, Budget, Memory, Source, Out}
 use Rattle.mdmp_tool.specs.Runs.{ListsNext}
-use Rattle.mdmp_tool.specs.Text.{item_lines, next_lines, run_text}
+use Rattle.mdmp_tool.specs.Text.{item_lines, list_text, next_lines, run_text}
 
 module _ (pdb : Bool) (F : List ℕ) (limit : ℕ) where
   -- the text of a run is that of its next item, and of the rest
@@ -65,28 +67,31 @@ module _ (pdb : Bool) (F : List ℕ) (limit : ℕ) where
   ended run left before skip room p s n kept fault given end =
       rw (given.whole ∙ ap (λ (r : Run). given.text ++ run_text pdb F limit r) end ∙ append-nil given.text) given.part
 
-  pub PutsRun-end : (run left : Run) (before : List ℕ) (skip room p s n : ℕ) (kept : List ℕ) (now after : OutState) → HasGiven run before skip room left p s n kept
+  pub PutsRun-end : (budget : Option ℕ) (run left : Run) (before : List ℕ) (skip room p s n : ℕ) (kept : List ℕ) (now after : OutState) → HasGiven run before skip room left p s n kept
       → ListsNext pdb F limit left now (Ok false) after
-      → PutsRun (IsPartOf skip room (before ++ run_text pdb F limit run) p s n kept) run (Ok tt)
-  PutsRun-end run left before skip room p s n kept now after given next =
+      → PutsRun (λ text. IsPartOf skip room text p s n kept) budget (before ++ run_text pdb F limit run) run (Ok tt)
+  PutsRun-end budget run left before skip room p s n kept now after given next =
       (given.fault ∙ ap (λ (r : Run). r.fault) next.0, ended run left before skip room p s n kept None given next.0)
 
-  -- or the fault stands behind it, or memory was wanting
-  pub PutsRun-fault : (run left : Run) (before : List ℕ) (skip room p s n : ℕ) (kept : List ℕ) (now after : OutState) (f : ToolFault)
+  -- or the fault stands behind it, the budget was reached, or memory was wanting
+  pub PutsRun-fault : (budget : Option ℕ) (run left : Run) (before : List ℕ) (skip room p s n : ℕ) (kept : List ℕ) (now after : OutState) (f : ToolFault)
       → HasGiven run before skip room left p s n kept → ListsNext pdb F limit left now (Err f) after → IsNoSourceFault {T = Bool} (Err f)
-      → PutsRun (IsPartOf skip room (before ++ run_text pdb F limit run) p s n kept) run (Err f)
-  PutsRun-fault run left before skip room p s n kept now after (BadList fault) given next read =
+      → ((offset size : ℕ) → f ≡ Budget offset size → budget ≡ None → ⊥)
+      → PutsRun (λ text. IsPartOf skip room text p s n kept) budget (before ++ run_text pdb F limit run) run (Err f)
+  PutsRun-fault budget run left before skip room p s n kept now after (BadList fault) given next read can =
       (given.fault ∙ ap (λ (r : Run). r.fault) next.0, ended run left before skip room p s n kept (Some fault) given next.0)
-  PutsRun-fault run left before skip room p s n kept now after (Source fault) given next read = absurd read
-  PutsRun-fault run left before skip room p s n kept now after Out given next read = tt
-  PutsRun-fault run left before skip room p s n kept now after _ given next read = absurd next
+  PutsRun-fault budget run left before skip room p s n kept now after (Source fault) given next read can = absurd read
+  PutsRun-fault budget run left before skip room p s n kept now after (Budget offset size) given next read can =
+      record { can_stop = can offset size refl; given = given.text; rest = run_text pdb F limit left; begins = given.whole; put = given.part }
+  PutsRun-fault budget run left before skip room p s n kept now after Out given next read can = tt
+  PutsRun-fault budget run left before skip room p s n kept now after _ given next read can = absurd next
 
 -- the lines that an emptied line took
 pub lines_taken : (before after : OutState) (line start text : List ℕ) → before.taken ≡ Some start → start ≡ [] → PutsAll before text after → after.taken ≡ Some line
     → line ≡ text
 lines_taken before after line start text known none put is = let all : after.taken ≡ Some (start ++ text) = put.took start known in let same : line ≡ start ++ text = cc in same ∙ ap (λ xs. xs ++ text) none
 
-module _ (pdb : Bool) (F : List ℕ) (limit skip : ℕ) (valid : Type 0) where
+module _ (pdb : Bool) (F : List ℕ) (limit skip : ℕ) where
   -- of a file that is refused nothing is given
   pub no_part : (fault : OpenFault) → opening_fault F All ≡ Some fault → IsListPart skip pdb F limit (open_fault fault) []
   no_part fault is = record { told_is = rw is refl; part_is = rw is (sym (drop-nil {A = ℕ} skip)) }
@@ -97,24 +102,49 @@ module _ (pdb : Bool) (F : List ℕ) (limit skip : ℕ) (valid : Type 0) where
   abbrev whole : List ℕ
   whole = dump_line (header_at F 0) ++ run_text pdb F limit run
 
-  answered : (told : PlainFault) (status count : ℕ) (fault : PlainFault) (before after : List ℕ) (p s n : ℕ) (kept : List ℕ) → valid → opening_fault F All ≡ None
-      → told ≡ list_told run.fault → IsPartOf skip (length before) whole p s n kept
-      → ((part : List ℕ) → n ≡ told_count (length part) → kept ≡ take (length before) part → GivesOrWants told part status count fault before after)
-      → Ends (IsListPart skip pdb F limit) valid bad_limits status count fault before after
-  answered told status count fault before after p s n kept ok opened is part gives =
-      Ends-given (IsListPart skip pdb F limit) valid bad_limits told (drop skip whole) status count fault before after ok
-      (inr (record { told_is = rw opened is; part_is = rw opened refl })) (gives (drop skip whole) part.size_is part.kept_is)
+  pub all_parts : WouldTell (IsListPart skip pdb F limit)
+  all_parts = record {
+    whole = told_unless (opening_fault F All) (list_told run.fault);
+    all = drop skip (list_text pdb F limit);
+    is = record { told_is = refl; part_is = refl };
+  }
 
-  -- the part of the text of a file that was opened, up to what ended its listing
-  pub Ends-part : (answer : Result (Unit {0}) ToolFault) (status count : ℕ) (fault : PlainFault) (before after : List ℕ) (p s n : ℕ) (kept : List ℕ) → valid
-      → opening_fault F All ≡ None → PutsRun (IsPartOf skip (length before) whole p s n kept) run answer
-      → ((part : List ℕ) → n ≡ told_count (length part) → kept ≡ take (length before) part → GivesOrWants (list_answer answer) part status count fault before after)
-      → (list_answer answer ≡ no_memory → Fails no_memory status count fault before after)
-      → Ends (IsListPart skip pdb F limit) valid bad_limits status count fault before after
-  Ends-part (Ok x) status count fault before after p s n kept ok opened puts gives none =
-      answered (list_answer (Ok x)) status count fault before after p s n kept ok opened (ap list_told (sym puts.0)) puts.1 gives
-  Ends-part (Err (BadList f)) status count fault before after p s n kept ok opened puts gives none =
-      answered (list_answer (Err (BadList f))) status count fault before after p s n kept ok opened (ap list_told (sym puts.0)) puts.1 gives
-  Ends-part (Err Out) status count fault before after p s n kept ok opened puts gives none = wants ok (none refl)
-  Ends-part (Err Memory) status count fault before after p s n kept ok opened puts gives none = wants ok (none refl)
-  Ends-part (Err _) status count fault before after p s n kept ok opened puts gives none = absurd puts
+  module _ (valid can_stop : Type 0) (budget : Option ℕ) where
+    answered : (told : PlainFault) (status count : ℕ) (fault : PlainFault) (before after : List ℕ) (p s n : ℕ) (kept : List ℕ) → valid → opening_fault F All ≡ None
+        → told ≡ list_told run.fault → IsPartOf skip (length before) whole p s n kept
+        → ((part : List ℕ) → n ≡ told_count (length part) → kept ≡ take (length before) part → GivesOrWants told part status count fault before after)
+        → Ends (IsListPart skip pdb F limit) valid can_stop bad_limits status count fault before after
+    answered told status count fault before after p s n kept ok opened is part gives =
+        Ends-given (IsListPart skip pdb F limit) valid can_stop bad_limits told (drop skip whole) status count fault before after ok
+        (inr (inl (record { told_is = rw opened is; part_is = rw opened refl }))) (gives (drop skip whole) part.size_is part.kept_is)
+
+    -- the part of the text of a file that was opened, up to what ended its listing
+    pub Ends-part : (answer : Result (Unit {0}) ToolFault) (status count : ℕ) (fault : PlainFault) (before after : List ℕ) (p s n : ℕ) (kept : List ℕ) → valid
+        → ((budget ≡ None → ⊥) → can_stop) → opening_fault F All ≡ None → PutsRun (λ text. IsPartOf skip (length before) text p s n kept) budget whole run answer
+        → ((part : List ℕ) → n ≡ told_count (length part) → kept ≡ take (length before) part → GivesOrWants (list_answer answer) part status count fault before after)
+        → (list_answer answer ≡ no_memory → Fails no_memory status count fault before after)
+        → Ends (IsListPart skip pdb F limit) valid can_stop bad_limits status count fault before after
+    Ends-part (Ok x) status count fault before after p s n kept ok can opened puts gives none =
+        answered (list_answer (Ok x)) status count fault before after p s n kept ok opened (ap list_told (sym puts.0)) puts.1 gives
+    Ends-part (Err (BadList f)) status count fault before after p s n kept ok can opened puts gives none =
+        answered (list_answer (Err (BadList f))) status count fault before after p s n kept ok opened (ap list_told (sym puts.0)) puts.1 gives
+    Ends-part (Err (Budget offset size)) status count fault before after p s n kept ok can opened puts gives none =
+        Ends-given (IsListPart skip pdb F limit) valid can_stop bad_limits (budget_fault offset size) (drop skip puts.given) status count fault before after ok
+        (inr (inr (
+          can puts.can_stop,
+          record {
+            offset = offset;
+            size = size;
+            told_is = refl;
+            whole = list_told run.fault;
+            rest = drop (skip - length puts.given) puts.rest;
+            begins = record {
+              told_is = rw opened refl;
+              part_is = rw opened (sym (ap (drop skip) puts.begins ∙ drop-append skip puts.given puts.rest));
+            };
+          },
+        )))
+        (gives (drop skip puts.given) puts.put.size_is puts.put.kept_is)
+    Ends-part (Err Out) status count fault before after p s n kept ok can opened puts gives none = wants ok (none refl)
+    Ends-part (Err Memory) status count fault before after p s n kept ok can opened puts gives none = wants ok (none refl)
+    Ends-part (Err _) status count fault before after p s n kept ok can opened puts gives none = absurd puts

@@ -60,6 +60,7 @@ opening_words (opening.BadVersion low) fits = ap (λ n. Some (fault_text (tool.O
 opening_words (opening.DirectoryOutside offset size) fits = refl
 opening_words (opening.TooManyRanges count) fits = ap (λ n. Some (fault_text (tool.Opening (opening.TooManyRanges n)))) (whole_number count)
 opening_words opening.Memory fits = refl
+opening_words (opening.Budget offset size) fits = refl
 opening_words (opening.Source fault) fits = absurd fits
 
 list_words : (f : ListFault) (kind : FaultKind) → f.kind ≡ kind → FitsKind kind → words_of (plain_list_fault f) ≡ Some (fault_text (tool.List f))
@@ -81,6 +82,7 @@ list_words f kind is fits = by f.index refl kind is fits where
   by (Some k) at kinds.NameLengthOutside is fits = rw (at, is) refl
   by (Some k) at kinds.NameOdd is fits = rw (at, is) refl
   by (Some k) at kinds.NameUnitsOutside is fits = rw (at, is) refl
+  by k at kinds.Budget is fits = rw is refl
   by k at (kinds.Source fault) is fits = absurd fits
 
 part_words : (e k : ℕ) (part : PartName) (offset size : ℕ) → words_of (read_fault (reading.PartOutside e k part offset size)) ≡ Some (fault_text (tool.Reading (reading.PartOutside e k part offset size)))
@@ -115,6 +117,7 @@ words_back (tool.Layout layout.TooLarge) fits = refl
 words_back (tool.NotCopied t) fits = ap (λ n. Some (fault_text (tool.NotCopied n))) (let l : t % 2 ^ 32 ≡ t = omega (arith, fits) in l)
 words_back tool.Out fits = absurd fits
 words_back tool.Memory fits = refl
+words_back (tool.Budget offset size) fits = refl
 words_back (tool.Source fault) fits = absurd fits
 
 -- ---- of what no command tells

@@ -18,6 +18,10 @@ of_kind kind = record no_fault { kind = kind }
 abbrev pub no_memory : PlainFault
 no_memory = of_kind 66
 
+-- a fetch of these bytes was not made, with which more than the budget would have been fetched
+abbrev pub budget_fault : ℕ → ℕ → PlainFault
+budget_fault offset size = record (of_kind 71) { offset = offset; size = size }
+
 -- a fault of the opening
 abbrev pub open_fault : OpenFault → PlainFault
 open_fault (opening.TooShort size) = record (of_kind 1) { size = size }
@@ -27,6 +31,7 @@ open_fault (opening.DirectoryOutside offset size) = record (of_kind 4) { offset 
 open_fault (opening.TooManyRanges count) = record (of_kind 5) { size = count % 2 ^ 64; high = count / 2 ^ 64 }
 open_fault opening.Memory = no_memory
 open_fault (opening.Source fault) = of_kind 69
+open_fault (opening.Budget offset size) = budget_fault offset size
 
 -- what is wrong with an entry
 abbrev pub kind_number : FaultKind → ℕ
@@ -39,11 +44,13 @@ kind_number kinds.NameLengthOutside = 21
 kind_number kinds.NameOdd = 22
 kind_number kinds.NameUnitsOutside = 23
 kind_number (kinds.Source fault) = 69
+kind_number kinds.Budget = 71
 
--- a fault of the listing
-abbrev pub plain_list_fault : ListFault → PlainFault
-plain_list_fault f = record {
-  kind = kind_number f.kind;
+-- a fault of the listing: of the budget no entry is told, nor an item
+abbrev pub plain_by_kind : FaultKind → ListFault → PlainFault
+plain_by_kind kinds.Budget f = budget_fault f.offset f.size
+plain_by_kind kind f = record {
+  kind = kind_number kind;
   entry = f.entry;
   index = unwrap_or f.index 0;
   offset = f.offset;
@@ -54,12 +61,15 @@ plain_list_fault f = record {
   reserved = replicate 4 0;
 }
 
--- 0 of no fault, 1 where the file is at fault, 2 where an argument is, 3 where memory was wanting
+abbrev pub plain_list_fault : ListFault → PlainFault
+plain_list_fault f = plain_by_kind f.kind f
+
+-- 0 of no fault, 1 where the file is at fault, 2 where an argument is, 3 where memory was wanting or the budget was reached
 abbrev pub status_of : PlainFault → ℕ
 status_of fault =
     if fault.kind == 0 then 0
     else if fault.kind == 65 || fault.kind == 67 || fault.kind == 68 || fault.kind == 70 then 2
-    else if fault.kind == 66 || fault.kind == 69 then 3
+    else if fault.kind == 66 || fault.kind == 69 || fault.kind == 71 then 3
     else 1
 
 -- what is told of a file that is refused, or else of one that can be opened

@@ -66,13 +66,14 @@ reading_in p =
     else if p.kind == 33 then Some (reading.NameTooLong p.entry p.index (p.size % 2 ^ 32))
     else None
 
--- of the copy, or memory
+-- of the copy, memory, or the budget
 abbrev pub rest_in : PlainFault → Option ToolFault
 rest_in p =
     if p.kind == 48 then Some (tool.Layout (layout.RawKnownType p.size))
     else if p.kind == 49 then Some (tool.Layout layout.TooLarge)
     else if p.kind == 65 then Some (tool.NotCopied (p.size % 2 ^ 32))
     else if p.kind == 66 then Some tool.Memory
+    else if p.kind == 71 then Some (tool.Budget p.offset p.size)
     else None
 
 abbrev pub or_reading : PlainFault → Option ReadFault → Option ToolFault

@@ -1,5 +1,5 @@
 -- Parts of a text.
-use Rattle.std.specs.Prelude.{◌≡◌, ◌-◌, ℕ, Bool, List, Some, None, Result, Ok, Err, drop, length, take}
+use Rattle.std.specs.Prelude.{◌≡◌, ◌-◌, ◌++◌, ℕ, Bool, List, Option, Some, None, Result, Ok, Err, drop, length, take}
 use Rattle.mdmp_c.specs.declared.fault.PlainFault.{PlainFault}
 use Rattle.mdmp_c.specs.Fault.{list_told, told_unless}
 use Rattle.mdmp_c.specs.Giving.{told_count}
@@ -7,7 +7,7 @@ use Rattle.mdmp_lister.specs.declared.choice.Choice.TheVariants.{All}
 use Rattle.mdmp_lister.specs.Format.Listing.{Run, listing}
 use Rattle.mdmp_lister.specs.Format.Refusal.{opening_fault}
 use Rattle.mdmp_tool.specs.declared.fault.ToolFault.{ToolFault}
-use Rattle.mdmp_tool.specs.declared.fault.ToolFault.TheVariants.{List as BadList, Memory, Out}
+use Rattle.mdmp_tool.specs.declared.fault.ToolFault.TheVariants.{List as BadList, Budget, Memory, Out}
 use Rattle.mdmp_tool.specs.Text.{list_text}
 
 -- what is told of F by a list, and what stands behind the first `skip` bytes of its text
@@ -23,10 +23,19 @@ pub record IsPartOf (skip room : ℕ) (text : List ℕ) (left space size : ℕ) 
   pub size_is : size ≡ told_count (length (drop skip text))
   pub kept_is : kept ≡ take room (drop skip text)
 
--- the whole text of a run was put somewhere, up to its fault or none; or memory was wanting
-abbrev pub PutsRun : Type 0 → Run → Result (Unit {0}) ToolFault → Type 0
-PutsRun whole run (Ok x) = (run.fault ≡ None) × whole
-PutsRun whole run (Err (BadList fault)) = (run.fault ≡ Some fault) × whole
-PutsRun whole run (Err Out) = Unit {0}
-PutsRun whole run (Err Memory) = Unit {0}
-PutsRun whole run (Err fault) = ⊥
+-- the first bytes of a text were put somewhere, and then the budget was reached
+pub record PutsFirst (IsPut : List ℕ → Type 0) (budget : Option ℕ) (text : List ℕ) : Type 0 where
+  pub can_stop : budget ≡ None → ⊥
+  pub given : List ℕ
+  pub rest : List ℕ
+  pub begins : text ≡ given ++ rest
+  pub put : IsPut given
+
+-- the text of a run was put somewhere, up to its fault or none, or up to where the budget was reached; or memory was wanting
+abbrev pub PutsRun : (List ℕ → Type 0) → Option ℕ → List ℕ → Run → Result (Unit {0}) ToolFault → Type 0
+PutsRun IsPut budget text run (Ok x) = (run.fault ≡ None) × IsPut text
+PutsRun IsPut budget text run (Err (BadList fault)) = (run.fault ≡ Some fault) × IsPut text
+PutsRun IsPut budget text run (Err (Budget offset size)) = PutsFirst IsPut budget text
+PutsRun IsPut budget text run (Err Out) = Unit {0}
+PutsRun IsPut budget text run (Err Memory) = Unit {0}
+PutsRun IsPut budget text run (Err fault) = ⊥

@@ -1,7 +1,7 @@
 -- The faults of commands as plain numbers.
 use Rattle.std.specs.Prelude.{ℕ, ◌/◌, ◌%◌, ◌^◌, ◌==◌, Result, Ok, Err, replicate, if◌then◌else◌}
 use Rattle.mdmp_c.specs.declared.fault.PlainFault.{PlainFault}
-use Rattle.mdmp_c.specs.Fault.{plain_list_fault, no_fault, no_memory, of_kind, open_fault}
+use Rattle.mdmp_c.specs.Fault.{budget_fault, plain_list_fault, no_fault, no_memory, of_kind, open_fault}
 use Rattle.mdmp_dump.specs.declared.fault.PartName.{PartName}
 use Rattle.mdmp_dump.specs.declared.fault.PartName.TheVariants as parts
 use Rattle.mdmp_dump.specs.declared.fault.ReadFault.{ReadFault}
@@ -58,6 +58,7 @@ tool_fault (tool.NotCopied t) = record (of_kind 65) { size = t }
 tool_fault tool.Out = no_memory
 tool_fault tool.Memory = no_memory
 tool_fault (tool.Source fault) = of_kind 69
+tool_fault (tool.Budget offset size) = budget_fault offset size
 
 -- how many entries have a fault, which is none where all are good
 abbrev pub bad_entries : ℕ → PlainFault

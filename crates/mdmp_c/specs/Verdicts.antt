@@ -1,9 +1,9 @@
 -- The verdicts on entries, as plain structures.
-use Rattle.std.specs.Prelude.{◌≡◌, ◌+◌, ◌-◌, ◌^◌, ◌++◌, ◌∷◌, [], ℕ, List, length, map, min, Option, Some, None, Result, Ok, Err}
+use Rattle.std.specs.Prelude.{◌≡◌, ◌+◌, ◌-◌, ◌^◌, ◌++◌, ◌∷◌, [], ℕ, List, length, map, min, Option, Some, None, Result, Ok}
 use Rattle.mdmp_lister.specs.declared.choice.Choice.{Choice}
 use Rattle.mdmp_lister.specs.declared.choice.Choice.TheVariants.{All}
+use Rattle.mdmp_lister.specs.declared.fault.FaultKind.TheVariants as kinds
 use Rattle.mdmp_lister.specs.declared.fault.ListFault.{ListFault}
-use Rattle.mdmp_lister.specs.declared.sink.RunFault.{RunFault}
 use Rattle.mdmp_lister.specs.declared.sink.Stopped.{Stopped}
 use Rattle.mdmp_lister.specs.declared.verdict.Verdict.{Verdict}
 use Rattle.mdmp_lister.specs.Format.Listing.{verdicts}
@@ -36,13 +36,28 @@ pub record TakesRow (before : List PlainFault) (count bad : ℕ) (v : Verdict) (
   pub count_is : count_new ≡ min (count + 1) (2 ^ 64 - 1)
   pub bad_is : bad_new ≡ min (bad + fault_count v.fault) (2 ^ 64 - 1)
 
--- the verdicts on the chosen entries of F were put into an array, and counted, as far as 64 bits can
-pub record HasJudged (F : List ℕ) (choice : Choice) (limit : ℕ) (judged : Judged) (before after : List PlainFault) : Type 0 where
-  pub count_is : judged.count ≡ told_count (length (verdicts F choice limit))
-  pub bad_is : judged.bad ≡ told_count (bad_count (verdicts F choice limit))
-  pub out : after ≡ put_front (map verdict_row (verdicts F choice limit)) before
+-- what is told where they end so: how many entries have a fault, or the fault at which they end
+abbrev pub ending_told : ℕ → Option ListFault → PlainFault
+ending_told bad (Some fault) = plain_list_fault fault
+ending_told bad None = bad_entries bad
 
--- nothing ends it before its end
-abbrev pub Judges : List ℕ → Choice → ℕ → Result Judged RunFault → List PlainFault → List PlainFault → Type 0
-Judges F choice limit (Ok judged) before after = HasJudged F choice limit judged before after
-Judges F choice limit (Err r) before after = ⊥
+-- some verdicts were put into an array, and counted, as far as 64 bits can
+pub record PutsVerdicts (vs : List Verdict) (judged : Judged) (before after : List PlainFault) : Type 0 where
+  pub count_is : judged.count ≡ told_count (length vs)
+  pub bad_is : judged.bad ≡ told_count (bad_count vs)
+  pub out : after ≡ put_front (map verdict_row vs) before
+
+-- the first of all verdicts were given, and then the budget was reached
+pub record IsCheckedUpTo (budget : Option ℕ) (all vs : List Verdict) (fault : Option ListFault) : Type 0 where
+  pub can_stop : budget ≡ None → ⊥
+  pub rest : List Verdict
+  pub first : all ≡ vs ++ rest
+  pub told : ListFault
+  pub told_is : fault ≡ Some told
+  pub kind : told.kind ≡ kinds.Budget
+
+-- the verdicts on the chosen entries of F were put there, or the first of them, up to where the budget was reached
+pub data Judges (F : List ℕ) (choice : Choice) (limit : ℕ) (budget : Option ℕ) (judged : Judged) (before after : List PlainFault) : Type 0 where
+  judges_all : judged.fault ≡ None → PutsVerdicts (verdicts F choice limit) judged before after → Judges F choice limit budget judged before after
+  judges_some : (vs : List Verdict) → IsCheckedUpTo budget (verdicts F choice limit) vs judged.fault → PutsVerdicts vs judged before after
+      → Judges F choice limit budget judged before after

@@ -23,7 +23,7 @@ pub(crate) fn collect<T: PlainRow, S: Store + Drop, A: Allocator + Copy>(
     out: &mut [T],
 ) -> Collected
     ensures { (file : List ℕ) → IsGood lister.old.source.store file → (left : Run) → lister.old.left ≡ Some left
-        → Collects T.row_of left result.count result.fault out.old out.new }
+        → Collects T.row_of lister.old.counts.budget left result.count result.fault out.old out.new }
 {
     let mut count = 0u64;
     loop {

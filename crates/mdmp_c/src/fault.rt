@@ -1,6 +1,6 @@
 //! Faults as plain numbers, for callers in other languages.
 ghost use Rattle.std.specs.Prelude.{◌≡◌};
-ghost use Rattle.mdmp_c.specs.Fault.{kind_number, plain_list_fault, no_fault, of_kind, open_fault, status_of};
+ghost use Rattle.mdmp_c.specs.Fault.{budget_fault, kind_number, plain_list_fault, no_fault, of_kind, open_fault, status_of};
 
 use mdmp_lister::{FaultKind, ListFault, OpenFault};
 use std::mem::size_of;
@@ -51,6 +51,17 @@ pub(crate) fn of_kind(kind: u32) -> PlainFault
     PlainFault { kind, ..NO_FAULT }
 }
 
+/// A fetch of these bytes was not made, with which more than the budget would have been fetched.
+pub(crate) fn budget_fault(offset: u64, size: u64) -> PlainFault
+    ensures { result ≡ budget_fault offset size }
+{
+    PlainFault {
+        offset,
+        size,
+        ..of_kind(71)
+    }
+}
+
 /// A fault of the opening.
 pub(crate) fn open_fault(fault: OpenFault) -> PlainFault
     ensures { result ≡ open_fault fault }
@@ -74,6 +85,7 @@ pub(crate) fn open_fault(fault: OpenFault) -> PlainFault
         },
         OpenFault::Memory => of_kind(66),
         OpenFault::Source(_) => of_kind(69),
+        OpenFault::Budget { offset, size } => budget_fault(offset, size),
     }
 }
 
@@ -91,13 +103,17 @@ fn kind_of(kind: FaultKind) -> u32
         FaultKind::NameOdd => 22,
         FaultKind::NameUnitsOutside => 23,
         FaultKind::Source(_) => 69,
+        FaultKind::Budget => 71,
     }
 }
 
-/// A fault of the listing.
+/// A fault of the listing. Where it is of the budget, no entry is told.
 pub(crate) fn plain_list_fault(fault: ListFault) -> PlainFault
     ensures { result ≡ plain_list_fault fault }
 {
+    if let FaultKind::Budget = fault.kind {
+        return budget_fault(fault.offset, fault.size);
+    }
     PlainFault {
         kind: kind_of(fault.kind),
         entry: fault.entry,
@@ -112,14 +128,14 @@ pub(crate) fn plain_list_fault(fault: ListFault) -> PlainFault
 }
 
 /// The status of a call that tells this fault: 0 of none, 1 where the file is at fault, 2 where an
-/// argument is, 3 where memory was wanting.
+/// argument is, 3 where memory was wanting or the fetch budget was reached.
 pub(crate) fn status_of(fault: &PlainFault) -> u32
     ensures { result ≡ status_of fault.now }
 {
     match fault.kind {
         0 => 0,
         65 | 67 | 68 | 70 => 2,
-        66 | 69 => 3,
+        66 | 69 | 71 => 3,
         _ => 1,
     }
 }

@@ -6,8 +6,9 @@
 //! before it returns.
 //!
 //! A call answers a status: 0 for good, 1 where the file is at fault, 2 where an argument is, 3 where
-//! memory was wanting, 4 where the buffer was too short; [`PlainFault`] says what is wrong, and where.
-//! [`PlainLimits`] bound what is read at a time.
+//! memory was wanting or the fetch budget was reached, 4 where the buffer was too short; [`PlainFault`] says what is wrong, and where.
+//! [`PlainLimits`] bound what is read at a time, and how much is fetched in all: where that budget is reached,
+//! what was read up to there is given.
 //! What a call gives is said by the definitions that the Rust calls have: of a text those of mdmp_tool,
 //! of a record the listing of mdmp_lister. `specs/Giving.antt` says how it reaches the caller.
 #![tactic(auto)]

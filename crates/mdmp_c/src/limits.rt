@@ -13,7 +13,7 @@ pub struct PlainLimits {
     pub window: u32,
     /// The longest name that is read, in bytes: at most 2^30.
     pub name: u32,
-    /// How many bytes may be fetched: 0, since there is no such limit yet.
+    /// How many bytes may be fetched for the listing, or 0 where there is no such limit.
     pub budget: u64,
 }
 
@@ -23,8 +23,8 @@ const _: () = prove!(size_of::<PlainLimits>() == 16);
 pub(crate) fn limits_of(plain: &PlainLimits) -> Option<Limits>
     ensures { IsLimits plain.now result }
 {
-    if plain.budget != 0 {
-        return None;
+    if plain.budget == 0 {
+        return Limits::new(plain.window, plain.name);
     }
-    Limits::new(plain.window, plain.name)
+    Limits::with_budget(plain.window, plain.name, plain.budget)
 }

@@ -1,7 +1,7 @@
 //! The call that gives a part of a long text.
 ghost use Rattle.std.specs.Prelude.{◌≡◌, ◌++◌, None, Some, ℕ, List};
 ghost use Rattle.mdmp_c.specs.Giving.{Ends, bad_limits};
-ghost use Rattle.mdmp_c.specs.Limits.{AreLimits};
+ghost use Rattle.mdmp_c.specs.Limits.{AreLimits, HasBudget};
 ghost use Rattle.mdmp_c.specs.TextPart.{IsListPart, IsPartOf, PutsRun};
 ghost use Rattle.mdmp_lister.specs.Format.Listing.{Run};
 ghost use Rattle.mdmp_source.specs.Store.{IsGood};
@@ -31,7 +31,7 @@ pub extern "C" fn mdmp_list_part_(
     size: &mut u64,
     fault: &mut PlainFault,
 ) -> u32
-    ensures { Ends (IsListPart skip pdb file.now limits.now.name) (AreLimits limits.now) bad_limits result size.new fault.new out.old out.new }
+    ensures { Ends (IsListPart skip pdb file.now limits.now.name) (AreLimits limits.now) (HasBudget limits.now) bad_limits result size.new fault.new out.old out.new }
 {
     let Some(limits) = limits_of(limits) else {
         return refuse(of_kind(67), size, fault);
@@ -56,8 +56,8 @@ fn put_list<S: Store + Drop, A: Allocator + Copy>(
     requires { lister.old.stop ≡ None }
     ensures { (file : List ℕ) → IsGood lister.old.source.store file → (left : Run) → lister.old.left ≡ Some left → (skip room : ℕ) (given : List ℕ)
         → IsPartOf skip room given part.old.skip part.old.room part.old.size part.old.kept.items
-        → PutsRun (IsPartOf skip room (given ++ (dump_line lister.old.header ++ run_text pdb file lister.old.limit left))
-        part.new.skip part.new.room part.new.size part.new.kept.items) left result }
+        → PutsRun (λ text. IsPartOf skip room text part.new.skip part.new.room part.new.size part.new.kept.items) lister.old.counts.budget
+        (given ++ (dump_line lister.old.header ++ run_text pdb file lister.old.limit left)) left result }
 {
     let mut line = WriteOut::new(Vec::new(alloc));
     if let Err(OutFailed) = put_dump_line(&lister.header(), &mut line) {
@@ -80,8 +80,8 @@ fn put_items<S: Store + Drop, A: Allocator + Copy>(
     requires { lister.old.stop ≡ None }
     ensures { (file : List ℕ) → IsGood lister.old.source.store file → (left : Run) → lister.old.left ≡ Some left → (skip room : ℕ) (given : List ℕ)
         → IsPartOf skip room given part.old.skip part.old.room part.old.size part.old.kept.items
-        → PutsRun (IsPartOf skip room (given ++ run_text pdb file lister.old.limit left)
-        part.new.skip part.new.room part.new.size part.new.kept.items) left result }
+        → PutsRun (λ text. IsPartOf skip room text part.new.skip part.new.room part.new.size part.new.kept.items) lister.old.counts.budget
+        (given ++ run_text pdb file lister.old.limit left) left result }
 {
     let mut line = line;
     loop {

@@ -185,13 +185,31 @@ fn a_header_is_given(rt: HostRuntime) {
 }
 
 #[test]
-fn a_budget_is_a_bad_limit(rt: HostRuntime) {
+fn a_small_window_is_a_bad_limit(rt: HostRuntime) {
     let limits = PlainLimits {
-        budget: 1,
+        window: 167,
         ..LIMITS
     };
     let checked = check(rt.alloc(), &SYSTEM, &limits);
     assert_same(&rt, checked, ((2, 0, 67), [7; 4]));
+}
+
+/// Lists a file within a budget: the status, and the kind, the offset and the size of the fault.
+fn list_within(alloc: Global, file: &[u8], budget: u64) -> (u32, u32, u64, u64) {
+    let mut out = [7; 400];
+    let mut size = 0;
+    let mut fault = NO_FAULT;
+    let limits = PlainLimits { budget, ..LIMITS };
+    let status = mdmp_list_(alloc, file, &limits, false, &mut out, &mut size, &mut fault);
+    (status, fault.kind, fault.offset, fault.size)
+}
+
+#[test]
+fn a_budget_ends_a_listing(rt: HostRuntime) {
+    assert_same(&rt, list_within(rt.alloc(), &SYSTEM, 31), (3, 71, 0, 32));
+    assert_same(&rt, list_within(rt.alloc(), &SYSTEM, 43), (3, 71, 32, 12));
+    assert_same(&rt, list_within(rt.alloc(), &SYSTEM, 131), (3, 71, 104, 28));
+    assert_same(&rt, list_within(rt.alloc(), &SYSTEM, 132), (0, 0, 0, 0));
 }
 
 /// The fault of `SYSTEM` where the bytes of its name are cut off.
@@ -220,6 +238,47 @@ fn each_entry_has_a_verdict(rt: HostRuntime) {
     assert_same(&rt, judged, ((1, 1), (64, 1), name_outside()));
 }
 
+/// Two entries, a system as in `SYSTEM` and a list of no threads behind it.
+const TWO: [u8; 152] = *b"MDMP\x93\xa7\0\0\x02\0\0\0\x20\0\0\0\0\0\0\0\0\0\0\0\0\0\0\0\0\0\0\0\
+\x07\0\0\0\x38\0\0\0\x38\0\0\0\
+\x03\0\0\0\x04\0\0\0\x94\0\0\0\
+\x09\0\x06\0\x03\0\x04\x01\x06\0\0\0\x01\0\0\0\xb1\x1d\0\0\x02\0\0\0\x70\0\0\0\0\x01\0\0\
+\0\0\0\0\0\0\0\0\0\0\0\0\0\0\0\0\0\0\0\0\0\0\0\0\
+\x1c\0\0\0S\0e\0r\0v\0i\0c\0e\0 \0P\0a\0c\0k\0 \x001\0\0\0\0\0\0\0\0\0";
+
+/// Judges `TWO` within a budget: the status and the count, and the fault.
+fn judge_within(alloc: Global, budget: u64, out: &mut [PlainFault]) -> ((u32, u64), PlainFault) {
+    let mut count = 0;
+    let mut fault = NO_FAULT;
+    let limits = PlainLimits { budget, ..LIMITS };
+    let status = mdmp_verdicts_(alloc, &TWO, &limits, out, &mut count, &mut fault);
+    ((status, count), fault)
+}
+
+/// The budget, which a fetch of these bytes would have passed.
+fn budget_reached(offset: u64, size: u64) -> PlainFault {
+    PlainFault {
+        kind: 71,
+        offset,
+        size,
+        ..NO_FAULT
+    }
+}
+
+#[test]
+fn a_budget_ends_verdicts(rt: HostRuntime) {
+    let mut verdicts = [budget_reached(0, 0); 2];
+    let judged = judge_within(rt.alloc(), 31, &mut verdicts);
+    assert_same(&rt, judged, ((3, 0), budget_reached(0, 32)));
+    let judged = judge_within(rt.alloc(), 147, &mut verdicts);
+    assert_same(&rt, judged, ((3, 1), budget_reached(148, 4)));
+    assert_same(&rt, verdicts, [NO_FAULT, budget_reached(0, 0)]);
+    let judged = judge_within(rt.alloc(), 147, &mut []);
+    assert_same(&rt, judged, ((4, 1), budget_reached(148, 4)));
+    let judged = judge_within(rt.alloc(), 148, &mut verdicts);
+    assert_same(&rt, judged, ((0, 2), NO_FAULT));
+}
+
 /// Tells a fault in words: the status, the size, and the buffer.
 fn fault_text<const N: usize>(alloc: Global, fault: &PlainFault) -> (u32, u64, [u8; N]) {
     let mut out = [7; N];
@@ -233,6 +292,13 @@ fn a_fault_has_its_words(rt: HostRuntime) {
     let words = *b"entry 0 item 0: name outside the file: offset 104 size 28";
     let told = fault_text(rt.alloc(), &name_outside());
     assert_same(&rt, told, (0, 57, words));
+}
+
+#[test]
+fn the_budget_has_its_words(rt: HostRuntime) {
+    let words = *b"fetch budget reached: offset 104 size 28";
+    let told = fault_text(rt.alloc(), &budget_reached(104, 28));
+    assert_same(&rt, told, (0, 40, words));
 }
 
 #[test]

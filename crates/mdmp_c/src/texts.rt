@@ -1,7 +1,7 @@
 //! Calls that give a text, or the bytes of a new file.
 ghost use Rattle.std.specs.Prelude.{◌≡◌};
 ghost use Rattle.mdmp_c.specs.Giving.{Ends, bad_limits};
-ghost use Rattle.mdmp_c.specs.Limits.{AreLimits};
+ghost use Rattle.mdmp_c.specs.Limits.{AreLimits, HasBudget};
 ghost use Rattle.mdmp_c.specs.Texts.{IsCheck, IsList};
 
 use crate::fault::{PlainFault, of_kind};
@@ -23,7 +23,7 @@ pub extern "C" fn mdmp_check_(
     size: &mut u64,
     fault: &mut PlainFault,
 ) -> u32
-    ensures { Ends (IsCheck file.now limits.now.name) (AreLimits limits.now) bad_limits result size.new fault.new out.old out.new }
+    ensures { Ends (IsCheck file.now limits.now.name) (AreLimits limits.now) (HasBudget limits.now) bad_limits result size.new fault.new out.old out.new }
 {
     let Some(limits) = limits_of(limits) else {
         return refuse(of_kind(67), size, fault);
@@ -46,7 +46,7 @@ pub extern "C" fn mdmp_list_(
     size: &mut u64,
     fault: &mut PlainFault,
 ) -> u32
-    ensures { Ends (IsList pdb file.now limits.now.name) (AreLimits limits.now) bad_limits result size.new fault.new out.old out.new }
+    ensures { Ends (IsList pdb file.now limits.now.name) (AreLimits limits.now) (HasBudget limits.now) bad_limits result size.new fault.new out.old out.new }
 {
     let Some(limits) = limits_of(limits) else {
         return refuse(of_kind(67), size, fault);

@@ -91,7 +91,7 @@ fn reading_in(fault: &PlainFault) -> Option<ReadFault>
     }
 }
 
-/// A fault of the copy, or want of memory.
+/// A fault of the copy, want of memory, or the fetch budget.
 fn rest_in(fault: &PlainFault) -> Option<ToolFault>
     ensures { result ≡ rest_in fault.now }
 {
@@ -100,6 +100,10 @@ fn rest_in(fault: &PlainFault) -> Option<ToolFault>
         49 => Some(ToolFault::Layout(LayoutFault::TooLarge)),
         65 => Some(ToolFault::NotCopied((fault.size % (1 << 32)) as u32)),
         66 => Some(ToolFault::Memory),
+        71 => Some(ToolFault::Budget {
+            offset: fault.offset,
+            size: fault.size,
+        }),
         _ => None,
     }
 }

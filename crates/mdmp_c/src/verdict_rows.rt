@@ -6,7 +6,7 @@ ghost use Rattle.mdmp_source.specs.Store.{IsGood};
 
 use crate::collecting::put;
 use crate::fault::{NO_FAULT, PlainFault, plain_list_fault};
-use mdmp_lister::{Lister, RunFault, Stopped, Verdict, VerdictSink};
+use mdmp_lister::{ListFault, Lister, RunFault, Stopped, Verdict, VerdictSink};
 use mdmp_source::Store;
 use std::alloc::Allocator;
 
@@ -48,31 +48,43 @@ impl<'a> VerdictSink for VerdictRows<'a> {
     }
 }
 
-/// How many verdicts there are, and how many of them are bad.
+/// How many verdicts there are, how many of them are bad, and the fault at which they end.
 #[derive(Clone, Copy)]
 pub(crate) struct Judged {
     pub(crate) count: u64,
     pub(crate) bad: u64,
+    pub(crate) fault: Option<ListFault>,
+}
+
+impl VerdictRows<'_> {
+    /// The counts of the verdicts, which end so.
+    fn ended(&self, fault: Option<ListFault>) -> Judged
+        ensures { result ≡ record { count = self.now.count; bad = self.now.bad; fault = fault } }
+    {
+        Judged {
+            count: self.count,
+            bad: self.bad,
+            fault,
+        }
+    }
 }
 
 /// Hands the verdicts on the chosen entries to a sink that was given none yet.
 fn judge_rows<S: Store + Drop, A: Allocator + Copy>(
     lister: &mut Lister<S, A>,
     rows: &mut VerdictRows<'_>,
-) -> Result<Judged, RunFault>
+) -> Judged
     requires fresh { IsTrue (is_fresh lister.old) }
     requires none { (rows.old.count ≡ 0) × (rows.old.bad ≡ 0) }
     ensures same_output { rows.new.out.ghost_name ≡ rows.old.out.ghost_name }
     ensures judges { (file : List ℕ) → IsGood lister.old.source.store file
-        → Judges file lister.old.choice lister.old.limit result rows.old.out.now rows.new.out.now }
+        → Judges file lister.old.choice lister.old.limit lister.old.counts.budget result rows.old.out.now rows.new.out.now }
 {
     match lister.check_into(rows) {
-        Ok(()) => Ok(Judged {
-            count: rows.count,
-            bad: rows.bad,
-        }),
-        Err(RunFault::At(fault)) => Err(RunFault::At(fault)),
-        Err(RunFault::Stopped) => Err(RunFault::Stopped),
+        Ok(()) => rows.ended(None),
+        Err(RunFault::At(fault)) => rows.ended(Some(fault)),
+        // This sink never stops.
+        Err(RunFault::Stopped) => rows.ended(None),
     }
 }
 
@@ -80,9 +92,10 @@ fn judge_rows<S: Store + Drop, A: Allocator + Copy>(
 pub(crate) fn judge<S: Store + Drop, A: Allocator + Copy>(
     lister: &mut Lister<S, A>,
     out: &mut [PlainFault],
-) -> Result<Judged, RunFault>
+) -> Judged
     requires { IsTrue (is_fresh lister.old) }
-    ensures { (file : List ℕ) → IsGood lister.old.source.store file → Judges file lister.old.choice lister.old.limit result out.old out.new }
+    ensures { (file : List ℕ) → IsGood lister.old.source.store file
+        → Judges file lister.old.choice lister.old.limit lister.old.counts.budget result out.old out.new }
 {
     let mut rows = VerdictRows {
         out,

@@ -131,3 +131,65 @@ fn limits_are_those_of_the_words(rt: HostRuntime) {
         assert_in_little(&rt, rt.alloc(), words, status);
     }
 }
+
+/// Command lines that their budget ends: before the directory is read, or before the one stream.
+const REACHED: [Line<'static>; 5] = [
+    (
+        &["list", "--budget", "43", "system.dmp"],
+        (3, "", "mdmp: fetch budget reached: offset 32 size 12\n"),
+    ),
+    (
+        &["check", "--budget", "43", "system.dmp"],
+        (3, "", "mdmp: fetch budget reached: offset 32 size 12\n"),
+    ),
+    (
+        &["hex", "--budget", "43", "wide.dmp", "0x1000", "4"],
+        (3, "", "mdmp: fetch budget reached: offset 32 size 12\n"),
+    ),
+    (
+        &["list", "--budget", "99", "system.dmp"],
+        (
+            3,
+            "dump version 0x0000 streams 1 directory 32 checksum 0 time 0 flags 0x0000000000000000\nstream 0 type 7 size 56 rva 44\n",
+            "mdmp: fetch budget reached: offset 44 size 56\n",
+        ),
+    ),
+    (
+        &["check", "--budget", "99", "system.dmp"],
+        (3, "", "mdmp: fetch budget reached: offset 44 size 56\n"),
+    ),
+];
+
+#[test]
+fn budget_ends_each_command_that_prints(rt: HostRuntime) {
+    write_files(&rt, "unmade.dmp");
+    assert_lines(&rt, rt.alloc(), &REACHED);
+}
+
+/// Command lines with the greatest budget.
+const GREATEST: [Line<'static>; 3] = [
+    (
+        &["check", "--budget=18446744073709551615", "system.dmp"],
+        (0, "entry 0: ok\n", ""),
+    ),
+    (
+        &["list", "--budget=18446744073709551615", "system.dmp"],
+        (0, SYSTEM_TEXT, ""),
+    ),
+    (
+        &[
+            "hex",
+            "--budget=18446744073709551615",
+            "wide.dmp",
+            "0x1000",
+            "4",
+        ],
+        (0, WIDE_TEXT, ""),
+    ),
+];
+
+#[test]
+fn greatest_budget_is_the_usual_one(rt: HostRuntime) {
+    write_files(&rt, "unmade.dmp");
+    assert_lines(&rt, rt.alloc(), &GREATEST);
+}

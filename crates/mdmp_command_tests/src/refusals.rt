@@ -17,7 +17,7 @@ const OF_NO_COMMAND: [&[&str]; 21] = [
     &["list"],
     &["list", "none.dmp", "more"],
     &["list", "none.dmp", "0x1000", "4"],
-    &["list", "none.dmp", "--budget", "5"],
+    &["list", "none.dmp", "--limit", "5"],
     &["hex"],
     &["hex", "none.dmp"],
     &["hex", "none.dmp", "0x1000"],

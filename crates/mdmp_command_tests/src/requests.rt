@@ -226,7 +226,7 @@ fn limits_at_their_ends_are_taken_by_each_command(rt: HostRuntime) {
 }
 
 /// Options of a list, a number for each, and what that comes to.
-const OPTIONS: [(&str, &str, &str); 19] = [
+const OPTIONS: [(&str, &str, &str); 21] = [
     ("--window", "167", "bad"),
     ("--window", "168", "list [a] window 168 name 4096"),
     (
@@ -253,13 +253,62 @@ const OPTIONS: [(&str, &str, &str); 19] = [
     ("--name", "5 ", "bad"),
     ("--name", "1_0", "bad"),
     ("--name", "-5", "refused"),
-    ("--budget", "5", "refused"),
+    ("--budget", "5", "list [a] window 65536 name 4096"),
+    ("--budget", "-5", "refused"),
+    ("--limit", "5", "refused"),
 ];
 
 #[test]
 fn limits_are_judged_at_their_ends(rt: HostRuntime) {
     for &(option, number, wanted) in &OPTIONS {
         assert_asked(&rt, rt.alloc(), &["list", "a", option, number], wanted);
+    }
+}
+
+/// The budget that words ask for, as a text, or why they ask for nothing.
+fn budget_by<'a>(rt: &impl Abort, alloc: Global, words: &'a [&'a str]) -> String {
+    match request_of(alloc, words) {
+        Asked::Run(request) => budget_text(rt, alloc, request.limits.budget),
+        Asked::Help(_) => text_from(rt, alloc, "help"),
+        Asked::Refused(_) => text_from(rt, alloc, "refused"),
+        Asked::Bad => text_from(rt, alloc, "bad"),
+        Asked::Memory => text_from(rt, alloc, "memory"),
+    }
+}
+
+fn budget_text(rt: &impl Abort, alloc: Global, budget: Option<u64>) -> String {
+    match budget {
+        Some(budget) => format!(in alloc; "{budget}").expect(rt, "memory for a text"),
+        None => text_from(rt, alloc, "none"),
+    }
+}
+
+/// Asserts the budget that words ask for.
+fn assert_budget(rt: &impl Abort, alloc: Global, words: &[&str], wanted: &str) {
+    let asked = budget_by(rt, alloc, words);
+    assert_same_at(rt, &words, asked.as_str(), wanted)
+}
+
+/// Words, and their budgets.
+const BUDGETS: [AskedRow; 9] = [
+    (&["list", "a"], "18446744073709551615"),
+    (&["list", "a", "--budget", "0"], "0"),
+    (&["check", "--budget=43", "a"], "43"),
+    (&["hex", "a", "0", "1", "--budget", "0020000"], "20000"),
+    (
+        &["list", "a", "--budget", "18446744073709551615"],
+        "18446744073709551615",
+    ),
+    (&["list", "a", "--budget", "18446744073709551616"], "bad"),
+    (&["list", "a", "--budget", "+1"], "bad"),
+    (&["list", "a", "--budget", "0x10"], "bad"),
+    (&["copy", "a", "b", "3", "--budget", "1"], "refused"),
+];
+
+#[test]
+fn budget_is_any_number_of_64_bits_of_a_command_that_prints(rt: HostRuntime) {
+    for &(words, wanted) in &BUDGETS {
+        assert_budget(&rt, rt.alloc(), words, wanted);
     }
 }
 

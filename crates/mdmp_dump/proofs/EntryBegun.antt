@@ -1,6 +1,6 @@
 -- An entry that is begun, and whose records are counted.
 use Rattle.std.proofs.Common.{◌≡◌, ◌∙◌, ◌≤◌, ◌<◌, ◌+◌, ◌-◌, ◌*◌, ◌^◌, ℕ, Bool, true, false, List, ◌∷◌, length, slice_get, Option, Some, None, Result, Ok, Err, arith, ap, refl, sym, subst, if◌then◌else◌, ne_eqb}
-use Rattle.std.specs.Prelude.{◌==◌, ◌&&◌, IfSome, option_map}
+use Rattle.std.specs.Prelude.{◌==◌, ◌&&◌, IfSome, IsTrue, max, option_map}
 use Rattle.mdmp_source.specs.Source.{FetchesSome, SourceState}
 use Rattle.mdmp_source.specs.Range.{is_inside}
 use Rattle.mdmp_source.specs.declared.fault.SourceFault.{SourceFault}
@@ -9,10 +9,11 @@ use Rattle.mdmp_wire.specs.declared.entry.Entry.{Entry}
 use Rattle.mdmp_lister.proofs.Handing.{same_lister-then}
 use Rattle.mdmp_lister.specs.Format.Bounds.{held_bound}
 use Rattle.mdmp_lister.specs.declared.meter.Amount.{Amount}
-use Rattle.mdmp_lister.specs.Fault.{IsAnsweredFor, IsOfSource, IsToldByFetch, TellsNoChange}
+use Rattle.mdmp_lister.specs.Fault.{is_unobtained, IsAnsweredFor, IsOfStore, IsUnobtained, IsToldByFetch, TellsNoChange}
+use Rattle.mdmp_lister.specs.Meter.{IsUnmade}
 use Rattle.mdmp_lister.specs.declared.fault.Fault.{Fault}
 use Rattle.mdmp_lister.specs.declared.fault.FaultKind.{FaultKind}
-use Rattle.mdmp_lister.specs.declared.fault.FaultKind.TheVariants.{Source}
+use Rattle.mdmp_lister.specs.declared.fault.FaultKind.TheVariants.{Budget, Source}
 use Rattle.mdmp_lister.specs.declared.fault.ListFault.{ListFault}
 use Rattle.mdmp_lister.specs.declared.item.Item.{Item}
 use Rattle.mdmp_lister.specs.declared.item.Item.TheVariants as items
@@ -25,7 +26,7 @@ use Rattle.mdmp_lister.specs.Format.Kind.{is_known, kind_of}
 use Rattle.mdmp_lister.specs.Format.Listing.{Numbered, Run, chosen_from, count_listed, entry_of, listing_sought, only_chosen, records_told, stream_item}
 use Rattle.mdmp_lister.specs.Format.Shape.{record_count}
 use Rattle.mdmp_lister.specs.FaultLaws.{follows_fits}
-use Rattle.mdmp_lister.specs.Lister.{IsSameLister, ListerState, cursor_in, is_of_source, tail}
+use Rattle.mdmp_lister.specs.Lister.{IsRefusedIn, IsSameLister, ListerState, cursor_in, tail}
 use Rattle.mdmp_lister.specs.Stage.{stop_after}
 use Rattle.mdmp_lister.specs.Walk.Paying.{entry_cost, entry_cost_by}
 use Rattle.mdmp_lister.specs.Following.{IsBegun, Standing, begun as unread_head}
@@ -33,6 +34,7 @@ use Rattle.mdmp_lister.specs.Step.{TellsAnswer}
 use Rattle.mdmp_lister.specs.Walker.{CountsRecords, GivesEntry, IsSought, IsSoughtAt, StepLeaves, WalkerLeaves, WalkerState, is_failed, records_answer, seeks}
 use Rattle.mdmp_dump.specs.declared.fault.ReadFault.TheVariants as faults
 use Rattle.mdmp_dump.specs.EntryWalk.{Begins, IsSameWalk, Pays, WalkState, chosen_entry, listed, numbered}
+use Rattle.mdmp_dump.specs.FileRefusal.{IsUnbudgeted}
 use Rattle.mdmp_dump.specs.Left.{left_from, run_of}
 use Rattle.mdmp_dump.specs.Reading.{IsLastTold, store_fault_in}
 use Rattle.mdmp_dump.specs.Walking.{IsFar, IsKept, bytes_allowed, current_entry, ended_with, left_by, lists_memory64, records_to_give, state_of}
@@ -66,7 +68,7 @@ left_stopped passed stop by records is = rw is refl
 
 pub failed_ended : (stop : Option (Option ListFault)) (fault : SourceFault) → ended_with stop ≡ Some fault → is_failed stop ≡ true
 failed_ended (Some (Some f)) fault is = of_kind f.kind is where
-  of_kind : (kind : FaultKind) → store_fault_in kind ≡ Some fault → is_of_source kind ≡ true
+  of_kind : (kind : FaultKind) → store_fault_in kind ≡ Some fault → is_unobtained kind ≡ true
   of_kind (Source other) told = refl
   of_kind kind told = absurd (cc told)
 failed_ended (Some None) fault is = absurd (cc is)
@@ -85,9 +87,18 @@ walk_same old new same fetches = record {
 
 -- ---- faults
 
-of_kind : (kind : FaultKind) → is_of_source kind ≡ true → (s : SourceFault) × (store_fault_in kind ≡ Some s)
-of_kind (Source fault) is = (fault, refl)
-of_kind kind is = absurd (cc is)
+of_kind : (kind : FaultKind) → IsUnbudgeted kind → is_unobtained kind ≡ true → (s : SourceFault) × (store_fault_in kind ≡ Some s)
+of_kind (Source fault) unbudgeted is = (fault, refl)
+of_kind Budget unbudgeted is = absurd unbudgeted
+of_kind kind unbudgeted is = absurd (cc is)
+
+passes_none : (most : ℕ) (kind : FaultKind) (offset size : ℕ) (c : MeterCounts) (z : ℕ) → c.budget ≡ None → IsUnmade most kind offset size c z → IsUnbudgeted kind
+passes_none most Budget offset size c z none over = let never : IsTrue false = rw none at over.passes in absurd (cc never)
+passes_none most kind offset size c z none over = tt
+
+-- where there is no budget, no fault tells one
+pub unbudgeted : (f : ListFault) (v : ListerState) → v.counts.budget ≡ None → IsRefusedIn f v → IsUnbudgeted f.kind
+unbudgeted f v none refused = passes_none (max v.rooms.window v.limit) f.kind f.offset f.size v.counts v.source.size none refused
 
 -- a fault of the store that does not tell a change is the last that was told
 pub last_told : (e : Entry) (kind : FaultKind) (old new : SourceState) → IsToldByFetch e kind old new → TellsNoChange kind → IfSome (store_fault_in kind) (λ of_store. IsLastTold of_store old new)
@@ -96,13 +107,14 @@ last_told e (Source (Failed at)) old new told steady = told
 last_told e (Source (ShortRead at)) old new told steady = told
 last_told e kind old new told steady = tt
 
-pub no_store_fault : (kind : FaultKind) → (IsOfSource kind → ⊥) → store_fault_in kind ≡ None
+pub no_store_fault : (kind : FaultKind) → (IsOfStore kind → ⊥) → store_fault_in kind ≡ None
 no_store_fault (Source fault) never = absurd (never tt)
 no_store_fault kind never = refl
 
-pub own_store_fault : (kind : FaultKind) → ((told : SourceFault) × (store_fault_in kind ≡ Some told) → ⊥) → IsOfSource kind → ⊥
-own_store_fault (Source fault) not of_source = not (fault, refl)
-own_store_fault kind not of_source = of_source
+pub own_store_fault : (kind : FaultKind) → IsUnbudgeted kind → ((told : SourceFault) × (store_fault_in kind ≡ Some told) → ⊥) → IsUnobtained kind → ⊥
+own_store_fault (Source fault) unbudgeted not of_source = not (fault, refl)
+own_store_fault Budget unbudgeted not of_source = unbudgeted
+own_store_fault kind unbudgeted not of_source = of_source
 
 -- ---- the Stream item of an entry
 
@@ -114,7 +126,7 @@ pub record IsAtEntry (x : Numbered) (old new : WalkerState) : Type 0 where
   pub passed : new.list.passed ≡ x.number + 1
   pub names : new.list.counts.names ≡ old.list.counts.names
   pub mark : new.mark ≡ new.list.counts
-  pub paid : new.list.counts.names + 1 < 2 ^ 128 → new.list.counts.fetched ≤ bytes_allowed old
+  pub paid : new.list.counts.names + 1 < 2 ^ 128 → new.list.counts.asked ≤ bytes_allowed old
   pub stop : new.list.stop ≡ None
   pub position : new.position ≡ Begun
   pub standing : new.list.standing ≡ unread_head
@@ -155,6 +167,7 @@ module _ (x : Numbered) (old : WalkerState) (kept : IsKept old) (new : WalkerSta
           rooms = l.same.rooms;
           aside = l.same.aside;
           start = l.same.start;
+          budget = l.same.budget;
         };
         fetches = record { count = _; fetches = l.spends.fetches };
         current = l.places.current;
@@ -162,7 +175,7 @@ module _ (x : Numbered) (old : WalkerState) (kept : IsKept old) (new : WalkerSta
         names = names;
         mark = leaves.mark;
         paid = λ few.
-            let most = paid_by old.list.limit new.list.counts.fetched (old.mark.fetched + entry_cost old.list.source.size old.list.current) old.mark.names new.list.counts.names kept.limit
+            let most = paid_by old.list.limit new.list.counts.asked (old.mark.asked + entry_cost old.list.source.size old.list.current) old.mark.names new.list.counts.names kept.limit
             (leaves.spent few) (omega (arith, names, kept.within)) in
             omega (arith, most, names);
         stop = l.stands.stop;
@@ -214,12 +227,12 @@ module _ (number : ℕ) (e : Entry) (old mid new : WalkerState) (at : slice_get 
     stays : mid ≡ old
     stays = sought.stays failed
 
-    stop_is : (stop : Option (Option ListFault)) → is_failed stop ≡ true → (f : ListFault) × ((stop ≡ Some (Some f)) × (is_of_source f.kind ≡ true))
+    stop_is : (stop : Option (Option ListFault)) → is_failed stop ≡ true → (f : ListFault) × ((stop ≡ Some (Some f)) × (is_unobtained f.kind ≡ true))
     stop_is (Some (Some f)) is = (f, (refl, is))
     stop_is (Some None) is = absurd (cc is)
     stop_is None is = absurd (cc is)
 
-    pub fault_kept : (f : ListFault) × ((old.list.stop ≡ Some (Some f)) × ((is_of_source f.kind ≡ true) × (stop_after result ≡ Some (Some f))))
+    pub fault_kept : (f : ListFault) × ((old.list.stop ≡ Some (Some f)) × ((is_unobtained f.kind ≡ true) × (stop_after result ≡ Some (Some f))))
     fault_kept =
         let is = stop_is old.list.stop failed in
         (is.0, (is.1.0, (is.1.1, repeats (Some is.0) (ap (λ (w : WalkerState). w.list.stop) stays ∙ is.1.0))))
@@ -243,8 +256,11 @@ module _ (number : ℕ) (e : Entry) (old mid new : WalkerState) (at : slice_get 
       same_fault : f ≡ fault_kept.0
       same_fault = let again : stop_after {X = Step} (Err f) ≡ Some (Some fault_kept.0) = ap (stop_after {X = Step}) (sym refused) ∙ fault_kept.1.1.1 in cc again
 
+      unbudgeted_again : IsUnbudgeted f.kind
+      unbudgeted_again = kept.unbudgeted f (fault_kept.1.0 ∙ ap (λ (g : ListFault). Some (Some g)) (sym same_fault))
+
       own : (s : SourceFault) × (store_fault_in f.kind ≡ Some s)
-      own = of_kind f.kind (ap (λ (g : ListFault). is_of_source g.kind) same_fault ∙ fault_kept.1.1.0)
+      own = of_kind f.kind unbudgeted_again (ap (λ (g : ListFault). is_unobtained g.kind) same_fault ∙ fault_kept.1.1.0)
 
       ended : ended_with old.list.stop ≡ store_fault_in f.kind
       ended = ap ended_with fault_kept.1.0 ∙ ap (λ (g : ListFault). store_fault_in g.kind) (sym same_fault)
@@ -263,10 +279,24 @@ module _ (number : ℕ) (e : Entry) (old mid new : WalkerState) (at : slice_get 
         of_file = λ F known not. absurd (not own);
         counts = tt;
         fetches = λ none. absurd (let some = own.1 in cc (some, ended, none));
-        told = (f, refl);
+        told = (f, (refl, unbudgeted_again));
         failed = ended;
         repeats = λ fault told. (refl, sym ended ∙ told);
       })
+
+      stopped_again : records_to_give new.list ≡ 0
+      stopped_again = left_stopped new.list.passed new.list.stop (Some fault_kept.0) new.list.records (ap (λ (l : ListerState). l.stop) list_stays ∙ fault_kept.1.0)
+
+      pub kept_failed : IsKept new
+      kept_failed = record {
+        limit = ap (λ (l : ListerState). l.limit) list_stays ∙ kept.limit;
+        budget = ap (λ (l : ListerState). l.counts.budget) list_stays ∙ kept.budget;
+        unbudgeted = λ g is. kept.unbudgeted g (sym (ap (λ (l : ListerState). l.stop) list_stays) ∙ is);
+        within = rw (mark_stays, list_stays) kept.within;
+        spent = rw (mark_stays, list_stays) kept.spent;
+        of_file = λ F known some. absurd (omega (arith, some, stopped_again));
+        unsought = λ some. absurd (omega (arith, some, stopped_again));
+      }
 
 -- what a request for the Stream item of an entry that is sought answers
 module _ (number : ℕ) (e : Entry) (old mid new : WalkerState) (at : slice_get old.list.entries number ≡ Some e) (kept : IsKept old) (sought : IsSought number old mid) where
@@ -275,6 +305,13 @@ module _ (number : ℕ) (e : Entry) (old mid new : WalkerState) (at : slice_get 
   begins_err f step repeats stream = by (is_failed old.list.stop) refl where
     by : (b : Bool) → is_failed old.list.stop ≡ b → Begins (state_of old) stream (Err (faults.List f)) (state_of new)
     by true failed = begins_failed number e old mid new at kept sought (Err f) step failed repeats f refl stream
+    by false fresh = absurd (stream_given number e old mid new at kept sought (Err f) step fresh f refl)
+
+  -- which leaves it so
+  pub kept_err : (f : ListFault) → StepLeaves mid (Err f) new → ((stop : _) → mid.list.stop ≡ Some stop → stop_after {X = Step} (Err f) ≡ Some stop) → IsKept new
+  kept_err f step repeats = by (is_failed old.list.stop) refl where
+    by : (b : Bool) → is_failed old.list.stop ≡ b → IsKept new
+    by true failed = kept_failed number e old mid new at kept sought (Err f) step failed repeats f refl
     by false fresh = absurd (stream_given number e old mid new at kept sought (Err f) step fresh f refl)
 
   -- or the item, where it has not
@@ -337,9 +374,9 @@ module _ (x : Numbered) (old mid new : WalkerState) (kept : IsKept old) (at : Is
     same = same_walk;
     aside = ap (λ (a : Amount). a.bytes) counted_same.aside;
     allowed = λ few.
-        let fetched : mid.list.counts.fetched ≤ bytes_allowed old = at.paid (omega (arith, few, names_new)) in
-        let mark = ap (λ (c : MeterCounts). c.fetched) mark_new in
-        omega (arith, fetched, cost_new, mark, mark_names, names_new);
+        let asked : mid.list.counts.asked ≤ bytes_allowed old = at.paid (omega (arith, few, names_new)) in
+        let mark = ap (λ (c : MeterCounts). c.asked) mark_new in
+        omega (arith, asked, cost_new, mark, mark_names, names_new);
     reached = omega (arith, names_new, at.names);
     more = omega (arith, names_new, at.names);
   }
@@ -347,10 +384,13 @@ module _ (x : Numbered) (old mid new : WalkerState) (kept : IsKept old) (at : Is
   limit_new : new.list.limit ≡ 0
   limit_new = counted_same.limit ∙ kept.limit
 
-  spent_new : new.list.counts.names + 1 < 2 ^ 128 → new.list.counts.fetched ≤ bytes_allowed new
+  budget_new : new.list.counts.budget ≡ None
+  budget_new = counted_same.budget ∙ kept.budget
+
+  spent_new : new.list.counts.names + 1 < 2 ^ 128 → new.list.counts.asked ≤ bytes_allowed new
   spent_new few =
       let within : mid.mark.names ≤ new.list.counts.names = let same = ap (λ (c : MeterCounts). c.names) at.mark in omega (arith, same, names_new) in
-      let most = paid_by mid.list.limit new.list.counts.fetched (mid.mark.fetched + entry_cost mid.list.source.size mid.list.current) mid.mark.names new.list.counts.names (at.same.limit ∙ kept.limit) (counts.spent few) within in
+      let most = paid_by mid.list.limit new.list.counts.asked (mid.mark.asked + entry_cost mid.list.source.size mid.list.current) mid.mark.names new.list.counts.names (at.same.limit ∙ kept.limit) (counts.spent few) within in
       rw (counts.mark, counts.current, counts.fetches.same_size) most
 
   module _ (stream : ℕ) (is : chosen_entry (state_of old) stream ≡ x) (fresh : is_failed old.list.stop ≡ false) where
@@ -390,6 +430,8 @@ module _ (x : Numbered) (old mid new : WalkerState) (kept : IsKept old) (at : Is
     pub kept_counted : ((file : List ℕ) → old.list.source.store.content ≡ Some file → x.entry ≡ entry_of file x.number) → IsKept new
     kept_counted of_file = record {
       limit = limit_new x old mid new kept at (Ok count) counts;
+      budget = budget_new x old mid new kept at (Ok count) counts;
+      unbudgeted = λ f is. absurd (let none = counts.stop in cc (is, none));
       within = let same = mark_names x old mid new kept at (Ok count) counts in let names = names_new x old mid new kept at (Ok count) counts in omega (arith, same, names);
       spent = spent_new x old mid new kept at (Ok count) counts;
       of_file = λ F known some.
@@ -408,12 +450,29 @@ module _ (x : Numbered) (old mid new : WalkerState) (kept : IsKept old) (at : Is
     }
 
   module _ (f : ListFault) (counts : CountsRecords mid (Err f) new) (answered : (file : List ℕ) → mid.list.source.store.content ≡ Some file → IsAnsweredFor (records_answer file mid) (Err f)) where
+    unbudgeted_new : IsUnbudgeted f.kind
+    unbudgeted_new = unbudgeted f new.list (budget_new x old mid new kept at (Err f) counts) counts.refused
+
+    stopped_new : records_to_give new.list ≡ 0
+    stopped_new = left_stopped new.list.passed new.list.stop (Some f) new.list.records counts.stop
+
+    pub kept_refused : IsKept new
+    kept_refused = record {
+      limit = limit_new x old mid new kept at (Err f) counts;
+      budget = budget_new x old mid new kept at (Err f) counts;
+      unbudgeted = λ g is. let same : f ≡ g = let both = sym counts.stop ∙ is in cc both in subst (λ (h : ListFault). IsUnbudgeted h.kind) same unbudgeted_new;
+      within = let same = mark_names x old mid new kept at (Err f) counts in let names = names_new x old mid new kept at (Err f) counts in omega (arith, same, names);
+      spent = spent_new x old mid new kept at (Err f) counts;
+      of_file = λ F known some. absurd (omega (arith, some, stopped_new));
+      unsought = λ some. absurd (omega (arith, some, stopped_new));
+    }
+
     pub begins_refused : (stream : ℕ) → chosen_entry (state_of old) stream ≡ x → is_failed old.list.stop ≡ false → Begins (state_of old) stream (Err (faults.List f)) (state_of new)
     begins_refused stream is fresh = record {
       pays = paid_at x old mid new kept at (Err f) counts stream is fresh;
       begun = tt;
       of_file = λ F known own.
-          let told = answered F (at.fetches.fetches.same_content ∙ known) (own_store_fault f.kind own) in
+          let told = answered F (at.fetches.fetches.same_content ∙ known) (own_store_fault f.kind unbudgeted_new own) in
           (f, (subst (λ (y : Numbered). records_told F y ≡ Err f) (current_is x old mid new kept at (Err f) counts ∙ sym is) told, refl));
       counts = tt;
       fetches = λ none. fetches_err old.list.source mid.list.source new.list.source at.fetches {U = ℕ} (faults.List f) (record {
@@ -422,7 +481,7 @@ module _ (x : Numbered) (old mid new : WalkerState) (kept : IsKept old) (at : Is
         good = λ file good. no_store_fault f.kind (counts.good file good);
         refusal = follows_fits mid.list.choice mid.list.entries mid.list.source.size mid.list.limit (cursor_in mid.list) f (cursor_in new.list) (counts.follows at.stop);
       });
-      told = (f, refl);
+      told = (f, (refl, unbudgeted_new));
       failed = ap ended_with counts.stop;
       repeats = λ fault told. never x old mid new kept at (Err f) counts stream is fresh fault told;
     }

@@ -19,7 +19,7 @@ use Rattle.mdmp_dump.proofs.EntryPlaces.{chosen_all, few_chosen, length-numbered
 pub opened : (source : SourceState) (choice : Choice) (limits : Limits) (new : WalkerState) → IsNewWalker source choice limits new → limits.name ≡ 0 → IsOpenedWalk source limits.window choice (state_of new)
 opened source choice limits new is none =
     let l = is.list in
-    let mark = ap (λ (c : MeterCounts). c.fetched) is.mark in
+    let mark = ap (λ (c : MeterCounts). c.asked) is.mark in
     let names = ap (λ (c : MeterCounts). c.names) is.mark in
     record {
       fetches = record { count = _; fetches = is.fetches };
@@ -27,7 +27,7 @@ opened source choice limits new is none =
       few = omega (arith, few_chosen new.list.choice (numbered 0 new.list.entries), length-numbered 0 new.list.entries, l.read.count);
       held = omega (arith, l.asked.window_room, l.asked.limit_is, none, l.read.count, is.range_room);
       start = ap (λ (a : Amount). a.bytes) l.counts.start;
-      allowed = omega (arith, mark, names, is.fetched, is.unbegun);
+      allowed = omega (arith, mark, names, is.asked, is.unbegun);
       aside = ap (λ (a : Amount). a.bytes) l.counts.aside;
       names = l.counts.names;
       failed = ap ended_with l.given.stop;
@@ -45,8 +45,10 @@ module _ (old : WalkerState) (source : SourceState) (counts : MeterCounts) (n : 
   kept_aside : IsKept aside_state
   kept_aside = record {
     limit = is.kept.limit;
+    budget = spends.same_budget ∙ is.kept.budget;
+    unbudgeted = is.kept.unbudgeted;
     within = rw spends.same_names is.kept.within;
-    spent = rw (spends.same_names, spends.same_fetched, fetches.same_size) is.kept.spent;
+    spent = rw (spends.same_names, spends.same_asked, fetches.same_size) is.kept.spent;
     of_file = λ F known. is.kept.of_file F (sym fetches.same_content ∙ known);
     unsought = is.kept.unsought;
   }

@@ -80,7 +80,7 @@ module _ (T : Type 0) (old new : WalkState) (k count : ℕ) (counted : (F : List
   begin_refused fault rva begins = tells_fault T ℕ old new fault rva begins.fetches
       (λ F known none.
       let listed = begins.told in
-      let told = begins.of_file F known (own_by fault (λ memory. (let list : faults.List listed.0 ≡ faults.Memory = sym listed.1 ∙ memory in cc)) none) in
+      let told = begins.of_file F known (own_by fault (λ memory. (let list : faults.List listed.0 ≡ faults.Memory = sym listed.1.0 ∙ memory in cc)) none) in
       count_kept (chosen_entry old k).number (record_count F (chosen_entry old k).entry) count told.0 (counted F known) told.1.0)
       begins.failed
       (λ told is.

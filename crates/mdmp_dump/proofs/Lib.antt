@@ -20,6 +20,7 @@ pub mod Moving
 pub mod Names
 pub mod Opened
 pub mod OpenedViews
+pub mod ReadWithin
 pub mod RecordsFound
 pub mod Refusal
 pub mod Refusals

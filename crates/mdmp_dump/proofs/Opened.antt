@@ -14,11 +14,12 @@ use Rattle.mdmp_lister.specs.declared.fault.OpenFault.{OpenFault}
 use Rattle.mdmp_lister.specs.declared.fault.OpenFault.TheVariants as opening
 use Rattle.mdmp_lister.specs.Format.Listing.{entry_count}
 use Rattle.mdmp_lister.specs.Format.Refusal.{behind_directory, behind_header, directory_fault, directory_refusal, opening_fault}
-use Rattle.mdmp_lister.specs.Opening.{IsDirectoryRefusal, IsOpenRefusal, IsRefusalOf, IsUnread, IsUnreadFor}
+use Rattle.mdmp_lister.specs.Opening.{IsDirectoryRefusal, IsOpenRefusal, IsRefusalOf, IsUnread, IsUnreadFor, KeepsToBudget}
+use Rattle.mdmp_lister.specs.declared.limits.Limits.{Limits}
 use Rattle.mdmp_dump.specs.FileRefusal.{view_refusal}
 use Rattle.mdmp_dump.specs.declared.fault.ReadFault.{ReadFault}
 use Rattle.mdmp_dump.specs.declared.fault.ReadFault.TheVariants as faults
-use Rattle.mdmp_dump.specs.Reading.{Fetches, IsLastTold, IsOwn, MayBeTold, TellsOf, refusal_of, store_fault}
+use Rattle.mdmp_dump.specs.Reading.{Fetches, IsLastTold, IsOwn, IsWanting, MayBeTold, TellsOf, refusal_of, store_fault}
 use Rattle.mdmp_source.specs.declared.fault.SourceFault.{SourceFault}
 use Rattle.mdmp_source.specs.declared.fault.SourceFault.TheVariants.{Changed}
 use Rattle.mdmp_dump.specs.Refusal.{read_refusal}
@@ -63,19 +64,30 @@ opened-head F choice none = directory-head F (directory-opens F choice (director
 
 -- ---- a refused opening
 
--- it is the refusal of the file, but for want of memory and a fault of the store
+-- it is the refusal of the file, where nothing is wanting
 pub opening-settles : (F : List ℕ) (choice : Choice) (limit parts : ℕ) (fault : OpenFault) → IsRefusalOf F choice fault
-    → (IsOwn (refusal_of fault) → ⊥) → read_refusal F choice limit parts ≡ Some (refusal_of fault)
-opening-settles F choice limit parts (opening.Source fault) is own = absurd (own (fault, refl))
+    → (IsWanting (refusal_of fault) → ⊥) → read_refusal F choice limit parts ≡ Some (refusal_of fault)
+opening-settles F choice limit parts (opening.Source fault) is own = absurd (own tt)
+opening-settles F choice limit parts (opening.Budget offset size) is own = absurd (own tt)
 opening-settles F choice limit parts opening.Memory is own = absurd (own tt)
 opening-settles F choice limit parts fault is own = rw is refl
 
--- and that of its view, for which no ranges are counted
-pub directory-settles : (F : List ℕ) (choice : Choice) (names : ℕ) (fault : OpenFault) → IsDirectoryRefusal F fault
+-- a refusal does not tell a budget
+abbrev pub TellsNone : OpenFault → Type 0
+TellsNone fault = (offset size : ℕ) → fault ≡ opening.Budget offset size → ⊥
+
+-- where there is none
+pub tells_none : (limits : Limits) (old : SourceState) (fault : OpenFault) (new : SourceState) → limits.budget ≡ None → KeepsToBudget limits old fault new → TellsNone fault
+tells_none limits old (opening.Budget at len) new none over = λ offset size same. let never : IsTrue false = rw none at over.over.passes in cc never
+tells_none limits old fault new none over = λ offset size same. cc same
+
+-- and that of its view, for which no ranges are counted and there is no budget
+pub directory-settles : (F : List ℕ) (choice : Choice) (names : ℕ) (fault : OpenFault) → TellsNone fault → IsDirectoryRefusal F fault
     → (IsOwn (refusal_of fault) → ⊥) → view_refusal F choice names ≡ Some (refusal_of fault)
-directory-settles F choice names (opening.Source fault) is own = absurd (own (fault, refl))
-directory-settles F choice names opening.Memory is own = absurd (own tt)
-directory-settles F choice names fault is own = rw is refl
+directory-settles F choice names (opening.Source fault) none is own = absurd (own (fault, refl))
+directory-settles F choice names (opening.Budget offset size) none is own = absurd (none offset size refl)
+directory-settles F choice names opening.Memory none is own = absurd (own tt)
+directory-settles F choice names fault none is own = rw is refl
 
 -- of which a fault of the store is told as such
 pub opening-fetches : {T : Type 0} (n : ℕ) (fault : OpenFault) (old new : SourceState) → FetchesAtMost n old new → IsUnreadFor fault old new

@@ -10,11 +10,10 @@ use Rattle.mdmp_wire.specs.declared.any_record.AnyRecord.TheVariants as any
 use Rattle.mdmp_wire.specs.declared.entry.Entry.{Entry}
 use Rattle.mdmp_lister.proofs.Bodies.{joined-with_item, records-faulted, records-given}
 use Rattle.mdmp_lister.proofs.Summary.{summary_of-plain}
-use Rattle.mdmp_lister.specs.Fault.{IsOfSource}
+use Rattle.mdmp_lister.specs.Fault.{IsOfStore, IsUnobtained}
 use Rattle.mdmp_lister.specs.declared.fault.Fault.{Fault}
 use Rattle.mdmp_lister.specs.declared.fault.ListFault.{ListFault}
 use Rattle.mdmp_lister.specs.declared.item.Item.{Item}
-use Rattle.mdmp_lister.specs.declared.item.Item.TheVariants as items
 use Rattle.mdmp_lister.specs.declared.item.RangeItem.{RangeItem}
 use Rattle.mdmp_lister.specs.declared.item.StreamItem.{StreamItem}
 use Rattle.mdmp_lister.specs.declared.kind.StreamKind.{StreamKind}
@@ -42,7 +41,7 @@ use Rattle.mdmp_dump.specs.declared.fault.ReadFault.TheVariants as faults
 use Rattle.mdmp_dump.specs.declared.found_record.FoundRecord.{FoundRecord}
 use Rattle.mdmp_dump.specs.declared.view.Kind.TheVariants as view
 use Rattle.mdmp_dump.specs.EntryWalk.{FindsNext, FindsRow, GivesNext, IsFoundIn, IsRowFound, Pays, ended_by, kind_by, name_cost, name_cost_by, row_told}
-use Rattle.mdmp_dump.specs.FileRefusal.{IsOfWalk}
+use Rattle.mdmp_dump.specs.FileRefusal.{IsOfWalk, IsUnbudgeted}
 use Rattle.mdmp_dump.specs.Finding.{FindsRecord, FindsSeen, IsFittingOf, IsFoundInside, IsOfPlaces, IsOfRecord, kind_as, range_kind, record_kind, seen_in}
 use Rattle.mdmp_dump.specs.FoundRecord.{AreIn}
 use Rattle.mdmp_dump.specs.Left.{RowGiven, body_from, left_from, run_of}
@@ -50,8 +49,8 @@ use Rattle.mdmp_dump.specs.Reading.{IsLastTold, IsReadRefusal, store_fault}
 use Rattle.mdmp_dump.specs.Refusal.{item_steps}
 use Rattle.mdmp_dump.specs.Seen.{Seen}
 use Rattle.mdmp_dump.specs.Shape.{type_told}
-use Rattle.mdmp_dump.specs.Walking.{HasLeft, IsFar, IsKept, current_entry, ended_with, left_by, lists_memory64, records_to_give, state_of}
-use Rattle.mdmp_dump.proofs.EntryBegun.{last_told, left_begun, left_stopped, no_store_fault, own_store_fault, paid_by, plain_stream, walk_same}
+use Rattle.mdmp_dump.specs.Walking.{NeverByBudget, HasLeft, IsFar, IsKept, current_entry, ended_with, left_by, lists_memory64, records_to_give, state_of}
+use Rattle.mdmp_dump.proofs.EntryBegun.{last_told, left_begun, left_stopped, no_store_fault, own_store_fault, paid_by, plain_stream, walk_same, unbudgeted}
 use Rattle.mdmp_dump.proofs.Classed.{extent_in, range_in}
 use Rattle.mdmp_dump.proofs.Left.{row_given}
 use Rattle.mdmp_dump.proofs.Limits.{refused_under}
@@ -195,15 +194,15 @@ module _ (F : List ℕ) (limit : ℕ) (x : Numbered) (k : ℕ) (xs : List Number
       let same : Some (list_fault x.number (Some k) g) ≡ Some f = ap (λ (run : Run). run.fault) (sym row ∙ left) in
       (g, (is, sym (cc same)))
 
-  pub row_refused : ((IsOfSource f.kind → ⊥) → left_from F 0 x k xs ≡ only_fault f) → FindsRow F limit x k (Err (faults.List f))
-  row_refused gives = record {
+  pub row_refused : IsUnbudgeted f.kind → ((IsUnobtained f.kind → ⊥) → left_from F 0 x k xs ≡ only_fault f) → FindsRow F limit x k (Err (faults.List f))
+  row_refused unbudgeted gives = record {
     kind = c.kind;
     shape = c.shape;
     kind_is = c.known;
     shape_is = c.shaped;
     within = within_shape;
     finds = λ not.
-        let g = fault_by (gives (own_store_fault f.kind not)) (item_at F 0 x.number k x.entry.location.rva place c.kind) refl in
+        let g = fault_by (gives (own_store_fault f.kind unbudgeted not)) (item_at F 0 x.number k x.entry.location.rva place c.kind) refl in
         ap (row_told F x.number k) (item_refused F limit x.number k x.entry.location.rva place c.kind g.0 g.1.0) ∙ ap (λ (h : ListFault). Some (faults.List h)) (sym g.1.1);
   }
 
@@ -262,8 +261,8 @@ module _ (old new : WalkerState) (kept : IsKept old) (stays : Stays old new) whe
   cost_same : entry_cost new.list.source.size new.list.current ≡ entry_cost old.list.source.size old.list.current
   cost_same = λ i. entry_cost (stays.fetches.fetches.same_size i) (stays.current i)
 
-  mark_fetched : new.mark.fetched ≡ old.mark.fetched
-  mark_fetched = ap (λ (c : MeterCounts). c.fetched) stays.mark
+  mark_asked : new.mark.asked ≡ old.mark.asked
+  mark_asked = ap (λ (c : MeterCounts). c.asked) stays.mark
 
   mark_names : new.mark.names ≡ old.mark.names
   mark_names = ap (λ (c : MeterCounts). c.names) stays.mark
@@ -272,7 +271,7 @@ module _ (old new : WalkerState) (kept : IsKept old) (stays : Stays old new) whe
   pays = record {
     same = walk_same old new stays.same stays.fetches;
     aside = ap (λ (a : Amount). a.bytes) stays.same.aside;
-    allowed = λ few. let more = stays.counts.more_names in omega (arith, names_most, cost_same, mark_fetched, mark_names, kept.within, more);
+    allowed = λ few. let more = stays.counts.more_names in omega (arith, names_most, cost_same, mark_asked, mark_names, kept.within, more);
     reached = names_most;
     more = stays.counts.more_names;
   }
@@ -281,14 +280,16 @@ module _ (old new : WalkerState) (kept : IsKept old) (stays : Stays old new) whe
   current_same = λ i. record { number = stays.passed i - 1; entry = stays.current i }
 
   -- it is kept where what is left is
-  pub kept_by : ((file : List ℕ) → new.list.source.store.content ≡ Some file → 0 < records_to_give new.list → HasLeft file new.list) → IsKept new
-  kept_by left = record {
+  pub kept_by : NeverByBudget new.list.stop → ((file : List ℕ) → new.list.source.store.content ≡ Some file → 0 < records_to_give new.list → HasLeft file new.list) → IsKept new
+  kept_by unbudgeted left = record {
     limit = stays.same.limit ∙ kept.limit;
+    budget = stays.same.budget ∙ kept.budget;
+    unbudgeted = unbudgeted;
     within = let more = stays.counts.more_names in omega (arith, mark_names, kept.within, more);
     spent = λ few.
         let within : old.mark.names ≤ new.list.counts.names = let more = stays.counts.more_names in omega (arith, kept.within, more) in
-        let most = paid_by old.list.limit new.list.counts.fetched (old.mark.fetched + entry_cost old.list.source.size old.list.current) old.mark.names new.list.counts.names kept.limit (stays.spent few) within in
-        omega (arith, most, cost_same, mark_fetched, mark_names);
+        let most = paid_by old.list.limit new.list.counts.asked (old.mark.asked + entry_cost old.list.source.size old.list.current) old.mark.names new.list.counts.names kept.limit (stays.spent few) within in
+        omega (arith, most, cost_same, mark_asked, mark_names);
     of_file = left;
     unsought = λ some. stays.unsought;
   }
@@ -320,6 +321,7 @@ able_of fault of_record is = subst IsOfRecord is of_record
 places_of_walk : (fault : ReadFault) → IsOfPlaces fault → IsOfWalk fault
 places_of_walk (faults.Opening f) is = absurd is
 places_of_walk (faults.PartsTooLarge e k) is = absurd is
+places_of_walk (faults.List f) is = absurd is
 places_of_walk fault is = tt
 
 places_refused : (size : ℕ) (fault : ReadFault) → IsOfPlaces fault → IsReadRefusal size fault
@@ -393,7 +395,7 @@ module _ (old new : WalkerState) (kept : IsKept old) (left : 0 < records_to_give
       )
 
   pub kept_record : ((left : Run) → old.list.left ≡ Some left → slice_get left.items 0 ≡ Some (plain item)) → IsKept new
-  kept_record gives = kept_by old new kept stays (λ F known some. left_behind gives F (sym stays.fetches.fetches.same_content ∙ known))
+  kept_record gives = kept_by old new kept stays (λ f is. absurd (let none = leaves.list.stands.stop in cc (is, none))) (λ F known some. left_behind gives F (sym stays.fetches.fetches.same_content ∙ known))
 
   pub far_record : (far : Bool) → IsFar old.list far → IsFar new.list far
   far_record far is some = is left ∙ ap (λ (e : Entry). lists_memory64 (kind_of e.stream_type)) (sym stays.current)
@@ -459,10 +461,16 @@ module _ (old new : WalkerState) (kept : IsKept old) (left : 0 < records_to_give
   stopped : records_to_give new.list ≡ 0
   stopped = left_stopped new.list.passed new.list.stop (Some f) new.list.records leaves.list.stands.stop
 
-  pub kept_fault : IsKept new
-  kept_fault = kept_by old new kept (stays_fault old new f leaves) (λ F known some. absurd (omega (arith, some, stopped)))
+  unbudgeted_new : IsUnbudgeted f.kind
+  unbudgeted_new = unbudgeted f new.list (leaves.list.same.budget ∙ kept.budget) leaves.list.spends.refused
 
-  pub gives_fault : ((left : Run) → old.list.left ≡ Some left → (IsOfSource f.kind → ⊥) → left ≡ only_fault f) → ((file : List ℕ) → IsGood old.list.source.store file → IsOfSource f.kind → ⊥)
+  stop_new : NeverByBudget new.list.stop
+  stop_new g is = let same : f ≡ g = let both = sym leaves.list.stands.stop ∙ is in cc both in subst (λ (h : ListFault). IsUnbudgeted h.kind) same unbudgeted_new
+
+  pub kept_fault : IsKept new
+  kept_fault = kept_by old new kept (stays_fault old new f leaves) stop_new (λ F known some. absurd (omega (arith, some, stopped)))
+
+  pub gives_fault : ((left : Run) → old.list.left ≡ Some left → (IsUnobtained f.kind → ⊥) → left ≡ only_fault f) → ((file : List ℕ) → IsGood old.list.source.store file → IsOfStore f.kind → ⊥)
       → (limit : ℕ) → GivesNext (state_of old) limit (Err (faults.List f)) (state_of new)
   gives_fault gives good limit =
       let going = (left_some old.list.passed old.list.stop old.list.records left).0 in
@@ -477,11 +485,11 @@ module _ (old new : WalkerState) (kept : IsKept old) (left : 0 < records_to_give
               had.0,
               (
                 had.2.1,
-                row_refused F limit (current_entry old.list) had.0 had.1 (had.0 + records_to_give old.list) shaped (omega (arith, left)) f
+                row_refused F limit (current_entry old.list) had.0 had.1 (had.0 + records_to_give old.list) shaped (omega (arith, left)) f unbudgeted_new
                     (gives (left_from F 0 (current_entry old.list) had.0 had.1) had.2.0),
               ),
             );
-        told = tt;
+        told = unbudgeted_new;
         able = λ F known is. cc is;
         fetches = record {
           fetches = stays.fetches;

@@ -25,6 +25,7 @@ use Rattle.mdmp_dump.specs.Left.{body_from, records_from, run_of, shaped_from}
 use Rattle.mdmp_dump.specs.Reading.{IsOwn, IsReadRefusal, refusal_of}
 use Rattle.mdmp_dump.specs.Refusal.{ReadStep, Refuse, Take, item_steps}
 use Rattle.mdmp_dump.specs.Seen.{Seen, nothing_seen}
+use Rattle.mdmp_dump.proofs.Opened.{TellsNone}
 use Rattle.mdmp_dump.proofs.Left.{body_from-all, body_from-shaped}
 use Rattle.mdmp_dump.proofs.Unrefused.{IsQuiet, joined_quiet, told_last}
 
@@ -248,12 +249,13 @@ module _ (F : List ℕ) (limit : ℕ) (x : Numbered) where
 -- ---- whatever the bytes
 
 -- a walk that could not be opened
-pub bare_refusal : (size : ℕ) (fault : OpenFault) → IsBareRefusal size fault → IsViewRefusal size (refusal_of fault)
-bare_refusal size opening.Memory is = tt
-bare_refusal size fault is = is
+pub bare_refusal : (size : ℕ) (fault : OpenFault) → TellsNone fault → IsBareRefusal size fault → IsViewRefusal size (refusal_of fault)
+bare_refusal size opening.Memory none is = tt
+bare_refusal size (opening.Budget offset len) none is = absurd (none offset len refl)
+bare_refusal size fault none is = is
 
 -- and one that was refused
 pub walk_refusal : (size : ℕ) (fault : ReadFault) → IsOfWalk fault → IsReadRefusal size fault → IsViewRefusal size fault
 walk_refusal size (faults.Opening f) is fits = absurd is
-walk_refusal size (faults.List f) is fits = fits
+walk_refusal size (faults.List f) is fits = (fits, is)
 walk_refusal size fault is fits = is

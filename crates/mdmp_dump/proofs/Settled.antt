@@ -1,12 +1,9 @@
 -- What a request for an item settles.
 use Rattle.std.proofs.Common.{◌≡◌, ◌∙◌, ◌+◌, ◌-◌, ◌*◌, ◌<◌, ◌≤◌, arith, length-append, ℕ, List, [], ◌∷◌, ◌++◌, length, slice_get, Option, Some, None, Result, Ok, Err, ap, refl, subst, sym}
 use Rattle.std.specs.Prelude.{IfOk, flat_map, option_map}
-use Rattle.mdmp_source.specs.declared.fault.SourceFault.{SourceFault}
-use Rattle.mdmp_lister.specs.declared.fault.FaultKind.{FaultKind}
-use Rattle.mdmp_lister.specs.declared.fault.FaultKind.TheVariants.{Source}
 use Rattle.mdmp_lister.specs.declared.fault.ListFault.{ListFault}
 use Rattle.mdmp_lister.specs.declared.item.Item.{Item}
-use Rattle.mdmp_lister.specs.Fault.{IsOfSource}
+use Rattle.mdmp_lister.specs.Fault.{IsUnobtained}
 use Rattle.mdmp_lister.specs.Format.Listing.{Numbered, Run, list_fault, nothing, only_fault}
 use Rattle.mdmp_lister.specs.Format.Shape.{location_fault, shape_of}
 use Rattle.mdmp_lister.specs.declared.fault.Fault.{Fault}
@@ -23,7 +20,7 @@ use Rattle.mdmp_dump.specs.declared.reader.Told.{Told}
 use Rattle.mdmp_dump.specs.declared.reader.Told.TheVariants as tolds
 use Rattle.mdmp_dump.specs.declared.row.ToldRecord.{ToldRecord}
 use Rattle.mdmp_dump.specs.Left.{IsGiven, AreAllGiven, RowGiven, left_from, run_of}
-use Rattle.mdmp_dump.specs.Reading.{AreRows, HasOneRecord, IsFoundOrBehind, IsLeftBehind, IsNextStream, IsOwn, NoRowFirst, IsRecordFound, IsRow, IsRowRead, IsToldOf, TakesSteps, Settles, name_steps_of, owed, refusal_found, refusal_in, store_fault_in}
+use Rattle.mdmp_dump.specs.Reading.{AreRows, HasOneRecord, IsFoundOrBehind, IsLeftBehind, IsNextStream, IsWanting, NoRowFirst, IsRecordFound, IsRow, IsRowRead, IsToldOf, TakesSteps, Settles, name_steps_of, owed, refusal_found, refusal_in}
 use Rattle.mdmp_dump.specs.LaysOut.{HasRecords}
 use Rattle.mdmp_dump.specs.Telling.{ItemTells, record_told}
 use Rattle.mdmp_lister.specs.declared.shape.Shape.{Shape}
@@ -34,15 +31,11 @@ use Rattle.mdmp_dump.proofs.Left.{all_given, no_row_first, row_given, stream_giv
 use Rattle.mdmp_dump.proofs.Refusal.{refusal-end}
 use Rattle.mdmp_dump.specs.Refusal.{Refuse, ReadStep, first_refusal, item_steps}
 
-not-of-store : (kind : FaultKind) → (((told : SourceFault) × (store_fault_in kind ≡ Some told)) → ⊥) → IsOfSource kind → ⊥
-not-of-store (Source fault) own is = own (fault, refl)
-not-of-store _ own is = is
-
 -- a fault that is next is what is owed
-pub fault-owed : (file : List ℕ) (left : ℕ) (run : Run) (f : ListFault) → ((IsOfSource f.kind → ⊥) → run ≡ only_fault f) → (IsOwn (faults.List f) → ⊥)
+pub fault-owed : (file : List ℕ) (left : ℕ) (run : Run) (f : ListFault) → ((IsUnobtained f.kind → ⊥) → run ≡ only_fault f) → (IsWanting (faults.List f) → ⊥)
     → owed file left None (Some run) ≡ Some (faults.List f)
 fault-owed file left run f given own =
-    ap (λ (r : Run). owed file left None (Some r)) (given (not-of-store f.kind own)) ∙ refusal-end left (Some (faults.List f))
+    ap (λ (r : Run). owed file left None (Some r)) (given own) ∙ refusal-end left (Some (faults.List f))
 
 -- ---- an item
 
@@ -104,7 +97,7 @@ module _ {X : Type 0} (file : List ℕ) (limit : ℕ) (x : Numbered) (k : ℕ) (
       let by = told_by is.0 in
       absurd (let e : Some by.0 ≡ None = sym by.1.0 ∙ is.1 in cc e)
   found-given {Z = Z} (Err fault) is = (tt, settled fault is) where
-    settled : (fault : ReadFault) → IsToldOf {Z = Z} (record_told told) item (Err fault) → (IsOwn fault → ⊥) → owed file left None (Some run_first) ≡ Some fault
+    settled : (fault : ReadFault) → IsToldOf {Z = Z} (record_told told) item (Err fault) → (IsWanting fault → ⊥) → owed file left None (Some run_first) ≡ Some fault
     settled faults.Memory is own = absurd (own tt)
     settled fault is own =
         let by = told_by is.0 in
@@ -137,7 +130,7 @@ module _ {S A X T : Type 0} (file : List ℕ) (limit : ℕ) (x : Numbered) (k : 
       (((given.shape, (given.shaped, (given.within, stands))), left-read read.takes), rw (left-read read.takes) (settled read.takes))
 
   -- or it is refused
-  pub row-refused : (fault : ReadFault) → IsRowRead kind told steps IsAt mid found name (Err fault) new → (IsOwn fault → ⊥) → old ≡ Some fault
+  pub row-refused : (fault : ReadFault) → IsRowRead kind told steps IsAt mid found name (Err fault) new → (IsWanting fault → ⊥) → old ≡ Some fault
   row-refused fault read own = settled read.takes own
 
 -- ---- all records of an entry

@@ -8,7 +8,7 @@ use Rattle.mdmp_wire.specs.declared.entry.Entry.{Entry}
 use Rattle.mdmp_lister.specs.declared.fault.FaultKind.{FaultKind}
 use Rattle.mdmp_lister.specs.declared.fault.FaultKind.TheVariants as kinds
 use Rattle.mdmp_lister.specs.declared.fault.ListFault.{ListFault}
-use Rattle.mdmp_lister.specs.Fault.{IsOfSource, IsToldByFetch, IsToldIn}
+use Rattle.mdmp_lister.specs.Fault.{IsOfStore, IsToldByFetch, IsToldIn}
 use Rattle.mdmp_lister.specs.Following.{FitsFile}
 use Rattle.mdmp_source.specs.declared.fault.SourceFault.{SourceFault}
 use Rattle.mdmp_source.specs.declared.fault.SourceFault.TheVariants.{Failed, ShortRead, Changed}
@@ -63,12 +63,12 @@ told_last e (kinds.Source (Failed at)) a b told = told
 told_last e (kinds.Source (ShortRead at)) a b told = told
 told_last e kind a b told = tt
 
-none_of_store : (kind : FaultKind) → (IsOfSource kind → ⊥) → store_fault_in kind ≡ None
+none_of_store : (kind : FaultKind) → (IsOfStore kind → ⊥) → store_fault_in kind ≡ None
 none_of_store (kinds.Source fault) never = absurd (never tt)
 none_of_store kind never = refl
 
 pub Fetches_listed : {T : Type 0} (e : Entry) (f : ListFault) (a b : SourceState) → FetchesSome a b → IsToldIn e f a b
-    → ((file : List ℕ) → IsGood a.store file → IsOfSource f.kind → ⊥) → FitsFile a.size f → Fetches {T = T} (Err (faults.List f)) a b
+    → ((file : List ℕ) → IsGood a.store file → IsOfStore f.kind → ⊥) → FitsFile a.size f → Fetches {T = T} (Err (faults.List f)) a b
 Fetches_listed e f a b some told good fits = record {
   fetches = some;
   told = told_last e f.kind a b told.by;

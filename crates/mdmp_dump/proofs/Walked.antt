@@ -11,7 +11,7 @@ use Rattle.mdmp_dump.specs.declared.fault.ReadFault.{ReadFault}
 use Rattle.mdmp_dump.specs.declared.reader.Reader.{Reader}
 use Rattle.mdmp_dump.specs.LaysOut.{AreStreams, NamesStream}
 use Rattle.mdmp_dump.specs.Left.{is_item_of, left_from, run_of}
-use Rattle.mdmp_dump.specs.Reading.{IsEntryRead, IsGoing, IsLeftBehind, IsNextStream, IsOneStream, IsOwn, NoRowFirst, Settles, owed}
+use Rattle.mdmp_dump.specs.Reading.{IsEntryRead, IsGoing, IsLeftBehind, IsNextStream, IsOneStream, IsWanting, NoRowFirst, Settles, owed}
 use Rattle.mdmp_dump.specs.Refusal.{first_refusal}
 use Rattle.mdmp_dump.proofs.Left.{first_given, no_row_first, none_given}
 use Rattle.mdmp_dump.proofs.More.{streams_more}
@@ -68,7 +68,7 @@ module _ {S A : Type 0} (old new : Reader S A) (answer : Result (Option StreamIt
       record { done = []; rest = xs; all = refl; are = tt; behind = first_behind F limit xs next new.lister.left given.0; settles = given.1 }
 
   pub none_refused : (fault : ReadFault) → answer ≡ Err fault → (F : List ℕ) (limit : ℕ) (xs : List Numbered)
-      → old.lister.source.store.content ≡ Some F → old.lister.left ≡ Some (run_of F limit xs) → (IsOwn fault → ⊥) → owed F old.left None old.lister.left ≡ Some fault
+      → old.lister.source.store.content ≡ Some F → old.lister.left ≡ Some (run_of F limit xs) → (IsWanting fault → ⊥) → owed F old.left None old.lister.left ≡ Some fault
   none_refused fault is F limit xs known left = (rw is at (gives F (run_of F limit xs) known left (no_row_first F limit xs))).1
 
 -- ---- one more entry
@@ -108,7 +108,7 @@ module _ {S A Z : Type 0} (old mid new : Reader S A) (streams : List (Stream Z))
     pub never_none : (stream : Option (Stream Z)) (next : Option StreamItem) → IsRead (Ok (stream, next)) → stream ≡ None → ⊥
     never_none stream next of_file is = let has = (entry_read (Ok (stream, next)) of_file).value.0.1.0 in cc
 
-    pub more_refused : (fault : ReadFault) → IsRead (Err fault) → (IsOwn fault → ⊥) → owed F old.left None old.lister.left ≡ Some fault
+    pub more_refused : (fault : ReadFault) → IsRead (Err fault) → (IsWanting fault → ⊥) → owed F old.left None old.lister.left ≡ Some fault
     more_refused fault of_file not = so_read.settles ∙ (entry_read (Err fault) of_file).settles not
 
 -- ---- the end

@@ -25,7 +25,7 @@ use Rattle.mdmp_dump.specs.declared.view.PartSize.TheVariants.{NoPart, Size}
 use Rattle.mdmp_dump.specs.declared.view.PartSize.{PartSize}
 use Rattle.mdmp_dump.specs.declared.view.Kind.{Kind}
 use Rattle.mdmp_dump.specs.declared.view.Kind.TheVariants as kinds
-use Rattle.mdmp_dump.specs.FileRefusal.{IsOfWalk, first_told}
+use Rattle.mdmp_dump.specs.FileRefusal.{IsOfWalk, IsUnbudgeted, first_told}
 use Rattle.mdmp_dump.specs.Finding.{IsSeenAt, seen_in}
 use Rattle.mdmp_dump.specs.FoundRecord.{AreIn, fields_of}
 use Rattle.mdmp_dump.specs.Placed.{far_room, fields_bytes, fields_room}
@@ -147,8 +147,8 @@ pub record Begins (old : WalkState) (stream : ℕ) (result : Result ℕ ReadFaul
   pub of_file : (file : List ℕ) → old.source.store.content ≡ Some file → IsCountOf file (chosen_entry old stream) result
   pub counts : IfOk result (MayCount old.source.size (chosen_entry old stream).entry)
   pub fetches : old.failed ≡ None → Fetches result old.source new.source
-  -- each fault is one of the listing
-  pub told : IfErr result (λ fault. (told : ListFault) × (fault ≡ faults.List told))
+  -- each fault is one of the listing, and none of a budget
+  pub told : IfErr result (λ fault. (told : ListFault) × ((fault ≡ faults.List told) × IsUnbudgeted told.kind))
   pub failed : new.failed ≡ ended_by result
   -- a walk that has ended is answered so again
   pub repeats : (fault : SourceFault) → old.failed ≡ Some fault → (new ≡ old) × MatchResult result (λ count. ⊥) (λ told. store_fault told ≡ Some fault)

@@ -2,6 +2,8 @@
 -- have no limit, and neither has the number of ranges of memory.
 use Rattle.std.specs.Prelude.{ℕ, ◌+◌, List, [], ◌∷◌, length, Option, Some, None, option_map, flat_map}
 use Rattle.mdmp_lister.specs.declared.choice.Choice.{Choice}
+use Rattle.mdmp_lister.specs.declared.fault.FaultKind.{FaultKind}
+use Rattle.mdmp_lister.specs.declared.fault.FaultKind.TheVariants as kinds
 use Rattle.mdmp_lister.specs.declared.fault.OpenFault.{OpenFault}
 use Rattle.mdmp_lister.specs.declared.fault.OpenFault.TheVariants as opening
 use Rattle.mdmp_lister.specs.Following.{FitsFile}
@@ -45,17 +47,24 @@ opened_told F choice name_limit None = run_told F (listing F choice name_limit)
 abbrev pub view_refusal : List ℕ → Choice → ℕ → Option ReadFault
 view_refusal F choice name_limit = opened_told F choice name_limit (directory_refusal F)
 
--- a walk may answer this fault, whatever the file's bytes: none of its opening, and parts have no limit
+-- a fault of a listing is not that its budget was reached: a walk has none
+abbrev pub IsUnbudgeted : FaultKind → Type 0
+IsUnbudgeted kinds.Budget = ⊥
+IsUnbudgeted kind = Unit {0}
+
+-- a walk may answer this fault, whatever the file's bytes: none of its opening, parts have no limit, and it has no budget
 abbrev pub IsOfWalk : ReadFault → Type 0
 IsOfWalk (faults.Opening fault) = ⊥
 IsOfWalk (faults.PartsTooLarge e k) = ⊥
+IsOfWalk (faults.List fault) = IsUnbudgeted fault.kind
 IsOfWalk fault = Unit {0}
 
--- a file of `size` bytes may be refused so, whatever they are: of its opening no number of ranges is told
+-- a file of `size` bytes may be refused so, whatever they are: of its opening no number of ranges is told, and no budget
 abbrev pub IsViewRefusal : ℕ → ReadFault → Type 0
 IsViewRefusal size (faults.Opening opening.Memory) = ⊥
+IsViewRefusal size (faults.Opening (opening.Budget offset len)) = ⊥
 IsViewRefusal size (faults.Opening fault) = IsBareRefusal size fault
-IsViewRefusal size (faults.List fault) = FitsFile size fault
+IsViewRefusal size (faults.List fault) = FitsFile size fault × IsUnbudgeted fault.kind
 IsViewRefusal size fault = IsOfWalk fault
 
 -- the bytes of all parts inside F, and of the streams whose records are not known

@@ -6,6 +6,7 @@ use Rattle.mdmp_source.specs.declared.fault.SourceFault.{SourceFault}
 use Rattle.mdmp_source.specs.declared.fault.SourceFault.TheVariants.{Changed}
 use Rattle.mdmp_lister.specs.declared.fault.FaultKind.{FaultKind}
 use Rattle.mdmp_lister.specs.declared.fault.FaultKind.TheVariants as kinds
+use Rattle.mdmp_lister.specs.declared.fault.ListFault.{ListFault}
 use Rattle.mdmp_lister.specs.declared.fault.OpenFault.{OpenFault}
 use Rattle.mdmp_lister.specs.declared.fault.OpenFault.TheVariants as opening
 use Rattle.mdmp_lister.specs.declared.item.Item.{Item}
@@ -16,6 +17,7 @@ use Rattle.mdmp_lister.specs.Format.Item.{item_at}
 use Rattle.mdmp_lister.specs.Format.Listing.{Numbered, Run, nothing}
 use Rattle.mdmp_lister.specs.Format.Summary.{summary_of}
 use Rattle.mdmp_lister.specs.Format.Refusal.{directory_refusal}
+use Rattle.mdmp_lister.specs.Fault.{IsUnobtained}
 use Rattle.mdmp_lister.specs.Opening.{IsOpenRefusal}
 use Rattle.mdmp_lister.specs.Following.{FitsFile}
 use Rattle.mdmp_lister.specs.Lister.{ListerState, tail}
@@ -31,6 +33,7 @@ use Rattle.mdmp_dump.specs.declared.reader.Told.{Told}
 use Rattle.mdmp_dump.specs.declared.reader.Told.TheVariants as tolds
 use Rattle.mdmp_dump.specs.declared.reader.Next.{Next}
 use Rattle.mdmp_dump.specs.declared.reader.Next.TheVariants as nexts
+use Rattle.mdmp_dump.specs.FileRefusal.{IsUnbudgeted}
 use Rattle.mdmp_dump.specs.LaysOut.{EachFrom, NamesStream}
 use Rattle.mdmp_dump.specs.declared.dump.Stream.{Stream}
 use Rattle.mdmp_wire.specs.declared.entry.Entry.{Entry}
@@ -74,16 +77,45 @@ abbrev pub IsOwn : ReadFault → Type 0
 IsOwn faults.Memory = Unit {0}
 IsOwn fault = (told : SourceFault) × (store_fault fault ≡ Some told)
 
+-- memory is wanting, the store, or the budget: it is none of the file
+abbrev pub IsWanting : ReadFault → Type 0
+IsWanting faults.Memory = Unit {0}
+IsWanting (faults.Source fault) = Unit {0}
+IsWanting (faults.List fault) = IsUnobtained fault.kind
+IsWanting (faults.Opening (opening.Source fault)) = Unit {0}
+IsWanting (faults.Opening (opening.Budget offset size)) = Unit {0}
+IsWanting fault = ⊥
+
+-- it does not tell that the budget was reached
+abbrev pub IsWithoutBudget : ReadFault → Type 0
+IsWithoutBudget (faults.Opening (opening.Budget offset size)) = ⊥
+IsWithoutBudget (faults.List fault) = IsUnbudgeted fault.kind
+IsWithoutBudget fault = Unit {0}
+
+-- what is told where a reading ends so within a budget or none: without one it does not end by it
+abbrev pub listed_within : Option ℕ → FaultKind → ListFault → ReadFault
+listed_within None kinds.Budget fault = faults.Memory
+listed_within budget kind fault = faults.List fault
+
+abbrev pub opened_within : Option ℕ → OpenFault → ReadFault
+opened_within None (opening.Budget offset size) = faults.Memory
+opened_within budget fault = faults.Opening fault
+
+abbrev pub read_within : Option ℕ → ReadFault → ReadFault
+read_within budget (faults.List fault) = listed_within budget fault.kind fault
+read_within budget (faults.Opening fault) = opened_within budget fault
+read_within budget fault = fault
+
 -- a fault of the store is the last that the source told, and has its cause in these fetches; or the store has changed, which
 -- one of known content does not
 abbrev pub IsLastTold : SourceFault → SourceState → SourceState → Type 0
 IsLastTold (Changed at) old new = old.store.content ≡ None
 IsLastTold fault old new = IsTold fault old new
 
--- the first refusal that is left is told, unless memory or the store is wanting; or it is left still
+-- the first refusal that is left is told, unless memory, the store or the budget is wanting; or it is left still
 abbrev pub Settles : {T : Type 0} → Option ReadFault → Result T ReadFault → (T → Option ReadFault) → Type 0
 Settles old (Ok x) new = old ≡ new x
-Settles old (Err fault) new = (IsOwn fault → ⊥) → old ≡ Some fault
+Settles old (Err fault) new = (IsWanting fault → ⊥) → old ≡ Some fault
 
 -- some fetches, of which a fault of the store is told as such, and one of the file may be told of one of this size
 pub record Fetches {T : Type 0} (result : Result T ReadFault) (old new : SourceState) : Type 0 where

@@ -15,6 +15,7 @@ use Rattle.mdmp_lister.specs.Walker.{WalkerState, is_sought}
 use Rattle.mdmp_dump.specs.declared.entry_walk.EntryPlace.{EntryPlace}
 use Rattle.mdmp_dump.specs.EntryWalk.{WalkState, no_entry, numbered}
 use Rattle.mdmp_dump.specs.Left.{left_from}
+use Rattle.mdmp_dump.specs.FileRefusal.{IsUnbudgeted}
 use Rattle.mdmp_dump.specs.Reading.{store_fault_in}
 
 -- ---- what is seen of it
@@ -44,7 +45,7 @@ ended_with stop = None
 
 -- what was fetched before its stream, all of that, and a length for each name since then
 abbrev pub bytes_allowed : WalkerState → ℕ
-bytes_allowed w = w.mark.fetched + entry_cost w.list.source.size w.list.current + 4 * (w.list.counts.names - w.mark.names)
+bytes_allowed w = w.mark.asked + entry_cost w.list.source.size w.list.current + 4 * (w.list.counts.names - w.mark.names)
 
 abbrev pub state_of : WalkerState → WalkState
 state_of w = record {
@@ -69,11 +70,17 @@ state_of w = record {
 abbrev pub HasLeft : List ℕ → ListerState → Type 0
 HasLeft F v = (k : ℕ) × (xs : List Numbered) × ((v.left ≡ Some (left_from F 0 (current_entry v) k xs)) × (record_count F v.current ≡ Ok (k + records_to_give v)))
 
--- no name is read, and what was fetched is allowed
+-- a walk without a budget does not end by it
+abbrev pub NeverByBudget : Option (Option ListFault) → Type 0
+NeverByBudget stop = (f : ListFault) → stop ≡ Some (Some f) → IsUnbudgeted f.kind
+
+-- no name is read, it has no budget, and what was fetched is allowed
 pub record IsKept (w : WalkerState) : Type 0 where
   pub limit : w.list.limit ≡ 0
+  pub budget : w.list.counts.budget ≡ None
+  pub unbudgeted : NeverByBudget w.list.stop
   pub within : w.mark.names ≤ w.list.counts.names
-  pub spent : w.list.counts.names + 1 < 2 ^ 128 → w.list.counts.fetched ≤ bytes_allowed w
+  pub spent : w.list.counts.names + 1 < 2 ^ 128 → w.list.counts.asked ≤ bytes_allowed w
   pub of_file : (file : List ℕ) → w.list.source.store.content ≡ Some file → 0 < records_to_give w.list → HasLeft file w.list
   -- while records are left no entry is sought
   pub unsought : 0 < records_to_give w.list → is_sought w ≡ false

@@ -62,7 +62,8 @@ impl<S: Store + Drop, A: Allocator + Copy> Model for EntryWalk<S, A> {
 }
 
 impl<S: Store + Drop, A: Allocator + Copy> EntryWalk<S, A> {
-    /// Opens a file. Memory is taken for its directory and the window.
+    /// Opens a file. Memory is taken for its directory and the window. It has no budget: what it may fetch is
+    /// bounded by what the file holds and by what it is asked.
     pub(crate) fn open(
         alloc: A,
         source: Source<S>,
@@ -82,6 +83,7 @@ impl<S: Store + Drop, A: Allocator + Copy> EntryWalk<S, A> {
         let nameless = Limits {
             window: limits.window,
             name: 0,
+            budget: None,
         };
         match Walker::open(alloc, source, nameless, choice) {
             Ok(walker) => Ok(EntryWalk {

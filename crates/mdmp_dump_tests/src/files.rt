@@ -10,12 +10,14 @@ use std::process::Abort;
 pub const LEAST: Limits = Limits {
     window: 168,
     name: 0,
+    budget: None,
 };
 
 /// The least window, and the room for a name that the program has.
 pub const NAMED: Limits = Limits {
     window: 168,
     name: 4096,
+    budget: None,
 };
 
 /// What a file is made of.

@@ -47,6 +47,10 @@ pub enum Counted {
     NameLengthOutside,
     NameOdd,
     NameUnitsOutside,
+    Halves,
+    HalvesRefused,
+    HalvesEnded,
+    HalvesItems,
     Verdicts,
     BadVerdicts,
     Values,
@@ -65,8 +69,11 @@ pub enum Counted {
 /// What troubles a file where memory is wanting.
 pub const OUT_OF_MEMORY: &str = "out of memory";
 
+/// What troubles a file where a budget is reached and there is none.
+pub const NO_BUDGET: &str = "the budget is reached without one";
+
 /// How many things are counted.
-const THINGS: usize = 54;
+const THINGS: usize = 58;
 
 /// What is printed of each.
 const TOLD: [&str; THINGS] = [
@@ -111,6 +118,10 @@ const TOLD: [&str; THINGS] = [
     "listed up to a name length outside the file",
     "listed up to an odd name length",
     "listed up to a name outside the file",
+    "files listed within half of what they fetch",
+    "refused: budget reached",
+    "listed up to the budget",
+    "items listed up to the budget",
     "verdicts",
     "verdicts with a fault",
     "values read",

@@ -1,8 +1,8 @@
 //! A file listed through two windows.
 
 use crate::bounds::{check_bounds, counts_of};
-use crate::census::{Census, Counted, OUT_OF_MEMORY};
-use crate::windows::{TwoWindows, open};
+use crate::census::{Census, Counted, NO_BUDGET, OUT_OF_MEMORY};
+use crate::windows::{NotOpened, TwoWindows, open};
 use mdmp_lister::{
     Counts, Item, ListFault, Lister, Name, OpenFault, RunFault, Sink, Stopped, StreamItem,
     StreamKind,
@@ -28,14 +28,28 @@ pub struct FileListed {
     pub end: ListEnd,
     /// How many items it has.
     pub items: u64,
+    /// How many bytes were fetched for it, through the first window.
+    pub fetched: u128,
 }
 
 /// Takes the items of one lister, and compares each with the next one of another.
 #[derive(Drop)]
-struct Companion<'a> {
+pub struct Companion<'a> {
     other: Lister<MemoryStore<'a>, Global>,
     census: Census,
-    items: u64,
+    /// How many items it took.
+    pub items: u64,
+}
+
+impl<'a> Companion<'a> {
+    /// One that took nothing yet, and goes on with this census.
+    pub fn new(other: Lister<MemoryStore<'a>, Global>, census: Census) -> Self {
+        Companion {
+            other,
+            census,
+            items: 0,
+        }
+    }
 }
 
 impl<'a> Sink for Companion<'a> {
@@ -61,7 +75,7 @@ fn gives_next(lister: &mut Lister<MemoryStore<'_>, Global>, item: &Item<'_>) -> 
 }
 
 /// Whether a lister ends next, at this fault or at none.
-fn ends_next(lister: &mut Lister<MemoryStore<'_>, Global>, fault: Option<ListFault>) -> bool {
+pub fn ends_next(lister: &mut Lister<MemoryStore<'_>, Global>, fault: Option<ListFault>) -> bool {
     match lister.next() {
         Ok(Some(_)) => false,
         Ok(None) => fault.is_none(),
@@ -81,26 +95,33 @@ pub fn list_file(
     match (one, other) {
         (Ok(one), Ok(other)) => list_beside(one, other, windows, census),
         (Err(one), Err(other)) => {
-            census.agree(one == other, "the windows refuse otherwise");
+            census.agree(one.fault == other.fault, "the windows refuse otherwise");
             refused(one, census)
         },
-        (Ok(_), Err(fault)) | (Err(fault), Ok(_)) => {
+        (Ok(_), Err(refusal)) | (Err(refusal), Ok(_)) => {
             census.keep_trouble("one window refuses");
-            refused(fault, census)
+            refused(refusal, census)
         },
     }
 }
 
 /// The list of a file that is refused, by a fault that one in memory may have.
-fn refused(fault: OpenFault, census: &mut Census) -> FileListed {
-    match fault {
+fn refused(refusal: NotOpened, census: &mut Census) -> FileListed {
+    match refusal.fault {
         OpenFault::Memory => census.keep_trouble(OUT_OF_MEMORY),
+        OpenFault::Budget { .. } => census.keep_trouble(NO_BUDGET),
         OpenFault::Source(_) => census.keep_trouble("opening: the store is at fault"),
         _ => {},
     }
+    not_listed(refusal)
+}
+
+/// The list of a file that is refused: it has no items.
+pub fn not_listed(refusal: NotOpened) -> FileListed {
     FileListed {
-        end: ListEnd::Refused(fault),
+        end: ListEnd::Refused(refusal.fault),
         items: 0,
+        fetched: refusal.fetched,
     }
 }
 
@@ -110,11 +131,7 @@ fn list_beside<'a>(
     windows: TwoWindows,
     census: &mut Census,
 ) -> FileListed {
-    let mut companion = Companion {
-        other,
-        census: *census,
-        items: 0,
-    };
+    let mut companion = Companion::new(other, *census);
     let fault = run(&mut one, &mut companion);
     let Companion {
         mut other,
@@ -123,17 +140,22 @@ fn list_beside<'a>(
     } = companion;
     *census = counted;
     let end = end_of(fault, &mut other, census);
+    let counts = counts_of(&one);
     census.agree(
-        count_the_same(&counts_of(&one), &counts_of(&other)),
+        count_the_same(&counts, &counts_of(&other)),
         "the windows count otherwise",
     );
     check_bounds(one, windows.one, census);
     check_bounds(other, windows.other, census);
-    FileListed { end, items }
+    FileListed {
+        end,
+        items,
+        fetched: counts.fetched,
+    }
 }
 
 /// Why a run ended before the end of the list.
-fn run<'a>(
+pub fn run<'a>(
     lister: &mut Lister<MemoryStore<'a>, Global>,
     companion: &mut Companion<'a>,
 ) -> Option<RunFault> {

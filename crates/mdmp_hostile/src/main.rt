@@ -1,11 +1,12 @@
 //! Makes files by chance, half of them good and half of them damaged, and runs the public calls over each.
-//! What has to agree is compared: lists and verdicts through a small window and a large one, values with
-//! lists, copies of values with copies through views, and what is read of a copy with what was copied. It
-//! prints how often each thing was met, and a line for each file where two calls do not agree. A file is
-//! made of its number alone.
+//! What has to agree is compared: lists and verdicts through a small window and a large one, lists within a
+//! budget with those without one, values with lists, copies of values with copies through views, and what is
+//! read of a copy with what was copied. It prints how often each thing was met, and a line for each file where
+//! two calls do not agree. A file is made of its number alone.
 #![tactic(auto)]
 
 mod bounds;
+mod budgets;
 mod census;
 mod chance;
 mod copies;

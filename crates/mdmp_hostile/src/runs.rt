@@ -1,6 +1,7 @@
 //! One file, run through.
 
-use crate::census::{Census, Counted, OUT_OF_MEMORY};
+use crate::budgets::check_budgets;
+use crate::census::{Census, Counted, NO_BUDGET, OUT_OF_MEMORY};
 use crate::chance::Chance;
 use crate::copies::copy_file;
 use crate::damage::damage;
@@ -55,6 +56,7 @@ fn run_file(alloc: Global, file: &[u8], windows: TwoWindows, census: &mut Census
         return listed;
     }
     count_end(census, &listed);
+    check_budgets(alloc, file, windows.one, &listed, census);
     check_file(alloc, file, windows, listed.end, census);
     let value = read_file(alloc, file, windows, listed.end, census);
     count_value(census, &value);
@@ -86,6 +88,7 @@ pub fn count_refusal(census: &mut Census, fault: OpenFault) {
         OpenFault::BadVersion { .. } => census.count(Counted::BadVersion),
         OpenFault::DirectoryOutside { .. } => census.count(Counted::DirectoryOutside),
         OpenFault::TooManyRanges { .. } => census.count(Counted::TooManyRanges),
+        OpenFault::Budget { .. } => census.keep_trouble(NO_BUDGET),
         OpenFault::Source(_) | OpenFault::Memory => {},
     }
 }
@@ -100,6 +103,7 @@ fn count_fault(census: &mut Census, kind: FaultKind) {
         FaultKind::NameLengthOutside => census.count(Counted::NameLengthOutside),
         FaultKind::NameOdd => census.count(Counted::NameOdd),
         FaultKind::NameUnitsOutside => census.count(Counted::NameUnitsOutside),
+        FaultKind::Budget => census.keep_trouble(NO_BUDGET),
         FaultKind::Source(_) => {},
     }
 }

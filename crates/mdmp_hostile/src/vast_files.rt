@@ -35,8 +35,11 @@ fn run_crowded(alloc: Global, limits: Limits, census: &mut Census) {
     match open(alloc, &draft.bytes, limits) {
         Ok(_) => census.keep_trouble("too many ranges are listed"),
         Err(other) => {
-            census.agree(other == fault, "too many ranges are refused otherwise");
-            count_refusal(census, other);
+            census.agree(
+                other.fault == fault,
+                "too many ranges are refused otherwise",
+            );
+            count_refusal(census, other.fault);
         },
     }
     match value_of(alloc, &draft.bytes, limits) {

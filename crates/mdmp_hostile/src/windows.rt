@@ -32,15 +32,27 @@ impl TwoWindows {
     }
 }
 
+/// Why a file can't be listed, and how many bytes were fetched to tell.
+#[derive(Clone, Copy)]
+pub struct NotOpened {
+    /// Why it can't.
+    pub fault: OpenFault,
+    /// How many bytes were fetched.
+    pub fetched: u128,
+}
+
 /// A lister of all entries of a file.
 pub fn open<'a>(
     alloc: Global,
     file: &'a [u8],
     limits: Limits,
-) -> Result<Lister<MemoryStore<'a>, Global>, OpenFault> {
+) -> Result<Lister<MemoryStore<'a>, Global>, NotOpened> {
     let source = Source::new(MemoryStore::new(file));
     match Lister::open(alloc, source, limits, Choice::All) {
         Ok(lister) => Ok(lister),
-        Err(refused) => Err(refused.fault),
+        Err(refused) => Err(NotOpened {
+            fault: refused.fault,
+            fetched: refused.source.fetched(),
+        }),
     }
 }

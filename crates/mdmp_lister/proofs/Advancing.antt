@@ -2,7 +2,7 @@
 use Rattle.std.proofs.Common.{◌≡◌, ◌+◌, ◌*◌, arith, ℕ, List, Option, None, Some, Result, refl, sym, subst, ap, ◌∙◌, vec_capacity}
 use Rattle.std.specs.Option.{option_map}
 use Rattle.mdmp_source.specs.Source.{SourceState, FetchesAtMost}
-use Rattle.mdmp_source.specs.declared.fault.SourceFault.{SourceFault}
+use Rattle.mdmp_lister.specs.declared.fault.FetchFault.{FetchFault}
 use Rattle.mdmp_wire.specs.declared.entry.Entry.{Entry}
 use Rattle.mdmp_lister.specs.declared.choice.Choice.{Choice}
 use Rattle.mdmp_lister.specs.declared.limits.Limits.{Limits}
@@ -12,11 +12,15 @@ use Rattle.mdmp_lister.specs.declared.step.Step.{Step}
 use Rattle.mdmp_lister.specs.declared.fault.OpenFault.{OpenFault}
 use Rattle.mdmp_lister.specs.StreamHead.{heads_ahead}
 use Rattle.mdmp_lister.specs.Format.Item.{plain}
-use Rattle.mdmp_lister.specs.Opening.{IsHandedBack, IsOfHead}
+use Rattle.mdmp_lister.specs.Opening.{IsHandedBack, IsOfHead, IsOpeningOver, KeepsToBudget}
 use Rattle.mdmp_lister.specs.Lister.{Rooms, current_after, passed_after}
 use Rattle.mdmp_lister.specs.Format.Listing.{Run}
 use Rattle.mdmp_lister.specs.Step.{current_by, passed_by, step_item}
 use Rattle.mdmp_lister.specs.Format.Summary.{Summary, entry_begun, number_behind}
+use Rattle.mdmp_wire.specs.declared.header.Header.{Header}
+use Rattle.mdmp_lister.specs.Meter.{IsBooked, KeepsTo, counts_of}
+use Rattle.mdmp_lister.proofs.Budgets.{IsOpening, opening-over, opening-then}
+use Rattle.mdmp_lister.proofs.Heads.{heads_few}
 use Rattle.mdmp_lister.proofs.Refusals.{IsHandedBack-begun}
 use Rattle.mdmp_lister.proofs.Summary.{begins_as, summary_of-plain}
 use Rattle.mdmp_lister.specs.Walk.{CountsRanges, IsNewWalk, SameRoom}
@@ -61,7 +65,7 @@ module _ {S A : Type 0} where
 
 module _ {S A : Type 0} (source : SourceState) (choice : Choice) (limits : Limits) (w n : Walk S A) where
   -- a file that is refused behind the heads by which its ranges were counted
-  pub IsHandedBack-counted : (result : Result ℕ SourceFault) (fault : OpenFault) → IsNewWalk source choice limits w → CountsRanges w result n → (IsOfHead fault → ⊥) → IsHandedBack choice source fault n.meter.source
+  pub IsHandedBack-counted : (result : Result ℕ FetchFault) (fault : OpenFault) → IsNewWalk source choice limits w → CountsRanges w result n → (IsOfHead fault → ⊥) → IsHandedBack choice source fault n.meter.source
   IsHandedBack-counted result fault new counts late =
       let ok = w.entries.ok.0 in
       let same : heads_ahead w.choice w.meter.source.size w.entries.items ≡ heads_ahead choice source.size w.entries.items =
@@ -72,3 +76,15 @@ module _ {S A : Type 0} (source : SourceState) (choice : Choice) (limits : Limit
       (λ file known. (new.reads.opens file known, new.sound.header_is file (new.spends.fetches.same_content ∙ known)))
       (λ file known. (new.sound.directory file (new.spends.fetches.same_content ∙ known)).each)
       late
+
+  -- which keeps to its budget
+  pub KeepsToBudget-counted : (result : Result ℕ FetchFault) → IsNewWalk source choice limits w → CountsRanges w result n → IsBooked n.meter.source (counts_of n.meter) → KeepsTo n.meter.budget n.meter.fetched
+      → (fault : OpenFault) → IsOpeningOver 16 fault n.meter → KeepsToBudget limits source fault n.meter.source
+  KeepsToBudget-counted result new counts booked kept =
+      let ok = w.entries.ok.0 in
+      let heads = heads_ahead w.choice w.meter.source.size w.entries.items in
+      let streams = w.header.number_of_streams in
+      let began : IsOpening limits source (32 + 12 * streams) w.meter = record { budget = new.budget; start = new.spends.start; aside = new.spends.aside; size = new.spends.fetches.same_size; asked = new.spends.asked } in
+      let is = opening-then limits source (32 + 12 * streams) _ heads w.meter n.meter began counts.books in
+      opening-over limits source (32 + 12 * streams + heads) 16 streams n.meter is booked kept (omega (arith, limits.window_least)) (omega (arith, ok, new.reads.entries, heads_few w.choice w.meter.source.size w.entries.items))
+      new.reads.inside (λ file known. let same = ap (λ (h : Header). h.number_of_streams) (new.sound.header_is file (new.spends.fetches.same_content ∙ known)) in omega (arith, same))

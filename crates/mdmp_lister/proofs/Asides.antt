@@ -4,6 +4,7 @@ use Rattle.std.specs.Option.{option_map}
 use Rattle.mdmp_source.specs.declared.fault.SourceFault.{SourceFault}
 use Rattle.mdmp_source.specs.declared.location.Location.{Location}
 use Rattle.mdmp_map.specs.Map.{MapState}
+use Rattle.mdmp_lister.proofs.Budgets.{over_at_kept}
 use Rattle.mdmp_lister.specs.declared.codeview.CodeViewRead.{CodeViewRead}
 use Rattle.mdmp_lister.specs.declared.walk.Walk.{Walk}
 use Rattle.mdmp_lister.specs.Format.Listing.{Run, joined, listing_from}
@@ -45,6 +46,7 @@ module _ {S A : Type 0} where
         directory = λ file known. old.directory file (sym content ∙ known);
         header_is = λ file known. old.header_is file (sym content ∙ known);
         unfailed = λ file good. old.unfailed file (record { known = sym content ∙ good.known; reliable = rw (← books.fetches.same_reliable) good.reliable });
+        refused = rw room (over_at_kept _ w.stage w.meter new.meter books.spends.same_budget books.spends.same_fetched books.spends.same_asked size old.refused);
       }
 
   aside_mapped : (n : ℕ) (w new : Walk S A) (map : MapState) → IsMapped w map → BooksAside n w.meter new.meter → vec_len new.name ≡ vec_len w.name → IsMapped (record w { meter = new.meter; name = new.name }) map
@@ -56,7 +58,7 @@ module _ {S A : Type 0} where
         room = record { ahead = old.room.ahead; owed = λ file known. old.room.owed file (sym content ∙ known) };
         inside = rw size old.inside;
         bounded = record {
-          bytes = rw (size, room, books.spends.same_fetched, books.spends.same_names) old.bounded.bytes;
+          bytes = rw (size, room, books.spends.same_asked, books.spends.same_names) old.bounded.bytes;
           calls = rw (size, books.spends.same_calls, books.spends.same_names) old.bounded.calls;
           names = rw books.spends.same_names old.bounded.names;
         };

@@ -17,13 +17,13 @@ use Rattle.mdmp_lister.specs.declared.walk.Walk.{Walk}
 use Rattle.mdmp_lister.specs.Fault.{IsRanged}
 use Rattle.mdmp_lister.specs.Following.{IsBegun, IsSomeShape, Standing, mapped, standing_by}
 use Rattle.mdmp_lister.specs.Following as following
-use Rattle.mdmp_lister.specs.Format.Kind.{form_of, kind_of, lists_ranges, record_size}
+use Rattle.mdmp_lister.specs.Format.Kind.{HasNoNames, form_of, kind_of, lists_ranges, record_size}
 use Rattle.mdmp_lister.specs.Format.Numbers.{ranges_in}
 use Rattle.mdmp_lister.specs.Format.Shape.{head_size, location_fault}
-use Rattle.mdmp_lister.specs.Stage.{fault_stage, stage_by, standing_of}
+use Rattle.mdmp_lister.specs.Stage.{StaysUnchanged, fault_stage, stage_by, standing_of}
 use Rattle.mdmp_lister.specs.Walk.{IsHeaded, IsListing, IsSound, IsStaged, SameEntry}
 use Rattle.mdmp_lister.specs.Walk.Owing.{HasRoom, ranges_ahead, ranges_owed}
-use Rattle.mdmp_lister.specs.Walk.Requests.{Answered, HeadRead}
+use Rattle.mdmp_lister.specs.Walk.Requests.{Answered, HeadRead, StepTaken}
 use Rattle.mdmp_lister.proofs.EntrySteps.{answered_head}
 use Rattle.mdmp_lister.proofs.Naming.{source_reached}
 use Rattle.mdmp_lister.proofs.Owing.{ranged, ranges_in-shape, told_changed, unknown}
@@ -154,6 +154,7 @@ module _ {S A : Type 0} (room : ℕ) (old mid : Walk S A) (f : ListFault) (head 
         told = told_changed e f old.meter.source mid.meter.source (rw head.same.current at kind) (rw head.same.current at placed) index (unknown old.meter.source.store.content never) of.is;
         number = entry ∙ head.same.next;
         named = source_reached f.kind old.meter mid.meter (rw kind tt) (rw head.books.same_names (omega arith)) (rw head.books.same_names (omega arith));
+        over = rw kind tt;
       })
       (rw (at, entry_cost-listed (λ d. d) z e of.kind of.known of.inside) (omega arith))
       (λ file content. absurd (never file content))
@@ -164,7 +165,7 @@ module _ {S A : Type 0} (room : ℕ) (old mid : Walk S A) (f : ListFault) (head 
         kind = refl;
         entry = omega (arith, entry, head.same.next);
         place = (refl, refl);
-        of_store = λ _. index;
+        of_all = λ _. index;
       })
       (following.failed (begun_room z e of.kind of.known (standing_of mid.stage) head.begins) _ refl (rw kind tt))
 
@@ -174,3 +175,8 @@ module _ {S A : Type 0} (room : ℕ) (old mid new : Walk S A) (head : HeadRead o
       → (f.offset ≡ mid.current.location.rva) × (f.size ≡ 0) → f.index ≡ None → f.entry + 1 ≡ mid.next → Answered old (Err f) new
   changed_answered f stops kind placed index entry =
       subst (λ (n : Walk S A). Answered old (Err f) n) (sym stops) (changed room old mid f head at sound has more kind placed index entry)
+
+-- a step that was answered with a fault
+pub taken_fault : {S A : Type 0} (old new : Walk S A) (f : ListFault) → Answered old (Err f) new → (StaysUnchanged old.stage → StaysUnchanged new.stage)
+    → (HasNoNames (kind_of old.current.stream_type) → new.meter.names ≡ old.meter.names) → StepTaken old (Err f) new
+taken_fault old new f answered unchanged nameless = record { answered = answered; room = λ room has. room_faulted room old new f has answered; unchanged = unchanged; nameless = nameless }

@@ -22,6 +22,8 @@ BooksAside-then m n k a b c le first then = record {
     same_calls = then.spends.same_calls ∙ first.spends.same_calls;
     same_names = then.spends.same_names ∙ first.spends.same_names;
     same_start = then.spends.same_start ∙ first.spends.same_start;
+    same_budget = then.spends.same_budget ∙ first.spends.same_budget;
+    same_asked = then.spends.same_asked ∙ first.spends.same_asked;
   };
 }
 

@@ -3,7 +3,7 @@ use Rattle.std.proofs.Common.{◌≡◌, ◌≤◌, ◌+◌, ◌∙◌, ℕ, Lis
 use Rattle.mdmp_source.specs.Window.{WindowState}
 use Rattle.mdmp_wire.specs.declared.entry.Entry.{Entry}
 use Rattle.mdmp_lister.specs.declared.fault.FaultKind.{FaultKind}
-use Rattle.mdmp_lister.specs.declared.fault.FaultKind.TheVariants.{Source}
+use Rattle.mdmp_lister.specs.declared.fault.FaultKind.TheVariants.{Source, Budget}
 use Rattle.mdmp_lister.specs.declared.fault.ListFault.{ListFault}
 use Rattle.mdmp_lister.specs.declared.fetching.NameRead.{NameRead}
 use Rattle.mdmp_lister.specs.declared.fetching.NameRead.TheVariants as read
@@ -21,15 +21,16 @@ use Rattle.mdmp_lister.specs.Costs.{IsUnreadBy, bad_name_cost, item_cost, cost_o
 use Rattle.mdmp_lister.specs.Format.Item.{plain}
 use Rattle.mdmp_lister.specs.Format.Name.{plain_name}
 use Rattle.mdmp_lister.specs.Step.{IsHeld, name_read, IsNameHeld, IsStepOf, step_item}
-use Rattle.mdmp_lister.specs.Fault.{IsOfSource}
+use Rattle.mdmp_lister.specs.Fault.{IsUnobtained}
 use Rattle.mdmp_lister.specs.Stage.{stop_of}
 use Rattle.mdmp_lister.specs.Format.Summary.{Summary, summary_of}
 use Rattle.mdmp_lister.specs.Walk.Paying.{owed_of}
 use Rattle.mdmp_lister.proofs.Summary.{summary_of-plain, summary_of-read}
 
 -- a name that the store keeps from being read
-pub source_name_cost : (limit : ℕ) (kind : FaultKind) → IsOfSource kind → bad_name_cost limit kind ≡ 4 + limit
+pub source_name_cost : (limit : ℕ) (kind : FaultKind) → IsUnobtained kind → bad_name_cost limit kind ≡ 4 + limit
 source_name_cost limit (Source fault) of = refl
+source_name_cost limit Budget of = refl
 source_name_cost limit _ of = absurd of
 
 -- ---- items and their steps

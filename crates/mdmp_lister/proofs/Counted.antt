@@ -3,11 +3,11 @@ use Rattle.std.proofs.Common.{◌≡◌, ◌∙◌, ℕ, List, None, Some, Resul
 use Rattle.mdmp_wire.specs.declared.entry.Entry.{Entry}
 use Rattle.mdmp_lister.specs.declared.fault.Fault.{Fault}
 use Rattle.mdmp_lister.specs.declared.fault.FaultKind.{FaultKind}
-use Rattle.mdmp_lister.specs.declared.fault.FaultKind.TheVariants.{Source}
+use Rattle.mdmp_lister.specs.declared.fault.FaultKind.TheVariants.{Source, Budget}
 use Rattle.mdmp_lister.specs.declared.fault.ListFault.{ListFault}
 use Rattle.mdmp_lister.specs.declared.kind.StreamKind.{StreamKind}
 use Rattle.mdmp_lister.specs.declared.shape.Shape.{Shape}
-use Rattle.mdmp_lister.specs.Fault.{IsListFaultOf, IsOfSource}
+use Rattle.mdmp_lister.specs.Fault.{IsListFaultOf, IsUnobtained}
 use Rattle.mdmp_lister.specs.Format.Kind.{kind_of}
 use Rattle.mdmp_lister.specs.Format.Listing.{count_listed, records_told}
 use Rattle.mdmp_lister.specs.Format.Shape.{location_fault, record_count, records_in, shape_of}
@@ -26,15 +26,16 @@ module _ (F : List ℕ) (e : Entry) where
 
 -- ---- faults
 
-stage_by-counted : (told : Result ℕ ListFault) (f : ListFault) (kind : FaultKind) → ((IsOfSource kind → ⊥) → told ≡ Err f) → IsCounted told (stage_by kind f)
+stage_by-counted : (told : Result ℕ ListFault) (f : ListFault) (kind : FaultKind) → ((IsUnobtained kind → ⊥) → told ≡ Err f) → IsCounted told (stage_by kind f)
 stage_by-counted told f (Source fault) is = tt
+stage_by-counted told f Budget is = tt
 stage_by-counted told f _ is = is (λ of. of)
 
-counted-fault : (F : List ℕ) (number : ℕ) (e : Entry) (fault : Fault) (f : ListFault) → IsListFaultOf number None fault f → ((IsOfSource fault.kind → ⊥) → record_count F e ≡ Err fault)
+counted-fault : (F : List ℕ) (number : ℕ) (e : Entry) (fault : Fault) (f : ListFault) → IsListFaultOf number None fault f → ((IsUnobtained fault.kind → ⊥) → record_count F e ≡ Err fault)
     → IsCounted (records_told F (record { number = number; entry = e })) (fault_stage f)
 counted-fault F number e fault f told is =
     stage_by-counted (records_told F (record { number = number; entry = e })) f f.kind
-    (λ not. let other : IsOfSource fault.kind → ⊥ = λ of. not (rw told.kind of) in
+    (λ not. let other : IsUnobtained fault.kind → ⊥ = λ of. not (rw told.kind of) in
     ap (count_listed number) (is other) ∙ ap Err (sym (told.of_file other)))
 
 module _ (F : List ℕ) (number : ℕ) (e : Entry) where
@@ -43,7 +44,7 @@ module _ (F : List ℕ) (number : ℕ) (e : Entry) where
   counted_outside fault f out told = counted-fault F number e fault f told (λ _. count-outside F e fault out)
 
   pub counted_bad : (kind : StreamKind) (fault : Fault) (f : ListFault) → location_fault (length F) e ≡ None → kind_of e.stream_type ≡ Some kind
-      → ((IsOfSource fault.kind → ⊥) → shape_of F e.location.rva e.location.size kind ≡ Err fault) → IsListFaultOf number None fault f
+      → ((IsUnobtained fault.kind → ⊥) → shape_of F e.location.rva e.location.size kind ≡ Err fault) → IsListFaultOf number None fault f
       → IsCounted (records_told F (record { number = number; entry = e })) (fault_stage f)
   counted_bad kind fault f whole known shape told = counted-fault F number e fault f told (λ other. count-shaped F e kind (Err fault) whole known (shape other))
 

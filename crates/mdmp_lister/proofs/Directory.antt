@@ -1,7 +1,7 @@
 -- The entries of a directory, which pass through a window.
 use Rattle.std.proofs.Common.{◌≡◌, ◌≤◌, ◌<◌, ◌+◌, ◌-◌, ◌*◌, ◌/◌, ◌∙◌, ℕ, None, Ok, zero, suc, List, [], ◌∷◌, ◌++◌, length, get_or, arith, min}
 use Rattle.std.proofs.Math.Nat.{div-mul-le_self, mul-le-mul_left}
-use Rattle.mdmp_source.specs.declared.fault.SourceFault.{SourceFault}
+use Rattle.mdmp_lister.specs.declared.fault.FetchFault.{FetchFault}
 use Rattle.mdmp_source.specs.Window.{WindowState}
 use Rattle.mdmp_lister.specs.Fault.{IsCaused}
 use Rattle.mdmp_lister.specs.Format.Kind.{greatest_record}
@@ -37,7 +37,7 @@ pub record Passes (at count number : ℕ) (old : MeterState) (w : WindowState) (
 -- and one more
 pub passes_more : {at count number here : ℕ} {old mid new : MeterState} {w v : WindowState} → Passes at count number old w mid → here ≡ at + 12 * number → 12 ≤ w.room
     → Books (min 1 (needed here 12 w)) (needed here 12 w) mid new → IsCaused None mid.source new.source
-    → ComesTo here mid.source.store.content w v → Slides {T = Unit {0}} {E = SourceFault} here 12 w (Ok tt) v → Passes at count (number + 1) old v new
+    → ComesTo here mid.source.store.content w v → Slides {T = Unit {0}} {E = FetchFault} here 12 w (Ok tt) v → Passes at count (number + 1) old v new
 passes_more {here = here} {old = old} {mid = mid} {new = new} {w = w} i place wide books caused comes slides =
     let more = needed here 12 w in
     let calls = slides.calls 12 (omega arith) wide in

@@ -11,7 +11,7 @@ use Rattle.mdmp_lister.specs.declared.shape.Shape.{Shape}
 use Rattle.mdmp_lister.specs.declared.stage.Stage.TheVariants as stage
 use Rattle.mdmp_lister.specs.declared.step.Step.{Step}
 use Rattle.mdmp_lister.specs.declared.walk.Walk.{Walk}
-use Rattle.mdmp_lister.specs.Fault.{IsListFaultOf, IsOfSource, source_of}
+use Rattle.mdmp_lister.specs.Fault.{IsListFaultOf, IsOfStore, IsUnobtained, source_of}
 use Rattle.mdmp_lister.specs.Fetching.{IsHeadOf, ReadsRecord, TellsRecord}
 use Rattle.mdmp_lister.specs.Following.{IsRecordFault, IsSomeRecord, IsSomeShape}
 use Rattle.mdmp_lister.specs.Following as following
@@ -27,6 +27,7 @@ use Rattle.mdmp_lister.specs.Walk.{IsHolding, IsReading, IsSound, SameEntry}
 use Rattle.mdmp_lister.specs.Walk.Checking.{RecordGiven}
 use Rattle.mdmp_lister.specs.Walk.Paying.{calls_owed, owed_of, stream_calls, unread_bytes}
 use Rattle.mdmp_lister.specs.Walk.Requests.{Answered, FaultMet, HeadRead}
+use Rattle.mdmp_lister.proofs.Budgets.{over-within}
 use Rattle.mdmp_lister.proofs.Bodies.{body-shaped, records-faulted, records-given}
 use Rattle.mdmp_lister.proofs.Fetches.{FetchesAtMost-none, not_of_source, told_in_caused}
 use Rattle.mdmp_lister.proofs.Heads.{listed-inside}
@@ -65,7 +66,8 @@ module _ {S A : Type 0} (old new : Walk S A) (kind : StreamKind) (at : old.stage
             (rw next (record { held = comes.held; end = comes.end; place = omega (arith, comes.place) }))
             (λ file content. rw next (shape file content, base file content))
             (λ end. absurd (cc))
-            (λ file good. rw next refl);
+            (λ file good. rw next tt)
+            (rw next tt);
         same = same;
         left = λ file content.
             let size = rw content at sound.sized in
@@ -83,8 +85,8 @@ module _ {S A : Type 0} (old new : Walk S A) (kind : StreamKind) (at : old.stage
       }
 
   pub answered_head : (f : ListFault) → new.stage ≡ fault_stage f → FaultMet old f new → spent ≤ old.current.location.size
-      → ((file : List ℕ) → old.meter.source.store.content ≡ Some file → (IsOfSource f.kind → ⊥) → entry_body file (vec_len old.name) (record { number = old.next - 1; entry = old.current }) ≡ only_fault f)
-      → ((file : List ℕ) → IsGood old.meter.source.store file → IsOfSource f.kind → ⊥)
+      → ((file : List ℕ) → old.meter.source.store.content ≡ Some file → (IsUnobtained f.kind → ⊥) → entry_body file (vec_len old.name) (record { number = old.next - 1; entry = old.current }) ≡ only_fault f)
+      → ((file : List ℕ) → IsGood old.meter.source.store file → IsOfStore f.kind → ⊥)
       → (fault : Fault) → IsListFaultOf (old.next - 1) None fault f → IsSomeShape old.current.location kind (Err fault) → Answered old (Err f) new
   unfolding stream_calls
   answered_head f next met bytes left good fault told some =
@@ -116,12 +118,13 @@ module _ {S A : Type 0} (old new : Walk S A) (f : ListFault) (at : old.stage ≡
   outside_answered fault told located kind =
       let begun : 0 < old.next = rw at at sound.staged in
       let is : f.kind ≡ StreamOutside = outside_kind f fault told.kind kind in
-      let other : IsOfSource fault.kind → ⊥ = rw kind (λ x. x) in
+      let other : IsUnobtained fault.kind → ⊥ = rw kind (λ x. x) in
       answered_fault 0 0 0 old stopped f sound begun (rw at refl) (rw at (omega arith)) same refl
       (record {
         told = record { by = rw is tt; placed = rw is tt };
         number = omega (arith, told.entry, begun);
         named = rw is (omega arith, omega arith);
+        over = rw is tt;
       })
       (FetchesAtMost-none old.meter.source) (omega arith)
       (Spends-booked 0 0 (vec_len old.name) old.meter old.meter (Books_none 0 0 old.meter))
@@ -161,7 +164,7 @@ module _ {S A : Type 0} (old new : Walk S A) (kind : StreamKind) (shape : Shape)
   }
 
   pub answered_record : (spent : ℕ) (step : Step) (next : ℕ) → new.stage ≡ stage.Records kind shape (k + 1) next → next ≡ offset + bytes_behind step → next < offset + 2 ^ 64
-      → ReadsRecord spent (vec_len old.name) (Ok step) old.meter new.meter → TellsRecord (vec_len old.name) kind step
+      → ReadsRecord old.window.room spent (vec_len old.name) (Ok step) old.meter new.meter → TellsRecord (vec_len old.name) kind step
       → ComesTo place old.meter.source.store.content old.window new.window → spent + unfetched new.window ≤ unfetched old.window
       → min 1 spent + fills greatest_record new.window ≤ fills greatest_record old.window
       → ((file : List ℕ) → old.meter.source.store.content ≡ Some file → (kind ≡ Memory64 → offset ≡ range_offset file old.current.location.rva k)
@@ -183,7 +186,7 @@ module _ {S A : Type 0} (old new : Walk S A) (kind : StreamKind) (shape : Shape)
             range-next file (vec_len old.name) (old.next - 1) k e.location.rva place z offset next new.name.items kind step list tells.held.1
             (item file known here) (here list) (rw (places.0, places.1) at stands) behind,
       ))
-      (λ end. absurd (cc)) (λ file good. rw on refl))
+      (λ end. absurd (cc)) (λ file good. rw on tt) (rw on tt))
       (rw at refl) (rw on refl) (rw (on, at) (omega (arith, left))) (rw (on, at) (omega (arith, left)))
       same (tells.passed old.next) (tells.stays e)
       (rw (reading.known, same.room.name) tells.held) tells.begins
@@ -203,10 +206,10 @@ module _ {S A : Type 0} (old new : Walk S A) (kind : StreamKind) (shape : Shape)
         },
       )))
 
-  pub answered_record_fault : (spent : ℕ) (fault : Fault) (f : ListFault) → new.stage ≡ fault_stage f → ReadsRecord spent (vec_len old.name) (Err fault) old.meter new.meter
+  pub answered_record_fault : (spent : ℕ) (fault : Fault) (f : ListFault) → new.stage ≡ fault_stage f → ReadsRecord old.window.room spent (vec_len old.name) (Err fault) old.meter new.meter
       → spent ≤ unfetched old.window → min 1 spent ≤ fills greatest_record old.window
       → IsListFaultOf (old.next - 1) (Some k) fault f
-      → ((file : List ℕ) → old.meter.source.store.content ≡ Some file → (kind ≡ Memory64 → offset ≡ range_offset file old.current.location.rva k) → (IsOfSource fault.kind → ⊥)
+      → ((file : List ℕ) → old.meter.source.store.content ≡ Some file → (kind ≡ Memory64 → offset ≡ range_offset file old.current.location.rva k) → (IsUnobtained fault.kind → ⊥)
       → item_at file (vec_len old.name) (old.next - 1) k old.current.location.rva place kind ≡ Err fault)
       → IsRecordFault old.meter.source.size (vec_len old.name) kind fault
       → Answered old (Err f) new
@@ -214,15 +217,16 @@ module _ {S A : Type 0} (old new : Walk S A) (kind : StreamKind) (shape : Shape)
       let e = old.current in
       answered_fault _ (min 1 spent) spent old new f sound reading.begun (rw at refl) (rw at (omega (arith, left))) same next
       (record {
-        told = told_in_caused e fault f old.meter.source new.meter.source reads.caused told.kind told.place told.of_store;
+        told = told_in_caused e fault f old.meter.source new.meter.source reads.caused told.kind told.place told.of_all;
         number = omega (arith, told.entry, reading.begun);
         named = rw told.kind reads.at_fault;
+        over = rw (told.kind, told.place.0, told.place.1) (over-within _ _ _ _ _ _ _ (omega (arith, sound.window)) reads.over);
       })
       reads.fetches (rw told.kind (omega arith))
       reads.spends (rw at bytes) (rw at called)
       (λ file known not.
       let here = (rw at at (sound.headed file known)).1 in
-      let other : IsOfSource fault.kind → ⊥ = λ is. not (rw (sym told.kind) at is) in
+      let other : IsUnobtained fault.kind → ⊥ = λ is. not (rw (sym told.kind) at is) in
       rw (at, told.of_file other) (records-faulted file (vec_len old.name) (old.next - 1) e.location.rva kind shape k left fault (rw stands at (item file known here other))))
       (λ file good. not_of_source f.kind (ap source_of told.kind ∙ reads.caused.caused.good file good))
       (following.goes_on (rw at (

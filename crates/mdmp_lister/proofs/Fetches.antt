@@ -10,7 +10,7 @@ use Rattle.mdmp_lister.specs.declared.fault.Fault.{Fault}
 use Rattle.mdmp_lister.specs.declared.fault.FaultKind.{FaultKind}
 use Rattle.mdmp_lister.specs.declared.fault.FaultKind.TheVariants as kinds
 use Rattle.mdmp_lister.specs.declared.fault.ListFault.{ListFault}
-use Rattle.mdmp_lister.specs.Fault.{IsCaused, IsCausedAt, IsOfSource, NamesStorePlace, IsPlacedAt, IsSteady, IsToldByFetch, IsToldIn, TellsNoChange, source_of_answer, source_of}
+use Rattle.mdmp_lister.specs.Fault.{IsCaused, IsCausedAt, IsUnobtained, NamesPlace, IsPlacedAt, IsSteady, IsToldByFetch, IsToldIn, TellsNoChange, source_of_answer, source_of, IsOfStore}
 use Rattle.mdmp_source.specs.declared.fault.SourceFault.TheVariants.{Failed, ShortRead, Changed}
 use Rattle.mdmp_lister.specs.declared.fault.OpenFault.{OpenFault}
 use Rattle.mdmp_lister.specs.declared.fault.OpenFault.TheVariants.{Source}
@@ -76,14 +76,14 @@ IsCausedAt_later result n a b c f before caused = record { caused = IsCaused_lat
 -- ---- faults that are told
 
 -- fetches that end with another fault have none of the store
-pub IsCaused_other : {T : Type 0} (fault : Fault) (old new : SourceState) → IsCausedAt {T = T} (Err fault) old new → (IsOfSource fault.kind → ⊥) → IsCaused None old new
+pub IsCaused_other : {T : Type 0} (fault : Fault) (old new : SourceState) → IsCausedAt {T = T} (Err fault) old new → (IsUnobtained fault.kind → ⊥) → IsCaused None old new
 IsCaused_other fault old new caused other = subst (λ f. IsCaused f old new) (of_none fault.kind other) caused.caused where
-  of_none : (kind : FaultKind) → (IsOfSource kind → ⊥) → source_of kind ≡ None
+  of_none : (kind : FaultKind) → (IsUnobtained kind → ⊥) → source_of kind ≡ None
   of_none (kinds.Source f) not = absurd (not tt)
   of_none _ not = refl
 
 -- over a good store there is no fault of it
-pub not_of_source : (kind : FaultKind) → source_of kind ≡ None → IsOfSource kind → ⊥
+pub not_of_source : (kind : FaultKind) → source_of kind ≡ None → IsOfStore kind → ⊥
 not_of_source (kinds.Source fault) none of = absurd (cc)
 not_of_source _ none of = of
 
@@ -110,16 +110,17 @@ told_by_caused e (kinds.Source (Failed at)) old new caused = caused.told
 told_by_caused e (kinds.Source (ShortRead at)) old new caused = caused.told
 told_by_caused e _ old new caused = tt
 
-placed_in : (kind : FaultKind) (f : ListFault) (offset size : ℕ) → IsPlacedAt kind offset size → f.offset ≡ offset → f.size ≡ size → (IsOfSource kind → f.index ≡ None) → NamesStorePlace kind f
+placed_in : (kind : FaultKind) (f : ListFault) (offset size : ℕ) → IsPlacedAt kind offset size → f.offset ≡ offset → f.size ≡ size → (IsUnobtained kind → f.index ≡ None) → NamesPlace kind f
 placed_in (kinds.Source fault) f offset size placed at len none = (at ∙ placed.0, (len ∙ placed.1, none tt))
+placed_in kinds.Budget f offset size placed at len none = none tt
 placed_in _ f offset size placed at len none = tt
 
 -- the fault of an answer, as a listing tells it
 pub told_in_caused : {T : Type 0} (e : Entry) (fault : Fault) (f : ListFault) (old new : SourceState) → IsCausedAt {T = T} (Err fault) old new → f.kind ≡ fault.kind → (f.offset ≡ fault.offset) × (f.size ≡ fault.size)
-    → (IsOfSource fault.kind → f.index ≡ None) → IsToldIn e f old new
+    → (IsUnobtained fault.kind → f.index ≡ None) → IsToldIn e f old new
 told_in_caused e fault f old new caused kind place none = record {
   by = subst (λ k. IsToldByFetch e k old new) (sym kind) (told_by_caused e fault.kind old new caused.caused);
-  placed = subst (λ k. NamesStorePlace k f) (sym kind) (placed_in fault.kind f fault.offset fault.size caused.placed place.0 place.1 none);
+  placed = subst (λ k. NamesPlace k f) (sym kind) (placed_in fault.kind f fault.offset fault.size caused.placed place.0 place.1 none);
 }
 
 -- which a fault that has its cause does not

@@ -67,6 +67,7 @@ same_lister-then a b c first then = record {
   limit = then.limit ∙ first.limit;
   aside = then.aside ∙ first.aside;
   start = then.start ∙ first.start;
+  budget = then.budget ∙ first.budget;
 }
 
 -- a count that is not at its greatest rose by just so much

@@ -8,7 +8,7 @@ use Rattle.mdmp_source.specs.Source.{FetchesAtMost}
 use Rattle.mdmp_source.specs.SourceLaws.{fetches_then}
 use Rattle.mdmp_map.specs.Map.{MapState, free_of}
 use Rattle.mdmp_lister.specs.declared.fault.FaultKind.{FaultKind}
-use Rattle.mdmp_lister.specs.declared.fault.FaultKind.TheVariants.{Source}
+use Rattle.mdmp_lister.specs.declared.fault.FaultKind.TheVariants.{Source, Budget}
 use Rattle.mdmp_lister.specs.declared.fault.ListFault.{ListFault}
 use Rattle.mdmp_lister.specs.declared.item.Item.{Item}
 use Rattle.mdmp_lister.specs.declared.stage.Stage.{Stage}
@@ -20,7 +20,7 @@ use Rattle.mdmp_lister.specs.Check as spent
 use Rattle.mdmp_lister.specs.declared.choice.Choice.{Choice}
 use Rattle.mdmp_lister.specs.Costs.{IsUnreadBy, bad_name_cost, item_cost, items_cost, step_cost, stream_begun}
 use Rattle.mdmp_lister.specs.Format.Summary.{summary_of}
-use Rattle.mdmp_lister.specs.Fault.{IsOfSource}
+use Rattle.mdmp_lister.specs.Fault.{IsUnobtained}
 use Rattle.mdmp_lister.specs.Following.{Cursor, Follows, IsReadOn, headed, stays}
 use Rattle.mdmp_lister.specs.Format.Item.{plain}
 use Rattle.mdmp_lister.specs.Format.Listing.{Numbered, Run, all_joined, chosen_from, entry_listing, joined, only_fault}
@@ -58,6 +58,7 @@ moves_then m n k a b c le first then = record {
   most_names = omega (arith, le, first.most_names, then.most_names);
   same_aside = then.same_aside ∙ first.same_aside;
   same_start = then.same_start ∙ first.same_start;
+  same_budget = then.same_budget ∙ first.same_budget;
 }
 
 pub ranges_then : (xs ys : List Item) (m n o : MapState) → n ≡ record m { ranges = m.ranges ++ ranges_of xs } → o ≡ record n { ranges = n.ranges ++ ranges_of ys }
@@ -151,6 +152,7 @@ module _ {S A : Type 0} where
           most_names = omega (arith, books.same_names);
           same_aside = books.same_aside;
           same_start = books.same_start;
+          same_budget = books.same_budget;
         };
         names = omega (arith, books.same_names);
         cost = record {
@@ -191,6 +193,7 @@ module _ {S A : Type 0} where
             most_names = omega (arith, names, one, same);
             same_aside = e.counts.same_aside;
             same_start = e.counts.same_start;
+            same_budget = e.counts.same_budget;
           };
           names = omega (arith, names, one, same);
           cost =
@@ -251,8 +254,9 @@ joined_fault (x ∷ xs) None rest f begins same =
     let none : x ∷ (xs ++ rest.items) ≡ [] = ap (λ (run : Run). run.items) same in absurd (cc)
 joined_fault items (Some g) rest f begins same = same
 
-stage_by-ends : (f : ListFault) (kind : FaultKind) → (IsOfSource kind → ⊥) → ends (stage_by kind f) ≡ false
+stage_by-ends : (f : ListFault) (kind : FaultKind) → (IsUnobtained kind → ⊥) → ends (stage_by kind f) ≡ false
 stage_by-ends f (Source fault) not = absurd (not tt)
+stage_by-ends f Budget not = absurd (not tt)
 stage_by-ends f _ not = refl
 
 through-ends : (stage : Stage) → IsThrough stage → ends stage ≡ false
@@ -270,12 +274,13 @@ spent_by : (z : ℕ) (c d : Cursor) → IsReadOn z c d → IsAtEnd d.standing �
 spent_by z c d (stays same) end = spent.read (subst (λ (n : Cursor). IsAtEnd n.standing) same end)
 spent_by z c d (headed at is passed current) end = spent.empty at d.standing is end
 
-maybe_bad : (kind : FaultKind) → (IsOfSource kind → ⊥) → maybe_name kind ≡ faulty_name kind
+maybe_bad : (kind : FaultKind) → (IsUnobtained kind → ⊥) → maybe_name kind ≡ faulty_name kind
 maybe_bad (Source fault) not = absurd (not tt)
+maybe_bad Budget not = absurd (not tt)
 maybe_bad _ not = refl
 
 module _ {S A : Type 0} where
-  pub fault_left : (a b : Walk S A) (f : ListFault) (file : List ℕ) → Answered a (Err f) b → a.meter.source.store.content ≡ Some file → (IsOfSource f.kind → ⊥)
+  pub fault_left : (a b : Walk S A) (f : ListFault) (file : List ℕ) → Answered a (Err f) b → a.meter.source.store.content ≡ Some file → (IsUnobtained f.kind → ⊥)
       → current_of a file ≡ only_fault f
   fault_left a b f file e known not =
       let left = current_of a file in
@@ -318,7 +323,7 @@ module _ {S A : Type 0} (items : List Item) (a b : Walk S A) (m n : MapState) (r
         rw (sym read.same.room.choice, sym (ap (λ es. es.items) read.same.room.entries), sym read.cost.fetches.same_size, sym read.same.room.name) (met.answered.follows going)
 
     -- a fault of the file stands behind the items
-    bad_judged : (IsOfSource f.kind → ⊥) → EntryJudged a m (Ok (Some f)) c o
+    bad_judged : (IsUnobtained f.kind → ⊥) → EntryJudged a m (Ok (Some f)) c o
     bad_judged not =
         let e = met.answered in
         let named = (e.met going).named in
@@ -340,6 +345,7 @@ module _ {S A : Type 0} (items : List Item) (a b : Walk S A) (m n : MapState) (r
             most_names = omega (arith, named.1, most);
             same_aside = e.counts.same_aside;
             same_start = e.counts.same_start;
+            same_budget = e.counts.same_budget;
           });
           names = omega (arith, read.names, named.0, small, faulty_most f.kind);
           fetches = fetched;
@@ -354,7 +360,7 @@ module _ {S A : Type 0} (items : List Item) (a b : Walk S A) (m n : MapState) (r
         }
 
     -- or the store failed
-    failed_judged : IsOfSource f.kind → EntryJudged a m (Err f) c o
+    failed_judged : IsUnobtained f.kind → EntryJudged a m (Err f) c o
     failed_judged of =
         let e = met.answered in
         let told = e.met going in
@@ -372,6 +378,7 @@ module _ {S A : Type 0} (items : List Item) (a b : Walk S A) (m n : MapState) (r
             most_names = told.named.1;
             same_aside = e.counts.same_aside;
             same_start = e.counts.same_start;
+            same_budget = e.counts.same_budget;
           });
           names = omega (arith, read.names, e.counts.more_names);
           fetches = fetched;
@@ -380,7 +387,7 @@ module _ {S A : Type 0} (items : List Item) (a b : Walk S A) (m n : MapState) (r
             stage = e.stage;
             told = rw here.current (told_in_later b.current f _ a.meter.source b.meter.source c.meter.source k told.told);
             number = told.number ∙ sym here.next;
-            unreliable = λ file good. e.good file (IsGood-after _ a.meter.source b.meter.source file k good) of;
+            unreliable = λ file good. e.good file (IsGood-after _ a.meter.source b.meter.source file k good);
           };
           rests = omega (arith, read.rests, e.rests);
           may = tt;
@@ -388,6 +395,7 @@ module _ {S A : Type 0} (items : List Item) (a b : Walk S A) (m n : MapState) (r
 
     judged_at : (kind : FaultKind) → f.kind ≡ kind → EntryJudged a m (judged_by kind f) c o
     judged_at (Source fault) is = failed_judged (rw is tt)
+    judged_at Budget is = failed_judged (rw is tt)
     judged_at _ is = bad_judged (λ of. rw is at of)
 
     pub fault_judged : EntryJudged a m (judged_by f.kind f) c o

@@ -8,7 +8,7 @@ use Rattle.mdmp_lister.specs.declared.stage.Stage.{Stage}
 use Rattle.mdmp_lister.specs.declared.stage.Stage.TheVariants.{Records}
 use Rattle.mdmp_lister.specs.declared.step.Step.{Step}
 use Rattle.mdmp_lister.specs.declared.walk.Walk.{Walk}
-use Rattle.mdmp_lister.specs.Fault.{IsOfSource}
+use Rattle.mdmp_lister.specs.Fault.{IsUnobtained}
 use Rattle.mdmp_lister.specs.Format.Item.{plain}
 use Rattle.mdmp_lister.specs.Format.Listing.{Run, nothing, only_fault, with_item}
 use Rattle.mdmp_lister.specs.Lister.{AnswersNext, Gives, HasRecordsLeft, IsSameLister, NextLeaves, ListerState, tail}
@@ -19,6 +19,7 @@ use Rattle.mdmp_lister.specs.Step.{IsNameHeld, step_item}
 use Rattle.mdmp_lister.specs.Walk.{IsReading, IsSound, left_of, work_of}
 use Rattle.mdmp_lister.specs.Walk.Paying.{unread_bytes}
 use Rattle.mdmp_lister.specs.Walk.Requests.{Answered}
+use Rattle.mdmp_lister.proofs.Budgets.{fault_over}
 use Rattle.mdmp_lister.proofs.Advancing.{becomes, of_run, option_map-then, passes, same_entries, same_rooms}
 use Rattle.mdmp_lister.proofs.Classes.{classed-given, step-told}
 use Rattle.mdmp_lister.proofs.Costs.{item_cost-step, stopped-unread}
@@ -77,6 +78,7 @@ module _ {S A : Type 0} (w n : Walk S A) (room : ℕ) where
   same_list rs rest r e = record {
     aside = e.counts.same_aside;
     start = e.counts.same_start;
+    budget = e.counts.same_budget;
     header_is = e.same.header_is;
     choice = e.same.choice;
     limit = e.same.name;
@@ -113,6 +115,7 @@ module _ {S A : Type 0} (w n : Walk S A) (room : ℕ) where
         counts = e.counts;
         names = e.named;
         names_at_fault = λ _. tt;
+        refused = tt;
         unread = stopped-unread n.meter.source.size n.current n.window n.stage None e.stage;
       };
       stands = record {
@@ -148,6 +151,7 @@ module _ {S A : Type 0} (w n : Walk S A) (room : ℕ) where
             counts = e.counts;
             names = tt;
             names_at_fault = λ going. (e.met going).named;
+            refused = fault_over _ f n.meter (rw e.stage at e.sound.refused);
             unread = stopped-unread n.meter.source.size n.current n.window n.stage (Some f) stopped;
           };
           stands = record {
@@ -168,7 +172,7 @@ module _ {S A : Type 0} (w n : Walk S A) (room : ℕ) where
         }
 
     pub gives_fault : (left : Run) → (listed_by rs room w).left ≡ Some left → Gives left (Err f)
-    gives_fault = of_run (left_of w) (λ left. (IsOfSource f.kind → ⊥) → left ≡ only_fault f) w.meter.source.store.content (λ file known not. (e.listing file known not).0)
+    gives_fault = of_run (left_of w) (λ left. (IsUnobtained f.kind → ⊥) → left ≡ only_fault f) w.meter.source.store.content (λ file known not. (e.listing file known not).0)
 
   -- ---- at an item
 
@@ -189,6 +193,7 @@ module _ {S A : Type 0} (w n : Walk S A) (room : ℕ) where
             counts = e.counts;
             names = names_raised z buffer _ s x w.meter.names n.meter.names held.1 told e.named;
             names_at_fault = λ _. tt;
+            refused = tt;
             unread = rw begins e.given.begins;
           };
           stands = record {

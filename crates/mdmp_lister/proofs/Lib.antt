@@ -1,6 +1,7 @@
 pub mod AddressRows
 pub mod Advancing
 pub mod Asides
+pub mod Budgets
 pub mod Beginning
 pub mod Bodies
 pub mod Changing

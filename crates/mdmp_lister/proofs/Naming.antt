@@ -11,13 +11,13 @@ use Rattle.mdmp_lister.specs.declared.name.Name.TheVariants as names
 use Rattle.mdmp_lister.specs.declared.step.Step.{Step}
 use Rattle.mdmp_lister.specs.declared.step.Step.TheVariants as step
 use Rattle.mdmp_lister.specs.declared.fault.FaultKind.{FaultKind}
-use Rattle.mdmp_lister.specs.declared.fault.FaultKind.TheVariants.{NameLengthOutside, NameOdd, NameUnitsOutside, Source}
+use Rattle.mdmp_lister.specs.declared.fault.FaultKind.TheVariants.{NameLengthOutside, NameOdd, NameUnitsOutside, Source, Budget}
 use Rattle.mdmp_lister.specs.Meter.{MeterState}
 use Rattle.mdmp_lister.specs.Format.Numbers.{faulty_name, named_once, names_of}
 use Rattle.mdmp_lister.specs.Format.Item.{plain}
 use Rattle.mdmp_lister.specs.Format.Name.{plain_name}
 use Rattle.mdmp_lister.specs.Walk.Reaching.{ReachesAtFault, read_once, told_once}
-use Rattle.mdmp_lister.specs.Fault.{IsOfSource}
+use Rattle.mdmp_lister.specs.Fault.{IsUnobtained}
 use Rattle.mdmp_lister.specs.Step.{name_read, IsStepOf, step_item}
 use Rattle.mdmp_lister.specs.Format.Summary.{Summary, summary_of}
 use Rattle.mdmp_lister.proofs.Summary.{summary_of-plain, summary_of-read}
@@ -61,8 +61,9 @@ pub names_given : (z : ℕ) (buffer : List ℕ) (kind : Option StreamKind) (s : 
 names_given z buffer kind s x old new of same small rose = rw (names_of-step z buffer kind s x of same) (omega (arith, small, rose, told_most s))
 
 -- a fault of the store may stand in the place of a name
-pub source_reached : (kind : FaultKind) (old new : MeterState) → IsOfSource kind → old.names ≤ new.names → new.names ≤ old.names + 1 → ReachesAtFault kind old new
+pub source_reached : (kind : FaultKind) (old new : MeterState) → IsUnobtained kind → old.names ≤ new.names → new.names ≤ old.names + 1 → ReachesAtFault kind old new
 source_reached (Source f) old new of more most = (omega (arith, more), most)
+source_reached Budget old new of more most = (omega (arith, more), most)
 source_reached _ old new of more most = absurd of
 
 pub faulty_most : (kind : FaultKind) → faulty_name kind ≤ 1

@@ -7,6 +7,7 @@ use Rattle.mdmp_lister.specs.declared.choice.Choice.{Choice}
 use Rattle.mdmp_lister.specs.declared.walk.Walk.{Walk}
 use Rattle.mdmp_map.specs.declared.range.Range.{Range}
 use Rattle.mdmp_lister.specs.Counts.{AreHeld, AreOfFile, AreSpent}
+use Rattle.mdmp_lister.specs.Meter.{IsMetered}
 use Rattle.mdmp_lister.specs.Meter.{IsBooked, counts_of}
 use Rattle.mdmp_lister.specs.Walk.Telling.{numbers_of_walk}
 use Rattle.mdmp_lister.specs.Format.Bounds.{call_bound, fetch_bound}
@@ -55,8 +56,8 @@ costs_listed F choice z es size dir = ap sum (sizes_listed F choice z es size di
 -- ---- the bound
 
 module _ {S A : Type 0} (w : Walk S A) (sound : IsSound w) (bounded : IsBounded w) where
-  pub fetched_most : w.meter.fetched ≤ fetch_bound (vec_len w.name) (length w.entries.items) (cost_of w.choice w.meter.source.size w.entries.items) w.meter.names
-  fetched_most =
+  pub asked_most : w.meter.asked ≤ fetch_bound (vec_len w.name) (length w.entries.items) (cost_of w.choice w.meter.source.size w.entries.items) w.meter.names
+  asked_most =
       let ok = w.entries.ok.0 in
       omega (arith, ok, paid_bound _ w bounded, heads_few w.choice w.meter.source.size w.entries.items)
 
@@ -67,12 +68,12 @@ module _ {S A : Type 0} (w : Walk S A) (sound : IsSound w) (bounded : IsBounded 
       let s : length w.entries.items ≡ vec_len w.entries = omega (arith, ok) in
       rw s (omega (arith, called_bound _ w bounded, fills_most (12 * vec_len w.entries) (w.window.room - 11)))
 
-  pub fetched_below : cost_of w.choice w.meter.source.size w.entries.items ≤ 2 ^ 32 * length w.entries.items → w.meter.fetched < 2 ^ 128 - 1
-  fetched_below small =
+  pub asked_below : cost_of w.choice w.meter.source.size w.entries.items ≤ 2 ^ 32 * length w.entries.items → w.meter.asked < 2 ^ 128 - 1
+  asked_below small =
       let ok = w.entries.ok.0 in
       let names : w.meter.names ≤ 2 ^ 66 = omega (arith, bounded.names) in
       let limit : vec_len w.name + 4 ≤ 2 ^ 33 = omega (arith, sound.small) in
-      omega (arith, ok, fetched_most, small, sound.few, mul-le-mul names limit)
+      omega (arith, ok, asked_most, small, sound.few, mul-le-mul names limit)
 
 -- ---- the numbers that are told
 
@@ -83,14 +84,16 @@ module _ {S A : Type 0} (w : Walk S A) (ranges : ℕ) where
       let dir = sound.directory file known in
       record { entries = dir.count; listed = costs_listed file w.choice w.meter.source.size w.entries.items (rw known at sound.sized) dir }
 
-  pub counts_held : (rs : List Range) → length rs ≤ ranges → IsBooked w.meter.source (counts_of w.meter) → AreHeld (listed_by rs ranges w) (numbers_of_walk ranges w)
-  counts_held rs few booked = record { held = omega (arith, few); entries = omega (arith, w.entries.ok); ranges = few; booked = booked }
+  pub counts_held : (rs : List Range) → length rs ≤ ranges → IsBooked w.meter.source (counts_of w.meter)
+      → IsMetered w.meter.budget w.meter.fetched w.meter.asked → AreHeld (listed_by rs ranges w) (numbers_of_walk ranges w)
+  counts_held rs few booked kept = record { held = omega (arith, few); entries = omega (arith, w.entries.ok); ranges = few; booked = booked; kept = kept }
 
   pub counts_spent : (rs : List Range) → IsSound w → IsBounded w → cost_of w.choice w.meter.source.size w.entries.items ≤ 2 ^ 32 * length w.entries.items
-      → AreSpent (listed_by rs ranges w) (numbers_of_walk ranges w)
-  counts_spent rs sound bounded small = record {
-    fetched = fetched_most w sound bounded;
+      → w.meter.fetched ≤ w.meter.asked → AreSpent (listed_by rs ranges w) (numbers_of_walk ranges w)
+  counts_spent rs sound bounded small kept = record {
+    fetched = omega (arith, asked_most w sound bounded, kept);
+    asked = asked_most w sound bounded;
     calls = called_most w sound bounded;
-    below = fetched_below w sound bounded small;
+    below = asked_below w sound bounded small;
     sizes = λ file known. sizes_listed file w.choice w.meter.source.size w.entries.items (rw known at sound.sized) (sound.directory file known);
   }

@@ -4,7 +4,7 @@ use Rattle.std.proofs.lemmas.Grind.{common_steps}
 use Rattle.std.proofs.Math.Nat.{mul-le-mul_left}
 use Rattle.mdmp_source.specs.Range.{IsInside}
 use Rattle.mdmp_source.specs.Source.{SourceState}
-use Rattle.mdmp_source.specs.declared.fault.SourceFault.{SourceFault}
+use Rattle.mdmp_lister.specs.declared.fault.FetchFault.{FetchFault}
 use Rattle.mdmp_lister.specs.declared.limits.Limits.{Limits}
 use Rattle.mdmp_source.specs.Window.{WindowState}
 use Rattle.mdmp_wire.specs.declared.entry.Entry.{Entry}
@@ -76,7 +76,7 @@ module _ {S A : Type 0} (allowed : Amount) (before calls spent : ℕ) (old new :
       → stage_work new.stage ≤ stage_work old.stage
       → IsPaid allowed before new
   paid_headed paid books same size owed called falls = record {
-    bytes = rw (same.room.choice, same.room.entries, same.room.name, same.next, same.current, size, books.same_names) (omega (arith, paid.bytes, books.fetched, owed));
+    bytes = rw (same.room.choice, same.room.entries, same.room.name, same.next, same.current, size, books.same_names) (omega (arith, paid.bytes, books.asked, owed));
     calls = rw (same.next, same.current, size, books.same_names) (omega (arith, paid.calls, books.most_calls, called, later same));
     names = rw (same.room.entries, same.next, books.same_names) (omega (arith, paid.names, falls));
   }
@@ -85,7 +85,7 @@ module _ {S A : Type 0} (allowed : Amount) (before calls spent : ℕ) (old new :
 
 module _ {S A : Type 0} (calls spent begun : ℕ) (old new : Walk S A) where
   pub within_named : vec_len new.name ≡ vec_len old.name → Spends calls spent (vec_len old.name) old.meter new.meter → unread_bytes new + spent ≤ unread_bytes old + begun
-      → IsWithinSince old.meter.fetched old.meter.names (unread_bytes old + begun) new
+      → IsWithinSince old.meter.asked old.meter.names (unread_bytes old + begun) new
   within_named room spends owes = λ few.
       let pays = spends.paid (omega (arith, few, spends.more_names)) in
       rw room (omega (arith, pays, owes))
@@ -112,7 +112,7 @@ entry_cost-listed f size e kind known (inr within) = grind (arith, common_steps,
 module _ {S A : Type 0} (allowed : Amount) (w : Walk S A) where
   -- a walk that has given nothing
   pub paid_new : w.stage ≡ Between → w.meter.names ≡ 0 → vec_len w.entries < 2 ^ 32
-      → w.meter.fetched + cost_of w.choice w.meter.source.size (drop w.next w.entries.items) ≤ allowed.bytes
+      → w.meter.asked + cost_of w.choice w.meter.source.size (drop w.next w.entries.items) ≤ allowed.bytes
       → w.meter.calls + calls_of w.window.room w.choice w.meter.source.size (drop w.next w.entries.items) ≤ allowed.calls → IsPaid allowed 0 w
   paid_new between none few fetched called = record {
     bytes = rw (between, none) (omega (arith, fetched));
@@ -121,7 +121,7 @@ module _ {S A : Type 0} (allowed : Amount) (w : Walk S A) where
   }
 
   -- what any walk has fetched, and its calls
-  pub paid_bound : IsPaid allowed 0 w → w.meter.fetched ≤ allowed.bytes + w.meter.names * (vec_len w.name + 4)
+  pub paid_bound : IsPaid allowed 0 w → w.meter.asked ≤ allowed.bytes + w.meter.names * (vec_len w.name + 4)
   paid_bound paid = omega (arith, paid.bytes)
 
   pub called_bound : IsPaid allowed 0 w → w.meter.calls ≤ allowed.calls + w.meter.names * 2
@@ -137,10 +137,10 @@ module _ {S A : Type 0} (old new : Walk S A) where
       let was : allowed_of new ≡ allowed_of old = rw (same.entries, same.choice, same.window, size) refl in
       subst (λ allowed. IsPaid allowed 0 new) (sym was) (pays _ 0 bounded)
 
-  pub bounded_new : (source : SourceState) (choice : Choice) (limits : Limits) (result : Result ℕ SourceFault) → IsNewWalk source choice limits old → CountsRanges old result new → IsBounded new
+  pub bounded_new : (source : SourceState) (choice : Choice) (limits : Limits) (result : Result ℕ FetchFault) → IsNewWalk source choice limits old → CountsRanges old result new → IsBounded new
   bounded_new source choice limits result opened counts =
       let same = counts.same in
       let books = counts.books in
       paid_new _ new (counts.stage ∙ opened.stage) (books.same_names ∙ opened.spends.names) counts.sound.few
-      (rw (same.next, opened.next, same.room.entries, same.room.choice, books.fetches.same_size) (omega (arith, books.fetched, opened.spends.fetched, opened.reads.entries)))
+      (rw (same.next, opened.next, same.room.entries, same.room.choice, books.fetches.same_size) (omega (arith, books.asked, opened.spends.asked, opened.reads.entries)))
       (rw (same.next, opened.next, same.room.entries, same.room.choice, same.room.window, opened.reads.entries, books.fetches.same_size) (omega (arith, books.most_calls, opened.spends.called, opened.reads.entries)))

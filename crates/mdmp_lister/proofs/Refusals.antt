@@ -8,7 +8,6 @@ use Rattle.mdmp_source.specs.Source.{SourceState, FetchesAtMost}
 use Rattle.mdmp_source.specs.SourceLaws.{fetches_then}
 use Rattle.mdmp_wire.specs.declared.entry.Entry.{Entry}
 use Rattle.mdmp_wire.specs.declared.header.Header.{Header}
-use Rattle.mdmp_source.specs.declared.fault.SourceFault.{SourceFault}
 use Rattle.mdmp_wire.specs.declared.header_fault.HeaderFault.{HeaderFault}
 use Rattle.mdmp_wire.specs.declared.header_fault.HeaderFault.TheVariants as header
 use Rattle.mdmp_wire.specs.Header.{header_at, header_at-part}
@@ -17,12 +16,14 @@ use Rattle.mdmp_lister.specs.declared.choice.Choice.{Choice}
 use Rattle.mdmp_lister.specs.Format.Directory.{AreFirst}
 use Rattle.mdmp_lister.specs.StreamHead.{heads_ahead}
 use Rattle.mdmp_lister.specs.declared.fault.OpenFault.{OpenFault}
-use Rattle.mdmp_lister.specs.declared.fault.OpenFault.TheVariants.{TooShort, DirectoryOutside, TooManyRanges, Source, Memory}
-use Rattle.mdmp_lister.specs.Meter.{Books, MeterState}
+use Rattle.mdmp_lister.specs.declared.fault.OpenFault.TheVariants.{TooShort, DirectoryOutside, TooManyRanges, Source, Memory, Budget}
+use Rattle.mdmp_lister.specs.declared.fault.FetchFault.{FetchFault}
+use Rattle.mdmp_lister.specs.declared.fault.FetchFault.TheVariants as fetch
+use Rattle.mdmp_lister.specs.Meter.{Books, MeterState, store_fault_of}
 use Rattle.mdmp_lister.specs.Fault.{IsCaused}
 use Rattle.mdmp_lister.proofs.Fetches.{FetchesAtMost-within, IsCaused_later, not_unread, unread_caused}
 use Rattle.mdmp_lister.proofs.Heads.{heads_few}
-use Rattle.mdmp_lister.specs.Opening.{Finds, FitsHeader, IsBareRefusal, IsDirectoryRefusal, IsHandedBack, IsHandedBackBare, IsOfHead, IsOpenRefusal, IsRefused, unread_fault, unread_of}
+use Rattle.mdmp_lister.specs.Opening.{Finds, FitsHeader, IsBareRefusal, IsDirectoryRefusal, IsHandedBack, IsHandedBackBare, IsOfHead, IsOpenRefusal, IsRefused, unread_of, IsFromBytes, refusal_of_fetch}
 use Rattle.mdmp_lister.specs.Format.Refusal.{directory_refusal, behind_header}
 
 -- the fault of the directory that a header places in a file of `size` bytes, or none
@@ -62,11 +63,12 @@ directory_refusal-outside F bytes h size len room whole fetched good read outsid
     ∙ ap (λ b. if b then None else Some (DirectoryOutside h.stream_directory_rva (12 * h.number_of_streams))) outside
 
 -- what the first bytes of a file in memory are refused with, it is
-refused_head : (F : List ℕ) (fault : OpenFault) → Finds F (Err fault) → unread_of fault ≡ None → directory_refusal F ≡ Some fault
-refused_head F (Source fault) finds read = absurd (let some = read in cc)
+refused_head : (F : List ℕ) (fault : OpenFault) → Finds F (Err fault) → IsFromBytes {T = Header} (Err fault) → directory_refusal F ≡ Some fault
+refused_head F (Source fault) finds read = absurd read
+refused_head F (Budget offset size) finds read = absurd read
 refused_head F _ finds read = finds
 
-pub refused_found : (F : List ℕ) (result : Result Header OpenFault) → Finds F result → unread_fault result ≡ None
+pub refused_found : (F : List ℕ) (result : Result Header OpenFault) → Finds F result → IsFromBytes result
     → MatchResult result (λ header. (directory_refusal F ≡ None) × (header ≡ header_at F 0)) (λ fault. directory_refusal F ≡ Some fault)
 refused_found F (Ok header) finds read = finds
 refused_found F (Err fault) finds read = refused_head F fault finds read
@@ -185,29 +187,43 @@ module _ (old new : MeterState) where
     good = λ file good unread. unread;
   }
 
--- by a fault of the store, in its directory
-pub IsRefused-directory : (old mid new : MeterState) (h : Header) (fault : SourceFault) → FitsHeader old.source (Ok h) mid.source
-    → ((file : List ℕ) → old.source.store.content ≡ Some file → Finds file (Ok h)) → Books 1 32 old mid → IsCaused None old.source mid.source
-    → Books h.number_of_streams (12 * h.number_of_streams) mid new → IsCaused (Some fault) mid.source new.source → IsRefused old.source (Source fault) new.source
-IsRefused-directory old mid new h fault reads finds header none books caused =
-    let long = header-long h old.source mid.source reads in
-    let all = IsCaused_later (Some fault) 32 old.source mid.source new.source header.fetches none caused in
-    record {
-      handed_back = record {
-        asked = h.number_of_streams;
-        fetches = FetchesAtMost-within (32 + 12 * h.number_of_streams) (32 + 12 * h.number_of_streams) old.source new.source (omega arith)
-            (fetches_then 32 (12 * h.number_of_streams) old.source mid.source new.source header.fetches books.fetches);
-        calls = omega (arith, header.source_calls, books.source_calls);
-        known = λ file known. let same = ap (λ (x : Header). x.number_of_streams) (finds file known).1 in omega (arith, same);
-        inside = directory_room h.stream_directory_rva h.number_of_streams old.source.size reads.inside;
-        begun = λ some file known. (finds file known).0;
-        early = λ of. absurd of;
-        short = λ size same. cc;
-      };
-      opens = λ file known. tt;
-      refusal = long;
-      short = λ less. absurd (omega (arith, less, long));
-      memory = λ same. cc;
-      cause = unread_caused (Source fault) old.source new.source all;
-      good = λ file good. not_unread (Source fault) (all.good file good);
-    }
+-- bytes that were not obtained are no fault of a header
+pub not_of_head : (fault : FetchFault) → IsOfHead (refusal_of_fetch fault) → ⊥
+not_of_head (fetch.Source fault) of = of
+not_of_head (fetch.Budget offset size) of = of
+
+-- in its directory
+module _ (old mid new : MeterState) (h : Header) where
+  directory_refused : (fault : OpenFault) → (IsOfHead fault → ⊥) → (fault ≡ Memory → ⊥) → ((file : List ℕ) → IsDirectoryRefusal file fault) → (32 ≤ old.source.size → IsBareRefusal old.source.size fault)
+      → FitsHeader old.source (Ok h) mid.source → ((file : List ℕ) → old.source.store.content ≡ Some file → Finds file (Ok h)) → Books 1 32 old mid
+      → IsCaused None old.source mid.source → Books h.number_of_streams (12 * h.number_of_streams) mid new → IsCaused (unread_of fault) mid.source new.source
+      → IsRefused old.source fault new.source
+  directory_refused fault late room opens refusal reads finds header none books caused =
+      let long = header-long h old.source mid.source reads in
+      let all = IsCaused_later (unread_of fault) 32 old.source mid.source new.source header.fetches none caused in
+      record {
+        handed_back = record {
+          asked = h.number_of_streams;
+          fetches = FetchesAtMost-within (32 + 12 * h.number_of_streams) (32 + 12 * h.number_of_streams) old.source new.source (omega arith)
+              (fetches_then 32 (12 * h.number_of_streams) old.source mid.source new.source header.fetches books.fetches);
+          calls = omega (arith, header.source_calls, books.source_calls);
+          known = λ file known. let same = ap (λ (x : Header). x.number_of_streams) (finds file known).1 in omega (arith, same);
+          inside = directory_room h.stream_directory_rva h.number_of_streams old.source.size reads.inside;
+          begun = λ some file known. (finds file known).0;
+          early = λ of. absurd (late of);
+          short = λ size same. absurd (late (subst IsOfHead (sym same) tt));
+        };
+        opens = λ file known. opens file;
+        refusal = refusal long;
+        short = λ less. absurd (omega (arith, less, long));
+        memory = λ same. absurd (room same);
+        cause = unread_caused fault old.source new.source all;
+        good = λ file good. not_unread fault (all.good file good);
+      }
+
+  -- some bytes were not obtained
+  pub IsRefused-directory : (fault : FetchFault) → FitsHeader old.source (Ok h) mid.source → ((file : List ℕ) → old.source.store.content ≡ Some file → Finds file (Ok h))
+      → Books 1 32 old mid → IsCaused None old.source mid.source → Books h.number_of_streams (12 * h.number_of_streams) mid new
+      → IsCaused (store_fault_of {T = Unit {0}} (Err fault)) mid.source new.source → IsRefused old.source (refusal_of_fetch fault) new.source
+  IsRefused-directory (fetch.Source fault) = directory_refused (Source fault) (λ of. of) (λ same. cc) (λ file. tt) (λ long. long)
+  IsRefused-directory (fetch.Budget offset size) = directory_refused (Budget offset size) (λ of. of) (λ same. cc) (λ file. tt) (λ long. long)

@@ -5,7 +5,7 @@ use Rattle.mdmp_source.specs.SourceLaws.{fetches_then}
 use Rattle.mdmp_source.specs.Store.{IsGood}
 use Rattle.mdmp_wire.specs.declared.entry.Entry.{Entry}
 use Rattle.mdmp_lister.specs.declared.fault.FaultKind.{FaultKind}
-use Rattle.mdmp_lister.specs.declared.fault.FaultKind.TheVariants.{Source}
+use Rattle.mdmp_lister.specs.declared.fault.FaultKind.TheVariants.{Source, Budget}
 use Rattle.mdmp_lister.specs.declared.fault.ListFault.{ListFault}
 use Rattle.mdmp_lister.specs.declared.item.StreamItem.{StreamItem}
 use Rattle.mdmp_lister.specs.declared.stage.Stage.{Stage}
@@ -17,14 +17,14 @@ use Rattle.mdmp_lister.specs.Format.Listing.{Run, joined, nothing, only_fault, w
 use Rattle.mdmp_lister.specs.Meter.{Books, MeterState, Moves, Spends, counts_of}
 use Rattle.mdmp_lister.specs.Walk.Paying.{calls_owed, owed_of, unread_bytes}
 use Rattle.mdmp_lister.specs.Walk.Reaching.{Reaches, given_once, told_once}
-use Rattle.mdmp_lister.specs.Fault.{IsListFaultOf, IsOfSource}
+use Rattle.mdmp_lister.specs.Fault.{IsListFaultOf, IsOfStore, IsUnobtained}
 use Rattle.mdmp_lister.specs.Following.{Cursor, Follows, GivesNextEntry, GivesNextRecord, GoesOn, IsBegun, MeetsFault, Standing}
 use Rattle.mdmp_lister.specs.Following as following
 use Rattle.mdmp_lister.specs.declared.choice.Choice.{Choice}
 use Rattle.mdmp_lister.specs.declared.fault.Fault.{Fault}
 use Rattle.mdmp_lister.specs.Walk.Requests.{Answered, HeadCounted, FaultMet, HeadRead, RecordsCounted, StepGiven}
 use Rattle.mdmp_lister.specs.Format.Kind.{kind_of}
-use Rattle.mdmp_lister.specs.Stage.{IsStageAfter, failure_of, fault_stage, records_left_in, stage_by, standing_of, stop_of}
+use Rattle.mdmp_lister.specs.Stage.{IsNoStoreFault, IsStageAfter, fault_stage, records_left_in, stage_by, standing_of, stop_of}
 use Rattle.mdmp_lister.specs.Step.{CurrentAfter, IsStepHeld, TakesRecord, current_by, passed_by, step_item, stream_told}
 use Rattle.mdmp_lister.specs.Walk.{Advances, IsListing, IsSound, IsThrough, PassesTo, SameEntry, SameRoom, current_of, cursor_of, left_of, left_of_entry, rest_of, stage_work, work_of}
 use Rattle.mdmp_lister.proofs.Bodies.{joined-with_item}
@@ -32,6 +32,7 @@ use Rattle.mdmp_lister.proofs.Cursors.{follows_read}
 use Rattle.mdmp_lister.proofs.Costs.{stopped-unread, unread-within}
 use Rattle.mdmp_lister.proofs.Ending.{left_of-ended, left_of-fault}
 use Rattle.mdmp_lister.proofs.Fetches.{FetchesAtMost-none, FetchesAtMost-within, told_in_later}
+use Rattle.mdmp_lister.proofs.Budgets.{fault_stage-over}
 use Rattle.mdmp_lister.proofs.Paying.{fault_stage-calls, fault_stage-owed, fault_stage-work, paid_named, within_named}
 use Rattle.mdmp_lister.proofs.Soundness.{IsGood-after, IsSound-after, fault_stage-going, fault_stage-headed, fault_stage-staged, fault_stage-unfailed, fault_stage-windowed}
 
@@ -49,17 +50,19 @@ stage_by-standing : (f : ListFault) (kind : FaultKind) → standing_of (stage_by
 stage_by-standing f (Source fault) = refl
 stage_by-standing f _ = refl
 
-stage_by-bad : (f : ListFault) (kind : FaultKind) → (IsOfSource kind → ⊥) → Bad f ≡ stage_by kind f
+stage_by-bad : (f : ListFault) (kind : FaultKind) → (IsUnobtained kind → ⊥) → Bad f ≡ stage_by kind f
 stage_by-bad f (Source fault) not = absurd (not tt)
+stage_by-bad f Budget not = absurd (not tt)
 stage_by-bad f _ not = refl
 
-stage_by-failed : (f : ListFault) (kind : FaultKind) → IsOfSource kind → Failed f ≡ stage_by kind f
+stage_by-failed : (f : ListFault) (kind : FaultKind) → IsUnobtained kind → Failed f ≡ stage_by kind f
 stage_by-failed f (Source fault) of = refl
+stage_by-failed f Budget of = refl
 stage_by-failed f _ of = absurd of
 
-stage_by-good : (f : ListFault) (kind : FaultKind) → failure_of (stage_by kind f) ≡ None → IsOfSource kind → ⊥
-stage_by-good f (Source fault) none of = absurd (cc)
-stage_by-good f _ none of = of
+stage_by-good : (f : ListFault) (kind : FaultKind) → f.kind ≡ kind → IsNoStoreFault (stage_by kind f) → IsOfStore kind → ⊥
+stage_by-good f (Source fault) same none of = none (subst IsOfStore (sym same) of)
+stage_by-good f _ same none of = of
 
 pub listing-going : (stage : Stage) → IsListing stage → stop_of stage ≡ None
 listing-going Between listing = refl
@@ -112,12 +115,13 @@ Moves-spent calls n limit old new spends = record {
   most_names = spends.one_name;
   same_aside = spends.same_aside;
   same_start = spends.same_start;
+  same_budget = spends.same_budget;
 }
 
 -- a head has no name
 pub Spends-booked : (calls n limit : ℕ) (old new : MeterState) → Books calls n old new → Spends calls n limit old new
 Spends-booked calls n limit old new books = record {
-  paid = λ small. rw books.same_names (omega (arith, books.fetched));
+  paid = λ small. rw books.same_names (omega (arith, books.asked));
   paid_calls = λ small. rw books.same_names (omega (arith, books.most_calls));
   more = books.more;
   more_calls = books.more_calls;
@@ -125,6 +129,7 @@ Spends-booked calls n limit old new books = record {
   one_name = rw books.same_names (omega arith);
   same_aside = books.same_aside;
   same_start = books.same_start;
+  same_budget = books.same_budget;
 }
 
 module _ {S A : Type 0} (n calls spent : ℕ) (old new : Walk S A) (f : ListFault) where
@@ -134,8 +139,8 @@ module _ {S A : Type 0} (n calls spent : ℕ) (old new : Walk S A) (f : ListFaul
       → FetchesAtMost n old.meter.source new.meter.source → n ≤ spent + bad_name_cost (vec_len old.name) f.kind
       → Spends calls spent (vec_len old.name) old.meter new.meter → spent ≤ owed_of old.meter.source.size old.current old.window old.stage
       → calls ≤ calls_owed old.meter.source.size old.current old.window old.stage
-      → ((file : List ℕ) → old.meter.source.store.content ≡ Some file → (IsOfSource f.kind → ⊥) → current_of old file ≡ only_fault f)
-      → ((file : List ℕ) → IsGood old.meter.source.store file → IsOfSource f.kind → ⊥)
+      → ((file : List ℕ) → old.meter.source.store.content ≡ Some file → (IsUnobtained f.kind → ⊥) → current_of old file ≡ only_fault f)
+      → ((file : List ℕ) → IsGood old.meter.source.store file → IsOfStore f.kind → ⊥)
       → Follows old.choice old.entries.items old.meter.source.size (vec_len old.name) (cursor_of old) (Err f) (cursor_of new)
       → Answered old (Err f) new
   answered_fault sound begun going some same at met fetches within spends owed called left good follows =
@@ -146,7 +151,8 @@ module _ {S A : Type 0} (n calls spent : ℕ) (old new : Walk S A) (f : ListFaul
             (rw at (fault_stage-windowed old.meter.source.store.content old.current new.window f))
             (λ file known. rw at (fault_stage-headed file old.current f))
             (λ end. absurd (fault_stage-going f (sym at ∙ end)))
-            (λ file well. rw at (fault_stage-unfailed f (good file well)));
+            (λ file well. rw at (fault_stage-unfailed f (good file well)))
+            (rw at (fault_stage-over _ f new.meter met.over));
         same = same.room;
         listing = λ file known not. (ap (λ (run : Run). joined run (rest_of old file)) (left file known not), left_of-fault new file f at);
         given = tt;
@@ -218,7 +224,7 @@ module _ {S A : Type 0} (n calls spent : ℕ) (old new : Walk S A) (step : Step)
 -- ---- a walk that has stopped
 
 pub Moves-none : (n : ℕ) (a : MeterState) → Moves n (counts_of a) (counts_of a)
-Moves-none n a = record { more = omega arith; more_calls = omega arith; more_names = omega arith; most_names = omega arith; same_aside = refl; same_start = refl }
+Moves-none n a = record { more = omega arith; more_calls = omega arith; more_names = omega arith; most_names = omega arith; same_aside = refl; same_start = refl; same_budget = refl }
 
 module _ {S A : Type 0} (w : Walk S A) (sound : IsSound w) where
   same_room : SameRoom w w
@@ -245,7 +251,7 @@ module _ {S A : Type 0} (w : Walk S A) (sound : IsSound w) where
         named = tt;
         paid = λ allowed before paid. paid;
         repeats = λ stop same. (refl, sym stopped ∙ same);
-        good = λ file good. stage_by-good f f.kind (rw at at (sound.unfailed file good));
+        good = λ file good. stage_by-good f f.kind refl (rw at at (sound.unfailed file good));
       }
 
   pub answered_stopped : (f : ListFault) → (w.stage ≡ Bad f) ⊎ (w.stage ≡ Failed f) → Answered w (Err f) w
@@ -288,6 +294,7 @@ Moves-booked calls m n a b c first then = record {
   most_names = omega (arith, first.same_names, then.most_names);
   same_aside = then.same_aside ∙ first.same_aside;
   same_start = then.same_start ∙ first.same_start;
+  same_budget = then.same_budget ∙ first.same_budget;
 }
 
 IsUnreadBy-then : (z y a b c : ℕ) (stream : Option StreamItem) → y ≡ z → b ≤ a → IsUnreadBy y stream b c → IsUnreadBy z stream a c
@@ -331,6 +338,7 @@ module _ {S A : Type 0} (old mid new : Walk S A) (head : HeadRead old mid) where
     told = told_in_later old.current f _ old.meter.source mid.meter.source new.meter.source head.books.fetches (rw head.same.current at met.told);
     number = met.number ∙ head.same.next;
     named = (omega (arith, met.named.0, head.books.same_names), omega (arith, met.named.1, head.books.same_names));
+    over = rw (sym head.same.room.window, sym head.same.room.name) met.over;
   }
 
   named_then : (result : Result (Option Step) ListFault) → IfOk result (λ given. Reaches (given_once given) mid.meter new.meter) → IfOk result (λ given. Reaches (given_once given) old.meter new.meter)
@@ -372,7 +380,7 @@ module _ {S A : Type 0} (old mid new : Walk S A) (head : HeadRead old mid) where
         fetches = FetchesAtMost-within _ _ old.meter.source new.meter.source (omega (arith, begun, spent, within, head.owes))
             (fetches_then _ _ old.meter.source mid.meter.source new.meter.source head.books.fetches then.fetches);
         counts = Moves-booked 1 _ 1 old.meter mid.meter new.meter head.books then.counts;
-        spent = λ few. let behind = rw head.books.same_names at (then.spent few) in omega (arith, behind, begun, head.books.fetched, head.owes);
+        spent = λ few. let behind = rw head.books.same_names at (then.spent few) in omega (arith, behind, begun, head.books.asked, head.owes);
         named = named_then result then.named;
         paid = λ allowed before paid. then.paid allowed before (head.paid allowed before paid);
         repeats = λ stop stopped. let going : stop_of old.stage ≡ None = rw at refl in absurd (cc);

@@ -9,7 +9,7 @@ use Rattle.std.proofs.lemmas.List.{drop_all, drop-drop, drop-take, length-drop, 
 use Rattle.mdmp_source.specs.Range.{bytes_at}
 use Rattle.mdmp_source.specs.Source.{SourceState}
 use Rattle.mdmp_source.specs.Window.{IsFilled, WindowState, next_len_of}
-use Rattle.mdmp_source.specs.declared.fault.SourceFault.{SourceFault}
+use Rattle.mdmp_lister.specs.declared.fault.FetchFault.{FetchFault}
 use Rattle.mdmp_source.specs.declared.location.Location.{Location}
 use Rattle.mdmp_lister.specs.declared.form.Form.{Form}
 use Rattle.mdmp_lister.specs.Format.Kind.{greatest_record}
@@ -164,7 +164,7 @@ module _ {source : SourceState} {at size : ℕ} {w mid : WindowState} (ahead : I
       let falls = fills_less (unfetched mid) (mid.room + 1 - most) (next_len_of mid) (mid.room - length mid.held) (omega (arith, m.room, wide)) some refl (omega (arith, m.room, few, small, wide)) in
       omega (arith, falls, fills_moved most wide)
 
-  pub slides_held : size ≤ length mid.held → Slides {T = Unit {0}} {E = SourceFault} at size w (Ok tt) mid
+  pub slides_held : size ≤ length mid.held → Slides {T = Unit {0}} {E = FetchFault} at size w (Ok tt) mid
   slides_held enough =
       let need = needed_held enough in
       record {
@@ -175,7 +175,7 @@ module _ {source : SourceState} {at size : ℕ} {w mid : WindowState} (ahead : I
   taken_most : next_len_of mid ≤ unfetched mid
   taken_most = min-le_right (mid.room - length mid.held) (unfetched mid)
 
-  pub slides_filled : (new : WindowState) → length mid.held < size → IsFilled source.store.content mid new → Slides {T = Unit {0}} {E = SourceFault} at size w (Ok tt) new
+  pub slides_filled : (new : WindowState) → length mid.held < size → IsFilled source.store.content mid new → Slides {T = Unit {0}} {E = FetchFault} at size w (Ok tt) new
   slides_filled new few f =
       let n = next_len_of mid in
       let held_is : length (mid.held ++ f.more) ≡ length mid.held + n = length-append mid.held f.more ∙ ap (λ k. length mid.held + k) f.more_len in
@@ -186,7 +186,7 @@ module _ {source : SourceState} {at size : ℕ} {w mid : WindowState} (ahead : I
         calls = λ most small wide. rw (f.appended, held_is, left_is, need) (omega (arith, fills_fall few most small wide, min-le_left 1 n));
       }
 
-  pub slides_failed : (fault : SourceFault) (new : WindowState) → length mid.held < size → Slides {T = Unit {0}} {E = SourceFault} at size w (Err fault) new
+  pub slides_failed : (fault : FetchFault) (new : WindowState) → length mid.held < size → Slides {T = Unit {0}} {E = FetchFault} at size w (Err fault) new
   slides_failed fault new few =
       let need = needed_lacking few in
       record {
@@ -197,7 +197,7 @@ module _ {source : SourceState} {at size : ℕ} {w mid : WindowState} (ahead : I
 -- ---- a window that was started over a stream
 
 pub fills_begun : {U F : Type 0} (at : Location) (form : Form) (old mid new : WindowState) (result : Result U F) → mid ≡ started at old → greatest_record ≤ old.room
-    → Slides {T = Unit {0}} {E = SourceFault} at.rva (head_cost form) mid (Ok tt) new → left_behind result (fills greatest_record new) ≤ 1 + at.size / (old.room - 167)
+    → Slides {T = Unit {0}} {E = FetchFault} at.rva (head_cost form) mid (Ok tt) new → left_behind result (fills greatest_record new) ≤ 1 + at.size / (old.room - 167)
 fills_begun at form old mid new (Ok y) is wide slides =
     let whole : unfetched mid ≡ at.size = rw is (omega arith) in
     let step : mid.room + 1 - greatest_record ≡ old.room - 167 = rw is (omega arith) in

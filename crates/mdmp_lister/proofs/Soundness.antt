@@ -1,16 +1,16 @@
 -- A walk stays sound where its lists stay and its new stage is.
-use Rattle.std.proofs.Common.{◌≡◌, ◌<◌, ◌∙◌, ℕ, List, Option, Some, None, IsTrue, sym, subst, refl, vec_len}
+use Rattle.std.proofs.Common.{◌≡◌, ◌<◌, ◌∙◌, ℕ, List, Option, Some, IsTrue, sym, subst, refl, vec_len, max}
 use Rattle.mdmp_source.specs.Source.{SourceState, FetchesAtMost}
 use Rattle.mdmp_source.specs.Store.{IsGood}
 use Rattle.mdmp_source.specs.Window.{WindowState}
 use Rattle.mdmp_wire.specs.declared.entry.Entry.{Entry}
 use Rattle.mdmp_lister.specs.declared.fault.FaultKind.{FaultKind}
-use Rattle.mdmp_lister.specs.declared.fault.FaultKind.TheVariants.{Source}
+use Rattle.mdmp_lister.specs.declared.fault.FaultKind.TheVariants.{Source, Budget}
 use Rattle.mdmp_lister.specs.declared.fault.ListFault.{ListFault}
 use Rattle.mdmp_lister.specs.declared.stage.Stage.TheVariants.{Ended}
 use Rattle.mdmp_lister.specs.declared.walk.Walk.{Walk}
-use Rattle.mdmp_lister.specs.Fault.{IsOfSource}
-use Rattle.mdmp_lister.specs.Stage.{failure_of, fault_stage, stage_by}
+use Rattle.mdmp_lister.specs.Fault.{IsOfStore, IsUnobtained}
+use Rattle.mdmp_lister.specs.Stage.{IsNoStoreFault, IsOverAt, fault_stage, stage_by}
 use Rattle.mdmp_lister.specs.Walk.{IsSound, IsStaged, IsHeaded, IsWindowed, SameEntry}
 
 -- a store is good if it was before some fetches, and was if it is
@@ -32,9 +32,10 @@ module _ {S A : Type 0} (n : ℕ) (old new : Walk S A) where
       → IsWindowed old.meter.source.store.content old.current new.window new.stage
       → ((file : List ℕ) → old.meter.source.store.content ≡ Some file → IsHeaded file old.current new.stage)
       → (new.stage ≡ Ended → old.next ≡ vec_len old.entries)
-      → ((file : List ℕ) → IsGood old.meter.source.store file → failure_of new.stage ≡ None)
+      → ((file : List ℕ) → IsGood old.meter.source.store file → IsNoStoreFault new.stage)
+      → IsOverAt (max old.window.room (vec_len old.name)) new.stage new.meter
       → IsSound new
-  IsSound-after sound fetches same staged windowed headed ended unfailed = record {
+  IsSound-after sound fetches same staged windowed headed ended unfailed refused = record {
     sized = rw (fetches.same_content, fetches.same_size) sound.sized;
     window = rw same.room.window sound.window;
     small = rw same.room.name sound.small;
@@ -48,13 +49,15 @@ module _ {S A : Type 0} (n : ℕ) (old new : Walk S A) where
     directory = λ file known. rw same.room.entries (sound.directory file (sym fetches.same_content ∙ known));
     header_is = λ file known. same.room.header_is ∙ sound.header_is file (sym fetches.same_content ∙ known);
     unfailed = λ file good. unfailed file (IsGood-before n old.meter.source new.meter.source file fetches good);
+    refused = rw (same.room.window, same.room.name) refused;
   }
 
 -- ---- the stage behind a fault
 
 stage_by-staged : (size next : ℕ) (e : Entry) (f : ListFault) (kind : FaultKind) → 0 < next → kind ≡ f.kind → IsStaged size next e (stage_by kind f)
-stage_by-staged size next e f (Source fault) begun same = subst IsOfSource same tt
-stage_by-staged size next e f _ begun same = (begun, λ of. subst IsOfSource (sym same) of)
+stage_by-staged size next e f (Source fault) begun same = subst IsUnobtained same tt
+stage_by-staged size next e f Budget begun same = subst IsUnobtained same tt
+stage_by-staged size next e f _ begun same = (begun, λ of. subst IsUnobtained (sym same) of)
 
 pub fault_stage-staged : (size next : ℕ) (e : Entry) (f : ListFault) → 0 < next → IsStaged size next e (fault_stage f)
 fault_stage-staged size next e f begun = stage_by-staged size next e f f.kind begun refl
@@ -80,9 +83,10 @@ stage_by-going f _ end = cc
 pub fault_stage-going : (f : ListFault) → fault_stage f ≡ Ended → ⊥
 fault_stage-going f end = stage_by-going f f.kind end
 
-stage_by-unfailed : (f : ListFault) (kind : FaultKind) → (IsOfSource kind → ⊥) → failure_of (stage_by kind f) ≡ None
-stage_by-unfailed f (Source fault) not = absurd (not tt)
-stage_by-unfailed f _ not = refl
+stage_by-unfailed : (f : ListFault) (kind : FaultKind) → (IsOfStore f.kind → ⊥) → IsNoStoreFault (stage_by kind f)
+stage_by-unfailed f (Source fault) not = not
+stage_by-unfailed f Budget not = not
+stage_by-unfailed f _ not = tt
 
-pub fault_stage-unfailed : (f : ListFault) → (IsOfSource f.kind → ⊥) → failure_of (fault_stage f) ≡ None
+pub fault_stage-unfailed : (f : ListFault) → (IsOfStore f.kind → ⊥) → IsNoStoreFault (fault_stage f)
 fault_stage-unfailed f not = stage_by-unfailed f f.kind not

@@ -2,7 +2,7 @@
 use Rattle.std.proofs.Common.{◌≡◌, ℕ, Option, Result, Ok, Err, refl, subst}
 use Rattle.std.specs.Prelude.{IfErr}
 use Rattle.mdmp_lister.specs.declared.fault.FaultKind.{FaultKind}
-use Rattle.mdmp_lister.specs.declared.fault.FaultKind.TheVariants.{Source}
+use Rattle.mdmp_lister.specs.declared.fault.FaultKind.TheVariants.{Source, Budget}
 use Rattle.mdmp_lister.specs.declared.fault.ListFault.{ListFault}
 use Rattle.mdmp_lister.specs.declared.stage.Stage.{Stage}
 use Rattle.mdmp_lister.specs.Fault.{TellsNoChange}
@@ -11,6 +11,7 @@ use Rattle.mdmp_lister.specs.Walk.{IsStageCounted}
 
 stage_by-unchanged : (kind : FaultKind) (f : ListFault) → TellsNoChange f.kind → StaysUnchanged (stage_by kind f)
 stage_by-unchanged (Source fault) f told = told
+stage_by-unchanged Budget f told = told
 stage_by-unchanged _ f told = tt
 
 -- a walk that stays at such a fault

@@ -1,5 +1,5 @@
 -- Entries judged one behind the other, and how a check of them ends.
-use Rattle.std.proofs.Common.{◌≡◌, ◌≤◌, ◌<◌, ◌+◌, ◌-◌, ◌++◌, ◌∷◌, [], ◌∙◌, ℕ, List, Option, Some, None, Result, Ok, Err, IfErr, arith, ap, append_assoc, append-nil, refl, subst, sym, vec_len}
+use Rattle.std.proofs.Common.{◌≡◌, ◌≤◌, ◌<◌, ◌+◌, ◌-◌, ◌++◌, ◌∷◌, [], ◌∙◌, ℕ, List, Option, Some, None, Result, Ok, Err, IfErr, arith, ap, append_assoc, append-nil, refl, subst, sym, vec_len, max}
 use Rattle.std.proofs.lemmas.List.{length-map, map-append}
 use Rattle.std.proofs.lemmas.List.Concat.{flat_map-append}
 use Rattle.std.proofs.lemmas.List.Elements.{All-append, All-cons, All-nil}
@@ -10,8 +10,10 @@ use Rattle.mdmp_source.specs.Source.{FetchesAtMost}
 use Rattle.mdmp_source.specs.SourceLaws.{fetches_then}
 use Rattle.mdmp_source.specs.Store.{IsGood}
 use Rattle.mdmp_map.specs.Map.{MapState}
+use Rattle.mdmp_lister.proofs.Budgets.{fault_over}
 use Rattle.mdmp_lister.specs.declared.choice.Choice.{Choice}
 use Rattle.mdmp_lister.specs.declared.fault.ListFault.{ListFault}
+use Rattle.mdmp_lister.specs.Fault.{IsOfStore}
 use Rattle.mdmp_lister.specs.declared.item.Item.{Item}
 use Rattle.mdmp_lister.specs.declared.sink.RunFault.{RunFault}
 use Rattle.mdmp_lister.specs.declared.sink.RunFault.TheVariants as run
@@ -30,7 +32,7 @@ use Rattle.mdmp_lister.specs.Format.Ranges.{ranges_of}
 use Rattle.mdmp_lister.specs.Lister.{ListerState}
 use Rattle.mdmp_lister.specs.Costs.{bad_name_cost, item_cost, items_cost, stream_begun}
 use Rattle.mdmp_lister.specs.Format.Summary.{summary_of}
-use Rattle.mdmp_lister.specs.Meter.{MeterState, Moves, counts_of}
+use Rattle.mdmp_lister.specs.Meter.{MeterState, Moves, counts_of, IsUnmade}
 use Rattle.mdmp_lister.specs.Sink.{Taken, TakenToStop, names_of_all}
 use Rattle.mdmp_lister.specs.Stage.{standing_of, stop_after_run, stop_of}
 use Rattle.mdmp_lister.specs.Walk.{IsSound, IsStaged, left_of, SameRoom, current_of, cursor_of, left_of_entry, work_of}
@@ -452,7 +454,7 @@ module _ {S A K : Type 0} (sink : K → Verdict → Result (Unit {0}) Stopped �
       (first_read file (vec_len old.name) (chosen_from file old.choice old.next) checked.verdicts checked.items result (checked.of_file file known))
 
   pub good_checked : (result : Result (Unit {0}) RunFault) → EntriesChecked sink old m k result new n l → (file : List ℕ) → IsGood old.meter.source.store file
-      → IfErr result (λ r. (f : ListFault) → r ≡ run.At f → ⊥)
+      → IfErr result (λ r. (f : ListFault) → r ≡ run.At f → IsOfStore f.kind → ⊥)
   good_checked (Ok done) checked file good = tt
   good_checked (Err r) checked file good = λ f is. (checked.failed f is).unreliable file good
 
@@ -462,6 +464,18 @@ module _ {S A : Type 0} (w : Walk S A) where
   stop_checked (Ok done) at = ap stop_of at
   stop_checked (Err run.Stopped) at = ap stop_of at
   stop_checked (Err (run.At f)) at = ap stop_of at ∙ fault_stage-stop f
+
+  over_same : (f h : ListFault) → run.At h ≡ run.At f → IsUnmade (max w.window.room (vec_len w.name)) h.kind h.offset h.size (counts_of w.meter) w.meter.source.size
+      → IsUnmade (max w.window.room (vec_len w.name)) f.kind f.offset f.size (counts_of w.meter) w.meter.source.size
+  over_same f h is over =
+      let same : h ≡ f = cc in
+      subst (λ (x : ListFault). IsUnmade (max w.window.room (vec_len w.name)) x.kind x.offset x.size (counts_of w.meter) w.meter.source.size) same over
+
+  pub refused_checked : (result : Result (Unit {0}) RunFault) → IsStageChecked result w.stage → IsSound w
+      → IfErr result (λ r. (f : ListFault) → r ≡ run.At f → IsUnmade (max w.window.room (vec_len w.name)) f.kind f.offset f.size (counts_of w.meter) w.meter.source.size)
+  refused_checked (Ok done) at sound = tt
+  refused_checked (Err run.Stopped) at sound = λ f is. absurd (cc)
+  refused_checked (Err (run.At h)) at sound = λ f is. over_same f h is (fault_over _ h w.meter (rw at at sound.refused))
 
   pub standing_checked : (result : Result (Unit {0}) RunFault) → IsStageChecked result w.stage → result ≡ Err run.Stopped → standing_of w.stage ≡ following.through
   standing_checked (Ok done) at is = absurd (cc)

@@ -1,5 +1,5 @@
 -- What the calls of a walker leave.
-use Rattle.std.proofs.Common.{false, ◌≡◌, ◌≤◌, ◌<◌, ◌+◌, ◌-◌, ◌*◌, ◌^◌, ◌∙◌, ℕ, List, [], Option, None, Some, Result, Ok, Err, ap, arith, get_or, length, refl, slice_get, subst, sym, vec_len}
+use Rattle.std.proofs.Common.{false, ◌≡◌, ◌≤◌, ◌<◌, ◌+◌, ◌-◌, ◌*◌, ◌^◌, ◌∙◌, ℕ, List, [], Option, None, Some, Result, Ok, Err, ap, arith, get_or, length, refl, slice_get, subst, sym, vec_len, max}
 use Rattle.std.specs.Prelude.{IfErr, IfOk, IfSome, IsTrue}
 use Rattle.std.proofs.Math.Nat.{add-sub_cancel}
 use Rattle.std.proofs.lemmas.Option.{slice_get_read}
@@ -8,9 +8,10 @@ use Rattle.mdmp_source.specs.Source.{fault_of}
 use Rattle.mdmp_source.specs.Store.{IsGood}
 use Rattle.mdmp_source.specs.declared.fault.SourceFault.{SourceFault}
 use Rattle.mdmp_wire.specs.declared.entry.Entry.{Entry}
+use Rattle.mdmp_lister.proofs.Budgets.{fault_over}
 use Rattle.mdmp_lister.specs.declared.choice.Choice.{Choice}
 use Rattle.mdmp_lister.specs.declared.fault.FaultKind.{FaultKind}
-use Rattle.mdmp_lister.specs.declared.fault.FaultKind.TheVariants.{Source}
+use Rattle.mdmp_lister.specs.declared.fault.FaultKind.TheVariants.{Source, Budget}
 use Rattle.mdmp_lister.specs.declared.fault.ListFault.{ListFault}
 use Rattle.mdmp_lister.specs.declared.item.Item.{Item}
 use Rattle.mdmp_lister.specs.declared.item.StreamItem.{StreamItem}
@@ -22,14 +23,14 @@ use Rattle.mdmp_lister.specs.declared.stage.Stage.TheVariants as stage
 use Rattle.mdmp_lister.specs.declared.step.Step.{Step}
 use Rattle.mdmp_lister.specs.declared.walk.Walk.{Walk}
 use Rattle.mdmp_lister.specs.Costs.{IsUnreadBy, begun_at, stream_begun}
-use Rattle.mdmp_lister.specs.Fault.{IsAnsweredFor, IsCaused, IsOfSource, TellsNoChange}
+use Rattle.mdmp_lister.specs.Fault.{IsAnsweredFor, IsCaused, IsOfStore, IsUnobtained, TellsNoChange}
 use Rattle.mdmp_lister.specs.Following.{begun, records_by}
 use Rattle.mdmp_lister.specs.Format.Item.{plain}
 use Rattle.mdmp_lister.specs.Format.Kind.{HasNoNames, kind_of}
 use Rattle.mdmp_lister.specs.Format.Listing.{Run, entry_body, entry_of, joined, listing_from, listing_sought, records_told, stream_item, with_item}
 use Rattle.mdmp_lister.specs.Format.Summary.{entry_begun}
 use Rattle.mdmp_lister.specs.Lister.{AnswersNext, Gives, NextLeaves, ListerState, ReadsAside, tail}
-use Rattle.mdmp_lister.specs.Meter.{BooksAside, MeterState, counts_of}
+use Rattle.mdmp_lister.specs.Meter.{BooksAside, MeterState, counts_of, IsUnmade}
 use Rattle.mdmp_lister.specs.Stage.{IsCounted, IsUnended, StaysUnchanged, records_left_in, stage_by, standing_of, stop_after, stop_of}
 use Rattle.mdmp_lister.specs.Step.{CurrentAfter, IsNameHeld, step_item, stream_told}
 use Rattle.mdmp_lister.specs.Walk.{IsListing, IsPastHead, IsSound, IsStageCounted, IsStaged, left_of}
@@ -99,12 +100,13 @@ module _ {S A : Type 0} (w : Walk S A) (at : ℕ) (e : Entry) (sound : IsSound w
       let s = stream w at e in
       let begins = begins_as z buffer s x same in
       record {
-        same = record { aside = refl; start = refl; header_is = refl; choice = refl; limit = refl; entries = refl; rooms = refl };
+        same = record { aside = refl; start = refl; budget = refl; header_is = refl; choice = refl; limit = refl; entries = refl; rooms = refl };
         spends = record {
           fetches = FetchesAtMost-within 0 _ w.meter.source w.meter.source (omega arith) (FetchesAtMost-none w.meter.source);
           counts = Moves-none 1 w.meter;
           names = names_raised z buffer None s x w.meter.names w.meter.names tt same (omega arith);
           names_at_fault = λ _. tt;
+          refused = tt;
           unread = rw begins refl;
         };
         stands = record {
@@ -183,10 +185,15 @@ module _ {S A : Type 0} (w n : Walk S A) where
   fault_gives Begun f e = gives_fault w n 0 [] f e
   fault_gives Within f e = gives_fault w n 0 [] f e
 
-  pub fault_good : (p : Position) (f : ListFault) → AnsweredFrom p w (Err f) n → (file : List ℕ) → IsGood w.meter.source.store file → IsOfSource f.kind → ⊥
+  pub fault_good : (p : Position) (f : ListFault) → AnsweredFrom p w (Err f) n → (file : List ℕ) → IsGood w.meter.source.store file → IsOfStore f.kind → ⊥
   fault_good (Sought at) f e = let never = e.answer in absurd (cc)
   fault_good Begun f e = e.good
   fault_good Within f e = e.good
+
+  pub fault_refused : (p : Position) (f : ListFault) → AnsweredFrom p w (Err f) n → IsUnmade (max n.window.room (vec_len n.name)) f.kind f.offset f.size (counts_of n.meter) n.meter.source.size
+  fault_refused (Sought at) f e = let never = e.answer in absurd (cc)
+  fault_refused Begun f e = fault_over _ f n.meter (rw e.stage at e.sound.refused)
+  fault_refused Within f e = fault_over _ f n.meter (rw e.stage at e.sound.refused)
 
   module _ (s : Step) (x : Item) (told : plain x ≡ step_item n.meter.source.size n.name.items s) (sound : IsSound w) where
     taken_step : (at : ℕ) (e : GivesSought at w (Ok (Some s)) n) → EntryTaken at w s n
@@ -251,14 +258,14 @@ current_going (Ok (Some s)) old new none now = now ∙ ap (λ o. entry_begun o o
 current_going (Ok None) old new none now = now
 current_going (Err f) old new none now = now
 
-module _ {S A : Type 0} (w n : Walk S A) (mark : MeterCounts) (was : IsWithinSince mark.fetched mark.names (entry_cost w.meter.source.size w.current) w) where
+module _ {S A : Type 0} (w n : Walk S A) (mark : MeterCounts) (was : IsWithinSince mark.asked mark.names (entry_cost w.meter.source.size w.current) w) where
   answered_begun : (r : Result (Option Step) ListFault) → Answered w r n → stream_begun w.meter.source.size (begun_at r) ≤ unread_bytes n
   answered_begun (Ok (Some s)) e = begun-unread w.meter.source.size (unread_bytes w) (unread_bytes n) (stream_told s) e.given.begins
   answered_begun (Ok None) e = omega arith
   answered_begun (Err f) e = omega arith
 
   answered_spent : (r : Result (Option Step) ListFault) → Answered w r n → n.meter.names + 1 < 2 ^ 128
-      → n.meter.fetched + mark.names * (vec_len w.name + 4) ≤ mark.fetched + entry_cost w.meter.source.size w.current + n.meter.names * (vec_len w.name + 4)
+      → n.meter.asked + mark.names * (vec_len w.name + 4) ≤ mark.asked + entry_cost w.meter.source.size w.current + n.meter.names * (vec_len w.name + 4)
   answered_spent r e few =
       let before = was (omega (arith, few, e.counts.more_names)) in
       let now = rw e.same.name at (e.spent few) in
@@ -268,7 +275,7 @@ module _ {S A : Type 0} (w n : Walk S A) (mark : MeterCounts) (was : IsWithinSin
   sought_meter at s taken = ap (λ (m : Walk S A). m.meter) taken.is
 
   pub request_spent : (p : Position) (r : Result (Option Step) ListFault) → AnsweredFrom p w r n → n.meter.names + 1 < 2 ^ 128
-      → n.meter.fetched + mark.names * (vec_len w.name + 4) ≤ mark.fetched + entry_cost w.meter.source.size w.current + n.meter.names * (vec_len w.name + 4)
+      → n.meter.asked + mark.names * (vec_len w.name + 4) ≤ mark.asked + entry_cost w.meter.source.size w.current + n.meter.names * (vec_len w.name + 4)
   request_spent (Sought at) r e few =
       let same = sought_meter at e.step e.taken in
       let before = was (rw same at few) in
@@ -276,7 +283,7 @@ module _ {S A : Type 0} (w n : Walk S A) (mark : MeterCounts) (was : IsWithinSin
   request_spent Begun r e few = answered_spent r e few
   request_spent Within r e few = answered_spent r e few
 
-  within_going : (r : Result (Option Step) ListFault) → Answered w r n → begun_at r ≡ None → IsWithinSince mark.fetched mark.names (entry_cost n.meter.source.size n.current) n
+  within_going : (r : Result (Option Step) ListFault) → Answered w r n → begun_at r ≡ None → IsWithinSince mark.asked mark.names (entry_cost n.meter.source.size n.current) n
   within_going r e none few =
       let before = was (omega (arith, few, e.counts.more_names)) in
       let spent = rw e.same.name at (e.spent few) in
@@ -328,8 +335,9 @@ module _ {S A : Type 0} (w n : Walk S A) (mark : MeterCounts) (was : IsWithinSin
 
 -- ---- records that are counted
 
-stage_by-answer : (count : Result ℕ ListFault) (f : ListFault) (kind : FaultKind) → IsCounted count (stage_by kind f) → (IsOfSource kind → ⊥) → count ≡ Err f
+stage_by-answer : (count : Result ℕ ListFault) (f : ListFault) (kind : FaultKind) → IsCounted count (stage_by kind f) → (IsUnobtained kind → ⊥) → count ≡ Err f
 stage_by-answer count f (Source fault) counted not = absurd (not tt)
+stage_by-answer count f Budget counted not = absurd (not tt)
 stage_by-answer count f _ counted not = counted
 
 counted_at : (wanted : Result ℕ ListFault) (count : ℕ) (at : Stage) → (records_left_in at ≡ count) × IsListing at → IsCounted wanted at → wanted ≡ Ok count
@@ -376,17 +384,23 @@ module _ {S A : Type 0} (w n : Walk S A) (mark : MeterCounts) (walked : IsWalked
   stop_counts (Ok count) is = let at = rw is at e.stage in listing-going n.stage at.1
   stop_counts (Err f) is = rw (rw is at e.stage) (fault_stage-stop f)
 
+  refused_counts : (r : Result ℕ ListFault) → IsStageCounted r n.stage → IfErr r (λ f. IsUnmade (max n.window.room (vec_len n.name)) f.kind f.offset f.size (counts_of n.meter) n.meter.source.size)
+  refused_counts (Ok count) at = tt
+  refused_counts (Err f) at = fault_over _ f n.meter (rw at at e.sound.refused)
+
   pub records_counted : CountsRecords (record { list = listed_by [] 0 w; position = Begun; mark = mark }) r (record { list = listed_by [] 0 n; position = Begun; mark = mark })
   records_counted = record {
     same = record {
       aside = e.books.same_aside;
       start = e.books.same_start;
+      budget = e.books.same_budget;
       header_is = e.same.room.header_is;
       choice = e.same.room.choice;
       limit = e.same.room.name;
       entries = same_entries w n e.same.room;
       rooms = same_rooms w n 0 e.same.room;
     };
+    refused = refused_counts r e.stage;
     passed = e.same.next;
     current = e.same.current;
     left = option_map-then (left_of w) (left_of n) (left_counted r) w.meter.source.store.content (left_counts r refl) n.meter.source.store.content e.books.fetches.same_content;
@@ -402,10 +416,11 @@ module _ {S A : Type 0} (w n : Walk S A) (mark : MeterCounts) (walked : IsWalked
       most_names = omega (arith, e.books.same_names);
       same_aside = e.books.same_aside;
       same_start = e.books.same_start;
+      same_budget = e.books.same_budget;
     };
     spent = λ few.
         let before = walked.within (rw e.books.same_names at few) in
-        rw e.books.same_names (omega (arith, before, e.books.fetched, e.owes));
+        rw e.books.same_names (omega (arith, before, e.books.asked, e.owes));
     told = e.met;
     good = e.good;
     unchanged = count-unchanged r n.stage e.stage (e.unchanged walked.unchanged);
@@ -436,7 +451,7 @@ module _ {S A : Type 0} (w n : Walk S A) (mark : MeterCounts) (walked : IsWalked
         let before = walked.within (rw e.books.same_names at few) in
         let cost : entry_cost n.meter.source.size n.current ≡ entry_cost w.meter.source.size w.current = rw (e.books.fetches.same_size, e.same.current) refl in
         let room : vec_len n.name ≡ vec_len w.name = e.same.room.name in
-        rw (e.books.same_names, room) (omega (arith, before, e.books.fetched, e.owes, cost));
+        rw (e.books.same_names, room) (omega (arith, before, e.books.asked, e.owes, cost));
   } where
     unended-listing : (at : Stage) → IsListing at → IsUnended at
     unended-listing stage.Between is = tt
@@ -473,7 +488,7 @@ module _ {S A : Type 0} (n : ℕ) (p : Position) (mark : MeterCounts) (w new : W
         sound = rw (ap (λ (v : Walk S A). v.name) same) at (aside_sound n w new walked.sound books room);
         placed = positioned-aside w new.meter p books.fetches.same_content walked.placed;
         unchanged = walked.unchanged;
-        within = rw (books.fetches.same_size, books.spends.same_fetched, books.spends.same_names) walked.within;
+        within = rw (books.fetches.same_size, books.spends.same_asked, books.spends.same_names) walked.within;
       })
 
   pub aside_leaves : {T : Type 0} (r : Result T SourceFault) → IsCaused (fault_of r) w.meter.source new.meter.source → ReadsAside n r (walked_by p w) (walked_by p new)
@@ -559,6 +574,11 @@ module _ {S A : Type 0} (w n : Walk S A) (mark : MeterCounts) where
         sought = given_sought w n s x same p walked.placed e;
       }
 
-  pub step_good : (p : Position) (r : Result (Option Step) ListFault) → AnsweredFrom p w r n → (file : List ℕ) → IsGood w.meter.source.store file → IfErr r (λ f. IsOfSource f.kind → ⊥)
+  pub step_good : (p : Position) (r : Result (Option Step) ListFault) → AnsweredFrom p w r n → (file : List ℕ) → IsGood w.meter.source.store file → IfErr r (λ f. IsOfStore f.kind → ⊥)
   step_good p (Ok given) e file good = tt
   step_good p (Err f) e file good = fault_good w n p f e file good
+
+  pub step_refused : (p : Position) (r : Result (Option Step) ListFault) → AnsweredFrom p w r n
+      → IfErr r (λ f. IsUnmade (max n.window.room (vec_len n.name)) f.kind f.offset f.size (counts_of n.meter) n.meter.source.size)
+  step_refused p (Ok given) e = tt
+  step_refused p (Err f) e = fault_refused w n p f e

@@ -11,7 +11,7 @@ use Rattle.mdmp_lister.specs.declared.sink.RunFault.TheVariants as run
 use Rattle.mdmp_lister.specs.declared.sink.Stopped.{Stopped}
 use Rattle.mdmp_lister.specs.declared.verdict.Verdict.{Verdict}
 use Rattle.mdmp_lister.specs.Costs.{bad_name_cost, end_cost, items_cost}
-use Rattle.mdmp_lister.specs.Fault.{IsOfSource}
+use Rattle.mdmp_lister.specs.Fault.{IsUnobtained}
 use Rattle.mdmp_lister.specs.Following.{Cursor, Follows, IsBegun, IsChosenBehind, NoneChosenBehind, Standing, begun, through, within}
 use Rattle.mdmp_lister.specs.Format.Listing.{Numbered, Run, chosen, entry_listing, nothing, only_fault, verdicts}
 use Rattle.mdmp_lister.specs.Format.Numbers.{faulty_name, maybe_name}
@@ -27,7 +27,7 @@ items_of F limit xs = flat_map (λ x. (entry_listing F limit x).items) xs
 
 -- ---- what was judged of a known file
 
--- the store failed in the first of these entries, behind these of its items
+-- bytes were not obtained in the first of these entries, behind these of its items
 pub record FailsIn (F : List ℕ) (limit : ℕ) (entries : List Numbered) (items : List Item) (f : ListFault) : Type 0 where
   pub next : Numbered
   pub behind : List Numbered
@@ -36,7 +36,7 @@ pub record FailsIn (F : List ℕ) (limit : ℕ) (entries : List Numbered) (items
   pub more : List Item
   pub begun : (entry_listing F limit next).items ≡ items ++ more
 
--- how a check ended before these entries, and which items it has read of them: none, but where the store failed
+-- how a check ended before these entries, and which items it has read of them: none, but where bytes were not obtained
 abbrev pub EndsBefore : List ℕ → ℕ → List Numbered → List Item → Result (Unit {0}) RunFault → Type 0
 EndsBefore F limit entries items (Ok done) = (entries ≡ []) × (items ≡ [])
 EndsBefore F limit entries items (Err run.Stopped) = items ≡ []
@@ -52,9 +52,9 @@ pub record ReadsFirst (F : List ℕ) (limit : ℕ) (entries : List Numbered) (n 
   pub items_are : items ≡ items_of F limit judged ++ begun
   pub ends : EndsBefore F limit left begun result
 
--- the fault of a verdict is of its entry, and none of the store
+-- the fault of a verdict is of its entry, and none of bytes that were not obtained
 abbrev pub IsVerdict : Verdict → Type 0
-IsVerdict v = IfSome v.fault (λ f. (f.entry ≡ v.entry) × (IsOfSource f.kind → ⊥))
+IsVerdict v = IfSome v.fault (λ f. (f.entry ≡ v.entry) × (IsUnobtained f.kind → ⊥))
 
 -- these verdicts are the first of all, and behind the last entry they are all
 abbrev pub AreFirstVerdicts : List Verdict → List Verdict → Result (Unit {0}) RunFault → Type 0
@@ -98,7 +98,7 @@ module _ (choice : Choice) (entries : List Entry) (z limit : ℕ) where
   AreNextVerdicts from [] = Unit {0}
   AreNextVerdicts from (v ∷ vs) = IsNextVerdict from v × AreNextVerdicts (v.entry + 1) vs
 
-  -- and then a check ends so: with none left, or where the store failed in the next one
+  -- and then a check ends so: with none left, or where bytes were not obtained in the next one
   abbrev pub EndsBehind : ℕ → Result (Unit {0}) RunFault → Type 0
   EndsBehind from (Ok done) = NoneChosenBehind choice entries from
   EndsBehind from (Err run.Stopped) = Unit {0}
@@ -106,8 +106,8 @@ module _ (choice : Choice) (entries : List Entry) (z limit : ℕ) where
 
 -- ---- what is left
 
--- nothing behind the last entry, and a fault of the store for good; behind a sink that wanted no more, what the entries give
--- behind the one that was judged last
+-- nothing behind the last entry, and a fault of bytes that were not obtained for good; behind a sink that wanted no more,
+-- what the entries give behind the one that was judged last
 abbrev pub left_checked : Result (Unit {0}) RunFault → ListerState → Option Run
 left_checked (Ok done) v = option_map (λ _. nothing) v.source.store.content
 left_checked (Err (run.At f)) v = option_map (λ _. only_fault f) v.source.store.content
@@ -165,12 +165,12 @@ pub record CheckLeaves {K : Type 0} (step : K → Verdict → Result (Unit {0}) 
   pub stop : new.stop ≡ stop_after_run result
   pub unread : new.unread ≡ 0
   pub passed : PassesJudged judged result old.passed new.passed
-  -- the current entry is the one that was judged last, or in which the store failed
+  -- the current entry is the one that was judged last, or in which bytes were not obtained
   pub current : IfErr result (λ _. slice_get old.entries (new.passed - 1) ≡ Some new.current)
   pub same : IsSameLister old new
   pub counts : Moves (names_judged items judged + names_at_end result) old.counts new.counts
   pub names : old.counts.names + names_judged items judged ≤ new.counts.names
-  -- the streams of the entries that were judged, and of the one in which the store failed, and names
+  -- the streams of the entries that were judged, and of the one in which bytes were not obtained, and names
   pub fetches : FetchesAtMost (check_cost old.source.size old.limit items judged + end_cost old.limit result) old.source new.source
   -- of every file: the verdicts are on the chosen entries in their order, and may be those of a file
   pub follow : AreNextVerdicts old.choice old.entries old.source.size old.limit old.passed judged

@@ -6,7 +6,7 @@ use Rattle.mdmp_wire.specs.CodeView.{CodeViewValue, codeview_in, codeview_of, rs
 use Rattle.mdmp_wire.specs.Number.{number_at}
 use Rattle.mdmp_lister.specs.declared.codeview.CodeViewBytes.{CodeViewBytes}
 use Rattle.mdmp_lister.specs.declared.codeview.CodeViewRead.{CodeViewRead}
-use Rattle.mdmp_lister.specs.Fetching.{Reads}
+use Rattle.mdmp_lister.specs.Fetching.{ReadsBeside}
 use Rattle.mdmp_lister.specs.Meter.{BooksAside, MeterState}
 
 -- what the fetched bytes of a record tell
@@ -40,6 +40,6 @@ codeview_cost at room (Err fault) = 24 + room
 
 -- the record at a location was read, its end into a buffer of so many bytes
 pub record ReadsCodeView (at : Location) (room : ℕ) (buffer : List ℕ) (result : Result CodeViewRead SourceFault) (old new : MeterState) : Type 0 where
-  pub reads : Reads (BooksAside (24 + room)) (λ file read. codeview_read buffer read ≡ codeview_of file at room) result old new
+  pub reads : ReadsBeside (24 + room) (λ file read. codeview_read buffer read ≡ codeview_of file at room) result old new
   pub held : IfOk result (λ read. read.rest ≤ room)
   pub fetches : IfOk result (λ read. FetchesCodeView at room read old new)

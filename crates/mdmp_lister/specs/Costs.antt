@@ -3,7 +3,7 @@ use Rattle.std.specs.Prelude.{◌≡◌, ◌≤◌, ◌+◌, ◌-◌, ℕ, List,
 use Rattle.mdmp_source.specs.Source.{FetchesAtMost, SourceState}
 use Rattle.mdmp_lister.specs.declared.fault.Fault.{Fault}
 use Rattle.mdmp_lister.specs.declared.fault.FaultKind.{FaultKind}
-use Rattle.mdmp_lister.specs.declared.fault.FaultKind.TheVariants.{NameOdd, NameUnitsOutside, Source}
+use Rattle.mdmp_lister.specs.declared.fault.FaultKind.TheVariants.{NameOdd, NameUnitsOutside, Source, Budget}
 use Rattle.mdmp_lister.specs.declared.fault.ListFault.{ListFault}
 use Rattle.mdmp_lister.specs.declared.fetching.NameRead.{NameRead}
 use Rattle.mdmp_lister.specs.declared.fetching.NameRead.TheVariants as read
@@ -34,11 +34,12 @@ read_cost read.None = 0
 read_cost (read.Units bytes) = 4 + bytes
 read_cost (read.Long bytes) = 4
 
--- at most those of a name with a fault: no length that does not lie inside, and no units but where the store failed
+-- at most those of a name with a fault: no length that does not lie inside, and no units but where bytes were not obtained
 abbrev pub bad_name_cost : ℕ → FaultKind → ℕ
 bad_name_cost limit NameOdd = 4
 bad_name_cost limit NameUnitsOutside = 4
 bad_name_cost limit (Source fault) = 4 + limit
+bad_name_cost limit Budget = 4 + limit
 bad_name_cost limit kind = 0
 
 abbrev pub name_spent : ℕ → Result NameRead Fault → ℕ

@@ -1,5 +1,5 @@
--- Faults of the store, and what is told of them.
-use Rattle.std.specs.Prelude.{◌≡◌, ℕ, List, Option, Some, None, Result, Ok, Err, IfErr, IfSome, IsTrue}
+-- Faults of bytes that were not obtained, by the store or the budget, and what is told of them.
+use Rattle.std.specs.Prelude.{◌≡◌, ℕ, List, Option, Some, None, Result, Ok, Err, IfErr, IfSome, IsTrue, Bool, true, false}
 use Rattle.mdmp_source.specs.Fault.{fault_at}
 use Rattle.mdmp_source.specs.Source.{SourceState, FailsOnce, IsTold}
 use Rattle.mdmp_source.specs.Store.{IsGood}
@@ -12,14 +12,32 @@ use Rattle.mdmp_lister.specs.Format.Listing.{list_fault}
 use Rattle.mdmp_lister.specs.declared.fault.Fault.{Fault}
 use Rattle.mdmp_lister.specs.declared.fault.FaultKind.{FaultKind}
 use Rattle.mdmp_lister.specs.declared.fault.ListFault.{ListFault}
-use Rattle.mdmp_lister.specs.declared.fault.FaultKind.TheVariants.{Source}
+use Rattle.mdmp_lister.specs.declared.fault.FaultKind.TheVariants.{Source, Budget}
+use Rattle.mdmp_lister.specs.declared.fault.FetchFault.{FetchFault}
+use Rattle.mdmp_lister.specs.declared.fault.FetchFault.TheVariants as fetch
 
--- ---- faults of the store
+-- ---- bytes that were not obtained
 
--- the bytes were not obtained, or don't agree with what was read before
-abbrev pub IsOfSource : FaultKind → Type 0
-IsOfSource (Source fault) = Unit {0}
-IsOfSource kind = ⊥
+-- bytes that are needed were not obtained, or don't agree with what was read before
+abbrev pub is_unobtained : FaultKind → Bool
+is_unobtained (Source fault) = true
+is_unobtained Budget = true
+is_unobtained kind = false
+
+abbrev pub IsUnobtained : FaultKind → Type 0
+IsUnobtained (Source fault) = Unit {0}
+IsUnobtained Budget = Unit {0}
+IsUnobtained kind = ⊥
+
+-- by the store
+abbrev pub IsOfStore : FaultKind → Type 0
+IsOfStore (Source fault) = Unit {0}
+IsOfStore kind = ⊥
+
+-- the fault of bytes that were not obtained
+abbrev pub fault_of_fetch : FetchFault → Fault
+fault_of_fetch (fetch.Source fault) = record { kind = Source fault; offset = fault_at fault; size = 0 }
+fault_of_fetch (fetch.Budget offset size) = record { kind = Budget; offset = offset; size = size }
 
 -- no call of the store failed or gave nothing in some fetches
 abbrev pub IsSteady : SourceState → SourceState → Type 0
@@ -57,15 +75,15 @@ pub record IsCausedAt {T : Type 0} (result : Result T Fault) (old new : SourceSt
   pub caused : IsCaused (source_of_answer result) old new
   pub placed : IfErr result (λ fault. IsPlacedAt fault.kind fault.offset fault.size)
 
--- an answer is the wanted one, or a fault of the store stands in its place
+-- an answer is the wanted one, or bytes were not obtained
 abbrev pub Answers : {X Y : Type 0} → Result X Fault → (Y → X) → Result Y Fault → Type 0
 Answers wanted value (Ok y) = wanted ≡ Ok (value y)
-Answers wanted value (Err fault) = (IsOfSource fault.kind → ⊥) → wanted ≡ Err fault
+Answers wanted value (Err fault) = (IsUnobtained fault.kind → ⊥) → wanted ≡ Err fault
 
 -- the same of an answer of a listing
 abbrev pub IsAnsweredFor : {X : Type 0} → Result X ListFault → Result X ListFault → Type 0
 IsAnsweredFor wanted (Ok x) = wanted ≡ Ok x
-IsAnsweredFor wanted (Err f) = (IsOfSource f.kind → ⊥) → wanted ≡ Err f
+IsAnsweredFor wanted (Err f) = (IsUnobtained f.kind → ⊥) → wanted ≡ Err f
 
 -- a memory list
 abbrev pub IsRanged : Option StreamKind → Type 0
@@ -79,24 +97,26 @@ IsToldByFetch e (Source (Changed at)) old new = (old.store.content ≡ None) × 
 IsToldByFetch e (Source fault) old new = IsTold fault old new
 IsToldByFetch e kind old new = Unit {0}
 
--- and it names the place at which the store is at fault, no size and no item
-abbrev pub NamesStorePlace : FaultKind → ListFault → Type 0
-NamesStorePlace (Source fault) f = (f.offset ≡ fault_at fault) × ((f.size ≡ 0) × (f.index ≡ None))
-NamesStorePlace kind f = Unit {0}
+-- and it names the place at which the store is at fault, no size and no item; nor does one of the budget name an item
+abbrev pub NamesPlace : FaultKind → ListFault → Type 0
+NamesPlace (Source fault) f = (f.offset ≡ fault_at fault) × ((f.size ≡ 0) × (f.index ≡ None))
+NamesPlace Budget f = f.index ≡ None
+NamesPlace kind f = Unit {0}
 
 pub record IsToldIn (e : Entry) (f : ListFault) (old new : SourceState) : Type 0 where
   pub by : IsToldByFetch e f.kind old new
-  pub placed : NamesStorePlace f.kind f
+  pub placed : NamesPlace f.kind f
 
 -- it does not tell that the store has changed
 abbrev pub TellsNoChange : FaultKind → Type 0
 TellsNoChange (Source (Changed at)) = ⊥
 TellsNoChange kind = Unit {0}
 
--- a listing tells a fault so, of an item of the entry with this number or of all of it; one of the store is that of no item
+-- a listing tells a fault so, of an item of the entry with this number or of all of it; that of bytes which were not
+-- obtained is that of no item
 pub record IsListFaultOf (number : ℕ) (index : Option ℕ) (fault : Fault) (f : ListFault) : Type 0 where
-  pub of_file : (IsOfSource fault.kind → ⊥) → f ≡ list_fault number index fault
+  pub of_file : (IsUnobtained fault.kind → ⊥) → f ≡ list_fault number index fault
   pub kind : f.kind ≡ fault.kind
   pub entry : f.entry ≡ number
   pub place : (f.offset ≡ fault.offset) × (f.size ≡ fault.size)
-  pub of_store : IsOfSource fault.kind → f.index ≡ None
+  pub of_all : IsUnobtained fault.kind → f.index ≡ None

@@ -1,5 +1,5 @@
 -- What reading promises: some bytes, the head of a stream, a name, a record.
-use Rattle.std.specs.Prelude.{◌≡◌, ◌≤◌, ◌<◌, ◌+◌, ◌-◌, ◌/◌, ◌^◌, ℕ, List, None, Some, Result, IfErr, IfOk, min, nat_lt}
+use Rattle.std.specs.Prelude.{◌≡◌, ◌≤◌, ◌<◌, ◌+◌, ◌-◌, ◌/◌, ◌^◌, ℕ, List, None, Some, Result, IfErr, IfOk, min, nat_lt, max}
 use Rattle.mdmp_source.specs.Count.{raised_if}
 use Rattle.mdmp_source.specs.Source.{FetchesAtMost, fault_of}
 use Rattle.mdmp_source.specs.Window.{WindowState}
@@ -17,7 +17,8 @@ use Rattle.mdmp_lister.specs.Costs.{name_spent, read_cost, step_spent}
 use Rattle.mdmp_lister.specs.Following.{mapped}
 use Rattle.mdmp_lister.specs.StreamHead.{head_spent}
 use Rattle.mdmp_lister.specs.Holding.{ComesTo, fills, left_behind, started, unfetched}
-use Rattle.mdmp_lister.specs.Meter.{Books, MeterState, Spends}
+use Rattle.mdmp_lister.specs.Meter.{Books, BooksAside, IsUnmade, MeterState, Spends, TellsBudget, counts_of, store_fault_of}
+use Rattle.mdmp_lister.specs.declared.fault.FetchFault.{FetchFault}
 use Rattle.mdmp_lister.specs.Walk.Owing.{count_told, ranges_by}
 use Rattle.mdmp_lister.specs.Walk.Reaching.{Reaches, ReachesAtFault, read_once, told_once}
 use Rattle.mdmp_lister.specs.Fault.{IsCaused, IsCausedAt}
@@ -25,11 +26,18 @@ use Rattle.mdmp_lister.specs.Format.Shape.{FitsIn, head_cost}
 use Rattle.mdmp_lister.specs.Format.Kind.{form_of, greatest_record}
 use Rattle.mdmp_lister.specs.Step.{IsStepHeld, current_by, passed_by, stream_told}
 
--- what was read with this answer: an answer of a known file is as it should be, the fetches are booked, and a fault of
--- the store is caused by them
-pub record Reads {T : Type 0} (Booked : MeterState → MeterState → Type 0) (Is : List ℕ → T → Type 0) (result : Result T SourceFault) (old new : MeterState) : Type 0 where
+-- what was read with this answer: an answer of a known file is as it should be, the fetches are booked, a fault of the
+-- store is caused by them, and one of the budget is of a fetch that was not made, of at most so many bytes
+pub record Reads {T : Type 0} (most : ℕ) (Booked : MeterState → MeterState → Type 0) (Is : List ℕ → T → Type 0) (result : Result T FetchFault) (old new : MeterState) : Type 0 where
   pub of_file : (file : List ℕ) → old.source.store.content ≡ Some file → IfOk result (Is file)
   pub books : Booked old new
+  pub caused : IsCaused (store_fault_of result) old.source new.source
+  pub refused : TellsBudget most result new
+
+-- the same beside the listing, of at most n bytes, which no budget limits
+pub record ReadsBeside {T : Type 0} (n : ℕ) (Is : List ℕ → T → Type 0) (result : Result T SourceFault) (old new : MeterState) : Type 0 where
+  pub of_file : (file : List ℕ) → old.source.store.content ≡ Some file → IfOk result (Is file)
+  pub books : BooksAside n old new
   pub caused : IsCaused (fault_of result) old.source new.source
 
 -- what the head of a stream says, of so many bytes and of this kind
@@ -49,6 +57,7 @@ pub record ReadsHead (size : ℕ) (kind : StreamKind) (result : Result Head Faul
   pub books : Books 1 (head_spent size kind) old new
   pub caused : IsCausedAt result old.source new.source
   pub at_fault : IfErr result (λ fault. ReachesAtFault fault.kind old new)
+  pub over : IfErr result (λ fault. IsUnmade 16 fault.kind fault.offset fault.size (counts_of new) new.source.size)
 
 -- the head of a stream was read through a window that was started over it, or it has a fault: by at most one fetch, of so
 -- many bytes; of a stream that is too short nothing is started or fetched
@@ -63,24 +72,27 @@ pub record BeginsStream (at : Location) (result : Result Head Fault) (old new : 
   pub comes : IfOk result (λ head. ComesTo at.rva old.source.store.content (started at was) now)
   pub caused : IsCausedAt result old.source new.source
   pub at_fault : IfErr result (λ fault. ReachesAtFault fault.kind old new)
+  pub over : IfErr result (λ fault. IsUnmade was.room fault.kind fault.offset fault.size (counts_of new) new.source.size)
 
 -- the name at this RVA was read, where names have at most `limit` bytes
 pub record ReadsName (limit rva : ℕ) (result : Result NameRead Fault) (old new : MeterState) : Type 0 where
   pub fetches : FetchesAtMost (name_spent limit result) old.source new.source
   pub spends : Spends 0 0 limit old new
-  pub cost : IfOk result (λ name. new.fetched ≤ old.fetched + read_cost name)
+  pub cost : IfOk result (λ name. new.asked ≤ old.asked + read_cost name)
   -- one is reached, but at the RVA 0
   pub reached : new.names ≡ raised_if (nat_lt 0 rva) old.names
   pub named : IfOk result (λ name. Reaches (read_once name) old new)
   pub at_fault : IfErr result (λ fault. ReachesAtFault fault.kind old new)
+  pub over : IfErr result (λ fault. IsUnmade (max 4 limit) fault.kind fault.offset fault.size (counts_of new) new.source.size)
   pub caused : IsCausedAt result old.source new.source
 
--- a record was read by a fetch of so many bytes, or by none, and its name where it has one
-pub record ReadsRecord (spent limit : ℕ) (result : Result Step Fault) (old new : MeterState) : Type 0 where
+-- a record was read through a window of this room, by a fetch of so many bytes or by none, and its name where it has one
+pub record ReadsRecord (room spent limit : ℕ) (result : Result Step Fault) (old new : MeterState) : Type 0 where
   pub fetches : FetchesAtMost (spent + step_spent limit result) old.source new.source
   pub spends : Spends (min 1 spent) spent limit old new
   pub named : IfOk result (λ step. Reaches (told_once step) old new)
   pub at_fault : IfErr result (λ fault. ReachesAtFault fault.kind old new)
+  pub over : IfErr result (λ fault. IsUnmade (max room (max 4 limit)) fault.kind fault.offset fault.size (counts_of new) new.source.size)
   pub caused : IsCausedAt result old.source new.source
 
 -- a step tells a record of this kind, its name fits in `room` bytes, and it begins no entry

@@ -18,7 +18,7 @@ use Rattle.mdmp_lister.specs.declared.kind.StreamKind.{StreamKind}
 use Rattle.mdmp_lister.specs.declared.shape.Shape.{Shape}
 use Rattle.mdmp_lister.specs.declared.step.Step.{Step}
 use Rattle.mdmp_lister.specs.declared.step.Step.TheVariants as step
-use Rattle.mdmp_lister.specs.Fault.{IsListFaultOf, IsOfSource}
+use Rattle.mdmp_lister.specs.Fault.{IsListFaultOf, IsUnobtained}
 use Rattle.mdmp_lister.specs.Format.Item.{kind_told}
 use Rattle.mdmp_lister.specs.Format.Kind.{form_of, kind_of, record_size}
 use Rattle.mdmp_lister.specs.Format.Listing.{is_chosen}
@@ -80,8 +80,8 @@ pub data IsSomeShape (at : Location) (kind : StreamKind) (r : Result Shape Fault
   -- the stream is too short for it
   short : at.size < head_size (form_of kind) (record_size kind) → r ≡ Err (record { kind = ShortStream; offset = at.rva; size = at.size }) → IsSomeShape at kind r
   headed : head_size (form_of kind) (record_size kind) ≤ at.size → IsSomeHead at.rva at.size (record_size kind) (form_of kind) r → IsSomeShape at kind r
-  -- the store failed, or its head has changed
-  failed : head_size (form_of kind) (record_size kind) ≤ at.size → (fault : Fault) → r ≡ Err fault → IsOfSource fault.kind → IsSomeShape at kind r
+  -- its head was not obtained, or has changed
+  failed : head_size (form_of kind) (record_size kind) ≤ at.size → (fault : Fault) → r ≡ Err fault → IsUnobtained fault.kind → IsSomeShape at kind r
 
 -- all records of a stream of this shape are left
 abbrev pub standing_by : ℕ → Shape → Standing
@@ -115,7 +115,7 @@ name_by z limit rva bytes =
 -- what is read of a name at an RVA
 pub data IsSomeName (z limit rva : ℕ) (r : Result NameRead Fault) : Type 0 where
   told : (bytes : ℕ) → r ≡ name_by z limit rva bytes → IsSomeName z limit rva r
-  failed : (fault : Fault) → r ≡ Err fault → IsOfSource fault.kind → IsSomeName z limit rva r
+  failed : (fault : Fault) → r ≡ Err fault → IsUnobtained fault.kind → IsSomeName z limit rva r
 
 -- of a record that has no RVA of a name, none is
 abbrev pub IsSomeNameOf : ℕ → ℕ → Option ℕ → Result NameRead Fault → Type 0
@@ -133,7 +133,7 @@ pub record IsSomeRecord (z limit : ℕ) (kind : StreamKind) (e k offset : ℕ) (
 -- a fault that stands in the place of such a record
 pub data IsRecordFault (z limit : ℕ) (kind : StreamKind) (fault : Fault) : Type 0 where
   of_name : (fields : AnyRecord) → kind ≡ kind_told fields → IsSomeNameOf z limit (name_rva fields) (Err fault) → IsRecordFault z limit kind fault
-  failed : IsOfSource fault.kind → IsRecordFault z limit kind fault
+  failed : IsUnobtained fault.kind → IsRecordFault z limit kind fault
 
 -- ---- answers
 
@@ -166,7 +166,7 @@ module _ (choice : Choice) (entries : List Entry) (z limit : ℕ) where
     pub is : IsSomeRecord z limit kind (c.passed - 1) given offset s
     pub stands : d ≡ record c { standing = within (given + 1) (left - 1) (offset + bytes_behind s) }
 
-  -- or its name has a fault, or the store failed
+  -- or its name has a fault, or bytes were not obtained
   pub record MeetsRecordFault (c : Cursor) (given : ℕ) (answer : Result (Option Step) ListFault) (d : Cursor) : Type 0 where
     pub kind : StreamKind
     pub kind_is : kind_of c.current.stream_type ≡ Some kind

@@ -1,5 +1,5 @@
 -- What a contract sees of a lister.
-use Rattle.std.specs.Prelude.{◌≡◌, ◌≤◌, ◌<◌, ◌+◌, ◌-◌, ◌*◌, ◌^◌, ℕ, length, List, [], ◌∷◌, ◌++◌, drop, slice_get, Bool, true, false, not, is_some, ◌==◌, ◌&&◌, Option, None, Some, Result, Ok, Err, IfOk, IfErr, IfSome, IsOk}
+use Rattle.std.specs.Prelude.{◌≡◌, ◌≤◌, ◌<◌, ◌+◌, ◌-◌, ◌*◌, ◌^◌, ℕ, length, List, [], ◌∷◌, ◌++◌, drop, slice_get, Bool, true, false, not, is_some, ◌==◌, ◌&&◌, Option, None, Some, Result, Ok, Err, IfOk, IfErr, IfSome, IsOk, max}
 use Rattle.std.specs.Option.{option_map}
 use Rattle.mdmp_source.specs.Count.{raised}
 use Rattle.mdmp_source.specs.Source.{SourceState, FetchesAtMost, IsTold}
@@ -12,8 +12,6 @@ use Rattle.mdmp_wire.specs.Header.{header_at}
 use Rattle.mdmp_wire.specs.HeaderFault.{header_fault_of}
 use Rattle.mdmp_lister.specs.Format.Refusal.{most_ranges}
 use Rattle.mdmp_lister.specs.declared.choice.Choice.{Choice}
-use Rattle.mdmp_lister.specs.declared.fault.FaultKind.{FaultKind}
-use Rattle.mdmp_lister.specs.declared.fault.FaultKind.TheVariants.{Source}
 use Rattle.mdmp_lister.specs.declared.fault.ListFault.{ListFault}
 use Rattle.mdmp_lister.specs.declared.item.Item.{Item}
 use Rattle.mdmp_map.specs.declared.range.Range.{Range}
@@ -31,10 +29,10 @@ use Rattle.mdmp_lister.specs.Format.Item.{plain}
 use Rattle.mdmp_lister.specs.Format.Kind.{kind_of}
 use Rattle.mdmp_lister.specs.Format.Listing.{Run, nothing, only_fault, items_from, joined, listing, listing_from}
 use Rattle.mdmp_lister.specs.Format.Shape.{shape_of}
-use Rattle.mdmp_lister.specs.Meter.{IsBegunOver, Moves, SpendsAside}
+use Rattle.mdmp_lister.specs.Meter.{IsBegunOver, IsUnmade, Moves, SpendsAside}
 use Rattle.mdmp_lister.specs.declared.meter.MeterCounts.{MeterCounts}
 use Rattle.mdmp_lister.specs.Format.Ranges.{ranges_of}
-use Rattle.mdmp_lister.specs.Fault.{IsOfSource, IsSteady, IsToldIn}
+use Rattle.mdmp_lister.specs.Fault.{is_unobtained, IsUnobtained, IsSteady, IsToldIn}
 use Rattle.mdmp_lister.specs.Stage.{stop_after}
 use Rattle.mdmp_lister.specs.Step.{TellsAnswer}
 use Rattle.mdmp_lister.specs.Format.Summary.{entry_begun, number_behind, summary_of}
@@ -102,11 +100,11 @@ abbrev pub tail : Run → Run
 tail run = record { items = drop 1 run.items; fault = run.fault }
 
 -- a request was answered with the first of what was left: an item, the end, or the fault where no item stood
--- before it; or the store failed
+-- before it; or bytes were not obtained
 abbrev pub Gives : Run → Result (Option Item) ListFault → Type 0
 Gives left (Ok None) = left ≡ nothing
 Gives left (Ok (Some item)) = slice_get left.items 0 ≡ Some (plain item)
-Gives left (Err f) = (IsOfSource f.kind → ⊥) → left ≡ only_fault f
+Gives left (Err f) = (IsUnobtained f.kind → ⊥) → left ≡ only_fault f
 
 -- what is left behind an answer; behind a fault it is that fault
 abbrev pub left_after : Result (Option Item) ListFault → Run → Run
@@ -157,15 +155,11 @@ abbrev pub ranges_answered : Result (Option Item) ListFault → List Range
 ranges_answered (Ok (Some item)) = ranges_of (item ∷ [])
 ranges_answered answer = []
 
--- the end and a fault of the store stay for good
-abbrev pub is_of_source : FaultKind → Bool
-is_of_source (Source fault) = true
-is_of_source kind = false
-
+-- the end stays for good, and so does a fault of bytes that were not obtained
 abbrev pub is_for_good : Option (Option ListFault) → Bool
 is_for_good None = false
 is_for_good (Some None) = true
-is_for_good (Some (Some f)) = is_of_source f.kind
+is_for_good (Some (Some f)) = is_unobtained f.kind
 
 -- no item, verdict or fault was given yet, nor the end
 abbrev pub is_fresh : ListerState → Bool
@@ -200,7 +194,7 @@ pub record HasGivenNothing (content : Option (List ℕ)) (choice : Choice) (limi
 pub record IsNewList (source : SourceState) (choice : Choice) (limits : Limits) (new : ListerState) : Type 0 where
   pub same_content : new.source.store.content ≡ source.store.content
   pub steady : IsSteady source new.source
-  pub counts : IsBegunOver source new.counts
+  pub counts : IsBegunOver source limits.budget new.counts
   pub read : HasReadDirectory source new
   pub asked : IsAskedFor choice limits new
   pub given : HasGivenNothing source.store.content choice limits new
@@ -214,6 +208,11 @@ pub record IsNewLister (source : SourceState) (choice : Choice) (limits : Limits
   pub range_room : (file : List ℕ) → source.store.content ≡ Some file → new.rooms.ranges ≡ range_count file choice
   pub few : new.rooms.ranges ≤ most_ranges
 
+-- a fault that tells the budget is of a fetch that was not made, since with it more than the budget would have been fetched:
+-- it lies inside the file, and is of no more than the window or a name may have
+abbrev pub IsRefusedIn : ListFault → ListerState → Type 0
+IsRefusedIn f v = IsUnmade (max v.rooms.window v.limit) f.kind f.offset f.size v.counts v.source.size
+
 -- what no listing changes
 pub record IsSameLister (old new : ListerState) : Type 0 where
   pub header_is : new.header ≡ old.header
@@ -223,6 +222,7 @@ pub record IsSameLister (old new : ListerState) : Type 0 where
   pub rooms : new.rooms ≡ old.rooms
   pub aside : new.counts.aside ≡ old.counts.aside
   pub start : new.counts.start ≡ old.counts.start
+  pub budget : new.counts.budget ≡ old.counts.budget
 
 -- what a request for the next item fetches and counts
 pub record NextSpends (old : ListerState) (result : Result (Option Item) ListFault) (new : ListerState) : Type 0 where
@@ -232,8 +232,9 @@ pub record NextSpends (old : ListerState) (result : Result (Option Item) ListFau
   pub counts : Moves 1 old.counts new.counts
   -- just those that items have, where no fault stands
   pub names : IfOk result (λ given. new.counts.names ≡ raised old.counts.names (names_in (Ok given)))
-  -- and at a fault that is first answered that of a name, or maybe one where the store failed
+  -- and at a fault that is first answered that of a name, or maybe one where bytes were not obtained
   pub names_at_fault : old.stop ≡ None → IfErr result (λ f. (raised old.counts.names (names_in (Err f)) ≤ new.counts.names) × (new.counts.names ≤ old.counts.names + most_names_in (Err f)))
+  pub refused : IfErr result (λ f. IsRefusedIn f new)
   pub unread : LeavesUnread old.source.size result old.unread new.unread
 
 -- what is left behind it, and what stands
@@ -261,7 +262,7 @@ pub record NextLeaves (old : ListerState) (result : Result (Option Item) ListFau
   pub spends : NextSpends old result new
   pub stands : NextStands old result new
   pub places : NextPlaces old result new
-  -- a fault of the store that does not stand yet is told in this call, of no item
+  -- a fault of the store that does not stand yet is told in this call; it and one of the budget are of no item
   pub told : old.stop ≡ None → IfErr result (λ f. IsToldIn old.current f old.source new.source)
 
 -- and of a lister, which keeps the ranges that it gives, and whose count of names is never at its greatest

@@ -1,5 +1,5 @@
 -- What an opening answers.
-use Rattle.std.specs.Prelude.{◌≡◌, ◌≤◌, ◌<◌, false, ℕ, ◌+◌, ◌*◌, List, length, Option, Some, None, Result, Ok, Err, IfErr, IfOk, IfSome, slice_get}
+use Rattle.std.specs.Prelude.{◌≡◌, ◌≤◌, ◌<◌, false, ℕ, ◌+◌, ◌*◌, List, length, Option, Some, None, Result, Ok, Err, IfErr, IfOk, IfSome, IsTrue, max, slice_get}
 use Rattle.mdmp_source.specs.Count.{raised}
 use Rattle.mdmp_source.specs.Source.{SourceState, FailsOnce, FetchesAtMost, IsTold}
 use Rattle.mdmp_source.specs.Store.{IsGood, IsSizeOf}
@@ -11,25 +11,34 @@ use Rattle.mdmp_wire.specs.Header.{header_at}
 use Rattle.mdmp_wire.specs.HeaderFault.{header_fault_of, minidump_version}
 use Rattle.mdmp_lister.specs.declared.choice.Choice.{Choice}
 use Rattle.mdmp_lister.specs.declared.fault.OpenFault.{OpenFault}
-use Rattle.mdmp_lister.specs.declared.fault.OpenFault.TheVariants.{TooShort, BadSignature, BadVersion, DirectoryOutside, TooManyRanges, Source, Memory}
+use Rattle.mdmp_lister.specs.declared.fault.OpenFault.TheVariants.{TooShort, BadSignature, BadVersion, DirectoryOutside, TooManyRanges, Source, Budget, Memory}
+use Rattle.mdmp_lister.specs.declared.fault.FetchFault.{FetchFault}
+use Rattle.mdmp_lister.specs.declared.fault.FetchFault.TheVariants as fetch
+use Rattle.mdmp_lister.specs.declared.limits.Limits.{Limits}
 use Rattle.mdmp_lister.specs.Format.Directory.{AreFirst, IsDirectory, IsFirstChosen}
 use Rattle.mdmp_lister.specs.Following.{IsChosenBehind, NoneChosenBehind}
 use Rattle.mdmp_lister.specs.StreamHead.{heads_ahead}
 use Rattle.mdmp_lister.specs.Format.Listing.{entry_count}
 use Rattle.mdmp_lister.specs.Fault.{IsCaused, IsSteady}
-use Rattle.mdmp_lister.specs.Meter.{Books, MeterState}
+use Rattle.mdmp_lister.specs.Meter.{Books, IsRefusedFetch, KeepsTo, MeterState, counts_of, is_passed}
 use Rattle.mdmp_lister.specs.Walk.Paying.{CostsFrom}
 use Rattle.mdmp_lister.specs.Format.Refusal.{most_ranges, directory_refusal, opening_fault}
 
 -- ---- what an opening answers
 
--- the header of F was read, or the first fault of its header and directory; a fault of the store says nothing of F
+-- the header of F was read, or the first fault of its header and directory; bytes that were not obtained say nothing of F
 abbrev pub Finds : List ℕ → Result Header OpenFault → Type 0
 Finds F (Ok header) = (directory_refusal F ≡ None) × (header ≡ header_at F 0)
 Finds F (Err (Source fault)) = Unit {0}
+Finds F (Err (Budget offset size)) = Unit {0}
 Finds F (Err fault) = directory_refusal F ≡ Some fault
 
--- the bytes were not obtained
+-- a fault of bytes that were not obtained, as a refusal
+abbrev pub refusal_of_fetch : FetchFault → OpenFault
+refusal_of_fetch (fetch.Source fault) = Source fault
+refusal_of_fetch (fetch.Budget offset size) = Budget offset size
+
+-- the store did not give the bytes
 abbrev pub IsUnread : OpenFault → Type 0
 IsUnread (Source fault) = Unit {0}
 IsUnread fault = ⊥
@@ -49,16 +58,53 @@ abbrev pub unread_fault : {T : Type 0} → Result T OpenFault → Option SourceF
 unread_fault (Ok x) = None
 unread_fault (Err fault) = unread_of fault
 
--- a fault of a file's header or directory, or want of memory where they have none, or a fault of the store
+-- nor is it that bytes were not obtained
+abbrev pub IsFromBytes : {T : Type 0} → Result T OpenFault → Type 0
+IsFromBytes (Err (Source fault)) = ⊥
+IsFromBytes (Err (Budget offset size)) = ⊥
+IsFromBytes answer = Unit {0}
+
+-- a fetch of so many bytes at an offset was not made, since with it and the `fetched` before it more than the budget would
+-- have been fetched: it lies inside the file, is of no more than the window or a name may have, and stays within what a file
+-- with so many streams may cost
+pub record IsOverBudget (limits : Limits) (old : SourceState) (fetched offset size : ℕ) : Type 0 where
+  pub passes : IsTrue (is_passed limits.budget (raised fetched size))
+  pub inside : IsInside offset size old.size
+  pub most : size ≤ max limits.window limits.name
+  pub streams : ℕ
+  pub bound : raised fetched size ≤ 32 + 28 * streams
+  pub within : 12 * streams ≤ old.size
+  pub known : (file : List ℕ) → old.store.content ≡ Some file → streams ≤ entry_count file
+
+-- a refusal that tells the budget is of such a fetch
+abbrev pub TellsOver : Limits → SourceState → ℕ → OpenFault → Type 0
+TellsOver limits old fetched (Budget offset size) = IsOverBudget limits old fetched offset size
+TellsOver limits old fetched fault = Unit {0}
+
+-- an opening that was refused has fetched so many bytes, within the budget
+pub record KeepsToBudget (limits : Limits) (old : SourceState) (fault : OpenFault) (new : SourceState) : Type 0 where
+  pub fetched : ℕ
+  pub spent : new.fetched ≡ raised old.fetched fetched
+  pub kept : KeepsTo limits.budget fetched
+  pub over : TellsOver limits old fetched fault
+
+-- the same by what a meter counted, of a fetch of at most so many bytes
+abbrev pub IsOpeningOver : ℕ → OpenFault → MeterState → Type 0
+IsOpeningOver most (Budget offset size) m = IsRefusedFetch most offset size (counts_of m) m.source.size
+IsOpeningOver most fault m = Unit {0}
+
+-- a fault of a file's header or directory, or want of memory where they have none, or bytes that were not obtained
 abbrev pub IsDirectoryRefusal : List ℕ → OpenFault → Type 0
 IsDirectoryRefusal F (Source fault) = Unit {0}
+IsDirectoryRefusal F (Budget offset size) = Unit {0}
 IsDirectoryRefusal F Memory = directory_refusal F ≡ None
 IsDirectoryRefusal F fault = directory_refusal F ≡ Some fault
 
--- a fault that a file may be refused with: its own, or want of memory where its header and directory have none, or one
--- of the store
+-- a fault that a file may be refused with: its own, or want of memory where its header and directory have none, or bytes
+-- that were not obtained
 abbrev pub IsRefusalOf : List ℕ → Choice → OpenFault → Type 0
 IsRefusalOf F choice (Source fault) = Unit {0}
+IsRefusalOf F choice (Budget offset size) = Unit {0}
 IsRefusalOf F choice Memory = directory_refusal F ≡ None
 IsRefusalOf F choice fault = opening_fault F choice ≡ Some fault
 
@@ -118,6 +164,7 @@ pub record IsHeaderIn (bytes : List ℕ) (size : ℕ) (result : Result Header Op
   pub refusal : IfErr result (IsBareRefusal size)
   pub long : (told : ℕ) → result ≡ Err (TooShort told) → ⊥
   pub read : unread_fault result ≡ None
+  pub obtained : IsFromBytes result
   pub checked : IfOk result (λ header. header_fault_of header ≡ None)
 
 -- what is told of the header of a file fits its size, whatever its bytes
@@ -136,6 +183,7 @@ pub record ReadsHeader (old : MeterState) (result : Result Header OpenFault) (ne
   pub fits : FitsHeader old.source result new.source
   pub books : Books 1 32 old new
   pub caused : IsCaused (unread_fault result) old.source new.source
+  pub over : IfErr result (λ fault. IsOpeningOver 32 fault new)
 
 -- the header or the directory of a file was refused, or there was no memory to list it, and its source was handed back
 pub record IsRefused (old : SourceState) (fault : OpenFault) (new : SourceState) : Type 0 where

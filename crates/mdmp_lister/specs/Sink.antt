@@ -15,7 +15,7 @@ use Rattle.mdmp_lister.specs.Format.Numbers.{faulty_name, maybe_name, names_of}
 use Rattle.mdmp_lister.specs.Lister.{ListerState, current_after, cursor_in, passed_after}
 use Rattle.mdmp_lister.specs.Format.Listing.{Run, nothing, only_fault}
 use Rattle.mdmp_lister.specs.Format.Ranges.{ranges_of}
-use Rattle.mdmp_lister.specs.Fault.{IsOfSource}
+use Rattle.mdmp_lister.specs.Fault.{IsUnobtained}
 use Rattle.mdmp_lister.specs.Following.{Cursor, Follows}
 use Rattle.mdmp_lister.specs.Step.{TellsItem}
 
@@ -24,12 +24,12 @@ abbrev pub give_all : List Item → Run → Run
 give_all xs left = record { items = xs ++ left.items; fault = left.fault }
 
 -- xs were given of what was left, and the rest is left: nothing at the end of the listing, and at a fault that fault
--- alone, which was next unless it is one of the store, which can stand anywhere
+-- alone, which was next unless it is one of bytes that were not obtained, which can stand anywhere
 abbrev pub GivesAll : Run → List Item → Result (Unit {0}) RunFault → Run → Type 0
 GivesAll old xs (Ok done) new = (old ≡ give_all xs nothing) × (new ≡ nothing)
 GivesAll old xs (Err run.Stopped) new = old ≡ give_all xs new
 GivesAll old xs (Err (run.At f)) new =
-    ((rest : Run) × (old ≡ give_all xs rest)) × (((IsOfSource f.kind → ⊥) → old ≡ give_all xs (only_fault f)) × (new ≡ only_fault f))
+    ((rest : Run) × (old ≡ give_all xs rest)) × (((IsUnobtained f.kind → ⊥) → old ≡ give_all xs (only_fault f)) × (new ≡ only_fault f))
 
 -- the number of the first entry behind the current one, once these items were given
 abbrev pub passed_behind : List Item → ℕ → ℕ
@@ -60,7 +60,7 @@ abbrev pub NamesAll : List Item → Result (Unit {0}) RunFault → ℕ → ℕ �
 NamesAll xs (Err (run.At f)) old new = (old + names_of_all xs ≤ new) × (new ≤ old + names_of_all xs + 1)
 NamesAll xs result old new = new ≡ old + names_of_all xs
 
--- and at a fault that is first answered that of a name, or maybe one where the store failed
+-- and at a fault that is first answered that of a name, or maybe one where bytes were not obtained
 abbrev pub NamesAtEnd : List Item → Result (Unit {0}) RunFault → ℕ → ℕ → Type 0
 NamesAtEnd xs (Err (run.At f)) old new = (old + names_of_all xs + faulty_name f.kind ≤ new) × (new ≤ old + names_of_all xs + maybe_name f.kind)
 NamesAtEnd xs result old new = Unit {0}

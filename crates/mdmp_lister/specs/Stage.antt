@@ -1,27 +1,37 @@
 -- How far a walk has listed the current entry, and what it answers from then on.
-use Rattle.std.specs.Prelude.{◌≡◌, ◌-◌, ℕ, Bool, true, false, Option, None, Some, Result, Ok, Err}
-use Rattle.mdmp_lister.specs.Fault.{TellsNoChange}
+use Rattle.std.specs.Prelude.{◌≡◌, ◌-◌, ℕ, Bool, true, false, Option, None, Some, IfSome, Result, Ok, Err}
+use Rattle.mdmp_lister.specs.Fault.{IsOfStore, TellsNoChange}
+use Rattle.mdmp_lister.specs.Meter.{IsUnmade, MeterState, counts_of}
 use Rattle.mdmp_lister.specs.Following.{Standing, begun, through, within}
 use Rattle.mdmp_lister.specs.declared.fault.FaultKind.{FaultKind}
-use Rattle.mdmp_lister.specs.declared.fault.FaultKind.TheVariants.{Source}
+use Rattle.mdmp_lister.specs.declared.fault.FaultKind.TheVariants.{Source, Budget}
 use Rattle.mdmp_lister.specs.declared.fault.ListFault.{ListFault}
 use Rattle.mdmp_lister.specs.declared.sink.RunFault.{RunFault}
 use Rattle.mdmp_lister.specs.declared.sink.RunFault.TheVariants as run
 use Rattle.mdmp_lister.specs.declared.stage.Stage.{Stage}
 use Rattle.mdmp_lister.specs.declared.stage.Stage.TheVariants.{Between, Head, Records, Bad, Failed, Ended}
 
--- the stage behind a fault: one of the store stays for good
+-- the stage behind a fault: one of bytes that were not obtained, by the store or the budget, stays for good
 abbrev pub stage_by : FaultKind → ListFault → Stage
 stage_by (Source fault) f = Failed f
+stage_by Budget f = Failed f
 stage_by kind f = Bad f
 
 abbrev pub fault_stage : ListFault → Stage
 fault_stage f = stage_by f.kind f
 
--- the fault of the store that every call answers
+-- the fault of bytes that were not obtained, which every call answers
 abbrev pub failure_of : Stage → Option ListFault
 failure_of (Failed f) = Some f
 failure_of stage = None
+
+-- it is not one of the store
+abbrev pub IsNoStoreFault : Stage → Type 0
+IsNoStoreFault stage = IfSome (failure_of stage) (λ f. IsOfStore f.kind → ⊥)
+
+-- where it tells the budget, it is of a fetch of at most so many bytes that was not made
+abbrev pub IsOverAt : ℕ → Stage → MeterState → Type 0
+IsOverAt most stage m = IfSome (failure_of stage) (λ f. IsUnmade most f.kind f.offset f.size (counts_of m) m.source.size)
 
 -- that fault does not tell that the store has changed
 abbrev pub StaysUnchanged : Stage → Type 0

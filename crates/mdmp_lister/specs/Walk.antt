@@ -7,12 +7,11 @@ pub mod Positions
 pub mod Reaching
 pub mod Requests
 pub mod Telling
-use Rattle.std.specs.Prelude.{◌≡◌, ◌≤◌, ◌<◌, ◌+◌, ◌-◌, ◌*◌, ◌^◌, ℕ, List, Option, None, Some, Result, Ok, Err, IfOk, vec_capacity, vec_len}
+use Rattle.std.specs.Prelude.{◌≡◌, ◌≤◌, ◌<◌, ◌+◌, ◌-◌, ◌*◌, ◌^◌, ℕ, List, Option, None, Some, Result, Ok, Err, IfOk, vec_capacity, vec_len, max}
 use Rattle.mdmp_source.specs.Count.{raised}
 use Rattle.mdmp_source.specs.Range.{IsInside}
-use Rattle.mdmp_source.specs.Source.{SourceState, FetchesAtMost, fault_of}
+use Rattle.mdmp_source.specs.Source.{SourceState, FetchesAtMost}
 use Rattle.mdmp_source.specs.Store.{IsGood, IsSizeOf}
-use Rattle.mdmp_source.specs.declared.fault.SourceFault.{SourceFault}
 use Rattle.mdmp_source.specs.Window.{WindowState}
 use Rattle.mdmp_wire.specs.declared.entry.Entry.{Entry}
 use Rattle.mdmp_wire.specs.Header.{header_at}
@@ -33,13 +32,14 @@ use Rattle.mdmp_lister.specs.StreamHead.{heads_ahead}
 use Rattle.mdmp_lister.specs.Holding.{IsHeldOf, fills_of}
 use Rattle.mdmp_lister.specs.Format.Item.{range_offset}
 use Rattle.mdmp_lister.specs.Format.Listing.{Run, nothing, only_fault, with_item, joined, items_from, entry_body, listing_from}
-use Rattle.mdmp_lister.specs.Meter.{Books}
+use Rattle.mdmp_lister.specs.Meter.{Books, TellsBudget, store_fault_of}
+use Rattle.mdmp_lister.specs.declared.fault.FetchFault.{FetchFault}
 use Rattle.mdmp_lister.specs.Format.Refusal.{directory_refusal}
-use Rattle.mdmp_lister.specs.Fault.{IsCaused, IsOfSource, IsSteady}
+use Rattle.mdmp_lister.specs.Fault.{IsCaused, IsUnobtained, IsSteady}
 use Rattle.mdmp_lister.specs.Following.{Cursor}
 use Rattle.mdmp_lister.specs.Format.Shape.{FitsIn, shape_of}
 use Rattle.mdmp_lister.specs.Format.Kind.{greatest_record, kind_of}
-use Rattle.mdmp_lister.specs.Stage.{failure_of, fault_stage, records_left_in, standing_of}
+use Rattle.mdmp_lister.specs.Stage.{IsNoStoreFault, IsOverAt, fault_stage, records_left_in, standing_of}
 use Rattle.mdmp_lister.specs.Step.{passed_by, step_item}
 
 -- what is left of an entry with this number
@@ -68,8 +68,8 @@ IsStaged size next e Between = Unit {0}
 IsStaged size next e Ended = Unit {0}
 IsStaged size next e Head = 0 < next
 IsStaged size next e (Records kind shape index offset) = IsReading size next e kind shape index offset
-IsStaged size next e (Bad f) = (0 < next) × (IsOfSource f.kind → ⊥)
-IsStaged size next e (Failed f) = IsOfSource f.kind
+IsStaged size next e (Bad f) = (0 < next) × (IsUnobtained f.kind → ⊥)
+IsStaged size next e (Failed f) = IsUnobtained f.kind
 
 -- where the head of the stream says that the records stand, and the bytes of the next range of a 64-bit memory list
 abbrev pub IsHeaded : List ℕ → Entry → Stage → Type 0
@@ -112,7 +112,9 @@ module _ {S A : Type 0} where
     pub ended : w.stage ≡ Ended → w.next ≡ vec_len w.entries
     pub directory : (file : List ℕ) → w.meter.source.store.content ≡ Some file → IsDirectory file w.entries.items
     pub header_is : (file : List ℕ) → w.meter.source.store.content ≡ Some file → w.header ≡ header_at file 0
-    pub unfailed : (file : List ℕ) → IsGood w.meter.source.store file → failure_of w.stage ≡ None
+    pub unfailed : (file : List ℕ) → IsGood w.meter.source.store file → IsNoStoreFault w.stage
+    -- a fault of the budget that stays for good is of a fetch that was not made, of no more than the window or a name may have
+    pub refused : IsOverAt (max w.window.room (vec_len w.name)) w.stage w.meter
 
   -- no list is longer or shorter, and what was read of the file's head stays
   pub record SameRoom (old new : Walk S A) : Type 0 where
@@ -133,7 +135,7 @@ module _ {S A : Type 0} where
     pub fetches : FetchesAtMost (32 + 12 * w.header.number_of_streams) source w.meter.source
     pub calls : w.meter.source.calls ≤ raised source.calls (1 + w.header.number_of_streams)
     pub steady : IsSteady source w.meter.source
-    pub fetched : w.meter.fetched ≤ 32 + 12 * w.header.number_of_streams
+    pub asked : w.meter.asked ≤ 32 + 12 * w.header.number_of_streams
     pub called : w.meter.calls ≤ 1 + fills_of (12 * w.header.number_of_streams) (w.window.room - 11)
     pub names : w.meter.names ≡ 0
     pub aside : w.meter.aside ≡ record { bytes = 0; calls = 0 }
@@ -155,6 +157,7 @@ module _ {S A : Type 0} where
     pub spends : NewWalkSpends source w
     pub reads : NewWalkReads source w
     pub choice_is : w.choice ≡ choice
+    pub budget : w.meter.budget ≡ limits.budget
     pub window : w.window.room ≡ limits.window
     pub name : vec_len w.name ≡ limits.name
     pub next : w.next ≡ 0
@@ -164,13 +167,14 @@ module _ {S A : Type 0} where
     pub sound : IsSound w
 
   -- the ranges of the chosen memory lists were counted, by their heads
-  pub record CountsRanges (old : Walk S A) (result : Result ℕ SourceFault) (new : Walk S A) : Type 0 where
+  pub record CountsRanges (old : Walk S A) (result : Result ℕ FetchFault) (new : Walk S A) : Type 0 where
     pub sound : IsSound new
     pub same : SameEntry old new
     pub stage : new.stage ≡ old.stage
     pub count : (file : List ℕ) → old.meter.source.store.content ≡ Some file → IfOk result (λ count. count ≡ range_count file old.choice)
     pub books : Books (vec_len old.entries) (heads_ahead old.choice old.meter.source.size old.entries.items) old.meter new.meter
-    pub caused : IsCaused (fault_of result) old.meter.source new.meter.source
+    pub caused : IsCaused (store_fault_of result) old.meter.source new.meter.source
+    pub refused : TellsBudget 16 result new.meter
 
   -- where it stands in its directory
   abbrev pub cursor_of : Walk S A → Cursor
@@ -219,9 +223,9 @@ IsThrough stage = ⊥
 
 -- a fault that was next in a run, and stays in it
 abbrev pub FaultStays : Run → ListFault → Run → Type 0
-FaultStays old f new = (IsOfSource f.kind → ⊥) → (old ≡ only_fault f) × (new ≡ only_fault f)
+FaultStays old f new = (IsUnobtained f.kind → ⊥) → (old ≡ only_fault f) × (new ≡ only_fault f)
 
--- a call answered the first of what was left, or a fault of the store, and leaves the rest
+-- a call answered the first of what was left, or a fault of bytes that were not obtained, and leaves the rest
 abbrev pub Advances : ℕ → List ℕ → Run → Result (Option Step) ListFault → Run → Type 0
 Advances z buffer old (Ok None) new = (old ≡ nothing) × (new ≡ nothing)
 Advances z buffer old (Ok (Some s)) new = old ≡ with_item (step_item z buffer s) new

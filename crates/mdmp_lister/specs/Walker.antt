@@ -14,12 +14,12 @@ use Rattle.mdmp_lister.specs.declared.meter.MeterCounts.{MeterCounts}
 use Rattle.mdmp_lister.specs.declared.position.Position.{Position}
 use Rattle.mdmp_lister.specs.declared.position.Position.TheVariants.{Begun, Sought, Within}
 use Rattle.mdmp_lister.specs.Costs.{begun_by}
-use Rattle.mdmp_lister.specs.Fault.{IsOfSource, IsToldIn, TellsNoChange}
+use Rattle.mdmp_lister.specs.Fault.{is_unobtained, IsOfStore, IsToldIn, TellsNoChange}
 use Rattle.mdmp_lister.specs.Following.{Follows, IsBegun, begun, records_by}
 use Rattle.mdmp_lister.specs.Format.Item.{plain}
 use Rattle.mdmp_lister.specs.Format.Kind.{HasNoNames, kind_of}
 use Rattle.mdmp_lister.specs.Format.Listing.{Run, listing_sought, only_fault, records_told, stream_item}
-use Rattle.mdmp_lister.specs.Lister.{AnswersNext, Gives, cursor_in, IsNewList, IsSameLister, NextLeaves, ListerState, is_of_source}
+use Rattle.mdmp_lister.specs.Lister.{AnswersNext, Gives, cursor_in, IsNewList, IsSameLister, NextLeaves, ListerState, IsRefusedIn}
 use Rattle.mdmp_lister.specs.Meter.{Moves}
 use Rattle.mdmp_lister.specs.Step.{TellsAnswer}
 use Rattle.mdmp_lister.specs.Walk.Paying.{entry_cost}
@@ -49,9 +49,9 @@ is_begun v = begins v.position
 abbrev pub is_sought : WalkerState → Bool
 is_sought v = seeks v.position
 
--- a fault of the store stays for good
+-- a fault of bytes that were not obtained stays for good
 abbrev pub is_failed : Option (Option ListFault) → Bool
-is_failed (Some (Some f)) = is_of_source f.kind
+is_failed (Some (Some f)) = is_unobtained f.kind
 is_failed stop = false
 
 -- a walker that was opened over a source, and has given nothing
@@ -60,18 +60,18 @@ pub record IsNewWalker (source : SourceState) (choice : Choice) (limits : Limits
   -- the header was fetched, and the directory
   pub fetches : FetchesAtMost (32 + 12 * new.list.header.number_of_streams) source new.list.source
   pub calls : new.list.source.calls ≤ raised source.calls (1 + new.list.header.number_of_streams)
-  pub fetched : new.list.counts.fetched ≤ 32 + 12 * new.list.header.number_of_streams
+  pub asked : new.list.counts.asked ≤ 32 + 12 * new.list.header.number_of_streams
   pub range_room : new.list.rooms.ranges ≡ 0
   pub mark : new.mark ≡ new.list.counts
   pub position : new.position ≡ Within
   -- no entry was begun, so that nothing may be fetched before the first Stream item
   pub unbegun : entry_cost new.list.source.size new.list.current ≡ 0
 
--- since the Stream item before them, requests have fetched no more than the stream of its entry has, where it is listed, and
--- for each name reached its length and as much as the limit; once the count of names is at its greatest nothing is said
+-- since the Stream item before them, requests have asked for no more than the stream of its entry has, where it is listed,
+-- and for each name reached its length and as much as the limit; once the count of names is at its greatest nothing is said
 abbrev pub IsSpentSince : WalkerState → MeterCounts → Type 0
 IsSpentSince old counts = counts.names + 1 < 2 ^ 128
-    → counts.fetched + old.mark.names * (old.list.limit + 4) ≤ old.mark.fetched + entry_cost old.list.source.size old.list.current + counts.names * (old.list.limit + 4)
+    → counts.asked + old.mark.names * (old.list.limit + 4) ≤ old.mark.asked + entry_cost old.list.source.size old.list.current + counts.names * (old.list.limit + 4)
 
 -- what a request for the next item leaves
 pub record WalkerLeaves (old : WalkerState) (result : Result (Option Item) ListFault) (new : WalkerState) : Type 0 where
@@ -151,7 +151,8 @@ pub record CountsRecords (old : WalkerState) (result : Result ℕ ListFault) (ne
   pub counts : Moves 0 old.list.counts new.list.counts
   pub spent : IsSpentSince old new.list.counts
   pub told : old.list.stop ≡ None → IfErr result (λ f. IsToldIn old.list.current f old.list.source new.list.source × (f.entry + 1 ≡ old.list.passed))
-  pub good : (file : List ℕ) → IsGood old.list.source.store file → IfErr result (λ f. IsOfSource f.kind → ⊥)
+  pub good : (file : List ℕ) → IsGood old.list.source.store file → IfErr result (λ f. IsOfStore f.kind → ⊥)
+  pub refused : IfErr result (λ f. IsRefusedIn f new.list)
   pub unchanged : IfErr result (λ f. TellsNoChange f.kind)
   pub repeats : (stop : Option ListFault) → old.list.stop ≡ Some stop → new ≡ old
   pub mark : new.mark ≡ old.mark

@@ -3,7 +3,7 @@ ghost use Rattle.std.specs.Prelude.{◌≡◌, ◌≤◌, ◌<◌, ◌+◌, ℕ,
 ghost use Rattle.mdmp_source.specs.Range.{IsInside, bytes_at};
 ghost use Rattle.mdmp_map.specs.Ranges.{IsWithin};
 ghost use Rattle.mdmp_lister.specs.Addressing.{IsStretch, LooksUpAtMost, ReadsAddresses};
-ghost use Rattle.mdmp_lister.specs.Fetching.{Reads};
+ghost use Rattle.mdmp_lister.specs.Fetching.{ReadsBeside};
 ghost use Rattle.mdmp_lister.specs.Meter.{BooksAside};
 
 use crate::meter::Meter;
@@ -67,7 +67,7 @@ fn read_stretch<S: Store>(
     requires inside { IfSome offset (λ at. IsInside at (length out.old) meter.old.source.size) }
     ensures known { IfOk result (λ _. known.new ≡ replicate (length out.new) (is_some offset)) }
     ensures zeros { offset ≡ None → out.new ≡ replicate (length out.new) 0 }
-    ensures reads { Reads (BooksAside (length out.new)) (λ file _. IfSome offset (λ at. out.new ≡ bytes_at file at (length out.new))) result meter.old meter.new }
+    ensures reads { ReadsBeside (length out.new) (λ file _. IfSome offset (λ at. out.new ≡ bytes_at file at (length out.new))) result meter.old meter.new }
 {
     known.fill(offset.is_some());
     match offset {

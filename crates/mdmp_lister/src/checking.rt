@@ -5,7 +5,7 @@ ghost use Rattle.mdmp_lister.specs.Walk.{IsListing};
 ghost use Rattle.mdmp_lister.specs.Walk.Checking.{EntriesChecked, EntryJudged, NextRead, judged_by};
 ghost use Rattle.mdmp_lister.specs.Walk.Mapping.{IsMapped};
 
-use crate::fault::{FaultKind, ListFault};
+use crate::fault::ListFault;
 use crate::range_map::push_range;
 use crate::ranging::read_head;
 use crate::sink::{RunFault, Stopped, VerdictSink};
@@ -16,7 +16,8 @@ use mdmp_map::AddressMap;
 use mdmp_source::Store;
 use std::alloc::Allocator;
 
-/// Hands a sink the verdict on each chosen entry behind the current one, up to a fault of the store.
+/// Hands a sink the verdict on each chosen entry behind the current one, up to a fault of the store or of
+/// the budget.
 pub(crate) fn check_entries<S: Store + Drop, A: Allocator + Copy, K: VerdictSink>(
     walk: &mut Walk<S, A>,
     map: &mut AddressMap<A>,
@@ -42,7 +43,7 @@ pub(crate) fn check_entries<S: Store + Drop, A: Allocator + Copy, K: VerdictSink
 }
 
 /// Reads the current entry, whose head is not read yet, to its end or its first fault, and gives that
-/// fault or none. A fault of the store is an error.
+/// fault or none. A fault of the store or of the budget is an error.
 fn judge_entry<S: Store + Drop, A: Allocator + Copy>(
     walk: &mut Walk<S, A>,
     map: &mut AddressMap<A>,
@@ -83,12 +84,12 @@ fn read_next<S: Store + Drop, A: Allocator + Copy>(
     }
 }
 
-/// What an entry with this fault is judged to have; a fault of the store is an error.
+/// What an entry with this fault is judged to have; a fault of the store or of the budget is an error.
 fn judged(fault: ListFault) -> Result<Option<ListFault>, ListFault>
     ensures { result ≡ judged_by fault.kind fault }
 {
-    match fault.kind {
-        FaultKind::Source(_) => Err(fault),
-        _ => Ok(Some(fault)),
+    if fault.kind.is_unobtained() {
+        return Err(fault);
     }
+    Ok(Some(fault))
 }

@@ -3,7 +3,7 @@ ghost use Rattle.std.specs.Prelude.{◌≡◌, ◌≤◌, ◌+◌, IfOk, length,
 ghost use Rattle.mdmp_source.specs.Range.{IsInside};
 ghost use Rattle.mdmp_wire.specs.CodeView.{codeview_in, codeview_of};
 ghost use Rattle.mdmp_lister.specs.CodeView.{ReadsCodeView, fetched_behind};
-ghost use Rattle.mdmp_lister.specs.Fetching.{Reads};
+ghost use Rattle.mdmp_lister.specs.Fetching.{ReadsBeside};
 ghost use Rattle.mdmp_lister.specs.Meter.{BooksAside};
 
 use crate::meter::Meter;
@@ -62,7 +62,7 @@ fn fetch_codeview<S: Store>(
     requires inside { IsInside location.rva location.size meter.old.source.size }
     ensures room { IfOk result (λ count. count ≡ fetched_behind head.new location.size (length rest.new)) }
     ensures books { IfOk result (λ count. BooksAside (min location.size 24 + count) meter.old meter.new) }
-    ensures reads { Reads (BooksAside (24 + length rest.new)) (λ file count. codeview_in head.new (take count rest.new) location.size ≡ codeview_of file location (length rest.new)) result meter.old meter.new }
+    ensures reads { ReadsBeside (24 + length rest.new) (λ file count. codeview_in head.new (take count rest.new) location.size ≡ codeview_of file location (length rest.new)) result meter.old meter.new }
 {
     let at = u64::from(location.rva);
     meter.fetch_aside(at, head)?;

@@ -8,20 +8,20 @@ ghost use Rattle.mdmp_lister.specs.Meter.{Books};
 ghost use Rattle.mdmp_lister.specs.Format.Kind.{kind_of};
 
 use crate::choice::Choice;
-use crate::fault::FaultKind;
+use crate::fault::{FaultKind, FetchFault};
 use crate::kind::StreamKind;
 use crate::meter::Meter;
 use crate::shape::location_fault;
 use crate::stream_head::fetch_head;
-use mdmp_source::{SourceFault, Store};
+use mdmp_source::Store;
 use mdmp_wire::Entry;
 
 /// How many ranges an entry has: those of a memory list that lies inside the file and whose shape
 /// has no fault; any other entry has none. Of a list that is long enough its head is fetched, of
 /// anything else nothing.
 #[tactic(auto, using(crate::proofs::Metering::Books_none))]
-fn ranges_of_entry<S: Store>(meter: &mut Meter<S>, entry: Entry) -> Result<u64, SourceFault>
-    ensures { Reads (Books 1 (ahead_of meter.old.source.size entry)) (λ file count. count ≡ ranges_in file entry (kind_of entry.stream_type))
+fn ranges_of_entry<S: Store>(meter: &mut Meter<S>, entry: Entry) -> Result<u64, FetchFault>
+    ensures { Reads 16 (Books 1 (ahead_of meter.old.source.size entry)) (λ file count. count ≡ ranges_in file entry (kind_of entry.stream_type))
         result meter.old meter.new }
 {
     let Some(kind) = StreamKind::of_type(entry.stream_type) else {
@@ -33,7 +33,11 @@ fn ranges_of_entry<S: Store>(meter: &mut Meter<S>, entry: Entry) -> Result<u64, 
     match fetch_head(meter, entry.location, kind) {
         Ok(head) => Ok(head.shape.count),
         Err(fault) => match fault.kind {
-            FaultKind::Source(fault) => Err(fault),
+            FaultKind::Source(fault) => Err(FetchFault::Source(fault)),
+            FaultKind::Budget => Err(FetchFault::Budget {
+                offset: fault.offset,
+                size: fault.size,
+            }),
             _ => Ok(0),
         },
     }
@@ -44,10 +48,10 @@ pub(crate) fn count_ranges<S: Store>(
     meter: &mut Meter<S>,
     entries: &[Entry],
     choice: &Choice,
-) -> Result<u128, SourceFault>
+) -> Result<u128, FetchFault>
     requires few { length entries.now < 2 ^ 32 }
     requires directory { (file : List ℕ) → meter.old.source.store.content ≡ Some file → IsDirectory file entries.now }
-    ensures { Reads (Books (length entries.now) (heads_ahead choice.now meter.old.source.size entries.now)) (λ file count. count ≡ range_count file choice.now)
+    ensures { Reads 16 (Books (length entries.now) (heads_ahead choice.now meter.old.source.size entries.now)) (λ file count. count ≡ range_count file choice.now)
         result meter.old meter.new }
 {
     let mut total = 0;

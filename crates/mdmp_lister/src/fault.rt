@@ -31,6 +31,24 @@ pub enum FaultKind {
     /// The file's bytes were not obtained, or do not agree with what was read before: the offset is
     /// that of the store's fault, and the size is 0. No definition of a listing gives it.
     Source(SourceFault),
+    /// With these bytes more than the budget would have been fetched, so they were not: the offset and
+    /// the size are theirs. No definition of a listing gives it.
+    Budget,
+}
+
+impl FaultKind {
+    ghost use Rattle.mdmp_lister.specs.Fault.{is_unobtained};
+
+    /// Whether bytes that were needed were not obtained, or do not agree with what was read before. Such
+    /// a fault is told of no item, and stays for good.
+    pub(crate) fn is_unobtained(self) -> bool
+        ensures { result ≡ is_unobtained self }
+    {
+        match self {
+            FaultKind::Source(_) | FaultKind::Budget => true,
+            _ => false,
+        }
+    }
 }
 
 /// A fault, and the bytes or the number that it names.
@@ -49,6 +67,60 @@ pub(crate) fn faulted<T: Drop>(kind: FaultKind, offset: u64, size: u64) -> Resul
     ensures { result ≡ Err (record { kind = kind; offset = offset; size = size }) }
 {
     Err(Fault { kind, offset, size })
+}
+
+/// Why bytes that a listing needs were not obtained.
+#[derive(Clone, Copy)]
+pub(crate) enum FetchFault {
+    /// The store is at fault.
+    Source(SourceFault),
+    /// A fetch was not made, with which more than the budget would have been fetched.
+    Budget {
+        /// The offset of its bytes from the start of the file.
+        offset: u64,
+        /// How many it was to fetch.
+        size: u64,
+    },
+}
+
+impl From<SourceFault> for FetchFault {
+    ghost use Rattle.mdmp_lister.specs.declared.fault.FetchFault.TheVariants.{Source};
+
+    ghost from_gives = { λ fault f. f ≡ Source fault };
+
+    fn from(fault: SourceFault) -> FetchFault {
+        FetchFault::Source(fault)
+    }
+}
+
+impl From<FetchFault> for Fault {
+    ghost use Rattle.mdmp_lister.specs.Fault.{fault_of_fetch};
+
+    ghost from_gives = { λ fault f. f ≡ fault_of_fetch fault };
+
+    fn from(fault: FetchFault) -> Fault {
+        match fault {
+            FetchFault::Source(fault) => Fault::from(fault),
+            FetchFault::Budget { offset, size } => Fault {
+                kind: FaultKind::Budget,
+                offset,
+                size,
+            },
+        }
+    }
+}
+
+impl From<FetchFault> for OpenFault {
+    ghost use Rattle.mdmp_lister.specs.Opening.{refusal_of_fetch};
+
+    ghost from_gives = { λ fault f. f ≡ refusal_of_fetch fault };
+
+    fn from(fault: FetchFault) -> OpenFault {
+        match fault {
+            FetchFault::Source(fault) => OpenFault::Source(fault),
+            FetchFault::Budget { offset, size } => OpenFault::Budget { offset, size },
+        }
+    }
 }
 
 /// A fault of the store names the first byte that was not obtained, or the first of those that do not
@@ -79,7 +151,7 @@ pub struct ListFault {
     /// The number of the entry in the directory, from 0.
     pub entry: u32,
     /// The index of the item in whose place the fault stands, from 0: of the item whose name is
-    /// bad. None where the whole stream is, or the store failed.
+    /// bad. None where the whole stream is, or bytes were not obtained.
     pub index: Option<u64>,
     /// What is wrong.
     pub kind: FaultKind,
@@ -92,13 +164,15 @@ pub struct ListFault {
 impl ListFault {
     ghost use Rattle.mdmp_lister.specs.Fault.{IsListFaultOf};
 
-    /// The fault of an item of an entry, or of all of it. One of the store is that of no item.
+    /// The fault of an item of an entry, or of all of it. That of bytes which were not obtained is that of
+    /// no item.
     pub(crate) fn of_entry(entry: u32, index: Option<u64>, fault: Fault) -> ListFault
         ensures { IsListFaultOf entry index fault result }
     {
-        let index = match fault.kind {
-            FaultKind::Source(_) => None,
-            _ => index,
+        let index = if fault.kind.is_unobtained() {
+            None
+        } else {
+            index
         };
         ListFault {
             entry,
@@ -135,6 +209,14 @@ pub enum OpenFault {
     },
     /// The header, the directory or the head of a memory list was not obtained.
     Source(SourceFault),
+    /// With these bytes of the header, the directory or the head of a memory list more than the budget
+    /// would have been fetched, so they were not.
+    Budget {
+        /// Their offset from the start of the file.
+        offset: u64,
+        /// How many they are.
+        size: u64,
+    },
     /// The allocator refused memory.
     Memory,
     /// The chosen memory lists that lie inside and have no fault have more ranges than 2^28.

@@ -9,10 +9,10 @@ ghost use Rattle.mdmp_lister.specs.Format.Name.{name_at};
 ghost use Rattle.mdmp_lister.specs.Fault.{Answers};
 ghost use Rattle.mdmp_lister.specs.Step.{IsHeld, name_read};
 
-use crate::fault::{Fault, FaultKind, faulted};
+use crate::fault::{Fault, FaultKind, FetchFault, faulted};
 use crate::meter::Meter;
 use crate::name::check_units;
-use mdmp_source::{SourceFault, Store, inside};
+use mdmp_source::{Store, inside};
 use mdmp_wire::{Record, get_at};
 
 /// The name of a record, whose units were read into the front of a buffer.
@@ -32,10 +32,10 @@ pub(crate) fn fetch_front<S: Store>(
     at: u64,
     buffer: &mut [u8],
     count: usize,
-) -> Result<(), SourceFault>
+) -> Result<(), FetchFault>
     requires room { count ≤ length buffer.old }
     requires inside { IsInside at count meter.old.source.size }
-    ensures { Reads (Books 1 count) (λ file _. take count buffer.new ≡ bytes_at file at count) result meter.old meter.new }
+    ensures { Reads count (Books 1 count) (λ file _. take count buffer.new ≡ bytes_at file at count) result meter.old meter.new }
 {
     meter.fetch(at, &mut buffer[..count])
 }
@@ -49,9 +49,9 @@ pub(crate) fn first_of<R: Record>(bytes: &[u8]) -> R
 }
 
 /// How many bytes the units of the name at `rva` have, as it says.
-fn read_length<S: Store>(meter: &mut Meter<S>, rva: u64) -> Result<u32, SourceFault>
+fn read_length<S: Store>(meter: &mut Meter<S>, rva: u64) -> Result<u32, FetchFault>
     requires { rva + 4 ≤ meter.old.source.size }
-    ensures { Reads (Books 1 4) (λ file length. u32_at file rva ≡ length) result meter.old meter.new }
+    ensures { Reads 4 (Books 1 4) (λ file length. u32_at file rva ≡ length) result meter.old meter.new }
 {
     let mut bytes = [0; 4];
     meter.fetch(rva, &mut bytes)?;
@@ -60,7 +60,7 @@ fn read_length<S: Store>(meter: &mut Meter<S>, rva: u64) -> Result<u32, SourceFa
 
 /// The name at `rva`, its units into the front of a buffer as long as the limit, or its fault: a
 /// length outside the file, an odd one, units outside. The units of a longer name are not fetched.
-#[tactic(auto, using(crate::proofs::Fetches::IsCaused_later, crate::proofs::Costs::source_name_cost, crate::proofs::Naming::source_reached), unfolding(crate::specs::Format::Name::name_at, mdmp_wire::specs::Number::array_at))]
+#[tactic(auto, using(crate::proofs::Fetches::IsCaused_later, crate::proofs::Costs::source_name_cost, crate::proofs::Naming::source_reached, crate::proofs::Budgets::over_read), unfolding(crate::specs::Format::Name::name_at, mdmp_wire::specs::Number::array_at))]
 pub(crate) fn read_name<S: Store>(
     meter: &mut Meter<S>,
     buffer: &mut [u8],

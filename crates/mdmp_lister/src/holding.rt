@@ -5,8 +5,9 @@ ghost use Rattle.mdmp_lister.specs.Fetching.{Reads};
 ghost use Rattle.mdmp_lister.specs.Holding.{ComesTo, IsAhead, Slides, needed, reached};
 ghost use Rattle.mdmp_lister.specs.Meter.{Books};
 
+use crate::fault::FetchFault;
 use crate::meter::Meter;
-use mdmp_source::{SourceFault, Store, Window};
+use mdmp_source::{Store, Window};
 use std::alloc::Allocator;
 
 /// Moves a window on to `at`. What it holds from there on stays held; what lies before is passed over,
@@ -32,9 +33,9 @@ pub(crate) fn hold<S: Store, A: Allocator>(
     window: &mut Window<A>,
     at: u64,
     size: usize,
-) -> Result<(), SourceFault>
+) -> Result<(), FetchFault>
     requires { IsAhead meter.old.source at size window.old }
-    ensures reads { Reads (Books (min 1 (needed at size window.old)) (needed at size window.old)) (λ file _. take size window.new.held ≡ bytes_at file at size)
+    ensures reads { Reads window.old.room (Books (min 1 (needed at size window.old)) (needed at size window.old)) (λ file _. take size window.new.held ≡ bytes_at file at size)
         result meter.old meter.new }
     ensures comes { ComesTo at meter.old.source.store.content window.old window.new }
     ensures enough { OnOk result (size ≤ length window.new.held) }

@@ -6,7 +6,7 @@ ghost use Rattle.mdmp_source.specs.Range.{IsInside, bytes_at};
 ghost use Rattle.mdmp_source.specs.Store.{IsGood, IsSizeOf};
 ghost use Rattle.mdmp_wire.specs.CodeView.{codeview_of};
 ghost use Rattle.mdmp_lister.specs.CodeView.{AreFetched, codeview_cost, codeview_told};
-ghost use Rattle.mdmp_lister.specs.Opening.{IsHandedBack, IsOpenRefusal, IsRefusalOf, IsUnread, IsUnreadFor};
+ghost use Rattle.mdmp_lister.specs.Opening.{IsHandedBack, IsOpenRefusal, IsRefusalOf, IsUnread, IsUnreadFor, KeepsToBudget};
 ghost use Rattle.mdmp_lister.specs.Format.Refusal.{opening_fault};
 ghost use Rattle.mdmp_map.specs.Ranges.{IsWithin};
 ghost use Rattle.mdmp_source.specs.Source.{FetchesAtMost, FetchesSome};
@@ -17,7 +17,7 @@ ghost use Rattle.mdmp_lister.specs.Following.{through};
 ghost use Rattle.mdmp_lister.specs.Format.Listing.{Run};
 ghost use Rattle.mdmp_lister.specs.Format.Numbers.{range_count};
 ghost use Rattle.mdmp_lister.specs.Format.Ranges.{ranges_of};
-ghost use Rattle.mdmp_lister.specs.Fault.{IsOfSource, IsToldIn};
+ghost use Rattle.mdmp_lister.specs.Fault.{IsOfStore, IsToldIn, IsUnobtained};
 ghost use Rattle.mdmp_lister.specs.Stage.{stop_after, stop_after_run};
 
 use crate::addressing::read_addresses;
@@ -92,7 +92,7 @@ impl<S: Store + Drop, A: Allocator + Copy> Lister<S, A> {
     ghost use Rattle.mdmp_lister.specs.contracts.lister.Lister.{the_row};
     ghost use Rattle.mdmp_lister.specs.Check.{CheckLeaves};
     ghost use Rattle.mdmp_lister.specs.Sink.{RangesFollow, RunLeaves};
-    ghost use Rattle.mdmp_lister.specs.Lister.{Gives, IsNewLister, IsRecordsLeft, IsSameLister, ListerLeaves, ReadsAside, is_for_good, is_fresh, listing_behind};
+    ghost use Rattle.mdmp_lister.specs.Lister.{Gives, IsNewLister, IsRecordsLeft, IsRefusedIn, IsSameLister, ListerLeaves, ReadsAside, is_for_good, is_fresh, listing_behind};
 
     /// Opens a file. Its header is read; memory is taken for the directory, the window and a name; the
     /// directory is read, and the ranges of the chosen memory lists are counted by their heads; then
@@ -100,7 +100,9 @@ impl<S: Store + Drop, A: Allocator + Copy> Lister<S, A> {
     /// lists no memory, lies outside the file or is too short for its head nothing is fetched.
     ///
     /// A refusal hands the source back: the fault of the header or of the place of the directory, too
-    /// many ranges, want of memory, or that the store failed, behind which nothing more is fetched.
+    /// many ranges, want of memory, that the store failed, behind which nothing more is fetched, or that
+    /// a fetch would have passed the budget, which is not made. What was fetched by then is within the
+    /// budget.
     #[tactic(auto, using(crate::proofs::Paying::bounded_new, crate::proofs::Fetches::IsCaused_later, crate::proofs::Refusals::IsHandedBack_bare, crate::proofs::Refusals::open_refusal))]
     pub fn open(
         alloc: A,
@@ -118,6 +120,7 @@ impl<S: Store + Drop, A: Allocator + Copy> Lister<S, A> {
         ensures memory { IfErr result (λ refused. refused.fault ≡ OpenFault.Memory
             → FetchesAtMost 32 source refused.source ⊎ ((file : List ℕ) → source.store.content ≡ Some file → opening_fault file choice ≡ None)) }
         ensures cause { IfErr result (λ refused. IsUnreadFor refused.fault source refused.source) }
+        ensures kept { IfErr result (λ refused. KeepsToBudget limits source refused.fault refused.source) }
     {
         let mut walk = match Walk::open(alloc, source, limits, choice) {
             Ok(walk) => walk,
@@ -125,7 +128,7 @@ impl<S: Store + Drop, A: Allocator + Copy> Lister<S, A> {
         };
         let count = match walk.count_ranges() {
             Ok(count) => count,
-            Err(fault) => return Err(refused(OpenFault::Source(fault), walk.meter)),
+            Err(fault) => return Err(refused(OpenFault::from(fault), walk.meter)),
         };
         if count > MOST_RANGES {
             return Err(refused(OpenFault::TooManyRanges { count }, walk.meter));
@@ -166,9 +169,9 @@ impl<S: Store + Drop, A: Allocator + Copy> Lister<S, A> {
     }
 
     /// The next item, whose name is lent until the next call, or none behind the last one. A fault
-    /// of the file is answered again until its entry is skipped, a fault of the store for good. A
-    /// range that lies inside the file is put into the map. A store has changed where the head of a
-    /// memory list, read again, counts more ranges than the map has room left.
+    /// of the file is answered again until its entry is skipped, a fault of the store or of the budget
+    /// for good. A range that lies inside the file is put into the map. A store has changed where the
+    /// head of a memory list, read again, counts more ranges than the map has room left.
     ///
     /// The head and the records of a stream pass through the window: where it does not hold all of what
     /// comes next, it is filled with the bytes behind those that it holds, as far as it has room and the
@@ -177,7 +180,7 @@ impl<S: Store + Drop, A: Allocator + Copy> Lister<S, A> {
         ensures gives { (left : _) → self.old.left ≡ Some left → Gives left result }
         ensures* leaves { sem 𝓛 (Rests (the_row S.row A.row S.Store A.Allocator) self.entry (ListerLeaves self.old result)) }
         ensures repeats { (stop : _) → self.old.stop ≡ Some stop → stop_after result ≡ Some stop }
-        ensures good { (file : List ℕ) → IsGood self.old.source.store file → IfErr result (λ fault. IsOfSource fault.kind → ⊥) }
+        ensures good { (file : List ℕ) → IsGood self.old.source.store file → IfErr result (λ fault. IsOfStore fault.kind → ⊥) }
     {
         match advance(&mut self.walk, self.map.free()) {
             Ok(None) => Ok(None),
@@ -211,7 +214,7 @@ impl<S: Store + Drop, A: Allocator + Copy> Lister<S, A> {
     }
 
     /// Drops what is left of the entry whose Stream item was given last. Before the first one, behind
-    /// the end and after a fault of the store it changes nothing.
+    /// the end and after a fault of the store or of the budget it changes nothing.
     pub fn skip_entry(&mut self)
         ensures skips { is_for_good self.old.stop ≡ false
             → (self.new.left ≡ listing_behind self.old self.old.passed) × (self.new.stop ≡ None) × (self.new.unread ≡ 0) × (self.new.standing ≡ through) }
@@ -242,7 +245,8 @@ impl<S: Store + Drop, A: Allocator + Copy> Lister<S, A> {
             → IfErr result (λ r. (fault : _) → r ≡ RunFault.At fault
             → IsToldIn self.new.current fault self.old.source self.new.source × (fault.entry + 1 ≡ self.new.passed)) }
         ensures good { (file : List ℕ) → IsGood self.old.source.store file
-            → IfErr result (λ r. (fault : _) → r ≡ RunFault.At fault → IsOfSource fault.kind → ⊥) }
+            → IfErr result (λ r. (fault : _) → r ≡ RunFault.At fault → IsOfStore fault.kind → ⊥) }
+        ensures refused { IfErr result (λ r. (fault : _) → r ≡ RunFault.At fault → IsRefusedIn fault self.new) }
     {
         loop {
             match self.next() {
@@ -261,9 +265,10 @@ impl<S: Store + Drop, A: Allocator + Copy> Lister<S, A> {
         requires going { self.old.stop ≡ None }
         ensures lists { (left : Run) → self.old.left ≡ Some left → MatchResult result
             (λ _. (left.fault ≡ None) × (self.new.ranges ≡ self.old.ranges ++ ranges_of left.items))
-            (λ fault. (IsOfSource fault.kind → ⊥) → left.fault ≡ Some fault) }
-        ensures good { (file : List ℕ) → IsGood self.old.source.store file → IfErr result (λ fault. IsOfSource fault.kind → ⊥) }
+            (λ fault. (IsUnobtained fault.kind → ⊥) → left.fault ≡ Some fault) }
+        ensures good { (file : List ℕ) → IsGood self.old.source.store file → IfErr result (λ fault. IsOfStore fault.kind → ⊥) }
         ensures told { IfErr result (λ fault. IsToldIn self.new.current fault self.old.source self.new.source) }
+        ensures refused { IfErr result (λ fault. IsRefusedIn fault self.new) }
         ensures follows { RangesFollow self.old result self.new }
         ensures fetches { FetchesSome self.old.source self.new.source }
         ensures same { IsSameLister self.old self.new }
@@ -278,18 +283,19 @@ impl<S: Store + Drop, A: Allocator + Copy> Lister<S, A> {
 
     /// Hands a sink the verdict on each chosen entry, in the order of the directory: its first fault,
     /// or none. Each entry is read to its end or its fault, and its ranges that lie inside the file are
-    /// put into the map; behind a bad entry the next one is read. A fault of the store ends the check,
-    /// which gives no verdict on that entry, and so does a sink that wants no more; the verdict that it
-    /// was handed then counts as given, and the next item is the entry behind it.
+    /// put into the map; behind a bad entry the next one is read. A fault of the store or of the budget
+    /// ends the check, which gives no verdict on that entry, and so does a sink that wants no more; the
+    /// verdict that it was handed then counts as given, and the next item is the entry behind it.
     ///
     /// No item, verdict or fault was given before: see [`Lister::is_fresh`].
     pub fn check_into<K: VerdictSink>(&mut self, sink: &mut K) -> Result<(), RunFault>
         requires { IsTrue (is_fresh self.old) }
         ensures checks { CheckLeaves K.step self.old sink.old result self.new sink.new }
         ensures told { IfErr result (λ r. (fault : _) → r ≡ RunFault.At fault
-            → IsOfSource fault.kind × IsToldIn self.new.current fault self.old.source self.new.source) }
+            → IsUnobtained fault.kind × IsToldIn self.new.current fault self.old.source self.new.source) }
         ensures good { (file : List ℕ) → IsGood self.old.source.store file
-            → IfErr result (λ r. (fault : _) → r ≡ RunFault.At fault → ⊥) }
+            → IfErr result (λ r. (fault : _) → r ≡ RunFault.At fault → IsOfStore fault.kind → ⊥) }
+        ensures refused { IfErr result (λ r. (fault : _) → r ≡ RunFault.At fault → IsRefusedIn fault self.new) }
         ensures rests { self.new.work ≤ self.old.work }
     {
         check_entries(&mut self.walk, &mut self.map, sink)

@@ -1,14 +1,16 @@
 //! A source that is read for a listing, which counts what the listing fetches.
-ghost use Rattle.std.specs.Prelude.{◌≡◌, ◌≤◌, OnErr, OnOk, length, min};
+ghost use Rattle.std.specs.Prelude.{◌≡◌, ◌≤◌, ◌+◌, Err, OnErr, OnOk, length, min};
 ghost use Rattle.mdmp_source.specs.Count.{raised};
 ghost use Rattle.mdmp_source.specs.Range.{IsInside, bytes_at};
 ghost use Rattle.mdmp_source.specs.Source.{fault_of};
 ghost use Rattle.mdmp_source.specs.Store.{IsOfBytes, IsSizeOf};
 ghost use Rattle.mdmp_source.specs.Window.{IsFilled, next_len_of};
 ghost use Rattle.mdmp_lister.specs.Fault.{IsCaused};
-ghost use Rattle.mdmp_lister.specs.Fetching.{Reads};
-ghost use Rattle.mdmp_lister.specs.Meter.{Books, BooksAside, IsBooked, IsSourceOf, MeterState, counts_of};
+ghost use Rattle.mdmp_lister.specs.Fetching.{Reads, ReadsBeside};
+ghost use Rattle.mdmp_lister.specs.Meter.{Books, BooksAside, CountsFetch, IsBooked, IsMetered, IsSourceOf, MeterState, RefusesFetch, counts_of, is_passed, store_fault_of};
+ghost use Rattle.mdmp_lister.specs.declared.fault.FetchFault.{FetchFault};
 
+use crate::fault::FetchFault;
 use mdmp_source::{Source, SourceFault, Store, Window};
 use std::alloc::Allocator;
 use std::marker::Model;
@@ -33,10 +35,15 @@ pub(crate) struct MeterCounts {
     pub aside: Amount,
     /// What the source's own counts were at first.
     pub start: Amount,
+    /// The most bytes that may be fetched for the listing, where there is a most.
+    pub budget: Option<u64>,
+    /// The bytes fetched, with those of a fetch that was not made since it would have passed the budget.
+    pub asked: u128,
 }
 
-/// A source that is read for a listing. Beside the counts of the source itself, which go on, it counts
-/// what was fetched since it was made: for the listing, and aside.
+/// A source that is read for a listing, and for that never for more bytes than its budget. Beside the
+/// counts of the source itself, which go on, it counts what was fetched since it was made: for the listing,
+/// and aside.
 #[derive(Drop)]
 pub(crate) struct Meter<S: Store> {
     source: Source<S>,
@@ -46,10 +53,15 @@ pub(crate) struct Meter<S: Store> {
     aside: Amount,
     /// What the source's own counts were at first.
     start: Amount,
+    /// The most bytes that may be fetched for the listing, where there is a most.
+    budget: Option<u64>,
+    /// The bytes fetched, with those of a fetch that was not made since it would have passed the budget.
+    asked: u128,
 }
 
 impl<S: Store> Model for Meter<S> {
-    ghost use Rattle.mdmp_lister.specs.Meter.{IsBookedBy, MeterState};
+    ghost use Rattle.std.specs.Prelude.{◌≤◌};
+    ghost use Rattle.mdmp_lister.specs.Meter.{IsBookedBy, IsMetered, MeterState};
 
     ghost Value = { MeterState };
 
@@ -60,14 +72,16 @@ impl<S: Store> Model for Meter<S> {
       names = m.names;
       aside = m.aside;
       start = m.start;
+      budget = m.budget;
+      asked = m.asked;
     } };
 
-    ghost invariant = { λ m. IsBookedBy m.source m.fetched m.calls m.aside m.start };
+    ghost invariant = { λ m. IsBookedBy m.source m.fetched m.calls m.aside m.start × IsMetered m.budget m.fetched m.asked };
 }
 
 impl<S: Store> Meter<S> {
-    /// A meter through which nothing was fetched.
-    pub(crate) fn new(source: Source<S>) -> Self
+    /// A meter through which nothing was fetched, with a budget or none.
+    pub(crate) fn new(source: Source<S>, budget: Option<u64>) -> Self
         ensures { result ≡ record {
           source = source;
           fetched = 0;
@@ -75,6 +89,8 @@ impl<S: Store> Meter<S> {
           names = 0;
           aside = record { bytes = 0; calls = 0 };
           start = record { bytes = source.fetched; calls = source.calls };
+          budget = budget;
+          asked = 0;
         } }
     {
         let start = Amount {
@@ -88,6 +104,8 @@ impl<S: Store> Meter<S> {
             names: 0,
             aside: Amount { bytes: 0, calls: 0 },
             start,
+            budget,
+            asked: 0,
         }
     }
 
@@ -101,38 +119,49 @@ impl<S: Store> Meter<S> {
     }
 
     /// Fetches for the listing.
-    pub(crate) fn fetch(&mut self, at: u64, out: &mut [u8]) -> Result<(), SourceFault>
+    pub(crate) fn fetch(&mut self, at: u64, out: &mut [u8]) -> Result<(), FetchFault>
         requires { IsInside at (length out.old) self.old.source.size }
-        ensures reads { Reads (Books 1 (length out.new)) (λ file _. out.new ≡ bytes_at file at (length out.new)) result self.old self.new }
-        ensures counts { self.new ≡ record self.old {
-          source = self.new.source;
-          fetched = raised self.old.fetched (length out.new);
-          calls = raised self.old.calls 1;
-        } }
+        ensures reads { Reads (length out.new) (Books 1 (length out.new)) (λ file _. out.new ≡ bytes_at file at (length out.new)) result self.old self.new }
+        ensures counts { CountsFetch 1 (length out.new) result self.old self.new }
+        ensures refused { RefusesFetch at (length out.new) result self.old self.new }
     {
-        self.fetched = self.fetched.saturating_add(out.len() as u128);
+        let size = out.len();
+        self.asked = self.asked.saturating_add(size as u128);
+        if is_passed(self.budget, self.fetched, size) {
+            return over_budget(at, size);
+        }
+        self.fetched = self.fetched.saturating_add(size as u128);
         self.calls = self.calls.saturating_add(1);
-        self.source.fetch(at, out)
+        self.source.fetch(at, out)?;
+        Ok(())
     }
 
     /// Fills a window for the listing, by one fetch, or by none where there is nothing to be fetched.
-    pub(crate) fn fill<A: Allocator>(&mut self, window: &mut Window<A>) -> Result<(), SourceFault>
+    pub(crate) fn fill<A: Allocator>(&mut self, window: &mut Window<A>) -> Result<(), FetchFault>
         requires { window.old.end ≤ self.old.source.size }
         ensures filled { OnOk result (IsFilled self.old.source.store.content window.old window.new) }
         ensures kept { OnErr result (window.new ≡ window.old) }
         ensures books { Books (min 1 (next_len_of window.old)) (next_len_of window.old) self.old self.new }
-        ensures caused { IsCaused (fault_of result) self.old.source self.new.source }
+        ensures caused { IsCaused (store_fault_of result) self.old.source self.new.source }
+        ensures refused { RefusesFetch (window.old.place + length window.old.held) (next_len_of window.old) result self.old self.new }
     {
-        let count = window.next_len() as u128;
-        self.fetched = self.fetched.saturating_add(count);
-        self.calls = self.calls.saturating_add(count.min(1));
-        window.fill(&mut self.source)
+        // The proof learns here that a place inside the file has 64 bits.
+        let _size = self.size();
+        let size = window.next_len();
+        self.asked = self.asked.saturating_add(size as u128);
+        if is_passed(self.budget, self.fetched, size) {
+            return over_budget(window.place() + window.bytes().len() as u64, size);
+        }
+        self.fetched = self.fetched.saturating_add(size as u128);
+        self.calls = self.calls.saturating_add(size.min(1) as u128);
+        window.fill(&mut self.source)?;
+        Ok(())
     }
 
     /// Fetches what is not of the listing.
     pub(crate) fn fetch_aside(&mut self, at: u64, out: &mut [u8]) -> Result<(), SourceFault>
         requires { IsInside at (length out.old) self.old.source.size }
-        ensures { Reads (BooksAside (length out.new)) (λ file _. out.new ≡ bytes_at file at (length out.new)) result self.old self.new }
+        ensures { ReadsBeside (length out.new) (λ file _. out.new ≡ bytes_at file at (length out.new)) result self.old self.new }
     {
         self.aside = Amount {
             bytes: self.aside.bytes.saturating_add(out.len() as u128),
@@ -152,6 +181,7 @@ impl<S: Store> Meter<S> {
     pub(crate) fn counts(&self) -> MeterCounts
         ensures value { result ≡ counts_of self.now }
         ensures booked { IsBooked self.now.source result }
+        ensures kept { IsMetered result.budget result.fetched result.asked }
     {
         MeterCounts {
             fetched: self.fetched,
@@ -159,6 +189,8 @@ impl<S: Store> Meter<S> {
             names: self.names,
             aside: self.aside,
             start: self.start,
+            budget: self.budget,
+            asked: self.asked,
         }
     }
 
@@ -168,5 +200,25 @@ impl<S: Store> Meter<S> {
     {
         let Meter { source, .. } = self;
         source
+    }
+}
+
+/// These bytes are not fetched, since the budget has no room for them.
+fn over_budget(offset: u64, size: usize) -> Result<(), FetchFault>
+    ensures { result ≡ Err (FetchFault.Budget offset size) }
+{
+    Err(FetchFault::Budget {
+        offset,
+        size: size as u64,
+    })
+}
+
+/// Whether so many bytes more than were fetched would pass a budget.
+fn is_passed(budget: Option<u64>, fetched: u128, size: usize) -> bool
+    ensures { result ≡ is_passed budget (raised fetched size) }
+{
+    match budget {
+        Some(budget) => fetched.saturating_add(size as u128) > u128::from(budget),
+        None => false,
     }
 }

@@ -10,11 +10,11 @@ ghost use Rattle.mdmp_lister.specs.Meter.{Books};
 ghost use Rattle.mdmp_lister.specs.Opening.{IsHeaderIn, IsNextChosen, ReadsHeader};
 
 use crate::choice::Choice;
-use crate::fault::OpenFault;
+use crate::fault::{FetchFault, OpenFault};
 use crate::fetching::first_of;
 use crate::holding::hold;
 use crate::meter::Meter;
-use mdmp_source::{Source, SourceFault, Store, Window, inside};
+use mdmp_source::{Source, Store, Window, inside};
 use mdmp_wire::{Entry, Header, HeaderFault, Record};
 use std::alloc::Allocator;
 
@@ -63,6 +63,7 @@ pub fn header_of(file: &[u8]) -> Result<Header, OpenFault>
 }
 
 /// Fetches the header of a file whose directory lies inside it.
+#[tactic(auto, using(crate::proofs::Budgets::over_fetched, crate::proofs::Budgets::over_obtained))]
 pub(crate) fn read_header<S: Store>(meter: &mut Meter<S>) -> Result<Header, OpenFault>
     ensures { ReadsHeader meter.old result meter.new }
 {
@@ -71,9 +72,7 @@ pub(crate) fn read_header<S: Store>(meter: &mut Meter<S>) -> Result<Header, Open
         return Err(OpenFault::TooShort { size });
     }
     let mut bytes = [0; Header::SIZE];
-    if let Err(fault) = meter.fetch(0, &mut bytes) {
-        return Err(OpenFault::Source(fault));
-    }
+    meter.fetch(0, &mut bytes)?;
     header_in(&bytes, size)
 }
 
@@ -84,14 +83,14 @@ pub(crate) fn read_directory<S: Store, A: Allocator>(
     window: &mut Window<A>,
     header: Header,
     entries: &mut Vec<Entry, A>,
-) -> Result<(), SourceFault>
+) -> Result<(), FetchFault>
     requires inside { IsInside header.stream_directory_rva (12 * header.number_of_streams) meter.old.source.size }
     requires window { 12 ≤ window.old.room }
     requires room { (entries.old.items ≡ []) × (header.number_of_streams ≤ vec_capacity entries.old) }
     ensures count { OnOk result (vec_len entries.new ≡ header.number_of_streams) }
     ensures capacity { vec_capacity entries.new ≡ vec_capacity entries.old }
     ensures kept { window.new.room ≡ window.old.room }
-    ensures reads { Reads (Books (fills_of (12 * header.number_of_streams) (window.old.room - 11)) (12 * header.number_of_streams)) (λ file _. header ≡ header_at file 0 → IsDirectory file entries.new.items)
+    ensures reads { Reads window.old.room (Books (fills_of (12 * header.number_of_streams) (window.old.room - 11)) (12 * header.number_of_streams)) (λ file _. header ≡ header_at file 0 → IsDirectory file entries.new.items)
         result meter.old meter.new }
 {
     if header.number_of_streams == 0 {

@@ -10,13 +10,13 @@ ghost use Rattle.mdmp_lister.specs.Fault.{Answers};
 ghost use Rattle.mdmp_lister.specs.Format.Kind.{greatest_record, has_names, record_size};
 ghost use Rattle.mdmp_lister.specs.Step.{step_item};
 
-use crate::fault::Fault;
+use crate::fault::{Fault, FetchFault};
 use crate::fetching::{NameRead, read_name};
 use crate::holding::hold;
 use crate::kind::StreamKind;
 use crate::meter::Meter;
 use crate::step::{RecordRead, Step};
-use mdmp_source::{SourceFault, Store, Window};
+use mdmp_source::{Store, Window};
 use mdmp_wire::{
     AnyRecord, Descriptor, Descriptor64, ExceptionRecord, MemoryInfoRecord, ModuleRecord, Record,
     SystemRecord, ThreadNameRecord, ThreadRecord, UnloadedRecord,
@@ -47,10 +47,10 @@ fn read_record<S: Store, A: Allocator>(
     window: &mut Window<A>,
     kind: StreamKind,
     at: u64,
-) -> Result<AnyRecord, SourceFault>
+) -> Result<AnyRecord, FetchFault>
     requires { IsAhead meter.old.source at (record_size kind) window.old }
     ensures kind { IfOk result (λ value. kind_told value ≡ kind) }
-    ensures reads { Reads (Books (min 1 (needed at (record_size kind) window.old)) (needed at (record_size kind) window.old)) (λ file value. record_at kind file at ≡ value) result meter.old meter.new }
+    ensures reads { Reads window.old.room (Books (min 1 (needed at (record_size kind) window.old)) (needed at (record_size kind) window.old)) (λ file value. record_at kind file at ≡ value) result meter.old meter.new }
     ensures comes { ComesTo at meter.old.source.store.content window.old window.new }
     ensures slides { Slides at (record_size kind) window.old result window.new }
 {
@@ -81,7 +81,7 @@ pub(crate) fn read_item<S: Store, A: Allocator>(
     ensures length { length buffer.new ≡ length buffer.old }
     ensures comes { ComesTo at meter.old.source.store.content window.old window.new }
     ensures slides { Slides at (record_size kind) window.old result window.new }
-    ensures reads { ReadsRecord (needed at (record_size kind) window.old) (length buffer.new) result meter.old meter.new }
+    ensures reads { ReadsRecord window.old.room (needed at (record_size kind) window.old) (length buffer.new) result meter.old meter.new }
     ensures nameless { has_names kind ≡ false → meter.new.names ≡ meter.old.names }
     ensures some { MatchResult result (IsSomeRecord meter.old.source.size (length buffer.new) kind entry index offset) (IsRecordFault meter.old.source.size (length buffer.new) kind) }
 {

@@ -39,9 +39,9 @@ pub trait VerdictSink {
 /// Why a run ended before its end.
 #[derive(Clone, Copy, Debug, PartialEq, Eq)]
 pub enum RunFault {
-    /// The listing has this fault next, or the store failed there: the sink has all items before
-    /// it. Of a run of verdicts, that the store failed: the sink has the verdicts on the entries
-    /// before the one that the fault names.
+    /// The listing has this fault next, or bytes were not obtained there, from the store or within the
+    /// budget: the sink has all items before it. Of a run of verdicts, that bytes were not obtained: the
+    /// sink has the verdicts on the entries before the one that the fault names.
     At(ListFault),
     /// The sink wanted no more: the item or verdict that it had last is the last that was given.
     Stopped,

@@ -21,7 +21,7 @@ pub(crate) enum Stage {
     },
     /// A fault that stays until the entry is skipped.
     Bad(ListFault),
-    /// A fault of the store, which stays for good.
+    /// A fault of the store, or of the budget, which stays for good.
     Failed(ListFault),
     /// No entry is left, for good.
     Ended,

@@ -2,10 +2,10 @@
 ghost use Rattle.std.specs.Prelude.{◌≡◌, ◌+◌, ◌*◌, ◌^◌, ◌≤◌, ◌<◌, ◌-◌, ℕ, List, Some, IfOk, IfErr, MatchOption, MatchResult, OnOk, length, take, vec_len};
 ghost use Rattle.mdmp_source.specs.Range.{IsInside, bytes_at};
 ghost use Rattle.mdmp_source.specs.Store.{IsSizeOf};
-ghost use Rattle.mdmp_lister.specs.Fetching.{Reads};
+ghost use Rattle.mdmp_lister.specs.Fetching.{ReadsBeside};
 ghost use Rattle.mdmp_lister.specs.Format.Kind.{HasNoNames, kind_of};
-ghost use Rattle.mdmp_lister.specs.Meter.{BooksAside, IsBooked, IsSourceOf, counts_of};
-ghost use Rattle.mdmp_lister.specs.Opening.{IsRefused};
+ghost use Rattle.mdmp_lister.specs.Meter.{IsBooked, IsMetered, IsSourceOf, KeepsTo, counts_of};
+ghost use Rattle.mdmp_lister.specs.Opening.{IsRefused, KeepsToBudget};
 ghost use Rattle.mdmp_lister.specs.Stage.{IsUnended, StaysUnchanged, fault_stage, records_left_in};
 ghost use Rattle.mdmp_lister.specs.Step.{IsItemOf, IsNameHeld, bytes_behind};
 ghost use Rattle.mdmp_lister.specs.Walk.Owing.{ranges_ahead};
@@ -14,7 +14,7 @@ use crate::choice::Choice;
 use crate::codeview::{CodeViewBytes, CodeViewRead, read_codeview};
 use crate::counting::count_ranges;
 use crate::counts::{Counts, listed_bytes};
-use crate::fault::{Fault, FaultKind, ListFault, OpenFault};
+use crate::fault::{Fault, FetchFault, ListFault, OpenFault};
 use crate::item::{Item, StreamItem};
 use crate::kind::StreamKind;
 use crate::limits::Limits;
@@ -67,8 +67,9 @@ impl<S: Store + Drop, A: Allocator + Copy> Walk<S, A> {
     ) -> Result<Self, OpenRefused<S>>
         ensures new { IfOk result (IsNewWalk source choice limits) }
         ensures refused { IfErr result (λ refused. IsRefused source refused.fault refused.source) }
+        ensures kept { IfErr result (λ refused. KeepsToBudget limits source refused.fault refused.source) }
     {
-        let mut meter = Meter::new(source);
+        let mut meter = Meter::new(source, limits.budget);
         let header = match read_header(&mut meter) {
             Ok(header) => header,
             Err(fault) => return Err(refused(fault, meter)),
@@ -83,7 +84,7 @@ impl<S: Store + Drop, A: Allocator + Copy> Walk<S, A> {
             return Err(refused(OpenFault::Memory, meter));
         };
         if let Err(fault) = read_directory(&mut meter, &mut window, header, &mut entries) {
-            return Err(refused(OpenFault::Source(fault), meter));
+            return Err(refused(OpenFault::from(fault), meter));
         }
         Ok(Walk {
             meter,
@@ -99,8 +100,9 @@ impl<S: Store + Drop, A: Allocator + Copy> Walk<S, A> {
     }
 
     /// How many ranges the chosen memory lists have, by their heads.
-    pub(crate) fn count_ranges(&mut self) -> Result<u128, SourceFault>
-        requires { IsSound self.old }
+    pub(crate) fn count_ranges(&mut self) -> Result<u128, FetchFault>
+        requires sound { IsSound self.old }
+        requires fresh { self.old.stage ≡ Stage.Between }
         ensures { CountsRanges self.old result self.new }
     {
         count_ranges(&mut self.meter, &self.entries, &self.choice)
@@ -380,7 +382,7 @@ impl<S: Store + Drop, A: Allocator + Copy> Walk<S, A> {
     pub(crate) fn read_part(&mut self, at: u64, out: &mut [u8]) -> Result<(), SourceFault>
         requires { IsInside at (length out.old) self.old.meter.source.size }
         ensures same { self.new ≡ record self.old { meter = self.new.meter } }
-        ensures reads { Reads (BooksAside (length out.new)) (λ file _. out.new ≡ bytes_at file at (length out.new)) result self.old.meter self.new.meter }
+        ensures reads { ReadsBeside (length out.new) (λ file _. out.new ≡ bytes_at file at (length out.new)) result self.old.meter self.new.meter }
     {
         self.meter.fetch_aside(at, out)
     }
@@ -393,6 +395,7 @@ impl<S: Store + Drop, A: Allocator + Copy> Walk<S, A> {
         ensures value { result ≡ numbers_of_walk ranges self.now }
         ensures listed { result.n ≤ 2 ^ 32 * length self.now.entries.items }
         ensures booked { IsBooked self.now.meter.source (counts_of self.now.meter) }
+        ensures kept { IsMetered self.now.meter.budget self.now.meter.fetched self.now.meter.asked }
     {
         let entries = self.entries.len() as u128;
         let directory = Entry::SIZE as u128 * entries;
@@ -413,9 +416,10 @@ impl<S: Store + Drop, A: Allocator + Copy> Walk<S, A> {
     fn stop_at<T: Drop>(&mut self, fault: ListFault) -> Result<T, ListFault>
         ensures { (result ≡ Err fault) × (self.new ≡ record self.old { stage = fault_stage fault }) }
     {
-        self.stage = match fault.kind {
-            FaultKind::Source(_) => Stage::Failed(fault),
-            _ => Stage::Bad(fault),
+        self.stage = if fault.kind.is_unobtained() {
+            Stage::Failed(fault)
+        } else {
+            Stage::Bad(fault)
         };
         Err(fault)
     }
@@ -423,7 +427,9 @@ impl<S: Store + Drop, A: Allocator + Copy> Walk<S, A> {
 
 /// A file is refused, and its source handed back.
 pub(crate) fn refused<S: Store + Drop>(fault: OpenFault, meter: Meter<S>) -> OpenRefused<S>
-    ensures { result ≡ record { fault = fault; source = meter.source } }
+    ensures made { result ≡ record { fault = fault; source = meter.source } }
+    ensures booked { IsBooked meter.source (counts_of meter) }
+    ensures kept { KeepsTo meter.budget meter.fetched }
 {
     OpenRefused {
         fault,

@@ -8,12 +8,12 @@ ghost use Rattle.mdmp_source.specs.Store.{IsGood, IsOfBytes, IsSizeOf};
 ghost use Rattle.mdmp_wire.specs.Header.{header_at};
 ghost use Rattle.mdmp_lister.specs.Costs.{begun_at};
 ghost use Rattle.mdmp_lister.specs.Counts.{AreHeld, AreOfFile, numbers_of};
-ghost use Rattle.mdmp_lister.specs.Fault.{IsAnsweredFor, IsOfSource, TellsNoChange};
+ghost use Rattle.mdmp_lister.specs.Fault.{IsAnsweredFor, IsOfStore, TellsNoChange};
 ghost use Rattle.mdmp_lister.specs.Format.Kind.{HasNoNames, kind_of};
 ghost use Rattle.mdmp_lister.specs.Format.Listing.{entry_of, is_chosen};
 ghost use Rattle.mdmp_lister.specs.Format.Refusal.{directory_refusal};
 ghost use Rattle.mdmp_lister.specs.Meter.{IsBooked, counts_of};
-ghost use Rattle.mdmp_lister.specs.Opening.{IsBareRefusal, IsDirectoryRefusal, IsHandedBackBare, IsUnread, IsUnreadFor};
+ghost use Rattle.mdmp_lister.specs.Opening.{IsBareRefusal, IsDirectoryRefusal, IsHandedBackBare, IsUnread, IsUnreadFor, KeepsToBudget};
 ghost use Rattle.mdmp_lister.specs.Following.{through};
 ghost use Rattle.mdmp_lister.specs.Stage.{StaysUnchanged, stop_after};
 ghost use Rattle.mdmp_lister.specs.Walk.{IsSound};
@@ -86,14 +86,15 @@ impl<S: Store + Drop, A: Allocator + Copy> Model for Walker<S, A> {
 
 impl<S: Store + Drop, A: Allocator + Copy> Walker<S, A> {
     ghost use Rattle.mdmp_lister.specs.contracts.walker.Walker.{the_row};
-    ghost use Rattle.mdmp_lister.specs.Lister.{Gives, IsSameLister, ReadsAside, is_for_good, listing_behind};
+    ghost use Rattle.mdmp_lister.specs.Lister.{Gives, IsRefusedIn, IsSameLister, ReadsAside, is_for_good, listing_behind};
     ghost use Rattle.mdmp_lister.specs.Walker.{CountsRecords, GivesEntry, IsNewWalker, IsSought, StepLeaves, WalkerLeaves, is_begun, is_sought, records_answer};
 
     /// Opens a file. Its header is read; memory is taken for the directory, the window and a name; the
     /// directory is read. No later call takes any.
     ///
     /// A refusal hands the source back: the fault of the header or of the place of the directory, want
-    /// of memory, or that the store failed, behind which nothing more is fetched.
+    /// of memory, that the store failed, behind which nothing more is fetched, or that a fetch would
+    /// have passed the budget, which is not made. What was fetched by then is within the budget.
     pub fn open(
         alloc: A,
         source: Source<S>,
@@ -109,6 +110,7 @@ impl<S: Store + Drop, A: Allocator + Copy> Walker<S, A> {
         ensures short { source.size < 32 → MatchResult result (λ _. ⊥) (λ refused. refused.fault ≡ OpenFault.TooShort source.size) }
         ensures memory { IfErr result (λ refused. refused.fault ≡ OpenFault.Memory → FetchesAtMost 32 source refused.source) }
         ensures cause { IfErr result (λ refused. IsUnreadFor refused.fault source refused.source) }
+        ensures kept { IfErr result (λ refused. KeepsToBudget limits source refused.fault refused.source) }
     {
         match Walk::open(alloc, source, limits, choice) {
             Ok(walk) => {
@@ -171,13 +173,13 @@ impl<S: Store + Drop, A: Allocator + Copy> Walker<S, A> {
 
     /// The next item, whose name is lent until the next call, or none behind the last one. A fault
     /// of the file is answered again until its entry is skipped or another is sought, a fault of the
-    /// store for good.
+    /// store or of the budget for good.
     pub fn next(&mut self) -> Result<Option<Item<'_>>, ListFault>
         ensures gives { (left : _) → self.old.list.left ≡ Some left → Gives left result }
         ensures* leaves { sem 𝓛 (Rests (the_row S.row A.row S.Store A.Allocator) self.entry (WalkerLeaves self.old result)) }
         ensures sought { (number : ℕ) → self.old.position ≡ Position.Sought number → GivesEntry number self.old.list.entries result }
         ensures repeats { (stop : _) → self.old.list.stop ≡ Some stop → stop_after result ≡ Some stop }
-        ensures good { (file : List ℕ) → IsGood self.old.list.source.store file → IfErr result (λ fault. IsOfSource fault.kind → ⊥) }
+        ensures good { (file : List ℕ) → IsGood self.old.list.source.store file → IfErr result (λ fault. IsOfStore fault.kind → ⊥) }
     {
         match advance_from(&mut self.walk, &mut self.position, &mut self.mark) {
             Ok(None) => Ok(None),
@@ -191,7 +193,8 @@ impl<S: Store + Drop, A: Allocator + Copy> Walker<S, A> {
     pub fn next_step(&mut self) -> Result<Option<Step>, ListFault>
         ensures leaves { StepLeaves self.old result self.new }
         ensures repeats { (stop : _) → self.old.list.stop ≡ Some stop → stop_after result ≡ Some stop }
-        ensures good { (file : List ℕ) → IsGood self.old.list.source.store file → IfErr result (λ fault. IsOfSource fault.kind → ⊥) }
+        ensures good { (file : List ℕ) → IsGood self.old.list.source.store file → IfErr result (λ fault. IsOfStore fault.kind → ⊥) }
+        ensures refused { IfErr result (λ fault. IsRefusedIn fault self.new.list) }
     {
         advance_from(&mut self.walk, &mut self.position, &mut self.mark)
     }
@@ -221,8 +224,8 @@ impl<S: Store + Drop, A: Allocator + Copy> Walker<S, A> {
     }
 
     /// Drops what is left of the entry whose Stream item was given last. Before the first one, behind
-    /// the end, after a fault of the store and where an entry is sought it changes nothing that will be
-    /// given.
+    /// the end, after a fault of the store or of the budget and where an entry is sought it changes
+    /// nothing that will be given.
     pub fn skip_entry(&mut self)
         ensures skips { is_for_good self.old.list.stop ≡ false → is_sought self.old ≡ false
             → (self.new.list.left ≡ listing_behind self.old.list self.old.list.passed) × (self.new.list.stop ≡ None) × (self.new.list.unread ≡ 0) × (self.new.list.standing ≡ through) }
@@ -248,7 +251,7 @@ impl<S: Store + Drop, A: Allocator + Copy> Walker<S, A> {
     }
 
     /// Goes to entry `number`, counted from 0, by no fetch: the next item is its Stream item, whether it
-    /// is chosen or not. After a fault of the store it changes nothing.
+    /// is chosen or not. After a fault of the store or of the budget it changes nothing.
     pub fn seek_entry(&mut self, number: usize)
         requires { number < length self.old.list.entries }
         ensures { IsSought number self.old self.new }

@@ -69,12 +69,17 @@ fn assert_bound(
     assert_same(rt, bound_of(alloc, &file, limits), Some(expected));
 }
 
-/// The bound of a list of 100 threads that 1000 entries name.
-fn bound_of_thousand(rt: &impl Abort, alloc: Global) -> Option<Bound> {
+/// A file with a list of 100 threads that 1000 entries name.
+pub fn named_by_a_thousand(rt: &impl Abort, alloc: Global) -> Vec<u8> {
     let mut numbers = repeated(rt, alloc, [3, 4804, 12032], 1000);
     numbers.push(100).expect(rt, "memory");
     numbers.resize(4201, 0).expect(rt, "memory");
-    bound_of(alloc, &file_of(rt, alloc, 1000, &numbers), LEAST)
+    file_of(rt, alloc, 1000, &numbers)
+}
+
+/// Its bound.
+fn bound_of_thousand(rt: &impl Abort, alloc: Global) -> Option<Bound> {
+    bound_of(alloc, &named_by_a_thousand(rt, alloc), LEAST)
 }
 
 #[test]

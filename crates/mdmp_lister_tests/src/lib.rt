@@ -11,6 +11,8 @@ mod aside_calls;
 #[cfg(test)]
 mod bounds;
 #[cfg(test)]
+mod budget;
+#[cfg(test)]
 mod calls;
 #[cfg(test)]
 mod changes;

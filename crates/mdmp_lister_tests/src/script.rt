@@ -13,30 +13,35 @@ use std::process::Abort;
 pub const LEAST: Limits = Limits {
     window: 168,
     name: 0,
+    budget: None,
 };
 
 /// The least window, and the room for a name that the program has.
 pub const NAMED: Limits = Limits {
     window: 168,
     name: 4096,
+    budget: None,
 };
 
 /// The window and the room for a name that a caller has who says nothing.
 pub const STANDARD: Limits = Limits {
     window: 65536,
     name: 4096,
+    budget: None,
 };
 
 /// The least window, and names of at most eight bytes.
 pub const SHORT_NAMES: Limits = Limits {
     window: 168,
     name: 8,
+    budget: None,
 };
 
 /// A window of 176 bytes and names of 16, both multiples of 16 as a heap's blocks are.
 pub const WHOLE_BLOCKS: Limits = Limits {
     window: 176,
     name: 16,
+    budget: None,
 };
 
 /// A call of a lister or of a walker.

@@ -7,7 +7,7 @@ use Rattle.mdmp_source.specs.Blocks.{MovesFront}
 use Rattle.mdmp_source.specs.BlockLaws.{Keeps-moved}
 use Rattle.mdmp_source.specs.OutputLaws.{PutsAll-nothing}
 use Rattle.mdmp_tool.specs.declared.fault.ToolFault.{ToolFault}
-use Rattle.mdmp_tool.specs.declared.fault.ToolFault.TheVariants.{Opening, List as BadList, Source, Out, Memory}
+use Rattle.mdmp_tool.specs.declared.fault.ToolFault.TheVariants.{Opening, List as BadList, Source, Budget, Out, Memory}
 use Rattle.mdmp_source.specs.Store.{StoreState}
 use Rattle.mdmp_lister.specs.declared.choice.Choice.{Choice}
 use Rattle.mdmp_tool.proofs.Engining.{cause_from}
@@ -138,6 +138,9 @@ WritesText-prefix pace text a b (Err Memory) put = nothing a.taken b.taken text 
 WritesText-prefix up_to_a_fault text a b (Err (Source f)) short = short.took
 WritesText-prefix past_faults text a b (Err (Source f)) short = short.took
 WritesText-prefix at_the_end text a b (Err (Source f)) short = none_of a.taken b.taken text short.took
+WritesText-prefix up_to_a_fault text a b (Err (Budget offset size)) short = short.took
+WritesText-prefix past_faults text a b (Err (Budget offset size)) short = short.took
+WritesText-prefix at_the_end text a b (Err (Budget offset size)) short = none_of a.taken b.taken text short.took
 WritesText-prefix pace text a b (Err Out) cut = cut.took
 WritesText-prefix pace text a b (Err fault) never = absurd never
 
@@ -183,6 +186,10 @@ Runs-flushed {T = T} F choice Ends pace text a b c old pending left r s none mov
     says = run.says;
     writes = first_out a b c old pending left (early_text pace text) flush done same run.writes;
   }
+  through (Err (Budget offset size)) done same run cut = record {
+    says = run.says;
+    writes = first_out a b c old pending left (early_text pace text) flush done same run.writes;
+  }
   through (Err Out) done same run cut =
       let writes = run.writes in
       cut (subst (HasRefused a.failures) (sym same) writes.refused)
@@ -214,6 +221,7 @@ quiet_from pace (Err (Opening f)) left P Q done from quiet = from done quiet
 quiet_from pace (Err Memory) left P Q done from quiet = from done quiet
 quiet_from pace (Err (BadList f)) left P Q done from quiet = at_fault pace _ _ (unless_early pace P Q (from done)) quiet
 quiet_from pace (Err (Source f)) left P Q done from quiet = unless_early pace P Q (from done) quiet
+quiet_from pace (Err (Budget offset size)) left P Q done from quiet = unless_early pace P Q (from done) quiet
 quiet_from pace (Err fault) left P Q done from never = absurd never
 
 pub Tells-flushed : {T : Type 0} (pace : Pace) (store : StoreState) (size : ℕ) (a b c : OutState) (old pending left : List ℕ) (r s : Result T ToolFault) → old ≡ []

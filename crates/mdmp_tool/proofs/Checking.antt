@@ -14,12 +14,12 @@ use Rattle.mdmp_lister.specs.declared.fault.FaultKind.TheVariants as kinds
 use Rattle.mdmp_lister.specs.declared.fault.ListFault.{ListFault}
 use Rattle.mdmp_lister.specs.declared.sink.Stopped.{Stopped}
 use Rattle.mdmp_lister.specs.declared.verdict.Verdict.{Verdict}
-use Rattle.mdmp_lister.specs.Fault.{IsOfSource, IsToldByFetch, IsToldIn}
+use Rattle.mdmp_lister.specs.Fault.{IsUnobtained, IsToldByFetch, IsToldIn}
 use Rattle.mdmp_lister.specs.Format.Listing.{Numbered, entries_from, entry_count, only_chosen, verdicts}
 use Rattle.mdmp_lister.specs.Sink.{Taken, TakenToStop}
 use Rattle.mdmp_dump.specs.Reading.{IsLastTold}
 use Rattle.mdmp_tool.specs.declared.fault.ToolFault.{ToolFault}
-use Rattle.mdmp_tool.specs.declared.fault.ToolFault.TheVariants.{Source}
+use Rattle.mdmp_tool.specs.declared.fault.ToolFault.TheVariants.{Source, Budget}
 use Rattle.mdmp_tool.specs.CheckRuns.{TakesVerdict}
 use Rattle.mdmp_tool.specs.CheckText.{bad_count, fault_count, verdict_line, verdict_lines}
 use Rattle.mdmp_tool.specs.Engines.{StopsShort}
@@ -111,7 +111,7 @@ bad_entries F limit =
     count_map _ (only_chosen All (entries_from F (entry_count F) 0)) ∙ ap length (all_chosen (entries_from F (entry_count F) 0)) ∙ count_entries F (entry_count F) 0 in
     omega (arith, few, count)
 
--- ---- a fault of the store, as it is told
+-- ---- a fault of the store or the budget, as it is told
 
 last_told : (e : Entry) (s : SourceFault) (old new : SourceState) → IsToldByFetch e (kinds.Source s) old new → IsLastTold s old new
 last_told e (Changed at) old new told = told.0
@@ -120,7 +120,8 @@ last_told e s old new told = told
 pub told-cause : (e : Entry) (f : ListFault) (s : SourceFault) (old new : SourceState) → f.kind ≡ kinds.Source s → IsToldIn e f old new → IsLastTold s old new
 told-cause e f s old new is told = last_told e s old new (subst (λ (kind : FaultKind). IsToldByFetch e kind old new) is told.by)
 
-pub told-source : {T : Type 0} (P : Result T ToolFault → Type 0) (fault : ListFault) (kind : FaultKind) → IsOfSource kind
-    → ((s : SourceFault) → kind ≡ kinds.Source s → P (Err (Source s))) → P (Err (told_by kind fault))
-told-source P fault (kinds.Source s) is by = by s refl
-told-source P fault kind is by = absurd is
+pub told-source : {T : Type 0} (P : Result T ToolFault → Type 0) (fault : ListFault) (kind : FaultKind) → IsUnobtained kind
+    → ((s : SourceFault) → kind ≡ kinds.Source s → P (Err (Source s))) → P (Err (Budget fault.offset fault.size)) → P (Err (told_by kind fault))
+told-source P fault (kinds.Source s) is by over = by s refl
+told-source P fault kinds.Budget is by over = over
+told-source P fault kind is by over = absurd is

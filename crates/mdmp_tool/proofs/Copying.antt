@@ -16,7 +16,7 @@ use Rattle.mdmp_lister.specs.declared.fault.FaultKind.TheVariants as kinds
 use Rattle.mdmp_lister.specs.declared.fault.ListFault.{ListFault}
 use Rattle.mdmp_lister.specs.declared.fault.OpenFault.{OpenFault}
 use Rattle.mdmp_lister.specs.declared.fault.OpenFault.TheVariants as opening
-use Rattle.mdmp_lister.specs.Fault.{IsOfSource}
+use Rattle.mdmp_lister.specs.Fault.{IsUnobtained}
 use Rattle.mdmp_lister.specs.Following.{FitsFile}
 use Rattle.mdmp_lister.specs.Format.Refusal.{directory_refusal}
 use Rattle.mdmp_dump.specs.declared.fault.ReadFault.{ReadFault}
@@ -24,7 +24,7 @@ use Rattle.mdmp_dump.specs.declared.fault.ReadFault.TheVariants as reads
 use Rattle.mdmp_dump.specs.declared.view.ViewFault.{ViewFault}
 use Rattle.mdmp_dump.specs.declared.view.ViewFault.TheVariants as view
 use Rattle.mdmp_dump.specs.EntryWalk.{WalkState}
-use Rattle.mdmp_dump.specs.FileRefusal.{IsViewRefusal, view_refusal}
+use Rattle.mdmp_dump.specs.FileRefusal.{IsUnbudgeted, IsViewRefusal, view_refusal}
 use Rattle.mdmp_dump.specs.FileView.{HasMoved, costs_in, source_fault}
 use Rattle.mdmp_dump.specs.InFile.{dump_in}
 use Rattle.mdmp_dump.specs.LaysOut.{LaysOut}
@@ -55,8 +55,9 @@ none_left types k past = ap first_not_copied (drop_of_length-le types past)
 -- ---- causes
 
 -- what the listing tells of the store is a fault of the store
-of_store : (kind : FaultKind) (fault : SourceFault) → store_fault_in kind ≡ Some fault → IsOfSource kind
+of_store : (kind : FaultKind) (fault : SourceFault) → store_fault_in kind ≡ Some fault → IsUnobtained kind
 of_store (kinds.Source f) fault is = tt
+of_store kinds.Budget fault is = tt
 of_store kind fault is = none-some fault is
 
 -- over a view that never answers a fault no fault of the store is told
@@ -227,6 +228,7 @@ module _ (Z : Type 0) (content : Option (List ℕ)) (file_size : ℕ) (types : L
   opened : (fault : OpenFault) → IsTold (reads.Opening fault) → IsViewRefusal file_size (reads.Opening fault) → TellsOf content (reads.Opening fault) → Answers (Err (opening_told fault))
   opened (opening.Source f) told refusal tells = of_source f tells.changed
   opened opening.Memory told refusal tells = absurd refusal
+  opened (opening.Budget offset size) told refusal tells = absurd refusal
   opened fault told refusal tells = record {
     all_copied = refl;
     refusal = (tt, refusal);
@@ -237,13 +239,14 @@ module _ (Z : Type 0) (content : Option (List ℕ)) (file_size : ℕ) (types : L
     of_file = λ F known. told F known (λ own. none-some own.0 own.1);
   }
 
-  listed : (kind : FaultKind) (fault : ListFault) → fault.kind ≡ kind → IsTold (reads.List fault) → FitsFile file_size fault → TellsOf content (reads.List fault) → Answers (Err (told_by kind fault))
+  listed : (kind : FaultKind) (fault : ListFault) → fault.kind ≡ kind → IsTold (reads.List fault) → IsViewRefusal file_size (reads.List fault) → TellsOf content (reads.List fault) → Answers (Err (told_by kind fault))
   listed (kinds.Source f) fault is told fits tells = of_source f (subst (λ (k : FaultKind). MayBeTold content (store_fault_in k)) is tells.changed)
+  listed kinds.Budget fault is told fits tells = absurd (subst IsUnbudgeted is fits.1)
   listed kind fault is told fits tells =
-      let own : IsOfSource fault.kind → ⊥ = subst (λ (k : FaultKind). IsOfSource k → ⊥) (sym is) (λ x. x) in
+      let own : IsUnobtained fault.kind → ⊥ = subst (λ (k : FaultKind). IsUnobtained k → ⊥) (sym is) (λ x. x) in
       record {
         all_copied = refl;
-        refusal = (own, fits);
+        refusal = (own, fits.0);
         quiet = refl;
         out_cause = refl;
         changed = tt;

@@ -1,5 +1,5 @@
 -- A run of a command over the listing of a file, from its parts.
-use Rattle.std.proofs.Common.{◌≡◌, ◌∙◌, ℕ, List, [], Some, ap, refl, sym, subst}
+use Rattle.std.proofs.Common.{◌≡◌, ◌<◌, ◌∙◌, ℕ, List, [], Some, ap, refl, sym, subst}
 use Rattle.std.specs.Prelude.{Result, Ok, Err}
 use Rattle.mdmp_source.specs.Output.{HasRefused, Refusals, OutState, PutsAll}
 use Rattle.mdmp_source.specs.OutputLaws.{PutsAll-nothing, Takes-nothing}
@@ -9,16 +9,17 @@ use Rattle.mdmp_lister.specs.declared.fault.OpenFault.TheVariants as opening
 use Rattle.std.specs.Option.{option_map}
 use Rattle.mdmp_source.specs.Source.{SourceState}
 use Rattle.mdmp_source.specs.declared.fault.SourceFault.{SourceFault}
-use Rattle.mdmp_source.specs.declared.fault.SourceFault.TheVariants.{Changed}
+use Rattle.mdmp_source.specs.declared.fault.SourceFault.TheVariants.{Changed, Failed, ShortRead}
 use Rattle.mdmp_lister.specs.declared.limits.Limits.{Limits}
 use Rattle.mdmp_lister.specs.Format.Listing.{listing}
 use Rattle.mdmp_lister.specs.Lister.{IsNewLister, ListerState}
-use Rattle.mdmp_lister.specs.Opening.{IsRefusalOf}
+use Rattle.mdmp_lister.specs.Opening.{IsOpenRefusal, IsRefusalOf, IsUnread, IsUnreadFor}
+use Rattle.mdmp_source.specs.Store.{IsGood}
 use Rattle.mdmp_dump.specs.Reading.{IsLastTold, MayBeTold}
 use Rattle.mdmp_tool.specs.declared.fault.ToolFault.{ToolFault}
-use Rattle.mdmp_tool.specs.declared.fault.ToolFault.TheVariants.{List as BadList, Source, Out, Memory}
-use Rattle.mdmp_tool.specs.Causes.{HasOutCause, HasSourceCause, IsRefusal, MayChange}
-use Rattle.mdmp_tool.specs.Engines.{IsBehind, IsOpened, IsQuiet, Pace, Runs, StopsShort}
+use Rattle.mdmp_tool.specs.declared.fault.ToolFault.TheVariants.{List as BadList, Source, Budget, Out, Memory}
+use Rattle.mdmp_tool.specs.Causes.{HasOutCause, HasSourceCause, IsNoSourceFault, IsRefusal, MayChange}
+use Rattle.mdmp_tool.specs.Engines.{IsBehind, IsOpened, IsQuiet, Pace, Runs, StopsShort, Tells, UnlessEarly, at_the_end, directly, past_faults, up_to_a_fault}
 use Rattle.mdmp_tool.specs.Telling.{opening_told}
 
 pub StopsShort-nothing : (before : OutState) (text : List ℕ) → StopsShort before text before
@@ -38,6 +39,7 @@ StopsShort-none before after none = record {
 pub Runs-unopened : {T : Type 0} (F : List ℕ) (choice : Choice) (Ends : Result T ToolFault → Type 0) (pace : Pace) (text : List ℕ) (before : OutState) (fault : OpenFault)
     → IsRefusalOf F choice fault → Runs F choice Ends pace text before (Err (opening_told fault)) before
 Runs-unopened F choice Ends pace text before (opening.Source f) refused = record { says = tt; writes = StopsShort-nothing before _ }
+Runs-unopened F choice Ends pace text before (opening.Budget offset size) refused = record { says = tt; writes = StopsShort-nothing before _ }
 Runs-unopened F choice Ends pace text before (opening.Memory) refused = record { says = refused; writes = PutsAll-nothing before }
 Runs-unopened F choice Ends pace text before (opening.TooShort size) refused = record { says = refused; writes = PutsAll-nothing before }
 Runs-unopened F choice Ends pace text before (opening.BadSignature) refused = record { says = refused; writes = PutsAll-nothing before }
@@ -45,12 +47,63 @@ Runs-unopened F choice Ends pace text before (opening.BadVersion low) refused = 
 Runs-unopened F choice Ends pace text before (opening.DirectoryOutside offset size) refused = record { says = refused; writes = PutsAll-nothing before }
 Runs-unopened F choice Ends pace text before (opening.TooManyRanges count) refused = record { says = refused; writes = PutsAll-nothing before }
 
+-- ---- a file that was not opened, of whatever content
+
+good_unopened : (T : Type 0) (fault : OpenFault) → (IsUnread fault → ⊥) → IsNoSourceFault {T = T} (Err (opening_told fault))
+good_unopened T (opening.Source f) never = never tt
+good_unopened T (opening.Budget offset size) never = tt
+good_unopened T opening.Memory never = tt
+good_unopened T fault never = tt
+
+refusal_unopened : (T : Type 0) (size : ℕ) (fault : OpenFault) → IsOpenRefusal size fault → IsRefusal {T = T} size (Err (opening_told fault))
+refusal_unopened T size (opening.Source f) refused = tt
+refusal_unopened T size (opening.Budget offset len) refused = tt
+refusal_unopened T size opening.Memory refused = tt
+refusal_unopened T size fault refused = (tt, refused)
+
+unless_touched : (pace : Pace) (before : OutState) → UnlessEarly pace (before ≡ before)
+unless_touched up_to_a_fault before = tt
+unless_touched past_faults before = tt
+unless_touched at_the_end before = refl
+
+quiet_unopened : (T : Type 0) (pace : Pace) (before : OutState) (fault : OpenFault) → IsQuiet {T = T} pace (Err (opening_told fault)) (before ≡ before)
+quiet_unopened T pace before (opening.Source f) = unless_touched pace before
+quiet_unopened T pace before (opening.Budget offset size) = unless_touched pace before
+quiet_unopened T pace before opening.Memory = refl
+quiet_unopened T pace before fault = refl
+
+cause_unopened : (T : Type 0) (before : OutState) (fault : OpenFault) → HasOutCause {T = T} before (Err (opening_told fault)) before
+cause_unopened T before (opening.Source f) = refl
+cause_unopened T before (opening.Budget offset size) = refl
+cause_unopened T before opening.Memory = refl
+cause_unopened T before fault = refl
+
+changed_unopened : (T : Type 0) (fault : OpenFault) (old new : SourceState) → IsUnreadFor fault old new → MayChange {T = T} old.store.content (Err (opening_told fault))
+changed_unopened T (opening.Source (Changed at)) old new cause = absurd cause.0.cause
+changed_unopened T (opening.Source (Failed at)) old new cause = tt
+changed_unopened T (opening.Source (ShortRead at)) old new cause = tt
+changed_unopened T (opening.Budget offset size) old new cause = tt
+changed_unopened T opening.Memory old new cause = tt
+changed_unopened T fault old new cause = tt
+
+pub Tells-unopened : (T : Type 0) (pace : Pace) (before : OutState) (fault : OpenFault) (old new : SourceState) → ((file : List ℕ) → IsGood old.store file → IsUnread fault → ⊥) → IsOpenRefusal old.size fault
+    → (old.size < 32 → fault ≡ opening.TooShort old.size) → IsUnreadFor fault old new → Tells {T = T} directly pace old.store old.size before (Err (opening_told fault)) before
+Tells-unopened T pace before fault old new good refusal short cause = record {
+  good = λ file is. good_unopened T fault (good file is);
+  refusal = refusal_unopened T old.size fault refusal;
+  short = λ few. ap (λ (f : OpenFault). Err (opening_told f)) (short few);
+  quiet = quiet_unopened T pace before fault;
+  out_cause = cause_unopened T before fault;
+  changed = changed_unopened T fault old new cause;
+}
+
 -- what ends a command behind the opening
 pub IsRefusal-behind : {T : Type 0} (pace : Pace) (untouched : Type 0) (size : ℕ) (r : Result T ToolFault) → IsBehind pace size r untouched → IsRefusal size r
 IsRefusal-behind pace untouched size (Ok x) behind = tt
 IsRefusal-behind pace untouched size (Err (BadList fault)) behind = behind.0
 IsRefusal-behind pace untouched size (Err Memory) behind = tt
 IsRefusal-behind pace untouched size (Err (Source fault)) behind = tt
+IsRefusal-behind pace untouched size (Err (Budget offset len)) behind = tt
 IsRefusal-behind pace untouched size (Err Out) behind = tt
 IsRefusal-behind pace untouched size (Err fault) behind = absurd behind
 
@@ -59,6 +112,7 @@ IsQuiet-behind pace untouched size (Ok x) behind = tt
 IsQuiet-behind pace untouched size (Err (BadList fault)) behind = behind.1
 IsQuiet-behind pace untouched size (Err Memory) behind = behind
 IsQuiet-behind pace untouched size (Err (Source fault)) behind = behind
+IsQuiet-behind pace untouched size (Err (Budget offset len)) behind = behind
 IsQuiet-behind pace untouched size (Err Out) behind = tt
 IsQuiet-behind pace untouched size (Err fault) behind = absurd behind
 

@@ -7,7 +7,7 @@ use Rattle.mdmp_source.specs.OutputLaws.{PutsAll-nothing}
 use Rattle.mdmp_lister.specs.declared.fault.FaultKind.{FaultKind}
 use Rattle.mdmp_lister.specs.declared.fault.FaultKind.TheVariants as kinds
 use Rattle.mdmp_lister.specs.declared.fault.ListFault.{ListFault}
-use Rattle.mdmp_lister.specs.Fault.{IsOfSource}
+use Rattle.mdmp_lister.specs.Fault.{IsUnobtained}
 use Rattle.mdmp_lister.specs.Format.Listing.{Run}
 use Rattle.mdmp_lister.specs.Format.Ranges.{ranges_of}
 use Rattle.mdmp_tool.specs.declared.fault.ToolFault.{ToolFault}
@@ -31,14 +31,15 @@ HexesRun-printed F ranges left address count before after r none same puts = by 
   by (Err fault) puts = absurd puts
 
 -- the run has a fault, or the store has one: nothing is written
-HexesRun-told : (F : List ℕ) (left : Run) (address count : ℕ) (before : OutState) (fault : ListFault) (kind : FaultKind) → ((IsOfSource kind → ⊥) → left.fault ≡ Some fault)
+HexesRun-told : (F : List ℕ) (left : Run) (address count : ℕ) (before : OutState) (fault : ListFault) (kind : FaultKind) → ((IsUnobtained kind → ⊥) → left.fault ≡ Some fault)
     → HexesRun F left address count before (Err (told_by kind fault)) before
 HexesRun-told F left address count before fault kind ends = by kind ends where
   faulty : left.fault ≡ Some fault → HexesRun F left address count before (Err (BadList fault)) before
   faulty is = record { ends = is; writes = rw is (PutsAll-nothing before) }
 
-  by : (kind : FaultKind) → ((IsOfSource kind → ⊥) → left.fault ≡ Some fault) → HexesRun F left address count before (Err (told_by kind fault)) before
+  by : (kind : FaultKind) → ((IsUnobtained kind → ⊥) → left.fault ≡ Some fault) → HexesRun F left address count before (Err (told_by kind fault)) before
   by (kinds.Source f) ends = record { ends = tt; writes = StopsShort-nothing before [] }
+  by kinds.Budget ends = record { ends = tt; writes = StopsShort-nothing before [] }
   by kinds.StreamOutside ends = faulty (ends (λ x. x))
   by kinds.ShortStream ends = faulty (ends (λ x. x))
   by kinds.BadHeaderSize ends = faulty (ends (λ x. x))
@@ -48,7 +49,7 @@ HexesRun-told F left address count before fault kind ends = by kind ends where
   by kinds.NameOdd ends = faulty (ends (λ x. x))
   by kinds.NameUnitsOutside ends = faulty (ends (λ x. x))
 
-pub HexesRun-faulty : (F : List ℕ) (left : Run) (address count : ℕ) (before : OutState) (fault : ListFault) → ((IsOfSource fault.kind → ⊥) → left.fault ≡ Some fault)
+pub HexesRun-faulty : (F : List ℕ) (left : Run) (address count : ℕ) (before : OutState) (fault : ListFault) → ((IsUnobtained fault.kind → ⊥) → left.fault ≡ Some fault)
     → HexesRun F left address count before (Err (listing_told fault)) before
 HexesRun-faulty F left address count before fault = HexesRun-told F left address count before fault fault.kind
 

@@ -7,7 +7,7 @@ use Rattle.mdmp_source.specs.OutputLaws.{PutsAll-PutsAll, PutsPrefix-last, Takes
 use Rattle.mdmp_wire.specs.declared.header.Header.{Header}
 use Rattle.mdmp_lister.specs.Format.Listing.{Run}
 use Rattle.mdmp_tool.specs.declared.fault.ToolFault.{ToolFault}
-use Rattle.mdmp_tool.specs.declared.fault.ToolFault.TheVariants.{List as BadList, Source, Out}
+use Rattle.mdmp_tool.specs.declared.fault.ToolFault.TheVariants.{List as BadList, Source, Budget, Out}
 use Rattle.mdmp_tool.proofs.Engining.{cause_from}
 use Rattle.mdmp_tool.specs.Engines.{IsBehind, Leaves, WritesText, up_to_a_fault}
 use Rattle.mdmp_tool.specs.Lines.{dump_line}
@@ -19,6 +19,10 @@ WritesText-behind : (run : Run) (head text : List ℕ) (before now after : OutSt
 WritesText-behind run head text before now after (Ok x) ends first put = PutsAll-PutsAll before now after head text first put
 WritesText-behind run head text before now after (Err (BadList f)) ends first put = PutsAll-PutsAll before now after head text first put
 WritesText-behind run head text before now after (Err (Source f)) ends first short = record {
+  took = TakesPrefix-last before.taken now.taken after.taken head text first.took short.took;
+  steady = short.steady ∙ first.steady;
+}
+WritesText-behind run head text before now after (Err (Budget offset size)) ends first short = record {
   took = TakesPrefix-last before.taken now.taken after.taken head text first.took short.took;
   steady = short.steady ∙ first.steady;
 }
@@ -38,6 +42,7 @@ IsBehind-touched : (size : ℕ) (r : Result (Unit {0}) ToolFault) (untouched : T
 IsBehind-touched size (Ok x) untouched behind = tt
 IsBehind-touched size (Err (BadList f)) untouched behind = behind
 IsBehind-touched size (Err (Source f)) untouched behind = tt
+IsBehind-touched size (Err (Budget offset len)) untouched behind = tt
 IsBehind-touched size (Err Out) untouched behind = tt
 IsBehind-touched size (Err f) untouched behind = absurd behind
 

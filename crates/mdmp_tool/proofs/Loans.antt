@@ -7,7 +7,7 @@ use Rattle.mdmp_source.specs.Store.{StoreState}
 use Rattle.mdmp_lister.specs.declared.choice.Choice.{Choice}
 use Rattle.mdmp_lister.specs.declared.limits.Limits.{Limits}
 use Rattle.mdmp_tool.specs.declared.fault.ToolFault.{ToolFault}
-use Rattle.mdmp_tool.specs.declared.fault.ToolFault.TheVariants.{Opening, List as BadList, Source, Memory, Out}
+use Rattle.mdmp_tool.specs.declared.fault.ToolFault.TheVariants.{Opening, List as BadList, Source, Budget, Memory, Out}
 use Rattle.mdmp_words.specs.declared.request.Print.{Print}
 use Rattle.mdmp_words.specs.declared.request.Print.TheVariants.{Check, List as Listing, Hex}
 use Rattle.mdmp_tool.specs.Causes.{HasOutCause}
@@ -60,6 +60,7 @@ module _ (name : ℕ) (a b : OutState) where
     writes_lent text (Err (Opening f)) put = puts_all [] put
     writes_lent text (Err Memory) put = puts_all [] put
     writes_lent text (Err (Source f)) put = stops_short _ put
+    writes_lent text (Err (Budget offset size)) put = stops_short _ put
     writes_lent text (Err Out) put = puts_prefix text put
     writes_lent text (Err fault) never = absurd never
 

@@ -38,6 +38,7 @@ module _ (Z : Type 0) (F types : List ℕ) (content : Option (List ℕ)) (size l
   stands (Err (tool.Opening fault)) is = nothing is.quiet
   stands (Err (tool.List fault)) is = nothing is.quiet
   stands (Err (tool.Reading fault)) is = nothing is.quiet
+  stands (Err (tool.Budget offset size)) is = nothing is.quiet
   stands (Err tool.Memory) is = nothing is.quiet
   stands (Err (tool.NotCopied t)) is = nothing is.quiet
 

@@ -24,12 +24,12 @@ use Rattle.mdmp_lister.specs.declared.item.Item.TheVariants as items
 use Rattle.mdmp_lister.specs.declared.name.Name.{Name}
 use Rattle.mdmp_lister.specs.Format.Classes.{IsClassed}
 use Rattle.mdmp_lister.specs.Format.Item.{item_of, plain}
-use Rattle.mdmp_lister.specs.Fault.{IsOfSource, IsToldIn}
+use Rattle.mdmp_lister.specs.Fault.{IsOfStore, IsUnobtained, IsToldIn}
 use Rattle.mdmp_lister.specs.Format.Listing.{Run, only_fault}
 use Rattle.mdmp_lister.specs.Following.{FitsFile}
 use Rattle.mdmp_lister.specs.Lister.{Gives}
 use Rattle.mdmp_tool.specs.declared.fault.ToolFault.{ToolFault}
-use Rattle.mdmp_tool.specs.declared.fault.ToolFault.TheVariants.{List as BadList, Source, Out}
+use Rattle.mdmp_tool.specs.declared.fault.ToolFault.TheVariants.{List as BadList, Source, Budget, Out}
 use Rattle.mdmp_tool.specs.Causes.{HasSourceCause}
 use Rattle.mdmp_tool.specs.Engines.{EndsAtFault, IsBehind, Leaves, Pace, UnlessEarly, up_to_a_fault}
 use Rattle.mdmp_tool.specs.ItemLines.{item_line}
@@ -111,13 +111,14 @@ module _ (pdb : Bool) (F : List ℕ) (limit : ℕ) (left : Run) (x : Item) (firs
 pub ListsNext-fault : (pdb : Bool) (F : List ℕ) (limit : ℕ) (left : Run) (now : OutState) (f : ListFault) → Gives left (Err f)
     → ListsNext pdb F limit left now (Err (listing_told f)) now
 ListsNext-fault pdb F limit left now f gives = by f.kind gives where
-  by : (kind : FaultKind) → ((IsOfSource kind → ⊥) → left ≡ only_fault f) → ListsNext pdb F limit left now (Err (told_by kind f)) now
+  by : (kind : FaultKind) → ((IsUnobtained kind → ⊥) → left ≡ only_fault f) → ListsNext pdb F limit left now (Err (told_by kind f)) now
   by (kinds.Source fault) gives = StopsShort-nothing now (next_lines pdb F limit left)
+  by kinds.Budget gives = refl
   by _ gives = (gives (λ x. x), refl)
 
 -- and no byte went out before it
 pub Leaves-listed : {T : Type 0} (pace : Pace) (untouched : Type 0) (e : Entry) (f : ListFault) (old new : SourceState) (out : OutState) → FetchesSome old new → IsToldIn e f old new
-    → ((file : List ℕ) → IsGood old.store file → IsOfSource f.kind → ⊥) → FitsFile old.size f → UnlessEarly pace untouched → EndsAtFault pace (UnlessEarly pace untouched)
+    → ((file : List ℕ) → IsGood old.store file → IsOfStore f.kind → ⊥) → FitsFile old.size f → UnlessEarly pace untouched → EndsAtFault pace (UnlessEarly pace untouched)
     → Leaves {T = T} pace untouched old out (Err (listing_told f)) new out
 Leaves-listed {T} pace untouched e f old new out some told good fits quiet ends = by f.kind refl where
   by : (kind : FaultKind) → f.kind ≡ kind → Leaves {T = T} pace untouched old out (Err (told_by kind f)) new out
@@ -127,6 +128,7 @@ Leaves-listed {T} pace untouched e f old new out some told good fits quiet ends 
     reads = record { cause = told-cause e f fault old new is told; fetches = some };
     out_cause = refl;
   }
+  by kinds.Budget is = record { good = λ file reliable. tt; behind = quiet; reads = record { cause = tt; fetches = some }; out_cause = refl }
   by _ is = record { good = λ file reliable. tt; behind = (((λ of. rw is at of), fits), ends); reads = record { cause = tt; fetches = some }; out_cause = refl }
 
 -- ---- behind some fetches
@@ -157,6 +159,8 @@ Leaves-fault (BadList fault) old new before after left =
     record { good = λ file good. tt; behind = left.behind; reads = record { cause = tt; fetches = left.reads.fetches }; out_cause = left.out_cause }
 Leaves-fault (Source fault) old new before after left =
     record { good = left.good; behind = tt; reads = record { cause = left.reads.cause; fetches = left.reads.fetches }; out_cause = left.out_cause }
+Leaves-fault (Budget offset size) old new before after left =
+    record { good = λ file good. tt; behind = tt; reads = record { cause = tt; fetches = left.reads.fetches }; out_cause = left.out_cause }
 Leaves-fault Out old new before after left =
     record { good = λ file good. tt; behind = tt; reads = record { cause = tt; fetches = left.reads.fetches }; out_cause = left.out_cause }
 Leaves-fault _ old new before after left = absurd left.behind

@@ -6,7 +6,7 @@ use Rattle.mdmp_lister.specs.declared.sink.Stopped.{Stopped}
 use Rattle.mdmp_lister.specs.declared.verdict.Verdict.{Verdict}
 use Rattle.mdmp_lister.specs.Format.Listing.{verdicts}
 use Rattle.mdmp_tool.specs.declared.fault.ToolFault.{ToolFault}
-use Rattle.mdmp_tool.specs.declared.fault.ToolFault.TheVariants.{Source, Out}
+use Rattle.mdmp_tool.specs.declared.fault.ToolFault.TheVariants.{Source, Budget, Out}
 use Rattle.mdmp_tool.specs.CheckText.{bad_count, check_text, fault_count, verdict_line}
 use Rattle.mdmp_tool.specs.Engines.{Runs, RunsThrough, past_faults}
 
@@ -19,10 +19,12 @@ abbrev pub TakesVerdict : OutState → ℕ → Verdict → Result (Unit {0}) Sto
 TakesVerdict before bad_before v (Ok x) after bad_after = PutsVerdict before bad_before v after bad_after
 TakesVerdict before bad_before v (Err x) after bad_after = PutsPrefix before (verdict_line v) after
 
--- what may end the check of F, with names up to a limit: it answers how many entries are bad, or the store or the output failed
+-- what may end the check of F, with names up to a limit: it answers how many entries are bad, or the store or the output
+-- failed, or the budget was reached
 abbrev pub CheckEnds : List ℕ → ℕ → Result ℕ ToolFault → Type 0
 CheckEnds F limit (Ok bad) = bad ≡ bad_count (verdicts F All limit)
 CheckEnds F limit (Err (Source fault)) = Unit {0}
+CheckEnds F limit (Err (Budget offset size)) = Unit {0}
 CheckEnds F limit (Err Out) = Unit {0}
 CheckEnds F limit (Err fault) = ⊥
 

@@ -83,11 +83,12 @@ IsRecordRefusal (reads.NameTooLong e k length) = Unit {0}
 IsRecordRefusal fault = ⊥
 
 -- a file of `size` bytes that is refused may be, and what is told of it is its own: of its opening no count of ranges, of its
--- listing no fault of the store, of a record its part or its name
+-- listing no fault of the store, of a record its part or its name; and it has no budget
 abbrev pub IsCopyRefusal : ℕ → Result ℕ ToolFault → Type 0
 IsCopyRefusal size (Err (tool.Opening fault)) = IsOfFile fault × IsBareRefusal size fault
 IsCopyRefusal size (Err (tool.List fault)) = IsListTold size fault
 IsCopyRefusal size (Err (tool.Reading fault)) = IsRecordRefusal fault
+IsCopyRefusal size (Err (tool.Budget offset len)) = ⊥
 IsCopyRefusal size answer = Unit {0}
 
 -- nothing went out where the file is refused, where its dump can't be written, without memory and where a type is not copied
@@ -160,6 +161,7 @@ module _ (Z : Type 0) where
   EndsOf F types limit before (Err (tool.Opening fault)) after = view_refusal F (Types types) limit ≡ Some (reads.Opening fault)
   EndsOf F types limit before (Err (tool.List fault)) after = view_refusal F (Types types) limit ≡ Some (reads.List fault)
   EndsOf F types limit before (Err (tool.Reading fault)) after = view_refusal F (Types types) limit ≡ Some fault
+  EndsOf F types limit before (Err (tool.Budget offset size)) after = ⊥
   EndsOf F types limit before (Err tool.Memory) after = directory_refusal F ≡ None
   EndsOf F types limit before (Err (tool.NotCopied t)) after = Unit {0}
 

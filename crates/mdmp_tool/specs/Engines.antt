@@ -8,14 +8,14 @@ use Rattle.mdmp_lister.specs.declared.fault.OpenFault.{OpenFault}
 use Rattle.mdmp_lister.specs.declared.fault.OpenFault.TheVariants.{TooShort}
 use Rattle.mdmp_lister.specs.declared.limits.Limits.{Limits}
 use Rattle.mdmp_lister.specs.Counts.{AreHeld, AreSpent, numbers_of}
-use Rattle.mdmp_lister.specs.Fault.{IsOfSource}
+use Rattle.mdmp_lister.specs.Fault.{IsUnobtained}
 use Rattle.mdmp_lister.specs.Format.Listing.{listing}
 use Rattle.mdmp_lister.specs.Lister.{ListerState}
 use Rattle.mdmp_wire.specs.Header.{header_at}
 use Rattle.mdmp_lister.specs.Format.Refusal.{directory_refusal, opening_fault}
 use Rattle.mdmp_tool.specs.declared.fault.ToolFault.{ToolFault}
-use Rattle.mdmp_tool.specs.declared.fault.ToolFault.TheVariants.{Opening, List as BadList, Source, Out, Memory}
-use Rattle.mdmp_tool.specs.Causes.{HasOutCause, HasSourceCause, IsListTold, IsNoSourceFault, IsRefusal, MayChange}
+use Rattle.mdmp_tool.specs.declared.fault.ToolFault.TheVariants.{Opening, List as BadList, Source, Budget, Out, Memory}
+use Rattle.mdmp_tool.specs.Causes.{HasBudgetCause, HasOpeningBudget, HasOutCause, HasSourceCause, IsListTold, IsNoSourceFault, IsRefusal, MayChange}
 
 -- ---- what is written, by the class of the answer
 
@@ -46,13 +46,15 @@ EndsAtFault past_faults ends = ⊥
 EndsAtFault at_the_end ends = ends
 
 -- the text was written, up to the fault of the listing that ends it or whole; nothing where the file is refused or memory is
--- wanting; the first part of it behind a fault of the store, if it is printed early; else the first part up to a refusal
+-- wanting; the first part of it behind a fault of the store or the budget, if it is printed early; else the first part up to a
+-- refusal
 abbrev pub WritesText : {T : Type 0} → Pace → List ℕ → OutState → Result T ToolFault → OutState → Type 0
 WritesText pace text before (Ok x) after = PutsAll before text after
 WritesText pace text before (Err (BadList fault)) after = EndsAtFault pace (PutsAll before text after)
 WritesText pace text before (Err (Opening fault)) after = PutsAll before [] after
 WritesText pace text before (Err Memory) after = PutsAll before [] after
 WritesText pace text before (Err (Source fault)) after = StopsShort before (early_text pace text) after
+WritesText pace text before (Err (Budget offset size)) after = StopsShort before (early_text pace text) after
 WritesText pace text before (Err Out) after = PutsPrefix before text after
 WritesText pace text before (Err fault) after = ⊥
 
@@ -75,6 +77,7 @@ abbrev pub Says : {T : Type 0} → List ℕ → Choice → (Result T ToolFault �
 Says F choice Ends (Err (Opening fault)) = opening_fault F choice ≡ Some fault
 Says F choice Ends (Err Memory) = directory_refusal F ≡ None
 Says F choice Ends (Err (Source fault)) = Unit {0}
+Says F choice Ends (Err (Budget offset size)) = Unit {0}
 Says F choice Ends answer = (opening_fault F choice ≡ None) × Ends answer
 
 -- a text that is printed where a file can be listed
@@ -141,7 +144,7 @@ UnlessEarly past_faults untouched = Unit {0}
 UnlessEarly at_the_end untouched = untouched
 
 -- nothing was written where the file is refused or memory is wanting; nor, where all is read before the first byte is
--- printed, behind a fault of the listing or of the store. No fault of the listing ends a command that goes on behind it.
+-- printed, behind a fault of the listing, of the store or of the budget. No fault of the listing ends a command that goes on behind it.
 abbrev pub IsQuiet : {T : Type 0} → Pace → Result T ToolFault → Type 0 → Type 0
 IsQuiet pace (Ok x) untouched = Unit {0}
 IsQuiet pace (Err Out) untouched = Unit {0}
@@ -149,6 +152,7 @@ IsQuiet pace (Err (Opening fault)) untouched = untouched
 IsQuiet pace (Err Memory) untouched = untouched
 IsQuiet pace (Err (BadList fault)) untouched = EndsAtFault pace (UnlessEarly pace untouched)
 IsQuiet pace (Err (Source fault)) untouched = UnlessEarly pace untouched
+IsQuiet pace (Err (Budget offset size)) untouched = UnlessEarly pace untouched
 IsQuiet pace (Err fault) untouched = ⊥
 
 -- what every command answers over a store of this size, and how it leaves its output
@@ -169,19 +173,23 @@ pub record ReadsSource {T : Type 0} (old : SourceState) (answer : Result T ToolF
 
 -- ---- through which window
 
--- what a command leaves as it was of the lister that it is given: the room that it took, and what its source's own counts were
--- as it was opened
+-- what a command leaves as it was of the lister that it is given: the room that it took, its budget, and what its source's own
+-- counts were as it was opened
 pub record IsSameRun (old new : ListerState) : Type 0 where
   pub rooms : new.rooms ≡ old.rooms
   pub limit : new.limit ≡ old.limit
   pub start : new.counts.start ≡ old.counts.start
+  pub budget : new.counts.budget ≡ old.counts.budget
 
--- a file was listed through the window that was asked for, with names up to that limit: what such a lister holds, and all
--- that its source counted since it was opened, is within the bounds that its numbers tell, beside what it read aside
-pub record HasListed (limits : Limits) (old new : SourceState) : Type 0 where
+-- a file was listed through the window that was asked for, with names up to that limit and within that budget: what such a
+-- lister holds, and all that its source counted since it was opened, is within the bounds that its numbers tell, beside what
+-- it read aside
+pub record HasListed {T : Type 0} (limits : Limits) (old : SourceState) (answer : Result T ToolFault) (new : SourceState) : Type 0 where
   pub lister : ListerState
   pub window : lister.rooms.window ≡ limits.window
   pub limit : lister.limit ≡ limits.name
+  pub budget : lister.counts.budget ≡ limits.budget
+  pub over : HasBudgetCause answer lister
   pub source : lister.source ≡ new
   pub start : lister.counts.start ≡ record { bytes = old.fetched; calls = old.calls }
   pub held : AreHeld lister (numbers_of lister)
@@ -195,8 +203,8 @@ IsEarly answer = Unit {0}
 
 -- or it was refused, and so many entries of its directory were asked for
 pub data IsReadThrough {T : Type 0} (limits : Limits) (old : SourceState) (answer : Result T ToolFault) (new : SourceState) : Type 0 where
-  listed : HasListed limits old new → IsReadThrough limits old answer new
-  refused : (asked : ℕ) → IsEarly answer → FetchesAtMost (32 + 28 * asked) old new → 12 * asked ≤ old.size → IsReadThrough limits old answer new
+  listed : HasListed limits old answer new → IsReadThrough limits old answer new
+  refused : (asked : ℕ) → IsEarly answer → HasOpeningBudget limits old answer new → FetchesAtMost (32 + 28 * asked) old new → 12 * asked ≤ old.size → IsReadThrough limits old answer new
 
 -- what ends the part of a command behind the opening, over a file of `size` bytes: no fault of the opening, and of the listing
 -- only the file's own, if its pace lets one end it; where nothing was written the output is untouched, which is ⊥ where some
@@ -207,6 +215,7 @@ IsBehind pace size (Err Out) untouched = Unit {0}
 IsBehind pace size (Err Memory) untouched = untouched
 IsBehind pace size (Err (BadList fault)) untouched = IsListTold size fault × EndsAtFault pace (UnlessEarly pace untouched)
 IsBehind pace size (Err (Source fault)) untouched = UnlessEarly pace untouched
+IsBehind pace size (Err (Budget offset len)) untouched = UnlessEarly pace untouched
 IsBehind pace size (Err fault) untouched = ⊥
 
 -- and how that part leaves its source and its output

@@ -27,11 +27,13 @@ own_status (tool.List fault) = 1
 own_status (tool.Reading fault) = 1
 own_status (tool.Layout fault) = 1
 own_status (tool.Source fault) = 3
+own_status (tool.Budget offset size) = 3
 own_status (tool.Out) = 3
 own_status (tool.Memory) = 3
 own_status (tool.NotCopied t) = 2
 
--- the exit status: 1 where the file is at fault, 2 where a type is not copied, 3 where its store, the output or memory is
+-- the exit status: 1 where the file is at fault, 2 where a type is not copied, 3 where its store, the output, memory or the
+-- budget is
 abbrev pub exit_status : ToolFault → ℕ
 exit_status fault = own_status (fault_as_told fault)
 
@@ -44,6 +46,9 @@ source_text (source.Changed at) = concat (codes "store changed at " ∷ decimal 
 
 abbrev pub output_text : List ℕ
 output_text = codes "output failed"
+
+abbrev pub budget_text : ℕ → ℕ → List ℕ
+budget_text offset size = concat (codes "fetch budget reached: offset " ∷ decimal offset ∷ codes " size " ∷ decimal size ∷ [])
 
 abbrev pub memory_text : List ℕ
 memory_text = codes "out of memory"
@@ -61,10 +66,11 @@ opening_text (opening.BadVersion low) = version_text low
 opening_text (opening.DirectoryOutside offset size) =
     concat (codes "directory outside the file: offset " ∷ decimal offset ∷ codes " size " ∷ decimal size ∷ [])
 opening_text (opening.Source fault) = source_text fault
+opening_text (opening.Budget offset size) = budget_text offset size
 opening_text (opening.Memory) = memory_text
 opening_text (opening.TooManyRanges count) = too_many_ranges_text count
 
--- what a kind of fault is called; a fault of the store has a text of its own
+-- what a kind of fault is called; a fault of the store or the budget has a text of its own
 abbrev pub kind_words : FaultKind → List ℕ
 kind_words kinds.StreamOutside = codes "stream outside the file"
 kind_words kinds.ShortStream = codes "stream too short"
@@ -75,6 +81,7 @@ kind_words kinds.NameLengthOutside = codes "name length outside the file"
 kind_words kinds.NameOdd = codes "odd name length"
 kind_words kinds.NameUnitsOutside = codes "name outside the file"
 kind_words (kinds.Source fault) = []
+kind_words kinds.Budget = []
 
 -- ` item <k>`, where the fault is that of a record
 abbrev pub item_text : Option ℕ → List ℕ
@@ -128,6 +135,7 @@ own_text (tool.Reading fault) = reading_text fault
 own_text (tool.Layout fault) = layout_text fault
 own_text (tool.Source fault) = source_text fault
 own_text (tool.Out) = output_text
+own_text (tool.Budget offset size) = budget_text offset size
 own_text (tool.Memory) = memory_text
 own_text (tool.NotCopied t) = not_copied_text t
 

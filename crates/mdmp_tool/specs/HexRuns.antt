@@ -7,7 +7,7 @@ use Rattle.mdmp_lister.specs.Format.Listing.{Run, listing, memory_lists}
 use Rattle.mdmp_lister.specs.Format.Refusal.{opening_fault}
 use Rattle.mdmp_lister.specs.Format.Ranges.{ranges_of}
 use Rattle.mdmp_tool.specs.declared.fault.ToolFault.{ToolFault}
-use Rattle.mdmp_tool.specs.declared.fault.ToolFault.TheVariants.{List as BadList, Source, Out, Memory}
+use Rattle.mdmp_tool.specs.declared.fault.ToolFault.TheVariants.{List as BadList, Source, Budget, Out, Memory}
 use Rattle.mdmp_tool.specs.Engines.{Runs, RunsThrough, WritesText, at_the_end, unless_refused}
 use Rattle.mdmp_tool.specs.HexText.{hex_text}
 
@@ -23,6 +23,7 @@ abbrev pub HexEnds : Run → Result (Unit {0}) ToolFault → Type 0
 HexEnds run (Ok x) = run.fault ≡ None
 HexEnds run (Err (BadList fault)) = run.fault ≡ Some fault
 HexEnds run (Err (Source fault)) = Unit {0}
+HexEnds run (Err (Budget offset size)) = Unit {0}
 HexEnds run (Err Memory) = Unit {0}
 HexEnds run (Err Out) = run.fault ≡ None
 HexEnds run (Err fault) = ⊥

@@ -6,17 +6,18 @@ use Rattle.mdmp_lister.specs.declared.choice.Choice.TheVariants.{All}
 use Rattle.mdmp_lister.specs.Format.Listing.{Run, listing, nothing, only_fault}
 use Rattle.mdmp_lister.specs.Lister.{ListerState, tail}
 use Rattle.mdmp_tool.specs.declared.fault.ToolFault.{ToolFault}
-use Rattle.mdmp_tool.specs.declared.fault.ToolFault.TheVariants.{List as BadList, Source, Out}
+use Rattle.mdmp_tool.specs.declared.fault.ToolFault.TheVariants.{List as BadList, Source, Budget, Out}
 use Rattle.mdmp_wire.specs.declared.header.Header.{Header}
 use Rattle.mdmp_tool.specs.Engines.{Runs, RunsThrough, StopsShort, WritesText, up_to_a_fault}
 use Rattle.mdmp_tool.specs.Lines.{dump_line}
 use Rattle.mdmp_tool.specs.Text.{run_text, list_text, next_lines}
 
--- what may end the printing of a run: its fault, or none; the store's or the output's
+-- what may end the printing of a run: its fault, or none; the store's, the budget's or the output's
 abbrev pub ListEnds : Run → Result (Unit {0}) ToolFault → Type 0
 ListEnds run (Ok x) = run.fault ≡ None
 ListEnds run (Err (BadList fault)) = run.fault ≡ Some fault
 ListEnds run (Err (Source fault)) = Unit {0}
+ListEnds run (Err (Budget offset size)) = Unit {0}
 ListEnds run (Err Out) = Unit {0}
 ListEnds run (Err fault) = ⊥
 
@@ -38,13 +39,14 @@ PutsSymbols text before (Err (Source fault)) after = after ≡ before
 PutsSymbols text before (Err Out) after = PutsPrefix before text after
 PutsSymbols text before (Err fault) after = ⊥
 
--- of what is left of a run over F the lines of its next item were printed; or nothing was, since no item is left, or the fault
--- stands there; or the store failed or the output refused in these lines
+-- of what is left of a run over F the lines of its next item were printed; or nothing was, since no item is left, the fault
+-- stands there or the budget was reached; or the store failed or the output refused in these lines
 abbrev pub ListsNext : Bool → List ℕ → ℕ → Run → OutState → Result Bool ToolFault → OutState → Type 0
 ListsNext pdb F limit left before (Ok true) after = (0 < length left.items) × PutsAll before (next_lines pdb F limit left) after
 ListsNext pdb F limit left before (Ok false) after = (left ≡ nothing) × (after ≡ before)
 ListsNext pdb F limit left before (Err (BadList fault)) after = (left ≡ only_fault fault) × (after ≡ before)
 ListsNext pdb F limit left before (Err (Source fault)) after = StopsShort before (next_lines pdb F limit left) after
+ListsNext pdb F limit left before (Err (Budget offset size)) after = after ≡ before
 ListsNext pdb F limit left before (Err Out) after = PutsPrefix before (next_lines pdb F limit left) after
 ListsNext pdb F limit left before (Err fault) after = ⊥
 

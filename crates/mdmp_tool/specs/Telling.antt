@@ -10,14 +10,16 @@ use Rattle.mdmp_tool.specs.declared.fault.ToolFault.{ToolFault}
 use Rattle.mdmp_tool.specs.declared.fault.ToolFault.TheVariants as tool
 use Rattle.mdmp_writer.specs.declared.fault.LayoutFault.TheVariants.{TooLarge}
 
--- a fault of the store and want of memory are told as such, every other one as the file's
+-- a fault of the store, the budget's and want of memory are told as such, every other one as the file's
 abbrev pub opening_told : OpenFault → ToolFault
 opening_told (opening.Source fault) = tool.Source fault
+opening_told (opening.Budget offset size) = tool.Budget offset size
 opening_told (opening.Memory) = tool.Memory
 opening_told fault = tool.Opening fault
 
 abbrev pub told_by : FaultKind → ListFault → ToolFault
 told_by (kinds.Source fault) f = tool.Source fault
+told_by kinds.Budget f = tool.Budget f.offset f.size
 told_by kind f = tool.List f
 
 abbrev pub listing_told : ListFault → ToolFault
@@ -33,7 +35,7 @@ reading_told reading.Memory = tool.Memory
 reading_told (reading.Source fault) = tool.Source fault
 reading_told fault = tool.Reading fault
 
--- a fault of the store or want of memory is told as such, also where a fault of the file has it inside
+-- a fault of the store, the budget's or want of memory is told as such, also where a fault of the file has it inside
 abbrev pub fault_as_told : ToolFault → ToolFault
 fault_as_told (tool.Opening fault) = opening_told fault
 fault_as_told (tool.List fault) = listing_told fault

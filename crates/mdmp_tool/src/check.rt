@@ -4,6 +4,7 @@ ghost use Rattle.mdmp_lister.specs.declared.choice.Choice.TheVariants.{All};
 ghost use Rattle.mdmp_lister.specs.Format.Listing.{verdicts};
 ghost use Rattle.mdmp_tool.specs.CheckRuns.{CheckEnds, Checks};
 ghost use Rattle.mdmp_tool.specs.CheckText.{verdict_lines};
+ghost use Rattle.mdmp_tool.specs.Causes.{HasBudgetCause, MayReachBudget};
 ghost use Rattle.mdmp_tool.specs.Engines.{IsOpened, IsSameRun, IsReadThrough, Leaves, ReadsSource, Tells, WritesText, directly, past_faults};
 
 use crate::engine::{Engine, RunAnswered, run, run_source};
@@ -16,8 +17,9 @@ use std::alloc::Allocator;
 /// Reads all entries of a file, and prints a line for each: that it is good, or its first fault. The
 /// answer is how many have a fault.
 ///
-/// Where the file is refused nothing is written. After a fault of the store or the output the first
-/// part of the text went out. Memory is taken before the first byte of output.
+/// Where the file is refused nothing is written. After a fault of the store or the output, or where the
+/// budget of the limits is reached, the first part of the text went out. Memory is taken before the first
+/// byte of output.
 pub fn run_check<S: Store + Drop, A: Allocator + Copy, O: Out>(
     alloc: A,
     store: S,
@@ -26,6 +28,7 @@ pub fn run_check<S: Store + Drop, A: Allocator + Copy, O: Out>(
 ) -> Result<u64, ToolFault>
     ensures checks { (file : List ℕ) → (S.state store).content ≡ Some file → Checks file limits.name (O.state out.old) result (O.state out.new) }
     ensures tells { Tells directly past_faults (S.state store) (S.state store).size (O.state out.old) result (O.state out.new) }
+    ensures budget { MayReachBudget limits (S.state store).size result }
 {
     run(CheckEngine, alloc, store, limits, out)
 }
@@ -97,6 +100,7 @@ fn check_listed<S: Store + Drop, A: Allocator + Copy, O: Out>(
         → WritesText past_faults (verdict_lines (verdicts file All lister.old.limit)) (O.state lines.old.out.now) result (O.state lines.new.out.now) }
     ensures leaves { Leaves past_faults (O.state lines.new.out.now ≡ O.state lines.old.out.now) lister.old.source (O.state lines.old.out.now) result lister.new.source (O.state lines.new.out.now) }
     ensures same { IsSameRun lister.old lister.new }
+    ensures over { HasBudgetCause result lister.new }
 {
     // The prover needs that a directory has fewer than 2^32 entries: so the count is never at its greatest.
     let _entries = lister.header().number_of_streams;

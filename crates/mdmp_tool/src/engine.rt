@@ -2,6 +2,7 @@
 ghost use Rattle.std.specs.Prelude.{◌≡◌, ◌<◌, ℕ, List, [], Some, Err};
 ghost use Rattle.mdmp_source.specs.Blocks.{MovesFront};
 ghost use Rattle.mdmp_lister.specs.Format.Refusal.{opening_fault};
+ghost use Rattle.mdmp_tool.specs.Causes.{MayReachBudget};
 ghost use Rattle.mdmp_tool.specs.Engines.{EndsFlushed, IsFlushed, IsReadThrough, ReadsSource, Runs, RunsThrough, Tells, directly, in_blocks, unless_refused};
 
 use crate::fault::{ToolFault, told_opening};
@@ -23,6 +24,7 @@ pub(crate) trait Engine: Copy {
     ghost use Rattle.std.specs.Prelude.{◌≡◌, ℕ, List, Some, Result};
     ghost use Rattle.mdmp_lister.specs.declared.choice.Choice.{Choice};
     ghost use Rattle.mdmp_tool.specs.declared.fault.ToolFault.{ToolFault};
+    ghost use Rattle.mdmp_tool.specs.Causes.{HasBudgetCause};
     ghost use Rattle.mdmp_tool.specs.Engines.{IsOpened, IsSameRun, Leaves, Pace, WritesText};
 
     /// What it answers where all was printed.
@@ -60,7 +62,8 @@ pub(crate) trait Engine: Copy {
         ensures writes { (file : List ℕ) → lister.old.source.store.content ≡ Some file
             → WritesText pace (text self.now file lister.old.limit) (O.state out.old) result (O.state out.new) }
         ensures leaves { Leaves pace (O.state out.new ≡ O.state out.old) lister.old.source (O.state out.old) result lister.new.source (O.state out.new) }
-        ensures same { IsSameRun lister.old lister.new };
+        ensures same { IsSameRun lister.old lister.new }
+        ensures over { HasBudgetCause result lister.new };
 }
 
 /// Runs a command over a store.
@@ -76,6 +79,7 @@ pub(crate) fn run<E: Engine, S: Store + Drop, A: Allocator + Copy, O: Out>(
         → Runs file E.choice (E.Ends engine file limits.name) E.pace (unless_refused (opening_fault file E.choice) (E.text engine file limits.name))
         (O.state out.old) result (O.state out.new) }
     ensures tells { Tells directly E.pace (S.state store) (S.state store).size (O.state out.old) result (O.state out.new) }
+    ensures budget { MayReachBudget limits (S.state store).size result }
 {
     let RunAnswered { answer, source: _ } = run_source(
         engine,

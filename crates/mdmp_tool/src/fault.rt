@@ -23,6 +23,13 @@ pub enum ToolFault {
     Source(SourceFault),
     /// The output failed, or took nothing.
     Out,
+    /// With these bytes more than the budget would have been fetched, so they were not.
+    Budget {
+        /// Their offset from the start of the file.
+        offset: u64,
+        /// How many they are.
+        size: u64,
+    },
     /// There was no memory for what the command holds.
     Memory,
     /// Streams of this type are not copied.
@@ -30,8 +37,8 @@ pub enum ToolFault {
 }
 
 /// The exit status of a command that ends with this fault: 1 where the file is at fault, 2 where a type
-/// is not copied, 3 where the file's store, the output or memory is, also where `Opening`, `List` or
-/// `Reading` has a fault of the store or want of memory inside.
+/// is not copied, 3 where the file's store, the output, memory or the budget is, also where `Opening`, `List`
+/// or `Reading` has a fault of the store, the budget's or want of memory inside.
 pub fn status(fault: &ToolFault) -> u8
     ensures { result ≡ exit_status fault.now }
 {
@@ -39,11 +46,11 @@ pub fn status(fault: &ToolFault) -> u8
         ToolFault::Opening(_) | ToolFault::List(_) | ToolFault::Reading(_) | ToolFault::Layout(_) =>
             1,
         ToolFault::NotCopied(_) => 2,
-        ToolFault::Source(_) | ToolFault::Out | ToolFault::Memory => 3,
+        ToolFault::Source(_) | ToolFault::Budget { .. } | ToolFault::Out | ToolFault::Memory => 3,
     }
 }
 
-/// A fault as what it is: one of the store and want of memory as such.
+/// A fault as what it is: one of the store or of the budget, and want of memory, as such.
 pub(crate) fn fault_as_told(fault: ToolFault) -> ToolFault
     ensures { result ≡ fault_as_told fault }
 {
@@ -61,6 +68,7 @@ pub(crate) fn told_opening(fault: OpenFault) -> ToolFault
 {
     match fault {
         OpenFault::Source(fault) => ToolFault::Source(fault),
+        OpenFault::Budget { offset, size } => ToolFault::Budget { offset, size },
         OpenFault::Memory => ToolFault::Memory,
         fault => ToolFault::Opening(fault),
     }
@@ -72,6 +80,10 @@ pub(crate) fn told_list(fault: ListFault) -> ToolFault
 {
     match fault.kind {
         FaultKind::Source(fault) => ToolFault::Source(fault),
+        FaultKind::Budget => ToolFault::Budget {
+            offset: fault.offset,
+            size: fault.size,
+        },
         _ => ToolFault::List(fault),
     }
 }

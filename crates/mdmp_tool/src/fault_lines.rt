@@ -3,7 +3,7 @@ ghost use Rattle.std.specs.Prelude.{◌≡◌};
 ghost use Rattle.mdmp_source.specs.Output.{Puts};
 ghost use Rattle.mdmp_tool.specs.Lines.{error_line};
 ghost use Rattle.mdmp_tool.specs.Pieces.{text_of};
-ghost use Rattle.mdmp_tool.specs.Faults.{source_text, output_text, memory_text, version_text, too_many_ranges_text, opening_text, list_fault_text, layout_text, part_text, long_name_text, reading_text, not_copied_text, fault_text};
+ghost use Rattle.mdmp_tool.specs.Faults.{source_text, budget_text, output_text, memory_text, version_text, too_many_ranges_text, opening_text, list_fault_text, layout_text, part_text, long_name_text, reading_text, not_copied_text, fault_text};
 
 use crate::fault::{ToolFault, fault_as_told};
 use crate::line::put_error_line;
@@ -13,8 +13,8 @@ use mdmp_lister::{ListFault, OpenFault};
 use mdmp_source::{Out, OutFailed, SourceFault};
 use mdmp_writer::LayoutFault;
 
-/// Writes the line of a fault, `mdmp: ` and what it says; a fault of the store or want of memory
-/// says the same inside `Opening`, `List` or `Reading`. Where the output refuses, the first part of the line
+/// Writes the line of a fault, `mdmp: ` and what it says; a fault of the store or the budget and want of memory
+/// say the same inside `Opening`, `List` or `Reading`. Where the output refuses, the first part of the line
 /// went out.
 pub fn fault_line<O: Out>(fault: &ToolFault, out: &mut O) -> Result<(), OutFailed>
     ensures { Puts result (O.state out.old) (error_line (fault_text fault.now)) (O.state out.new) }
@@ -25,6 +25,7 @@ pub fn fault_line<O: Out>(fault: &ToolFault, out: &mut O) -> Result<(), OutFaile
         ToolFault::Reading(fault) => put_reading_fault(&fault, out),
         ToolFault::Layout(fault) => put_layout_fault(&fault, out),
         ToolFault::Source(fault) => put_source_fault(&fault, out),
+        ToolFault::Budget { offset, size } => put_budget_fault(offset, size, out),
         ToolFault::Out => put_output_fault(out),
         ToolFault::Memory => put_memory_fault(out),
         ToolFault::NotCopied(stream_type) => put_not_copied(stream_type, out),
@@ -48,6 +49,20 @@ fn put_source_fault<O: Out>(fault: &SourceFault, out: &mut O) -> Result<(), OutF
             &[Piece::Text("store changed at "), Piece::Decimal(*at)],
         ),
     }
+}
+
+fn put_budget_fault<O: Out>(offset: u64, size: u64, out: &mut O) -> Result<(), OutFailed>
+    ensures { Puts result (O.state out.old) (error_line (budget_text offset size)) (O.state out.new) }
+{
+    put_error_line(
+        out,
+        &[
+            Piece::Text("fetch budget reached: offset "),
+            Piece::Decimal(offset),
+            Piece::Text(" size "),
+            Piece::Decimal(size),
+        ],
+    )
 }
 
 fn put_output_fault<O: Out>(out: &mut O) -> Result<(), OutFailed>
@@ -107,6 +122,7 @@ fn put_opening_fault<O: Out>(fault: &OpenFault, out: &mut O) -> Result<(), OutFa
             ],
         ),
         OpenFault::Source(fault) => put_source_fault(fault, out),
+        OpenFault::Budget { offset, size } => put_budget_fault(*offset, *size, out),
         OpenFault::Memory => put_memory_fault(out),
         OpenFault::TooManyRanges { count } => put_too_many_ranges(*count, out),
     }

@@ -2,6 +2,7 @@
 ghost use Rattle.std.specs.Prelude.{◌≡◌, ◌≤◌, ◌<◌, ◌+◌, ℕ, List, [], Some, None, length};
 ghost use Rattle.mdmp_map.specs.Ranges.{address_end};
 ghost use Rattle.mdmp_lister.specs.Format.Listing.{Run};
+ghost use Rattle.mdmp_tool.specs.Causes.{HasBudgetCause, MayReachBudget};
 ghost use Rattle.mdmp_tool.specs.Engines.{IsSameRun, IsReadThrough, Leaves, ReadsSource, Tells, at_the_end, directly};
 ghost use Rattle.mdmp_tool.specs.HexRuns.{Hexes, HexesMemory, HexesRun};
 ghost use Rattle.mdmp_words.specs.NumberWords.{length_limit};
@@ -16,9 +17,9 @@ use std::alloc::Allocator;
 /// Prints memory of the dumped process: `length` bytes from the address `address` on, sixteen on a
 /// line, and `??` for each that no range of the file's memory lists holds.
 ///
-/// Where the file is refused, or one of its memory lists has a fault, nothing is written, nor is
-/// after a fault of the store or want of memory. After a fault of the output the first part of the
-/// text went out. Memory is taken before the first byte of output.
+/// Where the file is refused, or one of its memory lists has a fault, nothing is written, nor is after a
+/// fault of the store or want of memory, or where the budget of the limits is reached. After a fault of
+/// the output the first part of the text went out. Memory is taken before the first byte of output.
 pub fn run_hex<S: Store + Drop, A: Allocator + Copy, O: Out>(
     alloc: A,
     store: S,
@@ -31,6 +32,7 @@ pub fn run_hex<S: Store + Drop, A: Allocator + Copy, O: Out>(
     requires limited { length ≤ length_limit }
     ensures hexes { (file : List ℕ) → (S.state store).content ≡ Some file → Hexes file limits.name address length (O.state out.old) result (O.state out.new) }
     ensures tells { Tells directly at_the_end (S.state store) (S.state store).size (O.state out.old) result (O.state out.new) }
+    ensures budget { MayReachBudget limits (S.state store).size result }
 {
     run(HexEngine { address, length }, alloc, store, limits, out)
 }
@@ -109,6 +111,7 @@ fn hex_listed<S: Store + Drop, A: Allocator + Copy, O: Out>(
         → HexesRun file left address length (O.state out.old) result (O.state out.new) }
     ensures leaves { Leaves at_the_end (O.state out.new ≡ O.state out.old) lister.old.source (O.state out.old) result lister.new.source (O.state out.new) }
     ensures same { IsSameRun lister.old lister.new }
+    ensures over { HasBudgetCause result lister.new }
 {
     match lister.list_ranges() {
         Ok(()) => {}
@@ -137,6 +140,7 @@ fn put_memory<S: Store + Drop, A: Allocator + Copy, O: Out>(
         → HexesMemory file lister.old.ranges address (length bytes.new) (O.state out.old) result (O.state out.new) }
     ensures leaves { Leaves at_the_end (O.state out.new ≡ O.state out.old) lister.old.source (O.state out.old) result lister.new.source (O.state out.new) }
     ensures same { IsSameRun lister.old lister.new }
+    ensures over { HasBudgetCause result lister.new }
 {
     match lister.read_address(address, bytes, known) {
         Ok(()) => {}

@@ -2,6 +2,7 @@
 ghost use Rattle.std.specs.Prelude.{◌≡◌, ℕ, List, None, Some, Ok, true, IfSome};
 ghost use Rattle.mdmp_source.specs.Range.{IsInside};
 ghost use Rattle.mdmp_lister.specs.Format.Listing.{Run};
+ghost use Rattle.mdmp_tool.specs.Causes.{HasBudgetCause, MayReachBudget};
 ghost use Rattle.mdmp_tool.specs.Engines.{IsSameRun, IsReadThrough, Leaves, ReadsSource, Tells, directly, up_to_a_fault};
 ghost use Rattle.mdmp_tool.specs.Runs.{IsBehindNext, Lists, ListsFile, ListsNext, ListsRun, PutsSymbols};
 ghost use Rattle.mdmp_tool.specs.Text.{symbols_of, symbols_text};
@@ -20,8 +21,9 @@ use std::alloc::Allocator;
 /// module's, where that record lies inside the file; of its name at most as many bytes are read and
 /// printed as the limit on names.
 ///
-/// Where the file is refused nothing is written. After a fault of the store or the output the first
-/// part of the text went out. Memory is taken before the first byte of output.
+/// Where the file is refused nothing is written. After a fault of the store or the output, or where the
+/// budget of the limits is reached, the first part of the text went out. Memory is taken before the first
+/// byte of output.
 pub fn run_list<S: Store + Drop, A: Allocator + Copy, O: Out>(
     alloc: A,
     store: S,
@@ -31,6 +33,7 @@ pub fn run_list<S: Store + Drop, A: Allocator + Copy, O: Out>(
 ) -> Result<(), ToolFault>
     ensures lists { (file : List ℕ) → (S.state store).content ≡ Some file → Lists pdb file limits.name (O.state out.old) result (O.state out.new) }
     ensures tells { Tells directly up_to_a_fault (S.state store) (S.state store).size (O.state out.old) result (O.state out.new) }
+    ensures budget { MayReachBudget limits (S.state store).size result }
 {
     run(ListEngine { pdb }, alloc, store, limits, out)
 }
@@ -106,6 +109,7 @@ fn put_listing<S: Store + Drop, A: Allocator + Copy, O: Out>(
         → ListsFile pdb file lister.old.limit lister.old.header left (O.state out.old) result (O.state out.new) }
     ensures leaves { Leaves up_to_a_fault (O.state out.new ≡ O.state out.old) lister.old.source (O.state out.old) result lister.new.source (O.state out.new) }
     ensures same { IsSameRun lister.old lister.new }
+    ensures over { HasBudgetCause result lister.new }
 {
     if let Err(OutFailed) = put_dump_line(&lister.header(), out) {
         return Err(ToolFault::Out);
@@ -124,6 +128,7 @@ fn list_items<S: Store + Drop, A: Allocator + Copy, O: Out>(
         → ListsRun pdb file lister.old.limit left (O.state out.old) result (O.state out.new) }
     ensures leaves { Leaves up_to_a_fault ⊥ lister.old.source (O.state out.old) result lister.new.source (O.state out.new) }
     ensures same { IsSameRun lister.old lister.new }
+    ensures over { HasBudgetCause result lister.new }
 {
     while list_next(lister, pdb, out)? {}
     Ok(())
@@ -132,8 +137,8 @@ fn list_items<S: Store + Drop, A: Allocator + Copy, O: Out>(
 /// Prints the lines of the next item that is left, and tells whether there was one. Behind the line of a
 /// module stands with `pdb` that of its CodeView record.
 ///
-/// A fault of the listing ends it with nothing printed, one of the store or the output may stand behind a
-/// first part of the lines.
+/// A fault of the listing or of the budget ends it with nothing printed, one of the store or the output may
+/// stand behind a first part of the lines.
 pub fn list_next<S: Store + Drop, A: Allocator + Copy, O: Out>(
     lister: &mut Lister<S, A>,
     pdb: bool,
@@ -145,6 +150,7 @@ pub fn list_next<S: Store + Drop, A: Allocator + Copy, O: Out>(
     ensures rest { result ≡ Ok true → IsBehindNext lister.old lister.new }
     ensures leaves { Leaves up_to_a_fault ⊥ lister.old.source (O.state out.old) result lister.new.source (O.state out.new) }
     ensures same { IsSameRun lister.old lister.new }
+    ensures over { HasBudgetCause result lister.new }
 {
     let symbols = match lister.next() {
         Ok(None) => return Ok(false),
@@ -184,6 +190,7 @@ fn put_symbols<S: Store + Drop, A: Allocator + Copy, O: Out>(
     ensures stays { lister.new ≡ record lister.old { source = lister.new.source; counts = lister.new.counts } }
     ensures leaves { Leaves up_to_a_fault ⊥ lister.old.source (O.state out.old) result lister.new.source (O.state out.new) }
     ensures same { IsSameRun lister.old lister.new }
+    ensures over { HasBudgetCause result lister.new }
 {
     let Some(location) = symbols else {
         return Ok(());

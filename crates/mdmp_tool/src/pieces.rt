@@ -121,7 +121,7 @@ fn words_of(kind: FaultKind) -> &'static str
         FaultKind::NameLengthOutside => "name length outside the file",
         FaultKind::NameOdd => "odd name length",
         FaultKind::NameUnitsOutside => "name outside the file",
-        FaultKind::Source(_) => "",
+        FaultKind::Source(_) | FaultKind::Budget => "",
     }
 }
 

@@ -340,6 +340,7 @@ fn copy_in_heap(rt: &impl Abort, alloc: Global, file: &[u8], heap_size: usize) -
         limits: Limits {
             window: 176,
             name: 0,
+            budget: None,
         },
         room: Room {
             all: 16384,

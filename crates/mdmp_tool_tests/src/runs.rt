@@ -20,6 +20,7 @@ pub const FOUR: Task<'static> = Task::Hex(AddressSpan {
 pub const DEFAULT: Limits = Limits {
     window: 65536,
     name: 4096,
+    budget: None,
 };
 
 /// The fault of the file `FAULTY`.

@@ -6,8 +6,12 @@ use Rattle.clap.proofs.OnLiterals.{clap_on_literals}
 use Rattle.mdmp_words.specs.Requests.{Plain, PlainCommand, check, copy, faults, hex, list, request_named}
 
 -- a command over the file of this name, with these limits
+abbrev within : Text → ℕ → ℕ → ℕ → PlainCommand → Option Plain
+within file window name budget command = Some (record { file = file; sizes = record { window = window; name = name; budget = Some budget }; command = command })
+
+-- and the usual budget
 abbrev over : Text → ℕ → ℕ → PlainCommand → Option Plain
-over file window name command = Some (record { file = file; sizes = record { window = window; name = name }; command = command })
+over file window name command = within file window name 18446744073709551615 command
 
 -- ---- requests
 
@@ -29,6 +33,15 @@ list-request = refl
 list_pdb-request : request_named (codes "list" ∷ codes "a.dmp" ∷ codes "--pdb" ∷ []) ≡ over (codes "a.dmp") 65536 4096 (list true)
 unfolding clap_on_literals request_named
 list_pdb-request = refl
+
+budget-request : request_named (codes "list" ∷ codes "a.dmp" ∷ codes "--budget" ∷ codes "43" ∷ []) ≡ within (codes "a.dmp") 65536 4096 43 (list false)
+unfolding clap_on_literals request_named
+budget-request = refl
+
+-- a copy has none
+copy_budget-faults : faults (codes "copy" ∷ codes "--budget" ∷ codes "43" ∷ codes "a" ∷ codes "b" ∷ codes "3" ∷ []) ≡ UnknownArgument ∷ []
+unfolding clap_on_literals faults
+copy_budget-faults = refl
 
 hex-request : request_named (codes "hex" ∷ codes "f" ∷ codes "0x10" ∷ codes "17" ∷ codes "--window" ∷ codes "168" ∷ [])
     ≡ over (codes "f") 168 4096 (hex (record { address = 16; length = 17 }))

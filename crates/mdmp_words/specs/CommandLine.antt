@@ -31,21 +31,29 @@ flag name = record (new_rule name) { long = Some name; action = Some SetTrue }
 abbrev pub limited : App → App
 limited made = with_rule (with_rule made (number_option (codes "window"))) (number_option (codes "name"))
 
+-- and with the one that limits how much of it is read
+abbrev pub budgeted : App → App
+budgeted made = with_rule made (number_option (codes "budget"))
+
 -- a command of this name with these words and options, and with those that limit how a file is read
 abbrev pub command : Text → List Rule → Shape
 command name rules = (limited (fold with_rule (new_app name) rules)).top
 
+-- the same of one that prints, whose fetches are limited too
+abbrev pub printing_command : Text → List Rule → Shape
+printing_command name rules = (budgeted (limited (fold with_rule (new_app name) rules))).top
+
 -- `check FILE`
 abbrev pub check_command : Shape
-check_command = command (codes "check") (word (codes "FILE") ∷ [])
+check_command = printing_command (codes "check") (word (codes "FILE") ∷ [])
 
 -- `list FILE [--pdb]`
 abbrev pub list_command : Shape
-list_command = command (codes "list") (word (codes "FILE") ∷ flag (codes "pdb") ∷ [])
+list_command = printing_command (codes "list") (word (codes "FILE") ∷ flag (codes "pdb") ∷ [])
 
 -- `hex FILE ADDRESS LENGTH`
 abbrev pub hex_command : Shape
-hex_command = command (codes "hex") (word (codes "FILE") ∷ word (codes "ADDRESS") ∷ word (codes "LENGTH") ∷ [])
+hex_command = printing_command (codes "hex") (word (codes "FILE") ∷ word (codes "ADDRESS") ∷ word (codes "LENGTH") ∷ [])
 
 -- `copy IN OUT TYPE..`
 abbrev pub copy_command : Shape

@@ -1,5 +1,5 @@
--- What the words of `--window`, `--name` and TYPE name. A word is the list of its bytes.
-use Rattle.std.specs.Prelude.{ℕ, ◌^◌, if◌then◌else◌, ◌&&◌, nat_lt, nat_le, List, [], ◌∷◌, Option, Some, None, length, option_map}
+-- What the words of `--window`, `--name`, `--budget` and TYPE name. A word is the list of its bytes.
+use Rattle.std.specs.Prelude.{ℕ, ◌^◌, ◌-◌, if◌then◌else◌, ◌&&◌, nat_lt, nat_le, List, [], ◌∷◌, Option, Some, None, length, option_map}
 use Rattle.std.specs.Option.{option_and_then}
 use Rattle.mdmp_lister.specs.Format.Kind.{greatest_record}
 use Rattle.mdmp_lister.specs.Limits.{most_bytes}
@@ -20,24 +20,30 @@ number_or usual (Some word) = decimal32_number word
 
 -- ---- limits
 
--- how many bytes a window and a name may have
+-- how many bytes a window and a name may have, and how many may be fetched, where there is a most
 pub record Sizes : Type 0 where
   pub window : ℕ
   pub name : ℕ
+  pub budget : Option ℕ
 
 abbrev pub sizes_in_limits : Limits → Sizes
-sizes_in_limits limits = record { window = limits.window; name = limits.name }
+sizes_in_limits limits = record { window = limits.window; name = limits.name; budget = limits.budget }
 
 -- these sizes, where they are limits
-abbrev pub sizes_within : ℕ → ℕ → Option Sizes
-sizes_within window name =
+abbrev pub sizes_within : ℕ → ℕ → ℕ → Option Sizes
+sizes_within window name budget =
     if nat_le greatest_record window && nat_le window most_bytes && nat_le name most_bytes
-    then Some (record { window = window; name = name }) else None
+    then Some (record { window = window; name = name; budget = Some budget }) else None
 
--- the sizes that the two words name, a window of 65536 bytes and a name of 4096 where there is no word
-abbrev pub limits_named : Option (List ℕ) → Option (List ℕ) → Option Sizes
-limits_named window name =
-    option_and_then (λ w. option_and_then (sizes_within w) (number_or 4096 name)) (number_or 65536 window)
+-- the number below 2^64 that a word names, or the greatest one where there is no word
+abbrev pub budget_named : Option (List ℕ) → Option ℕ
+budget_named None = Some (2 ^ 64 - 1)
+budget_named (Some word) = decimal_number word
+
+-- the sizes that the three words name, a window of 65536 bytes, a name of 4096 and a budget of 2^64 - 1 where there is no word
+abbrev pub limits_named : Option (List ℕ) → Option (List ℕ) → Option (List ℕ) → Option Sizes
+limits_named window name budget =
+    option_and_then (λ w. option_and_then (λ n. option_and_then (sizes_within w n) (budget_named budget)) (number_or 4096 name)) (number_or 65536 window)
 
 -- ---- stream types
 

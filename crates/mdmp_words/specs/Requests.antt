@@ -57,7 +57,7 @@ abbrev pub named_over : List Row → Text → PlainCommand → Option Plain
 named_over rows id command =
     option_and_then
     (λ sizes. option_map (λ file. record { file = file; sizes = sizes; command = command }) (first_of id rows))
-    (limits_named (first_of (codes "window") rows) (first_of (codes "name") rows))
+    (limits_named (first_of (codes "window") rows) (first_of (codes "name") rows) (first_of (codes "budget") rows))
 
 abbrev pub check_named : List Row → Option Plain
 check_named rows = named_over rows (codes "FILE") check

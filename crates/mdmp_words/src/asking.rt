@@ -117,7 +117,11 @@ fn request_over<'a>(matches: &ArgMatches<'a>, id: &str, command: Command<'a>) ->
         ≡ named_over (rows_of (found_of matches.now)) id.now (plain_command command.entry) }
     ensures same { IfSome result (λ request. request.command ≡ command.entry) }
 {
-    let limits = limits_of(word_of(matches, "window"), word_of(matches, "name"))?;
+    let limits = limits_of(
+        word_of(matches, "window"),
+        word_of(matches, "name"),
+        word_of(matches, "budget"),
+    )?;
     let file = word_of(matches, id)?;
     Some(Request {
         file,

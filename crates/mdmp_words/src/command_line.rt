@@ -1,7 +1,7 @@
 //! The commands and their words, as `clap` reads them. It takes its memory from `Global` alone.
 ghost use Rattle.std.specs.Prelude.{◌≡◌, IfOk, false};
 ghost use Rattle.clap.specs.Words.{app_of, new_app, rule_of, shape_of};
-ghost use Rattle.mdmp_words.specs.CommandLine.{check_command, commands, copy_command, flag, has_globals, hex_command, limited, list_command, number_option, program, word, words};
+ghost use Rattle.mdmp_words.specs.CommandLine.{budgeted, check_command, commands, copy_command, flag, has_globals, hex_command, limited, list_command, number_option, program, word, words};
 
 use crate::help;
 use clap::{Arg, ArgAction, Command};
@@ -43,7 +43,7 @@ fn check_command<'a>(alloc: Global) -> Result<Command<'a>, AllocError>
 {
     let file = word(alloc, "FILE", help::FILE);
     let command = described(alloc, "check", help::CHECK_ABOUT, help::CHECK_AFTER).arg(file)?;
-    with_limits(alloc, command)
+    with_budget(alloc, command)
 }
 
 fn list_command<'a>(alloc: Global) -> Result<Command<'a>, AllocError>
@@ -53,7 +53,7 @@ fn list_command<'a>(alloc: Global) -> Result<Command<'a>, AllocError>
     let command = described(alloc, "list", help::LIST_ABOUT, help::LIST_AFTER)
         .arg(word(alloc, "FILE", help::FILE))?
         .arg(flag(alloc, "pdb", help::PDB))?;
-    with_limits(alloc, command)
+    with_budget(alloc, command)
 }
 
 fn hex_command<'a>(alloc: Global) -> Result<Command<'a>, AllocError>
@@ -64,7 +64,7 @@ fn hex_command<'a>(alloc: Global) -> Result<Command<'a>, AllocError>
         .arg(word(alloc, "FILE", help::FILE))?
         .arg(word(alloc, "ADDRESS", help::ADDRESS))?
         .arg(word(alloc, "LENGTH", help::LENGTH))?;
-    with_limits(alloc, command)
+    with_budget(alloc, command)
 }
 
 fn copy_command<'a>(alloc: Global) -> Result<Command<'a>, AllocError>
@@ -118,6 +118,14 @@ fn with_limits<'a>(alloc: Global, command: Command<'a>) -> Result<Command<'a>, A
     command
         .arg(number_option(alloc, "window", help::WINDOW))?
         .arg(number_option(alloc, "name", help::NAME))
+}
+
+/// The same with the option that limits how much of a file is read.
+fn with_budget<'a>(alloc: Global, command: Command<'a>) -> Result<Command<'a>, AllocError>
+    ensures app { IfOk result (λ made. app_of made ≡ budgeted (limited (app_of command.entry))) }
+    ensures local { IfOk result (λ made. has_globals made ≡ has_globals command.entry) }
+{
+    with_limits(alloc, command)?.arg(number_option(alloc, "budget", help::BUDGET))
 }
 
 /// An option that takes a number.

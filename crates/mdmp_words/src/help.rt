@@ -17,8 +17,8 @@ Exit status:
   0  all went well
   1  the file is at fault; for 'check', any of its entries is
   2  the command line is wrong, or a type is not copied
-  3  the store, the output or memory failed, or a file could not be opened
-     or made
+  3  the store, the output or memory failed, the fetch budget was reached, or
+     a file could not be opened or made
 
 Examples:
   mdmp list crash.dmp
@@ -98,6 +98,10 @@ pub(crate) const WINDOW: &str =
 
 /// What `--name` sets.
 pub(crate) const NAME: &str = "Read names of at most N bytes, up to 1073741824 [default: 4096]";
+
+/// What `--budget` sets.
+pub(crate) const BUDGET: &str =
+    "Read at most N bytes of the file for its listing, up to 18446744073709551615 (the default)";
 
 /// What `--pdb` adds.
 pub(crate) const PDB: &str = "Tell of each module also its symbol file (PDB), where it names one";

@@ -8,16 +8,24 @@ use mdmp_lister::{Limits, TypeSet};
 /// The most types that can be named.
 const MOST_TYPES: usize = 16;
 
-/// The limits that the words of `--window` and `--name` name, in bytes. Where one of them is not
-/// given, its default stands.
-pub(crate) fn limits_of(window: Option<&str>, name: Option<&str>) -> Option<Limits>
+/// The limits that the words of `--window`, `--name` and `--budget` name, in bytes. Where one of them is
+/// not given, its default stands: of the budget 2^64 - 1.
+pub(crate) fn limits_of(
+    window: Option<&str>,
+    name: Option<&str>,
+    budget: Option<&str>,
+) -> Option<Limits>
     ensures { option_map sizes_in_limits result
-        ≡ limits_named (option_map (λ w. w.now) window.entry) (option_map (λ w. w.now) name.entry) }
+        ≡ limits_named (option_map (λ w. w.now) window.entry) (option_map (λ w. w.now) name.entry) (option_map (λ w. w.now) budget.entry) }
 {
     let usual = Limits::default();
     let window = given_or(window, usual.window)?;
     let name = given_or(name, usual.name)?;
-    Limits::new(window, name)
+    let budget = match budget {
+        Some(word) => decimal_of(word)?,
+        None => u64::MAX,
+    };
+    Limits::with_budget(window, name, budget)
 }
 
 /// The number that a word names, or this one where none is given.

@@ -1,32 +1,61 @@
 -- Why what was written is not read back.
-use Rattle.std.proofs.Common.{◌≡◌, ◌∙◌, ℕ, sym, None, Some, Err}
+use Rattle.std.proofs.Common.{◌≡◌, ◌∙◌, ℕ, refl, sym, Option, None, Some, Err}
 use Rattle.std.proofs.lemmas.Option.{none-some}
-use Rattle.mdmp_source.specs.declared.fault.SourceFault.{SourceFault}
 use Rattle.mdmp_lister.specs.declared.choice.Choice.TheVariants.{All}
+use Rattle.mdmp_lister.specs.declared.fault.FaultKind.{FaultKind}
+use Rattle.mdmp_lister.specs.declared.fault.FaultKind.TheVariants as kinds
+use Rattle.mdmp_lister.specs.declared.fault.OpenFault.{OpenFault}
+use Rattle.mdmp_lister.specs.declared.fault.OpenFault.TheVariants as opening
+use Rattle.mdmp_lister.specs.Fault.{IsUnobtained}
 use Rattle.mdmp_dump.specs.declared.dump.Dump.{Dump}
 use Rattle.mdmp_dump.specs.declared.fault.ReadFault.{ReadFault}
 use Rattle.mdmp_dump.specs.declared.fault.ReadFault.TheVariants as reads
-use Rattle.mdmp_dump.specs.Reading.{IsOwn, store_fault}
+use Rattle.mdmp_dump.specs.FileRefusal.{IsUnbudgeted}
+use Rattle.mdmp_dump.specs.Reading.{IsWanting, IsWithoutBudget, store_fault, store_fault_in}
 use Rattle.mdmp_dump.specs.Refusal.{read_refusal}
 use Rattle.mdmp_dump.specs.Within.{IsWithinLimits}
+use Rattle.mdmp_writer.specs.declared.round_trip.RoundTripFault.TheVariants as backs
 use Rattle.mdmp_writer.specs.Layout.{layout_fault}
 use Rattle.mdmp_writer.specs.RoundTrip.{ComesBack, not_read}
 use Rattle.mdmp_writer.specs.Written.{written}
 
--- a fault that is none of the store's has not come of it
-no_store : (fault : ReadFault) → store_fault fault ≡ None → (told : SourceFault) × (store_fault fault ≡ Some told) → ⊥
-no_store fault none own = none-some own.0 (sym none ∙ own.1)
+-- a fault that is none of the store's, nor of a budget, has come of the file
+listed_not : (kind : FaultKind) → store_fault_in kind ≡ None → IsUnbudgeted kind → IsUnobtained kind → ⊥
+listed_not (kinds.Source fault) none unbudgeted own = cc none
+listed_not kinds.Budget none unbudgeted own = unbudgeted
+listed_not kind none unbudgeted own = own
 
-module _ {Z : Type 0} (d : Dump Z) (names parts : ℕ) (writable : layout_fault d ≡ None) (reads_within : IsWithinLimits names parts d → read_refusal (written d) All names parts ≡ None) where
-  refused : (fault : ReadFault) → read_refusal (written d) All names parts ≡ Some fault
-      → (layout_fault d ≡ None) × (read_refusal (written d) All names parts ≡ Some fault) × (IsWithinLimits names parts d → ⊥)
-  refused fault is = (writable, is, λ within. none-some fault (sym (reads_within within) ∙ is))
+opened_not : (fault : OpenFault) → store_fault (reads.Opening fault) ≡ None → IsWithoutBudget (reads.Opening fault) → IsWanting (reads.Opening fault) → ⊥
+opened_not (opening.Source fault) none unbudgeted own = cc none
+opened_not (opening.Budget offset size) none unbudgeted own = unbudgeted
+opened_not fault none unbudgeted own = own
 
-  pub not_back : (fault : ReadFault) → ((IsOwn fault → ⊥) → read_refusal (written d) All names parts ≡ Some fault) → store_fault fault ≡ None → ComesBack d names parts (Err (not_read fault))
-  not_back reads.Memory settles none = writable
-  not_back (reads.Opening fault) settles none = refused (reads.Opening fault) (settles (no_store (reads.Opening fault) none))
-  not_back (reads.List fault) settles none = refused (reads.List fault) (settles (no_store (reads.List fault) none))
-  not_back (reads.PartOutside e k part offset size) settles none = refused (reads.PartOutside e k part offset size) (settles (no_store (reads.PartOutside e k part offset size) none))
-  not_back (reads.NameTooLong e k size) settles none = refused (reads.NameTooLong e k size) (settles (no_store (reads.NameTooLong e k size) none))
-  not_back (reads.PartsTooLarge e k) settles none = refused (reads.PartsTooLarge e k) (settles (no_store (reads.PartsTooLarge e k) none))
-  not_back (reads.Source fault) settles none = refused (reads.Source fault) (settles (no_store (reads.Source fault) none))
+not_wanting : (fault : ReadFault) → (fault ≡ reads.Memory → ⊥) → store_fault fault ≡ None → IsWithoutBudget fault → IsWanting fault → ⊥
+not_wanting reads.Memory other none unbudgeted own = other refl
+not_wanting (reads.Source fault) other none unbudgeted own = cc none
+not_wanting (reads.List fault) other none unbudgeted own = listed_not fault.kind none unbudgeted own
+not_wanting (reads.Opening fault) other none unbudgeted own = opened_not fault none unbudgeted own
+not_wanting fault other none unbudgeted own = own
+
+module _ {Z : Type 0} (d : Dump Z) (budget : Option ℕ) (names parts : ℕ) (writable : layout_fault d ≡ None) (reads_within : IsWithinLimits names parts d → read_refusal (written d) All names parts ≡ None) where
+  refused : (fault : ReadFault) → (fault ≡ reads.Memory → ⊥) → ((IsWanting fault → ⊥) → read_refusal (written d) All names parts ≡ Some fault) → store_fault fault ≡ None
+      → (budget ≡ None → IsWithoutBudget fault) → ComesBack d budget names parts (Err (backs.Read fault))
+  refused fault other settles none without = (
+    writable,
+    (
+      without,
+      λ unbudgeted.
+          let is = settles (not_wanting fault other none unbudgeted) in
+          (is, λ within. none-some fault (sym (reads_within within) ∙ is)),
+    ),
+  )
+
+  pub not_back : (fault : ReadFault) → ((IsWanting fault → ⊥) → read_refusal (written d) All names parts ≡ Some fault) → store_fault fault ≡ None
+      → (budget ≡ None → IsWithoutBudget fault) → ComesBack d budget names parts (Err (not_read fault))
+  not_back reads.Memory = λ settles none without. writable
+  not_back (reads.Opening fault) = refused (reads.Opening fault) (λ same. cc same)
+  not_back (reads.List fault) = refused (reads.List fault) (λ same. cc same)
+  not_back (reads.PartOutside e k part offset size) = refused (reads.PartOutside e k part offset size) (λ same. cc same)
+  not_back (reads.NameTooLong e k size) = refused (reads.NameTooLong e k size) (λ same. cc same)
+  not_back (reads.PartsTooLarge e k) = refused (reads.PartsTooLarge e k) (λ same. cc same)
+  not_back (reads.Source fault) = refused (reads.Source fault) (λ same. cc same)

@@ -27,8 +27,8 @@ pub enum ToMemoryFault {
 pub enum RoundTripFault {
     /// It can't be written.
     Layout(LayoutFault),
-    /// What was written is not read with these limits: a name or the parts are past them, or the
-    /// memory lists have more than 2^28 ranges.
+    /// What was written is not read with these limits: a name or the parts are past them, the memory
+    /// lists have more than 2^28 ranges, or the budget was reached.
     Read(ReadFault),
     /// Memory was wanting.
     Memory,
@@ -58,14 +58,14 @@ pub fn to_memory<A: Allocator + Copy>(alloc: A, dump: &Dump<A>) -> Result<Vec<u8
 /// Writes a dump into memory and reads it back, with these limits on names and on parts.
 ///
 /// What comes back is the dump. It does not where the dump can't be written, where it is past the
-/// limits, or where memory is wanting.
+/// limits, where it costs more than their budget, or where memory is wanting.
 pub fn write_and_read<A: Allocator + Copy>(
     alloc: A,
     dump: &Dump<A>,
     limits: Limits,
     parts: u64,
 ) -> Result<Dump<A>, RoundTripFault>
-    ensures { ComesBack dump.now limits.name parts result }
+    ensures { ComesBack dump.now limits.budget limits.name parts result }
 {
     let bytes = match to_memory(alloc, dump) {
         Ok(bytes) => bytes,

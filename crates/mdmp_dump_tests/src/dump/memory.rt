@@ -14,6 +14,7 @@ use std::process::Abort;
 const LIMITS: Limits = Limits {
     window: 176,
     name: 32,
+    budget: None,
 };
 
 /// Why a file is not read in a heap of so many bytes, and how much of the heap is used behind it.

@@ -99,6 +99,7 @@ fn long_name_gives_no_dump(rt: HostRuntime) {
         limits: Limits {
             window: 168,
             name: 8,
+            budget: None,
         },
         parts: 0,
     };

@@ -15,6 +15,7 @@ use std::process::Abort;
 const LIMITS: Limits = Limits {
     window: 176,
     name: 4096,
+    budget: None,
 };
 
 /// What comes of opening a view of the thread and the exception in a heap: why it is not opened, what was

@@ -12,6 +12,7 @@ use std::process::Abort;
 const EIGHT: Limits = Limits {
     window: 168,
     name: 8,
+    budget: None,
 };
 
 /// What comes of writing a file of unloaded modules.

@@ -15,12 +15,14 @@ use std::process::Abort;
 const EXACT: Limits = Limits {
     window: 168,
     name: 28,
+    budget: None,
 };
 
 /// Too little for it.
 const SHORT: Limits = Limits {
     window: 168,
     name: 27,
+    budget: None,
 };
 
 /// Asserts that a dump has these bytes in memory.

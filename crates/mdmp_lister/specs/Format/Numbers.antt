@@ -6,7 +6,7 @@ use Rattle.mdmp_lister.specs.declared.choice.Choice.{Choice}
 use Rattle.mdmp_lister.specs.declared.kind.StreamKind.{StreamKind}
 use Rattle.mdmp_lister.specs.declared.fault.Fault.{Fault}
 use Rattle.mdmp_lister.specs.declared.fault.FaultKind.{FaultKind}
-use Rattle.mdmp_lister.specs.declared.fault.FaultKind.TheVariants.{NameLengthOutside, NameOdd, NameUnitsOutside, Source}
+use Rattle.mdmp_lister.specs.declared.fault.FaultKind.TheVariants.{NameLengthOutside, NameOdd, NameUnitsOutside, Source, Budget}
 use Rattle.mdmp_lister.specs.declared.fault.ListFault.{ListFault}
 use Rattle.mdmp_lister.specs.declared.name.Name.{Name}
 use Rattle.mdmp_lister.specs.declared.name.Name.TheVariants as names
@@ -79,9 +79,10 @@ faulty_name NameOdd = 1
 faulty_name NameUnitsOutside = 1
 faulty_name _ = 0
 
--- 1 for a fault of the store, which may stand in the place of a name
+-- the same, and 1 for a fault of bytes that were not obtained, which may stand in the place of a name
 abbrev pub maybe_name : FaultKind → ℕ
 maybe_name (Source f) = 1
+maybe_name Budget = 1
 maybe_name kind = faulty_name kind
 
 -- what a lister answers to a request for the next item: an item, the end or a fault
@@ -99,7 +100,7 @@ abbrev pub most_names_in : NextAnswer → ℕ
 most_names_in (Err f) = maybe_name f.kind
 most_names_in answer = names_in answer
 
--- how many names some answers have reached, each fault once, and none of them one of the store
+-- how many names some answers have reached, each fault once, and none of them one of bytes that were not obtained
 abbrev pub names_reached : List NextAnswer → ℕ
 names_reached answers = sum_by names_in answers
 

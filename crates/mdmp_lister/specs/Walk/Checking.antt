@@ -4,7 +4,7 @@ use Rattle.mdmp_source.specs.Source.{FetchesAtMost}
 use Rattle.mdmp_source.specs.Store.{IsGood}
 use Rattle.mdmp_map.specs.Map.{MapState}
 use Rattle.mdmp_lister.specs.declared.fault.FaultKind.{FaultKind}
-use Rattle.mdmp_lister.specs.declared.fault.FaultKind.TheVariants.{Source}
+use Rattle.mdmp_lister.specs.declared.fault.FaultKind.TheVariants.{Source, Budget}
 use Rattle.mdmp_lister.specs.declared.fault.ListFault.{ListFault}
 use Rattle.mdmp_lister.specs.declared.item.Item.{Item}
 use Rattle.mdmp_lister.specs.declared.sink.RunFault.{RunFault}
@@ -19,7 +19,7 @@ use Rattle.mdmp_lister.specs.Check.{AreNextVerdicts, EndsBefore, EndsBehind, IsV
 use Rattle.mdmp_wire.specs.declared.entry.Entry.{Entry}
 use Rattle.mdmp_lister.specs.declared.choice.Choice.{Choice}
 use Rattle.mdmp_lister.specs.Costs.{HasCost, bad_name_cost, end_cost, items_cost}
-use Rattle.mdmp_lister.specs.Fault.{IsOfSource, IsToldIn}
+use Rattle.mdmp_lister.specs.Fault.{IsOfStore, IsToldIn, IsUnobtained}
 use Rattle.mdmp_lister.specs.Following.{Cursor, IsChosenBehind, IsReadOn, NoneChosenBehind}
 use Rattle.mdmp_lister.specs.Format.Listing.{Numbered, Run, chosen_from, entry_listing, with_item}
 use Rattle.mdmp_lister.specs.Format.Numbers.{maybe_name}
@@ -43,12 +43,13 @@ pub record MayCome (choice : Choice) (entries : List Entry) (z limit : ℕ) (c :
 abbrev pub verdict_on : List ℕ → ℕ → Numbered → Verdict
 verdict_on F limit x = record { entry = x.number; fault = (entry_listing F limit x).fault }
 
--- a fault of the file is what an entry is judged to have; one of the store ends a check
+-- a fault of the file is what an entry is judged to have; one of bytes that were not obtained ends a check
 abbrev pub judged_by : FaultKind → ListFault → Result (Option ListFault) ListFault
 judged_by (Source fault) f = Err f
+judged_by Budget f = Err f
 judged_by kind f = Ok (Some f)
 
--- what is left of an entry begins with these items, and its fault is this one or none, unless the store failed
+-- what is left of an entry begins with these items, and its fault is this one or none, unless bytes were not obtained
 abbrev pub IsJudged : Run → List Item → Result (Option ListFault) ListFault → Type 0
 IsJudged left items (Ok fault) = left ≡ record { items = items; fault = fault }
 IsJudged left items (Err f) = (more : List Item) × (left.items ≡ items ++ more)
@@ -154,19 +155,19 @@ module _ {S A : Type 0} where
 
   -- ---- entries judged
 
-  -- the store failed in the current entry
+  -- bytes were not obtained in the current entry
   pub record FailedIn (old : Walk S A) (f : ListFault) (new : Walk S A) : Type 0 where
-    pub of : IsOfSource f.kind
+    pub of : IsUnobtained f.kind
     pub stage : new.stage ≡ fault_stage f
     pub told : IsToldIn new.current f old.meter.source new.meter.source
     pub number : f.entry + 1 ≡ new.next
-    pub unreliable : (file : List ℕ) → IsGood old.meter.source.store file → ⊥
+    pub unreliable : (file : List ℕ) → IsGood old.meter.source.store file → IsOfStore f.kind → ⊥
 
   abbrev pub JudgeEnds : Walk S A → Result (Option ListFault) ListFault → Walk S A → Type 0
   JudgeEnds old (Ok fault) new = (ends new.stage ≡ false) × IsVerdict (record { entry = new.next - 1; fault = fault })
   JudgeEnds old (Err f) new = FailedIn old f new
 
-  -- the current entry was read to its end or to its fault, or the store failed
+  -- the current entry was read to its end or to its fault, or bytes were not obtained
   pub record EntryJudged (old : Walk S A) (m : MapState) (result : Result (Option ListFault) ListFault) (new : Walk S A) (n : MapState) : Type 0 where
     pub items : List Item
     pub mapped : IsMapped new n

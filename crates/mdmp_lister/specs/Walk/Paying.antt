@@ -71,7 +71,7 @@ unread_bytes w = owed_of w.meter.source.size w.current w.window w.stage
 -- what was fetched and may still be is allowed, with a name and its length for each of the names reached behind the
 -- first `before`, and so are the calls, with 2 for each of them; and those that may still be can be counted
 pub record IsPaid {S A : Type 0} (allowed : Amount) (before : ℕ) (w : Walk S A) : Type 0 where
-  pub bytes : w.meter.fetched + (unread_bytes w + cost_of w.choice w.meter.source.size (drop w.next w.entries.items))
+  pub bytes : w.meter.asked + (unread_bytes w + cost_of w.choice w.meter.source.size (drop w.next w.entries.items))
       + before * (vec_len w.name + 4) ≤ allowed.bytes + w.meter.names * (vec_len w.name + 4)
   pub calls : w.meter.calls
       + (calls_owed w.meter.source.size w.current w.window w.stage + calls_of w.window.room w.choice w.meter.source.size (drop w.next w.entries.items))
@@ -80,9 +80,9 @@ pub record IsPaid {S A : Type 0} (allowed : Amount) (before : ℕ) (w : Walk S A
 
 -- so many bytes were allowed since so many were fetched and so many names reached: what was fetched since then and may still
 -- be of the current entry is within them, with a name and its length for each name, unless their count is at its greatest
-abbrev pub IsWithinSince : {S A : Type 0} → (fetched names allowed : ℕ) → Walk S A → Type 0
-IsWithinSince fetched names allowed w =
-    w.meter.names + 1 < 2 ^ 128 → w.meter.fetched + unread_bytes w + names * (vec_len w.name + 4) ≤ fetched + allowed + w.meter.names * (vec_len w.name + 4)
+abbrev pub IsWithinSince : {S A : Type 0} → (asked names allowed : ℕ) → Walk S A → Type 0
+IsWithinSince asked names allowed w =
+    w.meter.names + 1 < 2 ^ 128 → w.meter.asked + unread_bytes w + names * (vec_len w.name + 4) ≤ asked + allowed + w.meter.names * (vec_len w.name + 4)
 
 -- what is allowed, by the entries of the directory: the header, they, the heads that are fetched twice, and the streams
 abbrev pub allowed_of : {S A : Type 0} → Walk S A → Amount

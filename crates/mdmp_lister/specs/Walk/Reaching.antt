@@ -27,6 +27,6 @@ given_once None = 0
 abbrev pub Reaches : ℕ → MeterState → MeterState → Type 0
 Reaches n old new = new.names ≡ raised old.names n
 
--- one more was reached where this fault is that of a name, maybe one where it is one of the store, else none
+-- one more was reached where this fault is that of a name, maybe one where bytes were not obtained, else none
 abbrev pub ReachesAtFault : FaultKind → MeterState → MeterState → Type 0
 ReachesAtFault kind old new = (raised old.names (faulty_name kind) ≤ new.names) × (new.names ≤ old.names + maybe_name kind)

@@ -1,5 +1,5 @@
 -- What a request for the next item leaves of a walk.
-use Rattle.std.specs.Prelude.{◌≡◌, ◌≤◌, ◌<◌, ◌+◌, ◌-◌, ℕ, List, Option, Some, None, Result, Ok, Err, IfOk, IfErr, IfSome, IsOk, IsTrue, false, get_or, vec_len}
+use Rattle.std.specs.Prelude.{◌≡◌, ◌≤◌, ◌<◌, ◌+◌, ◌-◌, ℕ, List, Option, Some, None, Result, Ok, Err, IfOk, IfErr, IfSome, IsOk, IsTrue, false, get_or, vec_len, max}
 use Rattle.mdmp_source.specs.Source.{FetchesAtMost}
 use Rattle.mdmp_source.specs.Store.{IsGood}
 use Rattle.mdmp_source.specs.declared.fault.SourceFault.{SourceFault}
@@ -15,10 +15,10 @@ use Rattle.mdmp_lister.specs.declared.step.Step.TheVariants as step
 use Rattle.mdmp_lister.specs.declared.walk.Walk.{Walk}
 use Rattle.mdmp_lister.specs.CodeView.{ReadsCodeView}
 use Rattle.mdmp_lister.specs.Costs.{IsUnreadBy, begun_at, given_spent, stream_begun}
-use Rattle.mdmp_lister.specs.Meter.{Books, Moves, counts_of}
+use Rattle.mdmp_lister.specs.Meter.{Books, IsUnmade, Moves, counts_of}
 use Rattle.mdmp_lister.specs.Walk.Paying.{IsPaid, IsWithinSince, unread_bytes}
 use Rattle.mdmp_lister.specs.Walk.Reaching.{Reaches, ReachesAtFault, given_once}
-use Rattle.mdmp_lister.specs.Fault.{IsOfSource, IsToldIn}
+use Rattle.mdmp_lister.specs.Fault.{IsOfStore, IsToldIn}
 use Rattle.mdmp_lister.specs.Following.{Follows, IsBegun, begun}
 use Rattle.mdmp_lister.specs.Format.Kind.{HasNoNames, kind_of}
 use Rattle.mdmp_lister.specs.Format.Listing.{records_told}
@@ -38,11 +38,13 @@ module _ {S A : Type 0} where
     pub head : IfSome (stream_told step) (λ _. new.stage ≡ Head)
     pub falls : work_of new < work_of old
 
-  -- a fault that was met: it stands in the current entry, and one of the store was told by the last fetch
+  -- a fault that was met: it stands in the current entry; one of the store was told by the last fetch, and one of the budget
+  -- is of a fetch that was not made
   pub record FaultMet (old : Walk S A) (fault : ListFault) (new : Walk S A) : Type 0 where
     pub told : IsToldIn old.current fault old.meter.source new.meter.source
     pub number : fault.entry + 1 ≡ old.next
     pub named : ReachesAtFault fault.kind old.meter new.meter
+    pub over : IsUnmade (max old.window.room (vec_len old.name)) fault.kind fault.offset fault.size (counts_of new.meter) new.meter.source.size
 
   -- a request for the next item was answered so, and left the walk so
   pub record Answered (old : Walk S A) (result : Result (Option Step) ListFault) (new : Walk S A) : Type 0 where
@@ -66,12 +68,12 @@ module _ {S A : Type 0} where
     pub counts : Moves 1 (counts_of old.meter) (counts_of new.meter)
     pub named : IfOk result (λ given. Reaches (given_once given) old.meter new.meter)
     -- and so it was counted, with a name and its length where one was reached
-    pub spent : IsWithinSince old.meter.fetched old.meter.names (unread_bytes old + stream_begun old.meter.source.size (begun_at result)) new
+    pub spent : IsWithinSince old.meter.asked old.meter.names (unread_bytes old + stream_begun old.meter.source.size (begun_at result)) new
     pub paid : (allowed : Amount) (before : ℕ) → IsPaid allowed before old → IsPaid allowed before new
     -- an answer that is given again changes nothing
     pub repeats : (stop : Option ListFault) → stop_of old.stage ≡ Some stop → (new ≡ old) × (stop_after result ≡ Some stop)
     -- a store that is good has no fault
-    pub good : (file : List ℕ) → IsGood old.meter.source.store file → IfErr result (λ fault. IsOfSource fault.kind → ⊥)
+    pub good : (file : List ℕ) → IsGood old.meter.source.store file → IfErr result (λ fault. IsOfStore fault.kind → ⊥)
 
   -- the head of the current entry was read, or it has none: nothing was given, and what is left of the entry stays
   pub record HeadRead (old new : Walk S A) : Type 0 where
@@ -121,7 +123,7 @@ module _ {S A : Type 0} where
     pub of_file : (file : List ℕ) → old.meter.source.store.content ≡ Some file → IsCounted (records_told file (record { number = old.next - 1; entry = old.current })) old.stage
         → IsCounted (records_told file (record { number = old.next - 1; entry = old.current })) new.stage
     pub met : stop_of old.stage ≡ None → IfErr result (λ fault. IsToldIn old.current fault old.meter.source new.meter.source × (fault.entry + 1 ≡ old.next))
-    pub good : (file : List ℕ) → IsGood old.meter.source.store file → IfErr result (λ fault. IsOfSource fault.kind → ⊥)
+    pub good : (file : List ℕ) → IsGood old.meter.source.store file → IfErr result (λ fault. IsOfStore fault.kind → ⊥)
     pub repeats : IsPastHead old.stage → new ≡ old
     pub unchanged : StaysUnchanged old.stage → StaysUnchanged new.stage
     pub rests : work_of new ≤ work_of old

@@ -9,6 +9,7 @@ use Rattle.mdmp_c.proofs.collecting.collect.Given as goal
 abbrev pub invariant-loop-item : goal.invariant-loop-item
 invariant-loop-item g l = record {
   source : FetchesSome l.initial.lister.source l.lister.source;
+  budget : l.lister.counts.budget ≡ l.initial.lister.counts.budget;
   collected : (file : List ℕ) → IsGood l.initial.lister.source.store file → (run : Run) → l.initial.lister.left ≡ Some run
       → (left : Run) × ((l.lister.left ≡ Some left) × HasCollected g.T.PlainRow.row_of run left l.count l.initial.out l.out);
 }

@@ -1,4 +1,4 @@
-use Rattle.std.proofs.Common.{Global, ◌≡◌, ◌∙◌, Some, ap, inr, length, sym}
+use Rattle.std.proofs.Common.{Global, ◌≡◌, ◌∙◌, Some, ap, inl, inr, length, sym}
 use Rattle.mdmp_source.specs.Output.{OutState}
 use Rattle.mdmp_c.specs.Copies.{IsCopyTold}
 use Rattle.mdmp_c.specs.Giving.{bad_limits}
@@ -21,5 +21,5 @@ returns-clause-gives c = λ types_fit.
     let told = IsCopyTold-of Global file _ types c.in-Some-new.types c.args.limits.now.name c.in-Some.limits.name _ _ _ bytes answer c.copy_answer.result known (ap length whole)
     c.in-Some-new.ensures.value c.in-Some.ensures.2 none wrote good c.copy_answer.ensures c.run_copy-answer.ensures.copies in
     let valid : AreLimits c.args.limits.now = c.in-Some.ensures.0 in
-    Ends-given (IsCopyTold Global file types c.args.limits.now.name) (AreLimits c.args.limits.now) bad_limits c.copy_answer.result bytes c.give_or_want.result c.give_or_want.new.size
-    c.give_or_want.new.fault c.args.out.now c.give_or_want.new.out valid (inr told) c.give_or_want.ensures
+    Ends-given (IsCopyTold Global file types c.args.limits.now.name) (AreLimits c.args.limits.now) ⊥ bad_limits c.copy_answer.result bytes c.give_or_want.result c.give_or_want.new.size
+    c.give_or_want.new.fault c.args.out.now c.give_or_want.new.out valid (inr (inl told)) c.give_or_want.ensures

@@ -8,6 +8,7 @@ use Rattle.mdmp_tool.proofs.Printing.{next_told, next_within}
 use Rattle.mdmp_tool.specs.Text.{next_lines}
 use Rattle.mdmp_tool.proofs.SameRuns.{run_then}
 use Rattle.mdmp_c.proofs.Listed.{HasGiven-next, PutsRun-end, PutsRun-fault, lines_taken}
+use Rattle.mdmp_c.proofs.Stopping.{next_over}
 use Rattle.mdmp_c.proofs.list_part.put_items.Goals as goal
 
 pub returns-in-Ok-false : goal.returns-in-Ok-false
@@ -16,7 +17,7 @@ returns-in-Ok-false g c = λ file good run known skip room before part.
     let given = so_far.part file good run known skip room before part in
     let content = so_far.source.fetches.same_content ∙ good.known in
     let next = next_told c.args.pdb file _ _ given.0 _ c.in-Ok-false.field-0 false _ so_far.run.limit c.in-Ok-false.field-0-test (c.in-Ok-false.ensures.lists file content given.0 given.1.0) in
-    PutsRun-end c.args.pdb file c.args.lister.now.limit run given.0 before skip room _ _ _ _ _ _ given.1.1 next
+    PutsRun-end c.args.pdb file c.args.lister.now.limit c.args.lister.now.counts.budget run given.0 before skip room _ _ _ _ _ _ given.1.1 next
 
 pub returns-in-Err : goal.returns-in-Err
 returns-in-Err g c = λ file good run known skip room before part.
@@ -24,7 +25,8 @@ returns-in-Err g c = λ file good run known skip room before part.
     let given = so_far.part file good run known skip room before part in
     let now : IsGood c.loop-lines.lister.source.store file = IsGood-later file _ _ _ so_far.source.fetches good in
     let next = next_within c.args.pdb file _ _ given.0 _ (Err c.in-Err.fault) _ so_far.run.limit (c.in-Err.ensures.lists file now.known given.0 given.1.0) in
-    PutsRun-fault c.args.pdb file c.args.lister.now.limit run given.0 before skip room _ _ _ _ _ _ c.in-Err.fault given.1.1 next (c.in-Err.ensures.leaves.good file now)
+    PutsRun-fault c.args.pdb file c.args.lister.now.limit c.args.lister.now.counts.budget run given.0 before skip room _ _ _ _ _ _ c.in-Err.fault given.1.1 next (c.in-Err.ensures.leaves.good file now)
+    (next_over c.args.lister.now.counts.budget c.in-Err.fault c.list_next.new.lister (c.in-Err.ensures.same.budget ∙ so_far.run.budget) c.in-Err.ensures.over)
 
 pub loop-lines-preserved : goal.loop-lines-preserved
 loop-lines-preserved g c =

@@ -16,5 +16,6 @@ returns g c = λ file good run known skip room before part.
     lines_taken _ _ line c.new.result.items (dump_line c.header.result) (ap (λ (o : OutState). o.taken) c.new-line.ensures) c.new.ensures.items c.in_default.ensures
     (sym c.into_inner-line.ensures ∙ ap Some (sym c.deref.ensures.value)) ∙ ap (λ (h : Header). dump_line h) c.header.ensures in
     let all : (before ++ line) ++ items ≡ before ++ (first ++ items) = append_assoc before line items ∙ ap (λ xs. before ++ (xs ++ items)) is in
-    let end = λ (text : List ℕ). PutsRun (IsPartOf skip room text c.put_items.new.part.skip c.put_items.new.part.room c.put_items.new.part.size c.put_items.new.part.kept.items) run c.put_items.result in
+    let end = λ (text : List ℕ). PutsRun (λ part. IsPartOf skip room part c.put_items.new.part.skip c.put_items.new.part.room c.put_items.new.part.size c.put_items.new.part.kept.items)
+    c.args.lister.now.counts.budget text run c.put_items.result in
     subst end all (c.put_items.ensures file good run known skip room (before ++ line) (c.in_default-take.ensures skip room before part))

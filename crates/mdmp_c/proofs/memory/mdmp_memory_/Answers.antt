@@ -1,15 +1,25 @@
-use Rattle.std.proofs.Common.{rules, ◌≡◌, ◌∙◌, ℕ, Bool, List, Some, ap, refl, sym, subst}
+use Rattle.std.proofs.Common.{rules, ◌≡◌, ◌∙◌, ℕ, Bool, List, Some, ap, sym, subst}
 use Rattle.std.specs.Option.{option_map}
 use Rattle.std.specs.Prelude.{IsTrue}
 use Rattle.mdmp_source.specs.Store.{IsGood}
 use Rattle.mdmp_lister.proofs.Fetches.{IsGood-later}
-use Rattle.mdmp_lister.specs.Fault.{IsOfSource}
 use Rattle.mdmp_lister.specs.Format.Listing.{listing}
 use Rattle.mdmp_c.specs.Fault.{status_of}
-use Rattle.mdmp_c.specs.Limits.{AreLimits}
-use Rattle.mdmp_c.specs.Memory.{faulty}
-use Rattle.mdmp_c.proofs.Remembered.{memory_told-fault, some_fault, status-file}
+use Rattle.mdmp_lister.specs.declared.fault.FaultKind.TheVariants as kinds
+use Rattle.mdmp_c.specs.Limits.{AreLimits, HasBudget}
+use Rattle.mdmp_c.proofs.Remembered.{ReadsMemory-fault, ReadsMemory-refused}
+use Rattle.mdmp_c.proofs.Stopping.{has_budget, listing_over, opening_over}
 use Rattle.mdmp_c.proofs.memory.mdmp_memory_.Goals as goal
+
+pub returns-in-Err : goal.returns-in-Err
+returns-in-Err c =
+    let file = c.args.file.now in
+    let good : IsGood c.new-source.result.store file = search rules in
+    let valid : AreLimits c.args.limits.now = c.in-Some.ensures.0 in
+    ReadsMemory-refused file c.args.limits.now c.memory_lists.result c.args.address _ _ valid c.if-out-known.false c.memory_lists.ensures c.in-Err.refused.fault _ _
+    (opening_over c.args.limits.now c.in-Some.limits _ c.in-Err.refused.fault _ c.in-Some.ensures.3 c.in-Err.ensures.kept)
+    (c.in-Err.ensures.opens file good.known) (c.in-Err.ensures.good file good)
+    (c.refuse-in-Err.ensures.status ∙ ap status_of c.open_fault.ensures) (c.refuse-in-Err.ensures.fault ∙ c.open_fault.ensures)
 
 pub returns-in-Err-list_ranges : goal.returns-in-Err-list_ranges
 returns-in-Err-list_ranges c =
@@ -22,16 +32,11 @@ returns-in-Err-list_ranges c =
     let name = c.in-Some.limits.name in
     let left : c.in-Ok.lister.left ≡ Some (listing file choice name) = new.list.given.left ∙ ap (option_map (λ (f : List ℕ). listing f choice name)) good.known in
     let f = c.in-Err-list_ranges.found in
-    let of_file : IsOfSource f.kind → ⊥ = c.in-Err-list_ranges.ensures.good file now in
-    let fault = c.in-Err-list_ranges.ensures.lists (listing file choice name) left of_file in
-    let told = memory_told-fault file c.args.limits.now.name name choice f c.memory_lists.ensures c.in-Some.ensures.2 (c.in-Ok.ensures.opens file good.known) fault in
-    let status = ap status_of told ∙ status-file f.kind of_file in
-    faulty valid c.if-out-known.false (some_fault _ status) record {
-      status_is = c.refuse-in-Err-list_ranges.ensures.status ∙ ap status_of c.plain_list_fault.ensures ∙ status-file f.kind of_file;
-      fault_is = c.refuse-in-Err-list_ranges.ensures.fault ∙ c.plain_list_fault.ensures ∙ sym told;
-      out = refl;
-      known = refl;
-    }
+    let can : f.kind ≡ kinds.Budget → HasBudget c.args.limits.now = λ is. has_budget c.args.limits.now c.in-Some.limits c.in-Some.ensures.3
+    (listing_over c.in-Some.limits.budget f c.list_ranges.new.self (c.in-Err-list_ranges.ensures.same.budget ∙ new.list.counts.budget_is) c.in-Err-list_ranges.ensures.refused is) in
+    ReadsMemory-fault file c.args.limits.now name choice f _ _ _ _ _ valid c.if-out-known.false c.memory_lists.ensures c.in-Some.ensures.2 (c.in-Ok.ensures.opens file good.known)
+    (c.in-Err-list_ranges.ensures.good file now) (c.in-Err-list_ranges.ensures.lists (listing file choice name) left) can
+    (c.refuse-in-Err-list_ranges.ensures.status ∙ ap status_of c.plain_list_fault.ensures) (c.refuse-in-Err-list_ranges.ensures.fault ∙ c.plain_list_fault.ensures)
 
 pub returns : goal.returns
 returns c =

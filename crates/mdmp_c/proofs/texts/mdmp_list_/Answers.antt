@@ -1,12 +1,12 @@
-use Rattle.std.proofs.Common.{◌≡◌, ◌∙◌, ◌⊎◌, ℕ, Some, ap, sym, subst}
+use Rattle.std.proofs.Common.{◌∙◌, ℕ, Some, ap, sym, subst}
 use Rattle.mdmp_source.specs.Output.{OutState}
 use Rattle.mdmp_c.specs.declared.fault.PlainFault.{PlainFault}
-use Rattle.mdmp_c.specs.Fault.{no_memory}
 use Rattle.mdmp_c.specs.Giving.{bad_limits}
-use Rattle.mdmp_c.specs.Limits.{AreLimits}
+use Rattle.mdmp_c.specs.Limits.{AreLimits, HasBudget}
 use Rattle.mdmp_c.specs.Texts.{IsList}
 use Rattle.mdmp_c.specs.ToolFault.{list_answer}
-use Rattle.mdmp_c.proofs.Told.{Ends-given, IsList-told}
+use Rattle.mdmp_c.proofs.Stopping.{run_over}
+use Rattle.mdmp_c.proofs.Told.{Ends-given, IsList-told, MayTell}
 use Rattle.mdmp_c.proofs.texts.mdmp_list_.Goals as goal
 
 pub returns : goal.returns
@@ -19,9 +19,11 @@ returns c =
     let is = sym c.into_inner-text.ensures ∙ ap Some (sym c.deref.ensures.value) in
     let read = c.run_list-answer.ensures.tells.good file record { known = known; reliable = c.new-2.ensures.same_reliable } in
     let runs = c.run_list-answer.ensures.lists file known in
-    let told = IsList-told c.args.pdb file c.in-Some.limits.name _ _ text answer none is read runs in
-    let named = subst (λ (n : ℕ). (list_answer answer ≡ no_memory) ⊎ IsList c.args.pdb file n (list_answer answer) text) c.in-Some.ensures.2 told in
+    let can_stop = HasBudget c.args.limits.now in
+    let can = run_over c.args.limits.now c.in-Some.limits _ answer c.in-Some.ensures.3 c.run_list-answer.ensures.budget in
+    let told = IsList-told c.args.pdb file c.in-Some.limits.name can_stop _ _ text answer none is read can runs in
+    let named = subst (λ (n : ℕ). MayTell (IsList c.args.pdb file n) can_stop (list_answer answer) text) c.in-Some.ensures.2 told in
     let valid : AreLimits c.args.limits.now = c.in-Some.ensures.0 in
-    Ends-given (IsList c.args.pdb file c.args.limits.now.name) (AreLimits c.args.limits.now) bad_limits c.list_answer.result text c.give_or_want.result c.give_or_want.new.size c.give_or_want.new.fault
+    Ends-given (IsList c.args.pdb file c.args.limits.now.name) (AreLimits c.args.limits.now) can_stop bad_limits c.list_answer.result text c.give_or_want.result c.give_or_want.new.size c.give_or_want.new.fault
     c.args.out.now c.give_or_want.new.out valid
-    (subst (λ (f : PlainFault). (f ≡ no_memory) ⊎ IsList c.args.pdb file c.args.limits.now.name f text) (sym c.list_answer.ensures) named) c.give_or_want.ensures
+    (subst (λ (f : PlainFault). MayTell (IsList c.args.pdb file c.args.limits.now.name) can_stop f text) (sym c.list_answer.ensures) named) c.give_or_want.ensures

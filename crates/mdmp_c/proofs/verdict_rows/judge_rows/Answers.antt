@@ -3,7 +3,9 @@ use Rattle.std.proofs.lemmas.List.{length-map}
 use Rattle.mdmp_lister.specs.declared.verdict.Verdict.{Verdict}
 use Rattle.mdmp_tool.specs.CheckText.{bad_count}
 use Rattle.mdmp_c.specs.Giving.{put_front, told_count}
-use Rattle.mdmp_c.specs.Verdicts.{verdict_row}
+use Rattle.mdmp_c.specs.declared.verdict_rows.Judged.{Judged}
+use Rattle.mdmp_c.specs.Verdicts.{judges_all, judges_some, verdict_row}
+use Rattle.mdmp_c.proofs.Stopping.{is_budget, listing_over}
 use Rattle.mdmp_c.proofs.Gathered.{put_front-nothing}
 use Rattle.mdmp_c.proofs.Judging.{bad-all, name-taken, never_stopped, rows-taken}
 use Rattle.mdmp_c.proofs.verdict_rows.judge_rows.Goals as goal
@@ -20,9 +22,10 @@ returns-in-Ok-clause-judges g c = λ file good.
     let all = checks.of_file file good.known in
     let rows = rows-taken (λ rows. rows.out.now) (λ rows. rows.count) (λ rows. rows.bad) (λ rows. rows.out.ghost_name) vs _ _ checks.handed [] old.out.now (sym (put_front-nothing old.out.now)) c.requires.none.0 in
     let bad = bad-all (λ rows. rows.out.now) (λ rows. rows.count) (λ rows. rows.bad) (λ rows. rows.out.ghost_name) vs _ _ checks.handed c.requires.none.1 in
-    record {
-      count_is = rows.1 ∙ ap told_count (length-map vs verdict_row) ∙ ap (λ (xs : List Verdict). told_count (length xs)) (sym all);
-      bad_is = bad ∙ ap (λ (xs : List Verdict). told_count (bad_count xs)) (sym all);
+    let judged = c.ended.ensures in
+    judges_all (ap (λ (j : Judged). j.fault) judged) record {
+      count_is = ap (λ (j : Judged). j.count) judged ∙ rows.1 ∙ ap told_count (length-map vs verdict_row) ∙ ap (λ (xs : List Verdict). told_count (length xs)) (sym all);
+      bad_is = ap (λ (j : Judged). j.bad) judged ∙ bad ∙ ap (λ (xs : List Verdict). told_count (bad_count xs)) (sym all);
       out = rows.0 ∙ ap (λ (xs : List Verdict). put_front (map verdict_row xs) old.out.now) (sym all);
     }
 
@@ -31,7 +34,26 @@ returns-in-Err-At-clause-same_output g c =
     name-taken (λ rows. rows.out.now) (λ rows. rows.count) (λ rows. rows.bad) (λ rows. rows.out.ghost_name) c.in-Err-At.ensures.checks.judged _ _ (rw c.in-Err-At.field-0-is at c.in-Err-At.ensures.checks.handed)
 
 pub returns-in-Err-At-clause-judges : goal.returns-in-Err-At-clause-judges
-returns-in-Err-At-clause-judges g c = λ file good. c.in-Err-At.ensures.good file good c.in-Err-At.fault c.in-Err-At.field-0-is
+returns-in-Err-At-clause-judges g c = λ file good.
+    let checks = c.in-Err-At.ensures.checks in
+    let old = c.args.rows.now in
+    let fault = c.in-Err-At.fault in
+    let vs = checks.judged in
+    let first = checks.of_file file good.known in
+    let handed = rw c.in-Err-At.field-0-is at checks.handed in
+    let rows = rows-taken (λ rows. rows.out.now) (λ rows. rows.count) (λ rows. rows.bad) (λ rows. rows.out.ghost_name) vs _ _ handed [] old.out.now (sym (put_front-nothing old.out.now)) c.requires.none.0 in
+    let bad = bad-all (λ rows. rows.out.now) (λ rows. rows.count) (λ rows. rows.bad) (λ rows. rows.out.ghost_name) vs _ _ handed c.requires.none.1 in
+    let judged = c.ended-in-Err-At.ensures in
+    let told = c.in-Err-At.ensures.told fault c.in-Err-At.field-0-is in
+    let kind = is_budget fault.kind (c.in-Err-At.ensures.good file good fault c.in-Err-At.field-0-is) told.0 in
+    let can = listing_over c.args.lister.now.counts.budget fault c.check_into.new.self checks.same.budget (c.in-Err-At.ensures.refused fault c.in-Err-At.field-0-is) kind in
+    judges_some vs
+    record { can_stop = can; rest = first.0; first = first.1; told = fault; told_is = ap (λ (j : Judged). j.fault) judged; kind = kind }
+    record {
+      count_is = ap (λ (j : Judged). j.count) judged ∙ rows.1 ∙ ap told_count (length-map vs verdict_row);
+      bad_is = ap (λ (j : Judged). j.bad) judged ∙ bad;
+      out = rows.0;
+    }
 
 pub returns-in-Err-Stopped-clause-same_output : goal.returns-in-Err-Stopped-clause-same_output
 returns-in-Err-Stopped-clause-same_output g c =
@@ -39,4 +61,4 @@ returns-in-Err-Stopped-clause-same_output g c =
 
 pub returns-in-Err-Stopped-clause-judges : goal.returns-in-Err-Stopped-clause-judges
 returns-in-Err-Stopped-clause-judges g c = λ file good.
-    never_stopped (λ rows. rows.out.now) (λ rows. rows.count) (λ rows. rows.bad) (λ rows. rows.out.ghost_name) c.in-Err-Stopped.ensures.checks.judged _ _ (rw c.in-Err-Stopped.field-0-is at c.in-Err-Stopped.ensures.checks.handed)
+    absurd (never_stopped (λ rows. rows.out.now) (λ rows. rows.count) (λ rows. rows.bad) (λ rows. rows.out.ghost_name) c.in-Err-Stopped.ensures.checks.judged _ _ (rw c.in-Err-Stopped.field-0-is at c.in-Err-Stopped.ensures.checks.handed))

@@ -1,4 +1,4 @@
-use Rattle.std.proofs.Common.{rules, ◌≡◌, ◌∙◌, ◌<◌, ◌^◌, ℕ, arith, ap, refl, subst}
+use Rattle.std.proofs.Common.{rules, ◌≡◌, ◌∙◌, ◌<◌, ◌^◌, ℕ, None, arith, ap, refl, subst}
 use Rattle.std.specs.Prelude.{nat_lt, if◌then◌else◌}
 use Rattle.mdmp_source.specs.Store.{IsGood}
 use Rattle.mdmp_lister.proofs.Fetches.{IsGood-later}
@@ -7,10 +7,11 @@ use Rattle.mdmp_lister.specs.declared.choice.Choice.{Choice}
 use Rattle.mdmp_lister.specs.declared.choice.Choice.TheVariants.{All}
 use Rattle.mdmp_lister.specs.Format.Listing.{entry_count}
 use Rattle.mdmp_c.specs.Fault.{status_of}
-use Rattle.mdmp_c.specs.Limits.{AreLimits}
-use Rattle.mdmp_c.specs.Verdicts.{AreVerdicts, HasJudged}
+use Rattle.mdmp_c.specs.Limits.{AreLimits, HasBudget}
+use Rattle.mdmp_c.specs.Verdicts.{AreVerdicts, Judges}
 use Rattle.mdmp_c.proofs.Ending.{Ends-refused}
-use Rattle.mdmp_c.proofs.Judging.{Ends-judged, no_verdicts}
+use Rattle.mdmp_c.proofs.Judging.{Ends-judged, all_verdicts, no_verdicts}
+use Rattle.mdmp_c.proofs.Stopping.{has_budget, opening_over}
 use Rattle.mdmp_c.proofs.verdicts.mdmp_verdicts_.Goals as goal
 
 pub returns-in-Err : goal.returns-in-Err
@@ -18,32 +19,27 @@ returns-in-Err c =
     let file = c.args.file.now in
     let good : IsGood c.new-source.result.store file = search rules in
     let valid : AreLimits c.args.limits.now = c.in-Some.ensures.0 in
-    Ends-refused (AreVerdicts file c.args.limits.now.name) file All (AreLimits c.args.limits.now) (no_verdicts file c.args.limits.now.name) c.in-Err.refused.fault _ _ _ _ _ valid
+    Ends-refused (AreVerdicts file c.args.limits.now.name) file All (AreLimits c.args.limits.now) (HasBudget c.args.limits.now) (no_verdicts file c.args.limits.now.name)
+    (all_verdicts file c.args.limits.now.name) c.in-Err.refused.fault _ _ _ _ _ valid (opening_over c.args.limits.now c.in-Some.limits _ c.in-Err.refused.fault _ c.in-Some.ensures.3 c.in-Err.ensures.kept)
     (c.in-Err.ensures.opens file good.known) (c.in-Err.ensures.good file good)
     (c.refuse-in-Err.ensures.status ∙ ap status_of c.open_fault.ensures) c.refuse-in-Err.ensures.count
     (c.refuse-in-Err.ensures.fault ∙ c.open_fault.ensures) refl
-
-pub returns-in-Ok-judge : goal.returns-in-Ok-judge
-returns-in-Ok-judge c =
-    let file = c.args.file.now in
-    let good : IsGood c.new-source.result.store file = search rules in
-    let valid : AreLimits c.args.limits.now = c.in-Some.ensures.0 in
-    let new = c.in-Ok.ensures.new in
-    let now : IsGood c.in-Ok.lister.source.store file = IsGood-later file _ _ _ new.fetches good in
-    let found = c.in-Ok-judge.ensures file now in
-    let chosen = subst (λ (choice : Choice). HasJudged file choice c.in-Ok.lister.limit c.in-Ok-judge.judged c.args.out.now c.judge.new.out) new.list.asked.choice_is found in
-    let limit : c.in-Ok.lister.limit ≡ c.args.limits.now.name = new.list.asked.limit_is ∙ c.in-Some.ensures.2 in
-    let named = subst (λ (n : ℕ). HasJudged file All n c.in-Ok-judge.judged c.args.out.now c.judge.new.out) limit chosen in
-    let entries : c.header-entries.result.number_of_streams ≡ entry_count file = ap (λ (h : Header). h.number_of_streams) (c.header-entries.ensures ∙ new.list.read.header_is file good.known) in
-    let few : entry_count file < 2 ^ 32 = omega (arith, entries) in
-    Ends-judged file c.args.limits.now.name (AreLimits c.args.limits.now) c.in-Ok-judge.judged c.tell.result c.tell.new.count c.check_answer.result c.tell.new.fault c.args.out.now c.judge.new.out valid
-    (c.in-Ok.ensures.opens file good.known) few named c.check_answer.ensures
-    (λ n is. subst (λ (m : ℕ). c.tell.result ≡ (if nat_lt m n then 4 else status_of c.check_answer.result)) c.judge.auto.out (c.tell.ensures.status n is)) c.tell.ensures.count c.tell.ensures.fault
 
 pub returns : goal.returns
 returns c =
     let file = c.args.file.now in
     let good : IsGood c.new-source.result.store file = search rules in
+    let valid : AreLimits c.args.limits.now = c.in-Some.ensures.0 in
     let new = c.in-Ok.ensures.new in
     let now : IsGood c.in-Ok.lister.source.store file = IsGood-later file _ _ _ new.fetches good in
-    absurd (c.in-Err-judge.ensures file now)
+    let found = c.judge-judged.ensures file now in
+    let chosen = subst (λ (choice : Choice). Judges file choice c.in-Ok.lister.limit c.in-Ok.lister.counts.budget c.judge-judged.result c.args.out.now c.judge-judged.new.out) new.list.asked.choice_is found in
+    let limit : c.in-Ok.lister.limit ≡ c.args.limits.now.name = new.list.asked.limit_is ∙ c.in-Some.ensures.2 in
+    let named = subst (λ (n : ℕ). Judges file All n c.in-Ok.lister.counts.budget c.judge-judged.result c.args.out.now c.judge-judged.new.out) limit chosen in
+    let entries : c.header-entries.result.number_of_streams ≡ entry_count file = ap (λ (h : Header). h.number_of_streams) (c.header-entries.ensures ∙ new.list.read.header_is file good.known) in
+    let few : entry_count file < 2 ^ 32 = omega (arith, entries) in
+    let can : (c.in-Ok.lister.counts.budget ≡ None → ⊥) → HasBudget c.args.limits.now = λ some. has_budget c.args.limits.now c.in-Some.limits c.in-Some.ensures.3 (λ none. some (new.list.counts.budget_is ∙ none)) in
+    Ends-judged file c.args.limits.now.name (AreLimits c.args.limits.now) (HasBudget c.args.limits.now) c.in-Ok.lister.counts.budget c.judge-judged.result c.tell.result c.tell.new.count c.ending_told.result
+    c.tell.new.fault c.args.out.now c.judge-judged.new.out valid can
+    (c.in-Ok.ensures.opens file good.known) few named c.ending_told.ensures
+    (λ n is. subst (λ (m : ℕ). c.tell.result ≡ (if nat_lt m n then 4 else status_of c.ending_told.result)) c.judge-judged.auto.out (c.tell.ensures.status n is)) c.tell.ensures.count c.tell.ensures.fault

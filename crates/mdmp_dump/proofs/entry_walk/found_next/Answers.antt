@@ -4,7 +4,7 @@ use Rattle.mdmp_dump.specs.Walking.{lists_memory64}
 use Rattle.mdmp_lister.specs.Format.Item.{plain}
 use Rattle.mdmp_lister.specs.Format.Listing.{Run}
 use Rattle.mdmp_lister.specs.Walker.{WalkerLeaves}
-use Rattle.mdmp_dump.proofs.RecordsFound.{far_record, gives_fault, gives_next, kept_record, record_is, record_placed}
+use Rattle.mdmp_dump.proofs.RecordsFound.{far_record, gives_fault, gives_next, kept_fault, kept_record, record_is, record_placed}
 use Rattle.mdmp_dump.proofs.entry_walk.found_next.Goals as goal
 
 pub found_item-requires : goal.found_item-requires
@@ -41,3 +41,8 @@ pub returns-in-Err-clause-gives : goal.returns-in-Err-clause-gives
 returns-in-Err-clause-gives g c =
     let leaves : WalkerLeaves c.args.walker.now (Err c.in-Err.fault) c.next.follows.lender-at-none = rw (c.in-Err.is) at c.next.follows.holds-at-none in
     gives_fault c.args.walker.now c.next.follows.lender-at-none c.requires.kept c.requires.left c.in-Err.fault leaves c.in-Err.ensures.gives c.in-Err.ensures.good c.args.limit
+
+pub returns-in-Err-clause-kept : goal.returns-in-Err-clause-kept
+returns-in-Err-clause-kept g c =
+    let leaves : WalkerLeaves c.args.walker.now (Err c.in-Err.fault) c.next.follows.lender-at-none = rw (c.in-Err.is) at c.next.follows.holds-at-none in
+    kept_fault c.args.walker.now c.next.follows.lender-at-none c.requires.kept c.requires.left c.in-Err.fault leaves

@@ -3,9 +3,10 @@ use Rattle.mdmp_lister.specs.declared.fault.OpenFault.{OpenFault}
 use Rattle.mdmp_lister.specs.Format.Listing.{chosen}
 use Rattle.mdmp_lister.specs.Format.Refusal.{opening_fault}
 use Rattle.mdmp_dump.specs.Left.{run_of}
-use Rattle.mdmp_dump.specs.Reading.{owed, refusal_of}
+use Rattle.mdmp_dump.specs.Reading.{owed, read_within, refusal_of}
 use Rattle.mdmp_dump.specs.Refusal.{read_refusal}
-use Rattle.mdmp_dump.proofs.Opened.{opened-head, opened_behind, opening-fetches, opening-settles, tells_of, wants_behind}
+use Rattle.mdmp_dump.proofs.Opened.{opened-head, opened_behind, opening-fetches, opening-settles, tells_none, tells_of, wants_behind}
+use Rattle.mdmp_dump.proofs.ReadWithin.{fetches-within, refusal-without, settles-within, without}
 use Rattle.mdmp_dump.proofs.Taking.{fetches_err, fetches_ok}
 use Rattle.mdmp_dump.proofs.read.read_source.Goals as goal
 
@@ -21,18 +22,19 @@ pub returns-in-Err-clause-short : goal.returns-in-Err-clause-short
 returns-in-Err-clause-short g c = λ few. rw c.refusal.ensures (ap (λ (fault : OpenFault). Err (refusal_of fault)) (c.in-Err.ensures.short few))
 
 pub returns-in-Err-read_streams-clause-refuses : goal.returns-in-Err-read_streams-clause-refuses
-returns-in-Err-read_streams-clause-refuses g c = λ file known own.
+returns-in-Err-read_streams-clause-refuses g c = λ file known.
     let opened = c.in-Ok.ensures.new in
     let none : opening_fault file c.args.choice ≡ None = c.in-Ok.ensures.opens file known in
     let left : c.in-Ok.lister.left ≡ Some (run_of file c.args.limits.name (chosen file c.args.choice)) = opened.list.given.left ∙ (rw known refl) in
     let read = c.in-Err-read_streams.ensures.of_file file c.args.limits.name (chosen file c.args.choice) (opened.fetches.same_content ∙ known) left in
     let owes : owed file c.args.parts None c.in-Ok.lister.left ≡ read_refusal file c.args.choice c.args.limits.name c.args.parts = rw (left, none) refl in
-    sym owes ∙ read.1 own
+    rw c.told_within.ensures (settles-within {T = Unit {0}} c.args.limits.budget (read_refusal file c.args.choice c.args.limits.name c.args.parts) c.in-Err-read_streams.fault (λ _. None) (λ own. sym owes ∙ read.1 own))
 
 pub returns-in-Err-read_streams-clause-cause : goal.returns-in-Err-read_streams-clause-cause
 returns-in-Err-read_streams-clause-cause g c =
-    rw c.into_source-in-Err-read_streams.ensures.value (fetches_err c.args.source c.in-Ok.lister.source c.read_streams.new.reader.lister.source
-    (record { count = _; fetches = c.in-Ok.ensures.new.fetches }) c.in-Err-read_streams.fault c.in-Err-read_streams.ensures.fetches)
+    rw (c.into_source-in-Err-read_streams.ensures.value, c.told_within.ensures) (fetches-within c.args.limits.budget c.in-Err-read_streams.fault c.args.source c.read_streams.new.reader.lister.source
+    (fetches_err c.args.source c.in-Ok.lister.source c.read_streams.new.reader.lister.source
+    (record { count = _; fetches = c.in-Ok.ensures.new.fetches }) c.in-Err-read_streams.fault c.in-Err-read_streams.ensures.fetches))
 
 pub returns-in-Ok-read_streams-clause-lays_out : goal.returns-in-Ok-read_streams-clause-lays_out
 returns-in-Ok-read_streams-clause-lays_out g c = λ file known.
@@ -73,6 +75,14 @@ returns-in-Err-clause-tells g c =
 
 pub returns-in-Err-read_streams-clause-tells : goal.returns-in-Err-read_streams-clause-tells
 returns-in-Err-read_streams-clause-tells g c =
-    tells_of {T = Unit {0}} c.in-Err-read_streams.fault c.args.source c.read_streams.new.reader.lister.source
-    (fetches_err c.args.source c.in-Ok.lister.source c.read_streams.new.reader.lister.source (record { count = _; fetches = c.in-Ok.ensures.new.fetches }) c.in-Err-read_streams.fault c.in-Err-read_streams.ensures.fetches)
-    (λ is file known. opened_behind file c.args.choice (c.in-Ok.ensures.opens file known))
+    rw c.told_within.ensures (tells_of {T = Unit {0}} (read_within c.args.limits.budget c.in-Err-read_streams.fault) c.args.source c.read_streams.new.reader.lister.source
+    (fetches-within c.args.limits.budget c.in-Err-read_streams.fault c.args.source c.read_streams.new.reader.lister.source (fetches_err c.args.source c.in-Ok.lister.source c.read_streams.new.reader.lister.source (record { count = _; fetches = c.in-Ok.ensures.new.fetches }) c.in-Err-read_streams.fault c.in-Err-read_streams.ensures.fetches))
+    (λ is file known. opened_behind file c.args.choice (c.in-Ok.ensures.opens file known)))
+
+pub returns-in-Err-clause-unbudgeted : goal.returns-in-Err-clause-unbudgeted
+returns-in-Err-clause-unbudgeted g c = λ none.
+    let fault = c.in-Err.refused.fault in
+    rw c.refusal.ensures (refusal-without fault (tells_none c.args.limits c.args.source fault c.in-Err.refused.source none c.in-Err.ensures.kept))
+
+pub returns-in-Err-read_streams-clause-unbudgeted : goal.returns-in-Err-read_streams-clause-unbudgeted
+returns-in-Err-read_streams-clause-unbudgeted g c = λ none. rw (c.told_within.ensures, none) (without c.in-Err-read_streams.fault)

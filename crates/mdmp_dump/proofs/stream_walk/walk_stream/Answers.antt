@@ -18,7 +18,7 @@ pub returns-in-Err-clause-pays : goal.returns-in-Err-clause-pays
 returns-in-Err-clause-pays g c = unbegun_paid g.row.A.Denot c.args.limit c.args.walk.now c.args.stream c.in-Err.fault c.begin.new.self c.in-Err.ensures
 
 pub returns-in-Err-clause-told : goal.returns-in-Err-clause-told
-returns-in-Err-clause-told g c = let told = c.in-Err.ensures.told in rw told.1 tt
+returns-in-Err-clause-told g c = let told = c.in-Err.ensures.told in rw told.1.0 told.1.1
 
 pub returns-in-Err-clause-of_file : goal.returns-in-Err-clause-of_file
 returns-in-Err-clause-of_file g c = walking_unbegun g.row.A.Denot c.args.limit c.args.walk.now c.args.stream c.in-Err.fault c.begin.new.self c.in-Err.ensures

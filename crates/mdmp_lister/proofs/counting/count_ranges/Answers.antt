@@ -1,8 +1,8 @@
-use Rattle.std.proofs.Common.{◌≡◌, ◌≤◌, ◌<◌, ◌+◌, ◌∙◌, ℕ, None, Some, Err, true, arith, rules, sym, get_or, subst, length}
+use Rattle.std.proofs.Common.{◌≡◌, ◌≤◌, ◌<◌, ◌+◌, ◌∙◌, ℕ, None, Err, true, arith, rules, sym, get_or, subst, length}
 use Rattle.mdmp_wire.specs.declared.entry.Entry.{Entry}
 use Rattle.mdmp_lister.specs.StreamHead.{ahead_of}
 use Rattle.mdmp_lister.specs.Format.Listing.{entry_count, is_chosen}
-use Rattle.mdmp_lister.specs.Meter.{Books}
+use Rattle.mdmp_lister.specs.Meter.{Books, store_fault_of}
 use Rattle.mdmp_lister.proofs.Entries.{ranges-chosen, ranges-other, ranges-end}
 use Rattle.mdmp_lister.proofs.Fetches.{IsCaused_none, IsCaused_later}
 use Rattle.mdmp_lister.proofs.Heads.{heads-chosen, heads-chosen_most, heads-more, heads-most}
@@ -76,7 +76,8 @@ returns-in_err-ranges_of_entry g c =
     rw is (record {
       of_file = λ file known. tt;
       books = Books-then at 1 (length es) _ (ahead_of z e) _ c.args.meter.now c.loop-entry.meter c.ranges_of_entry.new.meter (omega (arith, c.loop-entry-test.true)) (heads-chosen_most c.args.choice.now z at es no_entry c.loop-entry-test.true has) i.books head;
-      caused = IsCaused_later (Some fault) _ c.args.meter.now.source c.loop-entry.meter.source c.ranges_of_entry.new.meter.source i.books.fetches i.caused read.caused;
+      caused = IsCaused_later (store_fault_of {T = ℕ} (Err fault)) _ c.args.meter.now.source c.loop-entry.meter.source c.ranges_of_entry.new.meter.source i.books.fetches i.caused read.caused;
+      refused = read.refused;
     })
 
 pub returns : goal.returns
@@ -91,4 +92,5 @@ returns g c =
           omega (arith, i.counted file known, ranges-end file c.args.choice.now at over);
       books = Books-within at (length es) _ _ c.args.meter.now c.loop-entry.meter (omega arith) (heads-most c.args.choice.now c.args.meter.now.source.size at es) i.books;
       caused = i.caused;
+      refused = tt;
     }

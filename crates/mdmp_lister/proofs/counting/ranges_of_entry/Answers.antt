@@ -8,6 +8,7 @@ returns-in-Ok g c = record {
   of_file = search rules;
   books = books_ahead c.args.meter.now.source.size c.args.entry c.in-Some.kind (search rules) (search rules) (search rules) c.args.meter.now c.fetch_head.new.meter c.fetch_head.ensures.reads.books;
   caused = search rules;
+  refused = search rules;
 }
 
 pub returns-in-Source : goal.returns-in-Source
@@ -15,6 +16,15 @@ returns-in-Source g c = record {
   of_file = search rules;
   books = books_ahead c.args.meter.now.source.size c.args.entry c.in-Some.kind (search rules) (search rules) (search rules) c.args.meter.now c.fetch_head.new.meter c.fetch_head.ensures.reads.books;
   caused = search rules;
+  refused = search rules;
+}
+
+pub returns-in-Budget : goal.returns-in-Budget
+returns-in-Budget g c = record {
+  of_file = search rules;
+  books = books_ahead c.args.meter.now.source.size c.args.entry c.in-Some.kind (search rules) (search rules) (search rules) c.args.meter.now c.fetch_head.new.meter c.fetch_head.ensures.reads.books;
+  caused = rw c.in-Budget.is at c.in-Err.ensures.reads.caused.caused;
+  refused = rw c.in-Budget.is at c.in-Err.ensures.reads.over;
 }
 
 pub returns-in_default-kind : goal.returns-in_default-kind
@@ -22,4 +32,5 @@ returns-in_default-kind g c = record {
   of_file = search rules;
   books = books_ahead c.args.meter.now.source.size c.args.entry c.in-Some.kind (search rules) (search rules) (search rules) c.args.meter.now c.fetch_head.new.meter c.fetch_head.ensures.reads.books;
   caused = IsCaused_other c.in-Err.fault c.args.meter.now.source c.fetch_head.new.meter.source c.in-Err.ensures.reads.caused (search rules);
+  refused = search rules;
 }

@@ -1,6 +1,33 @@
-use Rattle.std.proofs.Common.{rules, length, arith}
-use Rattle.mdmp_lister.proofs.SomeNames.{some_bad, some_failed, some_long, some_none, some_outside, some_units}
+use Rattle.std.proofs.Common.{◌≡◌, Err, rules, length, arith}
+use Rattle.mdmp_lister.proofs.SomeNames.{some_bad, some_failed, some_long, some_none, some_outside, some_units, tests_over}
 use Rattle.mdmp_lister.proofs.fetching.read_name.Goals as goal
+
+pub returns-in_err-check_units-clause-reads : goal.returns-in_err-check_units-clause-reads
+returns-in_err-check_units-clause-reads g c = record {
+  fetches = search rules;
+  spends = search rules;
+  cost = search rules;
+  reached = search rules;
+  named = search rules;
+  at_fault = search rules;
+  over =
+      let bad = c.in_err-check_units in
+      let is : c.from_residual-in_err-check_units.result ≡ Err bad.field-0.0 = search rules in
+      rw is (tests_over _ c.args.meter.now.source.size c.args.rva c.in_ok-length.length bad.field-0.0 _ _ (search rules));
+  caused = search rules;
+}
+
+pub returns-in_err-fetch_front-clause-reads : goal.returns-in_err-fetch_front-clause-reads
+returns-in_err-fetch_front-clause-reads g c = record {
+  fetches = search rules;
+  spends = search rules;
+  cost = search rules;
+  reached = search rules;
+  named = search rules;
+  at_fault = search rules;
+  over = search rules;
+  caused = search rules;
+}
 
 pub returns-then-rva-eq0-clause-some : goal.returns-then-rva-eq0-clause-some
 returns-then-rva-eq0-clause-some g c = some_none c.args.meter.now.source.size (length c.args.buffer.now) c.args.rva c.if-rva-eq0.true

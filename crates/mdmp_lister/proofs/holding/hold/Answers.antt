@@ -9,7 +9,7 @@ returns-in_err-fill-clause-reads g c =
     let few : length c.reach.new.window.held < c.args.size = rw c.bytes.ensures at c.if-bytes-size.true in
     let need = needed_lacking c.requires c.reach.ensures few in
     let is : c.from_residual.result ≡ Err c.in_err-fill.field-0.0 = search rules in
-    rw (is, need) (record { of_file = λ file known. tt; books = c.in_err-fill.ensures.books; caused = c.in_err-fill.ensures.caused })
+    rw (is, need) (record { of_file = λ file known. tt; books = c.in_err-fill.ensures.books; caused = c.in_err-fill.ensures.caused; refused = search rules })
 
 pub returns-in_err-fill-clause-comes : goal.returns-in_err-fill-clause-comes
 returns-in_err-fill-clause-comes g c =
@@ -33,6 +33,7 @@ returns-in_ok-fill-clause-reads g c =
       of_file = λ file known. held_front content file c.fill.new.window c.args.at c.args.size known comes.place comes.held enough;
       books = c.in_ok-fill.ensures.books;
       caused = c.in_ok-fill.ensures.caused;
+      refused = tt;
     })
 
 pub returns-in_ok-fill-clause-comes : goal.returns-in_ok-fill-clause-comes
@@ -54,6 +55,7 @@ returns-else-bytes-size-clause-reads g c =
       of_file = λ file known. held_front content file c.reach.new.window c.args.at c.args.size known comes.place comes.held enough;
       books = Books_none 0 0 c.args.meter.now;
       caused = IsCaused_none c.args.meter.now.source;
+      refused = tt;
     })
 
 pub returns-else-bytes-size-clause-comes : goal.returns-else-bytes-size-clause-comes

@@ -12,6 +12,7 @@ returns-in-Err-BadSignature c = record {
   long = λ told same. cc;
   read = search rules;
   checked = tt;
+  obtained = tt;
 }
 
 pub returns-in-Err-BadVersion : goal.returns-in-Err-BadVersion
@@ -22,6 +23,7 @@ returns-in-Err-BadVersion c = record {
   long = λ told same. cc;
   read = search rules;
   checked = tt;
+  obtained = tt;
 }
 
 pub returns-then-not-inside : goal.returns-then-not-inside
@@ -37,6 +39,7 @@ returns-then-not-inside c =
       long = λ told same. cc;
       read = search rules;
       checked = tt;
+      obtained = tt;
     }
 
 pub returns : goal.returns
@@ -52,5 +55,6 @@ returns c =
       refusal = search rules;
       long = λ told same. cc;
       read = search rules;
+      obtained = tt;
       checked = ap header_fault_of c.in-Ok.ensures.1.fields ∙ c.in-Ok.ensures.0;
     }

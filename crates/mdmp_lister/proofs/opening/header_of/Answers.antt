@@ -9,4 +9,4 @@ returns-clause-header c =
     let file = c.args.file.now in
     let whole : length (take 32 file) ≡ 32 = length-take-le 32 file c.if-size.false in
     let fetched : take 32 file ≡ bytes_at file 0 (length (take 32 file)) = ap (λ n. take n file) (sym whole) in
-    refused_found file c.header_in.result (c.header_in.ensures.finds file refl fetched) c.header_in.ensures.read
+    refused_found file c.header_in.result (c.header_in.ensures.finds file refl fetched) c.header_in.ensures.obtained

@@ -3,6 +3,7 @@ use Rattle.mdmp_source.specs.SourceLaws.{fetches_then}
 use Rattle.mdmp_wire.specs.AnyRecord.{name_rva}
 use Rattle.mdmp_lister.specs.Fault.{source_of}
 use Rattle.mdmp_lister.specs.Following.{of_name}
+use Rattle.mdmp_lister.proofs.Budgets.{over-within}
 use Rattle.mdmp_lister.proofs.Fetches.{IsCaused_later}
 use Rattle.mdmp_lister.proofs.record_reading.read_item.Goals as goal
 
@@ -25,7 +26,7 @@ returns-in-Err-clause-reads g c =
     record {
       fetches = fetches_then _ _ _ _ _ books.fetches name.fetches;
       spends = record {
-        paid = λ few. let then = rw books.same_names at name.spends.paid in omega (arith, books.fetched, then few);
+        paid = λ few. let then = rw books.same_names at name.spends.paid in omega (arith, books.asked, then few);
         paid_calls = λ few. let then = rw books.same_names at name.spends.paid_calls in omega (arith, books.most_calls, then few);
         more = omega (arith, books.more, name.spends.more);
         more_calls = omega (arith, books.more_calls, name.spends.more_calls);
@@ -33,9 +34,11 @@ returns-in-Err-clause-reads g c =
         one_name = omega (arith, books.same_names, name.spends.one_name);
         same_aside = name.spends.same_aside ∙ books.same_aside;
         same_start = name.spends.same_start ∙ books.same_start;
+        same_budget = name.spends.same_budget ∙ books.same_budget;
       };
       named = tt;
       at_fault = rw books.same_names at name.at_fault;
+      over = over-within _ _ _ _ _ _ _ (omega arith) name.over;
       caused = record { caused = IsCaused_later (source_of c.in-Err.fault.kind) _ _ _ _ books.fetches first.caused name.caused.caused; placed = name.caused.placed };
     }
 

@@ -16,4 +16,5 @@ returns-clause-reads g c =
           record-fetched c.args.kind size c.args.at file _ c.record_of.result (omega (arith, c.record_size-size.ensures.value)) bytes c.record_of.ensures;
       books = rw c.record_size-size.ensures.value at read.books;
       caused = read.caused;
+      refused = tt;
     }

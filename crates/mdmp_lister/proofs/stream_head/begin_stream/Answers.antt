@@ -5,14 +5,14 @@ use Rattle.mdmp_lister.specs.declared.fault.Fault.{Fault}
 use Rattle.mdmp_lister.specs.declared.head.Head.{Head}
 use Rattle.mdmp_lister.specs.declared.kind.StreamKind.{StreamKind}
 use Rattle.mdmp_source.specs.declared.location.Location.{Location}
-use Rattle.mdmp_lister.specs.Fault.{IsOfSource}
+use Rattle.mdmp_lister.specs.Fault.{IsUnobtained}
 use Rattle.mdmp_lister.specs.Fetching.{shape_told}
 use Rattle.mdmp_lister.specs.Following.{IsSomeShape, failed}
 use Rattle.mdmp_lister.specs.Format.Kind.{form_of, record_size}
 use Rattle.mdmp_lister.specs.Format.Shape.{head_size}
 use Rattle.mdmp_lister.proofs.stream_head.begin_stream.Goals as goal
 
-some_failed : (at : Location) (kind : StreamKind) (r : Result Head Fault) → head_size (form_of kind) (record_size kind) ≤ at.size → IsErr r → IfErr r (λ fault. IsOfSource fault.kind)
+some_failed : (at : Location) (kind : StreamKind) (r : Result Head Fault) → head_size (form_of kind) (record_size kind) ≤ at.size → IsErr r → IfErr r (λ fault. IsUnobtained fault.kind)
     → IsSomeShape at kind (shape_told r)
 some_failed at kind (Ok x) room bad of = absurd (cc)
 some_failed at kind (Err fault) room bad of = failed room fault refl of

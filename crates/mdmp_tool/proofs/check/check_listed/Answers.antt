@@ -11,7 +11,7 @@ use Rattle.mdmp_tool.specs.CheckText.{bad_count, verdict_lines}
 use Rattle.mdmp_tool.specs.CheckRuns.{CheckEnds}
 use Rattle.mdmp_tool.specs.Engines.{Leaves, WritesText, past_faults}
 use Rattle.mdmp_tool.proofs.Checking.{PutsPrefix-first, StopsShort-first, bad-taken, bad_entries, lines-stopped, lines-taken, name-stopped, name-taken, told-cause, told-source}
-use Rattle.mdmp_tool.proofs.SameRuns.{run_list, run_none}
+use Rattle.mdmp_tool.proofs.SameRuns.{over_listing, run_list, run_none}
 use Rattle.mdmp_tool.proofs.check.check_listed.Goals as goal
 
 pub returns-in-Ok-clause-same_output : goal.returns-in-Ok-clause-same_output
@@ -55,7 +55,7 @@ returns-in-Ok-clause-leaves g c =
 pub returns-in-Err-At-clause-ends : goal.returns-in-Err-At-clause-ends
 returns-in-Err-At-clause-ends g c = λ file known.
     let told = (c.in-Err-At.ensures.told c.in-Err-At.fault c.in-Err-At.field-0-is).0 in
-    rw c.told_list.ensures (told-source (CheckEnds file c.args.lister.now.limit) c.in-Err-At.fault c.in-Err-At.fault.kind told (λ s is. tt))
+    rw c.told_list.ensures (told-source (CheckEnds file c.args.lister.now.limit) c.in-Err-At.fault c.in-Err-At.fault.kind told (λ s is. tt) tt)
 
 pub returns-in-Err-At-clause-writes : goal.returns-in-Err-At-clause-writes
 returns-in-Err-At-clause-writes g c = λ file known.
@@ -67,7 +67,8 @@ returns-in-Err-At-clause-writes g c = λ file known.
     let put = lines-taken (λ lines. g.O.Out.state lines.out.now) (λ lines. lines.bad) (λ lines. lines.out.ghost_name) checks.judged _ _ (rw c.in-Err-At.field-0-is at checks.handed) in
     let told = (c.in-Err-At.ensures.told c.in-Err-At.fault c.in-Err-At.field-0-is).0 in
     rw c.told_list.ensures (told-source (λ (r : Result ℕ ToolFault). WritesText past_faults (verdict_lines (verdicts file All limit)) before r after) c.in-Err-At.fault c.in-Err-At.fault.kind told
-    (λ s is. StopsShort-first (verdicts file All limit) checks.judged first.0 before after first.1 put))
+    (λ s is. StopsShort-first (verdicts file All limit) checks.judged first.0 before after first.1 put)
+    (StopsShort-first (verdicts file All limit) checks.judged first.0 before after first.1 put))
 
 pub returns-in-Err-At-clause-leaves : goal.returns-in-Err-At-clause-leaves
 returns-in-Err-At-clause-leaves g c =
@@ -80,11 +81,11 @@ returns-in-Err-At-clause-leaves g c =
     let before = g.O.Out.state c.args.lines.now.out.now in
     let after = g.O.Out.state c.check_into.new.sink.out.now in
     rw c.told_list.ensures (told-source (λ (r : Result ℕ ToolFault). Leaves past_faults (after ≡ before) old before r new after) fault fault.kind told.0 (λ s is. record {
-      good = λ file good. absurd (c.in-Err-At.ensures.good file good fault c.in-Err-At.field-0-is);
+      good = λ file good. absurd (c.in-Err-At.ensures.good file good fault c.in-Err-At.field-0-is (rw is tt));
       behind = tt;
       reads = record { cause = told-cause c.check_into.new.self.current fault s old new is told.1; fetches = record { count = _; fetches = checks.fetches } };
       out_cause = put.steady;
-    }))
+    }) (record { good = λ file good. tt; behind = tt; reads = record { cause = tt; fetches = record { count = _; fetches = checks.fetches } }; out_cause = put.steady }))
 
 pub returns-in-Err-Stopped-clause-writes : goal.returns-in-Err-Stopped-clause-writes
 returns-in-Err-Stopped-clause-writes g c = λ file known.
@@ -108,3 +109,6 @@ returns-in-Err-At-clause-same g c = run_list _ _ _ (run_none _) c.in-Err-At.ensu
 
 pub returns-in-Err-Stopped-clause-same : goal.returns-in-Err-Stopped-clause-same
 returns-in-Err-Stopped-clause-same g c = run_list _ _ _ (run_none _) c.in-Err-Stopped.ensures.checks.same
+
+pub returns-in-Err-At-clause-over : goal.returns-in-Err-At-clause-over
+returns-in-Err-At-clause-over g c = rw c.told_list.ensures (over_listing ℕ c.in-Err-At.fault c.check_into.new.self (c.in-Err-At.ensures.refused c.in-Err-At.fault c.in-Err-At.field-0-is))

@@ -1,4 +1,10 @@
+use Rattle.mdmp_tool.proofs.SameRuns.{may_reach}
 use Rattle.mdmp_tool.proofs.engine.run.Goals as goal
 
 pub returns-clause-runs : goal.returns-clause-runs
 returns-clause-runs g c = λ file known. c.run_source-answer.ensures.runs file (rw c.new.ensures.store known)
+
+pub returns-clause-budget : goal.returns-clause-budget
+returns-clause-budget g c =
+    let of = c.run_source-answer.ensures in
+    rw (c.new.ensures.size, c.new.ensures.store) at (may_reach c.args.limits c.new.result _ _ of.reads.fetches.fetches.same_size of.through)

@@ -1,17 +1,22 @@
 use Rattle.std.proofs.Common.{rules, ◌≡◌, ◌∙◌, ◌+◌, ℕ, ap, refl, subst}
 use Rattle.mdmp_source.specs.SourceLaws.{fetches_then}
-use Rattle.mdmp_tool.proofs.Engining.{IsQuiet-behind, IsRefusal-behind, Runs-unopened, may_change}
+use Rattle.mdmp_tool.proofs.Engining.{IsQuiet-behind, IsRefusal-behind, Runs-unopened, Tells-unopened, may_change}
 use Rattle.mdmp_lister.specs.Counts.{AreHeld, AreSpent}
 use Rattle.mdmp_lister.specs.declared.counts.Counts.{Counts}
 use Rattle.mdmp_lister.specs.Lister.{Rooms}
 use Rattle.mdmp_tool.specs.Causes.{MayChange}
 use Rattle.mdmp_tool.specs.Engines.{IsBehind, IsReadThrough}
-use Rattle.mdmp_tool.proofs.SameRuns.{early_opening}
+use Rattle.mdmp_tool.proofs.SameRuns.{early_opening, over_opening}
 use Rattle.mdmp_tool.proofs.engine.run_source.Goals as goal
 
 pub returns-in-Err-clause-runs : goal.returns-in-Err-clause-runs
 returns-in-Err-clause-runs g c = λ file known.
     rw c.told_opening.ensures (Runs-unopened file g.E.Engine.choice _ _ _ _ c.in-Err.refused.fault (rw c.chosen.ensures at (c.in-Err.ensures.opens file known)))
+
+pub returns-in-Err-clause-tells : goal.returns-in-Err-clause-tells
+returns-in-Err-clause-tells g c =
+    let of = c.in-Err.ensures in
+    rw c.told_opening.ensures (Tells-unopened g.row.E-Answer.Denot g.E.Engine.pace (g.O.Out.state c.args.out.now) c.in-Err.refused.fault c.args.source c.in-Err.refused.source of.good of.refusal of.short of.cause)
 
 pub returns-clause-tells : goal.returns-clause-tells
 returns-clause-tells g c =
@@ -43,7 +48,8 @@ returns-clause-reads g c =
 pub returns-in-Err-clause-through : goal.returns-in-Err-clause-through
 returns-in-Err-clause-through g c =
     let back = c.in-Err.ensures.handed_back in
-    rw c.told_opening.ensures (IsReadThrough.refused back.asked (early_opening g.row.E-Answer.Denot c.in-Err.refused.fault) back.bound back.inside)
+    rw c.told_opening.ensures (IsReadThrough.refused back.asked (early_opening g.row.E-Answer.Denot c.in-Err.refused.fault)
+    (over_opening g.row.E-Answer.Denot c.args.limits c.args.source c.in-Err.refused.fault c.in-Err.refused.source c.in-Err.ensures.kept) back.bound back.inside)
 
 pub returns-clause-through : goal.returns-clause-through
 returns-clause-through g c =
@@ -54,6 +60,8 @@ returns-clause-through g c =
       lister = c.put-answer.new.lister;
       window = ap (λ (r : Rooms). r.window) same.rooms ∙ new.asked.window_room;
       limit = same.limit ∙ new.asked.limit_is;
+      budget = same.budget ∙ new.counts.budget_is;
+      over = c.put-answer.ensures.over;
       source = refl;
       start = same.start ∙ new.counts.start;
       held = subst (λ (n : Counts). AreHeld c.put-answer.new.lister n) counts.value counts.held;

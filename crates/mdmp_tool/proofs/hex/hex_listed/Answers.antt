@@ -3,7 +3,7 @@ use Rattle.mdmp_source.specs.SourceLaws.{fetches_then}
 use Rattle.mdmp_lister.specs.FaultLaws.{ranges_fit}
 use Rattle.mdmp_tool.specs.Engines.{IsBehind, at_the_end}
 use Rattle.mdmp_tool.proofs.Hexing.{HexesRun-printed}
-use Rattle.mdmp_tool.proofs.SameRuns.{run_list, run_none, run_then}
+use Rattle.mdmp_tool.proofs.SameRuns.{over_listing, run_list, run_none, run_then}
 use Rattle.mdmp_tool.proofs.Symbols.{Leaves-listed}
 use Rattle.mdmp_tool.proofs.hex.hex_listed.Goals as goal
 
@@ -37,3 +37,6 @@ returns-in-Err-clause-leaves g c =
     let of = c.in-Err.ensures in
     let fits = ranges_fit c.args.lister.now c.in-Err.fault c.list_ranges.new.self of.follows in
     rw c.told_list.ensures (Leaves-listed at_the_end _ c.list_ranges.new.self.current c.in-Err.fault _ _ _ of.fetches of.told of.good fits refl refl)
+
+pub returns-in-Err-clause-over : goal.returns-in-Err-clause-over
+returns-in-Err-clause-over g c = rw c.told_list.ensures (over_listing (Unit {0}) c.in-Err.fault c.list_ranges.new.self c.in-Err.ensures.refused)

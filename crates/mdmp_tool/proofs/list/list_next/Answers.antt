@@ -1,4 +1,4 @@
-use Rattle.std.proofs.Common.{rules, ◌≡◌, ◌∙◌, ◌+◌, ℕ, List, Some, Err, subst}
+use Rattle.std.proofs.Common.{rules, ◌≡◌, ◌∙◌, ◌+◌, ℕ, Bool, List, Some, Err, subst}
 use Rattle.std.specs.Prelude.{slice_get}
 use Rattle.mdmp_source.specs.SourceLaws.{fetches_then}
 use Rattle.mdmp_lister.specs.FaultLaws.{next_fits}
@@ -6,6 +6,7 @@ use Rattle.mdmp_lister.specs.Format.Item.{plain}
 use Rattle.mdmp_tool.specs.Engines.{up_to_a_fault}
 use Rattle.mdmp_tool.specs.Runs.{PutsSymbols}
 use Rattle.mdmp_tool.proofs.Symbols.{Leaves-fault, Leaves-later, Leaves-listed, ListsNext-cut, ListsNext-fault, ListsNext-line, ListsNext-symbols, symbols-inside, symbols_text-is}
+use Rattle.mdmp_tool.proofs.SameRuns.{over_listing}
 use Rattle.mdmp_tool.proofs.list.list_next.Goals as goal
 
 pub returns-in-Err-put_item_line-clause-lists : goal.returns-in-Err-put_item_line-clause-lists
@@ -69,3 +70,8 @@ put_symbols-requires g c =
     let holds = c.next.follows.holds-at-none.list in
     let inside = symbols-inside c.args.pdb _ c.next.follows.lender-at-none.current c.in-Ok-Some.item (rw (c.in-Ok-Some.is, c.in-Ok-Some.field-0-is) at holds.places.classed) in
     rw (c.symbols_of.ensures, holds.spends.fetches.same_size) inside
+
+pub returns-in-Err-clause-over : goal.returns-in-Err-clause-over
+returns-in-Err-clause-over g c =
+    let holds = c.next.follows.holds-at-none in
+    rw c.told_list.ensures (over_listing Bool c.in-Err.fault c.next.follows.lender-at-none (rw c.in-Err.is at holds.list.spends.refused))

@@ -2,7 +2,7 @@ use Rattle.std.proofs.Common.{◌∙◌, ap, codes}
 use Rattle.std.proofs.lemmas.Result.{IfOk-weaker}
 use Rattle.mdmp_words.proofs.CommandLemmas.{adds_rule, adds_local}
 use Rattle.clap.specs.Words.{App}
-use Rattle.mdmp_words.specs.CommandLine.{limited, word}
+use Rattle.mdmp_words.specs.CommandLine.{budgeted, limited, word}
 use Rattle.mdmp_words.proofs.command_line.hex_command.Goals as goal
 
 pub returns-clause-shape : goal.returns-clause-shape
@@ -13,11 +13,11 @@ returns-clause-shape c =
     app1 c.word-2.ensures.rule in
     let app3 = adds_rule c.in_ok-arg-2.field-0 c.in_ok-command.command c.word-3.result _ (word (codes "LENGTH")) c.in_ok-command.ensures c.word-3.ensures.local
     app2 c.word-3.ensures.rule in
-    IfOk-weaker c.with_limits.result _ _ (λ made is. ap (λ (a : App). a.top) (is ∙ ap limited app3)) c.with_limits.ensures.app
+    IfOk-weaker c.with_budget.result _ _ (λ made is. ap (λ (a : App). a.top) (is ∙ ap (λ (a : App). budgeted (limited a)) app3)) c.with_budget.ensures.app
 
 pub returns-clause-local : goal.returns-clause-local
 returns-clause-local c =
     let local1 = adds_local c.described.result c.in_ok-arg.field-0 c.word.result c.in_ok-arg.ensures c.word.ensures.local ∙ c.described.ensures.local in
     let local2 = adds_local c.in_ok-arg.field-0 c.in_ok-arg-2.field-0 c.word-2.result c.in_ok-arg-2.ensures c.word-2.ensures.local ∙ local1 in
     let local3 = adds_local c.in_ok-arg-2.field-0 c.in_ok-command.command c.word-3.result c.in_ok-command.ensures c.word-3.ensures.local ∙ local2 in
-    IfOk-weaker c.with_limits.result _ _ (λ made is. is ∙ local3) c.with_limits.ensures.local
+    IfOk-weaker c.with_budget.result _ _ (λ made is. is ∙ local3) c.with_budget.ensures.local

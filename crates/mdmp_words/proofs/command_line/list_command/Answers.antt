@@ -2,7 +2,7 @@ use Rattle.std.proofs.Common.{◌∙◌, ap, codes}
 use Rattle.std.proofs.lemmas.Result.{IfOk-weaker}
 use Rattle.mdmp_words.proofs.CommandLemmas.{adds_rule, adds_local}
 use Rattle.clap.specs.Words.{App}
-use Rattle.mdmp_words.specs.CommandLine.{limited, flag, word}
+use Rattle.mdmp_words.specs.CommandLine.{budgeted, limited, flag, word}
 use Rattle.mdmp_words.proofs.command_line.list_command.Goals as goal
 
 pub returns-clause-shape : goal.returns-clause-shape
@@ -11,10 +11,10 @@ returns-clause-shape c =
     c.described.ensures.app c.word.ensures.rule in
     let app2 = adds_rule c.in_ok-arg.field-0 c.in_ok-command.command c.flag.result _ (flag (codes "pdb")) c.in_ok-command.ensures c.flag.ensures.local
     app1 c.flag.ensures.rule in
-    IfOk-weaker c.with_limits.result _ _ (λ made is. ap (λ (a : App). a.top) (is ∙ ap limited app2)) c.with_limits.ensures.app
+    IfOk-weaker c.with_budget.result _ _ (λ made is. ap (λ (a : App). a.top) (is ∙ ap (λ (a : App). budgeted (limited a)) app2)) c.with_budget.ensures.app
 
 pub returns-clause-local : goal.returns-clause-local
 returns-clause-local c =
     let local1 = adds_local c.described.result c.in_ok-arg.field-0 c.word.result c.in_ok-arg.ensures c.word.ensures.local ∙ c.described.ensures.local in
     let local2 = adds_local c.in_ok-arg.field-0 c.in_ok-command.command c.flag.result c.in_ok-command.ensures c.flag.ensures.local ∙ local1 in
-    IfOk-weaker c.with_limits.result _ _ (λ made is. is ∙ local2) c.with_limits.ensures.local
+    IfOk-weaker c.with_budget.result _ _ (λ made is. is ∙ local2) c.with_budget.ensures.local

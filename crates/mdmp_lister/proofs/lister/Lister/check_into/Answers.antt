@@ -1,7 +1,7 @@
 use Rattle.std.proofs.Common.{◌≡◌, ap, refl, rules}
 use Rattle.mdmp_map.specs.Map.{MapState}
 use Rattle.mdmp_lister.proofs.Advancing.{same_entries, same_rooms}
-use Rattle.mdmp_lister.proofs.Verdicts.{good_checked, items_of_file, left_told, standing_checked, stop_checked, unread_checked, verdicts_of_file}
+use Rattle.mdmp_lister.proofs.Verdicts.{good_checked, items_of_file, left_told, standing_checked, stop_checked, unread_checked, verdicts_of_file, refused_checked}
 use Rattle.mdmp_lister.proofs.lister.Lister.check_into.Goals as goal
 
 pub returns-clause-checks : goal.returns-clause-checks
@@ -27,7 +27,7 @@ returns-clause-checks g c =
       unread = unread_checked n n.meter.source.size result e.stage;
       passed = e.passed;
       current = e.current;
-      same = record { aside = e.counts.same_aside; start = e.counts.same_start; header_is = e.same.header_is; choice = e.same.choice; limit = e.same.name; entries = same_entries w n e.same; rooms = rw room (same_rooms w n m.room e.same) };
+      same = record { aside = e.counts.same_aside; start = e.counts.same_start; budget = e.counts.same_budget; header_is = e.same.header_is; choice = e.same.choice; limit = e.same.name; entries = same_entries w n e.same; rooms = rw room (same_rooms w n m.room e.same) };
       counts = e.counts;
       names = e.names;
       fetches = e.fetches;
@@ -41,3 +41,7 @@ returns-clause-good g c =
     let e = c.check_entries.ensures in
     rw (← c.self.view_is)
     (good_checked g.K.VerdictSink.step c.self.inside.walk c.check_entries.new.walk c.self.inside.map c.check_entries.new.map c.args.sink.now c.check_entries.new.sink c.check_entries.result e)
+
+pub returns-clause-refused : goal.returns-clause-refused
+returns-clause-refused g c =
+    refused_checked c.check_entries.new.walk c.check_entries.result c.check_entries.ensures.stage c.check_entries.ensures.mapped.sound

@@ -4,7 +4,7 @@ use Rattle.std.specs.Prelude.{slice_get}
 use Rattle.mdmp_source.specs.Store.{IsGood}
 use Rattle.mdmp_lister.specs.declared.fault.ListFault.{ListFault}
 use Rattle.mdmp_lister.specs.Costs.{bad_name_cost}
-use Rattle.mdmp_lister.specs.Fault.{IsOfSource}
+use Rattle.mdmp_lister.specs.Fault.{IsOfStore}
 use Rattle.mdmp_lister.specs.Format.Item.{plain}
 use Rattle.mdmp_lister.specs.Sink.{give_all}
 use Rattle.mdmp_lister.specs.Lister.{ListerState, tail}
@@ -18,7 +18,7 @@ use Rattle.mdmp_lister.proofs.lister.Lister.list_into.Goals as goal
 
 pub loop-item-init : goal.loop-item-init
 loop-item-init g c = record {
-  same = record { header_is = refl; entries = refl; choice = refl; limit = refl; rooms = refl; aside = refl; start = refl };
+  same = record { header_is = refl; entries = refl; choice = refl; limit = refl; rooms = refl; aside = refl; start = refl; budget = refl };
   going = λ none. none;
   stays = λ stop same. (refl, refl);
   rests = omega arith;
@@ -174,4 +174,4 @@ returns-in-Err-clause-good g c = λ file good fault is of.
     let fetched = c.loop-item.invariant.given.cost.fetches in
     let now : IsGood c.loop-item.self.source.store file = record { known = fetched.same_content ∙ good.known; reliable = rw fetched.same_reliable good.reliable } in
     let same : c.in-Err.fault ≡ fault = cc in
-    c.in-Err.ensures.good file now (subst (λ (f : ListFault). IsOfSource f.kind) (sym same) of)
+    c.in-Err.ensures.good file now (subst (λ (f : ListFault). IsOfStore f.kind) (sym same) of)

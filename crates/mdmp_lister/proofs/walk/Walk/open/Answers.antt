@@ -1,6 +1,9 @@
-use Rattle.std.proofs.Common.{◌+◌, ◌-◌, ◌*◌, ◌∙◌, None, arith, refl, rules, sym}
+use Rattle.std.proofs.Common.{◌≡◌, ◌+◌, ◌-◌, ◌*◌, ◌∙◌, None, ap, arith, refl, rules, sym}
 use Rattle.mdmp_lister.specs.Holding.{fills_of}
 use Rattle.mdmp_lister.specs.Meter.{Books}
+use Rattle.mdmp_wire.specs.declared.header.Header.{Header}
+use Rattle.mdmp_lister.specs.Opening.{refusal_of_fetch}
+use Rattle.mdmp_lister.proofs.Budgets.{header-kept, opening-begun, opening-over, opening-then, over_fetched}
 use Rattle.mdmp_lister.proofs.Fetches.{IsCaused_later}
 use Rattle.mdmp_lister.proofs.Directory.{directory_fills}
 use Rattle.mdmp_lister.proofs.Metering.{Books-then, Books-within}
@@ -10,22 +13,45 @@ use Rattle.mdmp_lister.proofs.walk.Walk.open.Goals as goal
 pub returns-in-Err-clause-refused : goal.returns-in-Err-clause-refused
 returns-in-Err-clause-refused g c =
     let of = c.in-Err.ensures in
-    rw c.refused.ensures (rw c.new-meter.ensures at (IsRefused-header _ c.read_header.new.meter c.in-Err.fault of.fits of.finds of.books of.caused))
+    rw c.refused.ensures.made (rw c.new-meter.ensures at (IsRefused-header _ c.read_header.new.meter c.in-Err.fault of.fits of.finds of.books of.caused))
+
+pub returns-in-Err-clause-kept : goal.returns-in-Err-clause-kept
+returns-in-Err-clause-kept g c =
+    let limits = c.args.limits in
+    rw c.refused.ensures.made (header-kept limits c.args.source c.new-meter.result c.read_header.new.meter c.new-meter.ensures c.in-Err.ensures.books c.refused.ensures.booked c.refused.ensures.kept c.in-Err.fault c.in-Err.ensures.over)
+
+pub returns-in_default-clause-kept : goal.returns-in_default-clause-kept
+returns-in_default-clause-kept g c =
+    let limits = c.args.limits in
+    let refused = c.refused-in_default.ensures in
+    rw refused.made (header-kept limits c.args.source c.new-meter.result c.read_header.new.meter c.new-meter.ensures c.in-Ok.ensures.books refused.booked refused.kept _ tt)
+
+pub returns-in_default-with_room-clause-kept : goal.returns-in_default-with_room-clause-kept
+returns-in_default-with_room-clause-kept g c =
+    let limits = c.args.limits in
+    let refused = c.refused-in_default-with_room.ensures in
+    rw refused.made (header-kept limits c.args.source c.new-meter.result c.read_header.new.meter c.new-meter.ensures c.in-Ok.ensures.books refused.booked refused.kept _ tt)
+
+pub returns-in_default-vec-clause-kept : goal.returns-in_default-vec-clause-kept
+returns-in_default-vec-clause-kept g c =
+    let limits = c.args.limits in
+    let refused = c.refused-in_default-vec.ensures in
+    rw refused.made (header-kept limits c.args.source c.new-meter.result c.read_header.new.meter c.new-meter.ensures c.in-Ok.ensures.books refused.booked refused.kept _ tt)
 
 pub returns-in_default-clause-refused : goal.returns-in_default-clause-refused
 returns-in_default-clause-refused g c =
     let of = c.in-Ok.ensures in
-    rw c.refused-in_default.ensures (rw c.new-meter.ensures at (IsRefused-memory _ c.read_header.new.meter c.in-Ok.header of.fits of.finds of.books of.caused))
+    rw c.refused-in_default.ensures.made (rw c.new-meter.ensures at (IsRefused-memory _ c.read_header.new.meter c.in-Ok.header of.fits of.finds of.books of.caused))
 
 pub returns-in_default-with_room-clause-refused : goal.returns-in_default-with_room-clause-refused
 returns-in_default-with_room-clause-refused g c =
     let of = c.in-Ok.ensures in
-    rw c.refused-in_default-with_room.ensures (rw c.new-meter.ensures at (IsRefused-memory _ c.read_header.new.meter c.in-Ok.header of.fits of.finds of.books of.caused))
+    rw c.refused-in_default-with_room.ensures.made (rw c.new-meter.ensures at (IsRefused-memory _ c.read_header.new.meter c.in-Ok.header of.fits of.finds of.books of.caused))
 
 pub returns-in_default-vec-clause-refused : goal.returns-in_default-vec-clause-refused
 returns-in_default-vec-clause-refused g c =
     let of = c.in-Ok.ensures in
-    rw c.refused-in_default-vec.ensures (rw c.new-meter.ensures at (IsRefused-memory _ c.read_header.new.meter c.in-Ok.header of.fits of.finds of.books of.caused))
+    rw c.refused-in_default-vec.ensures.made (rw c.new-meter.ensures at (IsRefused-memory _ c.read_header.new.meter c.in-Ok.header of.fits of.finds of.books of.caused))
 
 pub returns-in-Err-read_directory-clause-refused : goal.returns-in-Err-read_directory-clause-refused
 returns-in-Err-read_directory-clause-refused g c =
@@ -35,8 +61,24 @@ returns-in-Err-read_directory-clause-refused g c =
     let window = c.in-Ok-with_room.window in
     let few = directory_fills n window.room (rw c.in-Ok-with_room.ensures c.args.limits.window_least) in
     let books = Books-within _ n (12 * n) (12 * n) c.read_header.new.meter c.read_directory.new.meter few (omega arith) read.ensures.reads.books in
-    rw c.refused-in-Err-read_directory.ensures
+    rw (c.refused-in-Err-read_directory.ensures.made, c.from.ensures)
     (rw c.new-meter.ensures at (IsRefused-directory _ c.read_header.new.meter c.read_directory.new.meter c.in-Ok.header read.fault of.fits of.finds of.books of.caused books read.ensures.reads.caused))
+
+pub returns-in-Err-read_directory-clause-kept : goal.returns-in-Err-read_directory-clause-kept
+returns-in-Err-read_directory-clause-kept g c =
+    let of = c.in-Ok.ensures in
+    let read = c.in-Err-read_directory in
+    let limits = c.args.limits in
+    let n = c.in-Ok.header.number_of_streams in
+    let window = c.in-Ok-with_room.window in
+    let began = opening-then limits c.args.source 0 1 32 c.new-meter.result c.read_header.new.meter (opening-begun limits c.args.source c.new-meter.result c.new-meter.ensures) of.books in
+    let is = opening-then limits c.args.source (0 + 32) _ (12 * n) c.read_header.new.meter c.read_directory.new.meter began read.ensures.reads.books in
+    let finds = rw c.new-meter.ensures at of.finds in
+    let room : window.room ≡ limits.window = search rules in
+    rw (c.refused-in-Err-read_directory.ensures.made, c.from.ensures)
+    (opening-over limits c.args.source (0 + 32 + 12 * n) window.room n c.read_directory.new.meter is c.refused-in-Err-read_directory.ensures.booked c.refused-in-Err-read_directory.ensures.kept (omega (arith, room)) (omega arith)
+    (rw c.new-meter.ensures at (directory_room c.in-Ok.header.stream_directory_rva n c.new-meter.result.source.size of.fits.inside))
+    (λ file known. let same = ap (λ (h : Header). h.number_of_streams) (finds file known).1 in omega (arith, same)) (refusal_of_fetch read.fault) (over_fetched window.room read.fault c.read_directory.new.meter read.ensures.reads.refused))
 
 pub returns-clause-new : goal.returns-clause-new
 returns-clause-new g c =
@@ -57,7 +99,7 @@ returns-clause-new g c =
         fetches = books.fetches;
         calls = omega (arith, few, books.source_calls);
         steady = steady;
-        fetched = omega (arith, books.fetched);
+        asked = omega (arith, books.asked);
         called = rw read.kept (omega (arith, books.most_calls));
         names = books.same_names;
         aside = books.same_aside;
@@ -73,6 +115,7 @@ returns-clause-new g c =
         opens = λ file known. (finds file known).0;
       };
       choice_is = refl;
+      budget = books.same_budget;
       window = search rules;
       name = search rules;
       next = refl;
@@ -91,6 +134,7 @@ returns-clause-new g c =
         ended = λ end. cc;
         directory = λ file known. let was = sym all.fetches.same_content ∙ known in read.reads.of_file file (sym read.reads.books.fetches.same_content ∙ known) (of.finds file was).1;
         header_is = λ file known. (of.finds file (sym all.fetches.same_content ∙ known)).1;
-        unfailed = λ file good. refl;
+        unfailed = λ file good. tt;
+        refused = tt;
       };
     }

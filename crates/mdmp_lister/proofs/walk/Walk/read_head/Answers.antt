@@ -1,8 +1,9 @@
 use Rattle.std.proofs.Common.{◌≡◌, ◌<◌, Some, None, ◌∙◌, ap, arith, refl, rules, sym}
-use Rattle.mdmp_lister.specs.Fault.{IsOfSource, source_of}
+use Rattle.mdmp_lister.specs.Fault.{IsUnobtained, source_of}
 use Rattle.mdmp_lister.specs.Format.Item.{sizes_before}
 use Rattle.mdmp_lister.specs.Format.Kind.{kind_of}
 use Rattle.mdmp_lister.specs.Format.Shape.{location_fault}
+use Rattle.mdmp_lister.proofs.Budgets.{over-within}
 use Rattle.mdmp_lister.proofs.Bodies.{body-faulted}
 use Rattle.mdmp_lister.proofs.EntrySteps.{answered_head, answered_outside, head_read}
 use Rattle.mdmp_lister.proofs.Counted.{counted_bad, counted_none, counted_outside, counted_shaped}
@@ -85,13 +86,14 @@ returns-in-Err-clause-read g c =
     rw (c.stop_at-in-Err.ensures.1, c.stop_at-in-Err.ensures.0)
     (answered_head w _ kind c.requires.head c.requires.sound (search rules) whole known _ of.begins.books f refl
     (record {
-      told = told_in_caused w.current c.in-Err.fault f w.meter.source c.begin_stream.new.meter.source of.begins.caused told.kind told.place told.of_store;
+      told = told_in_caused w.current c.in-Err.fault f w.meter.source c.begin_stream.new.meter.source of.begins.caused told.kind told.place told.of_all;
       number = omega (arith, told.entry, begun);
       named = rw told.kind of.begins.at_fault;
+      over = rw (told.kind, told.place.0, told.place.1) (over-within _ _ _ _ _ _ _ (omega arith) of.begins.over);
     })
     (omega (arith, of.begins.bytes))
     (λ file content not.
-    let other : IsOfSource c.in-Err.fault.kind → ⊥ = λ is. not (rw (sym told.kind) at is) in
+    let other : IsUnobtained c.in-Err.fault.kind → ⊥ = λ is. not (rw (sym told.kind) at is) in
     rw (told.of_file other) (body-faulted file _ _ w.current kind (rw (rw content at c.requires.sound.sized) at whole) known c.in-Err.fault (of.shape file content other)))
     (λ file good. not_of_source f.kind (ap source_of told.kind ∙ of.begins.caused.caused.good file good))
     c.in-Err.fault told of.some)

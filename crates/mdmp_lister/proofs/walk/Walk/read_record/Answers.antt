@@ -1,5 +1,6 @@
 use Rattle.std.proofs.Common.{◌≡◌, arith, ◌∙◌, length, refl, rules, vec_len}
 use Rattle.mdmp_lister.proofs.Bodies.{take-lent}
+use Rattle.mdmp_lister.proofs.Changing.{taken_fault}
 use Rattle.mdmp_lister.proofs.EntrySteps.{answered_record, answered_record_fault, given_record, nameless_reading}
 use Rattle.mdmp_lister.proofs.Fetches.{unchanged_caused}
 use Rattle.mdmp_lister.specs.Format.KindLaws.{most_record}
@@ -36,15 +37,13 @@ returns-in-Err g c =
     let a = c.args in
     let of = c.in-Err.ensures in
     let room : length c.read_item.new.buffer ≡ vec_len w.name = of.length ∙ c.deref_mut.ensures.len in
-    rw (c.stop_at.ensures.1, c.stop_at.ensures.0) (record {
-      answered =
-          answered_record_fault w _ a.kind a.shape a.index a.offset c.record_at-at.result c.requires.stage c.requires.left c.requires.sound (search rules) c.record_at-at.ensures.place
-          _ c.in-Err.fault c.of_entry.result refl (rw room at of.reads) (omega (arith, of.slides.bytes)) (omega (arith, of.slides.calls greatest_record (most_record a.kind) c.requires.sound.window)) c.of_entry.ensures (λ file known here other. rw room at (of.item file known w.current.location.rva here other))
-          (rw room at of.some);
-      room = search rules;
-      unchanged = λ stays. fault_stage-unchanged c.of_entry.result (unchanged_caused c.in-Err.fault c.of_entry.result w.meter.source c.read_item.new.meter.source of.reads.caused c.of_entry.ensures.kind);
-      nameless = λ none. of.nameless (nameless_reading w a.kind a.shape a.index a.offset c.requires.stage c.requires.sound none);
-    })
+    rw (c.stop_at.ensures.1, c.stop_at.ensures.0)
+    (taken_fault w _ c.of_entry.result
+    (answered_record_fault w _ a.kind a.shape a.index a.offset c.record_at-at.result c.requires.stage c.requires.left c.requires.sound (search rules) c.record_at-at.ensures.place
+    _ c.in-Err.fault c.of_entry.result refl (rw room at of.reads) (omega (arith, of.slides.bytes)) (omega (arith, of.slides.calls greatest_record (most_record a.kind) c.requires.sound.window)) c.of_entry.ensures (λ file known here other. rw room at (of.item file known w.current.location.rva here other))
+    (rw room at of.some))
+    (λ stays. fault_stage-unchanged c.of_entry.result (unchanged_caused c.in-Err.fault c.of_entry.result w.meter.source c.read_item.new.meter.source of.reads.caused c.of_entry.ensures.kind))
+    (λ none. of.nameless (nameless_reading w a.kind a.shape a.index a.offset c.requires.stage c.requires.sound none)))
 
 pub read_item-requires-clause-ahead : goal.read_item-requires-clause-ahead
 read_item-requires-clause-ahead g c =

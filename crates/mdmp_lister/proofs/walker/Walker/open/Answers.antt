@@ -9,7 +9,7 @@ returns-in-Ok-clause-new g c =
       list = record {
         same_content = new.spends.fetches.same_content;
         steady = new.spends.steady;
-        counts = record { names = new.spends.names; aside = new.spends.aside; start = new.spends.start };
+        counts = record { budget_is = new.budget; names = new.spends.names; aside = new.spends.aside; start = new.spends.start };
         read = record {
           header_is = λ file known. new.sound.header_is file (new.spends.fetches.same_content ∙ known);
           directory = λ file known. new.sound.directory file (new.spends.fetches.same_content ∙ known);
@@ -22,7 +22,7 @@ returns-in-Ok-clause-new g c =
       };
       fetches = new.spends.fetches;
       calls = new.spends.calls;
-      fetched = new.spends.fetched;
+      asked = new.spends.asked;
       range_room = refl;
       mark = c.counts-mark.ensures.value;
       position = refl;
