@@ -1,8 +1,8 @@
 /* mdmp: reads Windows minidump files, for C and C++ and what calls C.
  *
  * Every call reads a file that stands wholly in memory (read it or map it), for as long as the call takes.
- * There are no handles, no callbacks and no state: but for want of memory, what a call answers is a function of
- * its arguments.
+ * There are no handles, no callbacks and no state: but for want of memory, and for a budget that is reached, what
+ * a call answers is a function of its arguments.
  *
  * Ownership. All that is written to is the caller's, and need not be set before. What a call takes by malloc
  * it has given back when it returns, on every path. No pointer into the library or the file comes back: a name
@@ -20,7 +20,11 @@
  *                      `count` is 0.
  *   MDMP_BAD_ARGUMENT  limits, types or lengths are wrong, and `fault` says which. The buffer is as it was,
  *                      and `size` or `count` is 0.
- *   MDMP_NO_MEMORY     malloc or realloc answered NULL. The buffer is as it was, `size` or `count` is 0.
+ *   MDMP_NO_MEMORY     MDMP_FAULT_NO_MEMORY: malloc or realloc answered NULL. The buffer is as it was, `size` or
+ *                      `count` is 0.
+ *                      MDMP_FAULT_BUDGET: a fetch was not made, since it would have passed the budget of mdmp_limits.
+ *                      Given is all up to there (a check and its verdicts end there too; mdmp_memory gives nothing);
+ *                      where the file was not opened yet nothing, and `size` or `count` is 0.
  *   MDMP_BUFFER_TOO_SHORT     the buffer holds as much as it has room for. `size` or `count` says how much there
  *                      is, and `fault` what is wrong with the file, as if there had been room.
  *
@@ -56,7 +60,7 @@ typedef enum mdmp_status {
     MDMP_OK = 0,              /* good */
     MDMP_FAULT = 1,           /* the file is at fault */
     MDMP_BAD_ARGUMENT = 2,    /* an argument is: limits, types of streams, lengths */
-    MDMP_NO_MEMORY = 3,       /* memory was wanting: malloc or realloc answered NULL */
+    MDMP_NO_MEMORY = 3,       /* memory was wanting, or the budget was reached: the kind of the fault says which */
     MDMP_BUFFER_TOO_SHORT = 4 /* the buffer was too short */
 } mdmp_status;
 
@@ -83,10 +87,11 @@ typedef enum mdmp_fault_kind {
     MDMP_FAULT_BAD_ENTRIES = 64,         /* size: how many entries of the directory have a fault */
     MDMP_FAULT_NOT_COPIED = 65,          /* size: a type of stream that is not copied */
     MDMP_FAULT_NO_MEMORY = 66,           /* memory was wanting: malloc or realloc answered NULL */
-    MDMP_FAULT_BAD_LIMITS = 67,          /* a limit is out of its bounds, or the budget is not 0 */
+    MDMP_FAULT_BAD_LIMITS = 67,          /* a limit is out of its bounds */
     MDMP_FAULT_BAD_TYPES = 68,           /* the types to be copied are none, or over 16 */
     MDMP_FAULT_STORE = 69,               /* no call over a file in memory answers this */
-    MDMP_FAULT_LENGTHS_DIFFER = 70       /* two buffers that must have one length differ */
+    MDMP_FAULT_LENGTHS_DIFFER = 70,      /* two buffers that must have one length differ */
+    MDMP_FAULT_BUDGET = 71               /* offset, size: not fetched, as it would pass the budget */
 } mdmp_fault_kind;
 
 /* Which part of a record a fault is of. */
@@ -120,11 +125,13 @@ typedef enum mdmp_symbol_kind {
     MDMP_SYMBOLS_SHORT = 2  /* a record that is too short for its kind */
 } mdmp_symbol_kind;
 
-/* How much a call holds at a time. The command's own limits are MDMP_LIMITS_DEFAULT. */
+/* How much a call holds at a time, and how much it fetches. MDMP_LIMITS_DEFAULT has the command's own, and
+ * no budget. A byte that is fetched twice counts twice. What is read beside the listing does not count:
+ * CodeView records, and the bytes that mdmp_memory gives. mdmp_copy has no budget: it does not look at it. */
 typedef struct mdmp_limits {
     uint32_t window; /* bytes of the file's records: 168 to 2^30 */
     uint32_t name;   /* bytes of a name: at most 2^30 */
-    uint64_t budget; /* 0; any other number is refused, and is room for what comes later */
+    uint64_t budget; /* the most bytes of the file that a call fetches for its listing; 0: as many as it takes */
 } mdmp_limits;
 
 /* What is wrong, and where. A number that the kind says nothing of is 0. */
@@ -302,7 +309,7 @@ typedef struct mdmp_symbol_file {
     uint32_t reserved[3]; /* 0 */
 } mdmp_symbol_file;
 
-/* The limits of the command. */
+/* The window and the longest name of the command, and no budget. */
 #define MDMP_LIMITS_DEFAULT { 65536, 4096, 0 }
 
 /* MDMP_ABI of the library: it rises where a structure or the meaning of a call changes. */
@@ -507,7 +514,8 @@ static inline uint32_t mdmp_ranges(const uint8_t *file, size_t file_size, const 
 
 /* Memory of the dumped process from an address on: out[i] is the byte at address + i where known[i] is
  * true; else both are 0. `room` and `known_size` are the same. No address wraps: behind 2^64 - 1 nothing
- * is known. Where a memory list has a fault, both buffers are as they were. */
+ * is known. Where a memory list has a fault, or the budget has no room for one, both buffers are as they
+ * were. */
 static inline uint32_t mdmp_memory(const uint8_t *file, size_t file_size, const mdmp_limits *limits,
     uint64_t address, uint8_t *out, size_t room, bool *known, size_t known_size, mdmp_fault *fault) {
     static uint8_t no_file;
@@ -551,9 +559,9 @@ static inline uint32_t mdmp_symbols(const uint8_t *file, size_t file_size, const
 }
 
 /* The command's words of a fault, without `mdmp: ` and a line's end; empty for MDMP_FAULT_NONE. Of a fault
- * of mdmp_name and mdmp_symbols, which know no entry, they say entry 0; for MDMP_FAULT_BAD_LIMITS and
- * above they are the library's own. MDMP_BAD_ARGUMENT and a size of 0 for a kind or a part that this
- * library does not know. */
+ * of mdmp_name and mdmp_symbols, which know no entry, they say entry 0; from MDMP_FAULT_BAD_LIMITS to
+ * MDMP_FAULT_LENGTHS_DIFFER they are the library's own. MDMP_BAD_ARGUMENT and a size of 0 for a kind or a
+ * part that this library does not know. */
 static inline uint32_t mdmp_fault_text(const mdmp_fault *fault, uint8_t *out, size_t room, uint64_t *size) {
     static uint8_t no_out;
     return mdmp_fault_text_(fault, room != 0 ? out : &no_out, room, size);

@@ -63,47 +63,85 @@ static void test_bad_entry(void) {
     ASSERT(mdmp_streams(SYSTEM, 99, &stream, 1, &count, &fault) == MDMP_OK && count == 1 && stream.size == 56);
 }
 
-static void test_limits(void) {
-    static const mdmp_limits BAD[] = {
-        {167, 0, 0}, {(1u << 30) + 1, 0, 0}, {168, (1u << 30) + 1, 0}, {65536, 4096, 1}};
+/* With these limits each call but mdmp_copy gives nothing, for this reason. */
+static void test_refusals(const mdmp_limits *limits, uint32_t status, mdmp_fault reason) {
     uint8_t out[512];
     bool known[8];
     uint64_t count;
-    const uint32_t type = 3;
-    for (size_t i = 0; i < sizeof BAD / sizeof *BAD; i++) {
-        const mdmp_limits *limits = &BAD[i];
-        memset(out, 0xaa, sizeof out);
-#define REFUSED(call) \
-    ASSERT((call) == MDMP_BAD_ARGUMENT && fault.kind == MDMP_FAULT_BAD_LIMITS && count == 0 && out[0] == 0xaa)
+    memset(out, 0xaa, sizeof out);
+#define REFUSED(call)                                         \
+    ASSERT((call) == status && count == 0 && out[0] == 0xaa); \
+    ASSERT(memcmp(&fault, &reason, sizeof fault) == 0)
 #define TABLE(call, type)                                                \
     count = 1;                                                           \
     {                                                                    \
         static type row;                                                 \
         REFUSED(call(FILE_OF(SYSTEM), limits, &row, 1, &count, &fault)); \
     }
-        count = 1;
-        REFUSED(mdmp_check(FILE_OF(SYSTEM), limits, out, sizeof out, &count, &fault));
-        count = 1;
-        REFUSED(mdmp_list(FILE_OF(SYSTEM), limits, false, out, sizeof out, &count, &fault));
-        count = 1;
-        REFUSED(mdmp_list_part(FILE_OF(SYSTEM), limits, false, 0, out, sizeof out, &count, &fault));
-        count = 1;
-        REFUSED(mdmp_copy(FILE_OF(SYSTEM), limits, &type, 1, out, sizeof out, &count, &fault));
-        TABLE(mdmp_verdicts, mdmp_fault)
-        TABLE(mdmp_threads, mdmp_thread)
-        TABLE(mdmp_modules, mdmp_module)
-        TABLE(mdmp_exceptions, mdmp_exception)
-        TABLE(mdmp_systems, mdmp_system)
-        TABLE(mdmp_unloaded, mdmp_unloaded_module)
-        TABLE(mdmp_regions, mdmp_region)
-        TABLE(mdmp_thread_names, mdmp_thread_name)
-        TABLE(mdmp_ranges, mdmp_range)
-        count = 0;
-        REFUSED(mdmp_memory(FILE_OF(SYSTEM), limits, 0, out, 8, known, 8, &fault));
+    count = 1;
+    REFUSED(mdmp_check(FILE_OF(SYSTEM), limits, out, sizeof out, &count, &fault));
+    count = 1;
+    REFUSED(mdmp_list(FILE_OF(SYSTEM), limits, false, out, sizeof out, &count, &fault));
+    count = 1;
+    REFUSED(mdmp_list_part(FILE_OF(SYSTEM), limits, false, 0, out, sizeof out, &count, &fault));
+    TABLE(mdmp_verdicts, mdmp_fault)
+    TABLE(mdmp_threads, mdmp_thread)
+    TABLE(mdmp_modules, mdmp_module)
+    TABLE(mdmp_exceptions, mdmp_exception)
+    TABLE(mdmp_systems, mdmp_system)
+    TABLE(mdmp_unloaded, mdmp_unloaded_module)
+    TABLE(mdmp_regions, mdmp_region)
+    TABLE(mdmp_thread_names, mdmp_thread_name)
+    TABLE(mdmp_ranges, mdmp_range)
+    count = 0;
+    REFUSED(mdmp_memory(FILE_OF(SYSTEM), limits, 0, out, 8, known, 8, &fault));
+}
+
+static void test_limits(void) {
+    static const mdmp_limits BAD[] = {{167, 0, 0}, {(1u << 30) + 1, 0, 0}, {168, (1u << 30) + 1, 0}};
+    uint8_t out[512];
+    uint64_t count;
+    const uint32_t type = 3;
+    for (size_t i = 0; i < sizeof BAD / sizeof *BAD; i++) {
+        test_refusals(&BAD[i], MDMP_BAD_ARGUMENT, (mdmp_fault){.kind = MDMP_FAULT_BAD_LIMITS});
+        memset(out, 0xaa, sizeof out);
+        ASSERT(mdmp_copy(FILE_OF(SYSTEM), &BAD[i], &type, 1, out, sizeof out, &count, &fault) == MDMP_BAD_ARGUMENT);
+        ASSERT(fault.kind == MDMP_FAULT_BAD_LIMITS && count == 0 && out[0] == 0xaa);
     }
-    static const mdmp_limits LEAST = {168, 0, 0}, MOST = {1u << 30, 1u << 30, 0};
+    static const mdmp_limits LEAST = {168, 0, 0}, MOST = {1u << 30, 1u << 30, UINT64_MAX};
     ASSERT(mdmp_check(FILE_OF(SYSTEM), &LEAST, out, sizeof out, &count, &fault) == MDMP_OK && count == 12);
     ASSERT(mdmp_check(FILE_OF(SYSTEM), &MOST, out, sizeof out, &count, &fault) == MDMP_OK && count == 12);
+}
+
+/* A listing of the dump fetches 132 bytes: of the header 32, the directory 12, the record 56, and the name 4 and 28. */
+static void test_budget(void) {
+    mdmp_limits limits = LIMITS;
+    uint8_t out[512], whole[512];
+    uint64_t count, size;
+    mdmp_system system;
+    const uint32_t type = 7;
+    ASSERT(mdmp_list(FILE_OF(SYSTEM), &LIMITS, false, whole, sizeof whole, &size, &fault) == MDMP_OK);
+    limits.budget = 1;
+    test_refusals(&limits, MDMP_NO_MEMORY, (mdmp_fault){.kind = MDMP_FAULT_BUDGET, .offset = 0, .size = 32});
+    limits.budget = 43;
+    test_refusals(&limits, MDMP_NO_MEMORY, (mdmp_fault){.kind = MDMP_FAULT_BUDGET, .offset = 32, .size = 12});
+    ASSERT(mdmp_copy(FILE_OF(SYSTEM), &limits, &type, 1, out, sizeof out, &count, &fault) == MDMP_OK && count == 136);
+    /* before the name is read: given are the lines of the header and of the entry, and no byte more is touched */
+    limits.budget = 131;
+    memset(out, 0xaa, sizeof out);
+    ASSERT(mdmp_list(FILE_OF(SYSTEM), &limits, false, out, sizeof out, &count, &fault) == MDMP_NO_MEMORY);
+    ASSERT(fault.kind == MDMP_FAULT_BUDGET && fault.offset == 104 && fault.size == 28);
+    ASSERT(count > 0 && count < size && memcmp(out, whole, (size_t)count) == 0 && out[count] == 0xaa);
+    ASSERT(memcmp(whole + count, "system ", 7) == 0);
+    ASSERT(mdmp_list(FILE_OF(SYSTEM), &limits, false, NULL, 0, &count, &fault) == MDMP_BUFFER_TOO_SHORT);
+    ASSERT(fault.kind == MDMP_FAULT_BUDGET);
+    ASSERT(mdmp_systems(FILE_OF(SYSTEM), &limits, &system, 1, &count, &fault) == MDMP_NO_MEMORY && count == 0);
+    ASSERT(fault.kind == MDMP_FAULT_BUDGET && fault.offset == 104 && fault.size == 28);
+    limits.budget = 132;
+    ASSERT(mdmp_list(FILE_OF(SYSTEM), &limits, false, out, sizeof out, &count, &fault) == MDMP_OK);
+    ASSERT(count == size && memcmp(out, whole, (size_t)size) == 0);
+    ASSERT(mdmp_check(FILE_OF(SYSTEM), &limits, out, sizeof out, &count, &fault) == MDMP_OK && count == 12);
+    ASSERT(mdmp_systems(FILE_OF(SYSTEM), &limits, &system, 1, &count, &fault) == MDMP_OK && count == 1);
 }
 
 static void test_arguments(void) {
@@ -213,6 +251,7 @@ static void test_words(void) {
         {MDMP_FAULT_BAD_TYPES, "between 1 and 16 types of streams are copied at a time"},
         {MDMP_FAULT_STORE, "store failed"},
         {MDMP_FAULT_LENGTHS_DIFFER, "lengths differ"},
+        {MDMP_FAULT_BUDGET, "fetch budget reached: offset 9 size 8"},
     };
     uint8_t out[128];
     uint64_t size;
@@ -244,6 +283,7 @@ int main(void) {
     test_small_dump();
     test_bad_entry();
     test_limits();
+    test_budget();
     test_arguments();
     test_read();
     test_null();

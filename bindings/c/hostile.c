@@ -118,6 +118,27 @@ static void test_part(blob file) {
     free(text);
 }
 
+/* Within a budget of half the file the list is the same, or the first part of it up to a fetch that was not made. */
+static void test_budget(blob file) {
+    uint64_t size, given;
+    mdmp_fault fault, same;
+    mdmp_limits half = LIMITS;
+    half.budget = file.size / 2 + 1; /* 0 would be none */
+    mdmp_list(file.bytes, file.size, &LIMITS, false, NULL, 0, &size, &fault);
+    uint8_t *text = malloc((size_t)size + 1), *first = malloc((size_t)size + 1);
+    mdmp_list(file.bytes, file.size, &LIMITS, false, text, (size_t)size, &size, &fault);
+    uint32_t status = mdmp_list(file.bytes, file.size, &half, false, first, (size_t)size, &given, &same);
+    ASSERT(given <= size && memcmp(first, text, (size_t)given) == 0);
+    if (same.kind == MDMP_FAULT_BUDGET) {
+        ASSERT(status == MDMP_NO_MEMORY && same.size <= file.size && same.offset <= file.size - same.size);
+        test_fault(&same);
+    } else {
+        ASSERT(status == status_of(&fault) && given == size && memcmp(&fault, &same, sizeof fault) == 0);
+    }
+    free(first);
+    free(text);
+}
+
 static void test_address(
     blob file, const mdmp_range *ranges, size_t count, bool is_good, uint64_t address, size_t room) {
     uint8_t *out = fenced_last(&out_pages, room);
@@ -187,6 +208,7 @@ static void test_file(blob file) {
     }
     test_verdicts(file);
     test_part(file);
+    test_budget(file);
     test_memory(file);
     test_places(file);
 }

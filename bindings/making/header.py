@@ -90,7 +90,7 @@ def header_text(interface: Interface) -> str:
         f"#define MDMP_VERSION 0x{interface.version_number:06x}",
         *[enum_text(enum) for enum in interface.enums.values()],
         *[structure_text(structure) for structure in interface.structures.values()],
-        f"/* The limits of the command. */\n#define MDMP_LIMITS_DEFAULT {limits}",
+        f"/* The window and the longest name of the command, and no budget. */\n#define MDMP_LIMITS_DEFAULT {limits}",
         *[f"{comment(call.doc)}\n{declaration(call, call.name, ';')}" for call in plain],
         "/* What the library exports. These take no NULL, not even beside a length of 0: call those below. */\n"
         + "\n".join(declaration(call, call.symbol, ";") for call in others),

@@ -13,8 +13,8 @@
 0x7fcaa7956000 ld-linux-x86-64.so.2
 
 `open` maps a file, and `Dump` takes its bytes. A file that is at fault raises `Fault`, whose `partial` holds what stood
-before the fault; wrong limits or types raise ValueError, and want of memory MemoryError. `python -m mdmp FILE` prints
-what `mdmp list FILE` does.
+before the fault, and so does a listing that would pass its budget; wrong limits or types raise ValueError, and want of
+memory MemoryError. `python -m mdmp FILE` prints what `mdmp list FILE` does.
 """
 
 from ._buffer import Bytes

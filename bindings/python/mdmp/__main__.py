@@ -1,7 +1,7 @@
 """Prints what `mdmp list FILE` prints, or `mdmp check FILE`: python -m mdmp FILE [--pdb | --check]
 
 The exit status is the command's: 0 good, 1 the file is at fault, 2 the words of the command line are, 3 no memory, no
-room for the output, or a file that can't be opened.
+room for the output, a budget that is reached, or a file that can't be opened.
 """
 
 from __future__ import annotations
@@ -14,7 +14,8 @@ import mdmp
 
 
 def run(arguments: argparse.Namespace) -> None:
-    with mdmp.open(arguments.file, window=arguments.window, name=arguments.name) as dump:
+    limits = {"window": arguments.window, "name": arguments.name, "budget": arguments.budget}
+    with mdmp.open(arguments.file, **limits) as dump:
         if arguments.check:
             try:
                 sys.stdout.write(dump.check())
@@ -34,7 +35,7 @@ def status_of(arguments: argparse.Namespace) -> int:
             sys.stdout.flush()
         return 0
     except mdmp.Fault as fault:
-        told, status = str(fault), 1
+        told, status = str(fault), 3 if fault.kind == mdmp.FaultKind.BUDGET else 1
     except ValueError as error:
         told, status = str(error), 2
     except MemoryError:
@@ -57,6 +58,7 @@ def main() -> int:
     which.add_argument("--pdb", action="store_true", help="tell the symbol file of each module too")
     words.add_argument("--window", type=int, default=65536, help="by how many bytes the file is read")
     words.add_argument("--name", type=int, default=4096, help="the longest name that is read, in bytes")
+    words.add_argument("--budget", type=int, help="the most bytes of the file that are fetched for its listing")
     return status_of(words.parse_args())
 
 

@@ -37,11 +37,20 @@ _T = TypeVar("_T")
 _PART = 16 << 20
 
 
-# A number for a u32 of the library. ctypes would drop what is above its 32 bits.
-def _u32(name: str, number: int) -> int:
-    if not 0 <= number < 1 << 32:
-        raise ValueError(f"{name} is not between 0 and 4294967295")
+# A number for a u32 or a u64 of the library. ctypes would drop what is above its bits.
+def _number(name: str, number: int, bits: int) -> int:
+    if not 0 <= number < 1 << bits:
+        raise ValueError(f"{name} is not between 0 and {(1 << bits) - 1}")
     return number
+
+
+def _u32(name: str, number: int) -> int:
+    return _number(name, number, 32)
+
+
+# To the library 0 is no budget. The first fetch has 32 bytes, so that a budget of 1 has room for none, as one of 0.
+def _budget(budget: int | None) -> int:
+    return 0 if budget is None else max(_number("budget", budget, 64), 1)
 
 
 # Guesses of how many items a file of some size has: powers of two, so that there are few types of arrays.
@@ -72,7 +81,11 @@ class Dump:
     not change meanwhile.
 
     `window` and `name` are the limits of the command: by how many bytes the file's records are read, and the longest
-    name. What a dump gives are values of their own, which outlive it. Any number of threads may use one dump.
+    name. `budget` is the most bytes of the file that are fetched for one listing, where there is a most: a listing that
+    would fetch more raises Fault of the kind `FaultKind.BUDGET`. Each table, each text and the memory's ranges are a
+    listing of their own, which is made again where its first guess of a size was too small; CodeView records and the
+    bytes of memory do not count, and `copy` has no budget.
+    What a dump gives are values of their own, which outlive it. Any number of threads may use one dump.
 
     >>> import mdmp
     >>> with mdmp.open("llvm-all-kinds.dmp") as dump:
@@ -83,10 +96,10 @@ class Dump:
     0x190000000 
     """
 
-    def __init__(self, data: Bytes, *, window: int = 65536, name: int = 4096) -> None:
+    def __init__(self, data: Bytes, *, window: int = 65536, name: int = 4096, budget: int | None = None) -> None:
         self._data: Bytes | None = data
         self._mapping: mmap.mmap | None = None
-        self._limits = _structures.Limits(_u32("window", window), _u32("name", name), 0)
+        self._limits = _structures.Limits(_u32("window", window), _u32("name", name), _budget(budget))
         self._kept: dict[str, Any] = {}
 
     def close(self) -> None:
@@ -219,10 +232,11 @@ class Dump:
 
         def make() -> tuple[Fault | None, ...]:
             filled = self._fill(library.mdmp_verdicts_, _structures.Fault, _some_records, byref(self._limits))
+            rows = [filled.items[at] for at in range(filled.given)]
+            given = tuple([fault_of(raw) if raw.kind else None for raw in rows])
             if filled.fault.kind != FaultKind.BAD_ENTRIES:
-                expect_good(filled.status, filled.fault)
-            given = [filled.items[at] for at in range(filled.given)]
-            return tuple([fault_of(raw) if raw.kind else None for raw in given])
+                expect_good(filled.status, filled.fault, given)
+            return given
 
         return self._keep("verdicts", make)
 
@@ -366,8 +380,10 @@ class Dump:
         return filled.bytes()
 
 
-def open(path: str | os.PathLike[str], *, window: int = 65536, name: int = 4096) -> Dump:
-    """A dump over a file, which is mapped: for reading alone, and without a copy.
+def open(
+    path: str | os.PathLike[str], *, window: int = 65536, name: int = 4096, budget: int | None = None
+) -> Dump:
+    """A dump over a file, which is mapped: for reading alone, and without a copy. The limits are those of `Dump`.
 
     >>> import mdmp
     >>> with mdmp.open("crashpad-one.dmp") as dump:
@@ -376,8 +392,8 @@ def open(path: str | os.PathLike[str], *, window: int = 65536, name: int = 4096)
     """
     with io.open(path, "rb") as stream:
         if os.fstat(stream.fileno()).st_size == 0:
-            return Dump(b"", window=window, name=name)  # nothing can be mapped
+            return Dump(b"", window=window, name=name, budget=budget)  # nothing can be mapped
         mapping = mmap.mmap(stream.fileno(), 0, access=mmap.ACCESS_READ)
-    dump = Dump(mapping, window=window, name=name)
+    dump = Dump(mapping, window=window, name=name, budget=budget)
     dump._mapping = mapping
     return dump

@@ -10,7 +10,8 @@ from ._records import FaultKind, Part, Status
 
 
 class Fault(Exception):
-    """What is wrong with a file, in the command's words, and as numbers.
+    """What is wrong with a file, in the command's words, and as numbers; or, where `kind` is `FaultKind.BUDGET`, which
+    bytes were not fetched since they would have passed the budget.
 
     >>> import mdmp
     >>> try:
@@ -69,7 +70,7 @@ def expect_good(status: int, raw: _structures.Fault, partial: Any = None) -> Non
     """Raises what a status tells, unless it is good."""
     if status == Status.OK:
         return
-    if status == Status.NO_MEMORY:
+    if status == Status.NO_MEMORY and raw.kind != FaultKind.BUDGET:
         raise MemoryError(fault_text(raw))
     if status == Status.BAD_ARGUMENT:
         raise ValueError(fault_text(raw))

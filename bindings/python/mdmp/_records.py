@@ -35,7 +35,7 @@ class Status(Numbers):
     OK                good
     FAULT             the file is at fault
     BAD_ARGUMENT      an argument is: limits, types of streams, lengths
-    NO_MEMORY         memory was wanting: malloc or realloc answered NULL
+    NO_MEMORY         memory was wanting, or the budget was reached: the kind of the fault says which
     BUFFER_TOO_SHORT  the buffer was too short
     """
 
@@ -70,10 +70,11 @@ class FaultKind(Numbers):
     BAD_ENTRIES          size: how many entries of the directory have a fault
     NOT_COPIED           size: a type of stream that is not copied
     NO_MEMORY            memory was wanting: malloc or realloc answered NULL
-    BAD_LIMITS           a limit is out of its bounds, or the budget is not 0
+    BAD_LIMITS           a limit is out of its bounds
     BAD_TYPES            the types to be copied are none, or over 16
     STORE                no call over a file in memory answers this
     LENGTHS_DIFFER       two buffers that must have one length differ
+    BUDGET               offset, size: not fetched, as it would pass the budget
     """
 
     NONE = 0
@@ -101,6 +102,7 @@ class FaultKind(Numbers):
     BAD_TYPES = 68
     STORE = 69
     LENGTHS_DIFFER = 70
+    BUDGET = 71
 
 
 class Part(Numbers):

@@ -10,6 +10,7 @@ import mmap
 import os
 import pathlib
 import pickle
+import struct
 import subprocess
 import sys
 import tempfile
@@ -23,6 +24,12 @@ from mdmp import _buffer, _fault, _structures
 FOLDER = pathlib.Path(os.environ["MDMP_STORED"])
 KINDS = FOLDER / "llvm-all-kinds.dmp"
 CRASHPAD = FOLDER / "crashpad-one.dmp"
+# A system, whose name is that of its service pack: 136 bytes, of which a listing fetches 132.
+SYSTEM = (
+    b"MDMP\x93\xa7\0\0" + struct.pack("<6I", 1, 32, 0, 0, 0, 0) + struct.pack("<3I", 7, 56, 44)
+    + struct.pack("<3H2B5I2H24x", 9, 6, 3, 4, 1, 6, 1, 7601, 2, 100, 256, 0)
+    + struct.pack("<I", 28) + "Service Pack 1".encode("utf-16le") + bytes(4)
+)
 
 
 class Layout(unittest.TestCase):
@@ -111,8 +118,34 @@ class Faults(unittest.TestCase):
             mdmp.Dump(b"", window=65536 + (1 << 32))
         with self.assertRaisesRegex(ValueError, "name is not between"):
             mdmp.Dump(b"", name=-1)
+        with self.assertRaisesRegex(ValueError, "budget is not between"):
+            mdmp.Dump(b"", budget=1 << 64)
         with self.assertRaisesRegex(FileNotFoundError, "none.dmp"):
             mdmp.open("none.dmp")
+
+    def test_budget(self) -> None:
+        self.assertEqual(len(SYSTEM), 136)
+        whole = mdmp.Dump(SYSTEM).list()
+        with self.assertRaises(mdmp.Fault) as raised:
+            mdmp.Dump(SYSTEM, budget=43).list()  # before the directory is read
+        fault = raised.exception
+        self.assertEqual((fault.kind, fault.offset, fault.size), (mdmp.FaultKind.BUDGET, 32, 12))
+        self.assertEqual((fault.entry, fault.partial), (None, ""))
+        self.assertEqual(str(fault), "fetch budget reached: offset 32 size 12")
+        with self.assertRaises(mdmp.Fault) as raised:
+            mdmp.Dump(SYSTEM, budget=131).list()  # before the name is read
+        fault = raised.exception
+        self.assertEqual((fault.kind, fault.offset, fault.size), (mdmp.FaultKind.BUDGET, 104, 28))
+        self.assertEqual(fault.partial, "".join(whole.splitlines(keepends=True)[:2]))
+        with self.assertRaises(mdmp.Fault) as raised:
+            mdmp.Dump(SYSTEM, budget=0).systems
+        fault = raised.exception
+        self.assertEqual((fault.kind, fault.offset, fault.size, fault.partial), (mdmp.FaultKind.BUDGET, 0, 32, ()))
+        within = mdmp.Dump(SYSTEM, budget=132)
+        self.assertEqual((within.list(), within.verdicts), (whole, (None,)))
+        self.assertEqual(within.systems[0].csd_version, "Service Pack 1")
+        self.assertEqual(mdmp.Dump(SYSTEM, budget=(1 << 64) - 1).list(), whole)
+        self.assertEqual(mdmp.Dump(SYSTEM, budget=0).copy(7), SYSTEM)
 
     def test_long_name(self) -> None:
         with mdmp.open(KINDS, name=3) as dump:
@@ -221,6 +254,8 @@ class Command(unittest.TestCase):
         self.assertEqual(self.run_command("none.dmp"), (3, "", "mdmp: cannot open none.dmp\n"))
         self.assertEqual(self.run_command("--window", "167", str(CRASHPAD)), (2, "", "mdmp: bad limits\n"))
         self.assertEqual(self.run_command("--no-such-word")[0], 2)
+        reached = "mdmp: fetch budget reached: offset 0 size 32\n"
+        self.assertEqual(self.run_command("--budget", "31", str(CRASHPAD)), (3, "", reached))
         with tempfile.NamedTemporaryFile() as cut:
             cut.write(KINDS.read_bytes()[:1334])
             cut.flush()

@@ -145,6 +145,16 @@ impl<'a> Dump<'a> {
         self
     }
 
+    /// The same with a budget: the most bytes of the file that are fetched for one listing. A call that would fetch
+    /// more is an [`Error::Budget`]. Each call is a listing of its own, which is made again where its first
+    /// guess of a size was too small; CodeView records and the bytes of memory do not count, and [`Dump::copy`] has no
+    /// budget.
+    pub fn with_budget(mut self, bytes: u64) -> Self {
+        // To the library 0 is no budget. The first fetch has 32 bytes, so that a budget of 1 has room for none.
+        self.limits.budget = bytes.max(1);
+        self
+    }
+
     /// How many records of a kind the file may well have: they are seldom shorter than 24 bytes.
     fn room(&self) -> usize {
         (self.file.len() / 24).clamp(16, 8192)
@@ -171,8 +181,9 @@ impl<'a> Dump<'a> {
         .map_err(Error::without_partial)
     }
 
-    /// Whether each entry of the directory is good. An error only where the file can't be opened.
-    pub fn verdicts(&self) -> Result<Vec<Verdict>, Error> {
+    /// Whether each entry of the directory is good. An error only where the file can't be opened, or the budget was
+    /// reached.
+    pub fn verdicts(&self) -> Result<Vec<Verdict>, Error<Vec<Verdict>>> {
         let filled = fill(self.room(), |out, count, fault| {
             ffi::mdmp_verdicts(self.file, &self.limits, out, count, fault)
         });
@@ -183,7 +194,7 @@ impl<'a> Dump<'a> {
         };
         match filled.ended(|rows| rows.into_iter().map(verdict).collect()) {
             Err(Error::Fault(_, verdicts)) if has_all => Ok(verdicts),
-            other => other.map_err(Error::without_partial),
+            other => other,
         }
     }
 

@@ -2,7 +2,7 @@
 
 use crate::fault::Fault;
 use crate::ffi;
-use crate::records::Status;
+use crate::records::{FaultKind, Status};
 use std::fmt;
 
 /// Why a call gave nothing, or not all. `T` is what stood before the fault.
@@ -10,6 +10,9 @@ use std::fmt;
 pub enum Error<T = ()> {
     /// The file is at fault; what stood before the fault was given.
     Fault(Fault, T),
+    /// A fetch that would have passed the budget was not made: the fault has its offset and size. What stood before it
+    /// was given.
+    Budget(Fault, T),
     /// An argument is: limits, or types of streams.
     BadArgument(Fault),
     /// There was no memory.
@@ -20,7 +23,9 @@ impl<T> Error<T> {
     /// The fault, where there is one.
     pub fn fault(&self) -> Option<&Fault> {
         match self {
-            Error::Fault(fault, _) | Error::BadArgument(fault) => Some(fault),
+            Error::Fault(fault, _) | Error::Budget(fault, _) | Error::BadArgument(fault) => {
+                Some(fault)
+            }
             Error::NoMemory => None,
         }
     }
@@ -28,7 +33,7 @@ impl<T> Error<T> {
     /// What stood before the fault.
     pub fn into_partial(self) -> Option<T> {
         match self {
-            Error::Fault(_, partial) => Some(partial),
+            Error::Fault(_, partial) | Error::Budget(_, partial) => Some(partial),
             _ => None,
         }
     }
@@ -37,6 +42,7 @@ impl<T> Error<T> {
     pub fn without_partial(self) -> Error {
         match self {
             Error::Fault(fault, _) => Error::Fault(fault, ()),
+            Error::Budget(fault, _) => Error::Budget(fault, ()),
             Error::BadArgument(fault) => Error::BadArgument(fault),
             Error::NoMemory => Error::NoMemory,
         }
@@ -57,6 +63,7 @@ impl<T> fmt::Debug for Error<T> {
     fn fmt(&self, f: &mut fmt::Formatter<'_>) -> fmt::Result {
         match self {
             Error::Fault(fault, _) => write!(f, "Fault({fault:?}, ..)"),
+            Error::Budget(fault, _) => write!(f, "Budget({fault:?}, ..)"),
             Error::BadArgument(fault) => f.debug_tuple("BadArgument").field(fault).finish(),
             Error::NoMemory => f.write_str("NoMemory"),
         }
@@ -70,6 +77,9 @@ pub(crate) fn ended<T>(status: u32, fault: ffi::Fault, given: T) -> Result<T, Er
     match Status::from(status) {
         Status::Ok => Ok(given),
         Status::BadArgument => Err(Error::BadArgument(Fault(fault))),
+        Status::NoMemory if FaultKind::from(fault.kind) == FaultKind::Budget => {
+            Err(Error::Budget(Fault(fault), given))
+        }
         Status::NoMemory => Err(Error::NoMemory),
         _ => Err(Error::Fault(Fault(fault), given)),
     }

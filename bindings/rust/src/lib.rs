@@ -1,7 +1,8 @@
 //! Windows minidump files, read by a proved library.
 //!
 //! A [`Dump`] stands over the bytes of a file, which are read or mapped by whoever has them. What it gives are values of
-//! their own. A file that is at fault is an [`Error::Fault`], which holds what stood before the fault.
+//! their own. A file that is at fault is an [`Error::Fault`], which holds what stood before the fault, and a listing
+//! that would pass its budget an [`Error::Budget`].
 //!
 //! ```
 //! # fn main() -> Result<(), Box<dyn std::error::Error>> {

@@ -12,7 +12,7 @@ pub enum Status {
     Fault,
     /// An argument is: limits, types of streams, lengths.
     BadArgument,
-    /// Memory was wanting: malloc or realloc answered NULL.
+    /// Memory was wanting, or the budget was reached: the kind of the fault says which.
     NoMemory,
     /// The buffer was too short.
     BufferTooShort,
@@ -79,7 +79,7 @@ pub enum FaultKind {
     NotCopied,
     /// Memory was wanting: malloc or realloc answered NULL.
     NoMemory,
-    /// A limit is out of its bounds, or the budget is not 0.
+    /// A limit is out of its bounds.
     BadLimits,
     /// The types to be copied are none, or over 16.
     BadTypes,
@@ -87,6 +87,8 @@ pub enum FaultKind {
     Store,
     /// Two buffers that must have one length differ.
     LengthsDiffer,
+    /// Offset, size: not fetched, as it would pass the budget.
+    Budget,
     /// A number that this crate has no name for.
     Unknown(u32),
 }
@@ -119,6 +121,7 @@ impl From<u32> for FaultKind {
             68 => FaultKind::BadTypes,
             69 => FaultKind::Store,
             70 => FaultKind::LengthsDiffer,
+            71 => FaultKind::Budget,
             other => FaultKind::Unknown(other),
         }
     }
