@@ -127,7 +127,7 @@ module _ {T : Type 0} (row : Item → Option T) (F : List ℕ) (choice : Choice)
           rest = filter_map row cut.rest;
           begins = record {
             told_is = rw opened refl;
-            rows_are = rw opened (sym (ap (filter_map row) cut.items ∙ filter_map-append row given cut.rest));
+            rows_are = rw opened (sym (ap (filter_map row) cut.first ∙ filter_map-append row given cut.rest));
           };
         }
         (rows_given given status count (list_told fault) told before after h ends tells)

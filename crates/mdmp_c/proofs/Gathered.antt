@@ -119,5 +119,5 @@ module _ {T : Type 0} (row : Item → Option T) where
     by (inr of_file) = Collects-end budget run left count (Some fault) before now h (gives of_file)
     by (inl is) =
         collects_some h.given
-        record { can_stop = can is; rest = left.items; items = h.items; told = fault; told_is = refl; kind = is }
+        record { can_stop = can is; rest = left.items; first = h.items; told = fault; told_is = refl; kind = is }
         record { count_is = h.count_is; out = h.out }

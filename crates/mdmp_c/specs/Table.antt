@@ -26,11 +26,11 @@ pub record PutsRows {T : Type 0} (row : Item → Option T) (items : List Item) (
   pub count_is : count ≡ told_count (length (filter_map row items))
   pub out : after ≡ put_front (filter_map row items) before
 
--- the first items of a run were read, and then the budget was reached
-pub record IsCutShort (budget : Option ℕ) (run : Run) (given : List Item) (fault : Option ListFault) : Type 0 where
+-- the first of all that there are were given, and then the budget was reached
+pub record IsCutShort {T : Type 0} (budget : Option ℕ) (all given : List T) (fault : Option ListFault) : Type 0 where
   pub can_stop : budget ≡ None → ⊥
-  pub rest : List Item
-  pub items : run.items ≡ given ++ rest
+  pub rest : List T
+  pub first : all ≡ given ++ rest
   pub told : ListFault
   pub told_is : fault ≡ Some told
   pub kind : told.kind ≡ kinds.Budget
@@ -38,4 +38,4 @@ pub record IsCutShort (budget : Option ℕ) (run : Run) (given : List Item) (fau
 -- the rows of a run were put there up to its fault or none, or those of its first items up to where the budget was reached
 pub data Collects {T : Type 0} (row : Item → Option T) (budget : Option ℕ) (run : Run) (count : ℕ) (fault : Option ListFault) (before after : List T) : Type 0 where
   collects_all : fault ≡ run.fault → PutsRows row run.items count before after → Collects row budget run count fault before after
-  collects_some : (given : List Item) → IsCutShort budget run given fault → PutsRows row given count before after → Collects row budget run count fault before after
+  collects_some : (given : List Item) → IsCutShort budget run.items given fault → PutsRows row given count before after → Collects row budget run count fault before after

@@ -2,7 +2,6 @@
 use Rattle.std.specs.Prelude.{◌≡◌, ◌+◌, ◌-◌, ◌^◌, ◌++◌, ◌∷◌, [], ℕ, List, length, map, min, Option, Some, None, Result, Ok}
 use Rattle.mdmp_lister.specs.declared.choice.Choice.{Choice}
 use Rattle.mdmp_lister.specs.declared.choice.Choice.TheVariants.{All}
-use Rattle.mdmp_lister.specs.declared.fault.FaultKind.TheVariants as kinds
 use Rattle.mdmp_lister.specs.declared.fault.ListFault.{ListFault}
 use Rattle.mdmp_lister.specs.declared.sink.Stopped.{Stopped}
 use Rattle.mdmp_lister.specs.declared.verdict.Verdict.{Verdict}
@@ -13,7 +12,7 @@ use Rattle.mdmp_c.specs.declared.fault.PlainFault.{PlainFault}
 use Rattle.mdmp_c.specs.declared.verdict_rows.Judged.{Judged}
 use Rattle.mdmp_c.specs.Fault.{plain_list_fault, no_fault, told_unless}
 use Rattle.mdmp_c.specs.Giving.{put_front, told_count}
-use Rattle.mdmp_c.specs.Table.{rows_unless}
+use Rattle.mdmp_c.specs.Table.{IsCutShort, rows_unless}
 use Rattle.mdmp_c.specs.ToolFault.{bad_entries}
 
 -- the first fault of an entry, or none and the entry's number
@@ -47,17 +46,8 @@ pub record PutsVerdicts (vs : List Verdict) (judged : Judged) (before after : Li
   pub bad_is : judged.bad ≡ told_count (bad_count vs)
   pub out : after ≡ put_front (map verdict_row vs) before
 
--- the first of all verdicts were given, and then the budget was reached
-pub record IsCheckedUpTo (budget : Option ℕ) (all vs : List Verdict) (fault : Option ListFault) : Type 0 where
-  pub can_stop : budget ≡ None → ⊥
-  pub rest : List Verdict
-  pub first : all ≡ vs ++ rest
-  pub told : ListFault
-  pub told_is : fault ≡ Some told
-  pub kind : told.kind ≡ kinds.Budget
-
 -- the verdicts on the chosen entries of F were put there, or the first of them, up to where the budget was reached
 pub data Judges (F : List ℕ) (choice : Choice) (limit : ℕ) (budget : Option ℕ) (judged : Judged) (before after : List PlainFault) : Type 0 where
   judges_all : judged.fault ≡ None → PutsVerdicts (verdicts F choice limit) judged before after → Judges F choice limit budget judged before after
-  judges_some : (vs : List Verdict) → IsCheckedUpTo budget (verdicts F choice limit) vs judged.fault → PutsVerdicts vs judged before after
+  judges_some : (vs : List Verdict) → IsCutShort budget (verdicts F choice limit) vs judged.fault → PutsVerdicts vs judged before after
       → Judges F choice limit budget judged before after

@@ -1,5 +1,5 @@
 //! Memory of the dumped process, read of a file in memory by ranges that a caller kept.
-ghost use Rattle.std.specs.Prelude.{◌≡◌, ◌≤◌, ◌<◌, ◌+◌, ℕ, None, Some, IfSome, is_some, length, replicate};
+ghost use Rattle.std.specs.Prelude.{◌≡◌, ◌≤◌, ◌<◌, ◌+◌, None, Some, IfSome, is_some, length, replicate};
 ghost use Rattle.mdmp_c.specs.Memory.{kept_range, kept_ranges};
 ghost use Rattle.mdmp_lister.specs.Addressing.{IsStretch, ReadsCells};
 ghost use Rattle.mdmp_map.specs.Finding.{IsFound};

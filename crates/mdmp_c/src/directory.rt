@@ -1,5 +1,4 @@
 //! The header of a file, and its directory.
-ghost use Rattle.std.specs.Prelude.{◌≡◌};
 ghost use Rattle.mdmp_c.specs.Directory.{GivesHeader, stream_rows};
 ghost use Rattle.mdmp_c.specs.Fault.{no_fault, told_unless};
 ghost use Rattle.mdmp_c.specs.Giving.{GivesList};

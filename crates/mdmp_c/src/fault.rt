@@ -1,6 +1,6 @@
 //! Faults as plain numbers, for callers in other languages.
 ghost use Rattle.std.specs.Prelude.{◌≡◌};
-ghost use Rattle.mdmp_c.specs.Fault.{budget_fault, kind_number, plain_list_fault, no_fault, of_kind, open_fault, status_of};
+ghost use Rattle.mdmp_c.specs.Fault.{budget_fault, kind_number, plain_list_fault, of_kind, open_fault, status_of};
 
 use mdmp_lister::{FaultKind, ListFault, OpenFault};
 use std::mem::size_of;

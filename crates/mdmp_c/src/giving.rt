@@ -1,7 +1,7 @@
 //! What a call gives, put into the caller's memory.
 ghost use Rattle.std.specs.Prelude.{◌≡◌};
-ghost use Rattle.mdmp_c.specs.Fault.{no_memory, status_of};
-ghost use Rattle.mdmp_c.specs.Giving.{Fails, GivesList, GivesOrWants, put_front};
+ghost use Rattle.mdmp_c.specs.Fault.{status_of};
+ghost use Rattle.mdmp_c.specs.Giving.{GivesList, GivesOrWants, put_front};
 
 use crate::fault::{PlainFault, of_kind, status_of};
 

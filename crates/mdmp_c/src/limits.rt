@@ -1,6 +1,5 @@
 //! Limits as plain numbers.
-ghost use Rattle.std.specs.Prelude.{◌≡◌, ◌↔◌, IsSome};
-ghost use Rattle.mdmp_c.specs.Limits.{AreLimits, IsLimits};
+ghost use Rattle.mdmp_c.specs.Limits.{IsLimits};
 
 use mdmp_lister::Limits;
 use std::mem::size_of;

@@ -1,5 +1,5 @@
 //! Calls that give an array of records.
-ghost use Rattle.std.specs.Prelude.{◌≡◌, ◌∷◌, []};
+ghost use Rattle.std.specs.Prelude.{◌∷◌, []};
 ghost use Rattle.mdmp_c.specs.Giving.{Ends, bad_limits};
 ghost use Rattle.mdmp_c.specs.Limits.{AreLimits, HasBudget};
 ghost use Rattle.mdmp_c.specs.Rows.{exception_row, module_row, range_row, region_row, system_row, thread_name_row, thread_row, unloaded_row};

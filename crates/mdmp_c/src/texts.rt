@@ -1,5 +1,4 @@
 //! Calls that give a text, or the bytes of a new file.
-ghost use Rattle.std.specs.Prelude.{◌≡◌};
 ghost use Rattle.mdmp_c.specs.Giving.{Ends, bad_limits};
 ghost use Rattle.mdmp_c.specs.Limits.{AreLimits, HasBudget};
 ghost use Rattle.mdmp_c.specs.Texts.{IsCheck, IsList};

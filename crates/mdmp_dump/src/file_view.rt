@@ -1,5 +1,5 @@
 //! A dump in a file, given a record at a time.
-ghost use Rattle.std.specs.Prelude.{◌≡◌, ◌≤◌, ◌<◌, ◌+◌, ◌*◌, ℕ, List, length, None, Some, Err, IfErr, IfOk, IsTrue, OnOk, MatchResult, vec_len};
+ghost use Rattle.std.specs.Prelude.{◌≡◌, ◌≤◌, ◌<◌, ◌+◌, ◌*◌, ℕ, List, None, Some, Err, IfErr, IfOk, IsTrue, MatchResult};
 ghost use Rattle.mdmp_source.specs.Store.{IsGood};
 ghost use Rattle.mdmp_dump.specs.FileView.{HasMoved, IsView, file_cursor, file_shape};
 ghost use Rattle.mdmp_dump.specs.Reading.{Fetches, IsOwn, TellsOf, store_fault};

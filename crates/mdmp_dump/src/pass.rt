@@ -1,9 +1,8 @@
 //! A pass over the records of a stream of a file, and what it costs.
-ghost use Rattle.std.specs.Prelude.{◌≡◌, ◌≤◌, ◌<◌, ◌+◌, ◌^◌, ℕ, List, length, Some, Err, IfErr, IfOk, Ok};
+ghost use Rattle.std.specs.Prelude.{◌≡◌, ◌≤◌, ◌<◌, ◌+◌, ◌^◌, ℕ, List, length, Some, Err, IfOk, Ok};
 ghost use Rattle.mdmp_lister.specs.Format.Shape.{record_count};
 ghost use Rattle.mdmp_dump.specs.EntryWalk.{Pays, chosen_entry, kind_by, listed, name_cost, pass_cost, raw_part};
 ghost use Rattle.mdmp_dump.specs.FileView.{IsPass, IsPassOf, TellsViewFault, first_pass, pass_cursor, told_as};
-ghost use Rattle.mdmp_dump.specs.FoundRecord.{no_part};
 ghost use Rattle.mdmp_dump.specs.Reading.{store_fault};
 ghost use Rattle.mdmp_dump.specs.Placed.{far_room, fields_room};
 ghost use Rattle.mdmp_dump.specs.Shape.{GivesRecord, body_by, told};

@@ -1,5 +1,5 @@
 //! The walk over all streams of a file, as a view of it is opened.
-ghost use Rattle.std.specs.Prelude.{◌≡◌, ◌≤◌, ◌<◌, ◌*◌, ℕ, List, length, None, Some, Err, IfErr, IfOk, MatchResult, vec_len};
+ghost use Rattle.std.specs.Prelude.{◌≡◌, ◌≤◌, ◌<◌, ◌*◌, ℕ, List, length, None, Some, Err, IfErr, IfOk, MatchResult};
 ghost use Rattle.mdmp_dump.specs.EntryWalk.{MayCount, Pays, chosen_entry, listed, name_cost};
 ghost use Rattle.mdmp_dump.specs.FileView.{AreBare, AreCounted, AreWalked, HasWalked, PaysAll, PaysSome, PaysUpTo, kind_at};
 ghost use Rattle.mdmp_dump.specs.Shape.{GivesNone};

@@ -4,7 +4,6 @@ ghost use Rattle.mdmp_source.specs.Range.{IsInside, bytes_at};
 ghost use Rattle.mdmp_map.specs.Ranges.{IsWithin};
 ghost use Rattle.mdmp_lister.specs.Addressing.{IsStretch, LooksUpAtMost, ReadsAddresses};
 ghost use Rattle.mdmp_lister.specs.Fetching.{ReadsBeside};
-ghost use Rattle.mdmp_lister.specs.Meter.{BooksAside};
 
 use crate::meter::Meter;
 use mdmp_map::{AddressMap, Found, Steps};

@@ -1,6 +1,6 @@
 //! Reading entries to find their faults: of each the records are read, up to its end or its first
 //! fault, and the ranges of memory among them that lie inside the file are put into a map.
-ghost use Rattle.std.specs.Prelude.{◌≡◌, [], ◌∷◌};
+ghost use Rattle.std.specs.Prelude.{◌≡◌};
 ghost use Rattle.mdmp_lister.specs.Walk.{IsListing};
 ghost use Rattle.mdmp_lister.specs.Walk.Checking.{EntriesChecked, EntryJudged, NextRead, judged_by};
 ghost use Rattle.mdmp_lister.specs.Walk.Mapping.{IsMapped};

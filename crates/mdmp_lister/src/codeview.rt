@@ -1,5 +1,5 @@
 //! What is read of the CodeView record of a module.
-ghost use Rattle.std.specs.Prelude.{◌≡◌, ◌≤◌, ◌+◌, IfOk, length, min, take};
+ghost use Rattle.std.specs.Prelude.{◌≡◌, ◌+◌, IfOk, length, min, take};
 ghost use Rattle.mdmp_source.specs.Range.{IsInside};
 ghost use Rattle.mdmp_wire.specs.CodeView.{codeview_in, codeview_of};
 ghost use Rattle.mdmp_lister.specs.CodeView.{ReadsCodeView, fetched_behind};

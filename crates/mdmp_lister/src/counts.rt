@@ -1,5 +1,5 @@
 //! The numbers that bound a listing.
-ghost use Rattle.std.specs.Prelude.{◌≡◌, ◌≤◌, ◌<◌, ◌+◌, ◌*◌, ◌^◌, ℕ, length};
+ghost use Rattle.std.specs.Prelude.{◌≡◌, ◌≤◌, ◌<◌, ◌+◌, ◌*◌, ◌^◌, length};
 ghost use Rattle.mdmp_lister.specs.Walk.Paying.{cost_of, entry_cost};
 
 use crate::choice::Choice;

@@ -65,7 +65,7 @@ impl Default for Limits {
 
     ghost is_default = { λ limits. (limits.window ≡ 65536) × (limits.name ≡ 4096) × (limits.budget ≡ None) };
 
-    /// The limits of the program: a window of 65536 bytes, names of at most 4096, and no budget.
+    /// A window of 65536 bytes, names of at most 4096, and no budget.
     fn default() -> Self {
         Limits {
             window: 65536,

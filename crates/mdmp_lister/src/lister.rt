@@ -1,5 +1,5 @@
 //! The lister.
-ghost use Rattle.std.specs.Prelude.{◌≡◌, ◌≤◌, ◌<◌, ◌+◌, ◌*◌, ◌++◌, ◌⊎◌, ◌-◌, ◌^◌, ◌∷◌, ℕ, List, [], None, Some, All, IfOk, IfErr, IsOk, IsTrue, OnOk, length, false, MatchResult};
+ghost use Rattle.std.specs.Prelude.{◌≡◌, ◌≤◌, ◌<◌, ◌+◌, ◌*◌, ◌++◌, ◌⊎◌, ◌-◌, ℕ, List, None, Some, All, IfOk, IfErr, IsOk, IsTrue, OnOk, length, false, MatchResult};
 ghost use Rattle.std.specs.Borrow.{sem};
 ghost use Rattle.std.specs.Io.BufRead.{Rests};
 ghost use Rattle.mdmp_source.specs.Range.{IsInside, bytes_at};

@@ -2,12 +2,11 @@
 ghost use Rattle.std.specs.Prelude.{◌≡◌, ◌≤◌, ◌+◌, Err, OnErr, OnOk, length, min};
 ghost use Rattle.mdmp_source.specs.Count.{raised};
 ghost use Rattle.mdmp_source.specs.Range.{IsInside, bytes_at};
-ghost use Rattle.mdmp_source.specs.Source.{fault_of};
 ghost use Rattle.mdmp_source.specs.Store.{IsOfBytes, IsSizeOf};
 ghost use Rattle.mdmp_source.specs.Window.{IsFilled, next_len_of};
 ghost use Rattle.mdmp_lister.specs.Fault.{IsCaused};
 ghost use Rattle.mdmp_lister.specs.Fetching.{Reads, ReadsBeside};
-ghost use Rattle.mdmp_lister.specs.Meter.{Books, BooksAside, CountsFetch, IsBooked, IsMetered, IsSourceOf, MeterState, RefusesFetch, counts_of, is_passed, store_fault_of};
+ghost use Rattle.mdmp_lister.specs.Meter.{Books, CountsFetch, IsBooked, IsMetered, IsSourceOf, MeterState, RefusesFetch, counts_of, is_passed, store_fault_of};
 ghost use Rattle.mdmp_lister.specs.declared.fault.FetchFault.{FetchFault};
 
 use crate::fault::FetchFault;

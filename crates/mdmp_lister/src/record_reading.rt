@@ -1,13 +1,12 @@
 //! A record of any kind and its name, read through a source.
-ghost use Rattle.std.specs.Prelude.{◌≡◌, ◌≤◌, ◌<◌, ◌+◌, ◌^◌, ℕ, List, Some, false, length, min, take, IfOk, MatchResult, OnOk};
-ghost use Rattle.mdmp_source.specs.Range.{bytes_at};
+ghost use Rattle.std.specs.Prelude.{◌≡◌, ◌<◌, ◌^◌, ℕ, List, Some, false, length, min, IfOk, MatchResult};
 ghost use Rattle.mdmp_lister.specs.Fetching.{Reads, ReadsRecord, TellsRecord};
 ghost use Rattle.mdmp_lister.specs.Following.{IsRecordFault, IsSomeRecord};
 ghost use Rattle.mdmp_lister.specs.Format.Item.{item_at, kind_told, range_offset, record_at};
 ghost use Rattle.mdmp_lister.specs.Holding.{ComesTo, IsAhead, Slides, needed};
 ghost use Rattle.mdmp_lister.specs.Meter.{Books};
 ghost use Rattle.mdmp_lister.specs.Fault.{Answers};
-ghost use Rattle.mdmp_lister.specs.Format.Kind.{greatest_record, has_names, record_size};
+ghost use Rattle.mdmp_lister.specs.Format.Kind.{has_names, record_size};
 ghost use Rattle.mdmp_lister.specs.Step.{step_item};
 
 use crate::fault::{Fault, FetchFault};

@@ -1,10 +1,9 @@
 //! The walk over the entries of a file, without its public face.
-ghost use Rattle.std.specs.Prelude.{◌≡◌, ◌+◌, ◌*◌, ◌^◌, ◌≤◌, ◌<◌, ◌-◌, ℕ, List, Some, IfOk, IfErr, MatchOption, MatchResult, OnOk, length, take, vec_len};
+ghost use Rattle.std.specs.Prelude.{◌≡◌, ◌+◌, ◌*◌, ◌^◌, ◌≤◌, ◌<◌, ◌-◌, Some, IfOk, IfErr, MatchOption, MatchResult, length, take, vec_len};
 ghost use Rattle.mdmp_source.specs.Range.{IsInside, bytes_at};
-ghost use Rattle.mdmp_source.specs.Store.{IsSizeOf};
 ghost use Rattle.mdmp_lister.specs.Fetching.{ReadsBeside};
 ghost use Rattle.mdmp_lister.specs.Format.Kind.{HasNoNames, kind_of};
-ghost use Rattle.mdmp_lister.specs.Meter.{IsBooked, IsMetered, IsSourceOf, KeepsTo, counts_of};
+ghost use Rattle.mdmp_lister.specs.Meter.{IsBooked, IsMetered, KeepsTo, counts_of};
 ghost use Rattle.mdmp_lister.specs.Opening.{IsRefused, KeepsToBudget};
 ghost use Rattle.mdmp_lister.specs.Stage.{IsUnended, StaysUnchanged, fault_stage, records_left_in};
 ghost use Rattle.mdmp_lister.specs.Step.{IsItemOf, IsNameHeld, bytes_behind};

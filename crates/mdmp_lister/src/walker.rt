@@ -1,5 +1,5 @@
 //! The walker.
-ghost use Rattle.std.specs.Prelude.{◌≡◌, ◌≤◌, ◌<◌, ◌+◌, ℕ, List, None, Some, IfOk, IfErr, IsOk, IsTrue, OnOk, length, slice_get, false, MatchResult};
+ghost use Rattle.std.specs.Prelude.{◌≡◌, ◌≤◌, ◌<◌, ◌+◌, ℕ, List, None, Some, IfOk, IfErr, IsTrue, OnOk, length, slice_get, false, MatchResult};
 ghost use Rattle.std.specs.Borrow.{sem};
 ghost use Rattle.std.specs.Io.BufRead.{Rests};
 ghost use Rattle.mdmp_source.specs.Range.{IsInside, bytes_at};

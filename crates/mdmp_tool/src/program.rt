@@ -2,9 +2,7 @@
 ghost use Rattle.std.specs.Prelude.{◌≡◌, IfErr, IfOk, map};
 ghost use Rattle.std.specs.IoError.{error_kind};
 ghost use Rattle.mdmp_source.specs.Output.{OutState};
-ghost use Rattle.mdmp_disk.specs.Disk.{DiskState};
 ghost use Rattle.mdmp_tool.specs.Program.{EndsGiven, EndsSomehow, EndsUnread, words_behind};
-ghost use Rattle.mdmp_tool.specs.Words.{DiskChange, Outputs};
 
 use crate::fault::ToolFault;
 use crate::line::put_error_line;

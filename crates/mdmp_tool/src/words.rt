@@ -4,7 +4,6 @@ ghost use Rattle.std.specs.List.{concat};
 ghost use Rattle.mdmp_source.specs.Output.{OutState};
 ghost use Rattle.mdmp_tool.specs.Commands.{IsLineTold};
 ghost use Rattle.mdmp_words.specs.Requests.{IsPrintable, IsValid, IsCommandWithin};
-ghost use Rattle.mdmp_disk.specs.Disk.{DiskState};
 ghost use Rattle.mdmp_disk.specs.System.{no_requests, system};
 ghost use Rattle.mdmp_disk.specs.declared.disk.Requests.{Requests};
 ghost use Rattle.mdmp_tool.specs.Words.{EndsAsked, EndsCommand, EndsCopy, EndsPrint, EndsWords, Helps, HelpsInPart};

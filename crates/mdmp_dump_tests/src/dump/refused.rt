@@ -1,10 +1,12 @@
 //! Files that give no dump.
 use super::built::{fault_of, fault_of_source};
-use crate::files::{ABSENT_STACK_FILE, CRASH_FILE, DumpReading, LEAST, Sample, file_of};
+use crate::files::{
+    ABSENT_STACK_FILE, CRASH_FILE, DumpReading, LEAST, SYSTEM_FILE, Sample, file_of,
+};
 use crate::same::{assert_same, assert_same_at};
 use mdmp_dump::{PartName, ReadAnswered, ReadFault, read_source};
 use mdmp_lister::{Choice, FaultKind, Limits, ListFault, OpenFault};
-use mdmp_source::{PatchyStore, Source, SourceFault};
+use mdmp_source::{MemoryStore, PatchyStore, Source, SourceFault};
 use mdmp_test_support::{ABSENT_STACK, COMMENT, FAULTY, MEMORY64};
 use std::alloc::Global;
 use std::process::Abort;
@@ -209,4 +211,43 @@ fn assert_comes_back(rt: &impl Abort, alloc: Global, call: u64, place: Option<u6
 fn source_of_a_file_comes_back(rt: HostRuntime) {
     assert_comes_back(&rt, rt.alloc(), 3, Some(108), 4);
     assert_comes_back(&rt, rt.alloc(), 7, None, 7);
+}
+
+/// Asserts why reading the system gives no dump under this budget, or that it gives one, and how many bytes
+/// are fetched.
+fn assert_within(
+    rt: &impl Abort,
+    alloc: Global,
+    budget: u64,
+    fault: Option<ReadFault>,
+    fetched: u128,
+) {
+    let limits = Limits::with_budget(168, 28, budget).expect(rt, "limits");
+    let file = file_of(rt, alloc, SYSTEM_FILE);
+    let source = Source::new(MemoryStore::new(&file));
+    let ReadAnswered { answer, source } = read_source(alloc, source, limits, Choice::All, 0);
+    assert_same_at(
+        rt,
+        &budget,
+        (answer.err(), source.fetched()),
+        (fault, fetched),
+    );
+}
+
+#[test]
+fn budget_that_is_reached_gives_no_dump(rt: HostRuntime) {
+    let directory = ReadFault::Opening(OpenFault::Budget {
+        offset: 32,
+        size: 12,
+    });
+    assert_within(&rt, rt.alloc(), 43, Some(directory), 32);
+    let stream = ReadFault::List(ListFault {
+        entry: 0,
+        index: None,
+        kind: FaultKind::Budget,
+        offset: 44,
+        size: 56,
+    });
+    assert_within(&rt, rt.alloc(), 99, Some(stream), 44);
+    assert_within(&rt, rt.alloc(), 132, None, 132);
 }

@@ -68,8 +68,8 @@ calls_owed size e w stage = 0
 abbrev pub unread_bytes : {S A : Type 0} → Walk S A → ℕ
 unread_bytes w = owed_of w.meter.source.size w.current w.window w.stage
 
--- what was fetched and may still be is allowed, with a name and its length for each of the names reached behind the
--- first `before`, and so are the calls, with 2 for each of them; and those that may still be can be counted
+-- what was asked for and may still be fetched is allowed, with a name and its length for each of the names reached behind
+-- the first `before`, and so are the calls, with 2 for each of them; and those that may still be can be counted
 pub record IsPaid {S A : Type 0} (allowed : Amount) (before : ℕ) (w : Walk S A) : Type 0 where
   pub bytes : w.meter.asked + (unread_bytes w + cost_of w.choice w.meter.source.size (drop w.next w.entries.items))
       + before * (vec_len w.name + 4) ≤ allowed.bytes + w.meter.names * (vec_len w.name + 4)
@@ -78,8 +78,8 @@ pub record IsPaid {S A : Type 0} (allowed : Amount) (before : ℕ) (w : Walk S A
       + before * 2 ≤ allowed.calls + w.meter.names * 2
   pub names : w.meter.names + work_of w < 2 ^ 66
 
--- so many bytes were allowed since so many were fetched and so many names reached: what was fetched since then and may still
--- be of the current entry is within them, with a name and its length for each name, unless their count is at its greatest
+-- so many bytes were allowed since so many were asked for and so many names reached: what was asked for since then and may
+-- still be fetched of the current entry is within them, with a name and its length for each name, unless their count is at its greatest
 abbrev pub IsWithinSince : {S A : Type 0} → (asked names allowed : ℕ) → Walk S A → Type 0
 IsWithinSince asked names allowed w =
     w.meter.names + 1 < 2 ^ 128 → w.meter.asked + unread_bytes w + names * (vec_len w.name + 4) ≤ asked + allowed + w.meter.names * (vec_len w.name + 4)
@@ -94,6 +94,6 @@ allowed_of w =
       calls = 1 + fills_of (12 * s) (w.window.room - 11) + s + calls_of w.window.room w.choice z w.entries.items;
     }
 
--- what was fetched and may still be is within the bound
+-- what was asked for and may still be fetched is within the bound
 abbrev pub IsBounded : {S A : Type 0} → Walk S A → Type 0
 IsBounded w = IsPaid (allowed_of w) 0 w
