@@ -1,6 +1,6 @@
 -- A view of a file behind each of its calls.
 use Rattle.std.proofs.Common.{◌≡◌, ◌∙◌, ◌≤◌, ◌<◌, ◌+◌, ◌-◌, ◌*◌, ◌^◌, ◌⊎◌, inl, inr, ℕ, zero, suc, List, [], ◌∷◌, length, get_or, length-drop, take, drop, Option, Some, None, Result, Ok, Err, ap, arith, refl, subst, sym, sum}
-use Rattle.std.specs.Prelude.{IsTrue}
+use Rattle.std.specs.Prelude.{IsTrue, min}
 use Rattle.std.proofs.lemmas.Bool.{cases_lt}
 use Rattle.std.proofs.lemmas.List.{drop-drop, drop-take, get_or_past, take-take}
 use Rattle.mdmp_source.specs.Range.{bytes_at}
@@ -38,6 +38,13 @@ owed_is w (Some p) = refl
 none_by : {X : Type 0} (o : Option X) → ((x : X) → o ≡ Some x → ⊥) → o ≡ None
 none_by None none = refl
 none_by (Some x) none = absurd (none x refl)
+
+-- a sum that stays below the greatest was not cut
+pub uncut : (a n r b : ℕ) → r ≡ min (a + n) (2 ^ 128 - 1) → b + r < 2 ^ 128 - 1 → r ≡ a + n
+uncut a n r b is low = omega arith
+
+pub uncut_before : (a n r b d : ℕ) → r ≡ min (a + n) (2 ^ 128 - 1) → b + r + d < 2 ^ 128 - 1 → r ≡ a + n
+uncut_before a n r b d is low = omega arith
 
 -- ---- what a walk that goes on keeps
 

@@ -1,6 +1,7 @@
 -- Steps that are taken one after another.
 use Rattle.std.proofs.Common.{◌≡◌, ◌∙◌, ◌+◌, ℕ, List, [], ◌∷◌, ◌++◌, Option, Some, None, Result, Ok, Err, ap, append_assoc, refl, subst, sym}
 use Rattle.std.specs.Prelude.{IfSome}
+use Rattle.std.specs.Result.{IsErrAnd}
 use Rattle.mdmp_source.specs.Source.{SourceState, FetchesSome}
 use Rattle.mdmp_source.specs.SourceLaws.{fetches_then, told_later}
 use Rattle.mdmp_source.specs.Store.{IsGood}
@@ -55,6 +56,11 @@ Fetches_memory a b some = record { fetches = some; told = tt; good = λ file goo
 -- a fault where another type of answer was asked for
 pub Fetches_as : {T U : Type 0} (fault : ReadFault) (a b : SourceState) → Fetches {T = T} (Err fault) a b → Fetches {T = U} (Err fault) a b
 Fetches_as fault a b told = record { fetches = told.fetches; told = told.told; good = told.good; refusal = told.refusal }
+
+-- what the exit of a `?` answers
+pub refused_by : {T : Type 0} (result : Result T ReadFault) (fault : ReadFault) → IsErrAnd result (λ told. told ≡ fault) → result ≡ Err fault
+refused_by (Ok x) fault is = absurd is
+refused_by (Err told) fault is = ap (λ (f : ReadFault). Err f) is
 
 -- the fault of a listing
 told_last : (e : Entry) (kind : FaultKind) (a b : SourceState) → IsToldByFetch e kind a b → IfSome (store_fault_in kind) (λ of_store. IsLastTold of_store a b)

@@ -1,6 +1,6 @@
 -- A view of a value gives what the value has.
 use Rattle.std.proofs.Common.{◌≡◌, ◌∙◌, ◌<◌, ◌≤◌, ◌+◌, ℕ, zero, suc, List, [], ◌∷◌, length, map, get_or, drop, Bool, true, false, if◌then◌else◌, refl, ap, sym, subst, arith}
-use Rattle.std.proofs.lemmas.List.{at_drop_more, drop_more}
+use Rattle.std.proofs.lemmas.List.{at_drop_more, drop_more, length-map}
 use Rattle.std.proofs.Math.ListN.{drop_of_length-le, get_or-map}
 use Rattle.mdmp_wire.specs.declared.any_record.AnyRecord.{AnyRecord}
 use Rattle.mdmp_wire.specs.declared.any_record.AnyRecord.TheVariants as any
@@ -11,9 +11,9 @@ use Rattle.mdmp_dump.specs.declared.view.Fields.{Fields}
 use Rattle.mdmp_dump.specs.declared.view.Kind.{Kind}
 use Rattle.mdmp_dump.specs.declared.view.Kind.TheVariants.{Known}
 use Rattle.mdmp_dump.specs.Seen.{Seen, nothing_seen}
-use Rattle.mdmp_dump.specs.View.{kind_in, raw_in, records_seen, stream_seen}
+use Rattle.mdmp_dump.specs.View.{dump_seen, kind_in, raw_in, records_seen, stream_seen}
 use Rattle.mdmp_dump.specs.Placed.{far_by, far_room, fields_bytes, fields_room, room_by}
-use Rattle.mdmp_dump.specs.Shape.{AreOf, GivesRecord, IsOf, IsSized, all_bytes, all_taken, fars, is_far, parts_at, seen_record, rooms, shape_seen, sizes_at, stream_at, taken, told, type_told, unused_seen, value_cursor, value_shape}
+use Rattle.mdmp_dump.specs.Shape.{AreOf, GivesRecord, IsOf, IsSized, all_bytes, all_taken, begun, fars, is_far, parts_at, seen_at, seen_record, rooms, shape_seen, sizes_at, stream_at, taken, told, type_told, unused_seen, value_cursor, value_shape}
 use Rattle.mdmp_dump.specs.ShapeLaws.{held, stream_kinds}
 
 nothing_sized : IsSized nothing_seen
@@ -129,6 +129,16 @@ module _ {Z : Type 0} where
 
   pub chosen_shape : (d : Dump Z) (k : ℕ) (ss : List (Stream Z)) (s : Stream Z) → s ≡ get_or ss k streams.Unused → ss ≡ d.streams → shape_seen (stream_seen s) ≡ stream_at (value_shape d) k
   chosen_shape d k ss s chosen same = ap (λ x. shape_seen (stream_seen x)) (chosen ∙ ap (λ xs. get_or xs k streams.Unused) same) ∙ sym (value_stream d k)
+
+  -- its shape has as many streams
+  pub value_length : (d : Dump Z) → length (value_shape d).streams ≡ length d.streams
+  value_length d = length-map (map stream_seen d.streams) shape_seen ∙ length-map d.streams (λ (s : Stream Z). stream_seen s)
+
+  -- a stream is begun
+  pub value_begun : (d : Dump Z) (k : ℕ) → value_cursor (get_or d.streams k streams.Unused) 0 ≡ begun (value_shape d) k
+  value_begun d k =
+      let seen : seen_at (dump_seen d) k ≡ stream_seen (get_or d.streams k streams.Unused) = get_or-map (λ (s : Stream Z). stream_seen s) d.streams k streams.Unused in
+      rw (value_stream d k, seen) refl
 
 -- what is left of what some records take
 pub taken_next : {X : Type 0} (far : Bool) (see : X → Seen) (xs : List X) (i : ℕ) (x : X) → i < length xs → x ≡ get_or xs i x

@@ -29,7 +29,7 @@ use mdmp_wire::{
 };
 
 /// A name or a part of a record, and where its bytes stand in the file; a name's are its units.
-#[derive(Clone, Copy, Debug, PartialEq, Eq)]
+#[derive(Clone, Copy)]
 pub struct PartAt {
     pub size: PartSize,
     /// The offset from the file's start; of no bytes it says nothing.
@@ -55,7 +55,7 @@ pub(crate) const NO_PART: PartAt = PartAt {
 };
 
 /// A record of a file as a view gives it, and where its name and parts stand.
-#[derive(Clone, Copy, Debug, PartialEq, Eq)]
+#[derive(Clone, Copy)]
 pub struct FoundRecord {
     pub wire: AnyRecord,
     pub parts: [PartAt; 3],

@@ -15,8 +15,9 @@ impl PartSize {
         ensures { result ≡ size_in self }
     {
         match self {
-            PartSize::NoPart | PartSize::Absent(_) => 0,
+            PartSize::NoPart => 0,
             PartSize::Size(size) => size,
+            PartSize::Absent(_size) => 0,
         }
     }
 }

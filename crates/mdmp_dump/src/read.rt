@@ -183,7 +183,10 @@ fn read_stream<S: Store + Drop, A: Allocator + Copy>(
         → IsEntryRead file limit xs (IsOneStream file x.entry) (owed file reader.old.left (Some item) reader.old.lister.left) result reader.new }
 {
     match item.stream_type {
-        0 => Ok((Some(Stream::Unused), reader.behind()?)),
+        0 => {
+            let next = reader.behind()?;
+            Ok((Some(Stream::Unused), next))
+        }
         3 => {
             let (threads, next) = reader.rows::<Thread<A>>()?;
             Ok((Some(Stream::Threads(threads)), next))

@@ -131,7 +131,6 @@ fn stream_of<A: Allocator>(streams: &[Stream<A>], index: usize) -> &Stream<A>
 }
 
 /// The next record of one of some streams, and how many are given then.
-#[tactic(auto, using(crate::proofs::Begun::begun_inside))]
 fn next_fields<A: Allocator>(streams: &[Stream<A>], stream: usize, given: usize) -> (Fields, usize)
     requires { given < length (records_seen (get_or streams.now stream Unused)) }
     ensures fields { result.0 ≡ (seen_record (get_or streams.now stream Unused) given).fields }

@@ -19,7 +19,7 @@ use mdmp_source::Location;
 use mdmp_wire::{Memory64List, MemoryInfoList, Record, UnloadedList};
 
 /// What the head of a stream says.
-#[derive(Clone, Copy, Debug, PartialEq, Eq)]
+#[derive(Clone, Copy)]
 pub(crate) struct Head {
     /// Where its records stand.
     pub shape: Shape,

@@ -15,7 +15,7 @@ use std::alloc::Allocator;
 use std::marker::Model;
 
 /// Bytes fetched, and calls of `fetch`.
-#[derive(Clone, Copy, Debug, PartialEq, Eq)]
+#[derive(Clone, Copy)]
 pub(crate) struct Amount {
     pub bytes: u128,
     pub calls: u128,

@@ -1,4 +1,5 @@
-use Rattle.std.proofs.Common.{◌≡◌, Err, rules, refl}
+use Rattle.std.proofs.Common.{◌≡◌, refl}
+use Rattle.mdmp_dump.proofs.Taking.{refused_by}
 use Rattle.mdmp_dump.proofs.Founding.{exception_context, exception_found}
 use Rattle.mdmp_dump.proofs.Rooms.{part_room_most}
 use Rattle.mdmp_dump.proofs.found_record.found_exception.Goals as goal
@@ -6,7 +7,7 @@ use Rattle.mdmp_dump.proofs.found_record.found_exception.Goals as goal
 pub returns-in_err-context-clause-finds : goal.returns-in_err-context-clause-finds
 returns-in_err-context-clause-finds c = λ F e k at o kind is.
     let fault = c.in_err-context.field-0.0 in
-    let same : c.from_residual.result ≡ Err fault = search rules in
+    let same = refused_by c.from_residual.result fault c.from_residual.ensures.1 in
     rw same (exception_context F c.args.limit e k at o fault kind c.args.x.now is c.in_err-context.ensures.finds)
 
 pub returns-clause-finds : goal.returns-clause-finds

@@ -1,4 +1,5 @@
-use Rattle.std.proofs.Common.{◌≡◌, Err, rules, refl}
+use Rattle.std.proofs.Common.{◌≡◌, refl}
+use Rattle.mdmp_dump.proofs.Taking.{refused_by}
 use Rattle.mdmp_dump.proofs.Founding.{system_found, system_name}
 use Rattle.mdmp_dump.proofs.Rooms.{name_room_most}
 use Rattle.mdmp_dump.proofs.found_record.found_system.Goals as goal
@@ -6,7 +7,7 @@ use Rattle.mdmp_dump.proofs.found_record.found_system.Goals as goal
 pub returns-in_err-name-clause-finds : goal.returns-in_err-name-clause-finds
 returns-in_err-name-clause-finds c = λ F e k at o kind is.
     let fault = c.in_err-name.field-0.0 in
-    let same : c.from_residual.result ≡ Err fault = search rules in
+    let same = refused_by c.from_residual.result fault c.from_residual.ensures.1 in
     rw same (system_name F c.args.limit e k at o fault kind _ is (rw c.from.ensures at c.in_err-name.ensures.finds))
 
 pub returns-clause-finds : goal.returns-clause-finds

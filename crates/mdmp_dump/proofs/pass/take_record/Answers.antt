@@ -1,6 +1,8 @@
-use Rattle.std.proofs.Common.{◌≡◌, ◌+◌, ◌-◌, arith, refl, Ok}
+use Rattle.std.proofs.Common.{◌≡◌, ◌+◌, ◌-◌, arith, refl, subst, Ok}
+use Rattle.mdmp_lister.specs.Format.Listing.{Numbered}
 use Rattle.mdmp_dump.specs.declared.pass.Pass.{Pass}
 use Rattle.mdmp_dump.specs.declared.view.Fields.{Fields}
+use Rattle.mdmp_dump.specs.EntryWalk.{Pays, name_cost}
 use Rattle.mdmp_dump.proofs.FaultsTold.{next_changed, next_refused}
 use Rattle.mdmp_dump.proofs.Taken.{met_whole, met_within, pass_behind, record_given}
 use Rattle.mdmp_dump.proofs.pass.take_record.Goals as goal
@@ -54,3 +56,53 @@ returns-clause-passes_of g c =
     pass_behind g.row.A.Denot w c.next_record.new.self c.args.limit p c.requires.passing c.requires.going c.requires.unfailed c.requires.of_file c.size-size.ensures.bytes
     c.in-Ok.found c.in-Ok.ensures c.fields-fields.result c.fields-fields.ensures c.met_room-met.result c.met_room-met.ensures
     q refl refl (omega (arith, c.requires.going)) refl refl refl
+
+pub next_record-requires : goal.next_record-requires
+next_record-requires g c = let begun = c.requires.passing.going c.requires.going in omega (arith, begun.1, c.requires.going)
+
+pub returns-in-Err-clause-pays : goal.returns-in-Err-clause-pays
+returns-in-Err-clause-pays g c =
+    let begun = c.requires.passing.going c.requires.going in
+    subst (λ (x : Numbered). Pays 0 (name_cost x.entry.stream_type) c.args.walk.now c.next_record.new.self) begun.0 c.in-Err.ensures.pays
+
+pub returns-then-met-pass-clause-pays : goal.returns-then-met-pass-clause-pays
+returns-then-met-pass-clause-pays g c =
+    let begun = c.requires.passing.going c.requires.going in
+    subst (λ (x : Numbered). Pays 0 (name_cost x.entry.stream_type) c.args.walk.now c.next_record.new.self) begun.0 c.in-Ok.ensures.pays
+
+pub returns-then-met-pass-2-clause-pays : goal.returns-then-met-pass-2-clause-pays
+returns-then-met-pass-2-clause-pays g c =
+    let begun = c.requires.passing.going c.requires.going in
+    subst (λ (x : Numbered). Pays 0 (name_cost x.entry.stream_type) c.args.walk.now c.next_record.new.self) begun.0 c.in-Ok.ensures.pays
+
+pub returns-clause-pays : goal.returns-clause-pays
+returns-clause-pays g c =
+    let begun = c.requires.passing.going c.requires.going in
+    subst (λ (x : Numbered). Pays 0 (name_cost x.entry.stream_type) c.args.walk.now c.next_record.new.self) begun.0 c.in-Ok.ensures.pays
+
+pub returns-in-Err-clause-gives : goal.returns-in-Err-clause-gives
+returns-in-Err-clause-gives g c = tt
+
+pub returns-in-Err-clause-passes : goal.returns-in-Err-clause-passes
+returns-in-Err-clause-passes g c = tt
+
+pub returns-in-Err-clause-passes_of : goal.returns-in-Err-clause-passes_of
+returns-in-Err-clause-passes_of g c = λ F known. tt
+
+pub returns-then-met-pass-clause-gives : goal.returns-then-met-pass-clause-gives
+returns-then-met-pass-clause-gives g c = tt
+
+pub returns-then-met-pass-clause-passes : goal.returns-then-met-pass-clause-passes
+returns-then-met-pass-clause-passes g c = tt
+
+pub returns-then-met-pass-clause-passes_of : goal.returns-then-met-pass-clause-passes_of
+returns-then-met-pass-clause-passes_of g c = λ F known. tt
+
+pub returns-then-met-pass-2-clause-gives : goal.returns-then-met-pass-2-clause-gives
+returns-then-met-pass-2-clause-gives g c = tt
+
+pub returns-then-met-pass-2-clause-passes : goal.returns-then-met-pass-2-clause-passes
+returns-then-met-pass-2-clause-passes g c = tt
+
+pub returns-then-met-pass-2-clause-passes_of : goal.returns-then-met-pass-2-clause-passes_of
+returns-then-met-pass-2-clause-passes_of g c = λ F known. tt

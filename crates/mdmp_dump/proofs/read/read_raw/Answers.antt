@@ -1,6 +1,6 @@
-use Rattle.std.proofs.Common.{◌≡◌, ◌∙◌, Err, Ok, rules, sym}
+use Rattle.std.proofs.Common.{◌≡◌, ◌∙◌, Err, Ok, sym}
 use Rattle.mdmp_dump.proofs.Streams.{RawTaken, raw_left, raw_read, raw_taken}
-use Rattle.mdmp_dump.proofs.Taking.{fetches_err, fetches_ok}
+use Rattle.mdmp_dump.proofs.Taking.{fetches_err, fetches_ok, refused_by}
 use Rattle.mdmp_dump.proofs.read.read_raw.Goals as goal
 use Rattle.mdmp_dump.proofs.read.read_raw.Goals.{else-inside, then-inside+in_ok-bytes}
 
@@ -42,7 +42,7 @@ returns-in_err-behind-clause-fetches g c =
           (sym c.inside.ensures.value ∙ w.if-inside.false) w.reader-is w.stream-is
     ] in
     let fault = c.in_err-behind.field-0.0 in
-    let is : c.from_residual-in_err-behind.result ≡ Err fault = search rules in
+    let is = refused_by c.from_residual-in_err-behind.result fault c.from_residual-in_err-behind.ensures.1 in
     rw is (fetches_err old.lister.source mid.lister.source c.behind.new.self.lister.source taken.fetches fault c.in_err-behind.ensures.fetches)
 
 pub returns-in_err-behind-clause-of_file : goal.returns-in_err-behind-clause-of_file
@@ -57,5 +57,5 @@ returns-in_err-behind-clause-of_file g c =
           (sym c.inside.ensures.value ∙ w.if-inside.false) w.reader-is w.stream-is
     ] in
     let fault = c.in_err-behind.field-0.0 in
-    let is : c.from_residual-in_err-behind.result ≡ Err fault = search rules in
+    let is = refused_by c.from_residual-in_err-behind.result fault c.from_residual-in_err-behind.ensures.1 in
     rw is (λ file limit x xs known left same raw. raw_read old mid c.behind.new.self item c.if-inside.stream taken file limit x xs known left same raw (Err fault) c.in_err-behind.ensures.gives)

@@ -1,6 +1,7 @@
 use Rattle.std.proofs.Common.{◌≡◌, Err, Ok, Some, [], ◌∷◌, refl, rules}
 use Rattle.mdmp_lister.specs.declared.kind.StreamKind.TheVariants as kinds
 use Rattle.mdmp_dump.specs.declared.dump.Stream.TheVariants as streams
+use Rattle.mdmp_wire.specs.MemoryInfo.{memory_info_at}
 use Rattle.mdmp_dump.specs.LaysOut.{HasRecords}
 use Rattle.mdmp_dump.specs.Memory.{IsMemory}
 use Rattle.mdmp_dump.specs.Memory64.{IsMemory64}
@@ -11,7 +12,8 @@ use Rattle.mdmp_dump.specs.Unloaded.{IsUnloaded}
 use Rattle.mdmp_dump.specs.Exception.{IsException}
 use Rattle.mdmp_dump.specs.System.{IsSystem}
 use Rattle.mdmp_dump.proofs.Streams.{one_single, stream_read, stream_refused, unused_read}
-use Rattle.mdmp_dump.proofs.Taking.{Fetches_as}
+use Rattle.std.proofs.lemmas.Result.{IfOk-from_err}
+use Rattle.mdmp_dump.proofs.Taking.{Fetches_as, Fetches_only, refused_by}
 use Rattle.mdmp_dump.proofs.read.read_stream.Goals as goal
 
 pub returns-in_ok-threads-in-3-clause-of_file : goal.returns-in_ok-threads-in-3-clause-of_file
@@ -70,7 +72,7 @@ returns-in_ok-exception-in-6-clause-of_file g c =
 pub returns-in_err-exception-in-6-clause-of_file : goal.returns-in_err-exception-in-6-clause-of_file
 returns-in_err-exception-in-6-clause-of_file g c =
     let fault = c.in_err-exception-in-6.field-0.0 in
-    let is : c.from_residual-in_err-exception-in-6.result ≡ Err fault = search rules in
+    let is = refused_by c.from_residual-in_err-exception-in-6.result fault c.from_residual-in_err-exception-in-6.ensures.1 in
     rw is (stream_refused c.args.reader.now c.single.new.self c.args.item 6 c.in-6.is (λ size e at. refl) kinds.Exception refl
     (λ F at row. (one : _) × ((row ≡ Some one) × HasRecords F at kinds.Exception (λ k. IsException F) (one ∷ []))) fault
     (λ F limit x xs known left kind. c.in_err-exception-in-6.ensures.of_file F limit x xs known left kind (one_single F x kinds.Exception refl)))
@@ -89,24 +91,246 @@ returns-in_ok-system-in-7-clause-of_file g c =
 pub returns-in_err-system-in-7-clause-of_file : goal.returns-in_err-system-in-7-clause-of_file
 returns-in_err-system-in-7-clause-of_file g c =
     let fault = c.in_err-system-in-7.field-0.0 in
-    let is : c.from_residual-in_err-system-in-7.result ≡ Err fault = search rules in
+    let is = refused_by c.from_residual-in_err-system-in-7.result fault c.from_residual-in_err-system-in-7.ensures.1 in
     rw is (stream_refused c.args.reader.now c.single-in-7.new.self c.args.item 7 c.in-7.is (λ size e at. refl) kinds.System refl
     (λ F at row. (one : _) × ((row ≡ Some one) × HasRecords F at kinds.System (λ k. IsSystem F) (one ∷ []))) fault
     (λ F limit x xs known left kind. c.in_err-system-in-7.ensures.of_file F limit x xs known left kind (one_single F x kinds.System refl)))
 
-pub returns-in_ok-behind-in-0-clause-of_file : goal.returns-in_ok-behind-in-0-clause-of_file
-returns-in_ok-behind-in-0-clause-of_file g c =
-    let r = c.in_ok-behind-in-0 in
-    unused_read c.args.reader.now c.behind.new.self c.args.item c.in-0.is (Ok r.field-0) r.ensures.gives
+pub returns-in_ok-next-in-0-clause-of_file : goal.returns-in_ok-next-in-0-clause-of_file
+returns-in_ok-next-in-0-clause-of_file g c =
+    let r = c.in_ok-next-in-0 in
+    unused_read c.args.reader.now c.behind.new.self c.args.item c.in-0.is (Ok r.next) r.ensures.gives
 
-pub returns-in_err-behind-in-0-clause-of_file : goal.returns-in_err-behind-in-0-clause-of_file
-returns-in_err-behind-in-0-clause-of_file g c =
-    let r = c.in_err-behind-in-0 in
-    let is : c.from_residual.result ≡ Err r.field-0.0 = search rules in
-    rw is (unused_read c.args.reader.now c.behind.new.self c.args.item c.in-0.is (Err r.field-0.0) r.ensures.gives)
+pub returns-in_err-next-in-0-clause-of_file : goal.returns-in_err-next-in-0-clause-of_file
+returns-in_err-next-in-0-clause-of_file g c =
+    let fault = c.in_err-next-in-0.field-0.0 in
+    rw (refused_by c.from_residual.result fault c.from_residual.ensures.1) (unused_read c.args.reader.now c.behind.new.self c.args.item c.in-0.is (Err fault) c.in_err-next-in-0.ensures.gives)
 
-pub returns-in_err-behind-in-0-clause-fetches : goal.returns-in_err-behind-in-0-clause-fetches
-returns-in_err-behind-in-0-clause-fetches g c =
-    let r = c.in_err-behind-in-0 in
-    let is : c.from_residual.result ≡ Err r.field-0.0 = search rules in
-    rw is (Fetches_as r.field-0.0 c.args.reader.now.lister.source c.behind.new.self.lister.source r.ensures.fetches)
+pub returns-in_err-next-in-0-clause-fetches : goal.returns-in_err-next-in-0-clause-fetches
+returns-in_err-next-in-0-clause-fetches g c =
+    let fault = c.in_err-next-in-0.field-0.0 in
+    rw (refused_by c.from_residual.result fault c.from_residual.ensures.1) (Fetches_as fault c.args.reader.now.lister.source c.behind.new.self.lister.source c.in_err-next-in-0.ensures.fetches)
+
+pub returns-in_err-next-in-0-clause-going : goal.returns-in_err-next-in-0-clause-going
+returns-in_err-next-in-0-clause-going g c = IfOk-from_err c.from_residual.result _ c.from_residual.ensures.0
+
+pub returns-in_ok-next-in-0-clause-fetches : goal.returns-in_ok-next-in-0-clause-fetches
+returns-in_ok-next-in-0-clause-fetches g c = Fetches_only _ c.args.reader.now.lister.source c.behind.new.self.lister.source c.in_ok-next-in-0.ensures.fetches.fetches
+
+pub returns-in_ok-next-in-0-clause-going : goal.returns-in_ok-next-in-0-clause-going
+returns-in_ok-next-in-0-clause-going g c = c.in_ok-next-in-0.ensures.going
+
+pub returns-in_err-threads-in-3-clause-fetches : goal.returns-in_err-threads-in-3-clause-fetches
+returns-in_err-threads-in-3-clause-fetches g c =
+    let fault = c.in_err-threads-in-3.field-0.0 in
+    rw (refused_by c.from_residual-in_err-threads-in-3.result fault c.from_residual-in_err-threads-in-3.ensures.1) (Fetches_as fault c.args.reader.now.lister.source c.rows.new.self.lister.source c.in_err-threads-in-3.ensures.fetches)
+
+pub returns-in_err-threads-in-3-clause-going : goal.returns-in_err-threads-in-3-clause-going
+returns-in_err-threads-in-3-clause-going g c = IfOk-from_err c.from_residual-in_err-threads-in-3.result _ c.from_residual-in_err-threads-in-3.ensures.0
+
+pub returns-in_ok-threads-in-3-clause-fetches : goal.returns-in_ok-threads-in-3-clause-fetches
+returns-in_ok-threads-in-3-clause-fetches g c = Fetches_only _ c.args.reader.now.lister.source c.rows.new.self.lister.source c.in_ok-threads-in-3.ensures.fetches.fetches
+
+pub returns-in_ok-threads-in-3-clause-going : goal.returns-in_ok-threads-in-3-clause-going
+returns-in_ok-threads-in-3-clause-going g c = c.in_ok-threads-in-3.ensures.going
+
+pub returns-in_err-modules-in-4-clause-fetches : goal.returns-in_err-modules-in-4-clause-fetches
+returns-in_err-modules-in-4-clause-fetches g c =
+    let fault = c.in_err-modules-in-4.field-0.0 in
+    rw (refused_by c.from_residual-in_err-modules-in-4.result fault c.from_residual-in_err-modules-in-4.ensures.1) (Fetches_as fault c.args.reader.now.lister.source c.rows-in-4.new.self.lister.source c.in_err-modules-in-4.ensures.fetches)
+
+pub returns-in_err-modules-in-4-clause-going : goal.returns-in_err-modules-in-4-clause-going
+returns-in_err-modules-in-4-clause-going g c = IfOk-from_err c.from_residual-in_err-modules-in-4.result _ c.from_residual-in_err-modules-in-4.ensures.0
+
+pub returns-in_ok-modules-in-4-clause-fetches : goal.returns-in_ok-modules-in-4-clause-fetches
+returns-in_ok-modules-in-4-clause-fetches g c = Fetches_only _ c.args.reader.now.lister.source c.rows-in-4.new.self.lister.source c.in_ok-modules-in-4.ensures.fetches.fetches
+
+pub returns-in_ok-modules-in-4-clause-going : goal.returns-in_ok-modules-in-4-clause-going
+returns-in_ok-modules-in-4-clause-going g c = c.in_ok-modules-in-4.ensures.going
+
+pub returns-in_err-ranges-in-5-clause-fetches : goal.returns-in_err-ranges-in-5-clause-fetches
+returns-in_err-ranges-in-5-clause-fetches g c =
+    let fault = c.in_err-ranges-in-5.field-0.0 in
+    rw (refused_by c.from_residual-in_err-ranges-in-5.result fault c.from_residual-in_err-ranges-in-5.ensures.1) (Fetches_as fault c.args.reader.now.lister.source c.rows-in-5.new.self.lister.source c.in_err-ranges-in-5.ensures.fetches)
+
+pub returns-in_err-ranges-in-5-clause-going : goal.returns-in_err-ranges-in-5-clause-going
+returns-in_err-ranges-in-5-clause-going g c = IfOk-from_err c.from_residual-in_err-ranges-in-5.result _ c.from_residual-in_err-ranges-in-5.ensures.0
+
+pub returns-in_ok-ranges-in-5-clause-fetches : goal.returns-in_ok-ranges-in-5-clause-fetches
+returns-in_ok-ranges-in-5-clause-fetches g c = Fetches_only _ c.args.reader.now.lister.source c.rows-in-5.new.self.lister.source c.in_ok-ranges-in-5.ensures.fetches.fetches
+
+pub returns-in_ok-ranges-in-5-clause-going : goal.returns-in_ok-ranges-in-5-clause-going
+returns-in_ok-ranges-in-5-clause-going g c = c.in_ok-ranges-in-5.ensures.going
+
+pub returns-in_err-exception-in-6-clause-fetches : goal.returns-in_err-exception-in-6-clause-fetches
+returns-in_err-exception-in-6-clause-fetches g c =
+    let fault = c.in_err-exception-in-6.field-0.0 in
+    rw (refused_by c.from_residual-in_err-exception-in-6.result fault c.from_residual-in_err-exception-in-6.ensures.1) (Fetches_as fault c.args.reader.now.lister.source c.single.new.self.lister.source c.in_err-exception-in-6.ensures.fetches)
+
+pub returns-in_err-exception-in-6-clause-going : goal.returns-in_err-exception-in-6-clause-going
+returns-in_err-exception-in-6-clause-going g c = IfOk-from_err c.from_residual-in_err-exception-in-6.result _ c.from_residual-in_err-exception-in-6.ensures.0
+
+pub returns-in_ok-exception-in-6-clause-fetches : goal.returns-in_ok-exception-in-6-clause-fetches
+returns-in_ok-exception-in-6-clause-fetches g c = Fetches_only _ c.args.reader.now.lister.source c.single.new.self.lister.source c.in_ok-exception-in-6.ensures.fetches.fetches
+
+pub returns-in_ok-exception-in-6-clause-going : goal.returns-in_ok-exception-in-6-clause-going
+returns-in_ok-exception-in-6-clause-going g c = c.in_ok-exception-in-6.ensures.going
+
+pub returns-in_err-system-in-7-clause-fetches : goal.returns-in_err-system-in-7-clause-fetches
+returns-in_err-system-in-7-clause-fetches g c =
+    let fault = c.in_err-system-in-7.field-0.0 in
+    rw (refused_by c.from_residual-in_err-system-in-7.result fault c.from_residual-in_err-system-in-7.ensures.1) (Fetches_as fault c.args.reader.now.lister.source c.single-in-7.new.self.lister.source c.in_err-system-in-7.ensures.fetches)
+
+pub returns-in_err-system-in-7-clause-going : goal.returns-in_err-system-in-7-clause-going
+returns-in_err-system-in-7-clause-going g c = IfOk-from_err c.from_residual-in_err-system-in-7.result _ c.from_residual-in_err-system-in-7.ensures.0
+
+pub returns-in_ok-system-in-7-clause-fetches : goal.returns-in_ok-system-in-7-clause-fetches
+returns-in_ok-system-in-7-clause-fetches g c = Fetches_only _ c.args.reader.now.lister.source c.single-in-7.new.self.lister.source c.in_ok-system-in-7.ensures.fetches.fetches
+
+pub returns-in_ok-system-in-7-clause-going : goal.returns-in_ok-system-in-7-clause-going
+returns-in_ok-system-in-7-clause-going g c = c.in_ok-system-in-7.ensures.going
+
+pub returns-in_err-ranges-in-9-clause-fetches : goal.returns-in_err-ranges-in-9-clause-fetches
+returns-in_err-ranges-in-9-clause-fetches g c =
+    let fault = c.in_err-ranges-in-9.field-0.0 in
+    rw (refused_by c.from_residual-in_err-ranges-in-9.result fault c.from_residual-in_err-ranges-in-9.ensures.1) (Fetches_as fault c.args.reader.now.lister.source c.rows-in-9.new.self.lister.source c.in_err-ranges-in-9.ensures.fetches)
+
+pub returns-in_err-ranges-in-9-clause-going : goal.returns-in_err-ranges-in-9-clause-going
+returns-in_err-ranges-in-9-clause-going g c = IfOk-from_err c.from_residual-in_err-ranges-in-9.result _ c.from_residual-in_err-ranges-in-9.ensures.0
+
+pub returns-in_ok-ranges-in-9-clause-fetches : goal.returns-in_ok-ranges-in-9-clause-fetches
+returns-in_ok-ranges-in-9-clause-fetches g c = Fetches_only _ c.args.reader.now.lister.source c.rows-in-9.new.self.lister.source c.in_ok-ranges-in-9.ensures.fetches.fetches
+
+pub returns-in_ok-ranges-in-9-clause-going : goal.returns-in_ok-ranges-in-9-clause-going
+returns-in_ok-ranges-in-9-clause-going g c = c.in_ok-ranges-in-9.ensures.going
+
+pub returns-in_err-modules-in-14-clause-fetches : goal.returns-in_err-modules-in-14-clause-fetches
+returns-in_err-modules-in-14-clause-fetches g c =
+    let fault = c.in_err-modules-in-14.field-0.0 in
+    rw (refused_by c.from_residual-in_err-modules-in-14.result fault c.from_residual-in_err-modules-in-14.ensures.1) (Fetches_as fault c.args.reader.now.lister.source c.rows-in-14.new.self.lister.source c.in_err-modules-in-14.ensures.fetches)
+
+pub returns-in_err-modules-in-14-clause-going : goal.returns-in_err-modules-in-14-clause-going
+returns-in_err-modules-in-14-clause-going g c = IfOk-from_err c.from_residual-in_err-modules-in-14.result _ c.from_residual-in_err-modules-in-14.ensures.0
+
+pub returns-in_ok-modules-in-14-clause-fetches : goal.returns-in_ok-modules-in-14-clause-fetches
+returns-in_ok-modules-in-14-clause-fetches g c = Fetches_only _ c.args.reader.now.lister.source c.rows-in-14.new.self.lister.source c.in_ok-modules-in-14.ensures.fetches.fetches
+
+pub returns-in_ok-modules-in-14-clause-going : goal.returns-in_ok-modules-in-14-clause-going
+returns-in_ok-modules-in-14-clause-going g c = c.in_ok-modules-in-14.ensures.going
+
+pub returns-in_err-regions-in-16-clause-fetches : goal.returns-in_err-regions-in-16-clause-fetches
+returns-in_err-regions-in-16-clause-fetches g c =
+    let fault = c.in_err-regions-in-16.field-0.0 in
+    rw (refused_by c.from_residual-in_err-regions-in-16.result fault c.from_residual-in_err-regions-in-16.ensures.1) (Fetches_as fault c.args.reader.now.lister.source c.rows-in-16.new.self.lister.source c.in_err-regions-in-16.ensures.fetches)
+
+pub returns-in_err-regions-in-16-clause-going : goal.returns-in_err-regions-in-16-clause-going
+returns-in_err-regions-in-16-clause-going g c = IfOk-from_err c.from_residual-in_err-regions-in-16.result _ c.from_residual-in_err-regions-in-16.ensures.0
+
+pub returns-in_ok-regions-in-16-clause-fetches : goal.returns-in_ok-regions-in-16-clause-fetches
+returns-in_ok-regions-in-16-clause-fetches g c = Fetches_only _ c.args.reader.now.lister.source c.rows-in-16.new.self.lister.source c.in_ok-regions-in-16.ensures.fetches.fetches
+
+pub returns-in_ok-regions-in-16-clause-going : goal.returns-in_ok-regions-in-16-clause-going
+returns-in_ok-regions-in-16-clause-going g c = c.in_ok-regions-in-16.ensures.going
+
+pub returns-in_err-threads-in-24-clause-fetches : goal.returns-in_err-threads-in-24-clause-fetches
+returns-in_err-threads-in-24-clause-fetches g c =
+    let fault = c.in_err-threads-in-24.field-0.0 in
+    rw (refused_by c.from_residual-in_err-threads-in-24.result fault c.from_residual-in_err-threads-in-24.ensures.1) (Fetches_as fault c.args.reader.now.lister.source c.rows-in-24.new.self.lister.source c.in_err-threads-in-24.ensures.fetches)
+
+pub returns-in_err-threads-in-24-clause-going : goal.returns-in_err-threads-in-24-clause-going
+returns-in_err-threads-in-24-clause-going g c = IfOk-from_err c.from_residual-in_err-threads-in-24.result _ c.from_residual-in_err-threads-in-24.ensures.0
+
+pub returns-in_ok-threads-in-24-clause-fetches : goal.returns-in_ok-threads-in-24-clause-fetches
+returns-in_ok-threads-in-24-clause-fetches g c = Fetches_only _ c.args.reader.now.lister.source c.rows-in-24.new.self.lister.source c.in_ok-threads-in-24.ensures.fetches.fetches
+
+pub returns-in_ok-threads-in-24-clause-going : goal.returns-in_ok-threads-in-24-clause-going
+returns-in_ok-threads-in-24-clause-going g c = c.in_ok-threads-in-24.ensures.going
+
+pub returns-in_err-threads-in-3-clause-of_file : goal.returns-in_err-threads-in-3-clause-of_file
+returns-in_err-threads-in-3-clause-of_file g c =
+    let fault = c.in_err-threads-in-3.field-0.0 in
+    rw (refused_by c.from_residual-in_err-threads-in-3.result fault c.from_residual-in_err-threads-in-3.ensures.1)
+    (stream_refused c.args.reader.now c.rows.new.self c.args.item 3 c.in-3.is (λ size e at. refl) kinds.Threads refl
+    (λ F at. HasRecords F at kinds.Threads (λ k. IsThread F)) fault c.in_err-threads-in-3.ensures.of_file)
+
+pub returns-in_err-modules-in-4-clause-of_file : goal.returns-in_err-modules-in-4-clause-of_file
+returns-in_err-modules-in-4-clause-of_file g c =
+    let fault = c.in_err-modules-in-4.field-0.0 in
+    rw (refused_by c.from_residual-in_err-modules-in-4.result fault c.from_residual-in_err-modules-in-4.ensures.1)
+    (stream_refused c.args.reader.now c.rows-in-4.new.self c.args.item 4 c.in-4.is (λ size e at. refl) kinds.Modules refl
+    (λ F at. HasRecords F at kinds.Modules (λ k. IsModule F)) fault c.in_err-modules-in-4.ensures.of_file)
+
+pub returns-in_err-ranges-in-5-clause-of_file : goal.returns-in_err-ranges-in-5-clause-of_file
+returns-in_err-ranges-in-5-clause-of_file g c =
+    let fault = c.in_err-ranges-in-5.field-0.0 in
+    rw (refused_by c.from_residual-in_err-ranges-in-5.result fault c.from_residual-in_err-ranges-in-5.ensures.1)
+    (stream_refused c.args.reader.now c.rows-in-5.new.self c.args.item 5 c.in-5.is (λ size e at. refl) kinds.Memory refl
+    (λ F at. HasRecords F at kinds.Memory (λ k. IsMemory F)) fault c.in_err-ranges-in-5.ensures.of_file)
+
+pub returns-in_err-ranges-in-9-clause-of_file : goal.returns-in_err-ranges-in-9-clause-of_file
+returns-in_err-ranges-in-9-clause-of_file g c =
+    let fault = c.in_err-ranges-in-9.field-0.0 in
+    rw (refused_by c.from_residual-in_err-ranges-in-9.result fault c.from_residual-in_err-ranges-in-9.ensures.1)
+    (stream_refused c.args.reader.now c.rows-in-9.new.self c.args.item 9 c.in-9.is (λ size e at. refl) kinds.Memory64 refl
+    (λ F at. HasRecords F at kinds.Memory64 (IsMemory64 F at.rva)) fault c.in_err-ranges-in-9.ensures.of_file)
+
+pub returns-in_err-modules-in-14-clause-of_file : goal.returns-in_err-modules-in-14-clause-of_file
+returns-in_err-modules-in-14-clause-of_file g c =
+    let fault = c.in_err-modules-in-14.field-0.0 in
+    rw (refused_by c.from_residual-in_err-modules-in-14.result fault c.from_residual-in_err-modules-in-14.ensures.1)
+    (stream_refused c.args.reader.now c.rows-in-14.new.self c.args.item 14 c.in-14.is (λ size e at. refl) kinds.Unloaded refl
+    (λ F at. HasRecords F at kinds.Unloaded (λ k. IsUnloaded F)) fault c.in_err-modules-in-14.ensures.of_file)
+
+pub returns-in_err-threads-in-24-clause-of_file : goal.returns-in_err-threads-in-24-clause-of_file
+returns-in_err-threads-in-24-clause-of_file g c =
+    let fault = c.in_err-threads-in-24.field-0.0 in
+    rw (refused_by c.from_residual-in_err-threads-in-24.result fault c.from_residual-in_err-threads-in-24.ensures.1)
+    (stream_refused c.args.reader.now c.rows-in-24.new.self c.args.item 24 c.in-24.is (λ size e at. refl) kinds.ThreadNames refl
+    (λ F at. HasRecords F at kinds.ThreadNames (λ k. IsThreadName F)) fault c.in_err-threads-in-24.ensures.of_file)
+
+pub behind-requires : goal.behind-requires
+behind-requires g c = c.requires
+
+pub rows-requires : goal.rows-requires
+rows-requires g c = c.requires
+
+pub rows-requires-in-4 : goal.rows-requires-in-4
+rows-requires-in-4 g c = c.requires
+
+pub rows-requires-in-5 : goal.rows-requires-in-5
+rows-requires-in-5 g c = c.requires
+
+pub rows-requires-in-9 : goal.rows-requires-in-9
+rows-requires-in-9 g c = c.requires
+
+pub rows-requires-in-14 : goal.rows-requires-in-14
+rows-requires-in-14 g c = c.requires
+
+pub rows-requires-in-16 : goal.rows-requires-in-16
+rows-requires-in-16 g c = c.requires
+
+pub rows-requires-in-24 : goal.rows-requires-in-24
+rows-requires-in-24 g c = c.requires
+
+pub single-requires : goal.single-requires
+single-requires g c = c.requires
+
+pub single-requires-in-7 : goal.single-requires-in-7
+single-requires-in-7 g c = c.requires
+
+pub read_raw-requires : goal.read_raw-requires
+read_raw-requires g c = c.requires
+
+pub returns-in_ok-regions-in-16-clause-of_file : goal.returns-in_ok-regions-in-16-clause-of_file
+returns-in_ok-regions-in-16-clause-of_file g c =
+    let r = c.in_ok-regions-in-16 in
+    stream_read c.args.reader.now c.rows-in-16.new.self c.args.item 16 c.in-16.is (λ size e at. refl) kinds.MemoryInfo refl
+    (λ F at. HasRecords F at kinds.MemoryInfo (λ k o row. memory_info_at F o ≡ row)) r.regions _ r.next (λ F e type has. (streams.MemoryInfo r.regions, (refl, record { type_is = type; stands = has })))
+    r.ensures.of_file
+
+pub returns-in_err-regions-in-16-clause-of_file : goal.returns-in_err-regions-in-16-clause-of_file
+returns-in_err-regions-in-16-clause-of_file g c =
+    let fault = c.in_err-regions-in-16.field-0.0 in
+    rw (refused_by c.from_residual-in_err-regions-in-16.result fault c.from_residual-in_err-regions-in-16.ensures.1)
+    (stream_refused c.args.reader.now c.rows-in-16.new.self c.args.item 16 c.in-16.is (λ size e at. refl) kinds.MemoryInfo refl
+    (λ F at. HasRecords F at kinds.MemoryInfo (λ k o row. memory_info_at F o ≡ row)) fault c.in_err-regions-in-16.ensures.of_file)

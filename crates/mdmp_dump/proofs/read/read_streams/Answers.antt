@@ -1,18 +1,18 @@
-use Rattle.std.proofs.Common.{◌≡◌, Err, Ok, refl, rules}
+use Rattle.std.proofs.Common.{◌≡◌, Err, Ok, refl}
 use Rattle.mdmp_dump.proofs.Walked.{all_read, awaited_going, fewer_left, more_read, more_refused, never_none, none_read, none_refused, none_refused_behind}
-use Rattle.mdmp_dump.proofs.Taking.{FetchesSome_then, Fetches_as, Fetches_memory, fetches_err}
+use Rattle.mdmp_dump.proofs.Taking.{FetchesSome_then, Fetches_as, Fetches_memory, fetches_err, refused_by}
 use Rattle.mdmp_dump.proofs.read.read_streams.Goals as goal
 
 pub returns-in_err-next-clause-fetches : goal.returns-in_err-next-clause-fetches
 returns-in_err-next-clause-fetches g c =
     let r = c.in_err-next in
-    let is : c.from_residual.result ≡ Err r.field-0.0 = search rules in
+    let is = refused_by c.from_residual.result r.field-0.0 c.from_residual.ensures.1 in
     rw is (Fetches_as r.field-0.0 c.args.reader.now.lister.source c.behind.new.self.lister.source r.ensures.fetches)
 
 pub returns-in_err-next-clause-of_file : goal.returns-in_err-next-clause-of_file
 returns-in_err-next-clause-of_file g c =
     let r = c.in_err-next in
-    let is : c.from_residual.result ≡ Err r.field-0.0 = search rules in
+    let is = refused_by c.from_residual.result r.field-0.0 c.from_residual.ensures.1 in
     rw is (λ file limit xs known left. (tt, none_refused c.args.reader.now c.behind.new.self (Err r.field-0.0) r.ensures.gives r.field-0.0 refl file limit xs known left))
 
 pub loop-next-init : goal.loop-next-init
@@ -27,13 +27,13 @@ loop-next-init g c =
 pub returns-in_err-stream-clause-fetches : goal.returns-in_err-stream-clause-fetches
 returns-in_err-stream-clause-fetches g c =
     let r = c.in_err-stream in
-    let is : c.from_residual-in_err-stream.result ≡ Err r.field-0.0 = search rules in
+    let is = refused_by c.from_residual-in_err-stream.result r.field-0.0 c.from_residual-in_err-stream.ensures.1 in
     rw is (fetches_err c.args.reader.now.lister.source c.loop-next.reader.lister.source c.read_stream.new.reader.lister.source c.loop-next.invariant.fetches r.field-0.0 r.ensures.fetches)
 
 pub returns-in_err-stream-clause-of_file : goal.returns-in_err-stream-clause-of_file
 returns-in_err-stream-clause-of_file g c =
     let r = c.in_err-stream in
-    let is : c.from_residual-in_err-stream.result ≡ Err r.field-0.0 = search rules in
+    let is = refused_by c.from_residual-in_err-stream.result r.field-0.0 c.from_residual-in_err-stream.ensures.1 in
     let so_far = rw c.in-Some.is at c.loop-next.invariant in
     rw is (λ file limit xs known left.
     (tt, more_refused c.args.reader.now c.loop-next.reader c.read_stream.new.reader c.loop-next.streams.items c.in-Some.item so_far file limit xs known left r.field-0.0 r.ensures.of_file))

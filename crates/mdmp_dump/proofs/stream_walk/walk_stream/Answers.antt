@@ -3,6 +3,7 @@ use Rattle.mdmp_dump.specs.declared.stream_walk.Walked.{Walked}
 use Rattle.mdmp_dump.specs.EntryWalk.{Pays, chosen_entry, listed, name_cost}
 use Rattle.mdmp_dump.specs.FileView.{kind_at}
 use Rattle.mdmp_dump.specs.Shape.{GivesNone}
+use Rattle.mdmp_dump.proofs.Taking.{Fetches_as, Fetches_only}
 use Rattle.mdmp_dump.proofs.WalkedOver.{unbegun_paid, walking_begins, walking_ends, walking_fetches, walking_goes, walking_paid, walking_refused, walking_unbegun}
 use Rattle.mdmp_dump.proofs.stream_walk.walk_stream.Goals as goal
 
@@ -48,3 +49,48 @@ pub returns-clause-bare : goal.returns-clause-bare
 returns-clause-bare g c =
     let all : c.loop-index.index ≡ c.in-Ok.count = omega (arith, c.loop-index-test.false, c.loop-index.auto.index-end) in
     λ none. c.loop-index.invariant.bare (subst (λ n. GivesNone (kind_at c.args.walk.now c.args.stream) n) (sym all) none)
+
+pub begin-requires : goal.begin-requires
+begin-requires g c = c.requires.within
+
+pub returns-in-Err-clause-goes : goal.returns-in-Err-clause-goes
+returns-in-Err-clause-goes g c = tt
+
+pub returns-in-Err-clause-counts : goal.returns-in-Err-clause-counts
+returns-in-Err-clause-counts g c = tt
+
+pub returns-in-Err-clause-bare : goal.returns-in-Err-clause-bare
+returns-in-Err-clause-bare g c = tt
+
+pub returns-in-Err-clause-fetches : goal.returns-in-Err-clause-fetches
+returns-in-Err-clause-fetches g c = Fetches_as c.in-Err.fault c.args.walk.now.source c.begin.new.self.source (c.in-Err.ensures.fetches c.requires.going)
+
+pub next_record-requires : goal.next_record-requires
+next_record-requires g c = omega (arith, c.loop-index-test.true, c.loop-index.invariant.left)
+
+pub returns-in-Err-next_record-clause-goes : goal.returns-in-Err-next_record-clause-goes
+returns-in-Err-next_record-clause-goes g c = tt
+
+pub returns-in-Err-next_record-clause-counts : goal.returns-in-Err-next_record-clause-counts
+returns-in-Err-next_record-clause-counts g c = tt
+
+pub returns-in-Err-next_record-clause-bare : goal.returns-in-Err-next_record-clause-bare
+returns-in-Err-next_record-clause-bare g c = tt
+
+pub returns-in-Err-next_record-clause-told : goal.returns-in-Err-next_record-clause-told
+returns-in-Err-next_record-clause-told g c = c.in-Err-next_record.ensures.told
+
+pub loop-index-smaller : goal.loop-index-smaller
+loop-index-smaller g c = omega (arith, c.loop-index-test.true)
+
+pub returns-clause-goes : goal.returns-clause-goes
+returns-clause-goes g c = c.loop-index.invariant.going
+
+pub returns-clause-counts : goal.returns-clause-counts
+returns-clause-counts g c = c.loop-index.invariant.counts
+
+pub returns-clause-told : goal.returns-clause-told
+returns-clause-told g c = tt
+
+pub returns-clause-fetches : goal.returns-clause-fetches
+returns-clause-fetches g c = Fetches_only _ c.args.walk.now.source c.loop-index.walk.source c.loop-index.invariant.pays.same.fetches

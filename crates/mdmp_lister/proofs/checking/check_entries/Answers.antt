@@ -1,4 +1,4 @@
-use Rattle.std.proofs.Common.{◌++◌, ◌∷◌, ◌-◌, [], refl}
+use Rattle.std.proofs.Common.{◌++◌, ◌∷◌, ◌-◌, [], arith, refl}
 use Rattle.mdmp_lister.specs.declared.verdict.Verdict.{Verdict}
 use Rattle.mdmp_lister.proofs.Handing.{Taken-more, TakenToStop-end}
 use Rattle.mdmp_lister.proofs.Verdicts.{begun_mapped, current_judged, ended_judged, failed_judged, more_judged, none_judged, stopped_judged}
@@ -54,3 +54,6 @@ returns-in-Err-take g c =
     (TakenToStop-end g.K.VerdictSink.step v l.invariant.verdicts c.args.sink.now l.sink c.take.new.self l.invariant.taken c.in-Err-take.ensures)
     (current_judged l.invariant.verdicts l.invariant.items c.args.walk.now l.walk ns c.judge_entry.new.walk c.args.map.now l.map c.judge_entry.new.map l.invariant.so_far
     c.in-Some.field-0 of.taken of.begins c.in-Ok.fault c.in-Ok.ensures sk c.skip_entry.ensures)
+
+pub loop-entry-smaller : goal.loop-entry-smaller
+loop-entry-smaller g c = omega (arith, c.in-Some.ensures.taken.answered.given.falls, c.in-Ok.ensures.rests, c.skip_entry.ensures.rests)

@@ -1,4 +1,6 @@
-use Rattle.std.proofs.Common.{◌≡◌, Err, rules, length, arith}
+use Rattle.std.proofs.Common.{◌≡◌, Err, Ok, rules, length, arith}
+use Rattle.mdmp_lister.specs.declared.fetching.NameRead.TheVariants.{Long}
+use Rattle.mdmp_lister.specs.Fetching.{ReadsName}
 use Rattle.mdmp_lister.proofs.SomeNames.{some_bad, some_failed, some_long, some_none, some_outside, some_units, tests_over}
 use Rattle.mdmp_lister.proofs.fetching.read_name.Goals as goal
 
@@ -28,6 +30,20 @@ returns-in_err-fetch_front-clause-reads g c = record {
   over = search rules;
   caused = search rules;
 }
+
+pub returns-then-buffer-length-clause-reads : goal.returns-then-buffer-length-clause-reads
+returns-then-buffer-length-clause-reads g c =
+    let reads : ReadsName (length c.args.buffer.now) c.args.rva (Ok (Long c.in_ok-length.length)) c.args.meter.now c.read_length.new.meter = record {
+      fetches = search rules;
+      spends = search rules;
+      cost = search rules;
+      reached = search rules;
+      named = search rules;
+      at_fault = tt;
+      over = tt;
+      caused = search rules;
+    } in
+    reads
 
 pub returns-then-rva-eq0-clause-some : goal.returns-then-rva-eq0-clause-some
 returns-then-rva-eq0-clause-some g c = some_none c.args.meter.now.source.size (length c.args.buffer.now) c.args.rva c.if-rva-eq0.true

@@ -1,7 +1,7 @@
 use Rattle.std.proofs.Common.{◌≡◌, ◌∙◌, List, ℕ, arith, subst, sym}
 use Rattle.mdmp_dump.specs.Shape.{room_of, stream_at}
 use Rattle.mdmp_writer.specs.Gather.{Gathers, gathered}
-use Rattle.mdmp_writer.proofs.Causes.{uses_within}
+use Rattle.mdmp_writer.proofs.Causes.{uses_none, uses_within}
 use Rattle.mdmp_writer.proofs.Counting.{some_is, some_none}
 use Rattle.mdmp_writer.proofs.Passing.{near_asks, near_passes, no_second}
 use Rattle.mdmp_writer.proofs.Sending.{puts_nothing}
@@ -28,3 +28,6 @@ returns-clause-uses g c =
     let k = c.args.stream in
     let some = λ (none : room_of (stream_at s k) ≡ 0). c.if-parts-eq0.false (c.requires.parts ∙ none) in
     uses_within c.put_second_pass.ensures.uses (omega (arith, near_passes s k some)) (omega (arith, near_asks s k some))
+
+pub returns-then-parts-eq0-clause-uses : goal.returns-then-parts-eq0-clause-uses
+returns-then-parts-eq0-clause-uses g c = uses_within uses_none (omega arith) (omega arith)

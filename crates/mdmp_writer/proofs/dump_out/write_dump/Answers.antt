@@ -2,6 +2,7 @@ use Rattle.std.proofs.Common.{◌≡◌, ◌∙◌, ap, refl, subst, Some, Err, 
 use Rattle.mdmp_dump.specs.View.{dump_seen}
 use Rattle.mdmp_dump.specs.Shape.{ViewShape}
 use Rattle.mdmp_writer.specs.Gather.{Gathers, GathersPrefix, gathered}
+use Rattle.mdmp_writer.specs.Layout.{file_size, size_or}
 use Rattle.mdmp_writer.specs.Written.{written}
 use Rattle.mdmp_writer.proofs.Blocks.{dump_records_known}
 use Rattle.mdmp_writer.proofs.Causes.{cause_of_output}
@@ -48,3 +49,6 @@ returns-in-Ok-flush-clause-out g c =
     let put = rw (c.layout.ensures.shape, c.new-gather.ensures) at c.in-Ok-put_dump.ensures.out in
     dump_out old c.in-Ok.ends.file (state c.args.out.now) (state c.put_dump.new.out) (state c.flush.new.out) c.put_dump.new.gather c.flush.new.self c.in-Ok.ensures.ends.1.file
     put c.in-Ok-flush.ensures.puts c.in-Ok-flush.ensures.empties
+
+pub returns-in-Err-clause-ends : goal.returns-in-Err-clause-ends
+returns-in-Err-clause-ends g c = (ap (size_or (file_size (g.V.DumpView.shape c.args.view.now).streams)) c.in-Err.ensures.ends, refl)

@@ -1,8 +1,18 @@
-use Rattle.std.proofs.Common.{◌∙◌, ap, [], Some, List, ℕ}
+use Rattle.std.proofs.Common.{◌≡◌, ◌∙◌, ap, [], None, Option, Some, Err, List, ℕ}
 use Rattle.mdmp_source.specs.Output.{OutState}
 use Rattle.mdmp_dump.specs.Shape.{ViewShape}
 use Rattle.mdmp_dump.specs.ShapeLaws.{held}
+use Rattle.mdmp_writer.specs.declared.fault.LayoutFault.{LayoutFault}
+use Rattle.mdmp_writer.specs.Layout.{size_or}
 use Rattle.mdmp_writer.proofs.round_trip.to_memory.Goals as goal
+
+-- an answer that is a fault tells this one
+fault_is : (size : ℕ) (told : Option LayoutFault) (fault : LayoutFault) → Err fault ≡ size_or size told → told ≡ Some fault
+fault_is size None fault is = absurd (cc is)
+fault_is size (Some other) fault is = cc is
+
+pub returns-in-Err : goal.returns-in-Err
+returns-in-Err g c = fault_is _ _ c.in-Err.fault (c.in-Err.ensures.value c.args.dump.now (ap (λ (s : ViewShape). s.seen) c.view-view.ensures.shape))
 
 pub returns-in-Ok-write_dump : goal.returns-in-Ok-write_dump
 returns-in-Ok-write_dump g c =

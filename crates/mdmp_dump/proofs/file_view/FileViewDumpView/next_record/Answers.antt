@@ -41,3 +41,6 @@ returns-in-Err-clause-reliable g c =
     let s = c.args.self.now in
     let of = c.in-Err.ensures in
     λ reliable. reliable_err g.row.A.Denot s.limit s.walk s.counts.items s.rooms.items s.pass s.passed s.asked s.last s.sound c.take_record.new.walk of.pays.same c.in-Err.fault of.tells reliable
+
+pub returns-in-Ok-clause-gives : goal.returns-in-Ok-clause-gives
+returns-in-Ok-clause-gives g c = rw c.in-Some.is c.in-Ok.ensures.gives

@@ -5,7 +5,7 @@ use Rattle.mdmp_dump.specs.declared.pass.Pass.{Pass}
 use Rattle.mdmp_dump.specs.EntryWalk.{Pays, WalkState, chosen_entry, listed, pass_cost}
 use Rattle.mdmp_dump.specs.FileView.{TellsViewFault, first_pass, opening_cost, pass_cursor}
 use Rattle.mdmp_dump.proofs.KnownViews.{cost_told, inside_view, pass_begins}
-use Rattle.mdmp_dump.proofs.Moving.{reliable_err, view_begun, view_unbegun}
+use Rattle.mdmp_dump.proofs.Moving.{reliable_err, uncut_before, view_begun, view_unbegun}
 use Rattle.mdmp_dump.proofs.file_view.FileViewDumpView.rewind.Goals as goal
 
 pub index-count-requires : goal.index-count-requires
@@ -61,7 +61,7 @@ invariant_of-self g c =
     let count : n ≡ get_or s.counts.items k 0 = get_or_read s.counts.items _ _ (omega (arith, inside, s.sound.counted)) c.index-count.ensures 0 in
     let room : r ≡ get_or s.rooms.items k 0 = get_or_read s.rooms.items _ _ (omega (arith, inside, s.sound.roomed)) c.index-room.ensures 0 in
     let cost : c.from.result ≡ pass_cost (chosen_entry w k).entry n = c.from.ensures ∙ c.cost_of-cost.ensures ∙ ap (λ (e : Entry). pass_cost e n) c.entry.ensures.value in
-    let sum_is : opening_cost w s.counts.items + c.saturating_add-self.result + s.asked < 2 ^ 128 - 1 → c.saturating_add-self.result ≡ s.passed + pass_cost (chosen_entry w k).entry n = λ low. omega (arith, low, c.saturating_add-self.ensures, cost) in
+    let sum_is : opening_cost w s.counts.items + c.saturating_add-self.result + s.asked < 2 ^ 128 - 1 → c.saturating_add-self.result ≡ s.passed + pass_cost (chosen_entry w k).entry n = λ low. uncut_before s.passed c.from.result c.saturating_add-self.result (opening_cost w s.counts.items) s.asked c.saturating_add-self.ensures low ∙ ap (λ m. s.passed + m) cost in
     let pays = subst (λ (u : WalkState). Pays (listed (chosen_entry u k).entry) 0 u v) c.entry.ensures.same c.in-Ok.ensures.pays in
     let tells = subst (λ (u : WalkState). TellsViewFault u (Ok c.in-Ok.pass) v) c.entry.ensures.same c.in-Ok.ensures.tells in
     let first = c.in-Ok.ensures.begins.1 ∙ ap (λ (u : WalkState). first_pass u k n r) c.entry.ensures.same in
@@ -79,7 +79,7 @@ invariant_of-self-in-Err g c =
     let count : n ≡ get_or s.counts.items k 0 = get_or_read s.counts.items _ _ (omega (arith, inside, s.sound.counted)) c.index-count.ensures 0 in
     let room : r ≡ get_or s.rooms.items k 0 = get_or_read s.rooms.items _ _ (omega (arith, inside, s.sound.roomed)) c.index-room.ensures 0 in
     let cost : c.from.result ≡ pass_cost (chosen_entry w k).entry n = c.from.ensures ∙ c.cost_of-cost.ensures ∙ ap (λ (e : Entry). pass_cost e n) c.entry.ensures.value in
-    let sum_is : opening_cost w s.counts.items + c.saturating_add-self.result + s.asked < 2 ^ 128 - 1 → c.saturating_add-self.result ≡ s.passed + pass_cost (chosen_entry w k).entry n = λ low. omega (arith, low, c.saturating_add-self.ensures, cost) in
+    let sum_is : opening_cost w s.counts.items + c.saturating_add-self.result + s.asked < 2 ^ 128 - 1 → c.saturating_add-self.result ≡ s.passed + pass_cost (chosen_entry w k).entry n = λ low. uncut_before s.passed c.from.result c.saturating_add-self.result (opening_cost w s.counts.items) s.asked c.saturating_add-self.ensures low ∙ ap (λ m. s.passed + m) cost in
     let pays = subst (λ (u : WalkState). Pays (listed (chosen_entry u k).entry) 0 u v) c.entry.ensures.same c.in-Err.ensures.pays in
     let tells = subst (λ (u : WalkState). TellsViewFault {T = Pass} u (Err c.in-Err.fault) v) c.entry.ensures.same c.in-Err.ensures.tells in
     record { sound = view_unbegun g.row.A.Denot s.limit w s.counts.items s.rooms.items s.pass s.passed s.asked s.last s.sound v pays.same k n r _ inside count room pays sum_is c.in-Err.fault tells }
@@ -95,10 +95,7 @@ returns-in-Ok-clause-begins g c =
     let r = c.index-room.result.now in
     let count : n ≡ get_or s.counts.items k 0 = get_or_read s.counts.items _ _ (omega (arith, inside, s.sound.counted)) c.index-count.ensures 0 in
     let room : r ≡ get_or s.rooms.items k 0 = get_or_read s.rooms.items _ _ (omega (arith, inside, s.sound.roomed)) c.index-room.ensures 0 in
-    let cost : c.from.result ≡ pass_cost (chosen_entry w k).entry n = c.from.ensures ∙ c.cost_of-cost.ensures ∙ ap (λ (e : Entry). pass_cost e n) c.entry.ensures.value in
-    let sum_is : opening_cost w s.counts.items + c.saturating_add-self.result + s.asked < 2 ^ 128 - 1 → c.saturating_add-self.result ≡ s.passed + pass_cost (chosen_entry w k).entry n = λ low. omega (arith, low, c.saturating_add-self.ensures, cost) in
     let pays = subst (λ (u : WalkState). Pays (listed (chosen_entry u k).entry) 0 u v) c.entry.ensures.same c.in-Ok.ensures.pays in
-    let tells = subst (λ (u : WalkState). TellsViewFault u (Ok c.in-Ok.pass) v) c.entry.ensures.same c.in-Ok.ensures.tells in
     let first = c.in-Ok.ensures.begins.1 ∙ ap (λ (u : WalkState). first_pass u k n r) c.entry.ensures.same in
     ap (pass_cursor g.row.A.Denot v) first
     ∙ pass_begins g.row.A.Denot s.limit w s.counts.items s.rooms.items s.sound.counted s.sound.roomed s.sound.of_file k inside v n r pays.same.fetches.fetches.same_content pays.same.chosen pays.same.choice count room
@@ -109,13 +106,9 @@ returns-in-Ok-clause-passed g c =
     let w = s.walk in
     let k = c.args.stream in
     let inside = inside_view g.row.A.Denot s.limit w s.counts.items s.rooms.items s.sound.counted s.sound.roomed s.sound.of_file k c.requires in
-    let v = c.begin_pass.new.walk in
     let n = c.index-count.result.now in
-    let r = c.index-room.result.now in
     let count : n ≡ get_or s.counts.items k 0 = get_or_read s.counts.items _ _ (omega (arith, inside, s.sound.counted)) c.index-count.ensures 0 in
-    let room : r ≡ get_or s.rooms.items k 0 = get_or_read s.rooms.items _ _ (omega (arith, inside, s.sound.roomed)) c.index-room.ensures 0 in
     let cost : c.from.result ≡ pass_cost (chosen_entry w k).entry n = c.from.ensures ∙ c.cost_of-cost.ensures ∙ ap (λ (e : Entry). pass_cost e n) c.entry.ensures.value in
-    let sum_is : opening_cost w s.counts.items + c.saturating_add-self.result + s.asked < 2 ^ 128 - 1 → c.saturating_add-self.result ≡ s.passed + pass_cost (chosen_entry w k).entry n = λ low. omega (arith, low, c.saturating_add-self.ensures, cost) in
     let told = cost_told g.row.A.Denot s.limit w s.counts.items s.rooms.items s.sound.counted s.sound.roomed s.sound.of_file k inside ∙ ap (λ m. pass_cost (chosen_entry w k).entry m) (sym count) in
     omega (arith, told, cost, c.saturating_add-self.ensures)
 
@@ -125,13 +118,9 @@ returns-in-Err-clause-passed g c =
     let w = s.walk in
     let k = c.args.stream in
     let inside = inside_view g.row.A.Denot s.limit w s.counts.items s.rooms.items s.sound.counted s.sound.roomed s.sound.of_file k c.requires in
-    let v = c.begin_pass.new.walk in
     let n = c.index-count.result.now in
-    let r = c.index-room.result.now in
     let count : n ≡ get_or s.counts.items k 0 = get_or_read s.counts.items _ _ (omega (arith, inside, s.sound.counted)) c.index-count.ensures 0 in
-    let room : r ≡ get_or s.rooms.items k 0 = get_or_read s.rooms.items _ _ (omega (arith, inside, s.sound.roomed)) c.index-room.ensures 0 in
     let cost : c.from.result ≡ pass_cost (chosen_entry w k).entry n = c.from.ensures ∙ c.cost_of-cost.ensures ∙ ap (λ (e : Entry). pass_cost e n) c.entry.ensures.value in
-    let sum_is : opening_cost w s.counts.items + c.saturating_add-self.result + s.asked < 2 ^ 128 - 1 → c.saturating_add-self.result ≡ s.passed + pass_cost (chosen_entry w k).entry n = λ low. omega (arith, low, c.saturating_add-self.ensures, cost) in
     let told = cost_told g.row.A.Denot s.limit w s.counts.items s.rooms.items s.sound.counted s.sound.roomed s.sound.of_file k inside ∙ ap (λ m. pass_cost (chosen_entry w k).entry m) (sym count) in
     omega (arith, told, cost, c.saturating_add-self.ensures)
 
@@ -140,14 +129,7 @@ returns-in-Err-clause-reliable g c =
     let s = c.args.self.now in
     let w = s.walk in
     let k = c.args.stream in
-    let inside = inside_view g.row.A.Denot s.limit w s.counts.items s.rooms.items s.sound.counted s.sound.roomed s.sound.of_file k c.requires in
     let v = c.begin_pass.new.walk in
-    let n = c.index-count.result.now in
-    let r = c.index-room.result.now in
-    let count : n ≡ get_or s.counts.items k 0 = get_or_read s.counts.items _ _ (omega (arith, inside, s.sound.counted)) c.index-count.ensures 0 in
-    let room : r ≡ get_or s.rooms.items k 0 = get_or_read s.rooms.items _ _ (omega (arith, inside, s.sound.roomed)) c.index-room.ensures 0 in
-    let cost : c.from.result ≡ pass_cost (chosen_entry w k).entry n = c.from.ensures ∙ c.cost_of-cost.ensures ∙ ap (λ (e : Entry). pass_cost e n) c.entry.ensures.value in
-    let sum_is : opening_cost w s.counts.items + c.saturating_add-self.result + s.asked < 2 ^ 128 - 1 → c.saturating_add-self.result ≡ s.passed + pass_cost (chosen_entry w k).entry n = λ low. omega (arith, low, c.saturating_add-self.ensures, cost) in
     let pays = subst (λ (u : WalkState). Pays (listed (chosen_entry u k).entry) 0 u v) c.entry.ensures.same c.in-Err.ensures.pays in
     let tells = subst (λ (u : WalkState). TellsViewFault {T = Pass} u (Err c.in-Err.fault) v) c.entry.ensures.same c.in-Err.ensures.tells in
     λ reliable. reliable_err g.row.A.Denot s.limit w s.counts.items s.rooms.items s.pass s.passed s.asked s.last s.sound v pays.same c.in-Err.fault tells reliable

@@ -1,5 +1,5 @@
 -- The bytes of a range are taken, unless they are absent.
-use Rattle.std.proofs.Common.{ℕ, ◌≡◌, ◌∙◌, List, length, Some, Ok, Err, rules, refl, ap, subst, sym}
+use Rattle.std.proofs.Common.{ℕ, ◌≡◌, ◌∙◌, List, length, Some, Ok, Err, refl, ap, subst, sym}
 use Rattle.mdmp_source.specs.declared.location.Location.{Location}
 use Rattle.mdmp_wire.specs.Descriptor.{descriptor_at}
 use Rattle.mdmp_lister.specs.declared.item.Item.{Item}
@@ -15,7 +15,7 @@ use Rattle.mdmp_dump.specs.Telling.{record_told}
 use Rattle.mdmp_dump.specs.TellingLaws.{found_at, made_found}
 use Rattle.mdmp_dump.proofs.Budget.{bytes-part}
 use Rattle.mdmp_dump.proofs.Classed.{range_classes}
-use Rattle.mdmp_dump.proofs.Taking.{Takes_as, Takes_fault_as, Takes_memory, Takes_none, row_refused}
+use Rattle.mdmp_dump.proofs.Taking.{Takes_as, Takes_fault_as, Takes_memory, Takes_none, refused_by, row_refused}
 use Rattle.mdmp_dump.proofs.memory.MemoryRangeRow.read.Goals as goal
 
 -- where the bytes of a range stand
@@ -40,13 +40,13 @@ bytes_at-requires g c = record { inside = range_classes _ c.args.fields c.requir
 
 pub returns-in_err-bytes-in-Absent : goal.returns-in_err-bytes-in-Absent
 returns-in_err-bytes-in-Absent g c =
-    let told : c.from_residual.result ≡ Err c.in_err-bytes-in-Absent.field-0.0 = search rules in
+    let told = refused_by c.from_residual.result c.in_err-bytes-in-Absent.field-0.0 c.from_residual.ensures.1 in
     let is : c.from_residual.result ≡ Err wanting.Memory = told ∙ ap Err c.in_err-bytes-in-Absent.ensures in
     row_refused _ _ _ _ _ _ _ _ wanting.Memory _ is (Takes_memory _ _)
 
 pub returns-in_err-bytes-in_default : goal.returns-in_err-bytes-in_default
 returns-in_err-bytes-in_default g c =
-    let is : c.from_residual-in_err-bytes-in_default.result ≡ Err c.in_err-bytes-in_default.field-0.0 = search rules in
+    let is = refused_by c.from_residual-in_err-bytes-in_default.result c.in_err-bytes-in_default.field-0.0 c.from_residual-in_err-bytes-in_default.ensures.1 in
     row_refused _ _ _ _ _ _ _ _ _ _ is (Takes_fault_as _ _ _ _ c.in_err-bytes-in_default.ensures.takes)
 
 pub returns-in_ok-bytes-in-Absent : goal.returns-in_ok-bytes-in-Absent

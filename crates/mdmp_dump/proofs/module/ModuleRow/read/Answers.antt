@@ -1,5 +1,5 @@
 -- A module's CodeView record is taken, and then its miscellaneous debug record.
-use Rattle.std.proofs.Common.{ℕ, ◌≡◌, List, length, Some, Err, rules, refl, ap, subst, ◌∙◌, sym}
+use Rattle.std.proofs.Common.{ℕ, ◌≡◌, List, length, Some, refl, ap, subst, ◌∙◌, sym}
 use Rattle.mdmp_lister.specs.declared.kind.StreamKind.TheVariants.{Modules}
 use Rattle.mdmp_wire.specs.Module.{module_at}
 use Rattle.mdmp_dump.specs.Name.{IsName}
@@ -11,7 +11,7 @@ use Rattle.mdmp_dump.specs.TellingLaws.{found_at, made_found, module_classed}
 use Rattle.mdmp_dump.specs.Module.{IsModule, module_record, module_told}
 use Rattle.mdmp_dump.proofs.Classed.{module_classes}
 use Rattle.mdmp_dump.proofs.Names.{made_named}
-use Rattle.mdmp_dump.proofs.Taking.{TakesSteps-known, TakesSteps-size, Takes_as, Takes_fault, Takes_fault_as, Takes_then, row_refused}
+use Rattle.mdmp_dump.proofs.Taking.{TakesSteps-known, TakesSteps-size, Takes_as, Takes_fault, Takes_fault_as, Takes_then, refused_by, row_refused}
 use Rattle.mdmp_dump.proofs.module.ModuleRow.read.Goals as goal
 
 -- a module with the fields of the record at o, its name and its parts
@@ -33,12 +33,12 @@ part-requires-2 g c = record { inside = rw (TakesSteps-size _ _ _ _ c.in_ok-code
 
 pub returns-in_err-codeview : goal.returns-in_err-codeview
 returns-in_err-codeview g c =
-    let is : c.from_residual.result ≡ Err c.in_err-codeview.field-0.0 = search rules in
+    let is = refused_by c.from_residual.result c.in_err-codeview.field-0.0 c.from_residual.ensures.1 in
     row_refused _ _ _ _ _ _ _ _ _ _ is (Takes_fault _ _ _ _ _ c.in_err-codeview.ensures.takes)
 
 pub returns-in_err-misc : goal.returns-in_err-misc
 returns-in_err-misc g c =
-    let is : c.from_residual-in_err-misc.result ≡ Err c.in_err-misc.field-0.0 = search rules in
+    let is = refused_by c.from_residual-in_err-misc.result c.in_err-misc.field-0.0 c.from_residual-in_err-misc.ensures.1 in
     row_refused _ _ _ _ _ _ _ _ _ _ is
     (Takes_then _ _ _ _ _ _ _ c.in_ok-codeview.ensures.takes (Takes_fault_as _ _ _ _ c.in_err-misc.ensures.takes))
 

@@ -19,7 +19,6 @@ returns-in-Ok-None-clause-of_file g c = λ file limit x k xs known left kind.
 
 pub returns-in-Ok-Some-clause-of_file : goal.returns-in-Ok-Some-clause-of_file
 returns-in-Ok-Some-clause-of_file g c = λ file limit x k xs known left kind.
-    let item = c.in-Ok-Some.item in
     let first = rw c.in-Ok-Some.field-0-is at (c.in-Ok-Some.ensures.gives _ left) in
     let new : c.next.follows.lender-at-none.left ≡ Some (tail (left_from file limit x k xs)) = rw (c.in-Ok-Some.is, c.in-Ok-Some.field-0-is, left) at c.next.follows.holds-at-none.list.stands.left in
     rw (new, left) (found-given file limit x k xs g.T.Row.kind g.T.Row.told g.T.Row.steps g.met.T.Row.tells kind c.args.self.now.left _ first c.told_of.result c.told_of.ensures)

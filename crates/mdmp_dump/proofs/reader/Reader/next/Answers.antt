@@ -1,19 +1,19 @@
-use Rattle.std.proofs.Common.{rules, ◌≡◌, ◌∙◌, Err}
+use Rattle.std.proofs.Common.{◌≡◌, ◌∙◌}
 use Rattle.mdmp_dump.specs.Telling.{record_told}
 use Rattle.mdmp_dump.proofs.Settled.{row-read, row-refused}
-use Rattle.mdmp_dump.proofs.Taking.{fetches_err, fetches_ok}
+use Rattle.mdmp_dump.proofs.Taking.{fetches_err, fetches_ok, refused_by}
 use Rattle.mdmp_dump.proofs.reader.Reader.next.Goals as goal
 
 pub returns-in_err-read-in-Record-clause-fetches : goal.returns-in_err-read-in-Record-clause-fetches
 returns-in_err-read-in-Record-clause-fetches g c =
     let fault = c.in_err-read-in-Record.field-0.0 in
-    let is : c.from_residual-in_err-read-in-Record.result ≡ Err fault = search rules in
+    let is = refused_by c.from_residual-in_err-read-in-Record.result fault c.from_residual-in_err-read-in-Record.ensures.1 in
     rw is (fetches_err c.args.self.now.lister.source c.find.new.self.lister.source c.read.new.reader.lister.source c.in_ok-found.ensures.fetches.fetches fault c.in_err-read-in-Record.ensures.takes.fetches)
 
 pub returns-in_err-read-in-Record-clause-of_file : goal.returns-in_err-read-in-Record-clause-of_file
 returns-in_err-read-in-Record-clause-of_file g c = λ file limit x k xs known left kind.
     let fault = c.in_err-read-in-Record.field-0.0 in
-    let is : c.from_residual-in_err-read-in-Record.result ≡ Err fault = search rules in
+    let is = refused_by c.from_residual-in_err-read-in-Record.result fault c.from_residual-in_err-read-in-Record.ensures.1 in
     let found = rw c.in-Record.is at (c.in_ok-found.ensures.of_file file limit x k xs known left kind) in
     let first = c.in_ok-found.ensures.fetches.fetches.fetches in
     rw is (tt, row-refused file limit x k xs g.T.Row.kind (record_told g.T.Row.told) g.T.Row.steps g.T.Row.IsAt _ c.find.new.self c.in-Record.found c.in-Record.name found.0 found.1 (first.same_content ∙ known) c.read.new.reader fault c.in_err-read-in-Record.ensures)

@@ -1,13 +1,13 @@
-use Rattle.std.proofs.Common.{rules, ◌≡◌, Err}
+use Rattle.std.proofs.Common.{◌≡◌}
 use Rattle.mdmp_dump.specs.declared.part.Part.TheVariants as parts
 use Rattle.mdmp_dump.proofs.Budget.{bytes-part}
-use Rattle.mdmp_dump.proofs.Taking.{Takes_as, Takes_fault_as}
+use Rattle.mdmp_dump.proofs.Taking.{Takes_as, Takes_fault_as, refused_by}
 use Rattle.mdmp_dump.proofs.reader.Reader.part.Goals as goal
 
 pub returns-in_err-bytes-in_default : goal.returns-in_err-bytes-in_default
 returns-in_err-bytes-in_default g c =
     let fault = c.in_err-bytes-in_default.field-0.0 in
-    let is : c.from_residual.result ≡ Err fault = search rules in
+    let is = refused_by c.from_residual.result fault c.from_residual.ensures.1 in
     let takes = rw (c.from.ensures, c.from-size.ensures) at c.in_err-bytes-in_default.ensures.takes in
     rw is (record { takes = Takes_fault_as _ c.args.self.now fault c.bytes_at.new.self takes; of_file = λ file known. tt })
 

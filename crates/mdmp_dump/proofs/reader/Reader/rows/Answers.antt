@@ -1,13 +1,13 @@
-use Rattle.std.proofs.Common.{rules, ◌≡◌, ◌∙◌, ◌+◌, ◌∷◌, [], ◌++◌, ℕ, length, length-append, Some, Err, arith, subst, sym}
+use Rattle.std.proofs.Common.{◌≡◌, ◌∙◌, ◌+◌, ◌∷◌, [], ◌++◌, ℕ, length, length-append, Some, Err, arith, subst, sym}
 use Rattle.mdmp_dump.specs.Left.{left_from}
 use Rattle.mdmp_dump.proofs.Settled.{rows-all, rows-more}
-use Rattle.mdmp_dump.proofs.Taking.{FetchesSome_then, Fetches_memory, fetches_err, fetches_ok}
+use Rattle.mdmp_dump.proofs.Taking.{FetchesSome_then, Fetches_memory, fetches_err, fetches_ok, refused_by}
 use Rattle.mdmp_dump.proofs.reader.Reader.rows.Goals as goal
 
 pub returns-in_err-row-clause-fetches : goal.returns-in_err-row-clause-fetches
 returns-in_err-row-clause-fetches g c =
     let fault = c.in_err-row.field-0.0 in
-    let is : c.from_residual.result ≡ Err fault = search rules in
+    let is = refused_by c.from_residual.result fault c.from_residual.ensures.1 in
     rw is (fetches_err c.args.self.now.lister.source c.loop-rows.self.lister.source c.next.new.self.lister.source c.loop-rows.invariant.fetches fault c.in_err-row.ensures.fetches)
 
 pub loop-rows-preserved : goal.loop-rows-preserved

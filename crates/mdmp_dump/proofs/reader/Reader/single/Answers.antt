@@ -1,18 +1,18 @@
-use Rattle.std.proofs.Common.{rules, ◌≡◌, ◌∙◌, refl, Err}
+use Rattle.std.proofs.Common.{◌≡◌, ◌∙◌, refl}
 use Rattle.mdmp_dump.proofs.Settled.{behind-given, no-row-after-one, one-read}
-use Rattle.mdmp_dump.proofs.Taking.{fetches_err, fetches_ok}
+use Rattle.mdmp_dump.proofs.Taking.{fetches_err, fetches_ok, refused_by}
 use Rattle.mdmp_dump.proofs.reader.Reader.single.Goals as goal
 
 pub returns-in_err-behind-in-Row-clause-fetches : goal.returns-in_err-behind-in-Row-clause-fetches
 returns-in_err-behind-in-Row-clause-fetches g c =
     let fault = c.in_err-behind-in-Row.field-0.0 in
-    let is : c.from_residual-in_err-behind-in-Row.result ≡ Err fault = search rules in
+    let is = refused_by c.from_residual-in_err-behind-in-Row.result fault c.from_residual-in_err-behind-in-Row.ensures.1 in
     rw is (fetches_err c.args.self.now.lister.source c.next.new.self.lister.source c.behind.new.self.lister.source c.in_ok-row.ensures.fetches.fetches fault c.in_err-behind-in-Row.ensures.fetches)
 
 pub returns-in_err-behind-in-Row-clause-of_file : goal.returns-in_err-behind-in-Row-clause-of_file
 returns-in_err-behind-in-Row-clause-of_file g c = λ file limit x xs known left kind one.
     let fault = c.in_err-behind-in-Row.field-0.0 in
-    let is : c.from_residual-in_err-behind-in-Row.result ≡ Err fault = search rules in
+    let is = refused_by c.from_residual-in_err-behind-in-Row.result fault c.from_residual-in_err-behind-in-Row.ensures.1 in
     let given = rw c.in-Row.is at (c.in_ok-row.ensures.of_file file limit x 0 xs known left kind) in
     let first = no-row-after-one file limit x xs g.T.Row.kind (g.T.Row.IsAt file x.entry.location.rva) kind one c.in-Row.row given.0.0 in
     let behind = c.in_err-behind-in-Row.ensures.gives file _ (c.in_ok-row.ensures.fetches.fetches.fetches.same_content ∙ known) given.0.1 first in

@@ -1,5 +1,5 @@
 -- A thread's stack is taken, and then its registers.
-use Rattle.std.proofs.Common.{ℕ, ◌≡◌, List, length, Some, Err, rules, refl, ap, subst}
+use Rattle.std.proofs.Common.{ℕ, ◌≡◌, List, length, Some, refl, ap, subst}
 use Rattle.mdmp_lister.specs.declared.item.ThreadItem.{ThreadItem}
 use Rattle.mdmp_lister.specs.declared.kind.StreamKind.TheVariants.{Threads}
 use Rattle.mdmp_lister.specs.Format.Item.{thread_item}
@@ -10,7 +10,7 @@ use Rattle.mdmp_dump.specs.declared.thread.Thread.{Thread}
 use Rattle.mdmp_dump.specs.TellingLaws.{found_at, made_found}
 use Rattle.mdmp_dump.specs.Thread.{IsThread, thread_record, thread_told}
 use Rattle.mdmp_dump.proofs.Classed.{thread_classes}
-use Rattle.mdmp_dump.proofs.Taking.{TakesSteps-known, TakesSteps-size, Takes_as, Takes_fault, Takes_fault_as, Takes_then, row_refused}
+use Rattle.mdmp_dump.proofs.Taking.{TakesSteps-known, TakesSteps-size, Takes_as, Takes_fault, Takes_fault_as, Takes_then, refused_by, row_refused}
 use Rattle.mdmp_dump.proofs.thread.ThreadRow.read.Goals as goal
 
 -- a thread with the fields of the record at o, and its parts
@@ -31,12 +31,12 @@ part-requires-2 g c = record { inside = rw (TakesSteps-size _ _ _ _ c.in_ok-stac
 
 pub returns-in_err-stack : goal.returns-in_err-stack
 returns-in_err-stack g c =
-    let is : c.from_residual.result ≡ Err c.in_err-stack.field-0.0 = search rules in
+    let is = refused_by c.from_residual.result c.in_err-stack.field-0.0 c.from_residual.ensures.1 in
     row_refused _ _ _ _ _ _ _ _ _ _ is (Takes_fault _ _ _ _ _ c.in_err-stack.ensures.takes)
 
 pub returns-in_err-context : goal.returns-in_err-context
 returns-in_err-context g c =
-    let is : c.from_residual-in_err-context.result ≡ Err c.in_err-context.field-0.0 = search rules in
+    let is = refused_by c.from_residual-in_err-context.result c.in_err-context.field-0.0 c.from_residual-in_err-context.ensures.1 in
     row_refused _ _ _ _ _ _ _ _ _ _ is
     (Takes_then _ _ _ _ _ _ _ c.in_ok-stack.ensures.takes (Takes_fault_as _ _ _ _ c.in_err-context.ensures.takes))
 

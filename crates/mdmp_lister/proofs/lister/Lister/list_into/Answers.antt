@@ -175,3 +175,6 @@ returns-in-Err-clause-good g c = λ file good fault is of.
     let now : IsGood c.loop-item.self.source.store file = record { known = fetched.same_content ∙ good.known; reliable = rw fetched.same_reliable good.reliable } in
     let same : c.in-Err.fault ≡ fault = cc in
     c.in-Err.ensures.good file now (subst (λ (f : ListFault). IsOfStore f.kind) (sym same) of)
+
+pub returns-in-Err-take-clause-stop : goal.returns-in-Err-take-clause-stop
+returns-in-Err-take-clause-stop g c = rw (c.in-Ok-Some.is, c.in-Ok-Some.field-0-is) at c.next.follows.holds-at-none.list.stands.stop

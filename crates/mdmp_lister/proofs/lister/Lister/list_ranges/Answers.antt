@@ -1,4 +1,5 @@
 use Rattle.std.proofs.Common.{◌∙◌, ◌++◌, ap}
+use Rattle.mdmp_lister.specs.Format.Listing.{Run}
 use Rattle.mdmp_lister.proofs.Unseen.{never_stopped, ranges-all}
 use Rattle.mdmp_lister.proofs.lister.Lister.list_ranges.Goals as goal
 
@@ -33,3 +34,9 @@ returns-in-Err-At-clause-follows g c =
 
 pub returns-in-Err-Stopped-clause-follows : goal.returns-in-Err-Stopped-clause-follows
 returns-in-Err-Stopped-clause-follows g c = let run = rw c.in-Err-Stopped.field-0-is at c.in-Err-Stopped.ensures.runs in absurd (never_stopped run.items _ _ run.handed)
+
+pub returns-in-Err-At-clause-lists : goal.returns-in-Err-At-clause-lists
+returns-in-Err-At-clause-lists g c = λ left known.
+    let run = rw c.in-Err-At.field-0-is at c.in-Err-At.ensures.runs in
+    let rest = run.left left known in
+    λ not. ap (λ (all : Run). all.fault) (rest.1.1.1.0 not)

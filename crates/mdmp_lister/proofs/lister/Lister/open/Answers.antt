@@ -1,5 +1,12 @@
-use Rattle.std.proofs.Common.{subst, Err}
+use Rattle.std.proofs.Common.{◌≡◌, ◌∙◌, ◌≤◌, ℕ, List, None, Err, ap, arith, inr, refl, rules, subst}
+use Rattle.std.proofs.lemmas.Bool.{le-ltb, lt-ltb}
+use Rattle.mdmp_source.specs.Source.{FetchesAtMost}
+use Rattle.mdmp_source.specs.SourceLaws.{fetches_then}
+use Rattle.mdmp_lister.specs.declared.choice.Choice.{Choice}
+use Rattle.mdmp_lister.specs.Format.Numbers.{range_count}
+use Rattle.mdmp_lister.specs.Format.Refusal.{directory_refusal, most_ranges, opening_fault}
 use Rattle.mdmp_lister.specs.Opening.{IsOfHead, refusal_of_fetch}
+use Rattle.mdmp_lister.specs.StreamHead.{heads_ahead}
 use Rattle.mdmp_lister.proofs.Budgets.{over_fetched}
 use Rattle.mdmp_lister.proofs.Advancing.{IsHandedBack-counted, KeepsToBudget-counted}
 use Rattle.mdmp_lister.proofs.Refusals.{not_of_head}
@@ -38,3 +45,62 @@ pub returns-in-Err-with_room-clause-handed_back : goal.returns-in-Err-with_room-
 returns-in-Err-with_room-clause-handed_back g c =
     rw c.refused-in-Err-with_room.ensures.made
     (IsHandedBack-counted c.args.source c.args.choice c.args.limits c.in-Ok.walk c.count_ranges.new.self c.count_ranges.result _ c.in-Ok.ensures.new c.count_ranges.ensures (λ of. of))
+
+-- a file whose header and directory have no fault, and whose chosen lists have so many ranges, may be opened
+few_ranges : (file : List ℕ) (choice : Choice) (count : ℕ) → directory_refusal file ≡ None → count ≡ range_count file choice → count ≤ most_ranges → opening_fault file choice ≡ None
+few_ranges file choice count opens is few = rw (opens, ← is, le-ltb most_ranges count few) refl
+
+pub returns-then-count-gt-MOST_RANGES-clause-opens : goal.returns-then-count-gt-MOST_RANGES-clause-opens
+returns-then-count-gt-MOST_RANGES-clause-opens g c = λ file known.
+    let new = c.in-Ok.ensures.new in
+    let count = c.in-Ok-count_ranges.count in
+    let is : count ≡ range_count file c.args.choice = c.in-Ok-count_ranges.ensures.count file (new.spends.fetches.same_content ∙ known) ∙ ap (range_count file) new.choice_is in
+    rw (c.refused-then-count-gt-MOST_RANGES.ensures.made, new.reads.opens file known, ← is, lt-ltb most_ranges count (omega arith)) refl
+
+pub returns-in-Ok-with_room-clause-opens : goal.returns-in-Ok-with_room-clause-opens
+returns-in-Ok-with_room-clause-opens g c = λ file known.
+    let new = c.in-Ok.ensures.new in
+    few_ranges file c.args.choice c.in-Ok-count_ranges.count (new.reads.opens file known) (c.in-Ok-count_ranges.ensures.count file (new.spends.fetches.same_content ∙ known) ∙ ap (range_count file) new.choice_is) (omega arith)
+
+pub returns-in-Err-with_room-clause-memory : goal.returns-in-Err-with_room-clause-memory
+returns-in-Err-with_room-clause-memory g c = λ memory.
+    let new = c.in-Ok.ensures.new in
+    inr (λ file known. few_ranges file c.args.choice c.in-Ok-count_ranges.count (new.reads.opens file known) (c.in-Ok-count_ranges.ensures.count file (new.spends.fetches.same_content ∙ known) ∙ ap (range_count file) new.choice_is) (omega arith))
+
+pub returns-in-Ok-with_room-clause-new : goal.returns-in-Ok-with_room-clause-new
+returns-in-Ok-with_room-clause-new g c =
+    let new = c.in-Ok.ensures.new in
+    let counts = c.in-Ok-count_ranges.ensures in
+    let books = counts.books in
+    let room = counts.same.room in
+    let w = c.in-Ok.walk in
+    let heads : heads_ahead w.choice w.meter.source.size w.entries.items ≡ heads_ahead c.args.choice c.args.source.size w.entries.items =
+    ap (λ (c : Choice). heads_ahead c w.meter.source.size w.entries.items) new.choice_is ∙ ap (λ z. heads_ahead c.args.choice z w.entries.items) new.spends.fetches.same_size in
+    let free : c.in-Ok-with_room.map.room ≡ c.in-Ok-count_ranges.count = search rules in
+    record {
+      list = record {
+        same_content = books.fetches.same_content ∙ new.spends.fetches.same_content;
+        steady = (counts.caused.once.0 ∙ new.spends.steady.0, counts.caused.once.1 ∙ new.spends.steady.1);
+        counts = record { budget_is = books.same_budget ∙ new.budget; names = books.same_names ∙ new.spends.names; aside = books.same_aside ∙ new.spends.aside; start = books.same_start ∙ new.spends.start };
+        read = record {
+          header_is = λ file known. counts.sound.header_is file (books.fetches.same_content ∙ new.spends.fetches.same_content ∙ known);
+          directory = λ file known. counts.sound.directory file (books.fetches.same_content ∙ new.spends.fetches.same_content ∙ known);
+          checked = rw room.header_is new.reads.checked;
+          inside = rw room.header_is new.reads.placed;
+          count = omega (arith, counts.sound.whole, c.count_ranges.new.self.entries.ok.0);
+        };
+        asked = record { choice_is = room.choice ∙ new.choice_is; limit_is = room.name ∙ new.name; window_room = room.window ∙ new.window; entry_room = rw (room.entries, room.header_is) new.reads.room };
+        given = record {
+          left = rw (room.choice, new.choice_is) (search rules);
+          stop = rw (counts.stage, new.stage) refl;
+          passed = counts.same.next ∙ new.next;
+          standing = rw (counts.stage, new.stage) refl;
+          unread = rw (counts.stage, new.stage) refl;
+          ranges = search rules;
+        };
+      };
+      fetches = rw (room.header_is, room.entries) (fetches_then _ _ _ _ _ new.spends.fetches (subst (λ k. FetchesAtMost k w.meter.source c.count_ranges.new.self.meter.source) heads books.fetches));
+      calls = rw room.header_is (omega (arith, books.source_calls, new.spends.calls, new.reads.entries));
+      range_room = λ file known. free ∙ counts.count file (new.spends.fetches.same_content ∙ known) ∙ ap (range_count file) new.choice_is;
+      few = omega (arith, free);
+    }

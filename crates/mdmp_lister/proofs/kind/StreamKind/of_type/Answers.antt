@@ -1,0 +1,5 @@
+use Rattle.std.proofs.Common.{refl}
+use Rattle.mdmp_lister.proofs.kind.StreamKind.of_type.Goals as goal
+
+pub returns-in-16 : goal.returns-in-16
+returns-in-16 c = rw c.in-16.is refl

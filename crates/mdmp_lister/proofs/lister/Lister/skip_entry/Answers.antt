@@ -1,0 +1,20 @@
+use Rattle.std.proofs.Common.{◌≡◌, false, refl, rules}
+use Rattle.mdmp_lister.specs.declared.stage.Stage.TheVariants.{Between}
+use Rattle.mdmp_lister.specs.Lister.{is_for_good}
+use Rattle.mdmp_lister.specs.Stage.{stop_of}
+use Rattle.mdmp_lister.specs.Walk.Mapping.{IsMapped}
+use Rattle.mdmp_lister.proofs.lister.Lister.skip_entry.Goals as goal
+
+pub returns-clause-skips : goal.returns-clause-skips
+returns-clause-skips g c =
+    let w = c.self.inside.walk in
+    let moved : is_for_good (stop_of w.stage) ≡ false → c.skip_entry.new.self ≡ record w { stage = Between } = search rules in
+    rw (← c.self.view_is) (λ going. rw (moved going) (search rules, refl, refl, refl))
+
+pub returns-clause-rests : goal.returns-clause-rests
+returns-clause-rests g c = rw (← c.self.view_is) c.skip_entry.ensures.rests
+
+pub invariant_of-self : goal.invariant_of-self
+invariant_of-self g c =
+    let mapped : IsMapped c.skip_entry.new.self c.self.inside.map = search rules in
+    mapped

@@ -1,0 +1,8 @@
+use Rattle.mdmp_wire.proofs.memory_info_list.MemoryInfoListRecord.read.Goals as goal
+
+pub returns : goal.returns
+returns c = λ i. record {
+  size_of_header = c.get_at.ensures i;
+  size_of_entry = c.get_at-2.ensures i;
+  number_of_entries = c.get_at-3.ensures i;
+}
