@@ -2,14 +2,17 @@
 # Writes the value of each real dump anew, and compares what a reader that is not of this repository
 # finds in the dump and in the file that was written: LLVM's obj2yaml, which prints a dump's records,
 # names and bytes, and no place where they stand. Of thread names (0x18) it prints the bytes, in which
-# the places of the names stand: that line is left out.
+# the places of the names stand: that line is left out. Then it compares what jq and Python's json read in
+# the objects that 'list --json --pdb' and 'check --json' print of it, one a line.
 #
-# It wants obj2yaml of LLVM 19 (Debian: llvm-19), and the program of crates/mdmp_example_rewrite, which
-# 'rt run' leaves in that folder's out/. Both have another place in OBJ2YAML and REWRITE.
+# It wants obj2yaml of LLVM 19 and jq (Debian: llvm-19, jq), and the programs of crates/mdmp_example_rewrite
+# and crates/mdmp, which 'rt run' leaves in their folders' out/. The programs and obj2yaml have other places
+# in REWRITE, MDMP and OBJ2YAML.
 set -eu
 cd "$(dirname "$0")/.."
 obj2yaml=${OBJ2YAML:-/usr/lib/llvm-19/bin/obj2yaml}
 rewrite=${REWRITE:-crates/mdmp_example_rewrite/out/mdmp_example_rewrite}
+mdmp=${MDMP:-crates/mdmp/out/mdmp}
 folder=$(mktemp -d)
 trap 'rm -r "$folder"' EXIT
 status=0
@@ -19,7 +22,30 @@ told() {
     "$obj2yaml" "$1" > "$folder/whole" 2> "$folder/why" && sed '/Type: *0x18$/ { n; d; }' "$folder/whole"
 }
 
+# What Python reads in the objects of its input, each with its members in the order of their names.
+by_python='import json, sys
+for line in sys.stdin.buffer.read().decode("utf-8").split("\n")[:-1]:
+    print(json.dumps(json.loads(line), sort_keys=True, ensure_ascii=False, separators=(",", ":")))'
+
+# Compares both readers of the objects that a command prints: compare_objects DUMP WORD..
+compare_objects() {
+    name=$(basename "$1")
+    dump=$1
+    shift
+    "$mdmp" "$@" "$dump" > "$folder/lines"
+    jq -cS . "$folder/lines" > "$folder/by_jq"
+    PYTHONIOENCODING=utf-8 python3 -c "$by_python" < "$folder/lines" > "$folder/by_python"
+    if [ "$(wc -l < "$folder/lines")" = "$(wc -l < "$folder/by_jq")" ] && diff "$folder/by_jq" "$folder/by_python"; then
+        echo "$name: $*: $(wc -l < "$folder/lines") objects, the same by jq and Python"
+    else
+        echo "$name: $*: other objects by jq and Python"
+        status=1
+    fi
+}
+
 for dump in crates/mdmp_samples/data/*.dmp; do
+    compare_objects "$dump" list --json --pdb
+    compare_objects "$dump" check --json
     name=$(basename "$dump")
     if ! told "$dump" > "$folder/read"; then
         echo "$name: not read by obj2yaml: $(cat "$folder/why")"

@@ -324,10 +324,14 @@ uint32_t mdmp_streams_(const uint8_t *file, size_t file_size, mdmp_stream *out, 
     mdmp_fault *fault);
 uint32_t mdmp_check_(const uint8_t *file, size_t file_size, const mdmp_limits *limits, uint8_t *out,
     size_t room, uint64_t *size, mdmp_fault *fault);
+uint32_t mdmp_check_json_(const uint8_t *file, size_t file_size, const mdmp_limits *limits, uint8_t *out,
+    size_t room, uint64_t *size, mdmp_fault *fault);
 uint32_t mdmp_verdicts_(const uint8_t *file, size_t file_size, const mdmp_limits *limits, mdmp_fault *out,
     size_t room, uint64_t *count, mdmp_fault *fault);
 uint32_t mdmp_list_(const uint8_t *file, size_t file_size, const mdmp_limits *limits, bool pdb, uint8_t *out,
     size_t room, uint64_t *size, mdmp_fault *fault);
+uint32_t mdmp_list_json_(const uint8_t *file, size_t file_size, const mdmp_limits *limits, bool pdb,
+    uint8_t *out, size_t room, uint64_t *size, mdmp_fault *fault);
 uint32_t mdmp_list_part_(const uint8_t *file, size_t file_size, const mdmp_limits *limits, bool pdb,
     uint64_t skip, uint8_t *out, size_t room, uint64_t *size, mdmp_fault *fault);
 uint32_t mdmp_copy_(const uint8_t *file, size_t file_size, const mdmp_limits *limits, const uint32_t *types,
@@ -387,7 +391,17 @@ static inline uint32_t mdmp_check(const uint8_t *file, size_t file_size, const m
         size, fault);
 }
 
-/* The same as numbers: a fault for each entry of the directory, in its order, whose kind is
+/* What mdmp_check tells as JSON Lines, the text of `mdmp check --json`: an object for each entry, each
+ * ended by a line feed, in UTF-8. */
+static inline uint32_t mdmp_check_json(const uint8_t *file, size_t file_size, const mdmp_limits *limits,
+    uint8_t *out, size_t room, uint64_t *size, mdmp_fault *fault) {
+    static uint8_t no_file;
+    static uint8_t no_out;
+    return mdmp_check_json_(file_size != 0 ? file : &no_file, file_size, limits, room != 0 ? out : &no_out,
+        room, size, fault);
+}
+
+/* What mdmp_check tells, as numbers: a fault for each entry of the directory, in its order, whose kind is
  * MDMP_FAULT_NONE and whose `entry` is the entry's number where it is good. Status and `fault` are those
  * of mdmp_check, and all verdicts are given where an entry is bad. */
 static inline uint32_t mdmp_verdicts(const uint8_t *file, size_t file_size, const mdmp_limits *limits,
@@ -407,6 +421,16 @@ static inline uint32_t mdmp_list(const uint8_t *file, size_t file_size, const md
     static uint8_t no_out;
     return mdmp_list_(file_size != 0 ? file : &no_file, file_size, limits, pdb, room != 0 ? out : &no_out,
         room, size, fault);
+}
+
+/* What mdmp_list tells as JSON Lines, the text of `mdmp list --json`: an object in the place of each line,
+ * each ended by a line feed, in UTF-8. */
+static inline uint32_t mdmp_list_json(const uint8_t *file, size_t file_size, const mdmp_limits *limits,
+    bool pdb, uint8_t *out, size_t room, uint64_t *size, mdmp_fault *fault) {
+    static uint8_t no_file;
+    static uint8_t no_out;
+    return mdmp_list_json_(file_size != 0 ? file : &no_file, file_size, limits, pdb,
+        room != 0 ? out : &no_out, room, size, fault);
 }
 
 /* What stands behind the first `skip` bytes of the text of mdmp_list; `size` is how long that is, and

@@ -1,4 +1,5 @@
-/* A small command over the calls: command (check | list | pdb | parts | fields | copy TYPE..) DUMP */
+/* A small command over the calls: command (check | list | pdb | check-json | list-json | pdb-json | parts | fields |
+ * copy TYPE..) DUMP */
 #include "texts.h"
 
 /* What a call that gives bytes was asked for, so that each is called again in one place. */
@@ -15,7 +16,14 @@ static uint32_t call(const request *asked, blob file, uint8_t *out, size_t room,
     if (strcmp(asked->word, "copy") == 0) {
         return mdmp_copy(file.bytes, file.size, &LIMITS, asked->types, asked->types_count, out, room, size, fault);
     }
-    return mdmp_list(file.bytes, file.size, &LIMITS, strcmp(asked->word, "pdb") == 0, out, room, size, fault);
+    if (strcmp(asked->word, "check-json") == 0) {
+        return mdmp_check_json(file.bytes, file.size, &LIMITS, out, room, size, fault);
+    }
+    bool pdb = strncmp(asked->word, "pdb", strlen("pdb")) == 0;
+    if (strstr(asked->word, "-json") != NULL) {
+        return mdmp_list_json(file.bytes, file.size, &LIMITS, pdb, out, room, size, fault);
+    }
+    return mdmp_list(file.bytes, file.size, &LIMITS, pdb, out, room, size, fault);
 }
 
 static void print_whole(const request *asked, blob file) {

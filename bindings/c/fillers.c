@@ -12,8 +12,10 @@ static const uint32_t TYPES[] = {0, 3, 4, 5, 6, 7, 9, 10, 11, 14, 15, 16, 24, 0x
 
 FILLER(streams, mdmp_stream, )
 FILLER(check, uint8_t, WITH_LIMITS)
+FILLER(check_json, uint8_t, WITH_LIMITS)
 FILLER(verdicts, mdmp_fault, WITH_LIMITS)
 FILLER(list, uint8_t, WITH_LIMITS true, )
+FILLER(list_json, uint8_t, WITH_LIMITS true, )
 FILLER(list_part, uint8_t, WITH_LIMITS false, 40, )
 FILLER(copy, uint8_t, WITH_LIMITS TYPES, sizeof TYPES / sizeof *TYPES, )
 FILLER(threads, mdmp_thread, WITH_LIMITS)
@@ -32,8 +34,10 @@ FILLER(name, uint8_t, name_rva, LIMITS.name, )
 const filler FILLERS[] = {
     ROW(streams, mdmp_stream, false),
     ROW(check, uint8_t, true),
+    ROW(check_json, uint8_t, true),
     ROW(verdicts, mdmp_fault, true),
     ROW(list, uint8_t, true),
+    ROW(list_json, uint8_t, true),
     ROW(list_part, uint8_t, true),
     ROW(copy, uint8_t, true),
     ROW(threads, mdmp_thread, true),

@@ -150,7 +150,7 @@ class Dump:
 
     def _text(self, call: Any, *arguments: Any) -> str:
         filled = self._fill(call, c_uint8, _some_text, byref(self._limits), *arguments)
-        text = filled.bytes().decode("ascii")
+        text = filled.bytes().decode("utf-8")
         expect_good(filled.status, filled.fault, text)
         return text
 
@@ -349,6 +349,24 @@ class Dump:
     def list(self, *, pdb: bool = False) -> str:
         """The text of `mdmp list`, or `mdmp list --pdb`. Behind a fault its `partial` is the text before it."""
         return self._text(library.mdmp_list_, pdb)
+
+    def check_json(self) -> str:
+        """The text of `mdmp check --json`: an object for each entry, one a line. Fault as `check` has it.
+
+        >>> import json, mdmp
+        >>> with mdmp.open("llvm-x86.dmp") as dump:
+        ...     [json.loads(line)["fault"] for line in dump.check_json().splitlines()]
+        [None, None, None]
+        """
+        return self._text(library.mdmp_check_json_)
+
+    def list_json(self, *, pdb: bool = False) -> str:
+        """The text of `mdmp list --json`, or `mdmp list --json --pdb`: an object in the place of each line.
+
+        A line feed ends each object, and stands nowhere else, but U+2028 may stand in a name: part the text by
+        `split("\\n")` rather than `splitlines()`. Behind a fault its `partial` is the text before it.
+        """
+        return self._text(library.mdmp_list_json_, pdb)
 
     def write_list(self, stream: IO[str], *, pdb: bool = False) -> None:
         """Writes the text of `list` in parts of 16 MiB: of a long one no more is held at a time."""

@@ -489,6 +489,16 @@ def declare(library: CDLL) -> None:
         POINTER(Fault),
     ]
     library.mdmp_check_.restype = c_uint32
+    library.mdmp_check_json_.argtypes = [
+        c_void_p,
+        c_size_t,
+        POINTER(Limits),
+        POINTER(c_uint8),
+        c_size_t,
+        POINTER(c_uint64),
+        POINTER(Fault),
+    ]
+    library.mdmp_check_json_.restype = c_uint32
     library.mdmp_verdicts_.argtypes = [
         c_void_p,
         c_size_t,
@@ -510,6 +520,17 @@ def declare(library: CDLL) -> None:
         POINTER(Fault),
     ]
     library.mdmp_list_.restype = c_uint32
+    library.mdmp_list_json_.argtypes = [
+        c_void_p,
+        c_size_t,
+        POINTER(Limits),
+        c_bool,
+        POINTER(c_uint8),
+        c_size_t,
+        POINTER(c_uint64),
+        POINTER(Fault),
+    ]
+    library.mdmp_list_json_.restype = c_uint32
     library.mdmp_list_part_.argtypes = [
         c_void_p,
         c_size_t,

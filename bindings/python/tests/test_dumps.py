@@ -42,6 +42,18 @@ class Stored(unittest.TestCase):
                 dump.write_list(written, pdb=True)
                 self.assertTrue(written.getvalue() == stored(path, ".pdb"))
 
+    def test_objects(self) -> None:
+        for path in dumps():
+            with self.subTest(path.name), mdmp.open(path) as dump:
+                text = dump.list_json(pdb=True)
+                self.assertTrue(text == path.with_suffix(".pdb.jsonl").read_text("utf-8"))
+                self.assertTrue(dump.check_json() == path.with_suffix(".check.jsonl").read_text("utf-8"))
+                objects = [json.loads(line) for line in text.split("\n")[:-1]]
+                plain = dump.list(pdb=True).splitlines()
+                self.assertEqual([each["line"] for each in objects], [line.split()[0] for line in plain])
+                without = [json.loads(line) for line in dump.list_json().split("\n")[:-1]]
+                self.assertEqual(without, [each for each in objects if each["line"] != "pdb"])
+
     def test_fields(self) -> None:
         for path in dumps():
             with self.subTest(path.name), mdmp.open(path) as dump:

@@ -82,7 +82,7 @@ fn fill<T: Copy + Default>(
     }
 }
 
-/// The texts of the library are ASCII, and its names UTF-8.
+/// The texts of the library and its names are UTF-8.
 fn text(bytes: Vec<u8>) -> String {
     String::from_utf8(bytes).expect("the library gives UTF-8")
 }
@@ -206,6 +206,15 @@ impl<'a> Dump<'a> {
         .ended(text)
     }
 
+    /// The text of `mdmp check --json`: an object of JSON for each entry, one a line. An error where an entry is bad, with
+    /// the whole text.
+    pub fn check_json(&self) -> Result<String, Error<String>> {
+        fill(self.text_room(), |out, size, fault| {
+            ffi::mdmp_check_json(self.file, &self.limits, out, size, fault)
+        })
+        .ended(text)
+    }
+
     /// The text of `mdmp list`.
     pub fn list(&self) -> Result<String, Error<String>> {
         self.listed(false)
@@ -219,6 +228,23 @@ impl<'a> Dump<'a> {
     fn listed(&self, pdb: bool) -> Result<String, Error<String>> {
         fill(self.text_room(), |out, size, fault| {
             ffi::mdmp_list(self.file, &self.limits, pdb, out, size, fault)
+        })
+        .ended(text)
+    }
+
+    /// The text of `mdmp list --json`: an object of JSON in the place of each line.
+    pub fn list_json(&self) -> Result<String, Error<String>> {
+        self.listed_json(false)
+    }
+
+    /// The text of `mdmp list --json --pdb`: what each CodeView record tells is one more object.
+    pub fn list_json_with_symbols(&self) -> Result<String, Error<String>> {
+        self.listed_json(true)
+    }
+
+    fn listed_json(&self, pdb: bool) -> Result<String, Error<String>> {
+        fill(self.text_room(), |out, size, fault| {
+            ffi::mdmp_list_json(self.file, &self.limits, pdb, out, size, fault)
         })
         .ended(text)
     }

@@ -391,6 +391,15 @@ mod symbols {
             size: *mut u64,
             fault: *mut Fault,
         ) -> u32;
+        pub fn mdmp_check_json_(
+            file: *const u8,
+            file_size: usize,
+            limits: *const Limits,
+            out: *mut u8,
+            room: usize,
+            size: *mut u64,
+            fault: *mut Fault,
+        ) -> u32;
         pub fn mdmp_verdicts_(
             file: *const u8,
             file_size: usize,
@@ -401,6 +410,16 @@ mod symbols {
             fault: *mut Fault,
         ) -> u32;
         pub fn mdmp_list_(
+            file: *const u8,
+            file_size: usize,
+            limits: *const Limits,
+            pdb: bool,
+            out: *mut u8,
+            room: usize,
+            size: *mut u64,
+            fault: *mut Fault,
+        ) -> u32;
+        pub fn mdmp_list_json_(
             file: *const u8,
             file_size: usize,
             limits: *const Limits,
@@ -608,6 +627,28 @@ pub fn mdmp_check(
     }
 }
 
+/// `mdmp_check_json` of mdmp.h
+pub fn mdmp_check_json(
+    file: &[u8],
+    limits: &Limits,
+    out: &mut [u8],
+    size: &mut u64,
+    fault: &mut Fault,
+) -> u32 {
+    // SAFETY: as `symbols` says.
+    unsafe {
+        symbols::mdmp_check_json_(
+            file.as_ptr(),
+            file.len(),
+            limits,
+            out.as_mut_ptr(),
+            out.len(),
+            size,
+            fault,
+        )
+    }
+}
+
 /// `mdmp_verdicts` of mdmp.h
 pub fn mdmp_verdicts(
     file: &[u8],
@@ -642,6 +683,30 @@ pub fn mdmp_list(
     // SAFETY: as `symbols` says.
     unsafe {
         symbols::mdmp_list_(
+            file.as_ptr(),
+            file.len(),
+            limits,
+            pdb,
+            out.as_mut_ptr(),
+            out.len(),
+            size,
+            fault,
+        )
+    }
+}
+
+/// `mdmp_list_json` of mdmp.h
+pub fn mdmp_list_json(
+    file: &[u8],
+    limits: &Limits,
+    pdb: bool,
+    out: &mut [u8],
+    size: &mut u64,
+    fault: &mut Fault,
+) -> u32 {
+    // SAFETY: as `symbols` says.
+    unsafe {
+        symbols::mdmp_list_json_(
             file.as_ptr(),
             file.len(),
             limits,

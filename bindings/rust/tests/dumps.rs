@@ -232,6 +232,26 @@ fn texts_are_as_stored() {
 }
 
 #[test]
+fn objects_are_as_stored() {
+    each_dump(|dump, _, path| {
+        let objects = stored(path, "pdb.jsonl");
+        assert!(
+            dump.list_json_with_symbols().unwrap() == objects,
+            "{path:?}"
+        );
+        let without: String = objects
+            .split_inclusive('\n')
+            .filter(|line| !line.starts_with("{\"line\":\"pdb\""))
+            .collect();
+        assert!(dump.list_json().unwrap() == without, "{path:?}");
+        assert!(
+            dump.check_json().unwrap() == stored(path, "check.jsonl"),
+            "{path:?}"
+        );
+    });
+}
+
+#[test]
 fn fields_are_as_stored() {
     each_dump(|dump, _, path| assert!(lines(dump) == stored(path, "list"), "{path:?}"));
 }
@@ -344,6 +364,9 @@ fn faults_are_told() {
     let error = cut.check().unwrap_err();
     assert_eq!(error.to_string(), "4 bad entries");
     assert_eq!(error.fault().unwrap().kind(), FaultKind::BadEntries);
+    assert_eq!(error.into_partial().unwrap().lines().count(), 12);
+    let error = cut.check_json().unwrap_err();
+    assert_eq!(error.to_string(), "4 bad entries");
     assert_eq!(error.into_partial().unwrap().lines().count(), 12);
     let error = cut.list().unwrap_err();
     assert_eq!(error.to_string(), bad[0]);

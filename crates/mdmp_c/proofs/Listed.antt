@@ -27,18 +27,19 @@ use Rattle.mdmp_tool.specs.declared.fault.ToolFault.{ToolFault}
 use Rattle.mdmp_tool.specs.declared.fault.ToolFault.TheVariants.{List as BadList, Budget, Memory, Source, Out}
 use Rattle.mdmp_tool.specs.Runs.{ListsNext}
 use Rattle.mdmp_tool.specs.Text.{item_lines, list_text, next_lines, run_text}
+use Rattle.mdmp_words.specs.declared.request.LineForm.TheVariants.{Text}
 
 module _ (pdb : Bool) (F : List ℕ) (limit : ℕ) where
   -- the text of a run is that of its next item, and of the rest
-  next_then : (left : Run) → run_text pdb F limit left ≡ next_lines pdb F limit left ++ run_text pdb F limit (tail left)
+  next_then : (left : Run) → run_text Text pdb F limit left ≡ next_lines Text pdb F limit left ++ run_text Text pdb F limit (tail left)
   next_then left =
-      ap (flat_map (item_lines pdb F limit)) (sym (take-append-drop 1 left.items))
-      ∙ flat_map-append (item_lines pdb F limit) (take 1 left.items) (drop 1 left.items)
+      ap (flat_map (item_lines Text pdb F limit)) (sym (take-append-drop 1 left.items))
+      ∙ flat_map-append (item_lines Text pdb F limit) (take 1 left.items) (drop 1 left.items)
 
   -- a text was given up to some items of a run, which are left
   pub record HasGiven (run : Run) (before : List ℕ) (skip room : ℕ) (left : Run) (passing space size : ℕ) (kept : List ℕ) : Type 0 where
     pub text : List ℕ
-    pub whole : before ++ run_text pdb F limit run ≡ text ++ run_text pdb F limit left
+    pub whole : before ++ run_text Text pdb F limit run ≡ text ++ run_text Text pdb F limit left
     pub fault : run.fault ≡ left.fault
     pub part : IsPartOf skip room text passing space size kept
 
@@ -48,41 +49,41 @@ module _ (pdb : Bool) (F : List ℕ) (limit : ℕ) where
 
   -- the lines of the next one were given too
   pub HasGiven-next : (run left : Run) (before line : List ℕ) (skip room p s n p' s' n' : ℕ) (kept kept' : List ℕ) → HasGiven run before skip room left p s n kept
-      → line ≡ next_lines pdb F limit left
+      → line ≡ next_lines Text pdb F limit left
       → ((text : List ℕ) → IsPartOf skip room text p s n kept → IsPartOf skip room (text ++ line) p' s' n' kept')
       → HasGiven run before skip room (tail left) p' s' n' kept'
   HasGiven-next run left before line skip room p s n p' s' n' kept kept' given is more = record {
     text = given.text ++ line;
     whole =
         given.whole
-        ∙ ap (λ xs. given.text ++ xs) (next_then left ∙ ap (λ xs. xs ++ run_text pdb F limit (tail left)) (sym is))
-        ∙ sym (append_assoc given.text line (run_text pdb F limit (tail left)));
+        ∙ ap (λ xs. given.text ++ xs) (next_then left ∙ ap (λ xs. xs ++ run_text Text pdb F limit (tail left)) (sym is))
+        ∙ sym (append_assoc given.text line (run_text Text pdb F limit (tail left)));
     fault = given.fault;
     part = more given.text given.part;
   }
 
   -- all of it was given, where no item is left
   ended : (run left : Run) (before : List ℕ) (skip room p s n : ℕ) (kept : List ℕ) (fault : Option ListFault) → HasGiven run before skip room left p s n kept
-      → left ≡ record { items = []; fault = fault } → IsPartOf skip room (before ++ run_text pdb F limit run) p s n kept
+      → left ≡ record { items = []; fault = fault } → IsPartOf skip room (before ++ run_text Text pdb F limit run) p s n kept
   ended run left before skip room p s n kept fault given end =
-      rw (given.whole ∙ ap (λ (r : Run). given.text ++ run_text pdb F limit r) end ∙ append-nil given.text) given.part
+      rw (given.whole ∙ ap (λ (r : Run). given.text ++ run_text Text pdb F limit r) end ∙ append-nil given.text) given.part
 
   pub PutsRun-end : (budget : Option ℕ) (run left : Run) (before : List ℕ) (skip room p s n : ℕ) (kept : List ℕ) (now after : OutState) → HasGiven run before skip room left p s n kept
-      → ListsNext pdb F limit left now (Ok false) after
-      → PutsRun (λ text. IsPartOf skip room text p s n kept) budget (before ++ run_text pdb F limit run) run (Ok tt)
+      → ListsNext Text pdb F limit left now (Ok false) after
+      → PutsRun (λ text. IsPartOf skip room text p s n kept) budget (before ++ run_text Text pdb F limit run) run (Ok tt)
   PutsRun-end budget run left before skip room p s n kept now after given next =
       (given.fault ∙ ap (λ (r : Run). r.fault) next.0, ended run left before skip room p s n kept None given next.0)
 
   -- or the fault stands behind it, the budget was reached, or memory was wanting
   pub PutsRun-fault : (budget : Option ℕ) (run left : Run) (before : List ℕ) (skip room p s n : ℕ) (kept : List ℕ) (now after : OutState) (f : ToolFault)
-      → HasGiven run before skip room left p s n kept → ListsNext pdb F limit left now (Err f) after → IsNoSourceFault {T = Bool} (Err f)
+      → HasGiven run before skip room left p s n kept → ListsNext Text pdb F limit left now (Err f) after → IsNoSourceFault {T = Bool} (Err f)
       → ((offset size : ℕ) → f ≡ Budget offset size → budget ≡ None → ⊥)
-      → PutsRun (λ text. IsPartOf skip room text p s n kept) budget (before ++ run_text pdb F limit run) run (Err f)
+      → PutsRun (λ text. IsPartOf skip room text p s n kept) budget (before ++ run_text Text pdb F limit run) run (Err f)
   PutsRun-fault budget run left before skip room p s n kept now after (BadList fault) given next read can =
       (given.fault ∙ ap (λ (r : Run). r.fault) next.0, ended run left before skip room p s n kept (Some fault) given next.0)
   PutsRun-fault budget run left before skip room p s n kept now after (Source fault) given next read can = absurd read
   PutsRun-fault budget run left before skip room p s n kept now after (Budget offset size) given next read can =
-      record { can_stop = can offset size refl; given = given.text; rest = run_text pdb F limit left; begins = given.whole; put = given.part }
+      record { can_stop = can offset size refl; given = given.text; rest = run_text Text pdb F limit left; begins = given.whole; put = given.part }
   PutsRun-fault budget run left before skip room p s n kept now after Out given next read can = tt
   PutsRun-fault budget run left before skip room p s n kept now after _ given next read can = absurd next
 
@@ -100,12 +101,12 @@ module _ (pdb : Bool) (F : List ℕ) (limit skip : ℕ) where
   run = listing F All limit
 
   abbrev whole : List ℕ
-  whole = dump_line (header_at F 0) ++ run_text pdb F limit run
+  whole = dump_line (header_at F 0) ++ run_text Text pdb F limit run
 
   pub all_parts : WouldTell (IsListPart skip pdb F limit)
   all_parts = record {
     whole = told_unless (opening_fault F All) (list_told run.fault);
-    all = drop skip (list_text pdb F limit);
+    all = drop skip (list_text Text pdb F limit);
     is = record { told_is = refl; part_is = refl };
   }
 

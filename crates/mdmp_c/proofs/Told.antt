@@ -12,6 +12,7 @@ use Rattle.mdmp_tool.specs.CheckRuns.{Checks}
 use Rattle.mdmp_tool.specs.CheckText.{bad_count, check_text}
 use Rattle.mdmp_tool.specs.Runs.{Lists}
 use Rattle.mdmp_tool.specs.Text.{list_text}
+use Rattle.mdmp_words.specs.declared.request.LineForm.{LineForm}
 use Rattle.mdmp_c.specs.declared.fault.PlainFault.{PlainFault}
 use Rattle.mdmp_c.specs.Fault.{list_told, no_memory, told_unless}
 use Rattle.mdmp_c.specs.Giving.{Ends, GivesOrWants, IsStopped, answers, given, stops, wanted, wants}
@@ -35,19 +36,19 @@ abbrev pub MayTell : {X : Type 0} → (PlainFault → List X → Type 0) → Typ
 MayTell IsTold can_stop told xs = (told ≡ no_memory) ⊎ (IsTold told xs ⊎ (can_stop × IsStopped IsTold told xs))
 
 -- of a check
-pub IsCheck-told : (F : List ℕ) (limit : ℕ) (can_stop : Type 0) (before after : OutState) (text : List ℕ) (answer : Result ℕ ToolFault) → before.taken ≡ Some [] → after.taken ≡ Some text
-    → IsNoSourceFault answer → ((offset size : ℕ) → answer ≡ Err (tool.Budget offset size) → can_stop) → Checks F limit before answer after
-    → MayTell (IsCheck F limit) can_stop (check_answer answer) text
-IsCheck-told F limit can_stop before after text (Ok bad) none is read can runs = inr (inl record {
+pub IsCheck-told : (form : LineForm) (F : List ℕ) (limit : ℕ) (can_stop : Type 0) (before after : OutState) (text : List ℕ) (answer : Result ℕ ToolFault) → before.taken ≡ Some [] → after.taken ≡ Some text
+    → IsNoSourceFault answer → ((offset size : ℕ) → answer ≡ Err (tool.Budget offset size) → can_stop) → Checks form F limit before answer after
+    → MayTell (IsCheck form F limit) can_stop (check_answer answer) text
+IsCheck-told form F limit can_stop before after text (Ok bad) none is read can runs = inr (inl record {
   told_is = rw (runs.says.0, runs.says.1) refl;
-  text_is = taken before after (check_text F limit) text none is runs.writes;
+  text_is = taken before after (check_text form F limit) text none is runs.writes;
 })
-IsCheck-told F limit can_stop before after text (Err (tool.Opening fault)) none is read can runs = inr (inl record {
+IsCheck-told form F limit can_stop before after text (Err (tool.Opening fault)) none is read can runs = inr (inl record {
   told_is = rw runs.says refl;
   text_is = rw runs.says (taken before after [] text none is runs.writes);
 })
-IsCheck-told F limit can_stop before after text (Err (tool.List fault)) none is read can runs = absurd runs.writes
-IsCheck-told F limit can_stop before after text (Err (tool.Budget offset size)) none is read can runs = inr (inr (
+IsCheck-told form F limit can_stop before after text (Err (tool.List fault)) none is read can runs = absurd runs.writes
+IsCheck-told form F limit can_stop before after text (Err (tool.Budget offset size)) none is read can runs = inr (inr (
   can offset size refl,
   record {
     offset = offset;
@@ -55,33 +56,33 @@ IsCheck-told F limit can_stop before after text (Err (tool.Budget offset size)) 
     told_is = refl;
     whole = told_unless (opening_fault F All) (bad_entries (bad_count (verdicts F All limit)));
     rest = runs.writes.took.rest;
-    begins = record { told_is = refl; text_is = first_taken before after (check_text F limit) text none is runs.writes.took };
+    begins = record { told_is = refl; text_is = first_taken before after (check_text form F limit) text none is runs.writes.took };
   },
 ))
-IsCheck-told F limit can_stop before after text (Err tool.Memory) none is read can runs = inl refl
-IsCheck-told F limit can_stop before after text (Err tool.Out) none is read can runs = inl refl
-IsCheck-told F limit can_stop before after text (Err (tool.Source fault)) none is read can runs = absurd read
-IsCheck-told F limit can_stop before after text (Err (tool.Reading fault)) none is read can runs = absurd runs.writes
-IsCheck-told F limit can_stop before after text (Err (tool.Layout fault)) none is read can runs = absurd runs.writes
-IsCheck-told F limit can_stop before after text (Err (tool.NotCopied t)) none is read can runs = absurd runs.writes
+IsCheck-told form F limit can_stop before after text (Err tool.Memory) none is read can runs = inl refl
+IsCheck-told form F limit can_stop before after text (Err tool.Out) none is read can runs = inl refl
+IsCheck-told form F limit can_stop before after text (Err (tool.Source fault)) none is read can runs = absurd read
+IsCheck-told form F limit can_stop before after text (Err (tool.Reading fault)) none is read can runs = absurd runs.writes
+IsCheck-told form F limit can_stop before after text (Err (tool.Layout fault)) none is read can runs = absurd runs.writes
+IsCheck-told form F limit can_stop before after text (Err (tool.NotCopied t)) none is read can runs = absurd runs.writes
 
 -- of a list
-pub IsList-told : (pdb : Bool) (F : List ℕ) (limit : ℕ) (can_stop : Type 0) (before after : OutState) (text : List ℕ) (answer : Result (Unit {0}) ToolFault) → before.taken ≡ Some []
-    → after.taken ≡ Some text → IsNoSourceFault answer → ((offset size : ℕ) → answer ≡ Err (tool.Budget offset size) → can_stop) → Lists pdb F limit before answer after
-    → MayTell (IsList pdb F limit) can_stop (list_answer answer) text
-IsList-told pdb F limit can_stop before after text (Ok x) none is read can runs = inr (inl record {
+pub IsList-told : (form : LineForm) (pdb : Bool) (F : List ℕ) (limit : ℕ) (can_stop : Type 0) (before after : OutState) (text : List ℕ) (answer : Result (Unit {0}) ToolFault) → before.taken ≡ Some []
+    → after.taken ≡ Some text → IsNoSourceFault answer → ((offset size : ℕ) → answer ≡ Err (tool.Budget offset size) → can_stop) → Lists form pdb F limit before answer after
+    → MayTell (IsList form pdb F limit) can_stop (list_answer answer) text
+IsList-told form pdb F limit can_stop before after text (Ok x) none is read can runs = inr (inl record {
   told_is = rw (runs.says.0, runs.says.1) refl;
-  text_is = taken before after (list_text pdb F limit) text none is runs.writes;
+  text_is = taken before after (list_text form pdb F limit) text none is runs.writes;
 })
-IsList-told pdb F limit can_stop before after text (Err (tool.Opening fault)) none is read can runs = inr (inl record {
+IsList-told form pdb F limit can_stop before after text (Err (tool.Opening fault)) none is read can runs = inr (inl record {
   told_is = rw runs.says refl;
   text_is = rw runs.says (taken before after [] text none is runs.writes);
 })
-IsList-told pdb F limit can_stop before after text (Err (tool.List fault)) none is read can runs = inr (inl record {
+IsList-told form pdb F limit can_stop before after text (Err (tool.List fault)) none is read can runs = inr (inl record {
   told_is = rw (runs.says.0, runs.says.1) refl;
-  text_is = taken before after (list_text pdb F limit) text none is runs.writes;
+  text_is = taken before after (list_text form pdb F limit) text none is runs.writes;
 })
-IsList-told pdb F limit can_stop before after text (Err (tool.Budget offset size)) none is read can runs = inr (inr (
+IsList-told form pdb F limit can_stop before after text (Err (tool.Budget offset size)) none is read can runs = inr (inr (
   can offset size refl,
   record {
     offset = offset;
@@ -89,15 +90,15 @@ IsList-told pdb F limit can_stop before after text (Err (tool.Budget offset size
     told_is = refl;
     whole = told_unless (opening_fault F All) (list_told (listing F All limit).fault);
     rest = runs.writes.took.rest;
-    begins = record { told_is = refl; text_is = first_taken before after (list_text pdb F limit) text none is runs.writes.took };
+    begins = record { told_is = refl; text_is = first_taken before after (list_text form pdb F limit) text none is runs.writes.took };
   },
 ))
-IsList-told pdb F limit can_stop before after text (Err tool.Memory) none is read can runs = inl refl
-IsList-told pdb F limit can_stop before after text (Err tool.Out) none is read can runs = inl refl
-IsList-told pdb F limit can_stop before after text (Err (tool.Source fault)) none is read can runs = absurd read
-IsList-told pdb F limit can_stop before after text (Err (tool.Reading fault)) none is read can runs = absurd runs.writes
-IsList-told pdb F limit can_stop before after text (Err (tool.Layout fault)) none is read can runs = absurd runs.writes
-IsList-told pdb F limit can_stop before after text (Err (tool.NotCopied t)) none is read can runs = absurd runs.writes
+IsList-told form pdb F limit can_stop before after text (Err tool.Memory) none is read can runs = inl refl
+IsList-told form pdb F limit can_stop before after text (Err tool.Out) none is read can runs = inl refl
+IsList-told form pdb F limit can_stop before after text (Err (tool.Source fault)) none is read can runs = absurd read
+IsList-told form pdb F limit can_stop before after text (Err (tool.Reading fault)) none is read can runs = absurd runs.writes
+IsList-told form pdb F limit can_stop before after text (Err (tool.Layout fault)) none is read can runs = absurd runs.writes
+IsList-told form pdb F limit can_stop before after text (Err (tool.NotCopied t)) none is read can runs = absurd runs.writes
 
 -- what was given unless memory was wanting
 pub Ends-given : {X : Type 0} (IsTold : PlainFault → List X → Type 0) (valid can_stop : Type 0) (refusal told : PlainFault) (xs : List X) (status count : ℕ) (fault : PlainFault)

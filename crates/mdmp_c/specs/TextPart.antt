@@ -9,11 +9,12 @@ use Rattle.mdmp_lister.specs.Format.Refusal.{opening_fault}
 use Rattle.mdmp_tool.specs.declared.fault.ToolFault.{ToolFault}
 use Rattle.mdmp_tool.specs.declared.fault.ToolFault.TheVariants.{List as BadList, Budget, Memory, Out}
 use Rattle.mdmp_tool.specs.Text.{list_text}
+use Rattle.mdmp_words.specs.declared.request.LineForm.TheVariants.{Text}
 
 -- what is told of F by a list, and what stands behind the first `skip` bytes of its text
 pub record IsListPart (skip : ℕ) (pdb : Bool) (F : List ℕ) (limit : ℕ) (told : PlainFault) (part : List ℕ) : Type 0 where
   pub told_is : told ≡ told_unless (opening_fault F All) (list_told (listing F All limit).fault)
-  pub part_is : part ≡ drop skip (list_text pdb F limit)
+  pub part_is : part ≡ drop skip (list_text Text pdb F limit)
 
 -- of a text that is made piece by piece, what stands behind its first `skip` bytes was counted and, as much as there is room for,
 -- kept; so many of the bytes that come next are passed over

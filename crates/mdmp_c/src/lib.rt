@@ -59,7 +59,7 @@ pub use crate::rows::{
     ExceptionRow, ModuleRow, RangeRow, RegionRow, SystemRow, ThreadNameRow, ThreadRow, UnloadedRow,
 };
 pub use crate::symbols::{Symbols, mdmp_symbols_};
-pub use crate::texts::{mdmp_check_, mdmp_list_};
+pub use crate::texts::{mdmp_check_, mdmp_check_json_, mdmp_list_, mdmp_list_json_};
 pub use crate::verdicts::mdmp_verdicts_;
 
 /// The number of these calls' form: it rises where a structure or the meaning of a call changes.

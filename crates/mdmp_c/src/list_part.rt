@@ -7,6 +7,7 @@ ghost use Rattle.mdmp_lister.specs.Format.Listing.{Run};
 ghost use Rattle.mdmp_source.specs.Store.{IsGood};
 ghost use Rattle.mdmp_tool.specs.Lines.{dump_line};
 ghost use Rattle.mdmp_tool.specs.Text.{run_text};
+ghost use Rattle.mdmp_words.specs.declared.request.LineForm.TheVariants.{Text};
 
 use crate::fault::{PlainFault, of_kind, open_fault};
 use crate::giving::refuse;
@@ -15,7 +16,7 @@ use crate::text_part::TextPart;
 use crate::tool_fault::list_answer;
 use mdmp_lister::{Choice, Lister};
 use mdmp_source::{MemoryStore, OutFailed, Source, Store, WriteOut};
-use mdmp_tool::{ToolFault, list_next, put_dump_line};
+use mdmp_tool::{LineForm, ToolFault, list_next, put_dump_line};
 use std::alloc::{AllocError, Allocator, Global};
 
 /// Gives what stands behind the first `skip` bytes of the text of `list`, as [`mdmp_list_`](crate::mdmp_list_)
@@ -57,7 +58,7 @@ fn put_list<S: Store + Drop, A: Allocator + Copy>(
     ensures { (file : List ℕ) → IsGood lister.old.source.store file → (left : Run) → lister.old.left ≡ Some left → (skip room : ℕ) (given : List ℕ)
         → IsPartOf skip room given part.old.skip part.old.room part.old.size part.old.kept.items
         → PutsRun (λ text. IsPartOf skip room text part.new.skip part.new.room part.new.size part.new.kept.items) lister.old.counts.budget
-        (given ++ (dump_line lister.old.header ++ run_text pdb file lister.old.limit left)) left result }
+        (given ++ (dump_line lister.old.header ++ run_text Text pdb file lister.old.limit left)) left result }
 {
     let mut line = WriteOut::new(Vec::new(alloc));
     if let Err(OutFailed) = put_dump_line(&lister.header(), &mut line) {
@@ -81,13 +82,13 @@ fn put_items<S: Store + Drop, A: Allocator + Copy>(
     ensures { (file : List ℕ) → IsGood lister.old.source.store file → (left : Run) → lister.old.left ≡ Some left → (skip room : ℕ) (given : List ℕ)
         → IsPartOf skip room given part.old.skip part.old.room part.old.size part.old.kept.items
         → PutsRun (λ text. IsPartOf skip room text part.new.skip part.new.room part.new.size part.new.kept.items) lister.old.counts.budget
-        (given ++ run_text pdb file lister.old.limit left) left result }
+        (given ++ run_text Text pdb file lister.old.limit left) left result }
 {
     let mut line = line;
     loop {
         line.clear();
         let mut lines = WriteOut::new(line);
-        match list_next(lister, pdb, &mut lines) {
+        match list_next(lister, LineForm::Text, pdb, &mut lines) {
             Ok(true) => {}
             Ok(false) => return Ok(()),
             Err(fault) => return Err(fault),

@@ -1,14 +1,15 @@
-//! Calls that give a text, or the bytes of a new file.
+//! Calls that give a text: the lines of `check` and of `list`, in either form.
 ghost use Rattle.mdmp_c.specs.Giving.{Ends, bad_limits};
 ghost use Rattle.mdmp_c.specs.Limits.{AreLimits, HasBudget};
 ghost use Rattle.mdmp_c.specs.Texts.{IsCheck, IsList};
+ghost use Rattle.mdmp_words.specs.declared.request.LineForm.TheVariants.{Json, Text};
 
 use crate::fault::{PlainFault, of_kind};
 use crate::giving::{give_or_want, refuse};
 use crate::limits::{PlainLimits, limits_of};
 use crate::tool_fault::{check_answer, list_answer};
 use mdmp_source::{MemoryStore, WriteOut};
-use mdmp_tool::{run_check, run_list};
+use mdmp_tool::{LineForm, run_check, run_list};
 use std::alloc::Global;
 
 /// Gives the text of `check`: a line for each entry, that it is good, or its first fault. `fault` tells
@@ -22,15 +23,24 @@ pub extern "C" fn mdmp_check_(
     size: &mut u64,
     fault: &mut PlainFault,
 ) -> u32
-    ensures { Ends (IsCheck file.now limits.now.name) (AreLimits limits.now) (HasBudget limits.now) bad_limits result size.new fault.new out.old out.new }
+    ensures { Ends (IsCheck Text file.now limits.now.name) (AreLimits limits.now) (HasBudget limits.now) bad_limits result size.new fault.new out.old out.new }
 {
-    let Some(limits) = limits_of(limits) else {
-        return refuse(of_kind(67), size, fault);
-    };
-    let mut text = WriteOut::new(Vec::new(alloc));
-    let answer = run_check(alloc, MemoryStore::new(file), limits, &mut text);
-    let text = text.into_inner();
-    give_or_want(check_answer(answer), &text, out, size, fault)
+    check_in(alloc, file, limits, LineForm::Text, out, size, fault)
+}
+
+/// The same as objects of JSON, one a line.
+#[unsafe(no_mangle)]
+pub extern "C" fn mdmp_check_json_(
+    alloc: Global,
+    file: &[u8],
+    limits: &PlainLimits,
+    out: &mut [u8],
+    size: &mut u64,
+    fault: &mut PlainFault,
+) -> u32
+    ensures { Ends (IsCheck Json file.now limits.now.name) (AreLimits limits.now) (HasBudget limits.now) bad_limits result size.new fault.new out.old out.new }
+{
+    check_in(alloc, file, limits, LineForm::Json, out, size, fault)
 }
 
 /// Gives the text of `list`: a line for the header and for each item, up to the first fault, which
@@ -45,13 +55,66 @@ pub extern "C" fn mdmp_list_(
     size: &mut u64,
     fault: &mut PlainFault,
 ) -> u32
-    ensures { Ends (IsList pdb file.now limits.now.name) (AreLimits limits.now) (HasBudget limits.now) bad_limits result size.new fault.new out.old out.new }
+    ensures { Ends (IsList Text pdb file.now limits.now.name) (AreLimits limits.now) (HasBudget limits.now) bad_limits result size.new fault.new out.old out.new }
+{
+    list_in(alloc, file, limits, LineForm::Text, pdb, out, size, fault)
+}
+
+/// The same as objects of JSON, one a line.
+#[unsafe(no_mangle)]
+pub extern "C" fn mdmp_list_json_(
+    alloc: Global,
+    file: &[u8],
+    limits: &PlainLimits,
+    pdb: bool,
+    out: &mut [u8],
+    size: &mut u64,
+    fault: &mut PlainFault,
+) -> u32
+    ensures { Ends (IsList Json pdb file.now limits.now.name) (AreLimits limits.now) (HasBudget limits.now) bad_limits result size.new fault.new out.old out.new }
+{
+    list_in(alloc, file, limits, LineForm::Json, pdb, out, size, fault)
+}
+
+/// Gives the lines of `check` in this form.
+fn check_in(
+    alloc: Global,
+    file: &[u8],
+    limits: &PlainLimits,
+    form: LineForm,
+    out: &mut [u8],
+    size: &mut u64,
+    fault: &mut PlainFault,
+) -> u32
+    ensures { Ends (IsCheck form file.now limits.now.name) (AreLimits limits.now) (HasBudget limits.now) bad_limits result size.new fault.new out.old out.new }
 {
     let Some(limits) = limits_of(limits) else {
         return refuse(of_kind(67), size, fault);
     };
     let mut text = WriteOut::new(Vec::new(alloc));
-    let answer = run_list(alloc, MemoryStore::new(file), limits, pdb, &mut text);
+    let answer = run_check(alloc, MemoryStore::new(file), limits, form, &mut text);
+    let text = text.into_inner();
+    give_or_want(check_answer(answer), &text, out, size, fault)
+}
+
+/// Gives the lines of `list` in this form.
+fn list_in(
+    alloc: Global,
+    file: &[u8],
+    limits: &PlainLimits,
+    form: LineForm,
+    pdb: bool,
+    out: &mut [u8],
+    size: &mut u64,
+    fault: &mut PlainFault,
+) -> u32
+    ensures { Ends (IsList form pdb file.now limits.now.name) (AreLimits limits.now) (HasBudget limits.now) bad_limits result size.new fault.new out.old out.new }
+{
+    let Some(limits) = limits_of(limits) else {
+        return refuse(of_kind(67), size, fault);
+    };
+    let mut text = WriteOut::new(Vec::new(alloc));
+    let answer = run_list(alloc, MemoryStore::new(file), limits, form, pdb, &mut text);
     let text = text.into_inner();
     give_or_want(list_answer(answer), &text, out, size, fault)
 }

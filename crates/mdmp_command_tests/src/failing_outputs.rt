@@ -1,5 +1,6 @@
 //! Commands and command lines to outputs that take one byte a call, of which each call fails in turn.
 use crate::files::{faulty, first_bytes};
+use crate::json::{FAULTY_OBJECTS, FAULTY_VERDICT_OBJECTS};
 use crate::prints::{CopyEnded, Shown, assert_copy, copy_store, print_status};
 use crate::runs::{CommandEnd, Ending, assert_end, ended, first_part, status_on_disk};
 use crate::same::assert_same_at;
@@ -223,6 +224,13 @@ fn print_told_tells_each_byte_that_fails(rt: HostRuntime) {
     assert_faulty_in_part(&rt, rt.alloc(), Shown::Items, FAULTY_TEXT);
     assert_faulty_in_part(&rt, rt.alloc(), Shown::ItemsAndSymbols, FAULTY_TEXT);
     assert_faulty_in_part(&rt, rt.alloc(), Shown::Verdicts, FAULTY_VERDICTS);
+    assert_faulty_in_part(&rt, rt.alloc(), Shown::Objects, FAULTY_OBJECTS);
+    assert_faulty_in_part(
+        &rt,
+        rt.alloc(),
+        Shown::VerdictObjects,
+        FAULTY_VERDICT_OBJECTS,
+    );
     assert_faulty_in_part(&rt, rt.alloc(), Shown::Memory, memory);
 }
 
@@ -246,6 +254,8 @@ fn assert_fault_in_part(
 fn print_told_ends_the_same_where_err_fails(rt: HostRuntime) {
     let items = (1, FAULTY_TEXT, FAULTY_TOLD);
     assert_fault_in_part(&rt, rt.alloc(), Shown::Items, items);
+    let objects = (1, FAULTY_OBJECTS, FAULTY_TOLD);
+    assert_fault_in_part(&rt, rt.alloc(), Shown::Objects, objects);
     let verdicts = (1, FAULTY_VERDICTS, "mdmp: 2 bad entries\n");
     assert_fault_in_part(&rt, rt.alloc(), Shown::Verdicts, verdicts);
 }

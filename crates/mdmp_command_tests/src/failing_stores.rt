@@ -1,5 +1,6 @@
 //! Commands over a store of which each call fails in turn: what they write, what they tell, and their status.
 use crate::files::{faulty, numbers_file};
+use crate::json::{CODEVIEW_OBJECT, MODULE_OBJECT, MODULE_STREAM_OBJECTS};
 use crate::prints::{Shown, assert_store_failed, copy_patchy, print_patchy};
 use crate::runs::{CommandEnd, assert_end, run_over};
 use crate::same::{assert_same, assert_same_at};
@@ -13,9 +14,10 @@ use std::process::Abort;
 
 /// What is printed where a call of the store before this one fails, and by how many bytes the place of the
 /// failure is less than the number of the call.
-struct FailingStage {
+#[derive(Clone, Copy)]
+struct FailingStage<'a> {
     end: u64,
-    text: &'static str,
+    text: &'a str,
     again: u64,
 }
 
@@ -26,7 +28,7 @@ fn assert_stage(
     shown: Shown,
     file: &[u8],
     first: u64,
-    stage: &FailingStage,
+    stage: &FailingStage<'_>,
 ) {
     for fail_at in first..stage.end {
         let ended = print_patchy(rt, alloc, shown, file, fail_at, BY_SEVEN);
@@ -43,7 +45,7 @@ fn assert_stages(
     alloc: Global,
     shown: Shown,
     file: &[u8],
-    stages: &[FailingStage],
+    stages: &[FailingStage<'_>],
     (status, text): (u8, &str),
 ) {
     let mut first = 0;
@@ -61,7 +63,7 @@ fn assert_whole(rt: &impl Abort, ended: &CommandEnd, status: u8, text: &str) {
 }
 
 /// A list of the system has two lines behind its header and its directory.
-const SYSTEM_STAGES: [FailingStage; 2] = [
+const SYSTEM_STAGES: [FailingStage<'static>; 2] = [
     FailingStage {
         end: 44,
         text: "",
@@ -89,7 +91,7 @@ fn list_has_two_lines_behind_its_directory(rt: HostRuntime) {
 }
 
 /// A list of a module has two lines behind its header and its directory, and that of the module behind it.
-const MODULE_STAGES: [FailingStage; 3] = [
+const MODULE_STAGES: [FailingStage<'static>; 3] = [
     FailingStage {
         end: 44,
         text: "",
@@ -108,22 +110,74 @@ stream 0 type 4 size 112 rva 44\n",
     },
 ];
 
-/// Asserts what a list of a module and its symbols has, whichever call of the store fails.
-fn assert_module_stages(rt: &impl Abort, alloc: Global) {
-    let shown = Shown::ItemsAndSymbols;
+/// Asserts what a list of a module and its symbols has, whichever call of the store fails: behind its stages
+/// the line of the symbols.
+fn assert_module_stages(
+    rt: &impl Abort,
+    alloc: Global,
+    shown: Shown,
+    stages: &[FailingStage<'_>],
+    module: &str,
+    symbols: &str,
+) {
     let file = module_file(alloc, 30, CODEVIEW_RECORD).expect(rt, "memory for a file");
-    let text = format!(in alloc; "{MODULE_FILE_TEXT}{CODEVIEW_LINE}").expect(rt, "memory");
-    let whole = (0, text.as_str());
-    assert_stages(rt, alloc, shown, file.as_slice(), &MODULE_STAGES, whole)
+    let text = format!(in alloc; "{module}{symbols}").expect(rt, "memory");
+    assert_stages(
+        rt,
+        alloc,
+        shown,
+        file.as_slice(),
+        stages,
+        (0, text.as_str()),
+    )
 }
 
 #[test]
 fn list_of_symbols_has_a_line_behind_each_part(rt: HostRuntime) {
-    assert_module_stages(&rt, rt.alloc());
+    assert_module_stages(
+        &rt,
+        rt.alloc(),
+        Shown::ItemsAndSymbols,
+        &MODULE_STAGES,
+        MODULE_FILE_TEXT,
+        CODEVIEW_LINE,
+    );
+}
+
+/// The same stages of its objects, before that of the module.
+const OBJECT_STAGES: [FailingStage<'static>; 2] = [
+    FailingStage {
+        end: 44,
+        text: "",
+        again: 0,
+    },
+    FailingStage {
+        end: 156,
+        text: MODULE_STREAM_OBJECTS,
+        again: 0,
+    },
+];
+
+/// Asserts what the objects of a module and its symbols are, whichever call of the store fails.
+fn assert_object_stages(rt: &impl Abort, alloc: Global) {
+    let module = format!(in alloc; "{MODULE_STREAM_OBJECTS}{MODULE_OBJECT}").expect(rt, "memory");
+    let symbols = FailingStage {
+        end: 186,
+        text: module.as_str(),
+        again: 0,
+    };
+    let stages = [OBJECT_STAGES[0], OBJECT_STAGES[1], symbols];
+    let shown = Shown::Objects;
+    assert_module_stages(rt, alloc, shown, &stages, module.as_str(), CODEVIEW_OBJECT)
+}
+
+#[test]
+fn list_of_objects_has_one_behind_each_part(rt: HostRuntime) {
+    assert_object_stages(&rt, rt.alloc());
 }
 
 /// A check has a verdict behind its first entry.
-const FAULTY_STAGES: [FailingStage; 2] = [
+const FAULTY_STAGES: [FailingStage<'static>; 2] = [
     FailingStage {
         end: 124,
         text: "",
@@ -151,7 +205,7 @@ fn check_has_a_verdict_behind_each_entry(rt: HostRuntime) {
 
 /// Two bytes from 16 on, of which none is known: the head of the list is read, and then again with its
 /// ranges.
-const MEMORY_STAGES: [FailingStage; 2] = [
+const MEMORY_STAGES: [FailingStage<'static>; 2] = [
     FailingStage {
         end: 60,
         text: "",

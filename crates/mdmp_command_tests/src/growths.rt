@@ -170,12 +170,22 @@ fn growths_of<R: Files + AllocGlobal + Abort>(
 /// Ways to commands over a source, the command of each, and by how many growths it ends: a directory, a
 /// window and a name, and where memory is printed, its bytes and which of them are known; where streams are
 /// copied, a directory, a window, two lists and a buffer.
-const TOLD: [(CommandWay, &[&str], u64); 5] = [
+const TOLD: [(CommandWay, &[&str], u64); 7] = [
     (CommandWay::Printed(Shown::Verdicts), &["check"], 3),
     (CommandWay::Printed(Shown::Items), &["list"], 3),
     (
         CommandWay::Printed(Shown::ItemsAndSymbols),
         &["list", "--pdb"],
+        3,
+    ),
+    (
+        CommandWay::Printed(Shown::VerdictObjects),
+        &["check", "--json"],
+        3,
+    ),
+    (
+        CommandWay::Printed(Shown::Objects),
+        &["list", "--pdb", "--json"],
         3,
     ),
     (CommandWay::Printed(Shown::Memory), &["hex"], 5),
@@ -192,11 +202,13 @@ fn each_growth_of_what_is_told_may_be_refused(rt: HostRuntime) {
 
 /// Command lines, the status of each, and by how many growths it ends. The words themselves are read with
 /// other memory.
-const LINES: [(&[&str], u8, u64); 11] = [
+const LINES: [(&[&str], u8, u64); 13] = [
     // A block of output, and what the command takes.
     (&["check", "six.dmp"], 0, 4),
     (&["list", "six.dmp"], 0, 4),
     (&["list", "six.dmp", "--pdb"], 0, 4),
+    (&["check", "six.dmp", "--json"], 0, 4),
+    (&["list", "--json", "six.dmp", "--pdb"], 0, 4),
     (&["hex", "six.dmp", "0x5000", "8"], 0, 6),
     // A copy needs no block.
     (&["copy", "six.dmp", "growth.dmp", "3", "6"], 0, 5),

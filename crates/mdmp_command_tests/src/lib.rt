@@ -29,6 +29,8 @@ mod hex;
 #[cfg(test)]
 mod hex_words;
 #[cfg(test)]
+mod json;
+#[cfg(test)]
 mod limits;
 #[cfg(test)]
 mod pdb;

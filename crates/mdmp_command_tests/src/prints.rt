@@ -9,7 +9,7 @@ use crate::runs::{CommandEnd, ended, new_out, text_of};
 use crate::same::{assert_same, assert_same_at};
 use mdmp_source::{BlockOut, PatchyOut, PatchyStore, Source, Store};
 use mdmp_test_support::{FOR_LONG_TEXT, Room, SIX};
-use mdmp_tool::{Limits, Print, Span, TypeSet, copy_told, print_told};
+use mdmp_tool::{Limits, LineForm, Print, Span, TypeSet, copy_told, print_told};
 use std::alloc::{Allocator, Global};
 use std::process::Abort;
 
@@ -19,6 +19,10 @@ pub enum Shown {
     Verdicts,
     Items,
     ItemsAndSymbols,
+    /// Verdicts as objects of JSON.
+    VerdictObjects,
+    /// Items and symbols as objects of JSON.
+    Objects,
     /// Two bytes from the address 16 on.
     Memory,
 }
@@ -30,9 +34,24 @@ fn print_of(shown: Shown) -> Print
     ensures { IsPrintable result }
 {
     match shown {
-        Shown::Verdicts => Print::Check,
-        Shown::Items => Print::List { pdb: false },
-        Shown::ItemsAndSymbols => Print::List { pdb: true },
+        Shown::Verdicts => Print::Check {
+            form: LineForm::Text,
+        },
+        Shown::Items => Print::List {
+            form: LineForm::Text,
+            pdb: false,
+        },
+        Shown::ItemsAndSymbols => Print::List {
+            form: LineForm::Text,
+            pdb: true,
+        },
+        Shown::VerdictObjects => Print::Check {
+            form: LineForm::Json,
+        },
+        Shown::Objects => Print::List {
+            form: LineForm::Json,
+            pdb: true,
+        },
         Shown::Memory => Print::Hex(Span {
             address: 16,
             length: 2,

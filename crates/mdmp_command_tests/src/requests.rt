@@ -1,7 +1,7 @@
 //! What the words of a command line ask for.
 use crate::same::assert_same_at;
 use mdmp_lister::{Limits, TypeSet};
-use mdmp_words::{Asked, Command, Print, Request, Span, request_of};
+use mdmp_words::{Asked, Command, LineForm, Print, Request, Span, request_of};
 use std::alloc::Global;
 use std::process::Abort;
 
@@ -21,12 +21,26 @@ fn copy_text(rt: &impl Abort, alloc: Global, file: &str, target: &str, types: &T
     text
 }
 
+/// How lines are printed, as a word behind the name.
+fn form_words(form: LineForm) -> &'static str {
+    match form {
+        LineForm::Text => "",
+        LineForm::Json => " json",
+    }
+}
+
 /// A command and what it is asked for as a text, with the names in brackets.
 fn command_text(rt: &impl Abort, alloc: Global, file: &str, command: &Command<'_>) -> String {
     let text = match command {
-        Command::Print(Print::Check) => format!(in alloc; "check [{file}]"),
-        Command::Print(Print::List { pdb: true }) => format!(in alloc; "list [{file}] pdb"),
-        Command::Print(Print::List { pdb: false }) => format!(in alloc; "list [{file}]"),
+        Command::Print(Print::Check { form }) => {
+            let words = form_words(*form);
+            format!(in alloc; "check [{file}]{words}")
+        }
+        Command::Print(Print::List { form, pdb }) => {
+            let words = form_words(*form);
+            let symbols = if *pdb { " pdb" } else { "" };
+            format!(in alloc; "list [{file}]{words}{symbols}")
+        }
         Command::Print(Print::Hex(span)) => return hex_text(rt, alloc, file, span),
         Command::Copy { target, types } => return copy_text(rt, alloc, file, target, types),
     };
@@ -83,11 +97,18 @@ fn assert_usual(rt: &impl Abort, alloc: Global, words: &[&str], wanted: &str) {
 }
 
 /// Words, and their requests, with the usual limits.
-const REQUESTS: [AskedRow; 12] = [
+const REQUESTS: [AskedRow; 16] = [
     (&["check", "a.dmp"], "check [a.dmp]"),
     (&["list", "a.dmp"], "list [a.dmp]"),
     (&["list", "a.dmp", "--pdb"], "list [a.dmp] pdb"),
     (&["list", "--pdb", "a.dmp"], "list [a.dmp] pdb"),
+    (&["list", "--json", "a.dmp"], "list [a.dmp] json"),
+    (
+        &["list", "a.dmp", "--pdb", "--json"],
+        "list [a.dmp] json pdb",
+    ),
+    (&["check", "a.dmp", "--json"], "check [a.dmp] json"),
+    (&["check", "--", "--json"], "check [--json]"),
     (&["hex", "a.dmp", "0x10", "5"], "hex [a.dmp] 16 5"),
     (&["copy", "a", "b", "3"], "copy [a] [b] 3"),
     (&["copy", "a", "b", "17", "0", "17"], "copy [a] [b] 17 0 17"),
@@ -386,7 +407,7 @@ fn one_to_sixteen_types_are_named(rt: HostRuntime) {
 }
 
 /// Words that `clap` refuses.
-const REFUSED: [&[&str]; 19] = [
+const REFUSED: [&[&str]; 23] = [
     &[],
     &[""],
     &["print", "a"],
@@ -399,11 +420,15 @@ const REFUSED: [&[&str]; 19] = [
     &["list", "a", "--window"],
     &["list", "a", "--window", "200", "--window", "200"],
     &["list", "-x"],
+    &["list", "a", "--json", "--json"],
+    &["list", "a", "--json=x"],
     &["check", "a", "--pdb"],
     &["check", "--", "a", "--name", "5"],
     &["hex", "a"],
     &["hex", "a", "0"],
     &["hex", "a", "0", "1", "2"],
+    &["hex", "a", "0", "1", "--json"],
+    &["copy", "a", "b", "3", "--json"],
     &["copy", "a"],
     &["--", "list", "a"],
 ];

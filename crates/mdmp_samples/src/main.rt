@@ -1,18 +1,24 @@
 //! Prints what the commands make of the real dumps of the folder data: their lists, whether their
-//! entries are good, the symbol files of their modules, and copies of some of their streams; that small
-//! windows and the greatest list the same, and that each entry that is gone to gives what is listed of
-//! it; and how many items each has, how its value compares with its list, how that is written anew, and
-//! that views of its file are written as it; and what some command lines write to each of their outputs.
+//! entries are good, the symbol files of their modules, their lines as objects of JSON, which for two
+//! dumps that were made are compared too, and copies of some
+//! of their streams; that small windows and the greatest list the same, and that each entry that is gone
+//! to gives what is listed of it; and how many items each has, how its value compares with its list, how
+//! that is written anew, and that views of its file are written as it; and what some command lines write
+//! to each of their outputs.
 #![tactic(auto)]
 
 mod checks;
 mod commands;
 mod copies;
 mod digest;
+mod items;
 mod lists;
+mod members;
+mod objects;
 mod opening;
 mod outputs;
 mod symbols;
+mod told;
 mod value;
 mod walks;
 mod windows;
@@ -21,6 +27,7 @@ mod written;
 use crate::checks::tell_check;
 use crate::copies::{CHOSEN, tell_copy};
 use crate::lists::{list, tell_items};
+use crate::objects::{MADE, tell_made, tell_objects};
 use crate::outputs::tell_outputs;
 use crate::symbols::tell_symbols;
 use crate::value::tell_totals;
@@ -45,6 +52,7 @@ enum Aspect {
     List,
     Check,
     Symbols,
+    Objects,
     Windows,
     Walk,
     Items,
@@ -54,10 +62,11 @@ enum Aspect {
 }
 
 /// What is told of all dumps, one behind the other.
-const ASPECTS: [Aspect; 9] = [
+const ASPECTS: [Aspect; 10] = [
     Aspect::List,
     Aspect::Check,
     Aspect::Symbols,
+    Aspect::Objects,
     Aspect::Windows,
     Aspect::Walk,
     Aspect::Items,
@@ -72,6 +81,7 @@ fn tell(rt: &HostRuntime, aspect: Aspect, dump: &str) -> Option<()> {
         Aspect::List => list(rt, dump),
         Aspect::Check => tell_check(rt, dump),
         Aspect::Symbols => tell_symbols(rt, dump),
+        Aspect::Objects => tell_objects(rt, dump),
         Aspect::Windows => tell_windows(rt, dump),
         Aspect::Walk => tell_walk(rt, dump),
         Aspect::Items => tell_items(rt, dump),
@@ -87,6 +97,9 @@ fn tell_all(rt: &HostRuntime) -> Option<()> {
         for dump in &DUMPS {
             tell(rt, *aspect, dump)?;
         }
+    }
+    for made in &MADE {
+        tell_made(rt, *made)?;
     }
     for chosen in &CHOSEN {
         tell_copy(rt, chosen)?;

@@ -21,33 +21,38 @@ use Rattle.mdmp_dump.specs.Reading.{IsLastTold}
 use Rattle.mdmp_tool.specs.declared.fault.ToolFault.{ToolFault}
 use Rattle.mdmp_tool.specs.declared.fault.ToolFault.TheVariants.{Source, Budget}
 use Rattle.mdmp_tool.specs.CheckRuns.{TakesVerdict}
-use Rattle.mdmp_tool.specs.CheckText.{bad_count, fault_count, verdict_line, verdict_lines}
+use Rattle.mdmp_tool.specs.CheckText.{bad_count, fault_count, verdict_lines}
 use Rattle.mdmp_tool.specs.Engines.{StopsShort}
+use Rattle.mdmp_tool.specs.Forms.{verdict_line_in}
 use Rattle.mdmp_tool.specs.Telling.{told_by}
+use Rattle.mdmp_words.specs.declared.request.LineForm.{LineForm}
 
--- ---- what the sink has put, whose output and count are these
+-- ---- what the sink has put, whose output, count and form are these
 
-module _ {K N : Type 0} (out : K → OutState) (bad : K → ℕ) (name : K → N) where
+module _ {K N : Type 0} (out : K → OutState) (bad : K → ℕ) (name : K → N) (form : K → LineForm) where
   abbrev step : K → Verdict → Result (Unit {0}) Stopped → K → Type 0
-  step old v result new = (name new ≡ name old) × TakesVerdict (out old) (bad old) v result (out new) (bad new)
+  step old v result new = (name new ≡ name old) × ((form new ≡ form old) × TakesVerdict (form old) (out old) (bad old) v result (out new) (bad new))
 
-  pub lines-taken : (vs : List Verdict) (k l : K) → Taken step k vs l → PutsAll (out k) (verdict_lines vs) (out l)
+  pub lines-taken : (vs : List Verdict) (k l : K) → Taken step k vs l → PutsAll (out k) (verdict_lines (form k) vs) (out l)
   lines-taken [] k l same = rw same (PutsAll-nothing (out k))
-  lines-taken (v ∷ vs) k l (m, ((same, put), more)) = PutsAll-PutsAll (out k) (out m) (out l) (verdict_line v) (verdict_lines vs) put.line (lines-taken vs m l more)
+  lines-taken (v ∷ vs) k l (m, ((same, (as_before, put)), more)) =
+      PutsAll-PutsAll (out k) (out m) (out l) (verdict_line_in (form k) v) (verdict_lines (form k) vs) put.line
+      (subst (λ (f : LineForm). PutsAll (out m) (verdict_lines f vs) (out l)) as_before (lines-taken vs m l more))
 
   pub bad-taken : (vs : List Verdict) (k l : K) → Taken step k vs l → bad k + bad_count vs < 2 ^ 64 → bad l ≡ bad k + bad_count vs
   bad-taken [] k l same few = rw same (omega arith)
-  bad-taken (v ∷ vs) k l (m, ((same, put), more)) few =
+  bad-taken (v ∷ vs) k l (m, ((same, (as_before, put)), more)) few =
       let sum : bad_count (v ∷ vs) ≡ fault_count v.fault + bad_count vs = refl in
       let now : bad m ≡ bad k + fault_count v.fault = put.counts (omega (arith, few, sum)) in
       let rest : bad l ≡ bad m + bad_count vs = bad-taken vs m l more (omega (arith, few, now, sum)) in
       omega (arith, now, rest, sum)
 
-  pub lines-stopped : (vs : List Verdict) (k l : K) → TakenToStop step k vs l → PutsPrefix (out k) (verdict_lines vs) (out l)
+  pub lines-stopped : (vs : List Verdict) (k l : K) → TakenToStop step k vs l → PutsPrefix (out k) (verdict_lines (form k) vs) (out l)
   lines-stopped [] k l never = absurd never
-  lines-stopped (v ∷ vs) k l (inl last) = PutsPrefix-front (out k) (out l) (verdict_line v) (verdict_lines vs) last.1.1
-  lines-stopped (v ∷ vs) k l (inr (m, ((same, put), more))) =
-      PutsPrefix-last (out k) (out m) (out l) (verdict_line v) (verdict_lines vs) put.line (lines-stopped vs m l more)
+  lines-stopped (v ∷ vs) k l (inl last) = PutsPrefix-front (out k) (out l) (verdict_line_in (form k) v) (verdict_lines (form k) vs) last.1.1.1
+  lines-stopped (v ∷ vs) k l (inr (m, ((same, (as_before, put)), more))) =
+      PutsPrefix-last (out k) (out m) (out l) (verdict_line_in (form k) v) (verdict_lines (form k) vs) put.line
+      (subst (λ (f : LineForm). PutsPrefix (out m) (verdict_lines f vs) (out l)) as_before (lines-stopped vs m l more))
 
   -- it is the same output
   pub name-taken : (vs : List Verdict) (k l : K) → Taken step k vs l → name l ≡ name k
@@ -61,20 +66,20 @@ module _ {K N : Type 0} (out : K → OutState) (bad : K → ℕ) (name : K → N
 
 -- ---- the lines of the first verdicts are the first lines
 
-lines_split : (all vs rest : List Verdict) → all ≡ vs ++ rest → verdict_lines all ≡ verdict_lines vs ++ verdict_lines rest
-lines_split all vs rest split = ap verdict_lines split ∙ flat_map-append verdict_line vs rest
+lines_split : (form : LineForm) (all vs rest : List Verdict) → all ≡ vs ++ rest → verdict_lines form all ≡ verdict_lines form vs ++ verdict_lines form rest
+lines_split form all vs rest split = ap (verdict_lines form) split ∙ flat_map-append (verdict_line_in form) vs rest
 
-pub StopsShort-first : (all vs rest : List Verdict) (before after : OutState) → all ≡ vs ++ rest → PutsAll before (verdict_lines vs) after
-    → StopsShort before (verdict_lines all) after
-StopsShort-first all vs rest before after split put = record {
-  took = rw (lines_split all vs rest split) (TakesPrefix-front before.taken after.taken (verdict_lines vs) (verdict_lines rest) put.took);
+pub StopsShort-first : (form : LineForm) (all vs rest : List Verdict) (before after : OutState) → all ≡ vs ++ rest → PutsAll before (verdict_lines form vs) after
+    → StopsShort before (verdict_lines form all) after
+StopsShort-first form all vs rest before after split put = record {
+  took = rw (lines_split form all vs rest split) (TakesPrefix-front before.taken after.taken (verdict_lines form vs) (verdict_lines form rest) put.took);
   steady = put.steady;
 }
 
-pub PutsPrefix-first : (all vs rest : List Verdict) (before after : OutState) → all ≡ vs ++ rest → PutsPrefix before (verdict_lines vs) after
-    → PutsPrefix before (verdict_lines all) after
-PutsPrefix-first all vs rest before after split cut =
-    rw (lines_split all vs rest split) (PutsPrefix-front before after (verdict_lines vs) (verdict_lines rest) cut)
+pub PutsPrefix-first : (form : LineForm) (all vs rest : List Verdict) (before after : OutState) → all ≡ vs ++ rest → PutsPrefix before (verdict_lines form vs) after
+    → PutsPrefix before (verdict_lines form all) after
+PutsPrefix-first form all vs rest before after split cut =
+    rw (lines_split form all vs rest split) (PutsPrefix-front before after (verdict_lines form vs) (verdict_lines form rest) cut)
 
 -- ---- a directory has no more bad entries than entries
 

@@ -1,5 +1,5 @@
 -- A run of a command over the listing of a file, from its parts.
-use Rattle.std.proofs.Common.{◌≡◌, ◌<◌, ◌∙◌, ℕ, List, [], Some, ap, refl, sym, subst}
+use Rattle.std.proofs.Common.{◌≡◌, ◌<◌, ◌∙◌, ℕ, List, [], Option, None, Some, ap, refl, rules, sym, subst}
 use Rattle.std.specs.Prelude.{Result, Ok, Err}
 use Rattle.mdmp_source.specs.Output.{HasRefused, Refusals, OutState, PutsAll}
 use Rattle.mdmp_source.specs.OutputLaws.{PutsAll-nothing, Takes-nothing}
@@ -13,13 +13,14 @@ use Rattle.mdmp_source.specs.declared.fault.SourceFault.TheVariants.{Changed, Fa
 use Rattle.mdmp_lister.specs.declared.limits.Limits.{Limits}
 use Rattle.mdmp_lister.specs.Format.Listing.{listing}
 use Rattle.mdmp_lister.specs.Lister.{IsNewLister, ListerState}
+use Rattle.mdmp_lister.specs.Format.Refusal.{behind_directory, directory_refusal, opening_fault}
 use Rattle.mdmp_lister.specs.Opening.{IsOpenRefusal, IsRefusalOf, IsUnread, IsUnreadFor}
 use Rattle.mdmp_source.specs.Store.{IsGood}
 use Rattle.mdmp_dump.specs.Reading.{IsLastTold, MayBeTold}
 use Rattle.mdmp_tool.specs.declared.fault.ToolFault.{ToolFault}
 use Rattle.mdmp_tool.specs.declared.fault.ToolFault.TheVariants.{List as BadList, Source, Budget, Out, Memory}
 use Rattle.mdmp_tool.specs.Causes.{HasOutCause, HasSourceCause, IsNoSourceFault, IsRefusal, MayChange}
-use Rattle.mdmp_tool.specs.Engines.{IsBehind, IsOpened, IsQuiet, Pace, Runs, StopsShort, Tells, UnlessEarly, at_the_end, directly, past_faults, up_to_a_fault}
+use Rattle.mdmp_tool.specs.Engines.{IsBehind, IsOpened, IsQuiet, Pace, Runs, Says, StopsShort, Tells, UnlessEarly, WritesText, at_the_end, directly, past_faults, unless_refused, up_to_a_fault}
 use Rattle.mdmp_tool.specs.Telling.{opening_told}
 
 pub StopsShort-nothing : (before : OutState) (text : List ℕ) → StopsShort before text before
@@ -46,6 +47,25 @@ Runs-unopened F choice Ends pace text before (opening.BadSignature) refused = re
 Runs-unopened F choice Ends pace text before (opening.BadVersion low) refused = record { says = refused; writes = PutsAll-nothing before }
 Runs-unopened F choice Ends pace text before (opening.DirectoryOutside offset size) refused = record { says = refused; writes = PutsAll-nothing before }
 Runs-unopened F choice Ends pace text before (opening.TooManyRanges count) refused = record { says = refused; writes = PutsAll-nothing before }
+
+-- a file that was opened: what its listing ends in is the run's
+directory_good : (F : List ℕ) (choice : Choice) (directory : Option OpenFault) → behind_directory F choice directory ≡ None → directory ≡ None
+directory_good F choice (Some fault) is = search (is, rules)
+directory_good F choice None is = refl
+
+says_opened : {T : Type 0} (F : List ℕ) (choice : Choice) (Ends : Result T ToolFault → Type 0) (pace : Pace) (untouched : Type 0) (size : ℕ) (r : Result T ToolFault)
+    → opening_fault F choice ≡ None → IsBehind pace size r untouched → Ends r → Says F choice Ends r
+says_opened F choice Ends pace untouched size (Ok x) opened behind ends = (opened, ends)
+says_opened F choice Ends pace untouched size (Err (BadList fault)) opened behind ends = (opened, ends)
+says_opened F choice Ends pace untouched size (Err Memory) opened behind ends = directory_good F choice (directory_refusal F) opened
+says_opened F choice Ends pace untouched size (Err (Source fault)) opened behind ends = tt
+says_opened F choice Ends pace untouched size (Err (Budget offset len)) opened behind ends = tt
+says_opened F choice Ends pace untouched size (Err Out) opened behind ends = (opened, ends)
+says_opened F choice Ends pace untouched size (Err fault) opened behind ends = absurd behind
+
+pub Runs-opened : {T : Type 0} (F : List ℕ) (choice : Choice) (Ends : Result T ToolFault → Type 0) (pace : Pace) (text : List ℕ) (untouched : Type 0) (size : ℕ) (before : OutState) (r : Result T ToolFault) (after : OutState)
+    → opening_fault F choice ≡ None → IsBehind pace size r untouched → Ends r → WritesText pace text before r after → Runs F choice Ends pace (unless_refused (opening_fault F choice) text) before r after
+Runs-opened F choice Ends pace text untouched size before r after opened behind ends writes = record { says = says_opened F choice Ends pace untouched size r opened behind ends; writes = rw opened writes }
 
 -- ---- a file that was not opened, of whatever content
 

@@ -1,4 +1,5 @@
 pub mod BlockLemmas
+pub mod Bytewise
 pub mod Checking
 pub mod CopyEnds
 pub mod CopyRows
@@ -8,6 +9,10 @@ pub mod HexLemmas
 pub mod HexRows
 pub mod Hexing
 pub mod ItemRows
+pub mod JsonObjects
+pub mod JsonPrints
+pub mod JsonReads
+pub mod JsonTexts
 pub mod LineLemmas
 pub mod Listings
 pub mod Loans
@@ -16,7 +21,11 @@ pub mod PlainLines
 pub mod Printing
 pub mod Rows
 pub mod SameRuns
+pub mod Sixteens
 pub mod StandingCopy
 pub mod Symbols
 pub mod Telling
+pub mod Underway
+pub mod Unescaped
+pub mod Unitwise
 pub mod Wording

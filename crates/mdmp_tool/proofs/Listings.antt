@@ -10,9 +10,10 @@ use Rattle.mdmp_tool.specs.declared.fault.ToolFault.{ToolFault}
 use Rattle.mdmp_tool.specs.declared.fault.ToolFault.TheVariants.{List as BadList, Source, Budget, Out}
 use Rattle.mdmp_tool.proofs.Engining.{cause_from}
 use Rattle.mdmp_tool.specs.Engines.{IsBehind, Leaves, WritesText, up_to_a_fault}
-use Rattle.mdmp_tool.specs.Lines.{dump_line}
+use Rattle.mdmp_tool.specs.Forms.{dump_line_in}
 use Rattle.mdmp_tool.specs.Text.{run_text}
 use Rattle.mdmp_tool.specs.Runs.{ListEnds, ListsRun, ListsFile}
+use Rattle.mdmp_words.specs.declared.request.LineForm.{LineForm}
 
 WritesText-behind : (run : Run) (head text : List ℕ) (before now after : OutState) (r : Result (Unit {0}) ToolFault) → ListEnds run r
     → PutsAll before head now → WritesText up_to_a_fault text now r after → WritesText up_to_a_fault (head ++ text) before r after
@@ -30,11 +31,11 @@ WritesText-behind run head text before now after (Err Out) ends first cut = Puts
 WritesText-behind run head text before now after (Err f) ends first put = absurd ends
 
 -- the items behind the line of the header
-pub ListsFile-behind : (pdb : Bool) (F : List ℕ) (limit : ℕ) (h : Header) (run : Run) (before now after : OutState) (r : Result (Unit {0}) ToolFault)
-    → PutsAll before (dump_line h) now → ListsRun pdb F limit run now r after → ListsFile pdb F limit h run before r after
-ListsFile-behind pdb F limit h run before now after r head listed = record {
+pub ListsFile-behind : (form : LineForm) (pdb : Bool) (F : List ℕ) (limit : ℕ) (h : Header) (run : Run) (before now after : OutState) (r : Result (Unit {0}) ToolFault)
+    → PutsAll before (dump_line_in form h) now → ListsRun form pdb F limit run now r after → ListsFile form pdb F limit h run before r after
+ListsFile-behind form pdb F limit h run before now after r head listed = record {
   ends = listed.ends;
-  writes = WritesText-behind run (dump_line h) (run_text pdb F limit run) before now after r listed.ends head listed.writes;
+  writes = WritesText-behind run (dump_line_in form h) (run_text form pdb F limit run) before now after r listed.ends head listed.writes;
 }
 
 -- the end of the items is that of all that is printed

@@ -121,6 +121,6 @@ module _ (name last : ℕ) (start behind stop inner_old inner_new : OutState) (b
   -- what was printed to it was printed to its lender
   pub printed_lent : (print : Print) (limits : Limits) (old : SourceState) (err_before : OutState) (status : ℕ) (new : SourceState) (err_after : OutState)
       → HasPrinted print limits old inner_old err_before status new inner_new err_after → HasPrinted print limits old start err_before status new stop err_after
-  printed_lent Check limits old err_before status new err_after ran = ran_lent limits _ _ _ old err_before status new err_after (λ file. runs_lent name start stop _ file _ _ _) ran
-  printed_lent (Listing pdb) limits old err_before status new err_after ran = ran_lent limits _ _ _ old err_before status new err_after (λ file. runs_lent name start stop _ file _ _ _) ran
+  printed_lent (Check form) limits old err_before status new err_after ran = ran_lent limits _ _ _ old err_before status new err_after (λ file. runs_lent name start stop _ file _ _ _) ran
+  printed_lent (Listing form pdb) limits old err_before status new err_after ran = ran_lent limits _ _ _ old err_before status new err_after (λ file. runs_lent name start stop _ file _ _ _) ran
   printed_lent (Hex span) limits old err_before status new err_after ran = ran_lent limits _ _ _ old err_before status new err_after (λ file. runs_lent name start stop _ file _ _ _) ran

@@ -15,33 +15,34 @@ use Rattle.mdmp_tool.specs.declared.fault.ToolFault.{ToolFault}
 use Rattle.mdmp_tool.specs.declared.fault.ToolFault.TheVariants.{List as BadList, Source, Budget, Out}
 use Rattle.mdmp_tool.specs.Runs.{ListsNext, ListsRun}
 use Rattle.mdmp_tool.specs.Text.{item_lines, next_lines, run_text}
+use Rattle.mdmp_words.specs.declared.request.LineForm.{LineForm}
 
 -- what is printed next with names up to the limit of a run
-pub next_within : (pdb : Bool) (F : List ℕ) (a b : ℕ) (left : Run) (before : OutState) (r : Result Bool ToolFault) (after : OutState) → a ≡ b
-    → ListsNext pdb F a left before r after → ListsNext pdb F b left before r after
-next_within pdb F a b left before r after same next = subst (λ n. ListsNext pdb F n left before r after) same next
+pub next_within : (form : LineForm) (pdb : Bool) (F : List ℕ) (a b : ℕ) (left : Run) (before : OutState) (r : Result Bool ToolFault) (after : OutState) → a ≡ b
+    → ListsNext form pdb F a left before r after → ListsNext form pdb F b left before r after
+next_within form pdb F a b left before r after same next = subst (λ n. ListsNext form pdb F n left before r after) same next
 
-pub next_told : (pdb : Bool) (F : List ℕ) (a b : ℕ) (left : Run) (before : OutState) (is more : Bool) (after : OutState) → a ≡ b → is ≡ more
-    → ListsNext pdb F a left before (Ok is) after → ListsNext pdb F b left before (Ok more) after
-next_told pdb F a b left before is more after same told next =
-    next_within pdb F a b left before (Ok more) after same (subst (λ (m : Bool). ListsNext pdb F a left before (Ok m) after) told next)
+pub next_told : (form : LineForm) (pdb : Bool) (F : List ℕ) (a b : ℕ) (left : Run) (before : OutState) (is more : Bool) (after : OutState) → a ≡ b → is ≡ more
+    → ListsNext form pdb F a left before (Ok is) after → ListsNext form pdb F b left before (Ok more) after
+next_told form pdb F a b left before is more after same told next =
+    next_within form pdb F a b left before (Ok more) after same (subst (λ (m : Bool). ListsNext form pdb F a left before (Ok m) after) told next)
 
-module _ (pdb : Bool) (F : List ℕ) (limit : ℕ) where
+module _ (form : LineForm) (pdb : Bool) (F : List ℕ) (limit : ℕ) where
   abbrev lines : Item → List ℕ
-  lines = item_lines pdb F limit
+  lines = item_lines form pdb F limit
 
   -- some of a run's items were printed, and the rest is left
   pub record HasPrinted (run : Run) (before : OutState) (left : Run) (now : OutState) : Type 0 where
     pub given : List Item
     pub items : run.items ≡ given ++ left.items
     pub fault : run.fault ≡ left.fault
-    pub text : PutsAll before (flat_map (item_lines pdb F limit) given) now
+    pub text : PutsAll before (flat_map (item_lines form pdb F limit) given) now
 
   pub HasPrinted-none : (run : Run) (before : OutState) → HasPrinted run before run before
   HasPrinted-none run before = record { given = []; items = refl; fault = refl; text = PutsAll-nothing before }
 
   -- the next one was printed too
-  pub HasPrinted-next : (run left : Run) (before now after : OutState) → HasPrinted run before left now → PutsAll now (next_lines pdb F limit left) after
+  pub HasPrinted-next : (run left : Run) (before now after : OutState) → HasPrinted run before left now → PutsAll now (next_lines form pdb F limit left) after
       → HasPrinted run before (tail left) after
   HasPrinted-next run left before now after printed put = record {
     given = printed.given ++ take 1 left.items;
@@ -52,12 +53,12 @@ module _ (pdb : Bool) (F : List ℕ) (limit : ℕ) where
     fault = printed.fault;
     text =
         rw (flat_map-append lines printed.given (take 1 left.items))
-        (PutsAll-PutsAll before now after (flat_map lines printed.given) (next_lines pdb F limit left) printed.text put);
+        (PutsAll-PutsAll before now after (flat_map lines printed.given) (next_lines form pdb F limit left) printed.text put);
   }
 
   -- the text of a run is that of the items given, of the next one, and of the rest
   text_split : (run left : Run) (before now : OutState) (printed : HasPrinted run before left now)
-      → run_text pdb F limit run ≡ flat_map lines printed.given ++ (next_lines pdb F limit left ++ run_text pdb F limit (tail left))
+      → run_text form pdb F limit run ≡ flat_map lines printed.given ++ (next_lines form pdb F limit left ++ run_text form pdb F limit (tail left))
   text_split run left before now printed =
       ap (flat_map lines) printed.items
       ∙ flat_map-append lines printed.given left.items
@@ -66,18 +67,18 @@ module _ (pdb : Bool) (F : List ℕ) (limit : ℕ) where
 
   -- all was printed, where no item is left
   whole : (run left : Run) (before now : OutState) (fault : Option ListFault) → HasPrinted run before left now → left ≡ record { items = []; fault = fault }
-      → PutsAll before (run_text pdb F limit run) now
+      → PutsAll before (run_text form pdb F limit run) now
   whole run left before now fault printed end =
       rw (ap (flat_map lines) (printed.items ∙ ap (λ (r : Run). printed.given ++ r.items) end ∙ append-nil printed.given)) printed.text
 
-  pub ListsRun-end : (run left : Run) (before now after : OutState) → HasPrinted run before left now → ListsNext pdb F limit left now (Ok false) after
-      → ListsRun pdb F limit run before (Ok tt) after
+  pub ListsRun-end : (run left : Run) (before now after : OutState) → HasPrinted run before left now → ListsNext form pdb F limit left now (Ok false) after
+      → ListsRun form pdb F limit run before (Ok tt) after
   ListsRun-end run left before now after printed (end, same) =
       rw same (record { ends = printed.fault ∙ ap (λ (r : Run). r.fault) end; writes = whole run left before now None printed end })
 
   -- the next one was not printed, or not all of it
-  pub ListsRun-fault : (run left : Run) (before now after : OutState) (f : ToolFault) → HasPrinted run before left now → ListsNext pdb F limit left now (Err f) after
-      → ListsRun pdb F limit run before (Err f) after
+  pub ListsRun-fault : (run left : Run) (before now after : OutState) (f : ToolFault) → HasPrinted run before left now → ListsNext form pdb F limit left now (Err f) after
+      → ListsRun form pdb F limit run before (Err f) after
   ListsRun-fault run left before now after (BadList fault) printed (end, same) =
       rw same (record { ends = printed.fault ∙ ap (λ (r : Run). r.fault) end; writes = whole run left before now (Some fault) printed end })
   ListsRun-fault run left before now after (Source fault) printed short = record {
@@ -85,7 +86,7 @@ module _ (pdb : Bool) (F : List ℕ) (limit : ℕ) where
     writes = record {
       took =
           rw (text_split run left before now printed)
-          (TakesPrefix-behind before.taken now.taken after.taken (flat_map lines printed.given) (next_lines pdb F limit left) (run_text pdb F limit (tail left)) printed.text.took short.took);
+          (TakesPrefix-behind before.taken now.taken after.taken (flat_map lines printed.given) (next_lines form pdb F limit left) (run_text form pdb F limit (tail left)) printed.text.took short.took);
       steady = short.steady ∙ printed.text.steady;
     };
   }
@@ -94,8 +95,8 @@ module _ (pdb : Bool) (F : List ℕ) (limit : ℕ) where
     writes = record {
       took =
           rw (text_split run left before now printed)
-          (TakesPrefix-behind before.taken now.taken after.taken (flat_map lines printed.given) (next_lines pdb F limit left) (run_text pdb F limit (tail left)) printed.text.took
-          (rw same (StopsShort-nothing now (next_lines pdb F limit left)).took));
+          (TakesPrefix-behind before.taken now.taken after.taken (flat_map lines printed.given) (next_lines form pdb F limit left) (run_text form pdb F limit (tail left)) printed.text.took
+          (rw same (StopsShort-nothing now (next_lines form pdb F limit left)).took));
       steady = ap (λ (o : OutState). o.failures) same ∙ printed.text.steady;
     };
   }
@@ -103,6 +104,6 @@ module _ (pdb : Bool) (F : List ℕ) (limit : ℕ) where
     ends = tt;
     writes =
         rw (text_split run left before now printed)
-        (PutsPrefix-behind before now after (flat_map lines printed.given) (next_lines pdb F limit left) (run_text pdb F limit (tail left)) printed.text cut);
+        (PutsPrefix-behind before now after (flat_map lines printed.given) (next_lines form pdb F limit left) (run_text form pdb F limit (tail left)) printed.text cut);
   }
   ListsRun-fault run left before now after _ printed none = absurd none

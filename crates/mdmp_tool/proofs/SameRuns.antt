@@ -1,5 +1,5 @@
 -- The room of a lister stays, its budget, and where its counts began.
-use Rattle.std.proofs.Common.{◌≡◌, ◌∙◌, ℕ, None, false, ap, arith, refl, subst, sym}
+use Rattle.std.proofs.Common.{◌≡◌, ◌∙◌, ℕ, false, ap, arith, refl, subst, sym}
 use Rattle.std.specs.Prelude.{IsTrue, Result, Err, max}
 use Rattle.mdmp_source.specs.Output.{OutState}
 use Rattle.mdmp_source.specs.Source.{SourceState}

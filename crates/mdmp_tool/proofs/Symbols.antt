@@ -11,7 +11,6 @@ use Rattle.mdmp_source.specs.Source.{SourceState, FetchesAtMost, FetchesSome}
 use Rattle.mdmp_source.specs.Store.{IsGood}
 use Rattle.mdmp_source.specs.SourceLaws.{fetches_then, told_later}
 use Rattle.mdmp_source.specs.declared.fault.SourceFault.TheVariants.{Failed, ShortRead, Changed}
-use Rattle.mdmp_source.specs.declared.location.Location.{Location}
 use Rattle.mdmp_wire.specs.declared.any_record.AnyRecord.{AnyRecord}
 use Rattle.mdmp_wire.specs.declared.any_record.AnyRecord.TheVariants as any
 use Rattle.mdmp_wire.specs.declared.entry.Entry.{Entry}
@@ -32,24 +31,26 @@ use Rattle.mdmp_tool.specs.declared.fault.ToolFault.{ToolFault}
 use Rattle.mdmp_tool.specs.declared.fault.ToolFault.TheVariants.{List as BadList, Source, Budget, Out}
 use Rattle.mdmp_tool.specs.Causes.{HasSourceCause}
 use Rattle.mdmp_tool.specs.Engines.{EndsAtFault, IsBehind, Leaves, Pace, UnlessEarly, up_to_a_fault}
-use Rattle.mdmp_tool.specs.ItemLines.{item_line}
+use Rattle.mdmp_tool.specs.Forms.{item_line_in}
 use Rattle.mdmp_tool.specs.Runs.{ListsNext, PutsSymbols}
 use Rattle.mdmp_tool.specs.Telling.{listing_told, told_by}
 use Rattle.mdmp_tool.specs.Text.{inside_only, item_lines, next_lines, symbols_of, symbols_text}
+use Rattle.mdmp_tool.specs.declared.list.ModuleSymbols.{ModuleSymbols}
+use Rattle.mdmp_words.specs.declared.request.LineForm.{LineForm}
 use Rattle.mdmp_tool.proofs.Checking.{told-cause}
 use Rattle.mdmp_tool.proofs.Engining.{StopsShort-nothing, cause_from}
 use Rattle.mdmp_tool.proofs.PlainLines.{item_lines-plain, symbols_of-plain}
 
 -- it lies inside a file of z bytes, if there is one
-abbrev pub IsTellable : ℕ → Option Location → Type 0
-IsTellable z symbols = IfSome symbols (λ at. IsInside at.rva at.size z)
+abbrev pub IsTellable : ℕ → Option ModuleSymbols → Type 0
+IsTellable z symbols = IfSome symbols (λ of. IsInside of.location.rva of.location.size z)
 
-inside_only-is : (at : Location) (z : ℕ) → IsTellable z (inside_only (extent_of at z) at)
-inside_only-is at z = grind (arith, common_steps)
+inside_only-is : (of : ModuleSymbols) (z : ℕ) → IsTellable z (inside_only (extent_of of.location z) of)
+inside_only-is of z = grind (arith, common_steps)
 
 record-symbols : (pdb : Bool) (z e k offset : ℕ) (fields : AnyRecord) (name : Name) → IsTellable z (symbols_of pdb (item_of z e k offset fields name))
 record-symbols false z e k offset fields name = tt
-record-symbols true z e k offset (any.Module fields) name = inside_only-is fields.cv_record z
+record-symbols true z e k offset (any.Module fields) name = inside_only-is (record { place = record { entry = e; index = k }; location = fields.cv_record }) z
 record-symbols true z e k offset _ name = tt
 
 entry-symbols : (pdb : Bool) (z : ℕ) (x : StreamItem) → IsTellable z (symbols_of pdb (items.Stream x))
@@ -66,8 +67,8 @@ pub symbols-inside : (pdb : Bool) (z : ℕ) (e : Entry) (x : Item) → IsClassed
 symbols-inside pdb z e x classed = subst (IsTellable z) (symbols_of-plain pdb x) (classed-symbols pdb z e x classed)
 
 -- its line is that of the record that is asked for, up to the limit
-pub symbols_text-is : (F : List ℕ) (a b : ℕ) (s t : Option Location) → a ≡ b → s ≡ t → symbols_text F a s ≡ symbols_text F b t
-symbols_text-is F a b s t limit symbols = rw (limit, symbols) refl
+pub symbols_text-is : (form : LineForm) (F : List ℕ) (a b : ℕ) (s t : Option ModuleSymbols) → a ≡ b → s ≡ t → symbols_text form F a s ≡ symbols_text form F b t
+symbols_text-is form F a b s t limit symbols = rw (limit, symbols) refl
 
 first_then : (x : Item) (xs : List Item) → slice_get xs 0 ≡ Some x → take 1 xs ≡ x ∷ []
 first_then x [] none = absurd (cc)
@@ -77,42 +78,42 @@ some_first : (x : Item) (xs : List Item) → slice_get xs 0 ≡ Some x → 0 < l
 some_first x [] none = absurd (cc)
 some_first x (y ∷ ys) first = omega (arith)
 
-module _ (pdb : Bool) (F : List ℕ) (limit : ℕ) (left : Run) (x : Item) (first : slice_get left.items 0 ≡ Some (plain x)) where
+module _ (form : LineForm) (pdb : Bool) (F : List ℕ) (limit : ℕ) (left : Run) (x : Item) (first : slice_get left.items 0 ≡ Some (plain x)) where
   -- the lines of what is given next
-  next_is : next_lines pdb F limit left ≡ item_line x ++ symbols_text F limit (symbols_of pdb x)
+  next_is : next_lines form pdb F limit left ≡ item_line_in form x ++ symbols_text form F limit (symbols_of pdb x)
   next_is =
-      ap (flat_map (item_lines pdb F limit)) (first_then (plain x) left.items first)
-      ∙ append-nil (item_lines pdb F limit (plain x)) ∙ item_lines-plain pdb F limit x
+      ap (flat_map (item_lines form pdb F limit)) (first_then (plain x) left.items first)
+      ∙ append-nil (item_lines form pdb F limit (plain x)) ∙ item_lines-plain form pdb F limit x
 
-  module _ (before mid after : OutState) (line : PutsAll before (item_line x) mid) where
+  module _ (before mid after : OutState) (line : PutsAll before (item_line_in form x) mid) where
     -- a CodeView record's line follows that of its item
-    pub ListsNext-symbols : PutsAll mid (symbols_text F limit (symbols_of pdb x)) after → ListsNext pdb F limit left before (Ok true) after
+    pub ListsNext-symbols : PutsAll mid (symbols_text form F limit (symbols_of pdb x)) after → ListsNext form pdb F limit left before (Ok true) after
     ListsNext-symbols told = (
       some_first (plain x) left.items first,
-      rw next_is (PutsAll-PutsAll before mid after (item_line x) (symbols_text F limit (symbols_of pdb x)) line told),
+      rw next_is (PutsAll-PutsAll before mid after (item_line_in form x) (symbols_text form F limit (symbols_of pdb x)) line told),
     )
 
     -- the listing ends in it
-    pub ListsNext-cut : (f : ToolFault) → PutsSymbols (symbols_text F limit (symbols_of pdb x)) mid (Err f) after → ListsNext pdb F limit left before (Err f) after
+    pub ListsNext-cut : (f : ToolFault) → PutsSymbols (symbols_text form F limit (symbols_of pdb x)) mid (Err f) after → ListsNext form pdb F limit left before (Err f) after
     ListsNext-cut (Source fault) same =
-        let whole : PutsAll before (item_line x) after = subst (PutsAll before (item_line x)) (sym same) line in
+        let whole : PutsAll before (item_line_in form x) after = subst (PutsAll before (item_line_in form x)) (sym same) line in
         rw next_is (record {
-          took = TakesPrefix-front before.taken after.taken (item_line x) (symbols_text F limit (symbols_of pdb x)) whole.took;
+          took = TakesPrefix-front before.taken after.taken (item_line_in form x) (symbols_text form F limit (symbols_of pdb x)) whole.took;
           steady = whole.steady;
         })
-    ListsNext-cut Out cut = rw next_is (PutsPrefix-last before mid after (item_line x) (symbols_text F limit (symbols_of pdb x)) line cut)
+    ListsNext-cut Out cut = rw next_is (PutsPrefix-last before mid after (item_line_in form x) (symbols_text form F limit (symbols_of pdb x)) line cut)
     ListsNext-cut _ told = absurd told
 
   -- the output refused in the line of the item itself
-  pub ListsNext-line : (before after : OutState) → PutsPrefix before (item_line x) after → ListsNext pdb F limit left before (Err Out) after
-  ListsNext-line before after cut = rw next_is (PutsPrefix-front before after (item_line x) (symbols_text F limit (symbols_of pdb x)) cut)
+  pub ListsNext-line : (before after : OutState) → PutsPrefix before (item_line_in form x) after → ListsNext form pdb F limit left before (Err Out) after
+  ListsNext-line before after cut = rw next_is (PutsPrefix-front before after (item_line_in form x) (symbols_text form F limit (symbols_of pdb x)) cut)
 
 -- no item stood before the fault, or the store failed
-pub ListsNext-fault : (pdb : Bool) (F : List ℕ) (limit : ℕ) (left : Run) (now : OutState) (f : ListFault) → Gives left (Err f)
-    → ListsNext pdb F limit left now (Err (listing_told f)) now
-ListsNext-fault pdb F limit left now f gives = by f.kind gives where
-  by : (kind : FaultKind) → ((IsUnobtained kind → ⊥) → left ≡ only_fault f) → ListsNext pdb F limit left now (Err (told_by kind f)) now
-  by (kinds.Source fault) gives = StopsShort-nothing now (next_lines pdb F limit left)
+pub ListsNext-fault : (form : LineForm) (pdb : Bool) (F : List ℕ) (limit : ℕ) (left : Run) (now : OutState) (f : ListFault) → Gives left (Err f)
+    → ListsNext form pdb F limit left now (Err (listing_told f)) now
+ListsNext-fault form pdb F limit left now f gives = by f.kind gives where
+  by : (kind : FaultKind) → ((IsUnobtained kind → ⊥) → left ≡ only_fault f) → ListsNext form pdb F limit left now (Err (told_by kind f)) now
+  by (kinds.Source fault) gives = StopsShort-nothing now (next_lines form pdb F limit left)
   by kinds.Budget gives = refl
   by _ gives = (gives (λ x. x), refl)
 

@@ -1,5 +1,5 @@
 -- What `check` prints.
-use Rattle.std.specs.Prelude.{ℕ, ◌+◌, List, [], ◌∷◌, ◌++◌, Option, Some, None, codes}
+use Rattle.std.specs.Prelude.{ℕ, ◌+◌, List, [], ◌∷◌, Option, Some, None, codes}
 use Rattle.std.specs.List.{concat, flat_map}
 use Rattle.std.specs.Fmt.{decimal}
 use Rattle.mdmp_lister.specs.declared.choice.Choice.TheVariants.{All}
@@ -8,23 +8,15 @@ use Rattle.mdmp_lister.specs.declared.verdict.Verdict.{Verdict}
 use Rattle.mdmp_lister.specs.Format.Listing.{verdicts}
 use Rattle.mdmp_lister.specs.Format.Refusal.{opening_fault}
 use Rattle.mdmp_tool.specs.Engines.{unless_refused}
-use Rattle.mdmp_tool.specs.Faults.{list_fault_text}
+use Rattle.mdmp_tool.specs.Forms.{verdict_line_in}
+use Rattle.mdmp_words.specs.declared.request.LineForm.{LineForm}
 
--- of entry e: `entry <e>: ok`, or what is said of its fault
-abbrev pub judged_text : ℕ → Option ListFault → List ℕ
-judged_text e None = concat (codes "entry " ∷ decimal e ∷ codes ": ok" ∷ [])
-judged_text e (Some fault) = list_fault_text fault
-
--- the line of a verdict
-abbrev pub verdict_line : Verdict → List ℕ
-verdict_line v = judged_text v.entry v.fault ++ codes "\n"
-
-abbrev pub verdict_lines : List Verdict → List ℕ
-verdict_lines vs = flat_map verdict_line vs
+abbrev pub verdict_lines : LineForm → List Verdict → List ℕ
+verdict_lines form vs = flat_map (verdict_line_in form) vs
 
 -- a line for each entry
-abbrev pub check_text : List ℕ → ℕ → List ℕ
-check_text F limit = unless_refused (opening_fault F All) (verdict_lines (verdicts F All limit))
+abbrev pub check_text : LineForm → List ℕ → ℕ → List ℕ
+check_text form F limit = unless_refused (opening_fault F All) (verdict_lines form (verdicts F All limit))
 
 -- ---- bad entries
 

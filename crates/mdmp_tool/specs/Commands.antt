@@ -48,8 +48,8 @@ pub record HasRun {T : Type 0} (limits : Limits) (End : Result T ToolFault → �
 
 -- a command that prints, over a source and through blocks, within these limits
 abbrev pub HasPrinted : Print → Limits → SourceState → OutState → OutState → ℕ → SourceState → OutState → OutState → Type 0
-HasPrinted Check limits = HasRun limits IsCheckEnd (λ file. ChecksThrough file limits.name) past_faults
-HasPrinted (Listing pdb) limits = HasRun limits IsEnd (λ file. ListsThrough pdb file limits.name) up_to_a_fault
+HasPrinted (Check form) limits = HasRun limits IsCheckEnd (λ file. ChecksThrough form file limits.name) past_faults
+HasPrinted (Listing form pdb) limits = HasRun limits IsEnd (λ file. ListsThrough form pdb file limits.name) up_to_a_fault
 HasPrinted (Hex span) limits = HasRun limits IsEnd (λ file. HexesThrough file limits.name span.address span.length) at_the_end
 
 -- the streams of these types were copied, within these limits

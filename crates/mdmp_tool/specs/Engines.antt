@@ -8,7 +8,6 @@ use Rattle.mdmp_lister.specs.declared.fault.OpenFault.{OpenFault}
 use Rattle.mdmp_lister.specs.declared.fault.OpenFault.TheVariants.{TooShort}
 use Rattle.mdmp_lister.specs.declared.limits.Limits.{Limits}
 use Rattle.mdmp_lister.specs.Counts.{AreHeld, AreSpent, numbers_of}
-use Rattle.mdmp_lister.specs.Fault.{IsUnobtained}
 use Rattle.mdmp_lister.specs.Format.Listing.{listing}
 use Rattle.mdmp_lister.specs.Lister.{ListerState}
 use Rattle.mdmp_wire.specs.Header.{header_at}

@@ -5,9 +5,14 @@ pub mod Commands
 pub mod Copying
 pub mod Engines
 pub mod Faults
+pub mod Forms
 pub mod HexRuns
 pub mod HexText
 pub mod ItemLines
+pub mod Json
+pub mod JsonLaws
+pub mod JsonLines
+pub mod JsonPieces
 pub mod Line
 pub mod Lines
 pub mod PdbLines
@@ -17,4 +22,5 @@ pub mod Runs
 pub mod Standing
 pub mod Telling
 pub mod Text
+pub mod VerdictLines
 pub mod Words

@@ -1,8 +1,8 @@
 -- The lines of the CodeView records of modules. `<n>` is a decimal number.
-use Rattle.std.specs.Prelude.{ℕ, List, [], ◌∷◌, Bool, true, false, codes}
+use Rattle.std.specs.Prelude.{ℕ, List, [], ◌∷◌, ◌++◌, Bool, true, false, codes}
 use Rattle.std.specs.List.{concat, flat_map}
-use Rattle.std.specs.Fmt.{decimal}
-use Rattle.uuid.specs.Text.{hyphenated_text, lower}
+use Rattle.std.specs.Fmt.{decimal, digits}
+use Rattle.uuid.specs.Text.{hyphenated_text, lower, simple_text, upper}
 use Rattle.mdmp_wire.specs.CodeView.{CodeViewValue, Rsds, Other, Short}
 use Rattle.mdmp_wire.specs.Digits.{hex}
 use Rattle.mdmp_wire.specs.Escape.{escaped_bytes}
@@ -10,6 +10,10 @@ use Rattle.mdmp_wire.specs.Escape.{escaped_bytes}
 -- the identity of a symbol file: 8, 4, 4, 4 and 12 hexadecimal digits in lower case, with hyphens between them
 abbrev pub guid_text : List ℕ → List ℕ
 guid_text guid = hyphenated_text lower guid
+
+-- what a symbol store is asked for: the 32 digits of the identity and those of the age, in upper case
+abbrev pub debug_id : List ℕ → ℕ → List ℕ
+debug_id guid age = simple_text upper guid ++ digits 16 true age
 
 -- two hexadecimal digits for each of these bytes
 abbrev pub digits_text : List ℕ → List ℕ

@@ -9,7 +9,8 @@ use Rattle.mdmp_tool.specs.declared.fault.ToolFault.{ToolFault}
 use Rattle.mdmp_tool.specs.declared.fault.ToolFault.TheVariants.{List as BadList, Source, Budget, Out}
 use Rattle.mdmp_wire.specs.declared.header.Header.{Header}
 use Rattle.mdmp_tool.specs.Engines.{Runs, RunsThrough, StopsShort, WritesText, up_to_a_fault}
-use Rattle.mdmp_tool.specs.Lines.{dump_line}
+use Rattle.mdmp_tool.specs.Forms.{dump_line_in}
+use Rattle.mdmp_words.specs.declared.request.LineForm.{LineForm}
 use Rattle.mdmp_tool.specs.Text.{run_text, list_text, next_lines}
 
 -- what may end the printing of a run: its fault, or none; the store's, the budget's or the output's
@@ -22,15 +23,15 @@ ListEnds run (Err Out) = Unit {0}
 ListEnds run (Err fault) = ⊥
 
 -- the items of a run over F were printed, all of them up to its fault or none
-pub record ListsRun (pdb : Bool) (F : List ℕ) (limit : ℕ) (run : Run) (before : OutState) (answer : Result (Unit {0}) ToolFault) (after : OutState) : Type 0 where
+pub record ListsRun (form : LineForm) (pdb : Bool) (F : List ℕ) (limit : ℕ) (run : Run) (before : OutState) (answer : Result (Unit {0}) ToolFault) (after : OutState) : Type 0 where
   pub ends : ListEnds run answer
-  pub writes : WritesText up_to_a_fault (run_text pdb F limit run) before answer after
+  pub writes : WritesText up_to_a_fault (run_text form pdb F limit run) before answer after
 
 -- the same behind the line of a header
-pub record ListsFile (pdb : Bool) (F : List ℕ) (limit : ℕ) (h : Header) (run : Run) (before : OutState) (answer : Result (Unit {0}) ToolFault)
+pub record ListsFile (form : LineForm) (pdb : Bool) (F : List ℕ) (limit : ℕ) (h : Header) (run : Run) (before : OutState) (answer : Result (Unit {0}) ToolFault)
     (after : OutState) : Type 0 where
   pub ends : ListEnds run answer
-  pub writes : WritesText up_to_a_fault (dump_line h ++ run_text pdb F limit run) before answer after
+  pub writes : WritesText up_to_a_fault (dump_line_in form h ++ run_text form pdb F limit run) before answer after
 
 -- the line of a CodeView record was printed; or its bytes were not obtained, and nothing was; or the output refused in it
 abbrev pub PutsSymbols : List ℕ → OutState → Result (Unit {0}) ToolFault → OutState → Type 0
@@ -41,14 +42,14 @@ PutsSymbols text before (Err fault) after = ⊥
 
 -- of what is left of a run over F the lines of its next item were printed; or nothing was, since no item is left, the fault
 -- stands there or the budget was reached; or the store failed or the output refused in these lines
-abbrev pub ListsNext : Bool → List ℕ → ℕ → Run → OutState → Result Bool ToolFault → OutState → Type 0
-ListsNext pdb F limit left before (Ok true) after = (0 < length left.items) × PutsAll before (next_lines pdb F limit left) after
-ListsNext pdb F limit left before (Ok false) after = (left ≡ nothing) × (after ≡ before)
-ListsNext pdb F limit left before (Err (BadList fault)) after = (left ≡ only_fault fault) × (after ≡ before)
-ListsNext pdb F limit left before (Err (Source fault)) after = StopsShort before (next_lines pdb F limit left) after
-ListsNext pdb F limit left before (Err (Budget offset size)) after = after ≡ before
-ListsNext pdb F limit left before (Err Out) after = PutsPrefix before (next_lines pdb F limit left) after
-ListsNext pdb F limit left before (Err fault) after = ⊥
+abbrev pub ListsNext : LineForm → Bool → List ℕ → ℕ → Run → OutState → Result Bool ToolFault → OutState → Type 0
+ListsNext form pdb F limit left before (Ok true) after = (0 < length left.items) × PutsAll before (next_lines form pdb F limit left) after
+ListsNext form pdb F limit left before (Ok false) after = (left ≡ nothing) × (after ≡ before)
+ListsNext form pdb F limit left before (Err (BadList fault)) after = (left ≡ only_fault fault) × (after ≡ before)
+ListsNext form pdb F limit left before (Err (Source fault)) after = StopsShort before (next_lines form pdb F limit left) after
+ListsNext form pdb F limit left before (Err (Budget offset size)) after = after ≡ before
+ListsNext form pdb F limit left before (Err Out) after = PutsPrefix before (next_lines form pdb F limit left) after
+ListsNext form pdb F limit left before (Err fault) after = ⊥
 
 -- and one item fewer is left
 pub record IsBehindNext (old new : ListerState) : Type 0 where
@@ -57,9 +58,9 @@ pub record IsBehindNext (old new : ListerState) : Type 0 where
   pub falls : new.work < old.work
 
 -- a run of `list` over F, of which the text is printed while it is read: with `pdb` the CodeView records of modules are told
-abbrev pub Lists : Bool → List ℕ → ℕ → OutState → Result (Unit {0}) ToolFault → OutState → Type 0
-Lists pdb F limit = Runs F All (ListEnds (listing F All limit)) up_to_a_fault (list_text pdb F limit)
+abbrev pub Lists : LineForm → Bool → List ℕ → ℕ → OutState → Result (Unit {0}) ToolFault → OutState → Type 0
+Lists form pdb F limit = Runs F All (ListEnds (listing F All limit)) up_to_a_fault (list_text form pdb F limit)
 
 -- the same through blocks
-abbrev pub ListsThrough : Bool → List ℕ → ℕ → OutState → Result (Unit {0}) ToolFault → OutState → Type 0
-ListsThrough pdb F limit = RunsThrough F All (ListEnds (listing F All limit)) up_to_a_fault (list_text pdb F limit)
+abbrev pub ListsThrough : LineForm → Bool → List ℕ → ℕ → OutState → Result (Unit {0}) ToolFault → OutState → Type 0
+ListsThrough form pdb F limit = RunsThrough F All (ListEnds (listing F All limit)) up_to_a_fault (list_text form pdb F limit)

@@ -13,6 +13,7 @@ use crate::hex::HexEngine;
 use crate::list::ListEngine;
 use mdmp_lister::Limits;
 use mdmp_source::{BlockOut, Out, Source, Store};
+use mdmp_words::LineForm;
 use std::alloc::Allocator;
 
 /// Does what `check_source` does, by few writes: the lines reach the inner output in blocks, and what
@@ -22,16 +23,17 @@ pub fn check_in_blocks<S: Store + Drop, A: Allocator + Copy, O: Out, B: Allocato
     alloc: A,
     source: Source<S>,
     limits: Limits,
+    form: LineForm,
     blocks: &mut BlockOut<O, B>,
 ) -> RunAnswered<u64, S>
     requires { blocks.old.pending ≡ [] }
-    ensures checks { (file : List ℕ) → source.store.content ≡ Some file → ChecksThrough file limits.name blocks.old.inner result.answer blocks.new.inner }
+    ensures checks { (file : List ℕ) → source.store.content ≡ Some file → ChecksThrough form file limits.name blocks.old.inner result.answer blocks.new.inner }
     ensures flushed { IsFlushed result.answer blocks.new.pending }
     ensures tells { Tells in_blocks past_faults source.store source.size blocks.old.inner result.answer blocks.new.inner }
     ensures reads { ReadsSource source result.answer result.source }
     ensures through { IsReadThrough limits source result.answer result.source }
 {
-    run_in_blocks(CheckEngine, alloc, source, limits, blocks)
+    run_in_blocks(CheckEngine { form }, alloc, source, limits, blocks)
 }
 
 /// Does what `list_source` does, by few writes: the lines reach the inner output in blocks, and what
@@ -41,17 +43,18 @@ pub fn list_in_blocks<S: Store + Drop, A: Allocator + Copy, O: Out, B: Allocator
     alloc: A,
     source: Source<S>,
     limits: Limits,
+    form: LineForm,
     pdb: bool,
     blocks: &mut BlockOut<O, B>,
 ) -> RunAnswered<(), S>
     requires { blocks.old.pending ≡ [] }
-    ensures lists { (file : List ℕ) → source.store.content ≡ Some file → ListsThrough pdb file limits.name blocks.old.inner result.answer blocks.new.inner }
+    ensures lists { (file : List ℕ) → source.store.content ≡ Some file → ListsThrough form pdb file limits.name blocks.old.inner result.answer blocks.new.inner }
     ensures flushed { IsFlushed result.answer blocks.new.pending }
     ensures tells { Tells in_blocks up_to_a_fault source.store source.size blocks.old.inner result.answer blocks.new.inner }
     ensures reads { ReadsSource source result.answer result.source }
     ensures through { IsReadThrough limits source result.answer result.source }
 {
-    run_in_blocks(ListEngine { pdb }, alloc, source, limits, blocks)
+    run_in_blocks(ListEngine { form, pdb }, alloc, source, limits, blocks)
 }
 
 /// Does what `hex_source` does, by few writes: the lines reach the inner output in blocks, and what

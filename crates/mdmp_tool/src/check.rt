@@ -9,13 +9,14 @@ ghost use Rattle.mdmp_tool.specs.Engines.{IsOpened, IsSameRun, IsReadThrough, Le
 
 use crate::engine::{Engine, RunAnswered, run, run_source};
 use crate::fault::{ToolFault, told_list};
-use crate::verdict_lines::put_verdict_line;
+use crate::forms::put_verdict;
 use mdmp_lister::{Choice, Limits, Lister, RunFault, Stopped, Verdict, VerdictSink};
 use mdmp_source::{Out, OutFailed, Source, Store};
+use mdmp_words::LineForm;
 use std::alloc::Allocator;
 
-/// Reads all entries of a file, and prints a line for each: that it is good, or its first fault. The
-/// answer is how many have a fault.
+/// Reads all entries of a file, and prints a line in this form for each: that it is good, or its first
+/// fault. The answer is how many have a fault.
 ///
 /// Where the file is refused nothing is written. After a fault of the store or the output, or where the
 /// budget of the limits is reached, the first part of the text went out. Memory is taken before the first
@@ -24,13 +25,14 @@ pub fn run_check<S: Store + Drop, A: Allocator + Copy, O: Out>(
     alloc: A,
     store: S,
     limits: Limits,
+    form: LineForm,
     out: &mut O,
 ) -> Result<u64, ToolFault>
-    ensures checks { (file : List ℕ) → (S.state store).content ≡ Some file → Checks file limits.name (O.state out.old) result (O.state out.new) }
+    ensures checks { (file : List ℕ) → (S.state store).content ≡ Some file → Checks form file limits.name (O.state out.old) result (O.state out.new) }
     ensures tells { Tells directly past_faults (S.state store) (S.state store).size (O.state out.old) result (O.state out.new) }
     ensures budget { MayReachBudget limits (S.state store).size result }
 {
-    run(CheckEngine, alloc, store, limits, out)
+    run(CheckEngine { form }, alloc, store, limits, out)
 }
 
 /// Does what `run_check` does, and hands the source back, whose counts tell the cause of its faults.
@@ -38,19 +40,23 @@ pub fn check_source<S: Store + Drop, A: Allocator + Copy, O: Out>(
     alloc: A,
     source: Source<S>,
     limits: Limits,
+    form: LineForm,
     out: &mut O,
 ) -> RunAnswered<u64, S>
-    ensures checks { (file : List ℕ) → source.store.content ≡ Some file → Checks file limits.name (O.state out.old) result.answer (O.state out.new) }
+    ensures checks { (file : List ℕ) → source.store.content ≡ Some file → Checks form file limits.name (O.state out.old) result.answer (O.state out.new) }
     ensures tells { Tells directly past_faults source.store source.size (O.state out.old) result.answer (O.state out.new) }
     ensures reads { ReadsSource source result.answer result.source }
     ensures through { IsReadThrough limits source result.answer result.source }
 {
-    run_source(CheckEngine, alloc, source, limits, out)
+    run_source(CheckEngine { form }, alloc, source, limits, out)
 }
 
 /// The engine of `check`, which prints the line of an entry as it was read.
 #[derive(Clone, Copy)]
-pub(crate) struct CheckEngine;
+pub(crate) struct CheckEngine {
+    /// How the lines are printed.
+    pub form: LineForm,
+}
 
 impl Engine for CheckEngine {
     ghost use Rattle.mdmp_lister.specs.declared.choice.Choice.TheVariants.{All};
@@ -69,7 +75,7 @@ impl Engine for CheckEngine {
 
     ghost Ends = { λ _ file limit. CheckEnds file limit };
 
-    ghost text = { λ _ file limit. verdict_lines (verdicts file All limit) };
+    ghost text = { λ e file limit. verdict_lines e.form (verdicts file All limit) };
 
     fn chosen(&self) -> Choice {
         Choice::All
@@ -82,7 +88,11 @@ impl Engine for CheckEngine {
         out: &mut O,
     ) -> Result<u64, ToolFault> {
         let _ = alloc;
-        let mut lines = VerdictLines { out, bad: 0 };
+        let mut lines = VerdictLines {
+            out,
+            form: self.form,
+            bad: 0,
+        };
         check_listed(lister, &mut lines)
     }
 }
@@ -97,7 +107,7 @@ fn check_listed<S: Store + Drop, A: Allocator + Copy, O: Out>(
     ensures same_output { lines.new.out.ghost_name ≡ lines.old.out.ghost_name }
     ensures ends { (file : List ℕ) → lister.old.source.store.content ≡ Some file → CheckEnds file lister.old.limit result }
     ensures writes { (file : List ℕ) → lister.old.source.store.content ≡ Some file
-        → WritesText past_faults (verdict_lines (verdicts file All lister.old.limit)) (O.state lines.old.out.now) result (O.state lines.new.out.now) }
+        → WritesText past_faults (verdict_lines lines.old.form (verdicts file All lister.old.limit)) (O.state lines.old.out.now) result (O.state lines.new.out.now) }
     ensures leaves { Leaves past_faults (O.state lines.new.out.now ≡ O.state lines.old.out.now) lister.old.source (O.state lines.old.out.now) result lister.new.source (O.state lines.new.out.now) }
     ensures same { IsSameRun lister.old lister.new }
     ensures over { HasBudgetCause result lister.new }
@@ -115,6 +125,7 @@ fn check_listed<S: Store + Drop, A: Allocator + Copy, O: Out>(
 #[derive(Drop)]
 struct VerdictLines<'a, O: Out> {
     out: &'a mut O,
+    form: LineForm,
     bad: u64,
 }
 
@@ -122,11 +133,11 @@ impl<'a, O: Out> VerdictSink for VerdictLines<'a, O> {
     ghost use Rattle.std.specs.Prelude.{◌≡◌};
     ghost use Rattle.mdmp_tool.specs.CheckRuns.{TakesVerdict};
 
-    ghost step = { λ old verdict result new. (new.out.ghost_name ≡ old.out.ghost_name)
-        × TakesVerdict (O.state old.out.now) old.bad verdict result (O.state new.out.now) new.bad };
+    ghost step = { λ old verdict result new. (new.out.ghost_name ≡ old.out.ghost_name) × ((new.form ≡ old.form)
+        × TakesVerdict old.form (O.state old.out.now) old.bad verdict result (O.state new.out.now) new.bad) };
 
     fn take(&mut self, verdict: &Verdict) -> Result<(), Stopped> {
-        match put_verdict_line(verdict, self.out) {
+        match put_verdict(self.form, verdict, self.out) {
             Ok(()) => {}
             Err(OutFailed) => return Err(Stopped),
         }

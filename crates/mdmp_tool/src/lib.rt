@@ -11,6 +11,9 @@
 //! [`hex_in_blocks`] do the same by few writes. [`run_copy`] writes the dump of the streams of some
 //! types as a file of its own, a first part of it where the output refuses or the store fails, or
 //! nothing.
+//! A [`LineForm`] says whether the lines of `list` and `check` are words or objects of JSON
+//! (`specs/JsonLines.antt`); all else is the same. [`objects_are_json_texts`] is the law that each
+//! object is a JSON text that reads back as it.
 //! A [`ToolFault`] has the exit status of [`status`] and the line of [`fault_line`].
 #![tactic(auto)]
 
@@ -20,9 +23,16 @@ mod copy;
 mod engine;
 mod fault;
 mod fault_lines;
+mod forms;
 mod hex;
 mod hex_lines;
 mod item_lines;
+mod json_law;
+mod json_lines;
+mod json_pdb_lines;
+mod json_pieces;
+mod json_strings;
+mod json_verdict_lines;
 mod line;
 mod lines;
 mod list;
@@ -41,6 +51,7 @@ pub use crate::engine::RunAnswered;
 pub use crate::fault::{ToolFault, status};
 pub use crate::fault_lines::fault_line;
 pub use crate::hex::{hex_source, run_hex};
+pub use crate::json_law::objects_are_json_texts;
 pub use crate::lines::put_dump_line;
 pub use crate::list::{list_next, list_source, run_list};
 pub use crate::program::{run_args, run_program};
@@ -49,5 +60,5 @@ pub use crate::standing::what_is_copied_stands;
 pub use crate::words::{run_on_disk, run_words};
 pub use mdmp_dump::{PartName, ReadFault};
 pub use mdmp_lister::{FaultKind, Limits, ListFault, OpenFault, TypeSet};
-pub use mdmp_words::{Asked, Command, Print, Request, Span, request_of};
+pub use mdmp_words::{Asked, Command, LineForm, Print, Request, Span, request_of};
 pub use mdmp_writer::LayoutFault;

@@ -9,15 +9,15 @@ ghost use Rattle.mdmp_tool.specs.Text.{symbols_of, symbols_text};
 
 use crate::engine::{Engine, RunAnswered, run, run_source};
 use crate::fault::{ToolFault, told_list};
-use crate::item_lines::put_item_line;
-use crate::lines::put_dump_line;
-use crate::pdb_lines::put_pdb_line;
+use crate::forms::{put_dump, put_item, put_pdb};
+use crate::json_pdb_lines::ModulePlace;
 use mdmp_lister::{Choice, Item, Limits, Lister};
 use mdmp_source::{Extent, Location, Out, OutFailed, Source, Store};
+use mdmp_words::LineForm;
 use std::alloc::Allocator;
 
 /// Prints what a file holds: a line for its header, and one for each item of its listing, up to the
-/// first fault. With `pdb` what the CodeView record of a module tells is one more line behind the
+/// first fault, each in this form. With `pdb` what the CodeView record of a module tells is one more line behind the
 /// module's, where that record lies inside the file; of its name at most as many bytes are read and
 /// printed as the limit on names.
 ///
@@ -28,14 +28,15 @@ pub fn run_list<S: Store + Drop, A: Allocator + Copy, O: Out>(
     alloc: A,
     store: S,
     limits: Limits,
+    form: LineForm,
     pdb: bool,
     out: &mut O,
 ) -> Result<(), ToolFault>
-    ensures lists { (file : List ℕ) → (S.state store).content ≡ Some file → Lists pdb file limits.name (O.state out.old) result (O.state out.new) }
+    ensures lists { (file : List ℕ) → (S.state store).content ≡ Some file → Lists form pdb file limits.name (O.state out.old) result (O.state out.new) }
     ensures tells { Tells directly up_to_a_fault (S.state store) (S.state store).size (O.state out.old) result (O.state out.new) }
     ensures budget { MayReachBudget limits (S.state store).size result }
 {
-    run(ListEngine { pdb }, alloc, store, limits, out)
+    run(ListEngine { form, pdb }, alloc, store, limits, out)
 }
 
 /// Does what `run_list` does, and hands the source back, whose counts tell the cause of its faults.
@@ -43,20 +44,23 @@ pub fn list_source<S: Store + Drop, A: Allocator + Copy, O: Out>(
     alloc: A,
     source: Source<S>,
     limits: Limits,
+    form: LineForm,
     pdb: bool,
     out: &mut O,
 ) -> RunAnswered<(), S>
-    ensures lists { (file : List ℕ) → source.store.content ≡ Some file → Lists pdb file limits.name (O.state out.old) result.answer (O.state out.new) }
+    ensures lists { (file : List ℕ) → source.store.content ≡ Some file → Lists form pdb file limits.name (O.state out.old) result.answer (O.state out.new) }
     ensures tells { Tells directly up_to_a_fault source.store source.size (O.state out.old) result.answer (O.state out.new) }
     ensures reads { ReadsSource source result.answer result.source }
     ensures through { IsReadThrough limits source result.answer result.source }
 {
-    run_source(ListEngine { pdb }, alloc, source, limits, out)
+    run_source(ListEngine { form, pdb }, alloc, source, limits, out)
 }
 
 /// The engine of `list`, which prints each item as it is read.
 #[derive(Clone, Copy)]
 pub(crate) struct ListEngine {
+    /// How the lines are printed.
+    pub form: LineForm,
     /// Whether CodeView records are told.
     pub pdb: bool,
 }
@@ -67,7 +71,7 @@ impl Engine for ListEngine {
     ghost use Rattle.mdmp_lister.specs.declared.choice.Choice.TheVariants.{All};
     ghost use Rattle.mdmp_lister.specs.Format.Listing.{listing};
     ghost use Rattle.mdmp_tool.specs.Engines.{up_to_a_fault};
-    ghost use Rattle.mdmp_tool.specs.Lines.{dump_line};
+    ghost use Rattle.mdmp_tool.specs.Forms.{dump_line_in};
     ghost use Rattle.mdmp_tool.specs.Runs.{ListEnds};
     ghost use Rattle.mdmp_tool.specs.Text.{run_text};
 
@@ -81,7 +85,7 @@ impl Engine for ListEngine {
 
     ghost Ends = { λ _ file limit. ListEnds (listing file All limit) };
 
-    ghost text = { λ e file limit. dump_line (header_at file 0) ++ run_text e.pdb file limit (listing file All limit) };
+    ghost text = { λ e file limit. dump_line_in e.form (header_at file 0) ++ run_text e.form e.pdb file limit (listing file All limit) };
 
     fn chosen(&self) -> Choice {
         Choice::All
@@ -94,43 +98,45 @@ impl Engine for ListEngine {
         out: &mut O,
     ) -> Result<(), ToolFault> {
         let _ = alloc;
-        put_listing(lister, self.pdb, out)
+        put_listing(lister, self.form, self.pdb, out)
     }
 }
 
 /// Prints the line of the header, and those of the items that are left.
 fn put_listing<S: Store + Drop, A: Allocator + Copy, O: Out>(
     lister: &mut Lister<S, A>,
+    form: LineForm,
     pdb: bool,
     out: &mut O,
 ) -> Result<(), ToolFault>
     requires { lister.old.stop ≡ None }
     ensures lists { (file : List ℕ) → lister.old.source.store.content ≡ Some file → (left : Run) → lister.old.left ≡ Some left
-        → ListsFile pdb file lister.old.limit lister.old.header left (O.state out.old) result (O.state out.new) }
+        → ListsFile form pdb file lister.old.limit lister.old.header left (O.state out.old) result (O.state out.new) }
     ensures leaves { Leaves up_to_a_fault (O.state out.new ≡ O.state out.old) lister.old.source (O.state out.old) result lister.new.source (O.state out.new) }
     ensures same { IsSameRun lister.old lister.new }
     ensures over { HasBudgetCause result lister.new }
 {
-    if let Err(OutFailed) = put_dump_line(&lister.header(), out) {
+    if let Err(OutFailed) = put_dump(form, &lister.header(), out) {
         return Err(ToolFault::Out);
     }
-    list_items(lister, pdb, out)
+    list_items(lister, form, pdb, out)
 }
 
 /// Prints the lines of the items that are left.
 fn list_items<S: Store + Drop, A: Allocator + Copy, O: Out>(
     lister: &mut Lister<S, A>,
+    form: LineForm,
     pdb: bool,
     out: &mut O,
 ) -> Result<(), ToolFault>
     requires { lister.old.stop ≡ None }
     ensures lists { (file : List ℕ) → lister.old.source.store.content ≡ Some file → (left : Run) → lister.old.left ≡ Some left
-        → ListsRun pdb file lister.old.limit left (O.state out.old) result (O.state out.new) }
+        → ListsRun form pdb file lister.old.limit left (O.state out.old) result (O.state out.new) }
     ensures leaves { Leaves up_to_a_fault ⊥ lister.old.source (O.state out.old) result lister.new.source (O.state out.new) }
     ensures same { IsSameRun lister.old lister.new }
     ensures over { HasBudgetCause result lister.new }
 {
-    while list_next(lister, pdb, out)? {}
+    while list_next(lister, form, pdb, out)? {}
     Ok(())
 }
 
@@ -141,12 +147,13 @@ fn list_items<S: Store + Drop, A: Allocator + Copy, O: Out>(
 /// stand behind a first part of the lines.
 pub fn list_next<S: Store + Drop, A: Allocator + Copy, O: Out>(
     lister: &mut Lister<S, A>,
+    form: LineForm,
     pdb: bool,
     out: &mut O,
 ) -> Result<bool, ToolFault>
     requires { lister.old.stop ≡ None }
     ensures lists { (file : List ℕ) → lister.old.source.store.content ≡ Some file → (left : Run) → lister.old.left ≡ Some left
-        → ListsNext pdb file lister.old.limit left (O.state out.old) result (O.state out.new) }
+        → ListsNext form pdb file lister.old.limit left (O.state out.old) result (O.state out.new) }
     ensures rest { result ≡ Ok true → IsBehindNext lister.old lister.new }
     ensures leaves { Leaves up_to_a_fault ⊥ lister.old.source (O.state out.old) result lister.new.source (O.state out.new) }
     ensures same { IsSameRun lister.old lister.new }
@@ -154,24 +161,39 @@ pub fn list_next<S: Store + Drop, A: Allocator + Copy, O: Out>(
 {
     let symbols = match lister.next() {
         Ok(None) => return Ok(false),
-        Ok(Some(item)) => match put_item_line(&item, out) {
+        Ok(Some(item)) => match put_item(form, &item, out) {
             Ok(()) => symbols_of(pdb, &item),
             Err(OutFailed) => return Err(ToolFault::Out),
         },
         Err(fault) => return Err(told_list(fault)),
     };
-    put_symbols(lister, symbols, out)?;
+    put_symbols(lister, form, symbols, out)?;
     Ok(true)
+}
+
+/// Where the CodeView record of a module stands.
+#[derive(Clone, Copy)]
+pub(crate) struct ModuleSymbols {
+    /// Which module it is.
+    pub place: ModulePlace,
+    /// Where the record stands.
+    pub location: Location,
 }
 
 /// Where the CodeView record of an item stands that is told: a module's, if it lies inside the file
 /// and such are asked for.
-fn symbols_of(pdb: bool, item: &Item<'_>) -> Option<Location>
+fn symbols_of(pdb: bool, item: &Item<'_>) -> Option<ModuleSymbols>
     ensures { result ≡ symbols_of pdb item.now }
 {
     match item {
         Item::Module(module) if pdb => match module.codeview {
-            Extent::Inside => Some(module.fields.cv_record),
+            Extent::Inside => Some(ModuleSymbols {
+                place: ModulePlace {
+                    entry: module.entry,
+                    index: module.index,
+                },
+                location: module.fields.cv_record,
+            }),
             Extent::Empty | Extent::Absent | Extent::Outside => None,
         },
         _ => None,
@@ -181,22 +203,23 @@ fn symbols_of(pdb: bool, item: &Item<'_>) -> Option<Location>
 /// Prints the line of the CodeView record at a location, if there is one.
 fn put_symbols<S: Store + Drop, A: Allocator + Copy, O: Out>(
     lister: &mut Lister<S, A>,
-    symbols: Option<Location>,
+    form: LineForm,
+    symbols: Option<ModuleSymbols>,
     out: &mut O,
 ) -> Result<(), ToolFault>
-    requires { IfSome symbols (λ at. IsInside at.rva at.size lister.old.source.size) }
+    requires { IfSome symbols (λ of. IsInside of.location.rva of.location.size lister.old.source.size) }
     ensures puts { (file : List ℕ) → lister.old.source.store.content ≡ Some file
-        → PutsSymbols (symbols_text file lister.old.limit symbols) (O.state out.old) result (O.state out.new) }
+        → PutsSymbols (symbols_text form file lister.old.limit symbols) (O.state out.old) result (O.state out.new) }
     ensures stays { lister.new ≡ record lister.old { source = lister.new.source; counts = lister.new.counts } }
     ensures leaves { Leaves up_to_a_fault ⊥ lister.old.source (O.state out.old) result lister.new.source (O.state out.new) }
     ensures same { IsSameRun lister.old lister.new }
     ensures over { HasBudgetCause result lister.new }
 {
-    let Some(location) = symbols else {
+    let Some(ModuleSymbols { place, location }) = symbols else {
         return Ok(());
     };
     match lister.codeview(location) {
-        Ok(bytes) => match put_pdb_line(&bytes.read(), out) {
+        Ok(bytes) => match put_pdb(form, place, &bytes.read(), out) {
             Ok(()) => Ok(()),
             Err(OutFailed) => Err(ToolFault::Out),
         },

@@ -12,6 +12,9 @@ ghost use Rattle.mdmp_tool.specs.ItemLines.{extent_text, name_text, units_text, 
 ghost use Rattle.mdmp_tool.specs.PdbLines.{digits_text, guid_text};
 ghost use Rattle.mdmp_tool.specs.Pieces.{piece_text};
 
+use crate::json_pieces::{
+    put_bytes_value, put_debug_id, put_hex_strings, put_name_value, put_placed, put_record_member,
+};
 use itoa::Buffer;
 use mdmp_dump::PartName;
 use mdmp_lister::{FaultKind, Name};
@@ -55,17 +58,46 @@ pub(crate) enum Piece<'a> {
     Cut {
         ended: bool,
     },
+    /// Members of an object: what a part is in its file, and its size and where it stands as numbers.
+    Placed {
+        extent: Extent,
+        size: u64,
+        offset: u128,
+    },
+    /// The same, as strings of digits.
+    PlacedWide {
+        extent: Extent,
+        size: u64,
+        offset: u128,
+    },
+    /// A name as a value, and the member behind it where its text is not what was read.
+    NameValue(&'a Name<'a>),
+    /// Bytes of a file name as a string, and the same member.
+    BytesValue(&'a [u8]),
+    /// As many of the values of an exception as it is said to have, at most all of them, as strings.
+    Values {
+        count: u32,
+        values: &'a [u64; 15],
+    },
+    /// What a symbol store is asked for.
+    DebugId {
+        guid: &'a [u8; 16],
+        age: u32,
+    },
+    /// The member that has the number of a record, where the fault is a record's.
+    RecordMember(Option<u64>),
+    Bool(bool),
 }
 
 /// Writes a text.
-fn put_text<O: Out>(out: &mut O, text: &str) -> Result<(), OutFailed>
+pub(crate) fn put_text<O: Out>(out: &mut O, text: &str) -> Result<(), OutFailed>
     ensures { Puts result (O.state out.old) text.now (O.state out.new) }
 {
     write_all(out, text.as_bytes())
 }
 
 /// Writes a number in decimal digits.
-fn put_decimal<O: Out>(out: &mut O, number: u64) -> Result<(), OutFailed>
+pub(crate) fn put_decimal<O: Out>(out: &mut O, number: u64) -> Result<(), OutFailed>
     ensures { Puts result (O.state out.old) (decimal number) (O.state out.new) }
 {
     let mut buffer = Buffer::new();
@@ -74,7 +106,7 @@ fn put_decimal<O: Out>(out: &mut O, number: u64) -> Result<(), OutFailed>
 
 /// Writes a wide number in decimal digits.
 #[inline(never)]
-fn put_wide_decimal<O: Out>(out: &mut O, number: u128) -> Result<(), OutFailed>
+pub(crate) fn put_wide_decimal<O: Out>(out: &mut O, number: u128) -> Result<(), OutFailed>
     ensures { Puts result (O.state out.old) (decimal number) (O.state out.new) }
 {
     let mut buffer = Buffer::new();
@@ -91,7 +123,7 @@ fn put_hex2<O: Out>(out: &mut O, byte: u8) -> Result<(), OutFailed>
 }
 
 /// Writes a number in sixteen hexadecimal digits.
-fn put_hex16<O: Out>(out: &mut O, number: u64) -> Result<(), OutFailed>
+pub(crate) fn put_hex16<O: Out>(out: &mut O, number: u64) -> Result<(), OutFailed>
     ensures { Puts result (O.state out.old) (hex 16 number) (O.state out.new) }
 {
     let mut digits = [0; 16];
@@ -309,5 +341,23 @@ pub(crate) fn put_piece<O: Out>(out: &mut O, piece: Piece<'_>) -> Result<(), Out
         Piece::Digits(bytes) => put_digits(out, bytes),
         Piece::Cut { ended: true } => Ok(()),
         Piece::Cut { ended: false } => write_all(out, b" cut"),
+        Piece::Placed {
+            extent,
+            size,
+            offset,
+        } => put_placed(out, "", extent, size, offset),
+        Piece::PlacedWide {
+            extent,
+            size,
+            offset,
+        } => put_placed(out, "\"", extent, size, offset),
+        Piece::NameValue(name) => put_name_value(out, name),
+        Piece::BytesValue(bytes) => put_bytes_value(out, bytes),
+        Piece::Values { count, values } => put_hex_strings(out, count, values),
+        Piece::DebugId { guid, age } => put_debug_id(out, guid, age),
+        Piece::RecordMember(None) => Ok(()),
+        Piece::RecordMember(Some(index)) => put_record_member(out, index),
+        Piece::Bool(true) => write_all(out, b"true"),
+        Piece::Bool(false) => write_all(out, b"false"),
     }
 }

@@ -39,15 +39,19 @@ pub fn print_told<S: Store + Drop, A: Allocator + Copy, O: Out, B: Allocator, E:
     ensures { HasPrinted print limits source blocks.old.inner (E.state err.old) result.status result.source blocks.new.inner (E.state err.new) }
 {
     match print {
-        Print::Check => {
-            let RunAnswered { answer, source } = check_in_blocks(alloc, source, limits, blocks);
+        Print::Check { form } => {
+            let RunAnswered { answer, source } = check_in_blocks(
+                alloc, source, limits, form, blocks,
+            );
             Ended {
                 status: tell_check(answer, err),
                 source,
             }
         }
-        Print::List { pdb } => {
-            let RunAnswered { answer, source } = list_in_blocks(alloc, source, limits, pdb, blocks);
+        Print::List { form, pdb } => {
+            let RunAnswered { answer, source } = list_in_blocks(
+                alloc, source, limits, form, pdb, blocks,
+            );
             Ended {
                 status: tell(answer, err),
                 source,

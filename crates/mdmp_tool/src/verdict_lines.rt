@@ -1,7 +1,8 @@
 //! The lines that `check` prints.
 ghost use Rattle.mdmp_source.specs.Output.{Puts};
-ghost use Rattle.mdmp_tool.specs.CheckText.{bad_text, verdict_line};
+ghost use Rattle.mdmp_tool.specs.CheckText.{bad_text};
 ghost use Rattle.mdmp_tool.specs.Lines.{error_line};
+ghost use Rattle.mdmp_tool.specs.VerdictLines.{verdict_line};
 
 use crate::fault_lines::fault_pieces;
 use crate::line::{put_error_line, put_pieces};

@@ -37,9 +37,9 @@ pub fn run_words<R: Files + AllocGlobal, A: Allocator + Copy, O: Out, E: Out>(
     run_on_disk(rt, &mut SystemDisk::new(rt), alloc, words, out, err)
 }
 
-/// Runs the command that the words behind the program's name ask for: `check FILE`,
-/// `list FILE [--pdb]`, `hex FILE ADDRESS LENGTH` or `copy IN OUT TYPE...`, each with `--window N` and
-/// `--name N`. All words are judged before a file is opened. `copy` makes OUT, which must not be there;
+/// Runs the command that the words behind the program's name ask for: `check FILE [--json]`,
+/// `list FILE [--pdb] [--json]`, `hex FILE ADDRESS LENGTH` or `copy IN OUT TYPE...`, each with
+/// `--window N` and `--name N`. All words are judged before a file is opened. `copy` makes OUT, which must not be there;
 /// after a fault OUT is left as far as it was written. No other file is changed.
 ///
 /// It writes the lines, or the help that was asked for, to `out`, and the line of a fault to `err`, and

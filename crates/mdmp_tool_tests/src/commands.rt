@@ -8,9 +8,9 @@ use mdmp_lister::{Choice, Lister, TypeSet};
 use mdmp_source::{BlockOut, Out, PatchyOut, Source, Store, write_all};
 use mdmp_test_support::Room;
 use mdmp_tool::{
-    Limits, OpenFault, RunAnswered, ToolFault, check_in_blocks, check_source, copy_source,
-    hex_in_blocks, hex_source, list_in_blocks, list_next, list_source, put_dump_line, run_check,
-    run_copy, run_hex, run_list,
+    Limits, LineForm, OpenFault, RunAnswered, ToolFault, check_in_blocks, check_source,
+    copy_source, hex_in_blocks, hex_source, list_in_blocks, list_next, list_source, put_dump_line,
+    run_check, run_copy, run_hex, run_list,
 };
 use std::alloc::{Allocator, Global};
 use std::process::Abort;
@@ -109,7 +109,7 @@ fn check_store<S: Store + Drop, A: Allocator + Copy>(
     limits: Limits,
     out: &mut PatchyOut<Global>,
 ) -> Result<u64, ToolFault> {
-    run_check(heap, store, limits, out)
+    run_check(heap, store, limits, LineForm::Text, out)
 }
 
 fn list_store<S: Store + Drop, A: Allocator + Copy>(
@@ -119,7 +119,7 @@ fn list_store<S: Store + Drop, A: Allocator + Copy>(
     pdb: bool,
     out: &mut PatchyOut<Global>,
 ) -> Result<u64, ToolFault> {
-    uncounted(run_list(heap, store, limits, pdb, out))
+    uncounted(run_list(heap, store, limits, LineForm::Text, pdb, out))
 }
 
 fn hex_store<S: Store + Drop, A: Allocator + Copy>(
@@ -169,7 +169,7 @@ fn check_by_source<S: Store + Drop, A: Allocator + Copy>(
     limits: Limits,
     out: &mut PatchyOut<Global>,
 ) -> End {
-    let RunAnswered { answer, source } = check_source(heap, source, limits, out);
+    let RunAnswered { answer, source } = check_source(heap, source, limits, LineForm::Text, out);
     end_of(answer, source)
 }
 
@@ -180,7 +180,14 @@ fn list_by_source<S: Store + Drop, A: Allocator + Copy>(
     pdb: bool,
     out: &mut PatchyOut<Global>,
 ) -> End {
-    let RunAnswered { answer, source } = list_source(heap, source, limits, pdb, out);
+    let RunAnswered { answer, source } = list_source(
+        heap,
+        source,
+        limits,
+        LineForm::Text,
+        pdb,
+        out,
+    );
     end_of(uncounted(answer), source)
 }
 
@@ -235,7 +242,13 @@ fn check_by_blocks<S: Store + Drop, A: Allocator + Copy, O: Out>(
 ) -> End
     requires { blocks.old.pending ≡ [] }
 {
-    let RunAnswered { answer, source } = check_in_blocks(heap, source, limits, blocks);
+    let RunAnswered { answer, source } = check_in_blocks(
+        heap,
+        source,
+        limits,
+        LineForm::Text,
+        blocks,
+    );
     end_of(answer, source)
 }
 
@@ -248,7 +261,14 @@ fn list_by_blocks<S: Store + Drop, A: Allocator + Copy, O: Out>(
 ) -> End
     requires { blocks.old.pending ≡ [] }
 {
-    let RunAnswered { answer, source } = list_in_blocks(heap, source, limits, pdb, blocks);
+    let RunAnswered { answer, source } = list_in_blocks(
+        heap,
+        source,
+        limits,
+        LineForm::Text,
+        pdb,
+        blocks,
+    );
     end_of(uncounted(answer), source)
 }
 
@@ -334,7 +354,7 @@ fn answer_by_items<S: Store + Drop, A: Allocator + Copy>(
         if !put_bar(is_barred, out) {
             return Err(ToolFault::Out);
         }
-        match list_next(lister, pdb, out) {
+        match list_next(lister, LineForm::Text, pdb, out) {
             Ok(true) => {}
             Ok(false) => return Ok(0),
             Err(fault) => return Err(fault),

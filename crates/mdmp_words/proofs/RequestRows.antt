@@ -3,6 +3,7 @@ use Rattle.std.proofs.Common.{◌≡◌, ℕ, List, [], ◌∷◌, Option, Some,
 use Rattle.clap.specs.Words.{Text}
 use Rattle.clap.specs.declared.error.kind.ErrorKind.TheVariants.{DisplayHelp, DisplayVersion, InvalidSubcommand, MissingRequiredArgument, MissingSubcommand, UnknownArgument}
 use Rattle.clap.proofs.OnLiterals.{clap_on_literals}
+use Rattle.mdmp_words.specs.declared.request.LineForm.TheVariants as forms
 use Rattle.mdmp_words.specs.Requests.{Plain, PlainCommand, check, copy, faults, hex, list, request_named}
 
 -- a command over the file of this name, with these limits
@@ -18,7 +19,7 @@ over file window name command = within file window name 18446744073709551615 com
 abbrev check_words : List Text
 check_words = codes "check" ∷ codes "a.dmp" ∷ []
 
-check-request : request_named check_words ≡ over (codes "a.dmp") 65536 4096 check
+check-request : request_named check_words ≡ over (codes "a.dmp") 65536 4096 (check forms.Text)
 unfolding clap_on_literals request_named
 check-request = refl
 
@@ -26,15 +27,15 @@ check-faults : faults check_words ≡ []
 unfolding clap_on_literals faults
 check-faults = refl
 
-list-request : request_named (codes "list" ∷ codes "a.dmp" ∷ []) ≡ over (codes "a.dmp") 65536 4096 (list false)
+list-request : request_named (codes "list" ∷ codes "a.dmp" ∷ []) ≡ over (codes "a.dmp") 65536 4096 (list forms.Text false)
 unfolding clap_on_literals request_named
 list-request = refl
 
-list_pdb-request : request_named (codes "list" ∷ codes "a.dmp" ∷ codes "--pdb" ∷ []) ≡ over (codes "a.dmp") 65536 4096 (list true)
+list_pdb-request : request_named (codes "list" ∷ codes "a.dmp" ∷ codes "--pdb" ∷ []) ≡ over (codes "a.dmp") 65536 4096 (list forms.Text true)
 unfolding clap_on_literals request_named
 list_pdb-request = refl
 
-budget-request : request_named (codes "list" ∷ codes "a.dmp" ∷ codes "--budget" ∷ codes "43" ∷ []) ≡ within (codes "a.dmp") 65536 4096 43 (list false)
+budget-request : request_named (codes "list" ∷ codes "a.dmp" ∷ codes "--budget" ∷ codes "43" ∷ []) ≡ within (codes "a.dmp") 65536 4096 43 (list forms.Text false)
 unfolding clap_on_literals request_named
 budget-request = refl
 
@@ -42,6 +43,14 @@ budget-request = refl
 copy_budget-faults : faults (codes "copy" ∷ codes "--budget" ∷ codes "43" ∷ codes "a" ∷ codes "b" ∷ codes "3" ∷ []) ≡ UnknownArgument ∷ []
 unfolding clap_on_literals faults
 copy_budget-faults = refl
+
+list_json-request : request_named (codes "list" ∷ codes "--json" ∷ codes "a.dmp" ∷ codes "--pdb" ∷ []) ≡ over (codes "a.dmp") 65536 4096 (list forms.Json true)
+unfolding clap_on_literals request_named
+list_json-request = refl
+
+check_json-request : request_named (codes "check" ∷ codes "--json" ∷ codes "a.dmp" ∷ []) ≡ over (codes "a.dmp") 65536 4096 (check forms.Json)
+unfolding clap_on_literals request_named
+check_json-request = refl
 
 hex-request : request_named (codes "hex" ∷ codes "f" ∷ codes "0x10" ∷ codes "17" ∷ codes "--window" ∷ codes "168" ∷ [])
     ≡ over (codes "f") 168 4096 (hex (record { address = 16; length = 17 }))

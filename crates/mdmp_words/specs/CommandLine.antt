@@ -43,13 +43,13 @@ command name rules = (limited (fold with_rule (new_app name) rules)).top
 abbrev pub printing_command : Text → List Rule → Shape
 printing_command name rules = (budgeted (limited (fold with_rule (new_app name) rules))).top
 
--- `check FILE`
+-- `check FILE [--json]`
 abbrev pub check_command : Shape
-check_command = printing_command (codes "check") (word (codes "FILE") ∷ [])
+check_command = printing_command (codes "check") (word (codes "FILE") ∷ flag (codes "json") ∷ [])
 
--- `list FILE [--pdb]`
+-- `list FILE [--pdb] [--json]`
 abbrev pub list_command : Shape
-list_command = printing_command (codes "list") (word (codes "FILE") ∷ flag (codes "pdb") ∷ [])
+list_command = printing_command (codes "list") (word (codes "FILE") ∷ flag (codes "pdb") ∷ flag (codes "json") ∷ [])
 
 -- `hex FILE ADDRESS LENGTH`
 abbrev pub hex_command : Shape

@@ -15,6 +15,8 @@ use Rattle.mdmp_words.specs.declared.request.Asked.{Asked}
 use Rattle.mdmp_words.specs.declared.request.Asked.TheVariants.{Run, Help, Refused, Bad, Memory}
 use Rattle.mdmp_words.specs.declared.request.Command.{Command}
 use Rattle.mdmp_words.specs.declared.request.Command.TheVariants.{Print as Printing, Copy}
+use Rattle.mdmp_words.specs.declared.request.LineForm.{LineForm}
+use Rattle.mdmp_words.specs.declared.request.LineForm.TheVariants as forms
 use Rattle.mdmp_words.specs.declared.request.Print.{Print}
 use Rattle.mdmp_words.specs.declared.request.Print.TheVariants.{Check, List as Listing, Hex}
 use Rattle.mdmp_words.specs.declared.request.Request.{Request}
@@ -23,8 +25,8 @@ use Rattle.mdmp_words.specs.declared.request.Request.{Request}
 
 -- what is done with a file
 pub data PlainCommand : Type 0 where
-  check : PlainCommand
-  list : Bool → PlainCommand
+  check : LineForm → PlainCommand
+  list : LineForm → Bool → PlainCommand
   hex : Span → PlainCommand
   copy : List ℕ → List ℕ → PlainCommand
 
@@ -35,8 +37,8 @@ pub record Plain : Type 0 where
   pub command : PlainCommand
 
 abbrev pub plain_print : Print → PlainCommand
-plain_print Check = check
-plain_print (Listing pdb) = list pdb
+plain_print (Check form) = check form
+plain_print (Listing form pdb) = list form pdb
 plain_print (Hex span) = hex span
 
 abbrev pub plain_command : Command → PlainCommand
@@ -59,16 +61,20 @@ named_over rows id command =
     (λ sizes. option_map (λ file. record { file = file; sizes = sizes; command = command }) (first_of id rows))
     (limits_named (first_of (codes "window") rows) (first_of (codes "name") rows) (first_of (codes "budget") rows))
 
-abbrev pub check_named : List Row → Option Plain
-check_named rows = named_over rows (codes "FILE") check
-
 -- the flag under this id is set
 abbrev pub is_set : List Row → Text → Bool
 is_set rows id = option_map_or (λ flag. bytes_eq flag (codes "true")) (first_of id rows) false
 
+-- lines are objects of JSON where the flag is set
+abbrev pub form_named : List Row → LineForm
+form_named rows = if is_set rows (codes "json") then forms.Json else forms.Text
+
+abbrev pub check_named : List Row → Option Plain
+check_named rows = named_over rows (codes "FILE") (check (form_named rows))
+
 -- the symbol files are told where the flag is set
 abbrev pub list_named : List Row → Option Plain
-list_named rows = named_over rows (codes "FILE") (list (is_set rows (codes "pdb")))
+list_named rows = named_over rows (codes "FILE") (list (form_named rows) (is_set rows (codes "pdb")))
 
 abbrev pub hex_named : List Row → Option Plain
 hex_named rows =
@@ -134,8 +140,8 @@ AsksFor words Memory = Unit {0}
 
 -- the addresses whose bytes are to be printed are not too many, and pass no last address
 abbrev pub IsPrintable : Print → Type 0
-IsPrintable Check = Unit {0}
-IsPrintable (Listing pdb) = Unit {0}
+IsPrintable (Check form) = Unit {0}
+IsPrintable (Listing form pdb) = Unit {0}
 IsPrintable (Hex span) = (span.length ≤ length_limit) × (span.address + span.length ≤ address_end)
 
 abbrev pub IsCommandWithin : Command → Type 0

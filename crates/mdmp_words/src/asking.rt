@@ -2,12 +2,12 @@
 ghost use Rattle.std.specs.Prelude.{◌≡◌, [], IfSome, map, option_map};
 ghost use Rattle.clap.specs.Words.{all_of, first_of, found_of, rows_of, subcommand_rows_of};
 ghost use Rattle.clap.specs.Values.{kind_of};
-ghost use Rattle.mdmp_words.specs.Requests.{AsksFor, AsksIn, AsksNothing, IsTextOf, IsValid, IsCommandWithin, check_named, copy_named, hex_named, is_set, list_named, named_over, plain_request, plain_command, request_by};
+ghost use Rattle.mdmp_words.specs.Requests.{AsksFor, AsksIn, AsksNothing, IsTextOf, IsValid, IsCommandWithin, check_named, copy_named, form_named, hex_named, is_set, list_named, named_over, plain_request, plain_command, request_by};
 
 use crate::command_line::command_line;
 use crate::number_words::span_of;
 use crate::option_words::{limits_of, types_of};
-use crate::request::{Asked, Command, Print, Request};
+use crate::request::{Asked, Command, LineForm, Print, Request};
 use clap::error::ErrorKind;
 use clap::{ArgMatches, Error};
 use std::alloc::Global;
@@ -83,15 +83,33 @@ fn check_request<'a>(matches: &ArgMatches<'a>) -> Option<Request<'a>>
     ensures named { option_map plain_request result ≡ check_named (rows_of (found_of matches.now)) }
     ensures within { IfSome result (λ request. IsCommandWithin request.command) }
 {
-    request_over(matches, "FILE", Command::Print(Print::Check))
+    request_over(
+        matches,
+        "FILE",
+        Command::Print(Print::Check {
+            form: form_of(matches),
+        }),
+    )
 }
 
 fn list_request<'a>(matches: &ArgMatches<'a>) -> Option<Request<'a>>
     ensures named { option_map plain_request result ≡ list_named (rows_of (found_of matches.now)) }
     ensures within { IfSome result (λ request. IsCommandWithin request.command) }
 {
+    let form = form_of(matches);
     let pdb = is_set(matches, "pdb");
-    request_over(matches, "FILE", Command::Print(Print::List { pdb }))
+    request_over(matches, "FILE", Command::Print(Print::List { form, pdb }))
+}
+
+/// How the lines are printed.
+fn form_of(matches: &ArgMatches<'_>) -> LineForm
+    ensures { result ≡ form_named (rows_of (found_of matches.now)) }
+{
+    if is_set(matches, "json") {
+        LineForm::Json
+    } else {
+        LineForm::Text
+    }
 }
 
 fn hex_request<'a>(matches: &ArgMatches<'a>) -> Option<Request<'a>>

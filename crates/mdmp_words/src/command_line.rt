@@ -42,7 +42,9 @@ fn check_command<'a>(alloc: Global) -> Result<Command<'a>, AllocError>
     ensures local { IfOk result (λ made. has_globals made ≡ false) }
 {
     let file = word(alloc, "FILE", help::FILE);
-    let command = described(alloc, "check", help::CHECK_ABOUT, help::CHECK_AFTER).arg(file)?;
+    let command = described(alloc, "check", help::CHECK_ABOUT, help::CHECK_AFTER)
+        .arg(file)?
+        .arg(flag(alloc, "json", help::JSON))?;
     with_budget(alloc, command)
 }
 
@@ -52,7 +54,8 @@ fn list_command<'a>(alloc: Global) -> Result<Command<'a>, AllocError>
 {
     let command = described(alloc, "list", help::LIST_ABOUT, help::LIST_AFTER)
         .arg(word(alloc, "FILE", help::FILE))?
-        .arg(flag(alloc, "pdb", help::PDB))?;
+        .arg(flag(alloc, "pdb", help::PDB))?
+        .arg(flag(alloc, "json", help::JSON))?;
     with_budget(alloc, command)
 }
 

@@ -32,9 +32,12 @@ pub(crate) const CHECK_AFTER: &str = "\
 Prints a line for each entry of the directory, 'entry 0: ok' or the first fault
 of what the entry names, and goes on behind a fault of the file. The exit
 status is 1 where any entry is bad; how many are is told on standard error.
+With '--json' each line is an object, for programs; what goes to standard error
+stays as it is.
 
-Example:
-  mdmp check crash.dmp";
+Examples:
+  mdmp check crash.dmp
+  mdmp check --json crash.dmp";
 
 /// What `list` does, in a line.
 pub(crate) const LIST_ABOUT: &str =
@@ -44,10 +47,12 @@ pub(crate) const LIST_ABOUT: &str =
 pub(crate) const LIST_AFTER: &str = "\
 Prints a line for the header, one for each entry of the directory, and behind
 it one for each record of its stream, where records of its type are known. It
-ends at the first fault of the file; the lines before it stand.
+ends at the first fault of the file; the lines before it stand. With '--json'
+each line is an object, for programs; faults stay as they are.
 
-Example:
-  mdmp list --pdb crash.dmp";
+Examples:
+  mdmp list --pdb crash.dmp
+  mdmp list --json --pdb crash.dmp";
 
 /// What `hex` does, in a line.
 pub(crate) const HEX_ABOUT: &str = "Prints memory of the dumped process in hexadecimal digits";
@@ -105,6 +110,9 @@ pub(crate) const BUDGET: &str =
 
 /// What `--pdb` adds.
 pub(crate) const PDB: &str = "Tell of each module also its symbol file (PDB), where it names one";
+
+/// What `--json` changes.
+pub(crate) const JSON: &str = "Print each line as an object of JSON (RFC 8259), in UTF-8";
 
 /// What ADDRESS is.
 pub(crate) const ADDRESS: &str =

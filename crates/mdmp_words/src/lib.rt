@@ -15,4 +15,4 @@ mod request;
 
 pub use crate::asking::request_of;
 pub use crate::number_words::Span;
-pub use crate::request::{Asked, Command, Print, Request};
+pub use crate::request::{Asked, Command, LineForm, Print, Request};

@@ -13,13 +13,27 @@ pub struct Request<'a> {
     pub command: Command<'a>,
 }
 
+/// How lines are printed.
+#[derive(Clone, Copy)]
+pub enum LineForm {
+    /// As words, to be read.
+    Text,
+    /// As an object of JSON each, for programs.
+    Json,
+}
+
 /// What is printed of a file.
 #[derive(Clone, Copy)]
 pub enum Print {
     /// Of each entry whether it is good.
-    Check,
+    Check {
+        /// How the lines are printed.
+        form: LineForm,
+    },
     /// What the file holds.
     List {
+        /// How the lines are printed.
+        form: LineForm,
         /// Whether the symbol file of each module is told too.
         pdb: bool,
     },

@@ -3,6 +3,7 @@ use Rattle.mdmp_source.specs.Output.{OutState}
 use Rattle.mdmp_wire.specs.declared.header.Header.{Header}
 use Rattle.mdmp_tool.specs.Lines.{dump_line}
 use Rattle.mdmp_tool.specs.Text.{run_text}
+use Rattle.mdmp_words.specs.declared.request.LineForm.TheVariants.{Text}
 use Rattle.mdmp_c.specs.TextPart.{IsPartOf, PutsRun}
 use Rattle.mdmp_c.proofs.Listed.{lines_taken}
 use Rattle.mdmp_c.proofs.list_part.put_list.Goals as goal
@@ -11,7 +12,7 @@ pub returns : goal.returns
 returns g c = λ file good run known skip room before part.
     let line = c.deref.result.now in
     let first = dump_line c.args.lister.now.header in
-    let items = run_text c.args.pdb file c.args.lister.now.limit run in
+    let items = run_text Text c.args.pdb file c.args.lister.now.limit run in
     let is : line ≡ first =
     lines_taken _ _ line c.new.result.items (dump_line c.header.result) (ap (λ (o : OutState). o.taken) c.new-line.ensures) c.new.ensures.items c.in_default.ensures
     (sym c.into_inner-line.ensures ∙ ap Some (sym c.deref.ensures.value)) ∙ ap (λ (h : Header). dump_line h) c.header.ensures in

@@ -21,3 +21,39 @@ returns-in_default-clause-tells g c = record {
   memory = λ is file known. view_opens file (Types c.args.types) c.args.limits.name (c.in-Ok.ensures.refuses file known);
   changed = tt;
 }
+
+pub returns-in-Err : goal.returns-in-Err
+returns-in-Err g c =
+    let of = c.in-Err.ensures in
+    record {
+      spends = of.spends;
+      views = λ file known. tt;
+      refuses = of.refuses;
+      cause = of.cause;
+      refusal = of.refusal;
+      short = of.short;
+      new = tt;
+      reliable = λ file good. tt;
+      buffer = tt;
+      cost = λ file known. tt;
+      held = tt;
+      tells = of.tells;
+    }
+
+pub returns-clause-views : goal.returns-clause-views
+returns-clause-views g c = c.in-Ok.ensures.views
+
+pub returns-clause-refuses : goal.returns-clause-refuses
+returns-clause-refuses g c = c.in-Ok.ensures.refuses
+
+pub returns-clause-short : goal.returns-clause-short
+returns-clause-short g c = c.in-Ok.ensures.short
+
+pub returns-clause-new : goal.returns-clause-new
+returns-clause-new g c = c.in-Ok.ensures.new
+
+pub returns-clause-reliable : goal.returns-clause-reliable
+returns-clause-reliable g c = c.in-Ok.ensures.reliable
+
+pub returns-clause-cost : goal.returns-clause-cost
+returns-clause-cost g c = c.in-Ok.ensures.cost

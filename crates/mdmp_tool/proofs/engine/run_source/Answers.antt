@@ -1,6 +1,6 @@
 use Rattle.std.proofs.Common.{rules, ◌≡◌, ◌∙◌, ◌+◌, ℕ, ap, refl, subst}
 use Rattle.mdmp_source.specs.SourceLaws.{fetches_then}
-use Rattle.mdmp_tool.proofs.Engining.{IsQuiet-behind, IsRefusal-behind, Runs-unopened, Tells-unopened, may_change}
+use Rattle.mdmp_tool.proofs.Engining.{IsQuiet-behind, IsRefusal-behind, Runs-opened, Runs-unopened, Tells-unopened, may_change}
 use Rattle.mdmp_lister.specs.Counts.{AreHeld, AreSpent}
 use Rattle.mdmp_lister.specs.declared.counts.Counts.{Counts}
 use Rattle.mdmp_lister.specs.Lister.{Rooms}
@@ -17,6 +17,14 @@ pub returns-in-Err-clause-tells : goal.returns-in-Err-clause-tells
 returns-in-Err-clause-tells g c =
     let of = c.in-Err.ensures in
     rw c.told_opening.ensures (Tells-unopened g.row.E-Answer.Denot g.E.Engine.pace (g.O.Out.state c.args.out.now) c.in-Err.refused.fault c.args.source c.in-Err.refused.source of.good of.refusal of.short of.cause)
+
+pub returns-clause-runs : goal.returns-clause-runs
+returns-clause-runs g c = λ file known.
+    let new = c.in-Ok.ensures.new in
+    let put = c.put-answer.ensures in
+    let now = new.fetches.same_content ∙ known in
+    Runs-opened file g.E.Engine.choice (g.E.Engine.Ends c.args.engine file c.args.limits.name) g.E.Engine.pace (g.E.Engine.text c.args.engine file c.args.limits.name) _ _ (g.O.Out.state c.args.out.now) c.put-answer.result (g.O.Out.state c.put-answer.new.out)
+    (rw c.chosen.ensures at (c.in-Ok.ensures.opens file known)) put.leaves.behind (rw new.list.asked.limit_is at (put.ends file now)) (rw new.list.asked.limit_is at (put.writes file now))
 
 pub returns-clause-tells : goal.returns-clause-tells
 returns-clause-tells g c =

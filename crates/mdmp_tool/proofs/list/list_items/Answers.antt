@@ -12,8 +12,8 @@ returns-in_err-list_next-clause-lists g c = λ file content run known.
     let f = c.in_err-list_next.field-0.0 in
     let is : c.from_residual.result ≡ Err f = search rules in
     let printed = so_far.printed file content run known in
-    let next = next_within c.args.pdb file _ _ printed.0 _ (Err f) _ so_far.run.limit (c.in_err-list_next.ensures.lists file (so_far.source.fetches.same_content ∙ content) printed.0 printed.1.0) in
-    rw is (ListsRun-fault c.args.pdb file c.args.lister.now.limit run printed.0 _ _ _ f printed.1.1 next)
+    let next = next_within c.args.form c.args.pdb file _ _ printed.0 _ (Err f) _ so_far.run.limit (c.in_err-list_next.ensures.lists file (so_far.source.fetches.same_content ∙ content) printed.0 printed.1.0) in
+    rw is (ListsRun-fault c.args.form c.args.pdb file c.args.lister.now.limit run printed.0 _ _ _ f printed.1.1 next)
 
 pub returns-in_err-list_next-clause-leaves : goal.returns-in_err-list_next-clause-leaves
 returns-in_err-list_next-clause-leaves g c =
@@ -34,9 +34,9 @@ loop-preserved g c =
       steady = of.leaves.out_cause ∙ so_far.steady;
       printed = λ file content run known.
           let printed = so_far.printed file content run known in
-          let next = next_told c.args.pdb file _ _ printed.0 _ _ true _ so_far.run.limit c.if-branch.true (of.lists file (so_far.source.fetches.same_content ∙ content) printed.0 printed.1.0) in (
+          let next = next_told c.args.form c.args.pdb file _ _ printed.0 _ _ true _ so_far.run.limit c.if-branch.true (of.lists file (so_far.source.fetches.same_content ∙ content) printed.0 printed.1.0) in (
             tail printed.0,
-            (rw printed.1.0 at rest.left, HasPrinted-next c.args.pdb file c.args.lister.now.limit run printed.0 _ _ _ printed.1.1 next.1),
+            (rw printed.1.0 at rest.left, HasPrinted-next c.args.form c.args.pdb file c.args.lister.now.limit run printed.0 _ _ _ printed.1.1 next.1),
           );
     }
 
@@ -44,8 +44,8 @@ pub returns-clause-lists : goal.returns-clause-lists
 returns-clause-lists g c = λ file content run known.
     let so_far = c.loop.invariant in
     let printed = so_far.printed file content run known in
-    let next = next_told c.args.pdb file _ _ printed.0 _ _ false _ so_far.run.limit c.if-branch.false (c.in_ok-list_next.ensures.lists file (so_far.source.fetches.same_content ∙ content) printed.0 printed.1.0) in
-    ListsRun-end c.args.pdb file c.args.lister.now.limit run printed.0 _ _ _ printed.1.1 next
+    let next = next_told c.args.form c.args.pdb file _ _ printed.0 _ _ false _ so_far.run.limit c.if-branch.false (c.in_ok-list_next.ensures.lists file (so_far.source.fetches.same_content ∙ content) printed.0 printed.1.0) in
+    ListsRun-end c.args.form c.args.pdb file c.args.lister.now.limit run printed.0 _ _ _ printed.1.1 next
 
 pub returns-clause-leaves : goal.returns-clause-leaves
 returns-clause-leaves g c =

@@ -14,7 +14,7 @@ invariant-loop g l = record {
   steady : (g.O.Out.state l.out).failures ≡ (g.O.Out.state l.initial.out).failures;
   printed : (file : List ℕ) → l.initial.lister.source.store.content ≡ Some file → (run : Run) → l.initial.lister.left ≡ Some run
       → (left : Run) × ((l.lister.left ≡ Some left)
-      × HasPrinted l.pdb file l.initial.lister.limit run (g.O.Out.state l.initial.out) left (g.O.Out.state l.out));
+      × HasPrinted l.form l.pdb file l.initial.lister.limit run (g.O.Out.state l.initial.out) left (g.O.Out.state l.out));
 }
 
 abbrev pub decreases-loop : goal.decreases-loop

@@ -9,11 +9,11 @@ use Rattle.mdmp_tool.proofs.Symbols.{Leaves-fault, Leaves-later, Leaves-listed, 
 use Rattle.mdmp_tool.proofs.SameRuns.{over_listing}
 use Rattle.mdmp_tool.proofs.list.list_next.Goals as goal
 
-pub returns-in-Err-put_item_line-clause-lists : goal.returns-in-Err-put_item_line-clause-lists
-returns-in-Err-put_item_line-clause-lists g c = λ file content left known.
+pub returns-in-Err-put_item-clause-lists : goal.returns-in-Err-put_item-clause-lists
+returns-in-Err-put_item-clause-lists g c = λ file content left known.
     let x = c.in-Ok-Some.item in
     let first : slice_get left.items 0 ≡ Some (plain x) = rw c.in-Ok-Some.field-0-is at (c.in-Ok-Some.ensures.gives left known) in
-    ListsNext-line c.args.pdb file c.args.lister.now.limit left x first _ _ c.in-Err-put_item_line.ensures
+    ListsNext-line c.args.form c.args.pdb file c.args.lister.now.limit left x first _ _ c.in-Err-put_item.ensures
 
 pub returns-in_err-put_symbols-clause-lists : goal.returns-in_err-put_symbols-clause-lists
 returns-in_err-put_symbols-clause-lists g c = λ file content left known.
@@ -22,10 +22,10 @@ returns-in_err-put_symbols-clause-lists g c = λ file content left known.
     let f = c.in_err-put_symbols.field-0.0 in
     let is : c.from_residual.result ≡ Err f = search rules in
     let first : slice_get left.items 0 ≡ Some (plain x) = rw c.in-Ok-Some.field-0-is at (c.in-Ok-Some.ensures.gives left known) in
-    let line = symbols_text-is file _ _ _ _ holds.same.limit c.symbols_of.ensures in
-    let end = λ (text : List ℕ). PutsSymbols text (g.O.Out.state c.put_item_line.new.out) (Err f) (g.O.Out.state c.put_symbols.new.out) in
+    let line = symbols_text-is c.args.form file _ _ _ _ holds.same.limit c.symbols_of.ensures in
+    let end = λ (text : List ℕ). PutsSymbols text (g.O.Out.state c.put_item.new.out) (Err f) (g.O.Out.state c.put_symbols.new.out) in
     let cut = subst end line (c.in_err-put_symbols.ensures.puts file (holds.spends.fetches.same_content ∙ content)) in
-    rw is (ListsNext-cut c.args.pdb file c.args.lister.now.limit left x first _ _ _ c.in-Ok.ensures f cut)
+    rw is (ListsNext-cut c.args.form c.args.pdb file c.args.lister.now.limit left x first _ _ _ c.in-Ok.ensures f cut)
 
 pub returns-in_err-put_symbols-clause-leaves : goal.returns-in_err-put_symbols-clause-leaves
 returns-in_err-put_symbols-clause-leaves g c =
@@ -39,9 +39,9 @@ returns-clause-lists g c = λ file content left known.
     let x = c.in-Ok-Some.item in
     let holds = c.next.follows.holds-at-none.list in
     let first : slice_get left.items 0 ≡ Some (plain x) = rw c.in-Ok-Some.field-0-is at (c.in-Ok-Some.ensures.gives left known) in
-    let line = symbols_text-is file _ _ _ _ holds.same.limit c.symbols_of.ensures in
+    let line = symbols_text-is c.args.form file _ _ _ _ holds.same.limit c.symbols_of.ensures in
     let told = rw line at (c.in_ok-put_symbols.ensures.puts file (holds.spends.fetches.same_content ∙ content)) in
-    ListsNext-symbols c.args.pdb file c.args.lister.now.limit left x first _ _ _ c.in-Ok.ensures told
+    ListsNext-symbols c.args.form c.args.pdb file c.args.lister.now.limit left x first _ _ _ c.in-Ok.ensures told
 
 pub returns-clause-leaves : goal.returns-clause-leaves
 returns-clause-leaves g c =
@@ -56,7 +56,7 @@ returns-clause-leaves g c =
 
 pub returns-in-Err-clause-lists : goal.returns-in-Err-clause-lists
 returns-in-Err-clause-lists g c = λ file content left known.
-    rw c.told_list.ensures (ListsNext-fault c.args.pdb file c.args.lister.now.limit left _ c.in-Err.fault (c.in-Err.ensures.gives left known))
+    rw c.told_list.ensures (ListsNext-fault c.args.form c.args.pdb file c.args.lister.now.limit left _ c.in-Err.fault (c.in-Err.ensures.gives left known))
 
 pub returns-in-Err-clause-leaves : goal.returns-in-Err-clause-leaves
 returns-in-Err-clause-leaves g c =

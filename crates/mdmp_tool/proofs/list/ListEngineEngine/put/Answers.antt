@@ -5,13 +5,18 @@ use Rattle.mdmp_lister.specs.Format.Listing.{listing}
 use Rattle.mdmp_tool.specs.Runs.{ListsFile}
 use Rattle.mdmp_tool.proofs.list.ListEngineEngine.put.Goals as goal
 
+pub returns-clause-ends : goal.returns-clause-ends
+returns-clause-ends g c = λ file known.
+    (c.put_listing.ensures.lists file known (listing file All c.args.lister.now.limit) (c.requires.opened.left file known)).ends
+
 pub returns-clause-writes : goal.returns-clause-writes
 returns-clause-writes g c = λ file known.
     let opened = c.requires.opened in
+    let form = c.args.self.now.form in
     let pdb = c.args.self.now.pdb in
     let limit = c.args.lister.now.limit in
     let run = listing file All limit in
     let before = g.O.Out.state c.args.out.now in
     let after = g.O.Out.state c.put_listing.new.out in
     let lists = c.put_listing.ensures.lists file known run (opened.left file known) in
-    (subst (λ (h : Header). ListsFile pdb file limit h run before c.put_listing.result after) (opened.header_is file known) lists).writes
+    (subst (λ (h : Header). ListsFile form pdb file limit h run before c.put_listing.result after) (opened.header_is file known) lists).writes

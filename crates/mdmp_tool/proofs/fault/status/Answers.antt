@@ -1,0 +1,16 @@
+use Rattle.std.proofs.Common.{◌≡◌, ◌⊎◌, ℕ, ap, inl, inr, sym, ◌∙◌}
+use Rattle.mdmp_source.specs.declared.fault.SourceFault.{SourceFault}
+use Rattle.mdmp_tool.specs.Faults.{own_status}
+use Rattle.mdmp_tool.specs.declared.fault.ToolFault.{ToolFault}
+use Rattle.mdmp_tool.specs.declared.fault.ToolFault.TheVariants.{Source, Budget, Out, Memory}
+use Rattle.mdmp_tool.proofs.fault.status.Goals as goal
+
+-- neither the file's fault nor the words'
+is_three : (told : ToolFault) → ((fault : SourceFault) × (told ≡ Source fault)) ⊎ (((offset : ℕ) × (size : ℕ) × (told ≡ Budget offset size)) ⊎ ((told ≡ Out) ⊎ (told ≡ Memory))) → 3 ≡ own_status told
+is_three told (inl (fault, is)) = sym (ap own_status is)
+is_three told (inr (inl (offset, size, is))) = sym (ap own_status is)
+is_three told (inr (inr (inl is))) = sym (ap own_status is)
+is_three told (inr (inr (inr is))) = sym (ap own_status is)
+
+pub returns-in-Source : goal.returns-in-Source
+returns-in-Source c = is_three c.fault_as_told.result c.in-Source.is ∙ ap own_status c.fault_as_told.ensures

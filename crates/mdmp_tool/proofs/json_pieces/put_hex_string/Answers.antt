@@ -1,0 +1,15 @@
+use Rattle.std.proofs.lemmas.Result.{MatchResult-from_err}
+use Rattle.mdmp_source.specs.OutputLaws.{PutsPrefix-behind, PutsPrefix-front, Puts-behind}
+use Rattle.mdmp_tool.proofs.json_pieces.put_hex_string.Goals as goal
+
+pub returns-in_err-write_all : goal.returns-in_err-write_all
+returns-in_err-write_all g c =
+    MatchResult-from_err _ _ _ c.from_residual.ensures.0 (λ _. PutsPrefix-front _ _ _ _ c.in_err-write_all.ensures)
+
+pub returns-in_err-put_hex16 : goal.returns-in_err-put_hex16
+returns-in_err-put_hex16 g c =
+    MatchResult-from_err _ _ _ c.from_residual-in_err-put_hex16.ensures.0 (λ _. PutsPrefix-behind _ _ _ _ _ _ c.in_ok-write_all.ensures c.in_err-put_hex16.ensures)
+
+pub returns : goal.returns
+returns g c =
+    Puts-behind _ _ _ _ _ _ c.in_ok-write_all.ensures (Puts-behind _ _ _ _ _ _ c.in_ok-put_hex16.ensures c.write_all-2.ensures)
