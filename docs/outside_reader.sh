@@ -32,8 +32,11 @@ compare_objects() {
     name=$(basename "$1")
     dump=$1
     shift
-    "$mdmp" "$@" "$dump" > "$folder/lines"
-    jq -cS . "$folder/lines" > "$folder/by_jq"
+    # A dump with faults ends with status 1.
+    "$mdmp" "$@" "$dump" > "$folder/lines" 2> "$folder/faults" || [ $? = 1 ]
+    # Python reads what jq printed too, since both may escape other characters.
+    jq -cS . "$folder/lines" > "$folder/jq"
+    PYTHONIOENCODING=utf-8 python3 -c "$by_python" < "$folder/jq" > "$folder/by_jq"
     PYTHONIOENCODING=utf-8 python3 -c "$by_python" < "$folder/lines" > "$folder/by_python"
     if [ "$(wc -l < "$folder/lines")" = "$(wc -l < "$folder/by_jq")" ] && diff "$folder/by_jq" "$folder/by_python"; then
         echo "$name: $*: $(wc -l < "$folder/lines") objects, the same by jq and Python"
@@ -43,9 +46,11 @@ compare_objects() {
     fi
 }
 
+compare_objects crates/mdmp_samples/data/made-records.dmp list --json --pdb --name 10000
 for dump in crates/mdmp_samples/data/*.dmp; do
     compare_objects "$dump" list --json --pdb
     compare_objects "$dump" check --json
+    case $dump in */made-*) continue ;; esac
     name=$(basename "$dump")
     if ! told "$dump" > "$folder/read"; then
         echo "$name: not read by obj2yaml: $(cat "$folder/why")"
