@@ -1,5 +1,5 @@
--- The value that the text of each object is.
-use Rattle.std.proofs.Common.{◌≡◌, ◌∙◌, ℕ, suc, ◌<◌, ◌≤◌, ◌^◌, Bool, true, false, not, List, [], ◌∷◌, ◌++◌, Option, Some, None, refl, sym, ap, ap₂, arith, map, take, min, codes, append_assoc, append-nil, decimal}
+-- What each member of an object is read back as, and that its text is UTF-8 and has no line feed.
+use Rattle.std.proofs.Common.{◌≡◌, ◌∙◌, ℕ, suc, ◌<◌, ◌≤◌, ◌^◌, Bool, true, false, not, List, [], ◌∷◌, ◌++◌, Option, Some, None, IsUtf8, refl, sym, ap, ap₂, arith, map, take, min, codes, append_assoc, append-nil, decimal}
 use Rattle.std.specs.Char.Utf16.{has_unpaired_surrogate}
 use Rattle.std.specs.Str.{is_utf8}
 use Rattle.std.specs.Str.Lossy.{utf8_lossy}
@@ -16,11 +16,17 @@ use Rattle.mdmp_wire.specs.Units.{units_in, utf8_of}
 use Rattle.mdmp_lister.specs.declared.name.Name.{Name}
 use Rattle.mdmp_lister.specs.declared.name.Name.TheVariants.{Units, Long}
 use Rattle.mdmp_lister.specs.declared.name.Name.TheVariants as names
-use Rattle.mdmp_tool.specs.Json.{bytes_value, hex_string, joined_members, lossy_member, name_value, object, of_number, of_object, of_text, of_wide, part_members, prefixed_hex, spelled, values_of}
-use Rattle.mdmp_tool.specs.JsonLaws.{IsJsonText, length_of}
+use Rattle.mdmp_tool.specs.Json.{bytes_value, hex_string, joined_members, lossy_member, name_value, object, of_hex, of_number, of_object, of_text, of_wide, part_members, prefixed_hex, spelled, values_of}
+use Rattle.mdmp_tool.specs.JsonLaws.{IsJsonLine}
 use Rattle.mdmp_tool.specs.JsonLines.{fault_value, record_member}
 use Rattle.mdmp_tool.specs.Faults.{kind_words}
 use Rattle.mdmp_lister.specs.declared.fault.ListFault.{ListFault}
+use Rattle.mdmp_source.specs.Store.{AreBytes}
+use Rattle.mdmp_lister.specs.declared.fault.FaultKind.{FaultKind}
+use Rattle.mdmp_lister.specs.declared.fault.FaultKind.TheVariants as kinds
+use Rattle.mdmp_tool.proofs.JsonClean.{AreFit, fit-append, plain-clean, print-clean}
+use Rattle.mdmp_tool.proofs.JsonPlain.{ArePlain, are_plain, decimal-plain, plain-utf8, prefixed-plain, word}
+use Rattle.mdmp_tool.proofs.JsonStrings.{bytes-utf8, units-utf8}
 
 -- ---- members, one behind the other
 
@@ -51,96 +57,152 @@ depth-chain : (d : ℕ) (ms more : Members) → members_depth ms ≤ d → membe
 depth-chain d no_members more a b = b
 depth-chain d (member k j ms) more a b = omega (arith, depth-chain d ms more (omega arith) b)
 
--- these tokens are those of a value that is at most so deep
-abbrev IsValue : ℕ → List Token → Type 0
-IsValue d ts = (j : Json) × ((json_tokens j ≡ ts) × (HasNumbers j × (depth j ≤ d)))
+-- these tokens are those of a value that is at most so deep, and each of them may stand on a line
+record IsValue (depth_bound : ℕ) (ts : List Token) : Type 0 where
+  value : Json
+  tokens : json_tokens value ≡ ts
+  numbers : HasNumbers value
+  shallow : depth value ≤ depth_bound
+  fit : AreFit ts
 
-abbrev AreMembers : ℕ → List Token → Type 0
-AreMembers d ts = (ms : Members) × ((front ms ≡ ts) × (MembersHaveNumbers ms × (members_depth ms ≤ d)))
+-- the same of members without the brace behind them
+pub record AreMembers (depth_bound : ℕ) (ts : List Token) : Type 0 where
+  pub members : Members
+  pub tokens : front members ≡ ts
+  pub numbers : MembersHaveNumbers members
+  pub shallow : members_depth members ≤ depth_bound
+  pub fit : AreFit ts
 
-abbrev AreAll : ℕ → List (List Token) → Type 0
+abbrev pub AreAll : ℕ → List (List Token) → Type 0
 AreAll d [] = Unit {0}
 AreAll d (m ∷ ms) = AreMembers d m × AreAll d ms
 
+-- members one behind the other, and `tt` behind the last
+infixr 5 ◌&◌
+abbrev pub ◌&◌ : {A B : Type 0} → A → B → A × B
+a & b = (a, b)
+
+-- a name of Windows that was read is of bytes, and the length of one that was not is a number of Rust
+abbrev pub IsTold : Name → Type 0
+IsTold names.None = Unit {0}
+IsTold (Units units) = AreBytes units.bytes.now
+IsTold (Long length) = length < 2 ^ 64
+
 module _ (d : ℕ) where
-  of-value : (k : List ℕ) (ts : List Token) → IsValue d ts → AreMembers d (Token.key k ∷ ts)
-  of-value k ts v =
-      (member k v.0 no_members, (ap (λ (l : List Token). Token.key k ∷ l) (append-nil (json_tokens v.0) ∙ v.1.0), ((v.1.1.0, tt), omega (arith, v.1.1.1))))
+  of-value : (k : List ℕ) (ts : List Token) → are_plain k ≡ true → IsValue d ts → AreMembers d (Token.key k ∷ ts)
+  of-value k ts w v = record {
+    members = member k v.value no_members;
+    tokens = ap (λ (l : List Token). Token.key k ∷ l) (append-nil (json_tokens v.value) ∙ v.tokens);
+    numbers = (v.numbers, tt);
+    shallow = let s = v.shallow in omega arith;
+    fit = (word k w, v.fit);
+  }
 
   both : (xs ys : List Token) → AreMembers d xs → AreMembers d ys → AreMembers d (xs ++ ys)
-  both xs ys a b = (
-    chain a.0 b.0,
-    (front-chain a.0 b.0 ∙ ap₂ (λ (p q : List Token). p ++ q) a.1.0 b.1.0, (numbers-chain a.0 b.0 a.1.1.0 b.1.1.0, depth-chain d a.0 b.0 a.1.1.1 b.1.1.1)),
-  )
+  both xs ys a b = record {
+    members = chain a.members b.members;
+    tokens = front-chain a.members b.members ∙ ap₂ (λ (p q : List Token). p ++ q) a.tokens b.tokens;
+    numbers = numbers-chain a.members b.members a.numbers b.numbers;
+    shallow = depth-chain d a.members b.members a.shallow b.shallow;
+    fit = fit-append xs ys a.fit b.fit;
+  }
 
   joined : (ms : List (List Token)) → AreAll d ms → AreMembers d (joined_members ms)
-  joined [] h = (no_members, (refl, (tt, omega arith)))
+  joined [] h = record { members = no_members; tokens = refl; numbers = tt; shallow = omega arith; fit = tt }
   joined (m ∷ ms) h = both m (joined_members ms) h.0 (joined ms h.1)
+
+  in_braces : (ts : List Token) (m : AreMembers d ts) → json_tokens (tree.object m.members) ≡ Token.begin_object ∷ (ts ++ Token.end_object ∷ [])
+  in_braces ts m = ap (λ (l : List Token). Token.begin_object ∷ l) (closed m.members ∙ ap (λ (l : List Token). l ++ Token.end_object ∷ []) m.tokens)
+
+  fit-object : (ts : List Token) → AreFit ts → AreFit (Token.begin_object ∷ (ts ++ Token.end_object ∷ []))
+  fit-object ts h = (tt, fit-append ts (Token.end_object ∷ []) h (tt, tt))
 
   braces : (ms : List (List Token)) → AreAll d ms → IsValue (suc d) (object ms)
   braces ms h =
       let m = joined ms h in
-      (tree.object m.0, (ap (λ (l : List Token). Token.begin_object ∷ l) (closed m.0 ∙ ap (λ (l : List Token). l ++ Token.end_object ∷ []) m.1.0), (m.1.1.0, omega (arith, m.1.1.1))))
+      record {
+        value = tree.object m.members;
+        tokens = in_braces (joined_members ms) m;
+        numbers = m.numbers;
+        shallow = let s = m.shallow in omega arith;
+        fit = fit-object (joined_members ms) m.fit;
+      }
 
-  -- ---- members of each form
+  -- ---- members of each form: of a name that is a word
 
-  pub number : (name : List ℕ) (n : ℕ) → n < 2 ^ 64 → AreMembers d (of_number name n)
-  number name n small = of-value name (Token.number (decimal n) ∷ []) (tree.number (decimal n), (refl, (IsNumber-decimal n small, omega arith)))
+  pub number : (name : List ℕ) (n : ℕ) → are_plain name ≡ true → n < 2 ^ 64 → AreMembers d (of_number name n)
+  number name n w small = of-value name (Token.number (decimal n) ∷ []) w (record {
+    value = tree.number (decimal n);
+    tokens = refl;
+    numbers = IsNumber-decimal n small;
+    shallow = omega arith;
+    fit = (plain-clean (decimal n) (decimal-plain n), tt);
+  })
 
-  pub text : (name s : List ℕ) → AreMembers d (of_text name s)
-  text name s = of-value name (Token.string s ∷ []) (tree.string s, (refl, (tt, omega arith)))
+  pub text : (name s : List ℕ) → are_plain name ≡ true → IsUtf8 s → AreMembers d (of_text name s)
+  text name s w u = of-value name (Token.string s ∷ []) w (record { value = tree.string s; tokens = refl; numbers = tt; shallow = omega arith; fit = (u, tt) })
 
-  pub truth : (name : List ℕ) (b : Bool) → AreMembers d (Token.key name ∷ Token.boolean b ∷ [])
-  truth name b = of-value name (Token.boolean b ∷ []) (tree.boolean b, (refl, (tt, omega arith)))
+  pub plain : (name s : List ℕ) → are_plain name ≡ true → ArePlain s → AreMembers d (of_text name s)
+  plain name s w h = text name s w (plain-utf8 s h)
 
-  pub nothing : (name : List ℕ) → AreMembers d (Token.key name ∷ Token.null ∷ [])
-  nothing name = of-value name (Token.null ∷ []) (tree.null, (refl, (tt, omega arith)))
+  pub words : (name s : List ℕ) → are_plain name ≡ true → are_plain s ≡ true → AreMembers d (of_text name s)
+  words name s w v = text name s w (word s v)
 
-  pub placed : (e : Extent) (size offset : ℕ) → size < 2 ^ 64 → offset < 2 ^ 64 → AreMembers d (part_members of_number e size offset)
-  placed Empty size offset s o = text (codes "class") (codes "empty")
-  placed Absent size offset s o = both _ _ (text (codes "class") (codes "absent")) (number (codes "size") size s)
-  placed Inside size offset s o =
-      both _ _ (text (codes "class") (codes "inside")) (both _ _ (number (codes "size") size s) (number (codes "offset") offset o))
-  placed Outside size offset s o =
-      both _ _ (text (codes "class") (codes "outside")) (both _ _ (number (codes "size") size s) (number (codes "offset") offset o))
+  pub truth : (name : List ℕ) (b : Bool) → are_plain name ≡ true → AreMembers d (Token.key name ∷ Token.boolean b ∷ [])
+  truth name b w = of-value name (Token.boolean b ∷ []) w (record { value = tree.boolean b; tokens = refl; numbers = tt; shallow = omega arith; fit = (tt, tt) })
+
+  pub nothing : (name : List ℕ) → are_plain name ≡ true → AreMembers d (Token.key name ∷ Token.null ∷ [])
+  nothing name w = of-value name (Token.null ∷ []) w (record { value = tree.null; tokens = refl; numbers = tt; shallow = omega arith; fit = (tt, tt) })
+
+  -- a part, whose size and offset are members of either form
+  placed : (of : List ℕ → ℕ → List Token) (e : Extent) (size offset : ℕ) → AreMembers d (of (codes "size") size) → AreMembers d (of (codes "offset") offset)
+      → AreMembers d (part_members of e size offset)
+  placed of Empty size offset s o = words (codes "class") (codes "empty") refl refl
+  placed of Absent size offset s o = both _ _ (words (codes "class") (codes "absent") refl refl) s
+  placed of Inside size offset s o = both _ _ (words (codes "class") (codes "inside") refl refl) (both _ _ s o)
+  placed of Outside size offset s o = both _ _ (words (codes "class") (codes "outside") refl refl) (both _ _ s o)
+
+  pub placed-number : (e : Extent) (size offset : ℕ) → size < 2 ^ 64 → offset < 2 ^ 64 → AreMembers d (part_members of_number e size offset)
+  placed-number e size offset s o = placed of_number e size offset (number (codes "size") size refl s) (number (codes "offset") offset refl o)
+
+  pub wide : (name : List ℕ) (n : ℕ) → are_plain name ≡ true → AreMembers d (of_wide name n)
+  wide name n w = plain name (decimal n) w (decimal-plain n)
 
   pub placed-wide : (e : Extent) (size offset : ℕ) → AreMembers d (part_members of_wide e size offset)
-  placed-wide Empty size offset = text (codes "class") (codes "empty")
-  placed-wide Absent size offset = both _ _ (text (codes "class") (codes "absent")) (text (codes "size") (decimal size))
-  placed-wide Inside size offset =
-      both _ _ (text (codes "class") (codes "inside")) (both _ _ (text (codes "size") (decimal size)) (text (codes "offset") (decimal offset)))
-  placed-wide Outside size offset =
-      both _ _ (text (codes "class") (codes "outside")) (both _ _ (text (codes "size") (decimal size)) (text (codes "offset") (decimal offset)))
+  placed-wide e size offset = placed of_wide e size offset (wide (codes "size") size refl) (wide (codes "offset") offset refl)
 
   lossy : (b : Bool) → AreMembers d (lossy_member b)
-  lossy true = truth (codes "lossy") true
+  lossy true = truth (codes "lossy") true refl
   lossy false = joined [] tt
 
-  of-spelled : (name s : List ℕ) (b : Bool) → AreMembers d (Token.key name ∷ spelled s b)
-  of-spelled name s b = both (of_text name s) (lossy_member b) (text name s) (lossy b)
+  of-spelled : (name s : List ℕ) (b : Bool) → are_plain name ≡ true → IsUtf8 s → AreMembers d (Token.key name ∷ spelled s b)
+  of-spelled name s b w u = both (of_text name s) (lossy_member b) (text name s w u) (lossy b)
 
-  pub of-bytes : (name bytes : List ℕ) → AreMembers d (Token.key name ∷ bytes_value bytes)
-  of-bytes name bytes = of-spelled name (utf8_lossy bytes) (not (is_utf8 bytes))
+  pub of-bytes : (name bytes : List ℕ) → are_plain name ≡ true → AreMembers d (Token.key name ∷ bytes_value bytes)
+  of-bytes name bytes w = of-spelled name (utf8_lossy bytes) (not (is_utf8 bytes)) w (bytes-utf8 bytes)
+
+  pub of-hex : (name : List ℕ) (k n : ℕ) → are_plain name ≡ true → AreMembers d (of_hex name k n)
+  of-hex name k n w = plain name (prefixed_hex k n) w (prefixed-plain k n)
 
 -- the length of a name is an object in the object of its record
-pub of-name : (k : List ℕ) (name : Name) → length_of name < 2 ^ 64 → AreMembers 1 (Token.key k ∷ name_value name)
-of-name k names.None h = nothing 1 k
-of-name k (Units units) h = of-spelled 1 k (utf8_of (units_in units)) (has_unpaired_surrogate (units_in units))
-of-name k (Long length) h = of-value 1 k (name_value (Long length)) (braces 0 (of_number (codes "long") length ∷ []) (number 0 (codes "long") length h, tt))
+pub of-name : (k : List ℕ) (name : Name) → are_plain k ≡ true → IsTold name → AreMembers 1 (Token.key k ∷ name_value name)
+of-name k names.None w h = nothing 1 k w
+of-name k (Units units) w h = of-spelled 1 k (utf8_of (units_in units)) (has_unpaired_surrogate (units_in units)) w (units-utf8 units.bytes.now h)
+of-name k (Long length) w h = of-value 1 k (name_value (Long length)) w (braces 0 (of_number (codes "long") length ∷ []) (number 0 (codes "long") length refl h, tt))
 
 -- an object in an object
-nested : (k : List ℕ) (ms : List (List Token)) → AreAll 0 ms → AreMembers 1 (of_object k ms)
-nested k ms h = of-value 1 k (object ms) (braces 0 ms h)
+nested : (k : List ℕ) (ms : List (List Token)) → are_plain k ≡ true → AreAll 0 ms → AreMembers 1 (of_object k ms)
+nested k ms w h = of-value 1 k (object ms) w (braces 0 ms h)
 
-pub part : (k : List ℕ) (e : Extent) (size offset : ℕ) → size < 2 ^ 64 → offset < 2 ^ 64
+pub part : (k : List ℕ) (e : Extent) (size offset : ℕ) → are_plain k ≡ true → size < 2 ^ 64 → offset < 2 ^ 64
     → AreMembers 1 (of_object k (part_members of_number e size offset ∷ []))
-part k e size offset s o = nested k (part_members of_number e size offset ∷ []) (placed 0 e size offset s o, tt)
+part k e size offset w s o = nested k (part_members of_number e size offset ∷ []) w (placed-number 0 e size offset s o, tt)
 
 -- a part behind the address of a stack
-pub stack : (start : List ℕ) (e : Extent) (size offset : ℕ) → size < 2 ^ 64 → offset < 2 ^ 64
-    → AreMembers 1 (of_object (codes "stack") (of_text (codes "start") start ∷ part_members of_number e size offset ∷ []))
+pub stack : (start : ℕ) (e : Extent) (size offset : ℕ) → size < 2 ^ 64 → offset < 2 ^ 64
+    → AreMembers 1 (of_object (codes "stack") (of_hex (codes "start") 16 start ∷ part_members of_number e size offset ∷ []))
 stack start e size offset s o =
-    nested (codes "stack") (of_text (codes "start") start ∷ part_members of_number e size offset ∷ []) (text 0 (codes "start") start, (placed 0 e size offset s o, tt))
+    nested (codes "stack") (of_hex (codes "start") 16 start ∷ part_members of_number e size offset ∷ []) refl (of-hex 0 (codes "start") 16 start refl, (placed-number 0 e size offset s o, tt))
 
 -- ---- values of an exception
 
@@ -160,29 +222,57 @@ texts-depth : (vs : List ℕ) → items_depth (texts vs) ≤ 0
 texts-depth [] = omega arith
 texts-depth (v ∷ vs) = omega (arith, texts-depth vs)
 
-pub of-values : (k : List ℕ) (count : ℕ) (values : List ℕ) → AreMembers 1 (Token.key k ∷ Token.begin_array ∷ (values_of count values ++ Token.end_array ∷ []))
-of-values k count values =
+texts-fit : (vs : List ℕ) → AreFit (map hex_string vs ++ Token.end_array ∷ [])
+texts-fit [] = (tt, tt)
+texts-fit (v ∷ vs) = (plain-utf8 (prefixed_hex 16 v) (prefixed-plain 16 v), texts-fit vs)
+
+pub of-values : (k : List ℕ) (count : ℕ) (values : List ℕ) → are_plain k ≡ true → AreMembers 1 (Token.key k ∷ Token.begin_array ∷ (values_of count values ++ Token.end_array ∷ []))
+of-values k count values w =
     let vs = take (min count 15) values in
-    of-value 1 k _ (
-      tree.array (texts vs),
-      (ap (λ (l : List Token). Token.begin_array ∷ l) (texts-tokens vs), (texts-numbers vs, omega (arith, texts-depth vs))),
-    )
+    of-value 1 k _ w (record {
+      value = tree.array (texts vs);
+      tokens = ap (λ (l : List Token). Token.begin_array ∷ l) (texts-tokens vs);
+      numbers = texts-numbers vs;
+      shallow = omega (arith, texts-depth vs);
+      fit = (tt, texts-fit vs);
+    })
 
 -- ---- faults
 
 of-record : (k : Option ℕ) → AreMembers 0 (record_member k)
 of-record None = joined 0 [] tt
-of-record (Some k) = text 0 _ _
+of-record (Some k) = wide 0 (codes "item") k refl
 
-pub of-verdict : (k : List ℕ) (fault : Option ListFault) → AreMembers 1 (Token.key k ∷ fault_value fault)
-of-verdict k None = nothing 1 k
-of-verdict k (Some f) = of-value 1 k _ (
+kind-plain : (kind : FaultKind) → are_plain (kind_words kind) ≡ true
+kind-plain kinds.StreamOutside = refl
+kind-plain kinds.ShortStream = refl
+kind-plain kinds.BadHeaderSize = refl
+kind-plain kinds.BadEntrySize = refl
+kind-plain kinds.BadCount = refl
+kind-plain kinds.NameLengthOutside = refl
+kind-plain kinds.NameOdd = refl
+kind-plain kinds.NameUnitsOutside = refl
+kind-plain (kinds.Source fault) = refl
+kind-plain kinds.Budget = refl
+
+pub of-verdict : (k : List ℕ) (fault : Option ListFault) → are_plain k ≡ true → AreMembers 1 (Token.key k ∷ fault_value fault)
+of-verdict k None w = nothing 1 k w
+of-verdict k (Some f) w = of-value 1 k _ w (
     braces 0 (of_text (codes "kind") (kind_words f.kind) ∷ record_member f.index ∷ of_wide (codes "offset") f.offset ∷ of_wide (codes "size") f.size ∷ [])
-    (text 0 _ _, (of-record f.index, (text 0 _ _, (text 0 _ _, tt)))))
+    (words 0 (codes "kind") (kind_words f.kind) refl (kind-plain f.kind), (of-record f.index, (wide 0 (codes "offset") f.offset refl, (wide 0 (codes "size") f.size refl, tt)))))
 
 -- ---- objects
 
-pub is_text : (ms : List (List Token)) → AreAll 1 ms → IsJsonText (object ms)
-is_text ms h =
-    let v = braces 1 ms h in
-    (v.0, (ap (λ (l : List Token). document (print l)) (sym v.1.0) ∙ document-print v.0 v.1.1.0 (omega (arith, v.1.1.1)), v.1.0))
+pub is_line : (ms : List (List Token)) → AreAll 1 ms → IsJsonLine (object ms)
+is_line ms h =
+    let m = joined 1 ms h in
+    let same = in_braces 1 (joined_members ms) m in
+    let clean = print-clean (object ms) (fit-object 1 (joined_members ms) m.fit) in
+    record {
+      reads = (
+        m.members,
+        (ap (λ (l : List Token). document (print l)) (sym same) ∙ document-print (tree.object m.members) m.numbers (let s = m.shallow in omega arith), same),
+      );
+      utf8 = clean.0;
+      one_line = clean.1;
+    }

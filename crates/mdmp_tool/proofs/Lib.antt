@@ -9,9 +9,14 @@ pub mod HexLemmas
 pub mod HexRows
 pub mod Hexing
 pub mod ItemRows
+pub mod JsonClean
+pub mod JsonListings
 pub mod JsonObjects
+pub mod JsonPlain
+pub mod JsonPrinted
 pub mod JsonPrints
 pub mod JsonReads
+pub mod JsonStrings
 pub mod JsonTexts
 pub mod LineLemmas
 pub mod Listings

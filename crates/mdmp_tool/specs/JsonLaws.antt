@@ -1,53 +1,59 @@
--- That each object is a JSON text, by the grammar of the crate that reads them.
-use Rattle.std.specs.Prelude.{◌≡◌, ℕ, ◌<◌, ◌^◌, List, [], ◌∷◌, Some, ⊤}
-use Rattle.json.specs.Json.{Json, document}
+-- That `list` and `check` print JSON Lines for programs: one object of JSON on each line, in UTF-8.
+use Rattle.std.specs.Prelude.{◌≡◌, ◌≢◌, ℕ, Bool, List, [], ◌∷◌, Option, Some, None, map}
+use Rattle.std.specs.List.{All, flat_map}
+use Rattle.std.specs.Str.{IsUtf8}
+use Rattle.json.specs.Json.{Members, document, object}
 use Rattle.json.specs.Print.{print}
 use Rattle.json.specs.Token.{Token}
 use Rattle.json.specs.Tree.{json_tokens}
-use Rattle.mdmp_wire.specs.CodeView.{CodeViewValue, Rsds, Other, Short}
-use Rattle.mdmp_wire.specs.declared.header.Header.{Header}
+use Rattle.mdmp_wire.specs.CodeView.{codeview_of}
+use Rattle.mdmp_wire.specs.Header.{header_at}
+use Rattle.mdmp_lister.specs.declared.choice.Choice.TheVariants.{All as EveryType}
+use Rattle.mdmp_lister.specs.declared.fault.OpenFault.{OpenFault}
 use Rattle.mdmp_lister.specs.declared.item.Item.{Item}
-use Rattle.mdmp_lister.specs.declared.item.Item.TheVariants as items
-use Rattle.mdmp_lister.specs.declared.name.Name.{Name}
-use Rattle.mdmp_lister.specs.declared.name.Name.TheVariants.{Units, Long}
-use Rattle.mdmp_lister.specs.declared.name.Name.TheVariants as names
+use Rattle.mdmp_lister.specs.Format.Listing.{listing, verdicts}
+use Rattle.mdmp_lister.specs.Format.Refusal.{opening_fault}
+use Rattle.mdmp_tool.specs.Json.{object_line}
+use Rattle.mdmp_tool.specs.JsonLines.{dump_object, item_object, pdb_object, verdict_object}
+use Rattle.mdmp_tool.specs.Text.{symbols_of}
+use Rattle.mdmp_tool.specs.declared.list.ModuleSymbols.{ModuleSymbols}
 
--- the text of these tokens is one of RFC 8259, and the tokens of its value are these
-abbrev pub IsJsonText : List Token → Type 0
-IsJsonText ts = (value : Json) × ((document (print ts) ≡ Some value) × (json_tokens value ≡ ts))
+-- the grammar of JSON (specs/Json.antt of the crate json) reads the text of these tokens as an object, which has these tokens
+abbrev pub IsObjectText : List Token → Type 0
+IsObjectText tokens = (members : Members) × ((document (print tokens) ≡ Some (object members)) × (json_tokens (object members) ≡ tokens))
 
--- each is below 2^64, as the numbers of Rust's types are
-abbrev pub AreSmall : List ℕ → Type 0
-AreSmall [] = ⊤
-AreSmall (n ∷ ns) = (n < 2 ^ 64) × AreSmall ns
+-- these tokens may stand on a line of JSON Lines: their text is that of an object, is UTF-8, and has no line feed in it
+pub record IsJsonLine (tokens : List Token) : Type 0 where
+  pub reads : IsObjectText tokens
+  pub utf8 : IsUtf8 (print tokens)
+  pub one_line : All (λ byte. byte ≢ 10) (print tokens)
 
--- ---- what stands in an object as a number
+-- a text is JSON Lines of these objects: the text of each of them and a line feed, one behind the other
+pub record AreJsonLines (text : List ℕ) (objects : List (List Token)) : Type 0 where
+  pub lines : text ≡ flat_map object_line objects
+  pub each : All IsJsonLine objects
 
-abbrev pub dump_numbers : Header → List ℕ
-dump_numbers h = h.number_of_streams ∷ h.stream_directory_rva ∷ h.checksum ∷ h.time_date_stamp ∷ []
+-- ---- which objects they are
 
--- the length of a name that was not read
-abbrev pub length_of : Name → ℕ
-length_of names.None = 0
-length_of (Units units) = 0
-length_of (Long length) = length
+-- none, where a file cannot be listed
+abbrev pub objects_unless_refused : Option OpenFault → List (List Token) → List (List Token)
+objects_unless_refused None objects = objects
+objects_unless_refused (Some fault) objects = []
 
-abbrev pub item_numbers : Item → List ℕ
-item_numbers (items.Stream s) = s.entry ∷ s.stream_type ∷ s.location.size ∷ s.location.rva ∷ []
-item_numbers (items.Thread t) = t.entry ∷ t.index ∷ t.fields.thread_id ∷ t.fields.suspend_count ∷ t.fields.priority_class ∷ t.fields.priority
-    ∷ t.fields.stack.memory.size ∷ t.fields.stack.memory.rva ∷ t.fields.thread_context.size ∷ t.fields.thread_context.rva ∷ []
-item_numbers (items.Module m) = m.entry ∷ m.index ∷ m.fields.size_of_image ∷ m.fields.checksum ∷ m.fields.time_date_stamp
-    ∷ m.fields.cv_record.size ∷ m.fields.cv_record.rva ∷ m.fields.misc_record.size ∷ m.fields.misc_record.rva ∷ length_of m.name ∷ []
-item_numbers (items.Unloaded u) = u.entry ∷ u.index ∷ u.fields.size_of_image ∷ u.fields.checksum ∷ u.fields.time_date_stamp ∷ length_of u.name ∷ []
-item_numbers (items.Exception x) = x.entry ∷ x.fields.thread_id ∷ x.fields.exception_flags ∷ x.fields.number_parameters
-    ∷ x.fields.thread_context.size ∷ x.fields.thread_context.rva ∷ []
-item_numbers (items.System s) = s.entry ∷ s.fields.processor_architecture ∷ s.fields.processor_level ∷ s.fields.processor_revision
-    ∷ s.fields.number_of_processors ∷ s.fields.product_type ∷ s.fields.platform_id ∷ s.fields.suite_mask ∷ length_of s.name ∷ []
-item_numbers (items.MemoryInfo r) = r.entry ∷ r.index ∷ r.fields.allocation_protect ∷ r.fields.state ∷ r.fields.protect ∷ r.fields.memory_type ∷ []
-item_numbers (items.ThreadName t) = t.entry ∷ t.index ∷ t.fields.thread_id ∷ length_of t.name ∷ []
-item_numbers (items.Range r) = r.entry ∷ r.index ∷ []
+-- that of a CodeView record of F, of whose name at most `limit` bytes are fetched
+abbrev pub symbols_objects : List ℕ → ℕ → Option ModuleSymbols → List (List Token)
+symbols_objects F limit None = []
+symbols_objects F limit (Some of) = pdb_object of.place.entry of.place.index (codeview_of F of.location limit) ∷ []
 
-abbrev pub pdb_numbers : ℕ → ℕ → CodeViewValue → List ℕ
-pdb_numbers entry index (Rsds guid age name ended) = entry ∷ index ∷ age ∷ []
-pdb_numbers entry index (Other signature size) = entry ∷ index ∷ size ∷ []
-pdb_numbers entry index (Short size) = entry ∷ index ∷ size ∷ []
+-- that of an item, and behind it that of its CodeView record
+abbrev pub item_objects : Bool → List ℕ → ℕ → Item → List (List Token)
+item_objects pdb F limit item = item_object item ∷ symbols_objects F limit (symbols_of pdb item)
+
+-- those of `list`: that of the header, and those of each item of the listing
+abbrev pub list_objects : Bool → List ℕ → ℕ → List (List Token)
+list_objects pdb F limit = objects_unless_refused (opening_fault F EveryType)
+    (dump_object (header_at F 0) ∷ flat_map (item_objects pdb F limit) (listing F EveryType limit).items)
+
+-- those of `check`: one for each entry
+abbrev pub check_objects : List ℕ → ℕ → List (List Token)
+check_objects F limit = objects_unless_refused (opening_fault F EveryType) (map verdict_object (verdicts F EveryType limit))

@@ -1,17 +1,16 @@
 //! A law of the objects that are printed: the contract of a function that does nothing.
-ghost use Rattle.std.specs.Prelude.{ℕ, ◌<◌, ◌^◌};
-ghost use Rattle.mdmp_wire.specs.CodeView.{CodeViewValue};
-ghost use Rattle.mdmp_wire.specs.declared.header.Header.{Header};
-ghost use Rattle.mdmp_lister.specs.declared.item.Item.{Item};
-ghost use Rattle.mdmp_lister.specs.declared.verdict.Verdict.{Verdict};
-ghost use Rattle.mdmp_tool.specs.JsonLaws.{AreSmall, IsJsonText, item_numbers, dump_numbers, pdb_numbers};
-ghost use Rattle.mdmp_tool.specs.JsonLines.{dump_object, item_object, pdb_object, verdict_object};
+ghost use Rattle.std.specs.Prelude.{ℕ, Bool, List};
+ghost use Rattle.mdmp_source.specs.Store.{AreBytes};
+ghost use Rattle.mdmp_tool.specs.CheckText.{check_text};
+ghost use Rattle.mdmp_tool.specs.JsonLaws.{AreJsonLines, list_objects, check_objects};
+ghost use Rattle.mdmp_tool.specs.Text.{list_text};
+ghost use Rattle.mdmp_words.specs.declared.request.LineForm.TheVariants.{Json};
 
-/// Each object that `--json` prints is a JSON text of RFC 8259, and what is read back from it, by the
-/// grammar of the crate `json`, has the tokens that were printed: for all numbers that Rust's types have.
+/// What `list` and `check` print for programs is JSON Lines, of every file of bytes: the text of one
+/// object after the other, each with a line feed behind it. That text is UTF-8, no byte of it is a line
+/// feed, and the grammar of the crate `json`, that of RFC 8259, reads it back as an object with the
+/// tokens that were printed.
 pub fn objects_are_json_texts()
-    ensures header { (header : Header) → AreSmall (dump_numbers header) → IsJsonText (dump_object header) }
-    ensures item { (item : Item) → AreSmall (item_numbers item) → IsJsonText (item_object item) }
-    ensures pdb { (entry number : ℕ) (told : CodeViewValue) → AreSmall (pdb_numbers entry number told) → IsJsonText (pdb_object entry number told) }
-    ensures verdict { (verdict : Verdict) → verdict.entry < 2 ^ 64 → IsJsonText (verdict_object verdict) }
+    ensures list { (F : List ℕ) (pdb : Bool) (limit : ℕ) → AreBytes F → AreJsonLines (list_text Json pdb F limit) (list_objects pdb F limit) }
+    ensures check { (F : List ℕ) (limit : ℕ) → AreBytes F → AreJsonLines (check_text Json F limit) (check_objects F limit) }
 {}

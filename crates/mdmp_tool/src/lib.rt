@@ -12,8 +12,8 @@
 //! types as a file of its own, a first part of it where the output refuses or the store fails, or
 //! nothing.
 //! A [`LineForm`] says whether the lines of `list` and `check` are words or objects of JSON
-//! (`specs/JsonLines.antt`); all else is the same. [`objects_are_json_texts`] is the law that each
-//! object is a JSON text that reads back as it.
+//! (`specs/JsonLines.antt`); all else is the same. [`objects_are_json_texts`] is the law that of any
+//! file these objects are JSON Lines: each is a line of UTF-8 that reads back as it.
 //! A [`ToolFault`] has the exit status of [`status`] and the line of [`fault_line`].
 #![tactic(auto)]
 
