@@ -99,24 +99,10 @@ fn help_names_the_commands_and_the_exit_statuses(rt: HostRuntime) {
     assert_parts_printed(&rt, rt.alloc(), &["--help"], &NAMED);
 }
 
-/// Whether this number stands in a text between these two.
-fn has_between(
-    rt: &impl Abort,
-    alloc: Global,
-    text: &str,
-    before: &str,
-    number: u32,
-    behind: &str,
-) -> bool {
-    let part = format!(in alloc; "{before}{number}{behind}").expect(rt, "memory for a number");
-    text.contains(part.as_str())
-}
-
-/// Whether a list of types has this one: alone in its line, the first there, or the last.
+/// Whether a list of types has a line of this one.
 fn is_listed(rt: &impl Abort, alloc: Global, listed: &str, stream_type: u32) -> bool {
-    has_between(rt, alloc, listed, "  ", stream_type, "  ")
-        || has_between(rt, alloc, listed, "  ", stream_type, ", ")
-        || has_between(rt, alloc, listed, ", ", stream_type, "  ")
+    let part = format!(in alloc; "  {stream_type}  ").expect(rt, "memory for a number");
+    listed.contains(part.as_str())
 }
 
 /// Asserts that a list of types has those that are copied.
@@ -141,7 +127,11 @@ const BEHIND_TYPES: [&str; 2] = [
 
 /// Asserts that the help of `copy` names the types that are copied.
 fn assert_help_of_copy(rt: &impl Abort, alloc: Global, text: &str) {
-    let (_, types) = parted(rt, text, "Types that are copied:\n");
+    let (_, types) = parted(
+        rt,
+        text,
+        "Types that are copied, by their numbers or names:\n",
+    );
     let (listed, behind) = parted(rt, types, "\n\n");
     assert_types(rt, alloc, listed);
     assert_parts(rt, behind, &BEHIND_TYPES);

@@ -7,6 +7,8 @@
 #![tactic(auto)]
 
 #[cfg(test)]
+mod asked;
+#[cfg(test)]
 mod copy;
 #[cfg(test)]
 mod disk_growths;
@@ -30,6 +32,8 @@ mod hex;
 mod hex_words;
 #[cfg(test)]
 mod json;
+#[cfg(test)]
+mod limit_words;
 #[cfg(test)]
 mod limits;
 #[cfg(test)]

@@ -1,100 +1,9 @@
 //! What the words of a command line ask for.
+use crate::asked::{AskedRow, assert_asked, assert_usual, told_by};
 use crate::same::assert_same_at;
-use mdmp_lister::{Limits, TypeSet};
-use mdmp_words::{Asked, Command, LineForm, Print, Request, Span, request_of};
+use mdmp_lister::Limits;
 use std::alloc::Global;
 use std::process::Abort;
-
-/// The request for a span of memory as a text.
-fn hex_text(rt: &impl Abort, alloc: Global, file: &str, span: &Span) -> String {
-    let address = span.address;
-    let length = span.length;
-    format!(in alloc; "hex [{file}] {address} {length}").expect(rt, "memory for a text")
-}
-
-/// The request for a copy as a text.
-fn copy_text(rt: &impl Abort, alloc: Global, file: &str, target: &str, types: &TypeSet) -> String {
-    let mut text = format!(in alloc; "copy [{file}] [{target}]").expect(rt, "memory for a text");
-    for stream_type in types.types() {
-        write!(text, " {stream_type}").expect(rt, "memory for a type");
-    }
-    text
-}
-
-/// How lines are printed, as a word behind the name.
-fn form_words(form: LineForm) -> &'static str {
-    match form {
-        LineForm::Text => "",
-        LineForm::Json => " json",
-    }
-}
-
-/// A command and what it is asked for as a text, with the names in brackets.
-fn command_text(rt: &impl Abort, alloc: Global, file: &str, command: &Command<'_>) -> String {
-    let text = match command {
-        Command::Print(Print::Check { form }) => {
-            let words = form_words(*form);
-            format!(in alloc; "check [{file}]{words}")
-        }
-        Command::Print(Print::List { form, pdb }) => {
-            let words = form_words(*form);
-            let symbols = if *pdb { " pdb" } else { "" };
-            format!(in alloc; "list [{file}]{words}{symbols}")
-        }
-        Command::Print(Print::Hex(span)) => return hex_text(rt, alloc, file, span),
-        Command::Copy { target, types } => return copy_text(rt, alloc, file, target, types),
-    };
-    text.expect(rt, "memory for a text")
-}
-
-/// A request as a text: the command and what it is asked for, and then the window and the longest name.
-fn text_of(rt: &impl Abort, alloc: Global, request: &Request<'_>) -> String {
-    let asked = command_text(rt, alloc, request.file, &request.command);
-    let window = request.limits.window;
-    let name = request.limits.name;
-    format!(in alloc; "{asked} window {window} name {name}").expect(rt, "memory for a text")
-}
-
-/// A text of its own.
-fn text_from(rt: &impl Abort, alloc: Global, text: &str) -> String {
-    String::from_str(alloc, text).expect(rt, "memory for a text")
-}
-
-/// What words come to, as a text: a request, or why there is none.
-fn asked_by<'a>(rt: &impl Abort, alloc: Global, words: &'a [&'a str]) -> String {
-    match request_of(alloc, words) {
-        Asked::Run(request) => text_of(rt, alloc, &request),
-        Asked::Help(_) => text_from(rt, alloc, "help"),
-        Asked::Refused(_) => text_from(rt, alloc, "refused"),
-        Asked::Bad => text_from(rt, alloc, "bad"),
-        Asked::Memory => text_from(rt, alloc, "memory"),
-    }
-}
-
-/// The text of help that words ask for, or of their refusal.
-fn told_by<'a>(rt: &impl Abort, alloc: Global, words: &'a [&'a str]) -> String {
-    match request_of(alloc, words) {
-        Asked::Help(text) | Asked::Refused(text) => text,
-        _ => panic!(rt; "no text"),
-    }
-}
-
-/// Words, and what they come to.
-type AskedRow = (&'static [&'static str], &'static str);
-
-/// Asserts what words come to.
-fn assert_asked(rt: &impl Abort, alloc: Global, words: &[&str], wanted: &str) {
-    let asked = asked_by(rt, alloc, words);
-    assert_same_at(rt, &words, asked.as_str(), wanted)
-}
-
-/// Asserts what words come to, which is a request with the usual limits, or none.
-fn assert_usual(rt: &impl Abort, alloc: Global, words: &[&str], wanted: &str) {
-    let asked = asked_by(rt, alloc, words);
-    let text = asked.as_str();
-    let usual = text.strip_suffix(" window 65536 name 4096");
-    assert_same_at(rt, &words, usual.unwrap_or(text), wanted)
-}
 
 /// Words, and their requests, with the usual limits.
 const REQUESTS: [AskedRow; 16] = [
@@ -124,212 +33,6 @@ const REQUESTS: [AskedRow; 16] = [
 fn request_of_succeeds(rt: HostRuntime) {
     for &(words, wanted) in &REQUESTS {
         assert_usual(&rt, rt.alloc(), words, wanted);
-    }
-}
-
-/// Words with limits, and their requests.
-const LIMITED: [AskedRow; 7] = [
-    (
-        &["check", "--window", "168", "--name", "0", "a"],
-        "check [a] window 168 name 0",
-    ),
-    (
-        &["list", "a", "--name", "1073741824"],
-        "list [a] window 65536 name 1073741824",
-    ),
-    (
-        &["list", "a", "--window=1073741824", "--pdb"],
-        "list [a] pdb window 1073741824 name 4096",
-    ),
-    (
-        &[
-            "hex",
-            "a",
-            "--window",
-            "00000000000000000000000000000200",
-            "7",
-            "1",
-        ],
-        "hex [a] 7 1 window 200 name 4096",
-    ),
-    (
-        &["copy", "--name", "1", "a", "b", "3", "4"],
-        "copy [a] [b] 3 4 window 65536 name 1",
-    ),
-    (
-        &["copy", "a", "b", "3", "--window", "300", "4"],
-        "copy [a] [b] 3 4 window 300 name 4096",
-    ),
-    // In front of the command there are no options.
-    (&["--window", "300", "list", "a"], "refused"),
-];
-
-#[test]
-fn each_command_has_its_own_limits(rt: HostRuntime) {
-    for &(words, wanted) in &LIMITED {
-        assert_asked(&rt, rt.alloc(), words, wanted);
-    }
-}
-
-/// Words with limits at their ends, and their requests.
-const AT_THE_ENDS: [AskedRow; 8] = [
-    (
-        &[
-            "check",
-            "a",
-            "--window",
-            "1073741824",
-            "--name",
-            "1073741824",
-        ],
-        "check [a] window 1073741824 name 1073741824",
-    ),
-    (
-        &["check", "a", "--window", "168", "--name", "0"],
-        "check [a] window 168 name 0",
-    ),
-    (
-        &[
-            "list",
-            "a",
-            "--window",
-            "1073741824",
-            "--name",
-            "1073741824",
-        ],
-        "list [a] window 1073741824 name 1073741824",
-    ),
-    (
-        &["list", "a", "--window", "168", "--name", "0"],
-        "list [a] window 168 name 0",
-    ),
-    (
-        &[
-            "hex",
-            "a",
-            "0",
-            "1",
-            "--window",
-            "1073741824",
-            "--name",
-            "1073741824",
-        ],
-        "hex [a] 0 1 window 1073741824 name 1073741824",
-    ),
-    (
-        &["hex", "a", "0", "1", "--window", "168", "--name", "0"],
-        "hex [a] 0 1 window 168 name 0",
-    ),
-    (
-        &[
-            "copy",
-            "a",
-            "b",
-            "3",
-            "--window",
-            "1073741824",
-            "--name",
-            "1073741824",
-        ],
-        "copy [a] [b] 3 window 1073741824 name 1073741824",
-    ),
-    (
-        &["copy", "a", "b", "3", "--window", "168", "--name", "0"],
-        "copy [a] [b] 3 window 168 name 0",
-    ),
-];
-
-#[test]
-fn limits_at_their_ends_are_taken_by_each_command(rt: HostRuntime) {
-    for &(words, wanted) in &AT_THE_ENDS {
-        assert_asked(&rt, rt.alloc(), words, wanted);
-    }
-}
-
-/// Options of a list, a number for each, and what that comes to.
-const OPTIONS: [(&str, &str, &str); 21] = [
-    ("--window", "167", "bad"),
-    ("--window", "168", "list [a] window 168 name 4096"),
-    (
-        "--window",
-        "1073741824",
-        "list [a] window 1073741824 name 4096",
-    ),
-    ("--window", "1073741825", "bad"),
-    ("--window", "4294967296", "bad"),
-    ("--window", "4294967464", "bad"),
-    ("--window", "0x200", "bad"),
-    ("--name", "0", "list [a] window 65536 name 0"),
-    (
-        "--name",
-        "1073741824",
-        "list [a] window 65536 name 1073741824",
-    ),
-    ("--name", "1073741825", "bad"),
-    ("--name", "4294967296", "bad"),
-    ("--name", "18446744073709551616", "bad"),
-    ("--name", "", "bad"),
-    ("--name", "+5", "bad"),
-    ("--name", " 5", "bad"),
-    ("--name", "5 ", "bad"),
-    ("--name", "1_0", "bad"),
-    ("--name", "-5", "refused"),
-    ("--budget", "5", "list [a] window 65536 name 4096"),
-    ("--budget", "-5", "refused"),
-    ("--limit", "5", "refused"),
-];
-
-#[test]
-fn limits_are_judged_at_their_ends(rt: HostRuntime) {
-    for &(option, number, wanted) in &OPTIONS {
-        assert_asked(&rt, rt.alloc(), &["list", "a", option, number], wanted);
-    }
-}
-
-/// The budget that words ask for, as a text, or why they ask for nothing.
-fn budget_by<'a>(rt: &impl Abort, alloc: Global, words: &'a [&'a str]) -> String {
-    match request_of(alloc, words) {
-        Asked::Run(request) => budget_text(rt, alloc, request.limits.budget),
-        Asked::Help(_) => text_from(rt, alloc, "help"),
-        Asked::Refused(_) => text_from(rt, alloc, "refused"),
-        Asked::Bad => text_from(rt, alloc, "bad"),
-        Asked::Memory => text_from(rt, alloc, "memory"),
-    }
-}
-
-fn budget_text(rt: &impl Abort, alloc: Global, budget: Option<u64>) -> String {
-    match budget {
-        Some(budget) => format!(in alloc; "{budget}").expect(rt, "memory for a text"),
-        None => text_from(rt, alloc, "none"),
-    }
-}
-
-/// Asserts the budget that words ask for.
-fn assert_budget(rt: &impl Abort, alloc: Global, words: &[&str], wanted: &str) {
-    let asked = budget_by(rt, alloc, words);
-    assert_same_at(rt, &words, asked.as_str(), wanted)
-}
-
-/// Words, and their budgets.
-const BUDGETS: [AskedRow; 9] = [
-    (&["list", "a"], "18446744073709551615"),
-    (&["list", "a", "--budget", "0"], "0"),
-    (&["check", "--budget=43", "a"], "43"),
-    (&["hex", "a", "0", "1", "--budget", "0020000"], "20000"),
-    (
-        &["list", "a", "--budget", "18446744073709551615"],
-        "18446744073709551615",
-    ),
-    (&["list", "a", "--budget", "18446744073709551616"], "bad"),
-    (&["list", "a", "--budget", "+1"], "bad"),
-    (&["list", "a", "--budget", "0x10"], "bad"),
-    (&["copy", "a", "b", "3", "--budget", "1"], "refused"),
-];
-
-#[test]
-fn budget_is_any_number_of_64_bits_of_a_command_that_prints(rt: HostRuntime) {
-    for &(words, wanted) in &BUDGETS {
-        assert_budget(&rt, rt.alloc(), words, wanted);
     }
 }
 
@@ -374,7 +77,53 @@ fn spans_are_judged_at_their_ends(rt: HostRuntime) {
 }
 
 /// Copies of types, and what they come to.
-const TYPES: [AskedRow; 10] = [
+const TYPES: [AskedRow; 17] = [
+    (
+        &["copy", "a", "b", "threads", "exception", "7"],
+        "copy [a] [b] 3 6 7",
+    ),
+    (
+        &[
+            "copy",
+            "a",
+            "b",
+            "threads",
+            "modules",
+            "memory",
+            "exception",
+            "system",
+            "memory64",
+            "unloaded",
+            "regions",
+            "threadnames",
+        ],
+        "copy [a] [b] 3 4 5 6 7 9 14 16 24",
+    ),
+    (
+        &[
+            "copy",
+            "a",
+            "b",
+            "UnusedStream",
+            "ThreadListStream",
+            "ModuleListStream",
+            "MemoryListStream",
+            "ExceptionStream",
+            "SystemInfoStream",
+            "Memory64ListStream",
+            "CommentStreamA",
+            "CommentStreamW",
+            "UnloadedModuleListStream",
+            "MiscInfoStream",
+            "MemoryInfoListStream",
+            "ThreadNamesStream",
+        ],
+        "copy [a] [b] 0 3 4 5 6 7 9 10 11 14 15 16 24",
+    ),
+    (&["copy", "a", "b", "thread"], "bad"),
+    (&["copy", "a", "b", "Threads"], "bad"),
+    (&["copy", "a", "b", "threads "], "bad"),
+    (&["copy", "a", "b", "3", "threads3"], "bad"),
     (&["copy", "a", "b", "4294967295"], "copy [a] [b] 4294967295"),
     (&["copy", "a", "b", "4294967296"], "bad"),
     (&["copy", "a", "b", "0x3"], "bad"),
@@ -454,7 +203,7 @@ fn assert_told(rt: &impl Abort, alloc: Global, words: &[&str], line: &str) {
 }
 
 /// Words that ask for help or the version, and a line of it.
-const ASKING: [AskedRow; 10] = [
+const ASKING: [AskedRow; 13] = [
     (&["--help"], "Usage: mdmp <COMMAND>\n"),
     (&["-h"], "Usage: mdmp <COMMAND>\n"),
     (&["help"], "Usage: mdmp <COMMAND>\n"),
@@ -469,6 +218,9 @@ const ASKING: [AskedRow; 10] = [
         &["copy", "--help"],
         "Usage: mdmp copy [OPTIONS] <IN> <OUT> <TYPE>...\n",
     ),
+    (&["check", "--help"], "\n      --json "),
+    (&["list", "--help"], "\n      --json "),
+    (&["list", "--help"], "\n      --pdb "),
     (&["--version"], "mdmp 0.1.0\n"),
     (&["-V"], "mdmp 0.1.0\n"),
 ];

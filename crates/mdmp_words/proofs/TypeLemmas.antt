@@ -3,7 +3,8 @@ use Rattle.std.proofs.Common.{◌≡◌, ◌∙◌, sym, ap, ℕ, ◌+◌, ◌�
 use Rattle.std.proofs.Math.ListN.{set}
 use Rattle.std.proofs.Math.Seq.{drop-cons, drop-length}
 use Rattle.std.proofs.lemmas.List.{take_more_set}
-use Rattle.mdmp_words.specs.OptionWords.{decimal32_number, types_from}
+use Rattle.mdmp_words.specs.OptionWords.{types_from}
+use Rattle.mdmp_words.specs.TypeNames.{type_named}
 
 -- the texts of words
 abbrev pub texts : List (Bor (List ℕ)) → List (List ℕ)
@@ -35,7 +36,7 @@ next_word words word i inside = rw add-one (drop-cons words i word inside)
 
 -- a word that names a type
 pub one_read : (words : List (Bor (List ℕ))) (word : Bor (List ℕ)) (types : List ℕ) (i n : ℕ) → i < length words → i < length types →
-    decimal32_number (get_or words i word).now ≡ Some n →
+    type_named (get_or words i word).now ≡ Some n →
     types_from (texts words) ≡ in_front (take i types) (types_from (texts (drop i words))) →
     types_from (texts words) ≡ in_front (take (i + 1) (set types i n)) (types_from (texts (drop (i + 1) words)))
 one_read words word types i n inside room named read =
@@ -49,7 +50,7 @@ one_read words word types i n inside room named read =
 
 -- a word that names none
 pub none_named : (words : List (Bor (List ℕ))) (word : Bor (List ℕ)) (types : List ℕ) (i : ℕ) → i < length words →
-    decimal32_number (get_or words i word).now ≡ None →
+    type_named (get_or words i word).now ≡ None →
     types_from (texts words) ≡ in_front (take i types) (types_from (texts (drop i words))) →
     types_from (texts words) ≡ None
 none_named words word types i inside named read =

@@ -1,8 +1,9 @@
--- What the words of `hex` name, computed by the definitions.
+-- What the words of `hex` and the types of `copy` name, computed by the definitions.
 use Rattle.std.proofs.Common.{◌≡◌, ℕ, [], Option, Some, None, refl}
 use Rattle.std.specs.Prelude.{codes}
 use Rattle.mdmp_words.specs.declared.number_words.Span.{Span}
 use Rattle.mdmp_words.specs.NumberWords.{address_named, length_named, span_named}
+use Rattle.mdmp_words.specs.TypeNames.{type_named}
 
 abbrev span : ℕ → ℕ → Option Span
 span address length = Some (record { address = address; length = length })
@@ -63,3 +64,18 @@ last-span = refl
 -- and does not wrap
 past_last-span : span_named (codes "0xFFFFFFFFFFFFFFF8") (codes "9") ≡ None
 past_last-span = refl
+
+by_records-type : type_named (codes "memory64") ≡ Some 9
+by_records-type = refl
+
+in_header-type : type_named (codes "MemoryInfoListStream") ≡ Some 16
+in_header-type = refl
+
+by_number-type : type_named (codes "0016") ≡ Some 16
+by_number-type = refl
+
+upper_case-type : type_named (codes "Threads") ≡ None
+upper_case-type = refl
+
+too_high-type : type_named (codes "4294967296") ≡ None
+too_high-type = refl

@@ -22,6 +22,11 @@ number_in base word =
 abbrev pub decimal_number : List ℕ → Option ℕ
 decimal_number word = number_in 10 word
 
+-- the same, where it is below 2^32
+abbrev pub decimal32_number : List ℕ → Option ℕ
+decimal32_number word =
+    option_and_then (λ number. if nat_lt number (2 ^ 32) then Some number else None) (decimal_number word)
+
 -- the number that one to sixteen digits `0` to `9`, `a` to `f` and `A` to `F` write
 abbrev pub hexadecimal_number : List ℕ → Option ℕ
 hexadecimal_number word = if nat_le (length word) 16 then number_in 16 word else None

@@ -1,24 +1,18 @@
 -- What the words of `--window`, `--name`, `--budget` and TYPE name. A word is the list of its bytes.
-use Rattle.std.specs.Prelude.{ℕ, ◌^◌, ◌-◌, if◌then◌else◌, ◌&&◌, nat_lt, nat_le, List, [], ◌∷◌, Option, Some, None, length, option_map}
+use Rattle.std.specs.Prelude.{ℕ, ◌^◌, ◌-◌, if◌then◌else◌, ◌&&◌, nat_le, List, [], ◌∷◌, Option, Some, None, length, option_map}
 use Rattle.std.specs.Option.{option_and_then}
 use Rattle.mdmp_lister.specs.Format.Kind.{greatest_record}
 use Rattle.mdmp_lister.specs.Limits.{most_bytes}
 use Rattle.mdmp_lister.specs.declared.limits.Limits.{Limits}
-use Rattle.mdmp_words.specs.NumberWords.{decimal_number}
+use Rattle.mdmp_words.specs.NumberWords.{decimal_number, decimal32_number}
+use Rattle.mdmp_words.specs.TypeNames.{type_named}
 
--- ---- numbers
-
--- the number below 2^32 that digits `0` to `9` write, however many they are
-abbrev pub decimal32_number : List ℕ → Option ℕ
-decimal32_number word =
-    option_and_then (λ number. if nat_lt number (2 ^ 32) then Some number else None) (decimal_number word)
+-- ---- limits
 
 -- the number that a word names, or the usual one where there is no word
 abbrev pub number_or : ℕ → Option (List ℕ) → Option ℕ
 number_or usual None = Some usual
 number_or usual (Some word) = decimal32_number word
-
--- ---- limits
 
 -- how many bytes a window and a name may have, and how many may be fetched, where there is a most
 pub record Sizes : Type 0 where
@@ -51,7 +45,7 @@ limits_named window name budget =
 abbrev pub types_from : List (List ℕ) → Option (List ℕ)
 types_from [] = Some []
 types_from (word ∷ words) =
-    option_and_then (λ first. option_map (λ types. first ∷ types) (types_from words)) (decimal32_number word)
+    option_and_then (λ first. option_map (λ types. first ∷ types) (types_from words)) (type_named word)
 
 -- the types that one to sixteen words name
 abbrev pub types_named : List (List ℕ) → Option (List ℕ)

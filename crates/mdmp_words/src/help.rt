@@ -71,19 +71,20 @@ pub(crate) const COPY_ABOUT: &str = "Copies the streams of some types into a new
 
 /// What `copy` copies, and what is left of it after a fault.
 pub(crate) const COPY_AFTER: &str = "\
-Types that are copied:
-  0             entries that are not used
-  3             threads
-  4             modules
-  5             memory
-  6             the exception
-  7             system information
-  9             64-bit memory
-  10, 11        comments
-  14            unloaded modules
-  15            miscellaneous information
-  16            memory information
-  24            names of threads
+Types that are copied, by their numbers or names:
+  0             UnusedStream
+  3             threads, ThreadListStream
+  4             modules, ModuleListStream
+  5             memory, MemoryListStream
+  6             exception, ExceptionStream
+  7             system, SystemInfoStream
+  9             memory64, Memory64ListStream
+  10            CommentStreamA
+  11            CommentStreamW
+  14            unloaded, UnloadedModuleListStream
+  15            MiscInfoStream
+  16            regions, MemoryInfoListStream
+  24            threadnames, ThreadNamesStream
   65536 and on  streams of users
 
 Streams keep their order. Names and other parts are written behind their stream,
@@ -92,7 +93,7 @@ moved: they still name places of IN. Prints nothing. After a fault OUT is left
 as far as it was written.
 
 Example:
-  mdmp copy crash.dmp small.dmp 3 4 7";
+  mdmp copy crash.dmp small.dmp threads modules system";
 
 /// What FILE is.
 pub(crate) const FILE: &str = "The minidump that is read";
@@ -129,4 +130,4 @@ pub(crate) const IN: &str = "The minidump that is read";
 pub(crate) const OUT: &str = "The file that is written; there must be none of its name";
 
 /// What each TYPE is.
-pub(crate) const TYPE: &str = "The types of the streams that are copied, 1 to 16 decimal numbers";
+pub(crate) const TYPE: &str = "The types of the streams that are copied, 1 to 16 numbers or names";

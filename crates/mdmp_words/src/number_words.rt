@@ -1,7 +1,7 @@
 //! Words that are numbers, and those of `hex` that say which bytes it prints.
 ghost use Rattle.std.specs.Prelude.{◌≡◌, ◌+◌, ◌≤◌, IfSome};
 ghost use Rattle.mdmp_map.specs.Ranges.{address_end};
-ghost use Rattle.mdmp_words.specs.NumberWords.{number_in, decimal_number, hexadecimal_number, address_named, length_limit, length_named, span_named};
+ghost use Rattle.mdmp_words.specs.NumberWords.{number_in, decimal_number, decimal32_number, hexadecimal_number, address_named, length_limit, length_named, span_named};
 
 /// How many bytes can be asked for.
 const LENGTH_LIMIT: u64 = 1 << 20;
@@ -72,6 +72,17 @@ pub(crate) fn decimal_of(digits: &str) -> Option<u64>
     ensures { result ≡ decimal_number digits.now }
 {
     number_of(digits, 10)
+}
+
+/// The same, but none where the number is 2^32 or more.
+pub(crate) fn decimal32_of(word: &str) -> Option<u32>
+    ensures { result ≡ decimal32_number word.now }
+{
+    let number = decimal_of(word)?;
+    if number > u64::from(u32::MAX) {
+        return None;
+    }
+    Some(number as u32)
 }
 
 /// The number that digits of a base write. A plus in front, which the standard library takes, is no

@@ -1,8 +1,9 @@
 //! The words that say how a file is read, and which streams are copied.
 ghost use Rattle.std.specs.Prelude.{◌≡◌, option_map, map};
-ghost use Rattle.mdmp_words.specs.OptionWords.{decimal32_number, limits_named, number_or, sizes_in_limits, types_named};
+ghost use Rattle.mdmp_words.specs.OptionWords.{limits_named, number_or, sizes_in_limits, types_named};
 
-use crate::number_words::decimal_of;
+use crate::number_words::{decimal_of, decimal32_of};
+use crate::type_names::type_of;
 use mdmp_lister::{Limits, TypeSet};
 
 /// The most types that can be named.
@@ -47,19 +48,7 @@ pub(crate) fn types_of(words: &[&str]) -> Option<TypeSet>
     }
     let mut types = [0; MOST_TYPES];
     for i in 0..words.len() {
-        types[i] = decimal32_of(words[i])?;
+        types[i] = type_of(words[i])?;
     }
     TypeSet::new(&types[..words.len()])
-}
-
-/// The number that decimal digits write, however many they are. It is none where the number is 2^32
-/// or more.
-pub(crate) fn decimal32_of(word: &str) -> Option<u32>
-    ensures { result ≡ decimal32_number word.now }
-{
-    let number = decimal_of(word)?;
-    if number > u64::from(u32::MAX) {
-        return None;
-    }
-    Some(number as u32)
 }

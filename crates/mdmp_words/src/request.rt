@@ -18,7 +18,7 @@ pub struct Request<'a> {
 pub enum LineForm {
     /// As words, to be read.
     Text,
-    /// As an object of JSON each, for programs.
+    /// As an object of JSON each (RFC 8259), for programs: docs/FORMAT.md, 'Lines as objects'.
     Json,
 }
 
