@@ -1,0 +1,51 @@
+# Builds and installs the program, its manual, what shells complete, and the library.
+#
+#   make              proves and builds the program and the library, or takes what is built of the same files
+#   make install      puts them below PREFIX (/usr/local), libraries into LIBDIR (lib below it), all in DESTDIR if there is one
+#   make uninstall    removes what that put there
+#   make dist         what is built, and its sources, as mdmp-VERSION.tar.gz
+#   make deb          Debian packages of what is built, in deb/
+#
+# The toolchain's command is `rt` (README). Only `make` needs it: the others take what stands in out/ of the crates.
+PREFIX ?= /usr/local
+LIBDIR ?= $(PREFIX)/lib
+VERSION = $(shell sed -n 's/^version = "\(.*\)"$$/\1/p' bindings/interface.toml)
+PROGRAM = crates/mdmp/out/mdmp
+TO = $(DESTDIR)$(PREFIX)
+PAGE = share/man/man1/mdmp.1
+BASH = share/bash-completion/completions/mdmp
+ZSH ?= share/zsh/site-functions/_mdmp
+FISH = share/fish/vendor_completions.d/mdmp.fish
+LIBRARIES = libmdmp.a libmdmp.so libmdmp.so.0 pkgconfig/mdmp.pc
+
+.PHONY: all install uninstall dist deb
+
+all:
+	cd crates/mdmp && rt run -- --version
+	cd crates/mdmp_c && rt lib
+
+$(PROGRAM):
+	@echo "there is no $(PROGRAM): run make first" >&2; exit 1
+
+install: $(PROGRAM)
+	install -D -m 755 $(PROGRAM) $(TO)/bin/mdmp
+	install -D -m 644 man/mdmp.1 $(TO)/$(PAGE)
+	install -D -m 644 completions/mdmp.bash $(TO)/$(BASH)
+	install -D -m 644 completions/_mdmp $(TO)/$(ZSH)
+	install -D -m 644 completions/mdmp.fish $(TO)/$(FISH)
+	PREFIX="$(PREFIX)" LIBDIR="$(LIBDIR)" DESTDIR="$(DESTDIR)" bindings/install
+
+uninstall:
+	cd $(TO) && rm -f bin/mdmp $(PAGE) $(BASH) $(ZSH) $(FISH) include/mdmp.h
+	cd $(DESTDIR)$(LIBDIR) && rm -f $(LIBRARIES)
+
+# below usr/ what `install` puts there, and beside it the files of the last commit
+dist: $(PROGRAM)
+	rm -rf dist && mkdir -p dist/mdmp-$(VERSION)
+	git archive HEAD | tar -x -C dist/mdmp-$(VERSION)
+	$(MAKE) install DESTDIR=$(CURDIR)/dist/mdmp-$(VERSION) PREFIX=/usr
+	tar -C dist --sort=name --owner=0 --group=0 -czf mdmp-$(VERSION).tar.gz mdmp-$(VERSION)
+	rm -rf dist
+
+deb: $(PROGRAM)
+	packaging/deb deb
