@@ -17,7 +17,7 @@ impl PartSize {
         match self {
             PartSize::NoPart => 0,
             PartSize::Size(size) => size,
-            PartSize::Absent(_size) => 0,
+            PartSize::Absent(_) => 0,
         }
     }
 }
