@@ -28,7 +28,7 @@ pub extern "C" fn mdmp_check_(
     check_in(alloc, file, limits, LineForm::Text, out, size, fault)
 }
 
-/// The same as objects of JSON, one a line.
+/// The same as objects of JSON (RFC 8259), one a line, in UTF-8: docs/FORMAT.md, 'Lines as objects'.
 #[unsafe(no_mangle)]
 pub extern "C" fn mdmp_check_json_(
     alloc: Global,
@@ -60,7 +60,7 @@ pub extern "C" fn mdmp_list_(
     list_in(alloc, file, limits, LineForm::Text, pdb, out, size, fault)
 }
 
-/// The same as objects of JSON, one a line.
+/// The same as objects of JSON (RFC 8259), one a line, in UTF-8: docs/FORMAT.md, 'Lines as objects'.
 #[unsafe(no_mangle)]
 pub extern "C" fn mdmp_list_json_(
     alloc: Global,
