@@ -13,6 +13,7 @@ VERSION = $(shell sed -n 's/^version = "\(.*\)"$$/\1/p' bindings/interface.toml)
 PROGRAM = crates/mdmp/out/mdmp
 TO = $(DESTDIR)$(PREFIX)
 PAGE = share/man/man1/mdmp.1
+CALLS = share/man/man3/mdmp.3
 BASH = share/bash-completion/completions/mdmp
 ZSH ?= share/zsh/site-functions/_mdmp
 FISH = share/fish/vendor_completions.d/mdmp.fish
@@ -30,13 +31,14 @@ $(PROGRAM):
 install: $(PROGRAM)
 	install -D -m 755 $(PROGRAM) $(TO)/bin/mdmp
 	install -D -m 644 man/mdmp.1 $(TO)/$(PAGE)
+	install -D -m 644 man/mdmp.3 $(TO)/$(CALLS)
 	install -D -m 644 completions/mdmp.bash $(TO)/$(BASH)
 	install -D -m 644 completions/_mdmp $(TO)/$(ZSH)
 	install -D -m 644 completions/mdmp.fish $(TO)/$(FISH)
 	PREFIX="$(PREFIX)" LIBDIR="$(LIBDIR)" DESTDIR="$(DESTDIR)" bindings/install
 
 uninstall:
-	cd $(TO) && rm -f bin/mdmp $(PAGE) $(BASH) $(ZSH) $(FISH) include/mdmp.h
+	cd $(TO) && rm -f bin/mdmp $(PAGE) $(CALLS) $(BASH) $(ZSH) $(FISH) include/mdmp.h
 	cd $(DESTDIR)$(LIBDIR) && rm -f $(LIBRARIES)
 
 # below usr/ what `install` puts there, and beside it the files of the last commit
