@@ -1,7 +1,8 @@
-# Builds and installs the program, its manual, what shells complete, and the library.
+# Builds and installs the program, its manual, what shells complete, the library, and the Python package.
 #
 #   make              proves and builds the program and the library, or takes what is built of the same files
-#   make install      puts them below PREFIX (/usr/local), libraries into LIBDIR (lib below it), all in DESTDIR if there is one
+#   make install      puts them below PREFIX (/usr/local), libraries into LIBDIR (lib below it), the package into PYTHONDIR (where
+#                     python3 looks below PREFIX), all in DESTDIR if there is one
 #   make uninstall    removes what that put there
 #   make dist         what is built, and its sources, as mdmp-VERSION.tar.gz
 #   make deb          Debian packages of what is built, in deb/
@@ -9,6 +10,7 @@
 # The toolchain's command is `rt` (README). Only `make` needs it: the others take what stands in out/ of the crates.
 PREFIX ?= /usr/local
 LIBDIR ?= $(PREFIX)/lib
+PYTHONDIR ?= $(shell python3 -c 'import sysconfig; print(sysconfig.get_path("purelib", vars={"base": "$(PREFIX)"}))')
 VERSION = $(shell sed -n 's/^version = "\(.*\)"$$/\1/p' bindings/interface.toml)
 PROGRAM = crates/mdmp/out/mdmp
 TO = $(DESTDIR)$(PREFIX)
@@ -35,11 +37,14 @@ install: $(PROGRAM)
 	install -D -m 644 completions/mdmp.bash $(TO)/$(BASH)
 	install -D -m 644 completions/_mdmp $(TO)/$(ZSH)
 	install -D -m 644 completions/mdmp.fish $(TO)/$(FISH)
+	install -d $(DESTDIR)$(PYTHONDIR)/mdmp
+	install -m 644 bindings/python/mdmp/*.py bindings/python/mdmp/py.typed $(DESTDIR)$(PYTHONDIR)/mdmp/
 	PREFIX="$(PREFIX)" LIBDIR="$(LIBDIR)" DESTDIR="$(DESTDIR)" bindings/install
 
 uninstall:
 	cd $(TO) && rm -f bin/mdmp $(PAGE) $(CALLS) $(BASH) $(ZSH) $(FISH) include/mdmp.h
 	cd $(DESTDIR)$(LIBDIR) && rm -f $(LIBRARIES)
+	rm -rf $(DESTDIR)$(PYTHONDIR)/mdmp
 
 # below usr/ what `install` puts there, and beside it the files of the last commit
 dist: $(PROGRAM)
