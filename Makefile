@@ -7,17 +7,18 @@
 #   make dist         what is built, and its sources, as mdmp-VERSION.tar.gz
 #   make deb          Debian packages of what is built, in deb/
 #
-# The toolchain's command is `rt` (README). Only `make` needs it: the others take what stands in out/ of the crates.
+# The toolchain's command is `rt` (README). The others take what stands in out/ of the crates, but they ask `rt` where the kit's
+# C archive is, and take cc, ar and python3.
 PREFIX ?= /usr/local
 LIBDIR ?= $(PREFIX)/lib
-PYTHONDIR ?= $(shell python3 -c 'import sysconfig; print(sysconfig.get_path("purelib", vars={"base": "$(PREFIX)"}))')
+PYTHONDIR ?= $(shell python3 -c 'import site, sysconfig; print(next((it for it in site.getsitepackages() if it.startswith("$(PREFIX)/lib/")), sysconfig.get_path("purelib", "posix_prefix", vars={"base": "$(PREFIX)"})))')
 VERSION = $(shell sed -n 's/^version = "\(.*\)"$$/\1/p' bindings/interface.toml)
 PROGRAM = crates/mdmp/out/mdmp
 TO = $(DESTDIR)$(PREFIX)
 PAGE = share/man/man1/mdmp.1
 CALLS = share/man/man3/mdmp.3
 BASH = share/bash-completion/completions/mdmp
-ZSH ?= share/zsh/site-functions/_mdmp
+ZSH_PLACE = share/zsh/site-functions/_mdmp
 FISH = share/fish/vendor_completions.d/mdmp.fish
 LIBRARIES = libmdmp.a libmdmp.so libmdmp.so.0 pkgconfig/mdmp.pc
 
@@ -31,23 +32,26 @@ $(PROGRAM):
 	@echo "there is no $(PROGRAM): run make first" >&2; exit 1
 
 install: $(PROGRAM)
+	@test -n "$(PYTHONDIR)" || { echo "no python3: say PYTHONDIR=.." >&2; exit 1; }
 	install -D -m 755 $(PROGRAM) $(TO)/bin/mdmp
 	install -D -m 644 man/mdmp.1 $(TO)/$(PAGE)
 	install -D -m 644 man/mdmp.3 $(TO)/$(CALLS)
 	install -D -m 644 completions/mdmp.bash $(TO)/$(BASH)
-	install -D -m 644 completions/_mdmp $(TO)/$(ZSH)
+	install -D -m 644 completions/_mdmp $(TO)/$(ZSH_PLACE)
 	install -D -m 644 completions/mdmp.fish $(TO)/$(FISH)
 	install -d $(DESTDIR)$(PYTHONDIR)/mdmp
 	install -m 644 bindings/python/mdmp/*.py bindings/python/mdmp/py.typed $(DESTDIR)$(PYTHONDIR)/mdmp/
 	PREFIX="$(PREFIX)" LIBDIR="$(LIBDIR)" DESTDIR="$(DESTDIR)" bindings/install
 
 uninstall:
-	cd $(TO) && rm -f bin/mdmp $(PAGE) $(CALLS) $(BASH) $(ZSH) $(FISH) include/mdmp.h
+	@test -n "$(PYTHONDIR)" || { echo "no python3: say PYTHONDIR=.." >&2; exit 1; }
+	cd $(TO) && rm -f bin/mdmp $(PAGE) $(CALLS) $(BASH) $(ZSH_PLACE) $(FISH) include/mdmp.h
 	cd $(DESTDIR)$(LIBDIR) && rm -f $(LIBRARIES)
 	rm -rf $(DESTDIR)$(PYTHONDIR)/mdmp
 
 # below usr/ what `install` puts there, and beside it the files of the last commit
 dist: $(PROGRAM)
+	@git rev-parse -q --verify HEAD >/dev/null || { echo "make dist needs the repository" >&2; exit 1; }
 	rm -rf dist && mkdir -p dist/mdmp-$(VERSION)
 	git archive HEAD | tar -x -C dist/mdmp-$(VERSION)
 	$(MAKE) install DESTDIR=$(CURDIR)/dist/mdmp-$(VERSION) PREFIX=/usr
