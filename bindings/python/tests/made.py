@@ -124,18 +124,16 @@ def overlapping() -> bytes:
 
 
 def large(size: int) -> tuple[bytes, bytes, int]:
-    """A dump of so many bytes, most of which are one range: what stands first, what stands last, and where that is."""
-    file = File(4)
+    """A dump of so many bytes, all but the first of which are two ranges, one of 24 bytes: what stands first, what stands last,
+    and where that is."""
+    file = File(3)
     name = file.name("C:\\large\\program.exe")
     file.stream(4, listed([module(name, 0x140000000, 0x200000)]))
     file.stream(6, exception(7, 0xC00000FD, 0x140000010))
     last = b"the end of it"
-    place = size - len(last)
-    ranges_place = file.at
-    start = ranges_place + 16 + 2 * 16
-    file.stream(9, struct.pack("<QQQQQQ", 2, start, 0x10000, 24, 0x200000, place - start - 24))
-    file.entry(0x10000, len(last), place & 0xFFFFFFFF)
-    return file.bytes(), last, place
+    start = file.at + 16 + 2 * 16
+    file.stream(9, struct.pack("<QQQQQQ", 2, start, 0x10000, 24, 0x200000, size - start - 24))
+    return file.bytes(), last, size - len(last)
 
 
 def hostile() -> Iterator[tuple[str, bytes]]:

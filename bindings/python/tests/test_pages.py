@@ -100,7 +100,7 @@ class Tables(unittest.TestCase):
         reading = read(made.many_modules(1200), most=500)
         table = tables.modules(reading)
         self.assertEqual((len(table.rows), table.count), (500, 1200))
-        self.assertEqual(table.left_out, "700 more modules are left out of this table.")
+        self.assertEqual(table.left_out, "Left out of this table: 700 of 1,200 modules.")
         self.assertEqual(table.rows[499].cells[1], "C:\\programs\\part_000499.dll")
 
     def test_bad_entries_are_not_left_out(self) -> None:

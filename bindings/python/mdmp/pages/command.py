@@ -1,7 +1,8 @@
-"""The words of the command line for pages: python -m mdmp page FILE -o FILE.html
+"""The words of the command line for pages: python -m mdmp page FILE -o FILE.html, and python -m mdmp day FOLDER -o FILE.html
 
 The exit status is the command's: 0 good, 1 the file is at fault, and its page tells of all that stands before that, 2 the words
-of the command line are, 3 no memory, no room for the page, something that is missing, or a file that can't be opened or made.
+of the command line are, 3 no memory, no room for the page, something that is missing, or a file that can't be opened or made. A
+day's bad files are counted, and no fault of its own.
 """
 
 from __future__ import annotations
@@ -10,9 +11,11 @@ import argparse
 import os
 import sys
 import tempfile
+from typing import Any, Callable
 
 from .. import _dump
-from . import crash, making, reading
+from . import counting, crash, making, reading
+from . import day as day_page
 
 
 class Trouble(Exception):
@@ -65,6 +68,52 @@ def page(arguments: argparse.Namespace) -> str:
     return "" if quality == "good" else sentence
 
 
+class Progress:
+    """A bar on a terminal, where tqdm is there, and nothing elsewhere."""
+
+    def __init__(self, what: str, total: Callable[[], int]) -> None:
+        self._bar: Any = None
+        if not sys.stderr.isatty():
+            return
+        try:
+            from tqdm import tqdm
+        except ImportError:
+            return
+        tqdm.monitor_interval = 0  # it would start a thread before the processes
+        self._bar = tqdm(total=total(), desc=what, unit="dump", leave=False)
+
+    def told(self, count: int) -> None:
+        """So many more are done."""
+        if self._bar is not None:
+            self._bar.update(count)
+
+    def end(self) -> None:
+        if self._bar is not None:
+            self._bar.close()
+
+
+def day(arguments: argparse.Namespace) -> str:
+    """Makes the page of many dumps."""
+    making.check()
+    try:
+        os.scandir(arguments.folder).close()
+    except OSError:
+        raise Trouble(f"cannot open {arguments.folder}", 3) from None
+    progress = Progress("dumps", lambda: sum(1 for _ in counting.dumps_in(arguments.folder)))
+    counted = counting.count_all(arguments.folder, arguments.workers, arguments.budget, progress.told)
+    progress.end()
+    made = day_page.Day(counted, arguments.folder, arguments.rows)
+    if arguments.pages:
+        progress = Progress("pages", lambda: len(made.examples()))
+        try:
+            day_page.make_pages(made, arguments.pages, arguments.out, arguments.workers, arguments.budget, progress.told)
+        except OSError as error:
+            raise Trouble(f"cannot write {arguments.pages}: {error.strerror}", 3) from None
+        progress.end()
+    write(arguments.out, made.page())
+    return ""
+
+
 def parser() -> argparse.ArgumentParser:
     """The words of both commands."""
     words = argparse.ArgumentParser(prog="python -m mdmp", description="Makes pages to look at.")
@@ -75,6 +124,14 @@ def parser() -> argparse.ArgumentParser:
     one.add_argument("--rows", type=number, default=500, help="how many rows a table shows (500)")
     one.add_argument("--budget", type=number, default=reading.BUDGET, help="the most bytes of the file that are fetched for one of its lists")
     one.set_defaults(run=page)
+    many = commands.add_parser("day", help="makes a page of many dumps", description="Makes a page of the dumps of a folder and those below it.")
+    many.add_argument("folder", metavar="FOLDER", help="where the dumps are: *.dmp and *.mdmp")
+    many.add_argument("-o", "--out", required=True, metavar="FILE.html", help="the page")
+    many.add_argument("--workers", type=number, default=len(os.sched_getaffinity(0)), help="how many processes read dumps (as many as cores)")
+    many.add_argument("--pages", metavar="FOLDER", help="make a page of a dump of each group there too, and link to it")
+    many.add_argument("--rows", type=number, default=500, help="how many rows a table shows (500)")
+    many.add_argument("--budget", type=number, default=reading.BUDGET, help="the most bytes of a file that are fetched for one of its lists")
+    many.set_defaults(run=day)
     return words
 
 

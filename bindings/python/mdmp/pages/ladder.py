@@ -19,7 +19,7 @@ WIDTH = 480
 _TOP = 22
 _LINE = 13.5
 _LONGEST = 1100
-_COLUMN = 44
+_COLUMN = 42
 _DIGIT = 6.05  # of the font of one width that the style gives to labels
 _NARROW = 5.45  # and to the places
 

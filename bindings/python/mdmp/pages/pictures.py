@@ -73,7 +73,7 @@ def of_memory(reading: Reading) -> Picture:
     words = f"{_counted(spans, ADDRESS_KINDS)}. {_over_words(over).replace('thing', 'module') if over else 'No module lies over another.'}"
     ladder = Ladder(
         "memory", "Memory of the process, from low addresses to high", words, ["modules", "stacks", "ranges"], ADDRESS_KINDS, found,
-        text.address, lambda run: text.of(run.end - run.start, "byte"), joined(over, _MOST_OVER), [], marks,
+        text.address, lambda run: text.about(run.end - run.start), joined(over, _MOST_OVER), [], marks,
     )
     return Picture(draw(ladder) if found else "", words, _key(found, ADDRESS_KINDS, bool(over), bool(found)))
 

@@ -94,17 +94,21 @@ def in_file(reading: Reading) -> Iterator[Span]:
             yield Span(offset, offset + row.size, "range", at)
 
 
+def _addresses(start: int, size: int, kind: str, which: int) -> Span:
+    return Span(start, min(start + size, 1 << 64), kind, which)
+
+
 def in_memory(reading: Reading) -> Iterator[Span]:
-    """What lies at which addresses, which do not wrap."""
+    """What lies at which addresses, which end at 2^64 - 1 and do not wrap."""
     for at, row in enumerate(reading.modules.raw(DRAWN)):
-        yield Span(row.base_of_image, row.base_of_image + row.size_of_image, "module", at)
+        yield _addresses(row.base_of_image, row.size_of_image, "module", at)
     for at, row in enumerate(reading.unloaded.raw(DRAWN)):
-        yield Span(row.base_of_image, row.base_of_image + row.size_of_image, "unloaded", at)
+        yield _addresses(row.base_of_image, row.size_of_image, "unloaded", at)
     for at, row in enumerate(reading.threads.raw(DRAWN)):
-        yield Span(row.stack_start, row.stack_start + row.stack.size, "stack", at)
+        yield _addresses(row.stack_start, row.stack.size, "stack", at)
     for at, row in enumerate(reading.ranges.raw(DRAWN)):
         if row.extent == Extent.INSIDE:
-            yield Span(row.start, row.start + row.size, "range", at)
+            yield _addresses(row.start, row.size, "range", at)
 
 
 def label_in_file(reading: Reading, span: Span) -> str:

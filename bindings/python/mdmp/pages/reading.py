@@ -64,8 +64,8 @@ class Listing:
 class Reading:
     """A dump that is read for a page."""
 
-    def __init__(self, dump: Dump, size: int, most: int) -> None:
-        """`size` is the file's, and `most` how many rows a table shows."""
+    def __init__(self, dump: Dump, size: int, most: int, of_crashes: bool = False) -> None:
+        """`size` is the file's, and `most` how many rows a table shows. Of crashes alone only what tells of them is read."""
         self.dump, self.size, self.most = dump, size, most
         self.header: Header | None = None
         self.fault: Fault | None = None
@@ -80,19 +80,21 @@ class Reading:
             # nothing is listed of a directory that passes the budget, and the library has none to list it by itself
             self.is_too_long = True
         limits = byref(dump._limits)
-        self.streams = Listing(self, library.mdmp_streams_, Stream)
-        self.threads = Listing(self, library.mdmp_threads_, Thread, limits)
         self.modules = Listing(self, library.mdmp_modules_, Module, limits)
         self.exceptions = Listing(self, library.mdmp_exceptions_, ExceptionRecord, limits)
+        self._verdicts: Any = ()
+        self.verdict_count = self.bad_count = 0
+        if not self.is_too_long:
+            self._read_verdicts(limits)
+        if of_crashes:
+            return
+        self.streams = Listing(self, library.mdmp_streams_, Stream)
+        self.threads = Listing(self, library.mdmp_threads_, Thread, limits)
         self.systems = Listing(self, library.mdmp_systems_, System, limits)
         self.unloaded = Listing(self, library.mdmp_unloaded_, UnloadedModule, limits)
         self.regions = Listing(self, library.mdmp_regions_, Region, limits)
         self.thread_names = Listing(self, library.mdmp_thread_names_, ThreadName, limits)
         self.ranges = Listing(self, library.mdmp_ranges_, Range, limits)
-        self._verdicts: Any = ()
-        self.verdict_count = self.bad_count = 0
-        if not self.is_too_long:
-            self._read_verdicts(limits)
         self._name_threads()
 
     def _read_verdicts(self, limits: Any) -> None:

@@ -13,6 +13,11 @@ from . import names, text
 from .reading import Listing, Reading
 
 
+def left_out(left: int, count: int, what: str) -> str:
+    """How many rows a table has no room for, in a sentence."""
+    return f"Left out of this table: {text.grouped(left)} of {text.grouped(count)} {what}." if left > 0 else ""
+
+
 class Column(NamedTuple):
     """A column: its heading, and whether its cells are numbers, addresses or words."""
 
@@ -44,8 +49,7 @@ class Table:
     @property
     def left_out(self) -> str:
         """How much of it is not shown."""
-        left = self.count - len(self.rows)
-        return f"{text.grouped(left)} more {self.what} are left out of this table." if left > 0 else ""
+        return left_out(self.count - len(self.rows), self.count, self.what)
 
 
 NUMBER, ADDRESS, WORDS = "number", "address", "words"

@@ -42,13 +42,20 @@ def of(count: int, one: str, many: str | None = None) -> str:
     return f"{grouped(count)} {one if count == 1 else many or one + 's'}"
 
 
+def _larger(size: int) -> str:
+    unit = min((size.bit_length() - 1) // 10, len(_UNITS))
+    return f"{size / (1 << 10 * unit):.1f} {_UNITS[unit - 1]}"
+
+
 def in_units(size: int) -> str:
     """A size in bytes, and of a large one how many of a larger unit that is."""
     told = of(size, "byte")
-    if size < 10240:
-        return told
-    unit = min((size.bit_length() - 1) // 10, len(_UNITS))
-    return f"{told} ({size / (1 << 10 * unit):.1f} {_UNITS[unit - 1]})"
+    return told if size < 10240 else f"{told} ({_larger(size)})"
+
+
+def about(size: int) -> str:
+    """A size in few letters: of a large one only how many of a larger unit it is."""
+    return of(size, "byte") if size < 1 << 20 else _larger(size)
 
 
 def address(number: int) -> str:
