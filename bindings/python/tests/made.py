@@ -1,4 +1,4 @@
-"""Dumps that are made: with markup in every name, with very many modules, with streams over one another, and hostile ones."""
+"""Dumps that are made: with markup in every name, very many modules, streams over one another, and hostile ones."""
 
 from __future__ import annotations
 
@@ -6,7 +6,7 @@ import random
 import struct
 from typing import Callable, Iterator
 
-MARKUP = '"><script>document.title=\'ran\'</script><img src=x onerror="document.title=\'ran\'">'
+MARKUP = "\"><script>document.title='ran'</script><img src=x onerror=\"document.title='ran'\">"
 GUID = bytes(range(16))
 
 
@@ -46,7 +46,9 @@ class File:
         return head + b"".join(struct.pack("<III", *entry) for entry in self.entries) + b"".join(self.parts)
 
 
-def module(name: int, base: int, size: int, codeview: tuple[int, int] = (0, 0), version: tuple[int, int] = (0x10002, 0x30004)) -> bytes:
+def module(
+    name: int, base: int, size: int, codeview: tuple[int, int] = (0, 0), version: tuple[int, int] = (0x10002, 0x30004)
+) -> bytes:
     numbers = struct.pack("<13I", 0xFEEF04BD, 0x10000, *version, *version, *[0] * 7)
     return struct.pack("<QIIII", base, size, 0, 0, name) + numbers + struct.pack("<IIII", *codeview, 0, 0) + bytes(16)
 
@@ -57,7 +59,9 @@ def thread(number: int, stack: int, stack_place: tuple[int, int], context: tuple
 
 def exception(number: int, code: int, address: int, *given: int) -> bytes:
     numbers = [*given, *[0] * (15 - len(given))]
-    return struct.pack("<IIIIQQII", number, 0, code, 0, 0, address, len(given), 0) + struct.pack("<15QII", *numbers, 0, 0)
+    return struct.pack("<IIIIQQII", number, 0, code, 0, 0, address, len(given), 0) + struct.pack(
+        "<15QII", *numbers, 0, 0
+    )
 
 
 def system(name: int) -> bytes:
@@ -102,12 +106,14 @@ def many_modules(count: int) -> bytes:
     """A dump of so many modules, each with a name of its own."""
     file = File(1)
     places = [file.name(f"C:\\programs\\part_{number:06}.dll") for number in range(count)]
-    file.stream(4, listed([module(place, 0x140000000 + 0x10000 * number, 0x8000) for number, place in enumerate(places)]))
+    file.stream(
+        4, listed([module(place, 0x140000000 + 0x10000 * number, 0x8000) for number, place in enumerate(places)])
+    )
     return file.bytes()
 
 
 def overlapping() -> bytes:
-    """A dump whose streams lie over one another, over the directory and behind the file's end, with a gap between them."""
+    """A dump whose streams lie over one another, over the directory and behind the file's end, with a gap between."""
     file = File(8)
     name = file.name("C:\\strange\\module.dll")
     stack = (256, file.part(bytes(256)))
@@ -124,8 +130,8 @@ def overlapping() -> bytes:
 
 
 def large(size: int) -> tuple[bytes, bytes, int]:
-    """A dump of so many bytes, all but the first of which are two ranges, one of 24 bytes: what stands first, what stands last,
-    and where that is."""
+    """A dump of so many bytes, all but the first of which are two ranges, one of 24 bytes: what stands first, what
+    stands last, and where that is."""
     file = File(3)
     name = file.name("C:\\large\\program.exe")
     file.stream(4, listed([module(name, 0x140000000, 0x200000)]))
@@ -188,10 +194,19 @@ def _one_list_often() -> bytes:
 def _addresses() -> bytes:
     file = File(4)
     name = file.name("wraps.dll")
-    file.stream(4, listed([module(name, (1 << 64) - 16, 0xFFFFFFFF), module(name, 0, 0), module(name, (1 << 64) - 1, 1)]))
-    file.stream(3, listed([thread(1, (1 << 64) - 1, (0xFFFFFFFF, 32)), thread(2, 0, (4, 0)), thread(3, 5, (4, 0xFFFFFFFF))]))
+    file.stream(
+        4, listed([module(name, (1 << 64) - 16, 0xFFFFFFFF), module(name, 0, 0), module(name, (1 << 64) - 1, 1)])
+    )
+    file.stream(
+        3, listed([thread(1, (1 << 64) - 1, (0xFFFFFFFF, 32)), thread(2, 0, (4, 0)), thread(3, 5, (4, 0xFFFFFFFF))])
+    )
     file.stream(9, struct.pack("<QQQQQQ", 2, (1 << 64) - 1, 0, (1 << 64) - 1, 0, (1 << 64) - 1))
-    file.stream(6, exception(9, 0xFFFFFFFF, (1 << 64) - 1, *[(1 << 64) - 1] * 15)[:32] + struct.pack("<I", 0xFFFFFFFF) + bytes(132))
+    file.stream(
+        6,
+        exception(9, 0xFFFFFFFF, (1 << 64) - 1, *[(1 << 64) - 1] * 15)[:32]
+        + struct.pack("<I", 0xFFFFFFFF)
+        + bytes(132),
+    )
     return file.bytes()
 
 

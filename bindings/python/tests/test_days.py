@@ -52,7 +52,9 @@ class Days(unittest.TestCase):
         self.put_some()
         counted = counting.count_all(str(self.folder), 2)
         self.assertEqual(counted.dumps, 11)
-        self.assertEqual(counted.crashes, {Crash(0xC0000005, "one.dll", 0x1234): 7, Crash(0xC0000005, "two.dll", 0x1234): 1})
+        self.assertEqual(
+            counted.crashes, {Crash(0xC0000005, "one.dll", 0x1234): 7, Crash(0xC0000005, "two.dll", 0x1234): 1}
+        )
         self.assertEqual(counted.builds[Build("one.dll", "1.2.3.4", "030201000504070608090A0B0C0D0E0F1")], 7)
         self.assertEqual(counted.verdicts, {"good": 9, "stream outside": 1, "file too short": 1})
         self.assertEqual(sorted(counted.bad), sorted(str(self.folder / name) for name in ("a.DMP", "no-dump.dmp")))
@@ -104,7 +106,9 @@ class Days(unittest.TestCase):
         self.assertEqual(groups["places"].rows[0][0], ["0xc0000005 STATUS_ACCESS_VIOLATION", "one.dll", "0x1234", "7"])
         self.assertEqual(groups["places"].rows[0][1].path, "deep/er/0.dmp")
         self.assertEqual(groups["places"].left_out, "Left out of this table: 1 of 2 groups.")
-        self.assertEqual([(len(day.bad_group().rows), day.bad_group().left_out)], [(1, "Left out of this table: 1 of 2 bad files.")])
+        self.assertEqual(
+            [(len(day.bad_group().rows), day.bad_group().left_out)], [(1, "Left out of this table: 1 of 2 bad files.")]
+        )
         names = {os.path.basename(path) for path in day.examples()}
         self.assertEqual(names, {"0.dmp", "a.DMP", "b.mdmp"})  # the first of the first groups, and of the bad files
 

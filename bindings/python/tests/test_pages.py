@@ -44,6 +44,7 @@ class Words(unittest.TestCase):
         self.assertEqual(names.stream_type(0x43500001), "0x43500001")
         self.assertEqual(names.exception_code(0xC0000005), "0xc0000005 STATUS_ACCESS_VIOLATION")
         self.assertEqual(names.exception_code(0xB), "0x0000000b")
+        self.assertEqual(names.exception_code(0xB, 0x8201), "0x0000000b SIGSEGV")
         self.assertEqual(names.protection(0x104), "PAGE_READWRITE | PAGE_GUARD")
         self.assertEqual(names.protection(0x80000004), "PAGE_READWRITE | 0x80000000")
         self.assertEqual(names.state(0), "0x0")
@@ -163,7 +164,10 @@ class Places(unittest.TestCase):
     def test_runs(self) -> None:
         spans = [Span(at * 100, at * 100 + 10, "name", at) for at in range(1000)] + [Span(5, 6, "stream", 0)]
         found = runs(spans, 40, FILE_KINDS, lambda span: span.kind)
-        self.assertEqual([(run.kind, run.things, run.label) for run in found], [("name", 1000, "1,000 names"), ("stream", 1, "stream")])
+        self.assertEqual(
+            [(run.kind, run.things, run.label) for run in found],
+            [("name", 1000, "1,000 names"), ("stream", 1, "stream")],
+        )
         twice = runs([Span(0, 9, "name", 0)] * 2, 40, FILE_KINDS, lambda span: span.kind)
         self.assertEqual(twice, [Run(0, 9, "name", 2, "name, 2 times")])
         self.assertEqual(joined([(0, 1), (9, 10), (1000, 1001)], 2), [(0, 10), (1000, 1001)])
@@ -176,10 +180,17 @@ class Pictures(unittest.TestCase):
         for picture in drawn(read(made.named(made.MARKUP))):
             root = xml.etree.ElementTree.fromstring(picture)
             tags = {part.tag for part in root.iter()}
-            self.assertLessEqual(tags, {"svg", "title", "desc", "defs", "pattern", "rect", "line", "polyline", "text", "tspan"})
+            self.assertLessEqual(
+                tags, {"svg", "title", "desc", "defs", "pattern", "rect", "line", "polyline", "text", "tspan"}
+            )
             self.assertNotIn("<img", picture)
-            self.assertFalse([key for part in root.iter() for key in part.attrib if key.startswith("on") or key == "href"])
-        self.assertIn('name “script><img src=x onerror=', "".join(xml.etree.ElementTree.fromstring(drawn(read(made.named(made.MARKUP)))[0]).itertext()))
+            self.assertFalse(
+                [key for part in root.iter() for key in part.attrib if key.startswith("on") or key == "href"]
+            )
+        self.assertIn(
+            "name “script><img src=x onerror=",
+            "".join(xml.etree.ElementTree.fromstring(drawn(read(made.named(made.MARKUP)))[0]).itertext()),
+        )
 
     def test_hostile(self) -> None:
         count = 0
@@ -207,7 +218,12 @@ class Pictures(unittest.TestCase):
         self.assertLessEqual(given[-1], 100)
 
     def test_side_by_side(self) -> None:
-        found = [Run(0, 10, "stream", 1, ""), Run(5, 15, "stream", 1, ""), Run(10, 20, "stream", 1, ""), Run(20, 30, "stream", 1, "")]
+        found = [
+            Run(0, 10, "stream", 1, ""),
+            Run(5, 15, "stream", 1, ""),
+            Run(10, 20, "stream", 1, ""),
+            Run(20, 30, "stream", 1, ""),
+        ]
         self.assertEqual([(at, count) for _, at, count in side_by_side(found)], [(0, 2), (1, 2), (0, 2), (0, 1)])
 
     def test_sample_pictures(self) -> None:
@@ -223,14 +239,17 @@ class Command(unittest.TestCase):
     """python -m mdmp page, where it makes no page."""
 
     def run_command(self, *words: str, without: str = "jinja2") -> tuple[int, str]:
-        program = f"import sys; sys.modules[{without!r}] = None; sys.argv[0] = 'mdmp'; import mdmp.__main__; sys.exit(mdmp.__main__.main())"
+        program = f"import sys; sys.modules[{without!r}] = None; from mdmp.__main__ import main; sys.exit(main())"
         done = subprocess.run([sys.executable, "-c", program, *words], capture_output=True, text=True)
         return done.returncode, done.stderr
 
     def test_without_jinja(self) -> None:
         with tempfile.TemporaryDirectory() as folder:
             status, told = self.run_command("page", str(FOLDER / "made.dmp"), "-o", f"{folder}/made.html")
-            self.assertEqual((status, told), (3, "mdmp: Jinja2 is missing, which pages are made with: apt-get install python3-jinja2\n"))
+            self.assertEqual(
+                (status, told),
+                (3, "mdmp: Jinja2 is missing, which pages are made with: apt-get install python3-jinja2\n"),
+            )
             self.assertEqual(os.listdir(folder), [])
 
     def test_words(self) -> None:

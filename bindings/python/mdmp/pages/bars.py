@@ -3,7 +3,7 @@
 from __future__ import annotations
 
 from . import text
-from .ladder import WIDTH, escaped, rectangle, words_at
+from .ladder import WIDTH, framed, rectangle, words_at
 
 _SHOWN = 12
 _STEP = 30
@@ -26,8 +26,4 @@ def draw(key: str, title: str, counts: list[tuple[str, int]], total: int) -> str
         parts.append(rectangle(0, y + 15, WIDTH, 9, "bar-ground"))
         parts.append(rectangle(0, y + 15, WIDTH * count / most, 9, "bar", f"{words}: {number}"))
     about = ". ".join(f"{words}: {text.grouped(count)}" for words, count in shown)
-    inside = "\n".join(parts)
-    return (
-        f'<svg viewBox="0 0 {WIDTH} {len(shown) * _STEP}" role="img" aria-labelledby="{key}-title {key}-about" class="picture bars">\n'
-        f'<title id="{key}-title">{escaped(title)}</title>\n<desc id="{key}-about">{escaped(about)}</desc>\n{inside}\n</svg>'
-    )
+    return framed(key, title, about, len(shown) * _STEP, "bars", "\n".join(parts))

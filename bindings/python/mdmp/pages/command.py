@@ -1,8 +1,8 @@
-"""The words of the command line for pages: python -m mdmp page FILE -o FILE.html, and python -m mdmp day FOLDER -o FILE.html
+"""The command lines for pages: python -m mdmp page FILE -o FILE.html, and python -m mdmp day FOLDER -o FILE.html
 
-The exit status is the command's: 0 good, 1 the file is at fault, and its page tells of all that stands before that, 2 the words
-of the command line are, 3 no memory, no room for the page, something that is missing, or a file that can't be opened or made. A
-day's bad files are counted, and no fault of its own.
+The exit status is the command's: 0 good, 1 the file is at fault, and its page tells of all that stands before that, 2
+the words of the command line are, 3 no memory, no room for the page, something that is missing, or a file that can't be
+opened or made. A day's bad files are counted, and are no fault of its own.
 """
 
 from __future__ import annotations
@@ -37,7 +37,9 @@ def write(path: str, page: str) -> None:
     """Writes a page, all of it or none."""
     folder = os.path.dirname(os.path.abspath(path))
     try:
-        with tempfile.NamedTemporaryFile("w", encoding="utf-8", dir=folder, prefix=".mdmp-", suffix=".html", delete=False) as made:
+        with tempfile.NamedTemporaryFile(
+            "w", encoding="utf-8", dir=folder, prefix=".mdmp-", suffix=".html", delete=False
+        ) as made:
             try:
                 made.write(page)
                 made.flush()
@@ -106,7 +108,9 @@ def day(arguments: argparse.Namespace) -> str:
     if arguments.pages:
         progress = Progress("pages", lambda: len(made.examples()))
         try:
-            day_page.make_pages(made, arguments.pages, arguments.out, arguments.workers, arguments.budget, progress.told)
+            day_page.make_pages(
+                made, arguments.pages, arguments.out, arguments.workers, arguments.budget, progress.told
+            )
         except OSError as error:
             raise Trouble(f"cannot write {arguments.pages}: {error.strerror}", 3) from None
         progress.end()
@@ -118,19 +122,40 @@ def parser() -> argparse.ArgumentParser:
     """The words of both commands."""
     words = argparse.ArgumentParser(prog="python -m mdmp", description="Makes pages to look at.")
     commands = words.add_subparsers(dest="command", required=True)
-    one = commands.add_parser("page", help="makes a page of a dump", description="Makes a page of a dump: one file, which needs no other.")
+    one = commands.add_parser(
+        "page", help="makes a page of a dump", description="Makes a page of a dump: one file, which needs no other."
+    )
     one.add_argument("file", metavar="FILE", help="the dump")
     one.add_argument("-o", "--out", required=True, metavar="FILE.html", help="the page")
     one.add_argument("--rows", type=number, default=500, help="how many rows a table shows (500)")
-    one.add_argument("--budget", type=number, default=reading.BUDGET, help="the most bytes of the file that are fetched for one of its lists")
+    one.add_argument(
+        "--budget",
+        type=number,
+        default=reading.BUDGET,
+        help="the most bytes of the file that are fetched for one of its lists",
+    )
     one.set_defaults(run=page)
-    many = commands.add_parser("day", help="makes a page of many dumps", description="Makes a page of the dumps of a folder and those below it.")
+    many = commands.add_parser(
+        "day",
+        help="makes a page of many dumps",
+        description="Makes a page of the dumps of a folder and those below it.",
+    )
     many.add_argument("folder", metavar="FOLDER", help="where the dumps are: *.dmp and *.mdmp")
     many.add_argument("-o", "--out", required=True, metavar="FILE.html", help="the page")
-    many.add_argument("--workers", type=number, default=len(os.sched_getaffinity(0)), help="how many processes read dumps (as many as cores)")
+    many.add_argument(
+        "--workers",
+        type=number,
+        default=len(os.sched_getaffinity(0)),
+        help="how many processes read dumps (as many as cores)",
+    )
     many.add_argument("--pages", metavar="FOLDER", help="make a page of a dump of each group there too, and link to it")
     many.add_argument("--rows", type=number, default=500, help="how many rows a table shows (500)")
-    many.add_argument("--budget", type=number, default=reading.BUDGET, help="the most bytes of a file that are fetched for one of its lists")
+    many.add_argument(
+        "--budget",
+        type=number,
+        default=reading.BUDGET,
+        help="the most bytes of a file that are fetched for one of its lists",
+    )
     many.set_defaults(run=day)
     return words
 

@@ -1,4 +1,4 @@
-"""Counts the crashes of many dumps, by processes that share them out. Memory grows with the groups, not with the dumps."""
+"""Counts the crashes of many dumps, in processes that share them out. Memory grows with the groups, not the dumps."""
 
 from __future__ import annotations
 
@@ -87,7 +87,9 @@ def _words_of(fault: Fault) -> str:
 def _count_one(counted: Counted, path: str, budget: int) -> None:
     with _dump.open(path, budget=budget) as dump:
         reading = Reading(dump, 0, 0, of_crashes=True)
-        fault = reading.fault or next((reading.verdict(at) for at in range(reading.verdict_count) if reading.is_bad(at)), None)
+        fault = reading.fault or next(
+            (reading.verdict(at) for at in range(reading.verdict_count) if reading.is_bad(at)), None
+        )
         if reading.is_too_long:
             counted.judge(path, "budget", "the directory is longer than the budget")
         else:
@@ -99,7 +101,9 @@ def _count_one(counted: Counted, path: str, budget: int) -> None:
                 crash, build = Crash(row.exception_code, None, None), Build(None, "", "")
             else:
                 module, offset = found
-                identity = tables.debug_id(module.symbols) if module.symbols and module.symbols.kind == SymbolKind.RSDS else ""
+                identity = (
+                    tables.debug_id(module.symbols) if module.symbols and module.symbols.kind == SymbolKind.RSDS else ""
+                )
                 crash = Crash(row.exception_code, module.name, offset)
                 build = Build(module.name, str(module.file_version), identity)
             counted.crashes[crash] += 1
@@ -128,12 +132,15 @@ def count(paths: list[str], budget: int = BUDGET) -> Counted:
 
 def dumps_in(folder: str) -> Iterator[str]:
     """The dumps of a folder and those below it. Nothing but plain files is opened."""
-    for entry in os.scandir(folder):
+    waiting = [folder]
+    while waiting:
         try:
-            if entry.is_dir(follow_symlinks=False):
-                yield from dumps_in(entry.path)
-            elif entry.name.lower().endswith(ENDINGS) and entry.is_file():
-                yield entry.path
+            with os.scandir(waiting.pop()) as entries:
+                for entry in entries:
+                    if entry.is_dir(follow_symlinks=False):
+                        waiting.append(entry.path)
+                    elif entry.name.lower().endswith(ENDINGS) and entry.is_file():
+                        yield entry.path
         except OSError:
             continue  # it was removed, or it may not be looked into
 
@@ -150,7 +157,7 @@ def _chunks(paths: Iterator[str]) -> Iterator[list[str]]:
 
 
 class _Crew:
-    """Processes that count. One that dies takes its files with it: these are counted again, each by a process of its own."""
+    """Processes that count. One that dies takes its files with it: these are counted again, each by its own process."""
 
     def __init__(self, workers: int, budget: int, told: Callable[[int], None]) -> None:
         self._workers, self._budget, self._told = workers, budget, told
@@ -208,7 +215,7 @@ class _Crew:
 
 
 def count_all(folder: str, workers: int, budget: int = BUDGET, told: Callable[[int], None] = lambda _: None) -> Counted:
-    """What is counted of all dumps of a folder, by so many processes. `told` is called with how many were counted more."""
+    """What is counted of all dumps of a folder, by so many processes. `told` hears how many were counted more."""
     crew = _Crew(workers, budget, told)
     for chunk in _chunks(dumps_in(folder)):
         crew.give(chunk)

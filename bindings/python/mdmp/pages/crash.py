@@ -54,9 +54,10 @@ def _reason(row: Any) -> list[Fact]:
 def crashes(reading: Reading) -> list[list[Fact]]:
     """The facts of each exception: in most dumps of a crash there is one."""
     out = []
+    platform = next((row.platform_id for row in reading.systems.raw(1)), None)
     for row in reading.exceptions.records(_SHOWN):
         facts = [
-            Fact("Exception", names.exception_code(row.exception_code)),
+            Fact("Exception", names.exception_code(row.exception_code, platform)),
             Fact("Address", text.address(row.exception_address)),
             Fact("Module", module_at(reading, row.exception_address)),
             Fact("Thread", _thread(reading, row.thread_id)),
@@ -94,7 +95,10 @@ def about(reading: Reading) -> list[Fact]:
     for row in reading.systems.records(1):
         version = f"{row.major_version}.{row.minor_version}.{row.build_number}"
         architecture = names.ARCHITECTURES.get(row.processor_architecture, f"architecture {row.processor_architecture}")
-        facts.append(Fact("System", f"platform {row.platform_id:#x} version {version}, {architecture}, {text.of(row.number_of_processors, 'processor')}"))
+        processors = text.of(row.number_of_processors, "processor")
+        platform = names.PLATFORMS.get(row.platform_id, f"platform {row.platform_id:#x}")
+        system = f"{platform} {version}, {architecture}, {processors}"
+        facts.append(Fact("System", system))
         if row.csd_version:
             facts.append(Fact("Service pack", text.shortened(row.csd_version)))
     return facts
@@ -108,8 +112,10 @@ def verdict(reading: Reading) -> tuple[str, str]:
     if reading.fault:
         return f"The file can't be read as a dump: {reading.fault}.", "bad"
     count = len(reading.streams)
+    entries = f"{text.of(count, 'entry', 'entries')} of the directory"
     if reading.bad_count:
-        return f"{text.grouped(reading.bad_count)} of {text.of(count, 'entry', 'entries')} of the directory {'is' if reading.bad_count == 1 else 'are'} at fault.", "bad"
+        verb = "is" if reading.bad_count == 1 else "are"
+        return f"{text.grouped(reading.bad_count)} of {entries} {verb} at fault.", "bad"
     if count == 0:
         return "The file is good, and its directory is empty.", "good"
-    return f"The file is good: {text.of(count, 'entry', 'entries')} of the directory, none at fault.", "good"
+    return f"The file is good: {entries}, none at fault.", "good"

@@ -68,7 +68,13 @@ class Day:
         return Example(text.shortened(os.path.relpath(path, self.folder)), self.links.get(path, ""))
 
     def _group(
-        self, key: str, title: str, about: str, columns: list[Column], table: Counter[Any], cells: Callable[[Any], list[str]],
+        self,
+        key: str,
+        title: str,
+        about: str,
+        columns: list[Column],
+        table: Counter[Any],
+        cells: Callable[[Any], list[str]],
         words: Callable[[Any], str],
     ) -> Group:
         ordered = self._ordered(table)
@@ -77,8 +83,12 @@ class Day:
             first: Hashable = group
             rows.append(([*cells(group), text.grouped(count)], self._example(self.counted.first[first])))
         left_out = tables.left_out(len(ordered) - len(rows), len(ordered), "groups")
-        svg = bars.draw(f"{key}-bars", title, [(words(group), count) for group, count in ordered[:12]], sum(table.values()))
-        return Group(key, title, about, [*columns, Column("Count", _NUMBER), Column("For example")], rows, left_out, svg)
+        svg = bars.draw(
+            f"{key}-bars", title, [(words(group), count) for group, count in ordered[:12]], sum(table.values())
+        )
+        return Group(
+            key, title, about, [*columns, Column("Count", _NUMBER), Column("For example")], rows, left_out, svg
+        )
 
     def groups(self) -> list[Group]:
         """The sections of the page."""
@@ -93,7 +103,11 @@ class Day:
             return [names.exception_code(crash.code), held, offset]
 
         def crash_words(crash: Crash) -> str:
-            held = "no module" if crash.offset is None else f"{text.visible(text.last_part(crash.module or 'no name'))}+{crash.offset:#x}"
+            held = (
+                "no module"
+                if crash.offset is None
+                else f"{text.visible(text.last_part(crash.module or 'no name'))}+{crash.offset:#x}"
+            )
             return f"{crash.code:#010x} {held}"
 
         def build_words(build: Build) -> str:
@@ -101,21 +115,40 @@ class Day:
 
         return [
             self._group(
-                "verdicts", "By verdict", "Each dump once, by the first fault that is found in it.", [Column("Verdict")], counted.verdicts,
-                lambda verdict: [verdict], str,
+                "verdicts",
+                "By verdict",
+                "Each dump once, by the first fault that is found in it.",
+                [Column("Verdict")],
+                counted.verdicts,
+                lambda verdict: [verdict],
+                str,
             ),
             self._group(
-                "codes", "By exception code", "Each exception, by its code.", [Column("Code")], self._codes(),
-                lambda code: [names.exception_code(code)], names.exception_code,
+                "codes",
+                "By exception code",
+                "Each exception, by its code.",
+                [Column("Code")],
+                self._codes(),
+                lambda code: [names.exception_code(code)],
+                names.exception_code,
             ),
             self._group(
-                "places", "By module and offset", "Each exception, by its code and the module and offset that hold its address.",
-                [Column("Code"), Column("Module"), Column("Offset", "address")], counted.crashes, crash_cells, crash_words,
+                "places",
+                "By module and offset",
+                "Each exception, by its code and the module and offset that hold its address.",
+                [Column("Code"), Column("Module"), Column("Offset", "address")],
+                counted.crashes,
+                crash_cells,
+                crash_words,
             ),
             self._group(
-                "builds", "By build", "Each exception, by the version and debug id of the module that holds its address.",
-                [Column("Module"), Column("Version"), Column("Debug id", "address")], counted.builds,
-                lambda build: [module(build.module), build.version, build.debug_id], build_words,
+                "builds",
+                "By build",
+                "Each exception, by the version and debug id of the module that holds its address.",
+                [Column("Module"), Column("Version"), Column("Debug id", "address")],
+                counted.builds,
+                lambda build: [module(build.module), build.version, build.debug_id],
+                build_words,
             ),
         ]
 
@@ -124,23 +157,32 @@ class Day:
         paths = sorted(self.counted.bad)[: self.most]
         rows = [([self.counted.bad[path]], self._example(path)) for path in paths]
         left_out = tables.left_out(self.counted.bad_count - len(rows), self.counted.bad_count, "bad files")
-        return Group("bad", "Bad files", "What is wrong with each.", [Column("Verdict"), Column("File")], rows, left_out)
+        return Group(
+            "bad", "Bad files", "What is wrong with each.", [Column("Verdict"), Column("File")], rows, left_out
+        )
 
     def page(self) -> str:
         """The page."""
         counted, groups, bad = self.counted, self.groups(), self.bad_group()
         columns = {group.key: [column.title for column in group.columns] for group in [*groups, bad]}
-        sentence = f"{text.of(counted.dumps, 'dump')}: {text.grouped(counted.verdicts['good'])} good, {text.grouped(counted.bad_count)} bad."
-        about = f"{text.of(sum(counted.crashes.values()), 'exception')} in {text.of(len(counted.crashes), 'group')}; {text.of(counted.without, 'dump')} without one."
+        good, bad_count = text.grouped(counted.verdicts["good"]), text.grouped(counted.bad_count)
+        sentence = f"{text.of(counted.dumps, 'dump')}: {good} good, {bad_count} bad."
+        exceptions = text.of(sum(counted.crashes.values()), "exception")
+        kinds = text.of(len(counted.crashes), "group")
+        about = f"{exceptions} in {kinds}; {text.of(counted.without, 'dump')} without one."
         values = {
-            "name": text.shortened(os.path.basename(os.path.abspath(self.folder)) or self.folder), "sentence": sentence, "about": about,
-            "quality": "bad" if counted.bad_count else "good", "groups": groups, "bad": bad,
+            "name": text.shortened(os.path.basename(os.path.abspath(self.folder)) or self.folder),
+            "sentence": sentence,
+            "about": about,
+            "quality": "bad" if counted.bad_count else "good",
+            "groups": groups,
+            "bad": bad,
         }
         return making.rendered("day.html", columns, values)
 
 
 def make_page(path: str, page: str, most: int, budget: int) -> str:
-    """Makes the page of a dump of the day, in a process of its own. Gives the path of the page, or nothing where there is none."""
+    """Makes the page of a dump of the day, and gives its path, or nothing where there is none."""
     from .command import Trouble, write
 
     try:
@@ -153,14 +195,19 @@ def make_page(path: str, page: str, most: int, budget: int) -> str:
     return page
 
 
-def make_pages(day: Day, folder: str, out: str, workers: int, budget: int = BUDGET, told: Callable[[int], None] = lambda _: None) -> None:
+def make_pages(
+    day: Day, folder: str, out: str, workers: int, budget: int = BUDGET, told: Callable[[int], None] = lambda _: None
+) -> None:
     """Makes the pages of the dumps that the day's page names, and has it link to them."""
     os.makedirs(folder, exist_ok=True)
     beside = os.path.dirname(os.path.abspath(out))
     with ProcessPoolExecutor(workers) as pool:
         running = []
         for number, path in enumerate(day.examples(), 1):
-            name = "".join(letter if letter.isascii() and (letter.isalnum() or letter in "-_.") else "_" for letter in os.path.basename(path))
+            name = "".join(
+                letter if letter.isascii() and (letter.isalnum() or letter in "-_.") else "_"
+                for letter in os.path.basename(path)
+            )
             page = os.path.join(folder, f"{number:05}-{name[:80]}.html")
             running.append((path, pool.submit(make_page, path, page, day.most, budget)))
         for path, future in running:

@@ -1,7 +1,7 @@
 """Draws what lies where, from the first place at the top to the last at the bottom, as SVG.
 
-Each piece between two borders has a height by the logarithm of its length, so that 24 bytes are in sight beside 5 GB. What is
-of one sort stands in one column; beside it stand the names.
+Each piece between two borders has a height by the logarithm of its length, so that 24 bytes are in sight beside 5 GB.
+What is of one sort stands in one column; beside it stand the names.
 """
 
 from __future__ import annotations
@@ -22,11 +22,13 @@ _LONGEST = 1100
 _COLUMN = 42
 _DIGIT = 6.05  # of the font of one width that the style gives to labels
 _NARROW = 5.45  # and to the places
+_GAPS = 6  # so many stretches of nothing are told of
 
 
 @dataclass
 class Ladder:
-    """What is drawn. `over` are the stretches with more than one thing, `gaps` those with none, `marks` lines at a place."""
+    """What is drawn. `over` are the stretches with more than one thing, in so many of the columns, `gaps` those with
+    none, `marks` lines at a place, and `strip` is the size of what is shown to scale above."""
 
     key: str
     title: str
@@ -37,6 +39,7 @@ class Ladder:
     place: Callable[[int], str]
     tail: Callable[[Run], str]
     over: list[tuple[int, int]] = field(default_factory=list)
+    over_columns: int = 3
     gaps: list[tuple[int, int]] = field(default_factory=list)
     marks: list[tuple[int, str, str]] = field(default_factory=list)
     strip: int = 0
@@ -45,8 +48,13 @@ class Ladder:
 class _Label(NamedTuple):
     wanted: float
     words: str
+    tail: str
     sort: str
     right: float
+
+
+def _size(stretch: tuple[int, int]) -> int:
+    return stretch[1] - stretch[0]
 
 
 def escaped(words: str) -> str:
@@ -58,9 +66,10 @@ def _number(value: float) -> str:
     return f"{value:.1f}".removesuffix(".0")
 
 
-def rectangle(x: float, y: float, width: float, height: float, sort: str, words: str = "") -> str:
+def rectangle(left: float, top: float, width: float, height: float, sort: str, words: str = "") -> str:
     """A rectangle, with the words that are shown where a pointer rests on it."""
-    shape = f'<rect x="{_number(x)}" y="{_number(y)}" width="{_number(max(width, 0.8))}" height="{_number(max(height, 0.8))}" class="{sort}"'
+    place = f'x="{_number(left)}" y="{_number(top)}"'
+    shape = f'<rect {place} width="{_number(max(width, 0.8))}" height="{_number(max(height, 0.8))}" class="{sort}"'
     return f"{shape}><title>{escaped(words)}</title></rect>" if words else f"{shape}/>"
 
 
@@ -103,7 +112,7 @@ def spread(wanted: list[float], distance: float, end: float) -> list[float]:
 
 
 def side_by_side(found: list[Run]) -> list[tuple[Run, int, int]]:
-    """The runs of a column, each with its place among those that lie over one another, and how many places these need."""
+    """The runs of a column, each with its place among those that lie over one another, and how many these need."""
     out: list[tuple[Run, int, int]] = []
     cluster: list[tuple[Run, int]] = []
     ends: list[int] = []
@@ -117,93 +126,160 @@ def side_by_side(found: list[Run]) -> list[tuple[Run, int, int]]:
     return out + [(one, at, len(ends)) for one, at in cluster]
 
 
-def _told(run: Run, place: Callable[[int], str]) -> str:
-    return f"{run.label}: {place(run.start)} to {place(run.end)}, {text.in_units(run.end - run.start)}"
+class _Drawing:
+    """A picture as it is made: shapes, lines to names, and names."""
+
+    def __init__(self, ladder: Ladder) -> None:
+        self.ladder = ladder
+        ends = {border for run in ladder.runs for border in (run.start, run.end)}
+        ends |= {border for stretch in ladder.over for border in stretch} | {
+            position for position, _, _ in ladder.marks
+        }
+        self.borders = sorted(ends)
+        self.gaps = [gap for gap in sorted(ladder.gaps, key=_size)[-_GAPS:] if _size(gap) >= 64 and set(gap) <= ends]
+        self.left = max(len(ladder.place(border)) for border in self.borders) * _NARROW + 8
+        self.first = self.left + 10
+        self.right = self.first + _COLUMN * len(ladder.columns)
+        self.top = _TOP + (34 if ladder.strip else 0)
+        count = len(ladder.runs) + len(ladder.marks) + len(ladder.over) + len(self.gaps)
+        places = heights(self.borders, self.is_held, _LINE * count + 20)
+        self.at = {border: self.top + place for border, place in zip(self.borders, places)}
+        self.height = max(self.at.values()) + 14
+        self.shapes: list[str] = []
+        self.labels: list[_Label] = []
+
+    def is_held(self, start: int, end: int) -> bool:
+        """Whether something lies between two borders that follow each other."""
+        return any(run.start <= start and end <= run.end for run in self.ladder.runs)
+
+    def told(self, words: str, start: int, end: int) -> str:
+        """What lies from a place to another, in words."""
+        place = self.ladder.place
+        return f"{words}: {place(start)} to {place(end)}, {text.in_units(end - start)}"
+
+    def label(self, start: float, size: float, words: str, tail: str, sort: str, right: float) -> None:
+        """Words for what begins at a height and has a size, and ends to the right at a width."""
+        self.labels.append(_Label(start + min(size / 2, 9), words, tail, sort, right))
+
+    def empty(self) -> None:
+        """Draws where nothing lies, and tells of the largest such stretches."""
+        for start, end in zip(self.borders, self.borders[1:]):
+            if not self.is_held(start, end):
+                size = self.at[end] - self.at[start]
+                words = self.told("nothing", start, end)
+                self.shapes.append(rectangle(self.first, self.at[start], self.right - self.first, size, "gap", words))
+        for start, end in self.gaps:
+            size = self.at[end] - self.at[start]
+            self.label(self.at[start], size, "nothing", text.of(end - start, "byte"), "label faint", self.right)
+
+    def column(self, number: int) -> None:
+        """Draws the runs of a column."""
+        ladder = self.ladder
+        for run, beside, count in side_by_side([run for run in ladder.runs if ladder.kinds[run.kind][0] == number]):
+            width = (_COLUMN - 3) / count
+            left, start = self.first + _COLUMN * number + beside * width, self.at[run.start]
+            size = self.at[run.end] - start
+            sort = f"shape {run.kind}" + (" outside" if ladder.strip and run.start >= ladder.strip else "")
+            self.shapes.append(rectangle(left, start, width, size, sort, self.told(run.label, run.start, run.end)))
+            self.label(start, size, run.label, ladder.tail(run), "label", left + width)
+
+    def over(self) -> None:
+        """Draws where more than one thing lies."""
+        for start, end in self.ladder.over:
+            size = self.at[end] - self.at[start]
+            width = _COLUMN * self.ladder.over_columns + 1
+            words = self.told("more than one thing", start, end)
+            self.shapes.append(rectangle(self.first - 2, self.at[start], width, size, "over", words))
+            self.label(
+                self.at[start],
+                size,
+                "over one another",
+                text.of(end - start, "byte"),
+                "label strong",
+                self.first + width - 2,
+            )
+
+    def marks(self) -> None:
+        """Draws the lines at a place."""
+        for position, words, sort in self.ladder.marks:
+            height = self.at[position]
+            self.shapes.append(line(self.left, height, self.right + 4, height, f"mark {sort}"))
+            self.label(height, 0, words, "", "label strong", self.right + 4)
+
+    def axis(self) -> list[str]:
+        """The places of the borders, as many as have room."""
+        shown, last = [], -_LINE
+        for border in self.borders:
+            if self.at[border] - last >= 10.5:
+                last = self.at[border]
+                shown.append(words_at(self.left - 2, last + 3, self.ladder.place(border), "place"))
+                shown.append(line(self.left, last, self.first, last, "tick"))
+        return shown
+
+    def names(self) -> tuple[list[str], list[str]]:
+        """The lines to the names, and the names."""
+        self.labels.sort()
+        heights_of = spread([label.wanted for label in self.labels], _LINE, self.height - 6)
+        room = int((WIDTH - self.right - 20) / _DIGIT)
+        lines, shown = [], []
+        for label, height in zip(self.labels, heights_of):
+            points = [(label.right, label.wanted), (self.right + 6, label.wanted), (self.right + 15, height)]
+            joined = " ".join(f"{_number(across)},{_number(down)}" for across, down in points)
+            lines.append(f'<polyline points="{joined}" class="leader"/>')
+            words = text.fitting(label.words, room - len(label.tail) - 1 if label.tail else room)
+            shown.append(words_at(self.right + 18, height + 3.5, words, label.sort, label.tail))
+        return lines, shown
+
+    def heads(self) -> list[str]:
+        """The titles of the columns."""
+        titles = enumerate(self.ladder.columns)
+        return [words_at(self.first + _COLUMN * number, self.top - 7, title, "head") for number, title in titles]
 
 
 def draw(ladder: Ladder) -> str:
-    """The picture."""
-    ends = {border for run in ladder.runs for border in (run.start, run.end)}
-    ends |= {border for stretch in ladder.over for border in stretch} | {at for at, _, _ in ladder.marks}
-    borders = sorted(ends)
-    if len(borders) < 2:
+    """The picture, or nothing where there is nothing to draw."""
+    if not ladder.runs:
         return ""
-    widest = max(len(ladder.place(border)) for border in borders)
-    left = widest * _NARROW + 8
-    first = left + 10
-    right = first + _COLUMN * len(ladder.columns)
-    top = _TOP + (34 if ladder.strip else 0)
-    labels_of_gaps = sorted(sorted(ladder.gaps, key=lambda gap: gap[0] - gap[1])[:6])
-    labels_of_gaps = [gap for gap in labels_of_gaps if gap[1] - gap[0] >= 64 and set(gap) <= ends]
-    count = len(ladder.runs) + len(ladder.marks) + len(ladder.over) + len(labels_of_gaps)
-    held = sorted((run.start, run.end) for run in ladder.runs)
-    places = heights(borders, lambda start, end: any(a <= start and end <= b for a, b in held), _LINE * count + 20)
-    at = {border: top + place for border, place in zip(borders, places)}
-    height = max(at.values()) + 14
-    shapes, leaders, labels = [], [], []
-    for start, end in zip(borders, borders[1:]):
-        if not any(a <= start and end <= b for a, b in held):
-            words = f"nothing: {ladder.place(start)} to {ladder.place(end)}, {text.in_units(end - start)}"
-            shapes.append(rectangle(first, at[start], right - first, at[end] - at[start], "gap", words))
-    for column in range(len(ladder.columns)):
-        of_column = [run for run in ladder.runs if ladder.kinds[run.kind][0] == column]
-        for run, place, places_needed in side_by_side(of_column):
-            width = (_COLUMN - 3) / places_needed
-            x, y = first + _COLUMN * column + place * width, at[run.start]
-            size = at[run.end] - y
-            sort = f"shape {run.kind}" + (" outside" if ladder.strip and run.start >= ladder.strip else "")
-            shapes.append(rectangle(x, y, width, size, sort, _told(run, ladder.place)))
-            labels.append(_Label(y + min(size / 2, 9), f"{run.label}\0{ladder.tail(run)}", "label", x + width))
-    for start, end in ladder.over:
-        words = f"more than one thing: {ladder.place(start)} to {ladder.place(end)}, {text.in_units(end - start)}"
-        size = at[end] - at[start]
-        shapes.append(rectangle(first - 2, at[start], right - first + 4, size, "over", words))
-        labels.append(_Label(at[start] + min(size / 2, 9), f"over one another\0{text.of(end - start, 'byte')}", "label strong", right + 2))
-    for start, end in labels_of_gaps:
-        labels.append(_Label((at[start] + at[end]) / 2, f"nothing\0{text.of(end - start, 'byte')}", "label faint", right))
-    for position, words, sort in ladder.marks:
-        shapes.append(line(left, at[position], right + 4, at[position], f"mark {sort}"))
-        labels.append(_Label(at[position], words + "\0", "label strong", right + 4))
-    labels.sort()
-    put = spread([label.wanted for label in labels], _LINE, height - 6)
-    shown = []
-    room = int((WIDTH - right - 20) / _DIGIT)
-    for label, y in zip(labels, put):
-        name, _, tail = label.words.partition("\0")
-        leaders.append(f'<polyline points="{_number(label.right)},{_number(label.wanted)} {_number(right + 6)},{_number(label.wanted)} {_number(right + 15)},{_number(y)}" class="leader"/>')
-        name = text.fitting(name, room - len(tail) - 1 if tail else room)
-        shown.append(words_at(right + 18, y + 3.5, name, label.sort, tail))
-    axis, last = [], -99.0
-    for border in borders:
-        if at[border] - last >= 10.5:
-            axis.append(words_at(left - 2, at[border] + 3, ladder.place(border), "place"))
-            axis.append(line(left, at[border], first, at[border], "tick"))
-            last = at[border]
-    heads = [words_at(first + _COLUMN * number, top - 7, title, "head") for number, title in enumerate(ladder.columns)]
-    inside = "\n".join([*_strip(ladder), *heads, *leaders, *shapes, *axis, *shown])
-    return _framed(ladder, height, inside)
+    drawing = _Drawing(ladder)
+    drawing.empty()
+    for number in range(len(ladder.columns)):
+        drawing.column(number)
+    drawing.over()
+    drawing.marks()
+    lines, names = drawing.names()
+    parts = [*_strip(ladder), *drawing.heads(), *lines, *drawing.shapes, *drawing.axis(), *names]
+    inside = _hatch(ladder.key) + "\n".join(parts)
+    return framed(ladder.key, ladder.title, ladder.about, drawing.height, ladder.key, inside)
 
 
 def _strip(ladder: Ladder) -> list[str]:
     """All of the file in a row, to scale."""
-    if not ladder.strip:
+    size = ladder.strip
+    if not size:
         return []
-    shapes = [words_at(0, 10, "to scale: 0", "head"), words_at(WIDTH, 10, text.of(ladder.strip, "byte"), "head end")]
+    shapes = [words_at(0, 10, "to scale, from 0", "head"), words_at(WIDTH, 10, text.of(size, "byte"), "head end")]
     shapes.append(rectangle(0, 15, WIDTH, 14, "gap"))
     for run in sorted(ladder.runs, key=lambda run: run.start - run.end):
-        start, end = min(run.start, ladder.strip), min(run.end, ladder.strip)
+        start, end = min(run.start, size), min(run.end, size)
         if end > start:
-            x = WIDTH * start / ladder.strip
-            shapes.append(rectangle(min(x, WIDTH - 0.8), 15, WIDTH * (end - start) / ladder.strip, 14, f"bare {run.kind}"))
+            left = min(WIDTH * start / size, WIDTH - 0.8)
+            shapes.append(rectangle(left, 15, WIDTH * (end - start) / size, 14, f"bare {run.kind}"))
     return shapes
 
 
-def _framed(ladder: Ladder, height: float, inside: str) -> str:
-    key = ladder.key
+def _hatch(key: str) -> str:
+    """What fills the places where more than one thing lies."""
+    shape = 'width="6" height="6" patternUnits="userSpaceOnUse" patternTransform="rotate(45)"'
+    inside = '<rect width="6" height="6" class="hatch-ground"/><rect width="2.2" height="6" class="hatch-line"/>'
+    return f'<defs><pattern id="{key}-hatch" {shape}>{inside}</pattern></defs>\n'
+
+
+def framed(key: str, title: str, about: str, height: float, sort: str, inside: str) -> str:
+    """A picture with its title and what it tells in words, for those who don't see it."""
+    names = f'role="img" aria-labelledby="{key}-title {key}-about"'
     return (
-        f'<svg viewBox="0 0 {WIDTH} {_number(height)}" role="img" aria-labelledby="{key}-title {key}-about" class="picture {key}">\n'
-        f'<title id="{key}-title">{escaped(ladder.title)}</title>\n<desc id="{key}-about">{escaped(ladder.about)}</desc>\n'
-        f'<defs><pattern id="{key}-hatch" width="6" height="6" patternUnits="userSpaceOnUse" patternTransform="rotate(45)">'
-        f'<rect width="6" height="6" class="hatch-ground"/><rect width="2.2" height="6" class="hatch-line"/></pattern></defs>\n'
+        f'<svg viewBox="0 0 {WIDTH} {_number(height)}" {names} class="picture {sort}">\n'
+        f'<title id="{key}-title">{escaped(title)}</title>\n'
+        f'<desc id="{key}-about">{escaped(about)}</desc>\n'
         f"{inside}\n</svg>"
     )

@@ -28,7 +28,11 @@ def _environment() -> Any:
     except ImportError:
         raise NoJinja from None
     return Environment(
-        loader=FileSystemLoader(_TEMPLATES), autoescape=True, undefined=StrictUndefined, trim_blocks=True, lstrip_blocks=True
+        loader=FileSystemLoader(_TEMPLATES),
+        autoescape=True,
+        undefined=StrictUndefined,
+        trim_blocks=True,
+        lstrip_blocks=True,
     )
 
 
@@ -55,13 +59,17 @@ def rendered(template: str, columns: dict[str, list[str]], values: dict[str, Any
     environment = _environment()
     style = (_TEMPLATES / "style.css").read_text("utf-8") + _narrow(columns)
     script = (_TEMPLATES / "sort.js").read_text("utf-8")
-    policy = f"default-src 'none'; style-src {_hash(style)}; script-src {_hash(script)}; base-uri 'none'; form-action 'none'"
-    made = environment.get_template(template).render(style=style, script=script, policy=policy, version=__version__, **values)
+    policy = (
+        f"default-src 'none'; style-src {_hash(style)}; script-src {_hash(script)}; base-uri 'none'; form-action 'none'"
+    )
+    made = environment.get_template(template).render(
+        style=style, script=script, policy=policy, version=__version__, **values
+    )
     return str(made)
 
 
 def page_of(dump: Dump, name: str, size: int, most: int) -> tuple[str, Reading]:
-    """The page of a dump whose file has this name and size, and what was read of it. A table has at most so many rows."""
+    """The page of a dump whose file has this name and size, with at most so many rows a table, and what was read."""
     reading = Reading(dump, size, most)
     spans = list(places.in_file(reading))
     listed = list(tables.all_tables(reading)) if reading.header and not reading.is_too_long else []

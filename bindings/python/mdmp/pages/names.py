@@ -115,6 +115,12 @@ EXCEPTION_CODES = {
 # PROCESSOR_ARCHITECTURE_ of winnt.h
 ARCHITECTURES = {0: "x86", 5: "ARM", 6: "IA-64", 9: "x64", 12: "ARM64"}
 
+# PlatformId: VER_PLATFORM_WIN32_NT of winnt.h, and the numbers that Breakpad and Crashpad take
+PLATFORMS = {2: "Windows", 0x8101: "macOS", 0x8102: "iOS", 0x8201: "Linux", 0x8203: "Android"}
+# Signals of Linux, which are the codes of exceptions there
+_OF_SIGNALS = (0x8201, 0x8203)
+_SIGNALS = {4: "SIGILL", 5: "SIGTRAP", 6: "SIGABRT", 7: "SIGBUS", 8: "SIGFPE", 11: "SIGSEGV", 31: "SIGSYS"}
+
 _PROTECTIONS = {
     0x01: "PAGE_NOACCESS",
     0x02: "PAGE_READONLY",
@@ -137,9 +143,9 @@ def stream_type(number: int) -> str:
     return STREAM_TYPES.get(number, f"{number:#x}")
 
 
-def exception_code(number: int) -> str:
-    """The name of an exception's code behind its number, where winnt.h has one."""
-    name = EXCEPTION_CODES.get(number)
+def exception_code(number: int, platform: int | None = None) -> str:
+    """The name of an exception's code behind its number, where winnt.h has one, or of a signal of the platform."""
+    name = (_SIGNALS if platform in _OF_SIGNALS else EXCEPTION_CODES).get(number)
     return f"{number:#010x} {name}" if name else f"{number:#010x}"
 
 

@@ -25,7 +25,11 @@ class Picture(NamedTuple):
 
 def _key(found: list[Run], kinds: Kinds, is_over: bool, is_gap: bool) -> list[tuple[str, str]]:
     used = {run.kind for run in found}
-    key = [(kind, words[2] if kind not in ("header", "directory") else words[1]) for kind, words in kinds.items() if kind in used]
+    key = [
+        (kind, words[2] if kind not in ("header", "directory") else words[1])
+        for kind, words in kinds.items()
+        if kind in used
+    ]
     return key + ([("over", "more than one thing")] if is_over else []) + ([("gap", "nothing")] if is_gap else [])
 
 
@@ -55,10 +59,19 @@ def of_file(reading: Reading, spans: list[Span]) -> Picture:
     if behind:
         about.append(f"{text.of(behind, 'thing')} would end behind the file's end.")
     words = " ".join(about)
-    marks = [(0, "first byte", "plain"), (reading.size, "end of the file", "end")]
     ladder = Ladder(
-        "file", "The file, from its first byte to its last", words, ["streams", "parts", "names"], FILE_KINDS, found, str,
-        lambda run: f"{run.end - run.start}@{run.start}", joined(over, _MOST_OVER), gaps, marks[1:], reading.size,
+        key="file",
+        title="The file, from its first byte to its last",
+        about=words,
+        columns=["streams", "parts", "names"],
+        kinds=FILE_KINDS,
+        runs=found,
+        place=str,
+        tail=lambda run: f"{run.end - run.start}@{run.start}",
+        over=joined(over, _MOST_OVER),
+        gaps=gaps,
+        marks=[(reading.size, "end of the file", "end")],
+        strip=reading.size,
     )
     return Picture(draw(ladder), words, _key(found, FILE_KINDS, bool(over), bool(gaps)))
 
@@ -70,12 +83,22 @@ def of_memory(reading: Reading) -> Picture:
     over = places.over_another([span for span in spans if span.kind == "module"])
     found = runs(spans, _MOST, ADDRESS_KINDS, lambda span: places.label_in_memory(reading, span))
     marks = [(row.exception_address, "address of the exception", "crash") for row in reading.exceptions.raw(3)]
-    words = f"{_counted(spans, ADDRESS_KINDS)}. {_over_words(over).replace('thing', 'module') if over else 'No module lies over another.'}"
+    told = _over_words(over).replace("thing", "module") if over else "No module lies over another."
+    words = f"{_counted(spans, ADDRESS_KINDS)}. {told}"
     ladder = Ladder(
-        "memory", "Memory of the process, from low addresses to high", words, ["modules", "stacks", "ranges"], ADDRESS_KINDS, found,
-        text.address, lambda run: text.about(run.end - run.start), joined(over, _MOST_OVER), [], marks,
+        key="memory",
+        title="Memory of the process, from low addresses to high",
+        about=words,
+        columns=["modules", "stacks", "ranges"],
+        kinds=ADDRESS_KINDS,
+        runs=found,
+        place=text.address,
+        tail=lambda run: text.about(run.end - run.start),
+        over=joined(over, _MOST_OVER),
+        over_columns=1,
+        marks=marks,
     )
-    return Picture(draw(ladder) if found else "", words, _key(found, ADDRESS_KINDS, bool(over), bool(found)))
+    return Picture(draw(ladder), words, _key(found, ADDRESS_KINDS, bool(over), bool(found)))
 
 
 def over_table(reading: Reading, spans: list[Span]) -> tables.Table:
@@ -86,8 +109,15 @@ def over_table(reading: Reading, spans: list[Span]) -> tables.Table:
     for first, second in found[: reading.most]:
         size = min(first.end, second.end) - second.start
         rows.append(tables.Row([label(first), label(second), text.grouped(second.start), text.grouped(size)], "bad"))
-    columns = [tables.Column("What"), tables.Column("What lies over it"), tables.Column("From", "number"), tables.Column("Bytes", "number")]
-    table = tables.Table("over", "What lies over what", columns, rows, len(rows), empty="Nothing in the file lies over anything else.")
+    columns = [
+        tables.Column("What"),
+        tables.Column("What lies over it"),
+        tables.Column("From", "number"),
+        tables.Column("Bytes", "number"),
+    ]
+    table = tables.Table(
+        "over", "What lies over what", columns, rows, len(rows), empty="Nothing in the file lies over anything else."
+    )
     if len(found) > reading.most:
         table.note = f"These are the first {text.grouped(reading.most)}, in the order of the file: there are more."
     return table

@@ -121,7 +121,11 @@ def label_in_file(reading: Reading, span: Span) -> str:
         return f"name “{_name_text(reading, span)}”"
     if span.kind in ("stack", "context"):
         word = "stack" if span.kind == "stack" else "registers"
-        return f"{word} of thread {next_raw(reading.threads, span.which).thread_id}" if span.which >= 0 else "registers as it crashed"
+        return (
+            f"{word} of thread {next_raw(reading.threads, span.which).thread_id}"
+            if span.which >= 0
+            else "registers as it crashed"
+        )
     return f"{FILE_KINDS[span.kind][1]} {span.which}"
 
 
@@ -130,7 +134,9 @@ def label_in_memory(reading: Reading, span: Span) -> str:
     if span.kind in ("module", "unloaded"):
         listing = reading.modules if span.kind == "module" else reading.unloaded
         name = listing.record(span.which).name
-        return ("unloaded " if span.kind == "unloaded" else "") + (text.visible(text.last_part(name)[:200]) if name else f"module {span.which}")
+        return ("unloaded " if span.kind == "unloaded" else "") + (
+            text.visible(text.last_part(name)[:200]) if name else f"module {span.which}"
+        )
     if span.kind == "stack":
         return f"stack of thread {next_raw(reading.threads, span.which).thread_id}"
     return f"range {span.which} in the file"

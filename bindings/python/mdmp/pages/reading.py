@@ -65,7 +65,7 @@ class Reading:
     """A dump that is read for a page."""
 
     def __init__(self, dump: Dump, size: int, most: int, of_crashes: bool = False) -> None:
-        """`size` is the file's, and `most` how many rows a table shows. Of crashes alone only what tells of them is read."""
+        """`size` is the file's, `most` how many rows a table shows. Of crashes only what tells of them is read."""
         self.dump, self.size, self.most = dump, size, most
         self.header: Header | None = None
         self.fault: Fault | None = None

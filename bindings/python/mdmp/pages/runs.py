@@ -44,8 +44,8 @@ def _nearer(groups: list[_Group], distance: int) -> list[_Group]:
 
 
 def runs(spans: list[Span], most: int, kinds: Kinds, label: Callable[[Span], str]) -> list[Run]:
-    """The spans as at most so many runs, or one for each kind. The kind that has the most is joined first: what touches,
-    and then what is ever farther apart."""
+    """The spans as at most so many runs, or one for each kind. The kind that has the most is joined first: what
+    touches, and then what is ever farther apart."""
     of_kind: dict[str, list[Span]] = {kind: [] for kind in kinds}
     for span in spans:
         if span.end > span.start:

@@ -93,10 +93,30 @@ def verdicts(reading: Reading) -> Table:
     for at in sorted(shown):
         stream, fault = reading.streams.record(at), reading.verdict(at)
         words = told(fault) or ("unused" if stream.stream_type == 0 else "good")
-        cells = [str(at), names.stream_type(stream.stream_type), text.grouped(stream.rva), text.grouped(stream.size), words]
+        cells = [
+            str(at),
+            names.stream_type(stream.stream_type),
+            text.grouped(stream.rva),
+            text.grouped(stream.size),
+            words,
+        ]
         rows.append(Row(cells, "bad" if fault else ""))
-    columns = [Column("Entry", NUMBER), Column("Stream", WORDS), Column("Offset", NUMBER), Column("Bytes", NUMBER), Column("Verdict")]
-    return Table("verdicts", "Verdicts", columns, rows, len(reading.streams), empty="The directory has no entries.", what="entries")
+    columns = [
+        Column("Entry", NUMBER),
+        Column("Stream", WORDS),
+        Column("Offset", NUMBER),
+        Column("Bytes", NUMBER),
+        Column("Verdict"),
+    ]
+    return Table(
+        "verdicts",
+        "Verdicts",
+        columns,
+        rows,
+        len(reading.streams),
+        empty="The directory has no entries.",
+        what="entries",
+    )
 
 
 def threads(reading: Reading) -> Table:
@@ -105,13 +125,26 @@ def threads(reading: Reading) -> Table:
     for row in reading.threads.records(reading.most):
         stack = text.address(row.stack_start)
         cells = [
-            str(row.index), str(row.thread_id), text.name(row.name) if row.name is not None else "", str(row.suspend_count),
-            f"{row.priority_class} / {row.priority}", text.address(row.teb), stack, place(row.stack), place(row.context),
+            str(row.index),
+            str(row.thread_id),
+            text.name(row.name) if row.name is not None else "",
+            str(row.suspend_count),
+            f"{row.priority_class} / {row.priority}",
+            text.address(row.teb),
+            stack,
+            place(row.stack),
+            place(row.context),
         ]
         rows.append(Row(cells, "crash" if row.thread_id in crashed else ""))
     columns = [
-        Column("Number", NUMBER), Column("Thread id", NUMBER), Column("Name"), Column("Suspended", NUMBER),
-        Column("Class / priority", NUMBER), Column("Teb", ADDRESS), Column("Stack from", ADDRESS), Column("Stack in the file"),
+        Column("Number", NUMBER),
+        Column("Thread id", NUMBER),
+        Column("Name"),
+        Column("Suspended", NUMBER),
+        Column("Class / priority", NUMBER),
+        Column("Teb", ADDRESS),
+        Column("Stack from", ADDRESS),
+        Column("Stack in the file"),
         Column("Registers in the file"),
     ]
     return _table("threads", "Threads", columns, rows, reading.threads, "The file lists no threads.", "threads")
@@ -125,13 +158,25 @@ def modules(reading: Reading) -> Table:
         symbols = row.symbols
         file = text.name(symbols.name.decode("utf-8", "replace")) if symbols and symbols.kind == SymbolKind.RSDS else ""
         cells = [
-            str(row.index), text.name(row.name), text.address(row.base_of_image), text.grouped(row.size_of_image),
-            str(row.file_version), str(row.product_version), debug_id(symbols), file,
+            str(row.index),
+            text.name(row.name),
+            text.address(row.base_of_image),
+            text.grouped(row.size_of_image),
+            str(row.file_version),
+            str(row.product_version),
+            debug_id(symbols),
+            file,
         ]
         rows.append(Row(cells, "crash" if is_held else ""))
     columns = [
-        Column("Number", NUMBER), Column("Name"), Column("Base", ADDRESS), Column("Bytes", NUMBER), Column("Version"),
-        Column("Product version"), Column("Debug id", ADDRESS), Column("Symbol file"),
+        Column("Number", NUMBER),
+        Column("Name"),
+        Column("Base", ADDRESS),
+        Column("Bytes", NUMBER),
+        Column("Version"),
+        Column("Product version"),
+        Column("Debug id", ADDRESS),
+        Column("Symbol file"),
     ]
     return _table("modules", "Modules", columns, rows, reading.modules, "The file lists no modules.", "modules")
 
@@ -158,8 +203,22 @@ def protections(reading: Reading) -> Table:
         state, protect, kind = key
         words = [names.state(state), names.protection(protect), names.memory_type(kind)]
         rows.append(Row([*words, text.grouped(counts[key]), text.grouped(size)]))
-    columns = [Column("State"), Column("Protection"), Column("Type"), Column("Regions", NUMBER), Column("Bytes", NUMBER)]
-    table = _table("protections", "Memory by protection", columns, rows, reading.regions, "The file lists no regions of memory.", "kinds")
+    columns = [
+        Column("State"),
+        Column("Protection"),
+        Column("Type"),
+        Column("Regions", NUMBER),
+        Column("Bytes", NUMBER),
+    ]
+    table = _table(
+        "protections",
+        "Memory by protection",
+        columns,
+        rows,
+        reading.regions,
+        "The file lists no regions of memory.",
+        "kinds",
+    )
     table.count = len(sizes)
     return table
 
@@ -170,9 +229,22 @@ def regions(reading: Reading) -> Table:
         words = [names.state(row.state), names.protection(row.protect), names.memory_type(row.memory_type)]
         rows.append(Row([str(row.index), text.address(row.base_address), text.grouped(row.region_size), *words]))
     columns = [
-        Column("Number", NUMBER), Column("Base", ADDRESS), Column("Bytes", NUMBER), Column("State"), Column("Protection"), Column("Type"),
+        Column("Number", NUMBER),
+        Column("Base", ADDRESS),
+        Column("Bytes", NUMBER),
+        Column("State"),
+        Column("Protection"),
+        Column("Type"),
     ]
-    return _table("regions", "Regions of memory", columns, rows, reading.regions, "The file lists no regions of memory.", "regions")
+    return _table(
+        "regions",
+        "Regions of memory",
+        columns,
+        rows,
+        reading.regions,
+        "The file lists no regions of memory.",
+        "regions",
+    )
 
 
 def ranges(reading: Reading) -> Table:
@@ -180,20 +252,41 @@ def ranges(reading: Reading) -> Table:
     rows = []
     for row in reading.ranges.records(reading.most):
         words = row.extent.name.lower()
-        cells = [str(row.index), str(row.entry), text.address(row.start), text.grouped(row.size), text.grouped(row.offset), words]
+        cells = [
+            str(row.index),
+            str(row.entry),
+            text.address(row.start),
+            text.grouped(row.size),
+            text.grouped(row.offset),
+            words,
+        ]
         rows.append(Row(cells, "bad" if row.extent == Extent.OUTSIDE else ""))
     held = sum(row.size for row in reading.ranges.raw() if row.extent == Extent.INSIDE)
     columns = [
-        Column("Number", NUMBER), Column("Entry", NUMBER), Column("From", ADDRESS), Column("Bytes", NUMBER), Column("Offset", NUMBER),
+        Column("Number", NUMBER),
+        Column("Entry", NUMBER),
+        Column("From", ADDRESS),
+        Column("Bytes", NUMBER),
+        Column("Offset", NUMBER),
         Column("In the file"),
     ]
-    table = _table("ranges", "Ranges of memory", columns, rows, reading.ranges, "The file holds no memory of the process.", "ranges")
+    table = _table(
+        "ranges",
+        "Ranges of memory",
+        columns,
+        rows,
+        reading.ranges,
+        "The file holds no memory of the process.",
+        "ranges",
+    )
     if len(reading.ranges):
         table.note = f"The file has {text.in_units(held)} of {text.of(len(reading.ranges), 'range')}."
     return table
 
 
-def _table(key: str, title: str, columns: list[Column], rows: list[Row], listing: Listing, empty: str, what: str) -> Table:
+def _table(
+    key: str, title: str, columns: list[Column], rows: list[Row], listing: Listing, empty: str, what: str
+) -> Table:
     return Table(key, title, columns, rows, listing.count, told(listing.fault), "", empty, what)
 
 
