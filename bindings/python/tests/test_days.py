@@ -74,6 +74,7 @@ class Days(unittest.TestCase):
         os.mkfifo(self.folder / "pipe.dmp")
         os.symlink(self.folder, self.folder / "again")
         os.symlink("nowhere", self.folder / "lost.dmp")
+        os.symlink("self.dmp", self.folder / "self.dmp")
         self.assertEqual(list(counting.dumps_in(str(self.folder))), [str(self.folder / "good.dmp")])
 
     def test_file_that_is_gone(self) -> None:

@@ -135,14 +135,19 @@ def dumps_in(folder: str) -> Iterator[str]:
     waiting = [folder]
     while waiting:
         try:
-            with os.scandir(waiting.pop()) as entries:
-                for entry in entries:
-                    if entry.is_dir(follow_symlinks=False):
-                        waiting.append(entry.path)
-                    elif entry.name.lower().endswith(ENDINGS) and entry.is_file():
-                        yield entry.path
+            entries = os.scandir(waiting.pop())
         except OSError:
             continue  # it was removed, or it may not be looked into
+        for entry in entries:
+            try:
+                is_folder = entry.is_dir(follow_symlinks=False)
+                is_dump = not is_folder and entry.name.lower().endswith(ENDINGS) and entry.is_file()
+            except OSError:
+                continue  # a link to itself
+            if is_folder:
+                waiting.append(entry.path)
+            elif is_dump:
+                yield entry.path
 
 
 def _chunks(paths: Iterator[str]) -> Iterator[list[str]]:
