@@ -13,6 +13,7 @@ import sys
 import tempfile
 import unittest
 import xml.etree.ElementTree
+from unittest import mock
 
 import mdmp
 from mdmp.pages import crash, names, pictures, places, tables, text
@@ -160,6 +161,13 @@ class Places(unittest.TestCase):
             self.assertEqual(given, bytes_over, spans)
             free = [at for at in range(30) if not any(start <= at < end for start, end in distinct)]
             self.assertEqual([at for start, end in places.gaps(spans, 30) for at in range(start, end)], free)
+
+    def test_what_is_not_drawn_is_told(self) -> None:
+        reading = read(made.many_modules(30))
+        self.assertEqual(places.not_drawn(reading), "")
+        with mock.patch.object(places, "DRAWN", 20):
+            self.assertEqual(places.not_drawn(reading), " Of 30 modules the first 20 are drawn.")
+            self.assertEqual(sum(span.kind == "name" for span in places.in_file(reading)), 20)
 
     def test_runs(self) -> None:
         spans = [Span(at * 100, at * 100 + 10, "name", at) for at in range(1000)] + [Span(5, 6, "stream", 0)]

@@ -22,6 +22,7 @@ _LONGEST = 1100
 _COLUMN = 42
 _DIGIT = 6.05  # of the font of one width that the style gives to labels
 _NARROW = 5.45  # and to the places
+_SHORTEST = 14  # so many letters of a name have room before what stands behind it
 _GAPS = 6  # so many stretches of nothing are told of
 
 
@@ -226,8 +227,9 @@ class _Drawing:
             points = [(label.right, label.wanted), (self.right + 6, label.wanted), (self.right + 15, height)]
             joined = " ".join(f"{_number(across)},{_number(down)}" for across, down in points)
             lines.append(f'<polyline points="{joined}" class="leader"/>')
-            words = text.fitting(label.words, room - len(label.tail) - 1 if label.tail else room)
-            shown.append(words_at(self.right + 18, height + 3.5, words, label.sort, label.tail))
+            tail = label.tail if len(label.tail) + _SHORTEST <= room else ""
+            words = text.fitting(label.words, room - len(tail) - 1 if tail else room)
+            shown.append(words_at(self.right + 18, height + 3.5, words, label.sort, tail))
         return lines, shown
 
     def heads(self) -> list[str]:

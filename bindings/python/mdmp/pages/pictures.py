@@ -58,7 +58,7 @@ def of_file(reading: Reading, spans: list[Span]) -> Picture:
     behind = sum(span.end > reading.size for span in spans)
     if behind:
         about.append(f"{text.of(behind, 'thing')} would end behind the file's end.")
-    words = " ".join(about)
+    words = " ".join(about) + places.not_drawn(reading)
     ladder = Ladder(
         key="file",
         title="The file, from its first byte to its last",
@@ -84,7 +84,7 @@ def of_memory(reading: Reading) -> Picture:
     found = runs(spans, _MOST, ADDRESS_KINDS, lambda span: places.label_in_memory(reading, span))
     marks = [(row.exception_address, "address of the exception", "crash") for row in reading.exceptions.raw(3)]
     told = _over_words(over).replace("thing", "module") if over else "No module lies over another."
-    words = f"{_counted(spans, ADDRESS_KINDS)}. {told}"
+    words = f"{_counted(spans, ADDRESS_KINDS)}. {told}{places.not_drawn(reading)}"
     ladder = Ladder(
         key="memory",
         title="Memory of the process, from low addresses to high",

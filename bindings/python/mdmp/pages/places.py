@@ -111,6 +111,21 @@ def in_memory(reading: Reading) -> Iterator[Span]:
             yield _addresses(row.start, row.size, "range", at)
 
 
+def not_drawn(reading: Reading) -> str:
+    """Of which lists only the first records are drawn, in a sentence."""
+    lists = {
+        "entries": reading.streams,
+        "threads": reading.threads,
+        "modules": reading.modules,
+        "unloaded modules": reading.unloaded,
+        "exceptions": reading.exceptions,
+        "names of threads": reading.thread_names,
+        "ranges": reading.ranges,
+    }
+    told = [f"{text.grouped(len(listing))} {name}" for name, listing in lists.items() if len(listing) > DRAWN]
+    return f" Of {', '.join(told)} the first {text.grouped(DRAWN)} are drawn." if told else ""
+
+
 def label_in_file(reading: Reading, span: Span) -> str:
     """What a span of the file is."""
     if span.kind in ("header", "directory"):
