@@ -117,7 +117,7 @@ class Days(unittest.TestCase):
         picture = bars.draw("key", "A title", [(made.MARKUP, 3), ("two", 1)], 4)
         root = xml.etree.ElementTree.fromstring(picture)
         widths = [float(part.attrib["width"]) for part in root.iter("rect") if part.attrib["class"] == "bar"]
-        self.assertEqual(widths, [480.0, 160.0])
+        self.assertEqual(widths, [440.0, 146.7])
         self.assertIn("3 (75.0%)", "".join(root.itertext()))
         self.assertNotIn("<img", picture)
         self.assertEqual(bars.draw("key", "A title", [], 0), "")

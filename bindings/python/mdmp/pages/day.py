@@ -145,7 +145,7 @@ class Day:
                 "builds",
                 "By build",
                 "Each exception, by the version and debug id of the module that holds its address.",
-                [Column("Module"), Column("Version"), Column("Debug id", "address")],
+                [Column("Module"), Column("Version", "one-line"), Column("Debug id", "address")],
                 counted.builds,
                 lambda build: [module(build.module), build.version, build.debug_id],
                 build_words,

@@ -15,11 +15,11 @@ from . import text
 from .places import Run
 from .runs import Kinds
 
-WIDTH = 480
+WIDTH = 440
 _TOP = 22
 _LINE = 13.5
 _LONGEST = 1100
-_COLUMN = 42
+_COLUMN = 36
 _DIGIT = 6.05  # of the font of one width that the style gives to labels
 _NARROW = 5.45  # and to the places
 _SHORTEST = 14  # so many letters of a name have room before what stands behind it

@@ -13,6 +13,7 @@ from .runs import Kinds, joined, runs
 # So many things are drawn, and so many stretches over one another: names beside them have room.
 _MOST = 44
 _MOST_OVER = 10
+_IN_KEY = {"ranges": "ranges whose bytes the file has"}
 
 
 class Picture(NamedTuple):
@@ -30,6 +31,7 @@ def _key(found: list[Run], kinds: Kinds, is_over: bool, is_gap: bool) -> list[tu
         for kind, words in kinds.items()
         if kind in used
     ]
+    key = [(kind, _IN_KEY.get(words, words)) for kind, words in key]
     return key + ([("over", "more than one thing")] if is_over else []) + ([("gap", "nothing")] if is_gap else [])
 
 

@@ -47,7 +47,7 @@ ADDRESS_KINDS = {
     "module": (0, "module", "modules"),
     "unloaded": (0, "unloaded module", "unloaded modules"),
     "stack": (1, "stack of a thread", "stacks of threads"),
-    "range": (2, "range in the file", "ranges in the file"),
+    "range": (2, "range", "ranges"),
 }
 
 
@@ -154,7 +154,7 @@ def label_in_memory(reading: Reading, span: Span) -> str:
         )
     if span.kind == "stack":
         return f"stack of thread {next_raw(reading.threads, span.which).thread_id}"
-    return f"range {span.which} in the file"
+    return f"range {span.which}"
 
 
 def next_raw(listing: Any, at: int) -> Any:

@@ -19,7 +19,7 @@ def left_out(left: int, count: int, what: str) -> str:
 
 
 class Column(NamedTuple):
-    """A column: its heading, and whether its cells are numbers, addresses or words."""
+    """A column: its heading, and whether its cells are numbers, addresses, words, or words that stand in one line."""
 
     title: str
     kind: str = "words"
@@ -144,8 +144,8 @@ def threads(reading: Reading) -> Table:
         Column("Class / priority", NUMBER),
         Column("Teb", ADDRESS),
         Column("Stack from", ADDRESS),
-        Column("Stack in the file"),
-        Column("Registers in the file"),
+        Column("Stack in the file", "one-line"),
+        Column("Registers in the file", "one-line"),
     ]
     return _table("threads", "Threads", columns, rows, reading.threads, "The file lists no threads.", "threads")
 
@@ -173,8 +173,8 @@ def modules(reading: Reading) -> Table:
         Column("Name"),
         Column("Base", ADDRESS),
         Column("Bytes", NUMBER),
-        Column("Version"),
-        Column("Product version"),
+        Column("Version", "one-line"),
+        Column("Product version", "one-line"),
         Column("Debug id", ADDRESS),
         Column("Symbol file"),
     ]

@@ -21,10 +21,11 @@ def visible(text: str) -> str:
 
 def shortened(text: str, most: int = LONGEST) -> str:
     """A name that is not longer than so many characters: of a long one its first and its last."""
-    if len(text) <= most:
-        return visible(text)
+    shown = visible(text)
+    if len(shown) <= most:
+        return shown
     first = most * 2 // 3
-    return f"{visible(text[:first])} .. {visible(text[len(text) - (most - first):])} ({grouped(len(text))} characters)"
+    return f"{shown[:first]} .. {shown[first - most :]} ({grouped(len(text))} characters)"
 
 
 def name(text: str | None, most: int = LONGEST) -> str:
