@@ -130,8 +130,9 @@ class Tables(unittest.TestCase):
         data = made.many_modules(100)
         reading = read(data, budget=2000)
         self.assertIn("fetch budget reached", tables.modules(reading).fault)
-        self.assertEqual(crash.verdict(reading)[1], "bad")
-        self.assertTrue(read(data, budget=43).is_too_long)
+        self.assertEqual(crash.verdict(reading)[1], "long")
+        short = read(data, budget=43)
+        self.assertEqual((short.is_too_long, crash.verdict(short)[1], len(short.modules)), (True, "long", 0))
 
 
 class Places(unittest.TestCase):

@@ -1,8 +1,9 @@
 """The command lines for pages: python -m mdmp page FILE -o FILE.html, and python -m mdmp day FOLDER -o FILE.html
 
 The exit status is the command's: 0 good, 1 the file is at fault, and its page tells of all that stands before that, 2
-the words of the command line are, 3 no memory, no room for the page, something that is missing, or a file that can't be
-opened or made. A day's bad files are counted, and are no fault of its own.
+the words of the command line are, 3 no memory, no room for the page, something that is missing, a file that can't be
+opened or made, or a budget that is reached, behind which the page has a first part. A day's bad files are counted, and
+are no fault of its own.
 """
 
 from __future__ import annotations
@@ -54,8 +55,8 @@ def write(path: str, page: str) -> None:
         raise Trouble(f"cannot write {path}: {error.strerror}", 3) from None
 
 
-def page(arguments: argparse.Namespace) -> str:
-    """Makes the page of a dump, and tells what is wrong with the dump."""
+def page(arguments: argparse.Namespace) -> tuple[str, int]:
+    """Makes the page of a dump. Tells what is wrong with the dump, and the exit status."""
     making.check()
     try:
         if os.path.exists(arguments.out) and os.path.samefile(arguments.file, arguments.out):
@@ -67,7 +68,8 @@ def page(arguments: argparse.Namespace) -> str:
         raise Trouble(f"cannot open {arguments.file}", 3) from None
     write(arguments.out, made)
     sentence, quality = crash.verdict(read)
-    return "" if quality == "good" else sentence
+    status = {"good": 0, "bad": 1, "long": 3}[quality]
+    return sentence if status else "", status
 
 
 class Progress:
@@ -94,7 +96,7 @@ class Progress:
             self._bar.close()
 
 
-def day(arguments: argparse.Namespace) -> str:
+def day(arguments: argparse.Namespace) -> tuple[str, int]:
     """Makes the page of many dumps."""
     making.check()
     try:
@@ -115,7 +117,7 @@ def day(arguments: argparse.Namespace) -> str:
             raise Trouble(f"cannot write {arguments.pages}: {error.strerror}", 3) from None
         progress.end()
     write(arguments.out, made.page())
-    return ""
+    return "", 0
 
 
 def parser() -> argparse.ArgumentParser:
@@ -163,9 +165,9 @@ def parser() -> argparse.ArgumentParser:
 def main() -> int:
     """Does what the command line says, and gives the exit status."""
     arguments = parser().parse_args()
+    told, status = "", 0
     try:
-        told = arguments.run(arguments)
-        status = 1 if told else 0
+        told, status = arguments.run(arguments)
     except Trouble as trouble:
         told, status = str(trouble), trouble.status
     except making.NoJinja as missing:

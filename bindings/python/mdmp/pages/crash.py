@@ -105,10 +105,18 @@ def about(reading: Reading) -> list[Fact]:
 
 
 def verdict(reading: Reading) -> tuple[str, str]:
-    """In a sentence what the whole file is, and whether that is good or bad."""
-    if reading.fault and reading.fault.kind == FaultKind.BUDGET or reading.is_too_long:
-        told = f": {reading.fault}" if reading.fault else " by its directory alone"
-        return f"The file has more than this page reads of one{told}. What stands below is a first part.", "bad"
+    """In a sentence what the whole file is, and whether that is good or bad, or too long for the budget."""
+    if reading.is_too_long and reading.header:
+        listed = text.of(reading.header.number_of_streams, "entry", "entries")
+        return (
+            f"The directory has {listed}, more than the budget of a page has room for: nothing of them is read.",
+            "long",
+        )
+    if reading.fault and reading.fault.kind == FaultKind.BUDGET:
+        return (
+            f"The file has more than the budget of a page has room for, and a first part is shown: {reading.fault}.",
+            "long",
+        )
     if reading.fault:
         return f"The file can't be read as a dump: {reading.fault}.", "bad"
     count = len(reading.streams)

@@ -51,7 +51,7 @@ def _narrow(columns: dict[str, list[str]]) -> str:
     for key, titles in columns.items():
         for at, title in enumerate(titles, 1):
             rules.append(f'  #{key} td:nth-child({at})::before {{ content: "{title}"; }}\n')
-    return f"@media screen and (max-width: 960px) {{\n{''.join(rules)}}}\n"
+    return f"@media screen and (max-width: 1040px) {{\n{''.join(rules)}}}\n"
 
 
 def rendered(template: str, columns: dict[str, list[str]], values: dict[str, Any]) -> str:
