@@ -11,17 +11,22 @@ import xml.etree.ElementTree
 from collections import Counter
 from unittest import mock
 
-from mdmp.pages import bars, command, counting
+from mdmp.pages import bars, command, counting, day
 from mdmp.pages.counting import Build, Counted, Crash
 from mdmp.pages.day import Day
 
 from . import made
 
 
-def dies(paths: list[str], budget: int) -> Counted:
+def dies(*_: object) -> str:
+    """Makes no page."""
+    os._exit(9)
+
+
+def may_die(paths: list[str], budget: int) -> Counted:
     """Counts as `count` does, and dies of a file of one name."""
     if any("deadly" in path for path in paths):
-        os._exit(9)
+        dies()
     return counting.Counted(dumps=len(paths), verdicts=Counter({"good": len(paths)}))
 
 
@@ -86,7 +91,7 @@ class Days(unittest.TestCase):
         for number in range(230):
             self.put(f"{number}.dmp", b"")
         self.put("deadly.dmp", b"")
-        with mock.patch.object(counting, "count", dies):
+        with mock.patch.object(counting, "count", may_die):
             counted = counting.count_all(str(self.folder), 2)
         self.assertEqual((counted.dumps, counted.verdicts), (231, {"good": 230, "its reader died": 1}))
         self.assertEqual(list(counted.bad), [str(self.folder / "deadly.dmp")])
@@ -102,16 +107,24 @@ class Days(unittest.TestCase):
 
     def test_groups_of_the_page(self) -> None:
         self.put_some()
-        day = Day(counting.count_all(str(self.folder), 1), str(self.folder), most=1)
-        groups = {group.key: group for group in day.groups()}
+        page = Day(counting.count_all(str(self.folder), 1), str(self.folder), most=1)
+        groups = {group.key: group for group in page.groups()}
         self.assertEqual(groups["places"].rows[0][0], ["0xc0000005 STATUS_ACCESS_VIOLATION", "one.dll", "0x1234", "7"])
         self.assertEqual(groups["places"].rows[0][1].path, "deep/er/0.dmp")
         self.assertEqual(groups["places"].left_out, "Left out of this table: 1 of 2 groups.")
         self.assertEqual(
-            [(len(day.bad_group().rows), day.bad_group().left_out)], [(1, "Left out of this table: 1 of 2 bad files.")]
+            [(len(page.bad_group().rows), page.bad_group().left_out)],
+            [(1, "Left out of this table: 1 of 2 bad files.")],
         )
-        names = {os.path.basename(path) for path in day.examples()}
+        names = {os.path.basename(path) for path in page.examples()}
         self.assertEqual(names, {"0.dmp", "a.DMP", "b.mdmp"})  # the first of the first groups, and of the bad files
+
+    def test_page_whose_process_dies(self) -> None:
+        self.put_some()
+        page = Day(counting.count_all(str(self.folder), 1), str(self.folder), most=9)
+        with mock.patch.object(day, "make_page", dies):
+            day.make_pages(page, str(self.folder / "pages"), str(self.folder / "day.html"), 1)
+        self.assertEqual(page.links, {})
 
     def test_bars(self) -> None:
         picture = bars.draw("key", "A title", [(made.MARKUP, 3), ("two", 1)], 4)

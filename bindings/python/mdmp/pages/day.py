@@ -209,7 +209,10 @@ def make_pages(
                 for letter in os.path.basename(path)
             )
             page = os.path.join(folder, f"{number:05}-{name[:80]}.html")
-            running.append((path, pool.submit(make_page, path, page, day.most, budget)))
+            try:
+                running.append((path, pool.submit(make_page, path, page, day.most, budget)))
+            except BrokenProcessPool:
+                break  # a process died: what is left has no page
         for path, future in running:
             try:
                 page = future.result()
