@@ -39,8 +39,10 @@ install: $(PROGRAM)
 	install -D -m 644 completions/mdmp.bash $(TO)/$(BASH)
 	install -D -m 644 completions/_mdmp $(TO)/$(ZSH_PLACE)
 	install -D -m 644 completions/mdmp.fish $(TO)/$(FISH)
-	install -d $(DESTDIR)$(PYTHONDIR)/mdmp
+	install -d $(DESTDIR)$(PYTHONDIR)/mdmp/pages/templates
 	install -m 644 bindings/python/mdmp/*.py bindings/python/mdmp/py.typed $(DESTDIR)$(PYTHONDIR)/mdmp/
+	install -m 644 bindings/python/mdmp/pages/*.py $(DESTDIR)$(PYTHONDIR)/mdmp/pages/
+	install -m 644 bindings/python/mdmp/pages/templates/* $(DESTDIR)$(PYTHONDIR)/mdmp/pages/templates/
 	PREFIX="$(PREFIX)" LIBDIR="$(LIBDIR)" DESTDIR="$(DESTDIR)" bindings/install
 
 uninstall:

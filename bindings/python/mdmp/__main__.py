@@ -1,5 +1,7 @@
 """Prints what `mdmp list FILE` prints, or `mdmp check FILE`: python -m mdmp FILE [--pdb | --check]
 
+With a first word `page` or `day` it makes a page to look at instead (docs/PAGES.md); a file of such a name is `./page`.
+
 The exit status is the command's: 0 good, 1 the file is at fault, 2 the words of the command line are, 3 no memory, no
 room for the output, a budget that is reached, or a file that can't be opened.
 """
@@ -51,6 +53,10 @@ def status_of(arguments: argparse.Namespace) -> int:
 
 
 def main() -> int:
+    if sys.argv[1:2] in (["page"], ["day"]):
+        from mdmp.pages import command
+
+        return command.main()
     words = argparse.ArgumentParser(prog="python -m mdmp", description="Prints what a minidump file has.")
     words.add_argument("file", metavar="FILE")
     which = words.add_mutually_exclusive_group()

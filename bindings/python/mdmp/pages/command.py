@@ -1,0 +1,179 @@
+"""The command lines for pages: python -m mdmp page FILE -o FILE.html, and python -m mdmp day FOLDER -o FILE.html
+
+The exit status is the command's: 0 good, 1 the file is at fault, and its page tells of all that stands before that, 2
+the words of the command line are, 3 no memory, no room for the page, something that is missing, a file that can't be
+opened or made, or a budget that is reached, behind which the page has a first part. A day's bad files are counted, and
+are no fault of its own.
+"""
+
+from __future__ import annotations
+
+import argparse
+import os
+import sys
+import tempfile
+from typing import Any, Callable
+
+from .. import _dump
+from . import counting, crash, making, reading
+from . import day as day_page
+
+
+class Trouble(Exception):
+    """What is wrong, in a line, and the exit status."""
+
+    def __init__(self, line: str, status: int) -> None:
+        super().__init__(line)
+        self.status = status
+
+
+def number(words: str) -> int:
+    """A number of the command line, which is not 0."""
+    if not words.isascii() or not words.isdigit() or int(words) == 0:
+        raise argparse.ArgumentTypeError(f"{words} is no number above 0")
+    return int(words)
+
+
+def write(path: str, page: str) -> None:
+    """Writes a page, all of it or none."""
+    folder = os.path.dirname(os.path.abspath(path))
+    try:
+        with tempfile.NamedTemporaryFile(
+            "w", encoding="utf-8", dir=folder, prefix=".mdmp-", suffix=".html", delete=False
+        ) as made:
+            try:
+                made.write(page)
+                made.flush()
+                mask = os.umask(0)
+                os.umask(mask)
+                os.chmod(made.name, 0o666 & ~mask)
+                os.replace(made.name, path)
+            except BaseException:
+                os.unlink(made.name)
+                raise
+    except OSError as error:
+        raise Trouble(f"cannot write {path}: {error.strerror}", 3) from None
+
+
+def page(arguments: argparse.Namespace) -> tuple[str, int]:
+    """Makes the page of a dump. Tells what is wrong with the dump, and the exit status."""
+    making.check()
+    try:
+        if os.path.exists(arguments.out) and os.path.samefile(arguments.file, arguments.out):
+            raise Trouble("the page would take the place of the dump", 2)
+        size = os.stat(arguments.file).st_size
+        with _dump.open(arguments.file, budget=arguments.budget) as dump:
+            made, read = making.page_of(dump, os.path.basename(arguments.file), size, arguments.rows)
+    except (OSError, ValueError):
+        raise Trouble(f"cannot open {arguments.file}", 3) from None
+    write(arguments.out, made)
+    sentence, quality = crash.verdict(read)
+    status = {"good": 0, "bad": 1, "long": 3}[quality]
+    return sentence if status else "", status
+
+
+class Progress:
+    """A bar on a terminal, where tqdm is there, and nothing elsewhere."""
+
+    def __init__(self, what: str, total: Callable[[], int]) -> None:
+        self._bar: Any = None
+        if not sys.stderr.isatty():
+            return
+        try:
+            from tqdm import tqdm
+        except ImportError:
+            return
+        tqdm.monitor_interval = 0  # it would start a thread before the processes
+        self._bar = tqdm(total=total(), desc=what, unit="dump", leave=False)
+
+    def told(self, count: int) -> None:
+        """So many more are done."""
+        if self._bar is not None:
+            self._bar.update(count)
+
+    def end(self) -> None:
+        if self._bar is not None:
+            self._bar.close()
+
+
+def day(arguments: argparse.Namespace) -> tuple[str, int]:
+    """Makes the page of many dumps."""
+    making.check()
+    try:
+        os.scandir(arguments.folder).close()
+    except OSError:
+        raise Trouble(f"cannot open {arguments.folder}", 3) from None
+    progress = Progress("dumps", lambda: sum(1 for _ in counting.dumps_in(arguments.folder)))
+    counted = counting.count_all(arguments.folder, arguments.workers, arguments.budget, progress.told)
+    progress.end()
+    made = day_page.Day(counted, arguments.folder, arguments.rows)
+    if arguments.pages:
+        progress = Progress("pages", lambda: len(made.examples()))
+        try:
+            day_page.make_pages(
+                made, arguments.pages, arguments.out, arguments.workers, arguments.budget, progress.told
+            )
+        except OSError as error:
+            raise Trouble(f"cannot write {arguments.pages}: {error.strerror}", 3) from None
+        progress.end()
+    write(arguments.out, made.page())
+    return "", 0
+
+
+def parser() -> argparse.ArgumentParser:
+    """The words of both commands."""
+    words = argparse.ArgumentParser(prog="python -m mdmp", description="Makes pages to look at.")
+    commands = words.add_subparsers(dest="command", required=True)
+    one = commands.add_parser(
+        "page", help="makes a page of a dump", description="Makes a page of a dump: one file, which needs no other."
+    )
+    one.add_argument("file", metavar="FILE", help="the dump")
+    one.add_argument("-o", "--out", required=True, metavar="FILE.html", help="the page")
+    one.add_argument("--rows", type=number, default=500, help="how many rows a table shows (500)")
+    one.add_argument(
+        "--budget",
+        type=number,
+        default=reading.BUDGET,
+        help="the most bytes of the file that are fetched for one of its lists",
+    )
+    one.set_defaults(run=page)
+    many = commands.add_parser(
+        "day",
+        help="makes a page of many dumps",
+        description="Makes a page of the dumps of a folder and those below it.",
+    )
+    many.add_argument("folder", metavar="FOLDER", help="where the dumps are: *.dmp and *.mdmp")
+    many.add_argument("-o", "--out", required=True, metavar="FILE.html", help="the page")
+    many.add_argument(
+        "--workers",
+        type=number,
+        default=len(os.sched_getaffinity(0)),
+        help="how many processes read dumps (as many as cores)",
+    )
+    many.add_argument("--pages", metavar="FOLDER", help="make a page of a dump of each group there too, and link to it")
+    many.add_argument("--rows", type=number, default=500, help="how many rows a table shows (500)")
+    many.add_argument(
+        "--budget",
+        type=number,
+        default=reading.BUDGET,
+        help="the most bytes of a file that are fetched for one of its lists",
+    )
+    many.set_defaults(run=day)
+    return words
+
+
+def main() -> int:
+    """Does what the command line says, and gives the exit status."""
+    arguments = parser().parse_args()
+    told, status = "", 0
+    try:
+        told, status = arguments.run(arguments)
+    except Trouble as trouble:
+        told, status = str(trouble), trouble.status
+    except making.NoJinja as missing:
+        told, status = str(missing), 3
+    except MemoryError:
+        told, status = "out of memory", 3
+    if told:
+        print(f"mdmp: {told}", file=sys.stderr)
+    return status

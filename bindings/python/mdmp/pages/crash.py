@@ -1,0 +1,129 @@
+"""What a dump tells of its crash, of its system and of itself, in terms and words."""
+
+from __future__ import annotations
+
+import datetime
+from typing import Any, NamedTuple
+
+from .._records import FaultKind
+from . import names, tables, text
+from .reading import Reading
+
+_SHOWN = 20
+# How memory was reached, by the first parameter of an access violation and of an error as a page is read.
+_REACHED = {0: "reading", 1: "writing", 8: "executing"}
+_OF_MEMORY = (0xC0000005, 0xC0000006)
+
+
+class Fact(NamedTuple):
+    """A term and what the dump tells of it."""
+
+    term: str
+    words: str
+
+
+def module_at(reading: Reading, address: int) -> str:
+    """The module that holds an address and how far behind its base that is, in words."""
+    found = reading.where(address)
+    if found is None:
+        return "no module holds it"
+    module, offset = found
+    return f"{text.name(module.name)} + {offset:#x}"
+
+
+def _thread(reading: Reading, thread_id: int) -> str:
+    name = reading._thread_name(thread_id)
+    listed = any(row.thread_id == thread_id for row in reading.threads.raw())
+    named = f"{thread_id} {text.shortened(name)}" if name else str(thread_id)
+    return named if listed else f"{named}, which the list of threads does not have"
+
+
+def _reason(row: Any) -> list[Fact]:
+    """The parameters, and what those of an access to memory say."""
+    given = row.information[: row.number_parameters]
+    facts = []
+    if row.exception_code in _OF_MEMORY and len(given) >= 2:
+        facts.append(Fact("Access", f"{_REACHED.get(given[0], 'reaching')} {text.address(given[1])}"))
+    shown = ", ".join(f"{number:#x}" for number in given)
+    over = f" (it says {text.grouped(row.number_parameters)})" if row.number_parameters > len(row.information) else ""
+    if given:
+        facts.append(Fact("Parameters", shown + over))
+    return facts
+
+
+def crashes(reading: Reading) -> list[list[Fact]]:
+    """The facts of each exception: in most dumps of a crash there is one."""
+    out = []
+    platform = next((row.platform_id for row in reading.systems.raw(1)), None)
+    for row in reading.exceptions.records(_SHOWN):
+        facts = [
+            Fact("Exception", names.exception_code(row.exception_code, platform)),
+            Fact("Address", text.address(row.exception_address)),
+            Fact("Module", module_at(reading, row.exception_address)),
+            Fact("Thread", _thread(reading, row.thread_id)),
+            *_reason(row),
+            Fact("Flags", f"{row.exception_flags:#x}"),
+            Fact("Registers in the file", tables.place(row.context)),
+        ]
+        if row.exception_record:
+            facts.append(Fact("Exception before it at", text.address(row.exception_record)))
+        out.append(facts)
+    return out
+
+
+def more_crashes(reading: Reading) -> str:
+    """How many exceptions are not shown."""
+    left = len(reading.exceptions) - _SHOWN
+    return f"{text.of(left, 'more exception')} left out." if left > 0 else ""
+
+
+def _time(seconds: int) -> str:
+    moment = datetime.datetime.fromtimestamp(seconds, datetime.timezone.utc)
+    return f"{moment:%Y-%m-%d %H:%M:%S} UTC"
+
+
+def about(reading: Reading) -> list[Fact]:
+    """The file and the system in which it was made."""
+    facts = [Fact("File", text.in_units(reading.size))]
+    header = reading.header
+    if header:
+        facts += [
+            Fact("Written", _time(header.time_date_stamp)),
+            Fact("Entries", text.grouped(header.number_of_streams)),
+            Fact("Flags", f"{header.flags:#018x}"),
+        ]
+    for row in reading.systems.records(1):
+        version = f"{row.major_version}.{row.minor_version}.{row.build_number}"
+        architecture = names.ARCHITECTURES.get(row.processor_architecture, f"architecture {row.processor_architecture}")
+        processors = text.of(row.number_of_processors, "processor")
+        platform = names.PLATFORMS.get(row.platform_id, f"platform {row.platform_id:#x}")
+        system = f"{platform} {version}, {architecture}, {processors}"
+        facts.append(Fact("System", system))
+        if row.csd_version:
+            facts.append(Fact("Service pack", text.shortened(row.csd_version)))
+    return facts
+
+
+def verdict(reading: Reading) -> tuple[str, str]:
+    """In a sentence what the whole file is, and whether that is good or bad, or too long for the budget."""
+    if reading.is_too_long and reading.header:
+        listed = text.of(reading.header.number_of_streams, "entry", "entries")
+        return (
+            f"The directory has {listed}, more than the budget of a page has room for: nothing of them is read.",
+            "long",
+        )
+    if reading.fault and reading.fault.kind == FaultKind.BUDGET:
+        return (
+            f"The file has more than the budget of a page has room for, and a first part is shown: {reading.fault}.",
+            "long",
+        )
+    if reading.fault:
+        return f"The file can't be read as a dump: {reading.fault}.", "bad"
+    count = len(reading.streams)
+    entries = f"{text.of(count, 'entry', 'entries')} of the directory"
+    if reading.bad_count:
+        verb = "is" if reading.bad_count == 1 else "are"
+        return f"{text.grouped(reading.bad_count)} of {entries} {verb} at fault.", "bad"
+    if count == 0:
+        return "The file is good, and its directory is empty.", "good"
+    return f"The file is good: {entries}, none at fault.", "good"

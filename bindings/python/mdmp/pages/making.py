@@ -1,0 +1,97 @@
+"""Makes a page of a dump."""
+
+from __future__ import annotations
+
+import base64
+import hashlib
+import pathlib
+from typing import Any
+
+from .. import __version__
+from .._dump import Dump
+from . import crash, pictures, places, tables, text
+from .reading import Reading
+
+_TEMPLATES = pathlib.Path(__file__).resolve().parent / "templates"
+
+
+class NoJinja(Exception):
+    """Jinja2 is missing."""
+
+    def __str__(self) -> str:
+        return "Jinja2 is missing, which pages are made with: apt-get install python3-jinja2"
+
+
+def _environment() -> Any:
+    try:
+        from jinja2 import Environment, FileSystemLoader, StrictUndefined
+    except ImportError:
+        raise NoJinja from None
+    return Environment(
+        loader=FileSystemLoader(_TEMPLATES),
+        autoescape=True,
+        undefined=StrictUndefined,
+        trim_blocks=True,
+        lstrip_blocks=True,
+    )
+
+
+def check() -> None:
+    """Raises NoJinja where pages can't be made."""
+    _environment()
+
+
+def _hash(part: str) -> str:
+    return "'sha256-" + base64.b64encode(hashlib.sha256(part.encode()).digest()).decode() + "'"
+
+
+def _narrow(columns: dict[str, list[str]]) -> str:
+    """The style that names each cell of a table where a screen is too narrow for its columns."""
+    rules = []
+    for key, titles in columns.items():
+        for at, title in enumerate(titles, 1):
+            rules.append(f'  #{key} td:nth-child({at})::before {{ content: "{title}"; }}\n')
+    return f"@media screen and (max-width: 1040px) {{\n{''.join(rules)}}}\n"
+
+
+def rendered(template: str, columns: dict[str, list[str]], values: dict[str, Any]) -> str:
+    """A page of a template. Its style and script are in it, and the browser is told to take no others."""
+    environment = _environment()
+    style = (_TEMPLATES / "style.css").read_text("utf-8") + _narrow(columns)
+    script = (_TEMPLATES / "sort.js").read_text("utf-8")
+    policy = (
+        f"default-src 'none'; style-src {_hash(style)}; script-src {_hash(script)}; base-uri 'none'; form-action 'none'"
+    )
+    made = environment.get_template(template).render(
+        style=style, script=script, policy=policy, version=__version__, **values
+    )
+    return str(made)
+
+
+def page_of(dump: Dump, name: str, size: int, most: int) -> tuple[str, Reading]:
+    """The page of a dump whose file has this name and size, with at most so many rows a table, and what was read."""
+    reading = Reading(dump, size, most)
+    spans = list(places.in_file(reading))
+    listed = list(tables.all_tables(reading)) if reading.header and not reading.is_too_long else []
+    verdicts, over = tables.verdicts(reading), pictures.over_table(reading, spans)
+    sentence, quality = crash.verdict(reading)
+    for table in listed:
+        if reading.fault and table.fault == str(reading.fault):
+            table.fault = ""  # it is told of the whole file
+    columns = {table.key: [column.title for column in table.columns] for table in [verdicts, over, *listed]}
+    values = {
+        "name": text.shortened(name),
+        "sentence": sentence,
+        "quality": quality,
+        "is_read": reading.header is not None,
+        "verdicts": verdicts,
+        "crashes": crash.crashes(reading),
+        "more_crashes": crash.more_crashes(reading),
+        "crash_fault": "" if reading.fault else tables.told(reading.exceptions.fault),
+        "about": crash.about(reading),
+        "file": pictures.of_file(reading, spans),
+        "memory": pictures.of_memory(reading),
+        "over": over,
+        "tables": listed,
+    }
+    return rendered("page.html", columns, values), reading

@@ -1,0 +1,86 @@
+"""Numbers and names of a dump as text that a page can show."""
+
+from __future__ import annotations
+
+import unicodedata
+
+_UNITS = ("KiB", "MiB", "GiB", "TiB", "PiB", "EiB")
+LONGEST = 160
+
+
+def visible(text: str) -> str:
+    """A name of the file with each character escaped that can't be seen or changes the order of others, and with no
+    heap of marks over one letter: what stands here is what is in the file."""
+    out, marks = [], 0
+    for character in text:
+        marks = marks + 1 if unicodedata.combining(character) else 0
+        is_plain = character.isprintable() and marks < 3
+        out.append(character if is_plain else f"\\u{ord(character):04x}")
+    return "".join(out)
+
+
+def shortened(text: str, most: int = LONGEST) -> str:
+    """A name that is not longer than so many characters: of a long one its first and its last."""
+    shown = visible(text)
+    if len(shown) <= most:
+        return shown
+    first = most * 2 // 3
+    return f"{shown[:first]} .. {shown[first - most :]} ({grouped(len(text))} characters)"
+
+
+def name(text: str | None, most: int = LONGEST) -> str:
+    """A name as a page shows it."""
+    return "no name" if text is None else shortened(text, most) if text else "empty name"
+
+
+def grouped(number: int) -> str:
+    """A number of any size, its digits in groups."""
+    return f"{number:,}"
+
+
+def of(count: int, one: str, many: str | None = None) -> str:
+    """A count of things in words."""
+    return f"{grouped(count)} {one if count == 1 else many or one + 's'}"
+
+
+def _larger(size: int) -> str:
+    unit = min((size.bit_length() - 1) // 10, len(_UNITS))
+    return f"{size / (1 << 10 * unit):.1f} {_UNITS[unit - 1]}"
+
+
+def in_units(size: int) -> str:
+    """A size in bytes, and of a large one how many of a larger unit that is."""
+    told = of(size, "byte")
+    return told if size < 10240 else f"{told} ({_larger(size)})"
+
+
+def about(size: int) -> str:
+    """A size in few letters: of a large one only how many of a larger unit it is."""
+    return of(size, "byte") if size < 1 << 20 else _larger(size)
+
+
+def address(number: int) -> str:
+    """An address of the dumped process, as the command prints it."""
+    return f"0x{number:016x}"
+
+
+def last_part(path: str) -> str:
+    """What stands behind the last slash or backslash of a path."""
+    return path.replace("\\", "/").rstrip("/").rsplit("/", 1)[-1] or path
+
+
+def _wide(character: str) -> int:
+    return 2 if unicodedata.east_asian_width(character) in "WF" else 1
+
+
+def fitting(text: str, room: int) -> str:
+    """The first part of a text that has room in so many columns of a font of one width."""
+    columns = 0
+    for at, character in enumerate(text):
+        columns += _wide(character)
+        if columns > room:
+            while at > 0 and columns > room - 1:
+                columns -= _wide(text[at])
+                at -= 1
+            return text[: at + 1].rstrip() + "…"
+    return text

@@ -1,0 +1,267 @@
+"""Pages, as far as they can be tested without a template: what is read, gathered, drawn and told.
+
+`tests/page` of the repository makes whole pages, reads them by html5lib and looks at them in a browser.
+"""
+
+from __future__ import annotations
+
+import os
+import pathlib
+import random
+import subprocess
+import sys
+import tempfile
+import unittest
+import xml.etree.ElementTree
+from unittest import mock
+
+import mdmp
+from mdmp.pages import crash, names, pictures, places, tables, text
+from mdmp.pages.ladder import heights, side_by_side, spread
+from mdmp.pages.places import FILE_KINDS, Run, Span
+from mdmp.pages.reading import BUDGET, Reading
+from mdmp.pages.runs import joined, runs
+
+from . import made
+
+FOLDER = pathlib.Path(os.environ["MDMP_STORED"])
+
+
+def read(data: bytes, most: int = 500, budget: int = BUDGET) -> Reading:
+    return Reading(mdmp.Dump(data, budget=budget), len(data), most)
+
+
+def drawn(reading: Reading) -> list[str]:
+    """Both pictures of a dump."""
+    spans = list(places.in_file(reading))
+    return [picture.svg for picture in (pictures.of_file(reading, spans), pictures.of_memory(reading)) if picture.svg]
+
+
+class Words(unittest.TestCase):
+    """Names and numbers as text."""
+
+    def test_names(self) -> None:
+        self.assertEqual(names.stream_type(9), "Memory64ListStream")
+        self.assertEqual(names.stream_type(0x43500001), "0x43500001")
+        self.assertEqual(names.exception_code(0xC0000005), "0xc0000005 STATUS_ACCESS_VIOLATION")
+        self.assertEqual(names.exception_code(0xB), "0x0000000b")
+        self.assertEqual(names.exception_code(0xB, 0x8201), "0x0000000b SIGSEGV")
+        self.assertEqual(names.protection(0x104), "PAGE_READWRITE | PAGE_GUARD")
+        self.assertEqual(names.protection(0x80000004), "PAGE_READWRITE | 0x80000000")
+        self.assertEqual(names.state(0), "0x0")
+
+    def test_numbers(self) -> None:
+        self.assertEqual(text.in_units(1), "1 byte")
+        self.assertEqual(text.in_units(5 << 30), "5,368,709,120 bytes (5.0 GiB)")
+        self.assertEqual(text.in_units(1 << 90), f"{1 << 90:,} bytes (1073741824.0 EiB)")
+        self.assertEqual(text.of(2, "entry", "entries"), "2 entries")
+
+    def test_what_is_not_seen_is_escaped(self) -> None:
+        self.assertEqual(text.visible("a\0\n\u202eb\u2028\ufeff\ud800"), "a\\u0000\\u000a\\u202eb\\u2028\\ufeff\\ud800")
+        self.assertEqual(text.visible("e" + "\u0301" * 4), "e\u0301\u0301\\u0301\\u0301")
+        self.assertEqual(text.visible("été 😀 <b>"), "été 😀 <b>")
+
+    def test_long_names(self) -> None:
+        short = text.shortened("a" * 1000 + "b" * 1000)
+        self.assertTrue(short.startswith("aaa") and short.endswith("bbb (2,000 characters)"))
+        self.assertLess(len(short), 200)
+        self.assertEqual([text.fitting("abcdef", room) for room in (6, 5)], ["abcdef", "abcd…"])
+        self.assertEqual(text.fitting("試験試験", 6), "試験…")
+        self.assertEqual(text.last_part("C:\\one\\two.dll"), "two.dll")
+        self.assertEqual(text.last_part("/"), "/")
+
+
+class Tables(unittest.TestCase):
+    """Rows, what is left out, and faults."""
+
+    def test_good(self) -> None:
+        reading = read((FOLDER / "llvm-all-kinds.dmp").read_bytes())
+        self.assertEqual(crash.verdict(reading)[1], "good")
+        table = tables.modules(reading)
+        self.assertEqual(table.rows[0].cells[1:3], ["C:\\dir\\one.exe", "0x0000000140000000"])
+        self.assertEqual(table.rows[0].cells[4], "1.2.3.4")
+        self.assertEqual(table.rows[0].cells[6:], ["33221100554477668899AABBCCDDEEFF1", "one.pdb"])
+        self.assertEqual((table.count, table.left_out, table.fault), (3, "", ""))
+
+    def test_crash(self) -> None:
+        reading = read(made.named("app.dll"))
+        facts = dict(crash.crashes(reading)[0])
+        self.assertEqual(facts["Exception"], "0xc0000005 STATUS_ACCESS_VIOLATION")
+        self.assertEqual(facts["Module"], "app.dll + 0x1234")
+        self.assertEqual(facts["Thread"], "7 app.dll")
+        self.assertEqual(facts["Access"], "writing 0x0000000000000010")
+        self.assertEqual([row.mark for row in tables.threads(reading).rows], ["crash", ""])
+        self.assertEqual([row.mark for row in tables.modules(reading).rows], ["crash", "", ""])
+
+    def test_protections(self) -> None:
+        table = tables.protections(read(made.named("app.dll")))
+        self.assertEqual(table.rows[0].cells, ["MEM_COMMIT", "PAGE_READWRITE", "MEM_PRIVATE", "2", "131,072"])
+        self.assertEqual(table.count, 4)
+
+    def test_left_out(self) -> None:
+        reading = read(made.many_modules(1200), most=500)
+        table = tables.modules(reading)
+        self.assertEqual((len(table.rows), table.count), (500, 1200))
+        self.assertEqual(table.left_out, "Left out of this table: 700 of 1,200 modules.")
+        self.assertEqual(table.rows[499].cells[1], "C:\\programs\\part_000499.dll")
+
+    def test_bad_entries_are_not_left_out(self) -> None:
+        reading = read((FOLDER / "llvm-all-kinds.dmp").read_bytes()[:1334], most=5)
+        table = tables.verdicts(reading)
+        self.assertEqual([row.cells[0] for row in table.rows], ["0", "7", "8", "9", "10"])
+        self.assertEqual(table.rows[1].cells[-1], "entry 7: stream outside the file: offset 1321 size 14")
+        self.assertEqual([row.mark for row in table.rows], ["", "bad", "bad", "bad", "bad"])
+        self.assertEqual(crash.verdict(reading), ("4 of 12 entries of the directory are at fault.", "bad"))
+
+    def test_what_stands_before_a_fault(self) -> None:
+        data = bytearray(made.many_modules(3))
+        place = mdmp.Dump(data).modules[2].name_place.rva
+        data[place] |= 1
+        table = tables.modules(read(bytes(data)))
+        self.assertEqual(len(table.rows), 2)
+        self.assertIn("entry 0 item 2: odd name length", table.fault)
+
+    def test_no_dump(self) -> None:
+        reading = read(b"no dump at all, but more than 32 bytes")
+        self.assertEqual(crash.verdict(reading), ("The file can't be read as a dump: bad signature.", "bad"))
+        self.assertEqual(list(places.in_file(reading)), [])
+
+    def test_budget(self) -> None:
+        data = made.many_modules(100)
+        reading = read(data, budget=2000)
+        self.assertIn("fetch budget reached", tables.modules(reading).fault)
+        self.assertEqual(crash.verdict(reading)[1], "long")
+        short = read(data, budget=43)
+        self.assertEqual((short.is_too_long, crash.verdict(short)[1], len(short.modules)), (True, "long", 0))
+
+
+class Places(unittest.TestCase):
+    """What lies over what."""
+
+    def test_overlaps(self) -> None:
+        reading = read(made.overlapping())
+        spans = list(places.in_file(reading))
+        kinds = {(first.kind, second.kind) for first, second in places.pairs(spans, 100)}
+        self.assertTrue({("stream", "stream"), ("directory", "stream"), ("stack", "stack")} <= kinds)
+        stretches = places.over_another(spans)
+        self.assertEqual(stretches[0], (60, 100))  # a stream over the directory
+        self.assertGreater(max(end - start for start, end in places.gaps(spans, reading.size)), 600)
+
+    def test_one_place_is_no_overlap(self) -> None:
+        spans = [Span(0, 10, "stack", 0), Span(0, 10, "range", 0), Span(10, 20, "name", 0)]
+        self.assertEqual((places.over_another(spans), list(places.pairs(spans, 9))), ([], []))
+        self.assertEqual(places.over_another([*spans, Span(9, 12, "name", 1)]), [(9, 12)])
+
+    def test_over_another_is_what_counting_bytes_gives(self) -> None:
+        numbers = random.Random(49)
+        for _ in range(300):
+            spans = [Span(at, at + numbers.randrange(6), "name", 0) for at in [numbers.randrange(24) for _ in range(6)]]
+            distinct = {(span.start, span.end) for span in spans}
+            bytes_over = [at for at in range(40) if sum(start <= at < end for start, end in distinct) > 1]
+            given = [at for start, end in places.over_another(spans) for at in range(start, end)]
+            self.assertEqual(given, bytes_over, spans)
+            free = [at for at in range(30) if not any(start <= at < end for start, end in distinct)]
+            self.assertEqual([at for start, end in places.gaps(spans, 30) for at in range(start, end)], free)
+
+    def test_what_is_not_drawn_is_told(self) -> None:
+        reading = read(made.many_modules(30))
+        self.assertEqual(places.not_drawn(reading), "")
+        with mock.patch.object(places, "DRAWN", 20):
+            self.assertEqual(places.not_drawn(reading), " Of 30 modules the first 20 are drawn.")
+            self.assertEqual(sum(span.kind == "name" for span in places.in_file(reading)), 20)
+
+    def test_runs(self) -> None:
+        spans = [Span(at * 100, at * 100 + 10, "name", at) for at in range(1000)] + [Span(5, 6, "stream", 0)]
+        found = runs(spans, 40, FILE_KINDS, lambda span: span.kind)
+        self.assertEqual(
+            [(run.kind, run.things, run.label) for run in found],
+            [("name", 1000, "1,000 names"), ("stream", 1, "stream")],
+        )
+        twice = runs([Span(0, 9, "name", 0)] * 2, 40, FILE_KINDS, lambda span: span.kind)
+        self.assertEqual(twice, [Run(0, 9, "name", 2, "name, 2 times")])
+        self.assertEqual(joined([(0, 1), (9, 10), (1000, 1001)], 2), [(0, 10), (1000, 1001)])
+
+
+class Pictures(unittest.TestCase):
+    """What is drawn is SVG, and no text of a file is more than text in it."""
+
+    def test_markup_is_text(self) -> None:
+        for picture in drawn(read(made.named(made.MARKUP))):
+            root = xml.etree.ElementTree.fromstring(picture)
+            tags = {part.tag for part in root.iter()}
+            self.assertLessEqual(
+                tags, {"svg", "title", "desc", "defs", "pattern", "rect", "line", "polyline", "text", "tspan"}
+            )
+            self.assertNotIn("<img", picture)
+            self.assertFalse(
+                [key for part in root.iter() for key in part.attrib if key.startswith("on") or key == "href"]
+            )
+        self.assertIn(
+            "name “script><img src=x onerror=",
+            "".join(xml.etree.ElementTree.fromstring(drawn(read(made.named(made.MARKUP)))[0]).itertext()),
+        )
+
+    def test_hostile(self) -> None:
+        count = 0
+        for name, data in made.hostile():
+            with self.subTest(name):
+                reading = read(data)
+                for picture in drawn(reading):
+                    self.assertLess(len(xml.etree.ElementTree.fromstring(picture).findall(".//rect")), 400)
+                    self.assertLess(len(picture), 100_000)
+                shown = list(tables.all_tables(reading))
+                self.assertLessEqual(max(len(table.rows) for table in shown), 500)
+                count += 1
+        self.assertEqual(count, 20)
+
+    def test_small_beside_large(self) -> None:
+        size = 5 << 30
+        places_of = heights([0, 24, size - 24, size], lambda start, end: True, 0)
+        self.assertGreater(places_of[1], 8)
+        self.assertGreater(places_of[3] - places_of[2], 8)
+        self.assertLess(places_of[3], 120)
+
+    def test_labels_do_not_meet(self) -> None:
+        given = spread([5, 5, 5, 90, 91, 99], 10, 100)
+        self.assertTrue(all(after - before >= 10 for before, after in zip(given, given[1:])))
+        self.assertLessEqual(given[-1], 100)
+
+    def test_side_by_side(self) -> None:
+        found = [
+            Run(0, 10, "stream", 1, ""),
+            Run(5, 15, "stream", 1, ""),
+            Run(10, 20, "stream", 1, ""),
+            Run(20, 30, "stream", 1, ""),
+        ]
+        self.assertEqual([(at, count) for _, at, count in side_by_side(found)], [(0, 2), (1, 2), (0, 2), (0, 1)])
+
+    def test_sample_pictures(self) -> None:
+        for path in sorted(FOLDER.glob("*.dmp")):
+            with self.subTest(path.name):
+                for picture in drawn(read(path.read_bytes())):
+                    root = xml.etree.ElementTree.fromstring(picture)
+                    self.assertEqual(root.attrib["role"], "img")
+                    self.assertEqual([part.tag for part in root[:2]], ["title", "desc"])
+
+
+class Command(unittest.TestCase):
+    """python -m mdmp page, where it makes no page."""
+
+    def run_command(self, *words: str, without: str = "jinja2") -> tuple[int, str]:
+        program = f"import sys; sys.modules[{without!r}] = None; from mdmp.__main__ import main; sys.exit(main())"
+        done = subprocess.run([sys.executable, "-c", program, *words], capture_output=True, text=True)
+        return done.returncode, done.stderr
+
+    def test_without_jinja(self) -> None:
+        with tempfile.TemporaryDirectory() as folder:
+            status, told = self.run_command("page", str(FOLDER / "made.dmp"), "-o", f"{folder}/made.html")
+            self.assertEqual(
+                (status, told),
+                (3, "mdmp: Jinja2 is missing, which pages are made with: apt-get install python3-jinja2\n"),
+            )
+            self.assertEqual(os.listdir(folder), [])
+
+    def test_words(self) -> None:
+        self.assertEqual(self.run_command("page")[0], 2)
+        self.assertEqual(self.run_command("page", "one.dmp")[0], 2)
+        self.assertEqual(self.run_command("page", "one.dmp", "-o", "one.html", "--rows", "0")[0], 2)
