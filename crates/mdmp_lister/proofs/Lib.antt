@@ -18,6 +18,7 @@ pub mod Fetches
 pub mod Files
 pub mod Handing
 pub mod Heads
+pub mod HeldSteps
 pub mod Judging
 pub mod LawsLemmas
 pub mod Leaving

@@ -34,7 +34,7 @@ pub ranges_of-more : (old mid new : List Range) (xs : List Item) (x : Item) → 
 ranges_of-more old mid new xs x so_far next =
     next ∙ rw (so_far, filter_map-append range_of xs (plain x ∷ []), ranges_of-plain x) (append_assoc old (ranges_of xs) (ranges_of (x ∷ [])))
 
-ranges_of-step : (z : ℕ) (buffer : List ℕ) (s : Step) → length (ranges_of (step_item z buffer s ∷ [])) ≤ count_told s
+pub ranges_of-step : (z : ℕ) (buffer : List ℕ) (s : Step) → length (ranges_of (step_item z buffer s ∷ [])) ≤ count_told s
 ranges_of-step z buffer (step.Stream x) = omega arith
 ranges_of-step z buffer (step.Record r) =
     rw (ap (λ (s : Summary). given s.range) (summary_of-item_of z r.entry r.index r.offset r.fields (name_read buffer r.name)))
@@ -57,7 +57,7 @@ pub ranges_of-within : (z : ℕ) (x : Item) → IsPlacedIn z x → All (IsWithin
 ranges_of-within z x placed = within_given z (summary_of x).range placed
 
 -- at offsets that fit
-fits_by : (z : ℕ) (range : Option RangeItem) → IfSome range (IsRangeIn z) → IfSome range (IsRangeIn (2 ^ 64 - 1))
+pub fits_by : (z : ℕ) (range : Option RangeItem) → IfSome range (IsRangeIn z) → IfSome range (IsRangeIn (2 ^ 64 - 1))
 fits_by z (Some r) placed = λ inside. let parts = placed inside in (parts.0, (parts.1.1, parts.1.1))
 fits_by z None placed = tt
 

@@ -1,5 +1,7 @@
 -- A record of any kind that was fetched, and the item of it and its name.
-use Rattle.std.proofs.Common.{◌≡◌, ◌≤◌, ◌∙◌, ℕ, List, length, take, drop, Some, false, Ok, Err, ap, arith, sym, refl, subst}
+use Rattle.std.proofs.Common.{◌≡◌, ◌≤◌, ◌∙◌, ℕ, List, length, take, drop, Some, false, Result, Ok, Err, ap, arith, sym, refl, subst}
+use Rattle.std.specs.Prelude.{IfOk}
+use Rattle.mdmp_source.specs.Range.{bytes_at}
 use Rattle.mdmp_wire.specs.AnyRecord.{name_rva}
 use Rattle.mdmp_wire.specs.NumberLaws.{array_at-within, number_at-within, numbers_at-within}
 use Rattle.mdmp_wire.specs.declared.any_record.AnyRecord.{AnyRecord}
@@ -27,9 +29,13 @@ pub named_kind : (w : AnyRecord) (rva : ℕ) → name_rva w ≡ Some rva → has
 named_kind (any.Thread r) rva is none = cc
 named_kind _ rva is none = cc
 
--- the record of the bytes that were fetched is that of the file
-pub record-fetched : (kind : StreamKind) (n o : ℕ) (F bytes : List ℕ) (fields : AnyRecord) → record_size kind ≤ n → bytes ≡ take n (drop o F) → fields ≡ record_at kind bytes 0 → record_at kind F o ≡ fields
-record-fetched kind n o F bytes fields room fetched read = sym (read ∙ ap (λ b. record_at kind b 0) fetched ∙ record_at-part kind n o F room)
+-- the record of the bytes that are held, as they were fetched, is that of the file
+pub record-held : {T E : Type 0} (result : Result T E) (kind : StreamKind) (o : ℕ) (F held : List ℕ) → IfOk result (λ _. take (record_size kind) held ≡ bytes_at F o (record_size kind))
+    → IfOk result (λ _. record_at kind F o ≡ record_at kind held 0)
+record-held (Ok x) kind o F held fetched =
+    let n = record_size kind in
+    sym (record_at-part kind n o F (omega arith)) ∙ ap (λ b. record_at kind b 0) (sym fetched) ∙ record_at-part kind n 0 held (omega arith)
+record-held (Err f) kind o F held fetched = tt
 
 -- only the bytes of a 64-bit range are said to stand elsewhere
 item_of-offset : (F : List ℕ) (z e k at o offset : ℕ) (kind : StreamKind) (name : Name) → (kind ≡ kinds.Memory64 → offset ≡ range_offset F at k)

@@ -10,6 +10,7 @@ pub mod Fetching
 pub mod Following
 pub mod Format
 pub mod StreamHead
+pub mod HeldStep
 pub mod Holding
 pub mod Limits
 pub mod Lister

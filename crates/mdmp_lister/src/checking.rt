@@ -75,8 +75,8 @@ fn read_next<S: Store + Drop, A: Allocator + Copy>(
     ensures { NextRead walk.old map.old result walk.new map.new }
 {
     match walk.next_record() {
-        Ok(Some(step)) => {
-            push_range(map, &walk.item(&step));
+        Ok(Some(held)) => {
+            push_range(map, walk.range(&held));
             Ok(true)
         }
         Ok(None) => Ok(false),

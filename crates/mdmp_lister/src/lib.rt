@@ -41,6 +41,7 @@ mod fault;
 mod fetching;
 mod form;
 mod head;
+mod held_step;
 mod holding;
 mod item;
 mod kind;

@@ -184,10 +184,9 @@ impl<S: Store + Drop, A: Allocator + Copy> Lister<S, A> {
     {
         match advance(&mut self.walk, self.map.free()) {
             Ok(None) => Ok(None),
-            Ok(Some(step)) => {
-                let item = self.walk.item(&step);
-                push_range(&mut self.map, &item);
-                Ok(Some(item))
+            Ok(Some(held)) => {
+                push_range(&mut self.map, self.walk.range(&held));
+                Ok(Some(self.walk.item(&held)))
             }
             Err(fault) => Err(fault),
         }

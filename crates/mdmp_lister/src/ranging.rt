@@ -3,13 +3,14 @@
 //! A memory list whose head counts more ranges than there is room left for has changed since the file
 //! was opened, when that room was taken by the same head.
 ghost use Rattle.std.specs.Prelude.{◌≡◌, MatchResult};
+ghost use Rattle.mdmp_lister.specs.HeldStep.{IsAnswerWhole, answer_told};
 ghost use Rattle.mdmp_lister.specs.Walk.{IsSound};
 ghost use Rattle.mdmp_lister.specs.Walk.Owing.{HasRoom, count_answered};
 ghost use Rattle.mdmp_lister.specs.Walk.Requests.{Answered, HeadRead};
 
 use crate::fault::ListFault;
+use crate::held_step::HeldStep;
 use crate::stage::Stage;
-use crate::step::Step;
 use crate::walk::Walk;
 use mdmp_source::Store;
 use std::alloc::Allocator;
@@ -18,11 +19,12 @@ use std::alloc::Allocator;
 pub(crate) fn advance<S: Store + Drop, A: Allocator + Copy>(
     walk: &mut Walk<S, A>,
     room: usize,
-) -> Result<Option<Step>, ListFault>
+) -> Result<Option<HeldStep>, ListFault>
     requires sound { IsSound walk.old }
     requires room { HasRoom room 0 walk.old }
-    ensures answered { Answered walk.old result walk.new }
-    ensures room { HasRoom room (count_answered result) walk.new }
+    ensures answered { Answered walk.old (answer_told walk.new.window.held result) walk.new }
+    ensures whole { IsAnswerWhole walk.new.window.held result }
+    ensures room { HasRoom room (count_answered (answer_told walk.new.window.held result)) walk.new }
 {
     match walk.stage {
         Stage::Head => {

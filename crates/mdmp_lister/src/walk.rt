@@ -1,12 +1,13 @@
 //! The walk over the entries of a file, without its public face.
-ghost use Rattle.std.specs.Prelude.{◌≡◌, ◌+◌, ◌*◌, ◌^◌, ◌≤◌, ◌<◌, ◌-◌, Some, IfOk, IfErr, MatchOption, MatchResult, length, take, vec_len};
+ghost use Rattle.std.specs.Prelude.{◌≡◌, ◌+◌, ◌*◌, ◌^◌, ◌≤◌, ◌<◌, ◌-◌, Some, IfOk, IfErr, IfSome, MatchOption, MatchResult, length, take, vec_len};
 ghost use Rattle.mdmp_source.specs.Range.{IsInside, bytes_at};
 ghost use Rattle.mdmp_lister.specs.Fetching.{ReadsBeside};
 ghost use Rattle.mdmp_lister.specs.Format.Kind.{HasNoNames, kind_of};
 ghost use Rattle.mdmp_lister.specs.Meter.{IsBooked, IsMetered, KeepsTo, counts_of};
 ghost use Rattle.mdmp_lister.specs.Opening.{IsRefused, KeepsToBudget};
 ghost use Rattle.mdmp_lister.specs.Stage.{IsUnended, StaysUnchanged, fault_stage, records_left_in};
-ghost use Rattle.mdmp_lister.specs.Step.{IsItemOf, IsNameHeld, bytes_behind};
+ghost use Rattle.mdmp_lister.specs.HeldStep.{IsAnswerWhole, IsWhole, TellsRange, answer_told, given_told, read_told, step_told};
+ghost use Rattle.mdmp_lister.specs.Step.{IsItemOf, IsNameHeld};
 ghost use Rattle.mdmp_lister.specs.Walk.Owing.{ranges_ahead};
 
 use crate::choice::Choice;
@@ -14,7 +15,8 @@ use crate::codeview::{CodeViewBytes, CodeViewRead, read_codeview};
 use crate::counting::count_ranges;
 use crate::counts::{Counts, listed_bytes};
 use crate::fault::{Fault, FetchFault, ListFault, OpenFault};
-use crate::item::{Item, StreamItem};
+use crate::held_step::{HeldStep, bytes_behind, range_of, record_item, step_of};
+use crate::item::{Item, RangeItem, StreamItem};
 use crate::kind::StreamKind;
 use crate::limits::Limits;
 use crate::meter::Meter;
@@ -22,10 +24,10 @@ use crate::opening::{OpenRefused, next_chosen, read_directory, read_header};
 use crate::record_reading::read_item;
 use crate::shape::{Shape, location_fault, record_at};
 use crate::stage::Stage;
-use crate::step::{Step, record_item};
+use crate::step::Step;
 use crate::stream_head::begin_stream;
 use mdmp_source::{Location, Source, SourceFault, Store, Window};
-use mdmp_wire::{AnyRecord, Entry, Header, Record};
+use mdmp_wire::{Entry, Header, Record};
 use std::alloc::Allocator;
 
 /// Stands in the place of the current entry before the first one.
@@ -108,9 +110,10 @@ impl<S: Store + Drop, A: Allocator + Copy> Walk<S, A> {
     }
 
     /// Gives the next step, or the fault that is next.
-    pub(crate) fn advance(&mut self) -> Result<Option<Step>, ListFault>
+    pub(crate) fn advance(&mut self) -> Result<Option<HeldStep>, ListFault>
         requires { IsSound self.old }
-        ensures answered { Answered self.old result self.new }
+        ensures answered { Answered self.old (answer_told self.new.window.held result) self.new }
+        ensures whole { IsAnswerWhole self.new.window.held result }
         ensures unchanged { StaysUnchanged self.old.stage → StaysUnchanged self.new.stage }
         ensures nameless { HasNoNames (kind_of self.old.current.stream_type) → self.new.meter.names ≡ self.old.meter.names }
     {
@@ -124,10 +127,11 @@ impl<S: Store + Drop, A: Allocator + Copy> Walk<S, A> {
     }
 
     /// The same where the head of the current entry was read, or has a fault.
-    pub(crate) fn go_on(&mut self) -> Result<Option<Step>, ListFault>
+    pub(crate) fn go_on(&mut self) -> Result<Option<HeldStep>, ListFault>
         requires sound { IsSound self.old }
         requires headed { IsPastHead self.old.stage }
-        ensures { StepTaken self.old result self.new }
+        ensures taken { StepTaken self.old (answer_told self.new.window.held result) self.new }
+        ensures whole { IsAnswerWhole self.new.window.held result }
     {
         match self.stage {
             Stage::Bad(fault) | Stage::Failed(fault) => Err(fault),
@@ -136,15 +140,44 @@ impl<S: Store + Drop, A: Allocator + Copy> Walk<S, A> {
         }
     }
 
-    /// The item that a step tells, its name lent.
-    pub(crate) fn item(&self, step: &Step) -> Item<'_>
-        requires { IsNameHeld (vec_len self.now.name) step.now }
-        ensures { IsItemOf self.now.meter.source.size self.now.name.items step.now result }
+    /// An answer that was given last, with the step that it tells.
+    pub(crate) fn told(
+        &self,
+        answer: Result<Option<HeldStep>, ListFault>,
+    ) -> Result<Option<Step>, ListFault>
+        requires { IsAnswerWhole self.now.window.held answer }
+        ensures { result ≡ answer_told self.now.window.held answer }
     {
-        match step {
-            Step::Stream(stream) => Item::Stream(*stream),
-            Step::Record(read) => record_item(read, &self.name, self.meter.size()),
+        match answer {
+            Ok(None) => Ok(None),
+            Ok(Some(held)) => Ok(Some(step_of(&held, self.window.bytes()))),
+            Err(fault) => Err(fault),
         }
+    }
+
+    /// The item that was read last, its name lent.
+    pub(crate) fn item(&self, held: &HeldStep) -> Item<'_>
+        requires whole { IsWhole self.now.window.held held.now }
+        requires name { IsNameHeld (vec_len self.now.name) (step_told self.now.window.held held.now) }
+        ensures { IsItemOf self.now.meter.source.size self.now.name.items (step_told self.now.window.held held.now) result }
+    {
+        match held {
+            HeldStep::Stream(stream) => Item::Stream(*stream),
+            HeldStep::Record(record) => record_item(
+                record,
+                self.window.bytes(),
+                &self.name,
+                self.meter.size(),
+            ),
+        }
+    }
+
+    /// The range that was read last, where the item is one.
+    pub(crate) fn range(&self, held: &HeldStep) -> Option<RangeItem>
+        requires { IsWhole self.now.window.held held.now }
+        ensures { TellsRange self.now.meter.source.size (step_told self.now.window.held held.now) result }
+    {
+        range_of(held, self.window.bytes(), self.meter.size())
     }
 
     /// Fetches what a CodeView record tells, the bytes behind its first 24 into the front of the buffer of
@@ -184,10 +217,11 @@ impl<S: Store + Drop, A: Allocator + Copy> Walk<S, A> {
     }
 
     /// Gives the next record, or the next Stream item.
-    fn step(&mut self) -> Result<Option<Step>, ListFault>
+    fn step(&mut self) -> Result<Option<HeldStep>, ListFault>
         requires sound { IsSound self.old }
         requires stage { IsListing self.old.stage }
-        ensures { StepTaken self.old result self.new }
+        ensures taken { StepTaken self.old (answer_told self.new.window.held result) self.new }
+        ensures whole { IsAnswerWhole self.new.window.held result }
     {
         let taken = self.next_record();
         if let Ok(None) = taken {
@@ -288,10 +322,11 @@ impl<S: Store + Drop, A: Allocator + Copy> Walk<S, A> {
     }
 
     /// Gives the next record of the current entry, whose head was read, or none behind the last one.
-    pub(crate) fn next_record(&mut self) -> Result<Option<Step>, ListFault>
+    pub(crate) fn next_record(&mut self) -> Result<Option<HeldStep>, ListFault>
         requires sound { IsSound self.old }
         requires stage { IsListing self.old.stage }
-        ensures { RecordTaken self.old result self.new }
+        ensures taken { RecordTaken self.old (answer_told self.new.window.held result) self.new }
+        ensures whole { IsAnswerWhole self.new.window.held result }
     {
         match self.stage {
             Stage::Records {
@@ -314,11 +349,12 @@ impl<S: Store + Drop, A: Allocator + Copy> Walk<S, A> {
         shape: Shape,
         index: u64,
         offset: u128,
-    ) -> Result<Step, ListFault>
+    ) -> Result<HeldStep, ListFault>
         requires sound { IsSound self.old }
         requires stage { self.old.stage ≡ Stage.Records kind shape index offset }
         requires left { index < shape.count }
-        ensures { RecordWasRead self.old result self.new }
+        ensures read { RecordWasRead self.old (read_told self.new.window.held result) self.new }
+        ensures whole { IfOk result (IsWhole self.new.window.held) }
     {
         let number = (self.next - 1) as u32;
         let at = record_at(self.current.location, kind, shape, index, self.meter.size());
@@ -332,24 +368,26 @@ impl<S: Store + Drop, A: Allocator + Copy> Walk<S, A> {
             at,
             offset,
         ) {
-            Ok(step) => {
+            Ok(held) => {
+                let size = bytes_behind(&held, self.window.bytes());
                 self.stage = Stage::Records {
                     kind,
                     shape,
                     index: index + 1,
-                    offset: offset_behind(step, offset),
+                    offset: offset + u128::from(size),
                 };
-                Ok(step)
+                Ok(held)
             }
             Err(fault) => self.stop_at(ListFault::of_entry(number, Some(index), fault)),
         }
     }
 
     /// Gives the Stream item of the next chosen entry.
-    pub(crate) fn next_stream(&mut self) -> Option<Step>
+    pub(crate) fn next_stream(&mut self) -> Option<HeldStep>
         requires sound { IsSound self.old }
         requires through { IsThrough self.old.stage }
-        ensures taken { StepTaken self.old (Ok result) self.new }
+        ensures taken { StepTaken self.old (Ok (given_told self.new.window.held result)) self.new }
+        ensures whole { IfSome result (IsWhole self.new.window.held) }
         ensures begins { MatchOption result (NoneLeft self.old self.new) (λ step. EntryBegun self.old self.new) }
     {
         let Some(at) = next_chosen(&self.entries, self.next, &self.choice) else {
@@ -361,16 +399,17 @@ impl<S: Store + Drop, A: Allocator + Copy> Walk<S, A> {
     }
 
     /// Gives the Stream item of an entry, chosen or not.
-    pub(crate) fn begin_entry(&mut self, at: usize) -> Step
+    pub(crate) fn begin_entry(&mut self, at: usize) -> HeldStep
         requires sound { IsSound self.old }
         requires within { at < vec_len self.old.entries }
-        ensures { EntryTaken at self.old result self.new }
+        ensures taken { EntryTaken at self.old (step_told self.new.window.held result) self.new }
+        ensures whole { IsWhole self.new.window.held result }
     {
         let entry = self.entries[at];
         self.next = at + 1;
         self.current = entry;
         self.stage = Stage::Head;
-        Step::Stream(StreamItem {
+        HeldStep::Stream(StreamItem {
             entry: at as u32,
             stream_type: entry.stream_type,
             location: entry.location,
@@ -433,20 +472,5 @@ pub(crate) fn refused<S: Store + Drop>(fault: OpenFault, meter: Meter<S>) -> Ope
     OpenRefused {
         fault,
         source: meter.into_source(),
-    }
-}
-
-/// Where the bytes of the range behind a step stand, of one whose bytes stand at `offset`.
-fn offset_behind(step: Step, offset: u128) -> u128
-    requires { offset + 2 ^ 64 ≤ 2 ^ 128 - 1 }
-    ensures range { result ≡ offset + bytes_behind step }
-    ensures bound { result < offset + 2 ^ 64 }
-{
-    match step {
-        Step::Record(read) => match read.fields {
-            AnyRecord::Memory64(range) => offset + u128::from(range.data_size),
-            _ => offset,
-        },
-        Step::Stream(_) => offset,
     }
 }

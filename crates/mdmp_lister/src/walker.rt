@@ -12,6 +12,7 @@ ghost use Rattle.mdmp_lister.specs.Fault.{IsAnsweredFor, IsOfStore, TellsNoChang
 ghost use Rattle.mdmp_lister.specs.Format.Kind.{HasNoNames, kind_of};
 ghost use Rattle.mdmp_lister.specs.Format.Listing.{entry_of, is_chosen};
 ghost use Rattle.mdmp_lister.specs.Format.Refusal.{directory_refusal};
+ghost use Rattle.mdmp_lister.specs.HeldStep.{IsAnswerWhole, answer_told};
 ghost use Rattle.mdmp_lister.specs.Meter.{IsBooked, counts_of};
 ghost use Rattle.mdmp_lister.specs.Opening.{IsBareRefusal, IsDirectoryRefusal, IsHandedBackBare, IsUnread, IsUnreadFor, KeepsToBudget};
 ghost use Rattle.mdmp_lister.specs.Following.{through};
@@ -22,6 +23,7 @@ ghost use Rattle.mdmp_lister.specs.Walk.Positions.{AnsweredFrom, IsPositioned, I
 use crate::choice::Choice;
 use crate::counts::Counts;
 use crate::fault::{ListFault, OpenFault};
+use crate::held_step::HeldStep;
 use crate::item::Item;
 use crate::limits::Limits;
 use crate::meter::MeterCounts;
@@ -183,7 +185,7 @@ impl<S: Store + Drop, A: Allocator + Copy> Walker<S, A> {
     {
         match advance_from(&mut self.walk, &mut self.position, &mut self.mark) {
             Ok(None) => Ok(None),
-            Ok(Some(step)) => Ok(Some(self.walk.item(&step))),
+            Ok(Some(held)) => Ok(Some(self.walk.item(&held))),
             Err(fault) => Err(fault),
         }
     }
@@ -196,7 +198,8 @@ impl<S: Store + Drop, A: Allocator + Copy> Walker<S, A> {
         ensures good { (file : List ℕ) → IsGood self.old.list.source.store file → IfErr result (λ fault. IsOfStore fault.kind → ⊥) }
         ensures refused { IfErr result (λ fault. IsRefusedIn fault self.new.list) }
     {
-        advance_from(&mut self.walk, &mut self.position, &mut self.mark)
+        let answer = advance_from(&mut self.walk, &mut self.position, &mut self.mark);
+        self.walk.told(answer)
     }
 
     /// Whether a Stream item was given last: no other call but `records`, and those that only read
@@ -290,17 +293,18 @@ fn advance_from<S: Store + Drop, A: Allocator + Copy>(
     walk: &mut Walk<S, A>,
     position: &mut Position,
     mark: &mut MeterCounts,
-) -> Result<Option<Step>, ListFault>
+) -> Result<Option<HeldStep>, ListFault>
     requires { IsWalked position.old mark.old walk.old }
-    ensures answered { AnsweredFrom position.old walk.old result walk.new }
+    ensures answered { AnsweredFrom position.old walk.old (answer_told walk.new.window.held result) walk.new }
+    ensures whole { IsAnswerWhole walk.new.window.held result }
     ensures walked { IsWalked position.new mark.new walk.new }
-    ensures position { position.new ≡ position_by (begun_at result) }
-    ensures mark { mark.new ≡ mark_by (begun_at result) (counts_of walk.new.meter) mark.old }
-    ensures unchanged { IfErr result (λ fault. TellsNoChange fault.kind) }
+    ensures position { position.new ≡ position_by (begun_at (answer_told walk.new.window.held result)) }
+    ensures mark { mark.new ≡ mark_by (begun_at (answer_told walk.new.window.held result)) (counts_of walk.new.meter) mark.old }
+    ensures unchanged { IfErr (answer_told walk.new.window.held result) (λ fault. TellsNoChange fault.kind) }
     ensures nameless { HasNoNames (kind_of walk.old.current.stream_type) → walk.new.meter.names ≡ walk.old.meter.names }
 {
     let answer = answer_from(walk, *position);
-    if let Ok(Some(Step::Stream(_))) = answer {
+    if let Ok(Some(HeldStep::Stream(_))) = answer {
         *position = Position::Begun;
         *mark = walk.meter.counts();
     } else {
@@ -313,11 +317,12 @@ fn advance_from<S: Store + Drop, A: Allocator + Copy>(
 fn answer_from<S: Store + Drop, A: Allocator + Copy>(
     walk: &mut Walk<S, A>,
     position: Position,
-) -> Result<Option<Step>, ListFault>
+) -> Result<Option<HeldStep>, ListFault>
     requires sound { IsSound walk.old }
     requires position { IsPositioned position walk.old }
     requires unchanged { StaysUnchanged walk.old.stage }
-    ensures answered { AnsweredFrom position walk.old result walk.new }
+    ensures answered { AnsweredFrom position walk.old (answer_told walk.new.window.held result) walk.new }
+    ensures whole { IsAnswerWhole walk.new.window.held result }
     ensures unchanged { StaysUnchanged walk.new.stage }
     ensures nameless { HasNoNames (kind_of walk.old.current.stream_type) → walk.new.meter.names ≡ walk.old.meter.names }
 {

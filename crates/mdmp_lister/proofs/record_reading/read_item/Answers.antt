@@ -3,24 +3,25 @@ use Rattle.mdmp_source.specs.SourceLaws.{fetches_then}
 use Rattle.mdmp_wire.specs.AnyRecord.{name_rva}
 use Rattle.mdmp_lister.specs.Fault.{source_of}
 use Rattle.mdmp_lister.specs.Following.{of_name}
+use Rattle.mdmp_lister.specs.Format.Item.{record_at}
 use Rattle.mdmp_lister.proofs.Budgets.{over-within}
 use Rattle.mdmp_lister.proofs.Fetches.{IsCaused_later}
 use Rattle.mdmp_lister.proofs.record_reading.read_item.Goals as goal
 
 pub returns-in-Ok-clause-some : goal.returns-in-Ok-clause-some
 returns-in-Ok-clause-some g c =
-    let rva : name_rva c.in_ok-fields.fields ≡ Some c.in-Some.rva = sym c.name_rva.ensures ∙ c.in-Some.is in
+    let rva : name_rva (record_at c.args.kind c.hold_record.new.window.held 0) ≡ Some c.in-Some.rva = rw c.bytes.ensures at (sym c.held_name_rva.ensures ∙ c.in-Some.is) in
     record {
-      fields = c.in_ok-fields.fields;
-      kind_is = sym c.in_ok-fields.ensures.kind;
+      fields = record_at c.args.kind c.hold_record.new.window.held 0;
+      kind_is = sym c.in_ok-hold_record.ensures.kind;
       name = c.in-Ok.name;
-      named = rw (rva, ← c.in_ok-fields.ensures.reads.books.fetches.same_size) c.in-Ok.ensures.some;
+      named = rw (rva, ← c.in_ok-hold_record.ensures.reads.books.fetches.same_size) c.in-Ok.ensures.some;
       step_is = refl;
     }
 
 pub returns-in-Err-clause-reads : goal.returns-in-Err-clause-reads
 returns-in-Err-clause-reads g c =
-    let first = c.in_ok-fields.ensures.reads in
+    let first = c.in_ok-hold_record.ensures.reads in
     let books = first.books in
     let name = c.in-Err.ensures.reads in
     record {
@@ -44,5 +45,5 @@ returns-in-Err-clause-reads g c =
 
 pub returns-in-Err-clause-some : goal.returns-in-Err-clause-some
 returns-in-Err-clause-some g c =
-    let rva : name_rva c.in_ok-fields.fields ≡ Some c.in-Some.rva = sym c.name_rva.ensures ∙ c.in-Some.is in
-    of_name c.in_ok-fields.fields (sym c.in_ok-fields.ensures.kind) (rw (rva, ← c.in_ok-fields.ensures.reads.books.fetches.same_size) c.in-Err.ensures.some)
+    let rva : name_rva (record_at c.args.kind c.hold_record.new.window.held 0) ≡ Some c.in-Some.rva = rw c.bytes.ensures at (sym c.held_name_rva.ensures ∙ c.in-Some.is) in
+    of_name (record_at c.args.kind c.hold_record.new.window.held 0) (sym c.in_ok-hold_record.ensures.kind) (rw (rva, ← c.in_ok-hold_record.ensures.reads.books.fetches.same_size) c.in-Err.ensures.some)

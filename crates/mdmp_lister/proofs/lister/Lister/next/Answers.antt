@@ -1,8 +1,11 @@
-use Rattle.std.proofs.Common.{arith, ◌≡◌, ◌∷◌, [], Some, None, refl, sym}
+use Rattle.std.proofs.Common.{arith, ap, ◌≡◌, ◌∷◌, ◌++◌, ◌∙◌, [], Some, None, refl, subst, sym}
 use Rattle.std.proofs.lemmas.List.{append-nil}
-use Rattle.mdmp_lister.specs.Format.Ranges.{ranges_of}
+use Rattle.mdmp_lister.specs.Format.Ranges.{IsPlacedIn, ranges_of}
+use Rattle.mdmp_lister.specs.HeldStep.{step_told}
+use Rattle.mdmp_lister.specs.Step.{step_item}
+use Rattle.mdmp_lister.proofs.HeldSteps.{item_told, ranges_told-few, ranges_told-of, told-fits}
 use Rattle.mdmp_lister.proofs.Leaving.{follows_fault, follows_item, follows_none, gives_fault, gives_item, gives_none, leaves_fault, leaves_item, leaves_none}
-use Rattle.mdmp_lister.proofs.Mapping.{kept, mapped, placed-fits, ranges-given, ranges_of-within, same_file}
+use Rattle.mdmp_lister.proofs.Mapping.{kept, mapped, ranges-given, ranges_of-within, same_file}
 use Rattle.mdmp_lister.proofs.Paying.{bounded_then, few_names}
 use Rattle.mdmp_lister.proofs.lister.Lister.next.Goals as goal
 
@@ -36,21 +39,24 @@ returns-in-Ok-Some g c =
     let w = c.self.inside.walk in
     let n = c.advance.new.walk in
     let m = c.self.inside.map in
-    let x = c.item-item.result in
+    let x = c.item.result in
+    let s = step_told n.window.held c.in-Ok-Some.held in
+    let of = c.item.ensures.item in
     let e = rw c.in-Ok-Some.field-0-is at c.in-Ok-Some.ensures.answered in
+    let pushed = c.push_range.ensures ∙ ap (λ rs. record m { ranges = m.ranges ++ rs }) (ranges_told-of n.meter.source.size s c.range.result c.range.ensures n.name.items x of) in
     rw (← c.self.view_is) (
       (
         refl,
         λ _. tt,
         record {
-          list = rw c.push_range.ensures (leaves_item w n m.room m.ranges _ c.in-Ok-Some.step x e c.item-item.ensures.item);
-          follows = rw c.push_range.ensures (follows_item w n m.room m.ranges _ c.in-Ok-Some.step x e c.item-item.ensures.item);
-          ranges = rw c.push_range.ensures refl;
+          list = rw pushed (leaves_item w n m.room m.ranges _ s x e of);
+          follows = rw pushed (follows_item w n m.room m.ranges _ s x e of);
+          ranges = rw pushed refl;
           few_names = few_names n (bounded_then w n c.self.invariant.bounded e.paid e.same e.fetches.same_size);
         },
       ),
       record {
-        gives = gives_item w n m.room m.ranges m.ranges c.in-Ok-Some.step x e c.item-item.ensures.item;
+        gives = gives_item w n m.room m.ranges m.ranges s x e of;
         leaves = tt;
         good = λ _ _. tt;
         repeats = λ stop same. let a : None ≡ Some stop = (e.repeats stop same).1 in absurd (cc);
@@ -84,25 +90,30 @@ returns-in-Err g c =
     )
 
 pub push_range-requires-clause-placed : goal.push_range-requires-clause-placed
-push_range-requires-clause-placed g c = placed-fits _ c.item-item.result c.item-item.ensures.placed
+push_range-requires-clause-placed g c = told-fits _ _ c.range.result c.range.ensures
 
 pub push_range-requires-clause-room : goal.push_range-requires-clause-room
 push_range-requires-clause-room g c =
     let n = c.advance.new.walk in
     let room = rw (c.free.ensures.value, c.in-Ok-Some.field-0-is) at c.in-Ok-Some.ensures.room in
-    omega (arith, room.ahead, ranges-given n.meter.source.size n.name.items c.in-Ok-Some.step c.item-item.result c.item-item.ensures.item)
+    omega (arith, room.ahead, ranges_told-few n.meter.source.size (step_told n.window.held c.in-Ok-Some.held) c.range.result c.range.ensures)
 
 pub invariant_of-self-in-Ok-Some : goal.invariant_of-self-in-Ok-Some
 invariant_of-self-in-Ok-Some g c =
     let w = c.self.inside.walk in
     let n = c.advance.new.walk in
-    let x = c.item-item.result in
+    let m = c.self.inside.map in
+    let z = n.meter.source.size in
+    let s = step_told n.window.held c.in-Ok-Some.held in
+    let x = step_item z n.name.items s in
+    let item = item_told z s c.range.result c.range.ensures n.name.items in
+    let pushed = c.push_range.ensures ∙ ap (λ rs. record m { ranges = m.ranges ++ rs }) (ranges_told-of z s c.range.result c.range.ensures n.name.items x item.item) in
     let e = c.advance.ensures.answered in
     let room = rw (c.free.ensures.value, c.in-Ok-Some.field-0-is) at c.in-Ok-Some.ensures.room in
-    rw c.push_range.ensures (mapped w n c.self.inside.map (ranges_of (x ∷ [])) _ c.self.invariant e.sound (same_file _ _ _ e.fetches e.same) room
+    rw pushed (mapped w n m (ranges_of (x ∷ [])) _ c.self.invariant e.sound (same_file _ _ _ e.fetches e.same) room
     (bounded_then w n c.self.invariant.bounded e.paid e.same e.fetches.same_size)
-    (ranges_of-within _ x (rw e.fetches.same_size at c.item-item.ensures.placed))
-    (ranges-given n.meter.source.size n.name.items c.in-Ok-Some.step x c.item-item.ensures.item))
+    (ranges_of-within _ x (subst (λ y. IsPlacedIn y x) e.fetches.same_size item.placed))
+    (ranges-given z n.name.items s x item.item))
 
 pub invariant_of-self-in-Err-1 : goal.invariant_of-self-in-Err-1
 invariant_of-self-in-Err-1 g c =

@@ -2,6 +2,7 @@ use Rattle.std.proofs.Common.{◌≡◌, ◌≤◌, ◌∙◌, [], None, Ok, len
 use Rattle.std.specs.Prelude.{map}
 use Rattle.mdmp_lister.specs.Format.Listing.{all_joined, chosen_from, entry_count, entry_listing, nothing}
 use Rattle.mdmp_lister.specs.Following.{goes_on}
+use Rattle.mdmp_lister.specs.HeldStep.{step_told}
 use Rattle.mdmp_lister.specs.Walk.{cursor_of, rest_of}
 use Rattle.mdmp_lister.specs.Walk.Paying.{stream_calls}
 use Rattle.mdmp_lister.proofs.Beginning.{chosen_begun, chosen_taken}
@@ -17,6 +18,7 @@ returns-in_default g c =
     let ok = w.entries.ok.0 in
     let past : length w.entries.items ≤ c.len-self.result = omega (arith, ok, c.len-self.ensures) in
     record {
+      whole = tt;
       taken = record {
         answered =
             record {
@@ -70,8 +72,12 @@ returns-in_default g c =
 pub returns : goal.returns
 returns g c =
     let w = c.args.self.now in
+    let n = c.begin_entry.new.self in
+    let begun = c.begin_entry.ensures in
+    let given = step_told n.window.held c.begin_entry.result in
     let next = rw c.deref.ensures.value at c.in-Some.ensures in
     record {
-      taken = chosen_taken w c.begin_entry.new.self c.in-Some.at c.begin_entry.result c.begin_entry.ensures c.requires.sound c.requires.through next;
-      begins = chosen_begun w c.begin_entry.new.self c.in-Some.at c.begin_entry.result c.begin_entry.ensures c.requires.sound c.requires.through next;
+      taken = chosen_taken w n c.in-Some.at given begun.taken c.requires.sound c.requires.through next;
+      whole = begun.whole;
+      begins = chosen_begun w n c.in-Some.at given begun.taken c.requires.sound c.requires.through next;
     }

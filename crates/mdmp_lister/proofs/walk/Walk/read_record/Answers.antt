@@ -1,4 +1,4 @@
-use Rattle.std.proofs.Common.{◌≡◌, arith, ◌∙◌, length, refl, rules, vec_len}
+use Rattle.std.proofs.Common.{◌≡◌, ◌+◌, ap, arith, ◌∙◌, length, refl, rules, vec_len}
 use Rattle.mdmp_lister.proofs.Bodies.{take-lent}
 use Rattle.mdmp_lister.proofs.Changing.{taken_fault}
 use Rattle.mdmp_lister.proofs.EntrySteps.{answered_record, answered_record_fault, given_record, nameless_reading}
@@ -6,11 +6,12 @@ use Rattle.mdmp_lister.proofs.Fetches.{unchanged_caused}
 use Rattle.mdmp_lister.specs.Format.KindLaws.{most_record}
 use Rattle.mdmp_lister.proofs.Unchanged.{fault_stage-unchanged}
 use Rattle.mdmp_lister.specs.Format.Kind.{greatest_record}
+use Rattle.mdmp_lister.specs.HeldStep.{step_told}
 use Rattle.mdmp_lister.specs.Walk.{IsHolding}
 use Rattle.mdmp_lister.proofs.walk.Walk.read_record.Goals as goal
 
-pub returns-in-Ok : goal.returns-in-Ok
-returns-in-Ok g c =
+pub returns-in-Ok-clause-read : goal.returns-in-Ok-clause-read
+returns-in-Ok-clause-read g c =
     let w = c.args.self.now in
     let a = c.args in
     let of = c.in-Ok.ensures in
@@ -18,7 +19,7 @@ returns-in-Ok g c =
       record {
         answered =
             answered_record w _ a.kind a.shape a.index a.offset c.record_at-at.result c.requires.stage c.requires.left c.requires.sound (search rules) c.record_at-at.ensures.place
-            _ c.in-Ok.step c.offset_behind.result refl c.offset_behind.ensures.range c.offset_behind.ensures.bound (rw room at of.reads) (rw room at of.tells)
+            _ (step_told c.read_item.new.window.held c.in-Ok.held) _ refl (ap (λ n. a.offset + n) (c.from.ensures ∙ rw c.bytes.ensures at c.bytes_behind-size.ensures)) (omega (arith, c.bytes_behind-size.type_inv)) (rw room at of.reads) (rw room at of.tells)
             of.comes (omega (arith, of.slides.bytes)) (of.slides.calls greatest_record (most_record a.kind) c.requires.sound.window)
             (λ file known here. rw (take-lent (vec_len w.name) c.read_item.new.buffer _ room) (rw room at (of.item file known w.current.location.rva here)))
             (rw room at of.some);
@@ -27,12 +28,12 @@ returns-in-Ok g c =
         nameless = λ none. of.nameless (nameless_reading w a.kind a.shape a.index a.offset c.requires.stage c.requires.sound none);
       },
       given_record w _ a.kind a.shape a.index a.offset c.record_at-at.result c.requires.stage c.requires.left c.requires.sound (search rules) c.record_at-at.ensures.place
-          c.in-Ok.step c.offset_behind.result refl
+          (step_told c.read_item.new.window.held c.in-Ok.held) _ refl
           (λ file known here. rw (take-lent (vec_len w.name) c.read_item.new.buffer _ room) (rw room at (of.item file known w.current.location.rva here))),
     )
 
-pub returns-in-Err : goal.returns-in-Err
-returns-in-Err g c =
+pub returns-in-Err-clause-read : goal.returns-in-Err-clause-read
+returns-in-Err-clause-read g c =
     let w = c.args.self.now in
     let a = c.args in
     let of = c.in-Err.ensures in

@@ -2,6 +2,7 @@ use Rattle.std.proofs.Common.{◌≡◌, None, Some, Ok, Err, refl, subst, sym}
 use Rattle.mdmp_lister.specs.declared.position.Position.TheVariants.{Within}
 use Rattle.mdmp_lister.specs.Lister.{AnswersNext, NextLeaves, ListerState}
 use Rattle.mdmp_lister.specs.Meter.{counts_of}
+use Rattle.mdmp_lister.specs.HeldStep.{step_told}
 use Rattle.mdmp_lister.specs.Step.{stream_told}
 use Rattle.mdmp_lister.specs.Walk.Positions.{AnsweredFrom, mark_by, position_by}
 use Rattle.mdmp_lister.proofs.Summary.{begins_as}
@@ -32,7 +33,7 @@ returns-in-Ok-Some g c =
     let w = c.self.inside.walk in
     let p = c.self.inside.position in
     let n = c.advance_from.new.walk in
-    let s = c.in-Ok-Some.step in
+    let s = step_told n.window.held c.in-Ok-Some.held in
     let x = c.item.result in
     let told = c.item.ensures.item in
     let sound = c.self.invariant.sound in
