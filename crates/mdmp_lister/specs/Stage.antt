@@ -1,5 +1,5 @@
 -- How far a walk has listed the current entry, and what it answers from then on.
-use Rattle.std.specs.Prelude.{◌≡◌, ◌-◌, ℕ, Bool, true, false, Option, None, Some, IfSome, Result, Ok, Err}
+use Rattle.std.specs.Prelude.{◌≡◌, ◌≤◌, ◌<◌, ◌+◌, ◌-◌, ◌^◌, ℕ, Bool, true, false, Option, None, Some, IfSome, Result, Ok, Err}
 use Rattle.mdmp_lister.specs.Fault.{IsOfStore, TellsNoChange}
 use Rattle.mdmp_lister.specs.Meter.{IsUnmade, MeterState, counts_of}
 use Rattle.mdmp_lister.specs.Following.{Standing, begun, through, within}
@@ -94,3 +94,13 @@ abbrev pub stop_after_run : Result (Unit {0}) RunFault → Option (Option ListFa
 stop_after_run (Ok done) = Some None
 stop_after_run (Err (run.At f)) = Some (Some f)
 stop_after_run (Err run.Stopped) = None
+
+-- the stage behind the record that is next, which tells so many bytes of a 64-bit memory list
+abbrev pub stage_behind : ℕ → Stage → Stage
+stage_behind bytes (Records kind shape index offset) = Records kind shape (index + 1) (offset + bytes)
+stage_behind bytes stage = stage
+
+-- its numbers fit in their types then
+abbrev pub MayPass : Stage → Type 0
+MayPass (Records kind shape index offset) = (index < 2 ^ 64 - 1) × (offset + 2 ^ 64 ≤ 2 ^ 128 - 1)
+MayPass stage = Unit {0}

@@ -1,4 +1,6 @@
 //! How far a walk is.
+ghost use Rattle.std.specs.Prelude.{◌≡◌};
+ghost use Rattle.mdmp_lister.specs.Stage.{MayPass, stage_behind};
 
 use crate::fault::ListFault;
 use crate::kind::StreamKind;
@@ -25,4 +27,18 @@ pub(crate) enum Stage {
     Failed(ListFault),
     /// No entry is left, for good.
     Ended,
+}
+
+impl Stage {
+    /// Goes on behind the record that is next, which tells so many bytes of a 64-bit memory list.
+    // In its place: the whole of a stage is some 80 bytes.
+    pub(crate) fn pass_record(&mut self, bytes: u64)
+        requires { MayPass self.old }
+        ensures { self.new ≡ stage_behind bytes self.old }
+    {
+        if let Stage::Records { index, offset, .. } = self {
+            *index += 1;
+            *offset += u128::from(bytes);
+        }
+    }
 }

@@ -370,12 +370,7 @@ impl<S: Store + Drop, A: Allocator + Copy> Walk<S, A> {
         ) {
             Ok(held) => {
                 let size = bytes_behind(&held, self.window.bytes());
-                self.stage = Stage::Records {
-                    kind,
-                    shape,
-                    index: index + 1,
-                    offset: offset + u128::from(size),
-                };
+                self.stage.pass_record(size);
                 Ok(held)
             }
             Err(fault) => self.stop_at(ListFault::of_entry(number, Some(index), fault)),

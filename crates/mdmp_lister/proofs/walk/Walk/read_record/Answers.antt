@@ -1,4 +1,5 @@
 use Rattle.std.proofs.Common.{◌≡◌, ◌+◌, ap, arith, ◌∙◌, length, refl, rules, vec_len}
+use Rattle.mdmp_lister.specs.declared.stage.Stage.TheVariants.{Records}
 use Rattle.mdmp_lister.proofs.Bodies.{take-lent}
 use Rattle.mdmp_lister.proofs.Changing.{taken_fault}
 use Rattle.mdmp_lister.proofs.EntrySteps.{answered_record, answered_record_fault, given_record, nameless_reading}
@@ -7,7 +8,8 @@ use Rattle.mdmp_lister.specs.Format.KindLaws.{most_record}
 use Rattle.mdmp_lister.proofs.Unchanged.{fault_stage-unchanged}
 use Rattle.mdmp_lister.specs.Format.Kind.{greatest_record}
 use Rattle.mdmp_lister.specs.HeldStep.{step_told}
-use Rattle.mdmp_lister.specs.Walk.{IsHolding}
+use Rattle.mdmp_lister.specs.Stage.{MayPass}
+use Rattle.mdmp_lister.specs.Walk.{IsHolding, IsReading}
 use Rattle.mdmp_lister.proofs.walk.Walk.read_record.Goals as goal
 
 pub returns-in-Ok-clause-read : goal.returns-in-Ok-clause-read
@@ -15,20 +17,22 @@ returns-in-Ok-clause-read g c =
     let w = c.args.self.now in
     let a = c.args in
     let of = c.in-Ok.ensures in
+    let stage : c.pass_record.new.self ≡ Records a.kind a.shape (a.index + 1) (a.offset + c.bytes_behind-size.result) = rw c.requires.stage at c.pass_record.ensures in
+    let size = rw c.bytes.ensures at c.bytes_behind-size.ensures in
     let room : length c.read_item.new.buffer ≡ vec_len w.name = of.length ∙ c.deref_mut.ensures.len in (
       record {
         answered =
             answered_record w _ a.kind a.shape a.index a.offset c.record_at-at.result c.requires.stage c.requires.left c.requires.sound (search rules) c.record_at-at.ensures.place
-            _ (step_told c.read_item.new.window.held c.in-Ok.held) _ refl (ap (λ n. a.offset + n) (c.from.ensures ∙ rw c.bytes.ensures at c.bytes_behind-size.ensures)) (omega (arith, c.bytes_behind-size.type_inv)) (rw room at of.reads) (rw room at of.tells)
+            _ (step_told c.read_item.new.window.held c.in-Ok.held) _ stage (ap (λ n. a.offset + n) size) (omega (arith, c.bytes_behind-size.type_inv)) (rw room at of.reads) (rw room at of.tells)
             of.comes (omega (arith, of.slides.bytes)) (of.slides.calls greatest_record (most_record a.kind) c.requires.sound.window)
             (λ file known here. rw (take-lent (vec_len w.name) c.read_item.new.buffer _ room) (rw room at (of.item file known w.current.location.rva here)))
             (rw room at of.some);
         room = search rules;
-        unchanged = λ stays. tt;
+        unchanged = λ stays. rw stage tt;
         nameless = λ none. of.nameless (nameless_reading w a.kind a.shape a.index a.offset c.requires.stage c.requires.sound none);
       },
       given_record w _ a.kind a.shape a.index a.offset c.record_at-at.result c.requires.stage c.requires.left c.requires.sound (search rules) c.record_at-at.ensures.place
-          (step_told c.read_item.new.window.held c.in-Ok.held) _ refl
+          (step_told c.read_item.new.window.held c.in-Ok.held) _ stage
           (λ file known here. rw (take-lent (vec_len w.name) c.read_item.new.buffer _ room) (rw room at (of.item file known w.current.location.rva here))),
     )
 
@@ -58,3 +62,11 @@ read_item-requires-clause-ahead g c =
       room = omega (arith, most_record c.args.kind, sound.window);
       held = holding.held;
     }
+
+pub pass_record-requires : goal.pass_record-requires
+pass_record-requires g c =
+    let a = c.args in
+    let w = a.self.now in
+    let reading : IsReading w.meter.source.size w.next w.current a.kind a.shape a.index a.offset = rw c.requires.stage at c.requires.sound.staged in
+    let fits : MayPass (Records a.kind a.shape a.index a.offset) = (omega (arith, reading.few, c.requires.left), omega (arith, reading.bound, reading.few, reading.within)) in
+    rw c.requires.stage fits
