@@ -9,6 +9,8 @@
 #[cfg(test)]
 mod asked;
 #[cfg(test)]
+mod blocks;
+#[cfg(test)]
 mod copy;
 #[cfg(test)]
 mod disk_growths;
@@ -50,6 +52,8 @@ mod running;
 mod runs;
 #[cfg(test)]
 mod same;
+#[cfg(test)]
+mod spread_files;
 #[cfg(test)]
 mod system_calls;
 #[cfg(test)]
