@@ -69,6 +69,7 @@ fn small_reads_are_answered_from_a_block(rt: HostRuntime) {
 
 /// How many names are read, and how many bytes each has, with its length.
 const NAMES: u64 = 1_000;
+
 const NAME: u64 = 368;
 
 /// Reads a name by its length and its text.

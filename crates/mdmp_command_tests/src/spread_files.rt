@@ -8,10 +8,19 @@ use std::rt::Files;
 /// Bytes, and their offset.
 pub type Part = (u64, &'static [u8]);
 
-/// A system: the header, the directory at 20,000, the record at 40,000 and its name at 60,000.
+/// The header of a file of one stream, with its directory at 20,000.
+const HEADER: Part = (
+    0,
+    b"MDMP\x93\xa7\0\0\x01\0\0\0\x20\x4e\0\0\0\0\0\0\0\0\0\0\0\0\0\0\0\0\0\0",
+);
+
+/// The directory: a system at 40,000.
+const DIRECTORY: Part = (20_000, b"\x07\0\0\0\x38\0\0\0\x40\x9c\0\0");
+
+/// A system, its record at 40,000 and its name at 60,000.
 pub const SPREAD_SYSTEM: [Part; 4] = [
-    (0, b"MDMP\x93\xa7\0\0\x01\0\0\0\x20\x4e\0\0\0\0\0\0\0\0\0\0\0\0\0\0\0\0\0\0"),
-    (20_000, b"\x07\0\0\0\x38\0\0\0\x40\x9c\0\0"),
+    HEADER,
+    DIRECTORY,
     (
         40_000,
         b"\x09\0\x06\0\x03\0\x04\x01\x06\0\0\0\x01\0\0\0\xb1\x1d\0\0\x02\0\0\0\x60\xea\0\0\0\x01\0\0\
@@ -23,8 +32,8 @@ pub const SPREAD_SYSTEM: [Part; 4] = [
 /// The same, where the length of the name stands at 56,380, at the end of the block that begins with the record,
 /// and its text behind that.
 pub const SPREAD_NAME: [Part; 4] = [
-    SPREAD_SYSTEM[0],
-    SPREAD_SYSTEM[1],
+    HEADER,
+    DIRECTORY,
     (
         40_000,
         b"\x09\0\x06\0\x03\0\x04\x01\x06\0\0\0\x01\0\0\0\xb1\x1d\0\0\x02\0\0\0\x3c\xdc\0\0\0\x01\0\0\
@@ -44,7 +53,10 @@ const NAME: &[u8] = b"\x1c\0\0\0S\0e\0r\0v\0i\0c\0e\0 \0P\0a\0c\0k\0 \x001\0\0\0
 
 /// One range of 64-bit memory, at 40,000, whose bytes stand at 100,000, and a memory list of no ranges, at 60,000.
 pub const SPREAD_MEMORY: [Part; 5] = [
-    (0, b"MDMP\x93\xa7\0\0\x02\0\0\0\x20\x4e\0\0\0\0\0\0\0\0\0\0\0\0\0\0\0\0\0\0"),
+    (
+        0,
+        b"MDMP\x93\xa7\0\0\x02\0\0\0\x20\x4e\0\0\0\0\0\0\0\0\0\0\0\0\0\0\0\0\0\0",
+    ),
     (
         20_000,
         b"\x09\0\0\0\x20\0\0\0\x40\x9c\0\0\x05\0\0\0\x04\0\0\0\x60\xea\0\0",

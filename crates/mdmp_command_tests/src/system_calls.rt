@@ -3,9 +3,7 @@ use crate::failing_system::FailingSystem;
 use crate::files::{is_there, remove_file, write_file};
 use crate::runs::{CommandEnd, ended, new_out, status_of};
 use crate::same::{assert_same, assert_same_at, assert_that};
-use crate::spread_files::{
-    SPREAD_MEMORY, SPREAD_NAME, SPREAD_SYSTEM, SPREAD_TEXT, write_spread,
-};
+use crate::spread_files::{SPREAD_MEMORY, SPREAD_NAME, SPREAD_SYSTEM, SPREAD_TEXT, write_spread};
 use mdmp_source::{FileStore, Store};
 use mdmp_test_support::{BY_SEVEN, MEMORY64, SYSTEM, SYSTEM_TEXT, WIDE_TEXT};
 use std::alloc::{Alloc, AllocGlobal, Global};
@@ -138,12 +136,24 @@ const LINES: [(&[&str], ToldCalls<'static>, &str); 9] = [
     (&["list", "system.dmp"], &SMALL_SYSTEM, SYSTEM_TEXT),
     (&["list", "system.dmp", "--pdb"], &SMALL_SYSTEM, SYSTEM_TEXT),
     (&["check", "system.dmp"], &SMALL_SYSTEM, "entry 0: ok\n"),
-    (&["hex", "wide.dmp", "0x1000", "4"], &SMALL_MEMORY, WIDE_TEXT),
+    (
+        &["hex", "wide.dmp", "0x1000", "4"],
+        &SMALL_MEMORY,
+        WIDE_TEXT,
+    ),
     (&["list", "spread.dmp"], &SPREAD_LISTED, SPREAD_TEXT),
-    (&["list", "spread.dmp", "--pdb"], &SPREAD_LISTED, SPREAD_TEXT),
+    (
+        &["list", "spread.dmp", "--pdb"],
+        &SPREAD_LISTED,
+        SPREAD_TEXT,
+    ),
     (&["check", "spread.dmp"], &SPREAD_LISTED, "entry 0: ok\n"),
     (&["list", "name.dmp"], &NAME_LISTED, SPREAD_TEXT),
-    (&["hex", "memory.dmp", "0x1000", "4"], &SPREAD_PRINTED, WIDE_TEXT),
+    (
+        &["hex", "memory.dmp", "0x1000", "4"],
+        &SPREAD_PRINTED,
+        WIDE_TEXT,
+    ),
 ];
 
 #[test]
