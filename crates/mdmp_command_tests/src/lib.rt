@@ -9,8 +9,6 @@
 #[cfg(test)]
 mod asked;
 #[cfg(test)]
-mod blocks;
-#[cfg(test)]
 mod copy;
 #[cfg(test)]
 mod disk_growths;
@@ -22,6 +20,8 @@ mod failing_outputs;
 mod failing_stores;
 #[cfg(test)]
 mod failing_system;
+#[cfg(test)]
+mod file_blocks;
 #[cfg(test)]
 mod files;
 #[cfg(test)]
