@@ -4,10 +4,12 @@ use crate::same::{assert_same, assert_same_at};
 use crate::source::patchy_out;
 use crate::source::windows::holds_window;
 use crate::wire::units::{NINE, holds_bytes, holds_text, holds_text_of, holds_units};
-use mdmp_source::{BlockOut, PatchyOut};
-use mdmp_test_support::{MeteredHeap, Refusal};
+use mdmp_source::{BlockOut, FileStore, PatchyOut};
+use mdmp_test_support::{HeapCounts, MeteredHeap, Refusal};
 use std::alloc::{Allocator, Global};
+use std::fs;
 use std::process::Abort;
+use std::rt::Files;
 
 /// A call that takes memory.
 #[derive(Clone, Copy, Debug)]
@@ -71,6 +73,28 @@ fn growths_of(rt: &impl Abort, alloc: Global, call: MemoryCall) -> u32 {
         }
     }
     rt.panic("too many growths")
+}
+
+/// Whether there is memory for the block of a file of the system while the growth with this number is refused,
+/// and no other, and what was asked of the heap once all that was taken is given back.
+fn opened_without<R: Files>(rt: &R, alloc: Global, path: &str, growth: u64) -> (bool, HeapCounts) {
+    let heap = MeteredHeap::new(alloc, Refusal::Only(growth));
+    let is_opened = FileStore::open(&(rt, &heap), path).is_ok();
+    (is_opened, heap.counts())
+}
+
+#[test]
+fn block_of_a_file_is_one_growth_which_may_be_refused(rt: HostRuntime) {
+    fs::write(&rt, "block", "abcdef").expect(&rt, "a file");
+    let counts = HeapCounts {
+        growths: 1,
+        bytes: 16_384,
+        out: 0,
+    };
+    for (growth, is_opened) in [(0, false), (1, true)] {
+        let found = opened_without(&rt, rt.alloc(), "block", growth);
+        assert_same_at(&rt, &growth, found, (is_opened, counts));
+    }
 }
 
 #[test]

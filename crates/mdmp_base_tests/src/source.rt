@@ -11,7 +11,7 @@ use crate::same::{assert_same, assert_same_at};
 use mdmp_source::{
     FileStore, Out, OutFailed, PatchyOut, Source, SourceFault, Store, send, write_all,
 };
-use std::alloc::Global;
+use std::alloc::{AllocGlobal, Global};
 use std::fs;
 use std::process::Abort;
 use std::rt::Files;
@@ -28,7 +28,7 @@ fn four_at_one<S: Store>(rt: &impl Abort, source: &mut Source<S>) -> Fetched {
 }
 
 /// A store over this file of the system.
-fn file_store<R: Files + Abort>(rt: &R, path: &str) -> FileStore<R::File> {
+fn file_store<R: Files + AllocGlobal + Abort>(rt: &R, path: &str) -> FileStore<R::File> {
     FileStore::open(rt, path).expect(rt, "a store")
 }
 

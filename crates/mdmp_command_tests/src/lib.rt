@@ -21,6 +21,8 @@ mod failing_stores;
 #[cfg(test)]
 mod failing_system;
 #[cfg(test)]
+mod file_blocks;
+#[cfg(test)]
 mod files;
 #[cfg(test)]
 mod growths;
@@ -50,6 +52,8 @@ mod running;
 mod runs;
 #[cfg(test)]
 mod same;
+#[cfg(test)]
+mod spread_files;
 #[cfg(test)]
 mod system_calls;
 #[cfg(test)]

@@ -3,6 +3,7 @@ use crate::failing_system::FailingSystem;
 use crate::files::{is_there, remove_file, write_file};
 use crate::runs::{CommandEnd, ended, new_out, status_of};
 use crate::same::{assert_same, assert_same_at, assert_that};
+use crate::spread_files::{SPREAD_MEMORY, SPREAD_NAME, SPREAD_SYSTEM, SPREAD_TEXT, write_spread};
 use mdmp_source::{FileStore, Store};
 use mdmp_test_support::{BY_SEVEN, MEMORY64, SYSTEM, SYSTEM_TEXT, WIDE_TEXT};
 use std::alloc::{Alloc, AllocGlobal, Global};
@@ -88,39 +89,80 @@ fn assert_told<R: Files + AllocGlobal + Abort>(
     panic!(rt; "too many calls")
 }
 
-/// A file is opened and asked for its size. The header is sought and read, the directory read, the system,
-/// the length of its name, and the name, each where the one before it ended.
-const LISTED: [(u64, &str); 6] = [
+/// A small file is opened, asked for its size, and read into a block.
+const SMALL_SYSTEM: [(u64, &str); 2] = [
     (2, "mdmp: cannot open system.dmp\n"),
     (4, "mdmp: store failed at 0\n"),
-    (5, "mdmp: store failed at 32\n"),
-    (6, "mdmp: store failed at 44\n"),
-    (7, "mdmp: store failed at 100\n"),
-    (8, "mdmp: store failed at 104\n"),
 ];
 
-/// Behind the head of the list it is sought again.
-const PRINTED: [(u64, &str); 6] = [
+const SMALL_MEMORY: [(u64, &str); 2] = [
     (2, "mdmp: cannot open wide.dmp\n"),
     (4, "mdmp: store failed at 0\n"),
-    (5, "mdmp: store failed at 32\n"),
-    (6, "mdmp: store failed at 44\n"),
-    (8, "mdmp: store failed at 44\n"),
-    (9, "mdmp: store failed at 92\n"),
+];
+
+/// Where no block holds two parts, the header is sought and read, the directory, the system, and the length of
+/// its name, whose text stands in one block with that.
+const SPREAD_LISTED: [(u64, &str); 5] = [
+    (2, "mdmp: cannot open spread.dmp\n"),
+    (4, "mdmp: store failed at 0\n"),
+    (6, "mdmp: store failed at 20000\n"),
+    (8, "mdmp: store failed at 40000\n"),
+    (10, "mdmp: store failed at 60000\n"),
+];
+
+/// The text of a name alone is read where a block ends behind its length: the file stands there.
+const NAME_LISTED: [(u64, &str); 5] = [
+    (2, "mdmp: cannot open name.dmp\n"),
+    (4, "mdmp: store failed at 0\n"),
+    (6, "mdmp: store failed at 20000\n"),
+    (8, "mdmp: store failed at 40000\n"),
+    (9, "mdmp: store failed at 56384\n"),
+];
+
+/// Behind the heads of the lists they are sought again, and then the memory.
+const SPREAD_PRINTED: [(u64, &str); 8] = [
+    (2, "mdmp: cannot open memory.dmp\n"),
+    (4, "mdmp: store failed at 0\n"),
+    (6, "mdmp: store failed at 20000\n"),
+    (8, "mdmp: store failed at 40000\n"),
+    (10, "mdmp: store failed at 60000\n"),
+    (12, "mdmp: store failed at 40000\n"),
+    (14, "mdmp: store failed at 60000\n"),
+    (16, "mdmp: store failed at 100000\n"),
 ];
 
 /// Command lines, what is told of the calls of each, and what each prints.
-const LINES: [(&[&str], ToldCalls<'static>, &str); 4] = [
-    (&["list", "system.dmp"], &LISTED, SYSTEM_TEXT),
-    (&["list", "system.dmp", "--pdb"], &LISTED, SYSTEM_TEXT),
-    (&["check", "system.dmp"], &LISTED, "entry 0: ok\n"),
-    (&["hex", "wide.dmp", "0x1000", "4"], &PRINTED, WIDE_TEXT),
+const LINES: [(&[&str], ToldCalls<'static>, &str); 9] = [
+    (&["list", "system.dmp"], &SMALL_SYSTEM, SYSTEM_TEXT),
+    (&["list", "system.dmp", "--pdb"], &SMALL_SYSTEM, SYSTEM_TEXT),
+    (&["check", "system.dmp"], &SMALL_SYSTEM, "entry 0: ok\n"),
+    (
+        &["hex", "wide.dmp", "0x1000", "4"],
+        &SMALL_MEMORY,
+        WIDE_TEXT,
+    ),
+    (&["list", "spread.dmp"], &SPREAD_LISTED, SPREAD_TEXT),
+    (
+        &["list", "spread.dmp", "--pdb"],
+        &SPREAD_LISTED,
+        SPREAD_TEXT,
+    ),
+    (&["check", "spread.dmp"], &SPREAD_LISTED, "entry 0: ok\n"),
+    (&["list", "name.dmp"], &NAME_LISTED, SPREAD_TEXT),
+    (
+        &["hex", "memory.dmp", "0x1000", "4"],
+        &SPREAD_PRINTED,
+        WIDE_TEXT,
+    ),
 ];
 
 #[test]
 fn each_call_behind_a_print_may_fail(rt: HostRuntime) {
     write_file(&rt, "system.dmp", &SYSTEM);
     write_file(&rt, "wide.dmp", &MEMORY64);
+    write_spread(&rt, "spread.dmp", &SPREAD_SYSTEM);
+    write_spread(&rt, "name.dmp", &SPREAD_NAME);
+    write_spread(&rt, "memory.dmp", &SPREAD_MEMORY);
     for &(words, told, text) in &LINES {
         assert_told(&rt, rt.alloc(), words, told, text);
     }
@@ -139,7 +181,7 @@ fn size_copied<R: Files + Alloc + Abort>(rt: &R) -> Option<usize> {
 
 /// The lines that tell of a file, a store or an output.
 const FAILURES: [&str; 4] = [
-    "mdmp: cannot open system.dmp\n",
+    "mdmp: cannot open s",
     "mdmp: cannot create calls.dmp\n",
     "mdmp: store failed at ",
     "mdmp: output failed\n",
@@ -157,9 +199,14 @@ fn is_failure(line: &str) -> bool {
 
 /// Asserts that a copy of which this call fails tells so and leaves a first part, or ends well. Tells
 /// whether there was such a call.
-fn is_copy_failed<R: Files + AllocGlobal + Abort>(rt: &R, alloc: Global, call: u64) -> bool {
+fn is_copy_failed<R: Files + AllocGlobal + Abort>(
+    rt: &R,
+    alloc: Global,
+    name: &str,
+    call: u64,
+) -> bool {
     remove_file(rt, "calls.dmp");
-    let words = ["copy", "system.dmp", "calls.dmp", "7"];
+    let words = ["copy", name, "calls.dmp", "7"];
     let ended = run_failing(rt, alloc, &words, call);
     let size = size_copied(rt);
     if ended.status == 0 {
@@ -174,10 +221,10 @@ fn is_copy_failed<R: Files + AllocGlobal + Abort>(rt: &R, alloc: Global, call: u
     true
 }
 
-/// How many calls of a copy may fail, one after the other.
-fn calls_of_copy<R: Files + AllocGlobal + Abort>(rt: &R, alloc: Global) -> u64 {
+/// How many calls of a copy of this file may fail, one after the other.
+fn calls_of_copy<R: Files + AllocGlobal + Abort>(rt: &R, alloc: Global, name: &str) -> u64 {
     for call in 0..60 {
-        if !is_copy_failed(rt, alloc, call) {
+        if !is_copy_failed(rt, alloc, name, call) {
             return call;
         }
     }
@@ -187,11 +234,14 @@ fn calls_of_copy<R: Files + AllocGlobal + Abort>(rt: &R, alloc: Global) -> u64 {
 #[test]
 fn each_call_behind_a_copy_may_fail(rt: HostRuntime) {
     write_file(&rt, "system.dmp", &SYSTEM);
-    assert_that(&rt, calls_of_copy(&rt, rt.alloc()) > 3);
+    write_spread(&rt, "spread.dmp", &SPREAD_SYSTEM);
+    for name in ["system.dmp", "spread.dmp"] {
+        assert_that(&rt, calls_of_copy(&rt, rt.alloc(), name) > 3);
+    }
 }
 
 /// How many bytes the file of this name has, where the call of this number fails.
-fn size_without<R: Files>(rt: &R, name: &str, fail_at: u64) -> Option<u64> {
+fn size_without<R: Files + AllocGlobal>(rt: &R, name: &str, fail_at: u64) -> Option<u64> {
     let calls = Cell::new(0);
     let system = FailingSystem {
         rt,
@@ -205,7 +255,7 @@ fn size_without<R: Files>(rt: &R, name: &str, fail_at: u64) -> Option<u64> {
 }
 
 /// Asserts how many bytes the system's file has, where the first call fails, the second, and so on.
-fn assert_sizes(rt: &(impl Files + Abort), sizes: &[Option<u64>]) {
+fn assert_sizes(rt: &(impl Files + AllocGlobal + Abort), sizes: &[Option<u64>]) {
     let mut call: u64 = 0;
     for size in sizes {
         assert_same_at(rt, &call, size_without(rt, "system.dmp", call), *size);

@@ -2,6 +2,7 @@
 
 use crate::disk::{Disk, DiskRefused, Requests};
 use mdmp_source::{FileStore, Out, OutFailed, WriteOut};
+use std::alloc::Alloc;
 use std::fs::OpenOptions;
 use std::rt::Files;
 
@@ -12,11 +13,11 @@ pub struct SystemDisk<'a, R> {
     requests: Requests,
 }
 
-impl<'a, R: Files> SystemDisk<'a, R> {
+impl<'a, R: Files + Alloc> SystemDisk<'a, R> {
     ghost use Rattle.std.specs.Prelude.{◌≡◌};
     ghost use Rattle.mdmp_disk.specs.System.{no_requests, system};
 
-    /// The files that this runtime reaches.
+    /// The files that this runtime reaches. Each that is opened takes its block from the runtime's memory.
     pub fn new(rt: &'a R) -> Self
         ensures { ⟦<SystemDisk<'a, R> as Disk>⟧.state result ≡ system no_requests }
     {
@@ -27,10 +28,10 @@ impl<'a, R: Files> SystemDisk<'a, R> {
     }
 }
 
-impl<R: Files> Disk for SystemDisk<'_, R> {
+impl<R: Files + Alloc> Disk for SystemDisk<'_, R> {
     ghost use Rattle.mdmp_disk.specs.System.{system};
 
-    type File = FileStore<R::File>;
+    type File = FileStore<R::File, R::A>;
 
     type Made = NewFile<WriteOut<R::File>>;
 

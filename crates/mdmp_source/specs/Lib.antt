@@ -1,8 +1,10 @@
 pub mod BlockLaws
+pub mod BlockedFile
 pub mod Blocks
 pub mod Count
 pub mod Extent
 pub mod Fault
+pub mod FileBlock
 pub mod Files
 pub mod Output
 pub mod OutputLaws

@@ -1,62 +1,68 @@
 //! A file of the system.
-ghost use Rattle.std.specs.Prelude.{◌≡◌, ◌≢◌, ◌≤◌, Some, length, IfOk};
-ghost use Rattle.std.specs.Io.KnownBytes.{ReadConsumes};
-ghost use Rattle.mdmp_source.specs.Files.{ReadsAt, place_behind};
+ghost use Rattle.std.specs.Prelude.{◌≡◌, ◌≤◌, length, IfOk};
 
+use crate::blocked_file::{BLOCK, BlockedFile};
 use crate::store::{Store, StoreFailed, Tally};
+use std::alloc::{Alloc, Allocator, Global};
 use std::fs;
 use std::fs::{Metadata, OpenFile};
-use std::io::{Read, Seek, SeekFrom};
+use std::io::{Read, Seek};
 use std::rt::Files;
 
 /// An open file of the system, whose size is taken once. No contract knows its bytes.
 ///
-/// A call of `read_at` is one read, behind one seek where the file is not known to stand at its place,
-/// and fails where either does. So bytes that are read one behind the other take one call of the system
-/// each time.
+/// A call of `read_at` for less than 16 KiB is answered from a block of that size, which the store holds:
+/// in part, where the block ends. Where the block does not hold the byte at its place, it is read there
+/// first. So names that stand one behind the other take one call of the system for many. A call for
+/// 16 KiB or more goes past the block. A read is one call of the system, behind one seek where the file is
+/// not known to stand at its place, and fails where either does; the block holds nothing then.
+///
+/// The bytes of an answer are as old as the block: of a file that changes while it is read, a call may give
+/// what was there when an earlier one read the block.
+// Several blocks would serve lists whose records and names take turns. A window of a block or more, as it is
+// by default, goes past the block, so that one is enough.
 #[derive(Drop)]
-pub struct FileStore<F> {
-    file: F,
+pub struct FileStore<F, A: Allocator = Global> {
+    file: BlockedFile<F, A>,
     size: u64,
     tally: Tally,
-    /// Where the file stands: behind the bytes that the last call gave, and unknown before the first
-    /// call and behind one that failed.
-    place: Option<u64>,
 }
 
-impl<F: Read + Seek + OpenFile + Drop> FileStore<F> {
+impl<F: Read + Seek + OpenFile + Drop, A: Allocator> FileStore<F, A> {
     ghost use Rattle.std.specs.Prelude.{◌≡◌, IfOk, None, false};
     ghost use Rattle.std.specs.Fs.{metadata_len};
+    ghost use Rattle.mdmp_source.specs.BlockedFile.{IsUnread};
     ghost use Rattle.mdmp_source.specs.Store.{IsNew};
 
-    /// Opens the file at `path` for reading. Every refusal of the system is `StoreFailed`.
-    pub fn open<R: Files<File = F>>(rt: &R, path: &str) -> Result<Self, StoreFailed>
-        ensures { IfOk result (λ store. IsNew (⟦<FileStore<F> as Store>⟧.state store) None false) }
+    /// Opens the file at `path` for reading, and takes the memory of the block, which is all that the store
+    /// ever takes. Every refusal of the system is `StoreFailed`, and so is want of memory.
+    pub fn open<R: Files<File = F> + Alloc<A = A>>(rt: &R, path: &str) -> Result<Self, StoreFailed>
+        ensures new { IfOk result (λ store. IsNew (⟦<FileStore<F, A> as Store>⟧.state store) None false) }
+        ensures unread { IfOk result (λ store. IsUnread BLOCK store.file) }
     {
         let file = fs::open(rt, path).map_err(|_| StoreFailed)?;
         let metadata = file.metadata().map_err(|_| StoreFailed)?;
+        let file = BlockedFile::new(rt.alloc(), file).map_err(|_| StoreFailed)?;
         Ok(FileStore::of_size(file, &metadata))
     }
 
     /// A store over an open file of this metadata.
-    fn of_size(file: F, metadata: &Metadata) -> Self
-        ensures new { IsNew (⟦<FileStore<F> as Store>⟧.state result) None false }
+    fn of_size(file: BlockedFile<F, A>, metadata: &Metadata) -> Self
+        ensures new { IsNew (⟦<FileStore<F, A> as Store>⟧.state result) None false }
         ensures size { result.size ≡ metadata_len metadata.now }
-        ensures file { (result.file ≡ file) × (result.place ≡ None) }
+        ensures file { result.file ≡ file }
     {
         FileStore {
             file,
             size: metadata.len(),
             tally: Tally::new(),
-            place: None,
         }
     }
 }
 
-impl<F: Read + Seek> Store for FileStore<F> {
-    ghost use Rattle.std.specs.Prelude.{◌≡◌, ◌≢◌, ◌≤◌, IfOk, None, Some, false, length};
-    ghost use Rattle.std.specs.Io.KnownBytes.{ReadConsumes};
-    ghost use Rattle.mdmp_source.specs.Files.{ReadsAt, place_behind};
+impl<F: Read + Seek, A: Allocator> Store for FileStore<F, A> {
+    ghost use Rattle.std.specs.Prelude.{◌≡◌, ◌≤◌, IfOk, None, false, length};
+    ghost use Rattle.mdmp_source.specs.BlockedFile.{IsBlockedRead};
     ghost use Rattle.mdmp_source.specs.Store.{StoreState, tally_after};
 
     ghost state = { λ s. record {
@@ -75,35 +81,11 @@ impl<F: Read + Seek> Store for FileStore<F> {
         ensures state { self.new ≡ record self.old {
           file = self.new.file;
           tally = tally_after self.old.tally result at (length out.new);
-          place = place_behind at result;
         } }
-        ensures sought { self.old.place ≢ Some at → ReadsAt F.stream_position F.remaining self.old.file at result out.new self.new.file }
-        ensures stands { self.old.place ≡ Some at → ReadConsumes (F.remaining self.old.file) (F.remaining self.new.file) result out.new }
+        ensures read { IsBlockedRead F.stream_position F.remaining self.old.file at result out.new self.new.file }
     {
-        let answer = read_from(&mut self.file, self.place, at, out);
+        let answer = self.file.read_at(at, out);
         self.tally.count(&answer, at, out.len());
-        self.place = match answer {
-            Ok(count) => at.checked_add(count as u64),
-            Err(_) => None,
-        };
         answer
     }
-}
-
-/// Reads some of the bytes at `at` into the front of `out`, of a file that stands at `place`, or that is
-/// not known to stand anywhere.
-fn read_from<F: Read + Seek>(
-    file: &mut F,
-    place: Option<u64>,
-    at: u64,
-    out: &mut [u8],
-) -> Result<usize, StoreFailed>
-    ensures bound { IfOk result (λ k. k ≤ length out.new) }
-    ensures sought { place ≢ Some at → ReadsAt F.stream_position F.remaining file.old at result out.new file.new }
-    ensures stands { place ≡ Some at → ReadConsumes (F.remaining file.old) (F.remaining file.new) result out.new }
-{
-    if place != Some(at) {
-        file.seek(SeekFrom::Start(at)).map_err(|_| StoreFailed)?;
-    }
-    file.read(out).map_err(|_| StoreFailed)
 }

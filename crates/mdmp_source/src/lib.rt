@@ -20,13 +20,16 @@
 #![tactic(auto)]
 
 mod block_out;
+mod blocked_file;
 mod fault;
+mod file_block;
 mod file_store;
 mod location;
 mod memory_store;
 mod output;
 mod patchy_out;
 mod patchy_store;
+mod placed_file;
 mod range;
 mod source;
 mod store;

@@ -4,6 +4,7 @@ use crate::same::{assert_same, assert_same_at, assert_that};
 use mdmp_source::{
     FileStore, MemoryStore, PatchyStore, Source, SourceFault, Store, StoreFailed, Tally,
 };
+use std::alloc::AllocGlobal;
 use std::fs;
 use std::process::Abort;
 use std::rt::Files;
@@ -134,14 +135,14 @@ fn lent_store_is_had_back(rt: HostRuntime) {
 }
 
 /// Makes this file of six bytes, asserts that a source gives them, and removes it.
-fn assert_file_has_six(rt: &(impl Files + Abort), path: &str) {
+fn assert_file_has_six(rt: &(impl Files + AllocGlobal + Abort), path: &str) {
     fs::write(rt, path, "abcdef").expect(rt, "a file");
     assert_has_six(rt, &mut source_of(file_store(rt, path)));
     remove(rt, path);
 }
 
 /// Whether a store over this file is refused.
-fn is_refused(rt: &impl Files, path: &str) -> bool {
+fn is_refused(rt: &(impl Files + AllocGlobal), path: &str) -> bool {
     FileStore::open(rt, path).is_err()
 }
 

@@ -3,6 +3,7 @@
 use super::{file_store, remove};
 use crate::same::{assert_same, assert_same_at};
 use mdmp_source::{Store, StoreFailed, TwoFaces};
+use std::alloc::AllocGlobal;
 use std::fs::File;
 use std::io::{Seek, SeekFrom, Write};
 use std::process::Abort;
@@ -43,7 +44,13 @@ fn make_file(rt: &(impl Files + Abort), path: &str, at: u64) {
 
 /// Makes a file of zeros up to the offset `at`, and the six bytes `abcdef` behind them, asserts that it has
 /// that size and is read as the rows say, and removes it.
-fn assert_file_reads(rt: &(impl Files + Abort), path: &str, at: u64, size: u64, rows: &[ReadRow]) {
+fn assert_file_reads(
+    rt: &(impl Files + AllocGlobal + Abort),
+    path: &str,
+    at: u64,
+    size: u64,
+    rows: &[ReadRow],
+) {
     make_file(rt, path, at);
     let mut store = file_store(rt, path);
     assert_same(rt, store.size(), size);
@@ -51,7 +58,7 @@ fn assert_file_reads(rt: &(impl Files + Abort), path: &str, at: u64, size: u64, 
     remove(rt, path);
 }
 
-/// Reads of a file of six bytes. Some begin where the one before it ended.
+/// Reads of a file of six bytes. Some begin where the one before it ended, and some in what that read.
 const SIX_BYTES: [ReadRow; 9] = [
     (4, 2, *b"ef\0\0"),
     (0, 4, *b"abcd"),
@@ -69,6 +76,53 @@ fn file_store_reads_a_file(rt: HostRuntime) {
     assert_file_reads(&rt, "six_bytes", 0, 6, &SIX_BYTES);
 }
 
+/// How many bytes of a file a call for fewer reads, and is then answered from.
+const BLOCK: usize = 16_384;
+
+/// Reads of a file of six bytes behind zeros, of which two stand in the first block.
+const ACROSS_BLOCKS: [ReadRow; 10] = [
+    (0, 4, [0; 4]),
+    (16_380, 4, *b"\0\0ab"),
+    (16_382, 2, *b"ab\0\0"),
+    (16_383, 1, *b"b\0\0\0"),
+    (16_384, 4, *b"cdef"),
+    (16_387, 1, *b"f\0\0\0"),
+    (16_388, 0, [0; 4]),
+    (16_383, 4, *b"bcde"),
+    (16_382, 4, *b"abcd"),
+    (16_400, 0, [0; 4]),
+];
+
+#[test]
+fn file_store_reads_across_blocks(rt: HostRuntime) {
+    assert_file_reads(&rt, "across_blocks", 16_382, 16_388, &ACROSS_BLOCKS);
+}
+
+/// What one call with room for a block answers: how many it gave, and the last four of the room.
+fn block_at<S: Store>(store: &mut S, at: u64) -> Result<(usize, [u8; 4]), StoreFailed> {
+    let mut bytes = [0; BLOCK];
+    let count = store.read_at(at, &mut bytes)?;
+    let mut last = [0; 4];
+    last.copy_from_slice(&bytes[BLOCK - 4..]);
+    Ok((count, last))
+}
+
+/// Asserts that a call for a block at this place gives all of it, of which the last are these.
+fn assert_block<S: Store>(rt: &impl Abort, store: &mut S, at: u64, last: [u8; 4]) {
+    assert_same_at(rt, &at, block_at(store, at), Ok((BLOCK, last)));
+}
+
+#[test]
+fn file_store_reads_a_block_past_the_one_held(rt: HostRuntime) {
+    make_file(&rt, "past_the_block", 16_382);
+    let mut store = file_store(&rt, "past_the_block");
+    assert_reads(&rt, &mut store, &[(16_384, 4, *b"cdef")]);
+    assert_block(&rt, &mut store, 0, *b"\0\0ab");
+    assert_block(&rt, &mut store, 4, *b"cdef");
+    assert_reads(&rt, &mut store, &[(16_384, 4, *b"cdef"), (1, 4, [0; 4])]);
+    remove(&rt, "past_the_block");
+}
+
 /// Reads of a file of six bytes behind 4 GiB of zeros.
 const PAST_4_GIB: [ReadRow; 5] = [
     (FOUR_GIB, 4, *b"abcd"),
@@ -84,7 +138,7 @@ fn file_store_reads_past_4_gib(rt: HostRuntime) {
 }
 
 /// Asserts that each read of this folder is refused, which the system opens for reading.
-fn assert_refuses(rt: &(impl Files + Abort), path: &str, places: &[u64]) {
+fn assert_refuses(rt: &(impl Files + AllocGlobal + Abort), path: &str, places: &[u64]) {
     let mut store = file_store(rt, path);
     for at in places {
         assert_same_at(rt, &at, four_at(&mut store, *at), Err(StoreFailed));
