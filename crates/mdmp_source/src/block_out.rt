@@ -9,7 +9,8 @@ use std::alloc::{AllocFailed, Allocator};
 use std::marker::Model;
 
 /// An output that holds what it took back until a block is full, so that a text made of many small
-/// pieces reaches the inner output by few writes.
+/// pieces reaches the inner output by few writes. A [`Line`] is put straight into the block, where
+/// the block has [`LINE_ROOM`] bytes of room or more.
 ///
 /// What it took is what the inner output took and what is pending. It refuses where the inner
 /// output refuses a block: nothing is lost then, and what is pending stays pending. `flush` before
@@ -17,7 +18,7 @@ use std::marker::Model;
 #[derive(Drop)]
 pub struct BlockOut<O: Out, A: Allocator> {
     inner: O,
-    /// As long as the room. Its first bytes are pending, and those behind them mean nothing.
+    /// The block, as long as its room. The first bytes are pending, and those behind them mean nothing.
     buffer: Vec<u8, A>,
     /// How many bytes are pending.
     len: usize,
@@ -49,12 +50,11 @@ impl<O: Out, A: Allocator> BlockOut<O, A> {
     }
 
     /// An output with nothing pending, whose block is the room of this buffer. No call takes memory.
-    pub fn over(buffer: Vec<u8, A>, inner: O) -> Self
+    pub fn over(mut buffer: Vec<u8, A>, inner: O) -> Self
         requires none { buffer.items ≡ [] }
         requires room { 0 < vec_capacity buffer }
         ensures { result ≡ record { inner = O.state inner; pending = []; room = vec_capacity buffer } }
     {
-        let mut buffer = buffer;
         let room = buffer.capacity();
         buffer.resize(room, 0).unwrap();
         BlockOut {
@@ -94,7 +94,11 @@ impl<O: Out, A: Allocator> BlockOut<O, A> {
         ensures room { self.new.room ≡ self.old.room }
     {
         self.len = send_front(&mut self.inner, &mut self.buffer, self.len);
-        if self.len == 0 { Ok(()) } else { Err(OutFailed) }
+        if self.len == 0 {
+            Ok(())
+        } else {
+            Err(OutFailed)
+        }
     }
 
     /// How many bytes more have room.
