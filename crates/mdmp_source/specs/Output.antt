@@ -1,5 +1,5 @@
 -- What an output has taken, and what a call that writes a text leaves.
-use Rattle.std.specs.Prelude.{◌≡◌, ℕ, Bool, if◌then◌else◌, List, [], ◌∷◌, ◌++◌, Option, Some, Result, MatchResult}
+use Rattle.std.specs.Prelude.{◌≡◌, ℕ, Bool, if◌then◌else◌, List, [], ◌∷◌, ◌++◌, Option, Some, Result, Ok, Err, MatchResult}
 use Rattle.mdmp_source.specs.Count.{HasRisen, raised}
 
 -- how often an output refused, and by which loans it is reached
@@ -65,3 +65,8 @@ pub record PutsPrefix (before : OutState) (text : List ℕ) (after : OutState) :
 -- a call that writes a text: all of it, or an error because the output refused
 abbrev pub Puts : {T E : Type 0} → Result T E → OutState → List ℕ → OutState → Type 0
 Puts result before text after = MatchResult result (λ _. PutsAll before text after) (λ _. PutsPrefix before text after)
+
+-- the text of a call that takes all of it or none, as its answer says
+abbrev pub text_if_taken : {E : Type 0} → Result Bool E → List ℕ → List ℕ
+text_if_taken (Ok is_taken) text = if is_taken then text else []
+text_if_taken (Err e) text = []
