@@ -1,12 +1,13 @@
 //! Units as they are printed between double quotes.
-ghost use Rattle.std.specs.Prelude.{◌≡◌, ◌<◌, ◌≤◌, ◌+◌, ◌++◌, length, take, drop, codes};
+ghost use Rattle.std.specs.Prelude.{◌≡◌, ◌<◌, ◌≤◌, ◌+◌, ◌-◌, ◌*◌, ◌++◌, length, take, drop, codes};
 ghost use Rattle.mdmp_source.specs.Output.{Puts};
 ghost use Rattle.mdmp_wire.specs.Digits.{hex};
 ghost use Rattle.mdmp_wire.specs.Escape.{escaped, escaped_unit, is_plain};
-ghost use Rattle.mdmp_wire.specs.Units.{units_in};
+ghost use Rattle.mdmp_wire.specs.Units.{units_in, units_of};
 
 use crate::digits::hex_digits;
-use crate::units_ref::UnitsRef;
+use crate::plain_run::{LANES, put_run, units_at};
+use crate::units_ref::{UnitsRef, unit_at};
 use mdmp_source::{Out, OutFailed, write_all};
 
 /// How many units are one write, at most.
@@ -39,6 +40,50 @@ pub(crate) fn put_chunk<O: Out>(
     let mut text = [0; ESCAPE * CHUNK];
     let len = units.escape_at(&mut text, 0, start, end);
     write_all(out, &text[..len])
+}
+
+/// Puts the units from one index up to another as they are printed behind the text of this length,
+/// and answers how long both are.
+pub(crate) fn escape_units(
+    text: &mut [u8],
+    len: usize,
+    bytes: &[u8],
+    start: usize,
+    end: usize,
+) -> usize
+    requires within { start ≤ end × end ≤ length (units_of bytes.now) }
+    requires room { len + 6 * (end - start) ≤ length text.old }
+    ensures text { take result text.new ≡ take len text.old ++ escaped (take (end - start) (drop start (units_of bytes.now))) }
+    ensures within { result ≤ len + 6 * (end - start) }
+    ensures same { length text.new ≡ length text.old }
+{
+    let mut len = len;
+    let mut index = start;
+    while end - index >= LANES {
+        let run = put_run(text, len, units_at(bytes, index));
+        len += run;
+        index += run;
+        if run < LANES {
+            len = escape_unit(text, len, unit_at(bytes, index));
+            index += 1;
+        }
+    }
+    escape_last(text, len, bytes, index, end)
+}
+
+/// Puts them one by one.
+fn escape_last(text: &mut [u8], len: usize, bytes: &[u8], start: usize, end: usize) -> usize
+    requires within { start ≤ end × end ≤ length (units_of bytes.now) }
+    requires room { len + 6 * (end - start) ≤ length text.old }
+    ensures text { take result text.new ≡ take len text.old ++ escaped (take (end - start) (drop start (units_of bytes.now))) }
+    ensures within { result ≤ len + 6 * (end - start) }
+    ensures same { length text.new ≡ length text.old }
+{
+    let mut len = len;
+    for index in start..end {
+        len = escape_unit(text, len, unit_at(bytes, index));
+    }
+    len
 }
 
 /// Puts a unit as it is printed behind the text of this length, and answers how long both are.

@@ -34,6 +34,7 @@ mod memory_info;
 mod memory_info_list;
 mod module;
 mod number;
+mod plain_run;
 mod record;
 mod slot;
 mod system;

@@ -8,7 +8,7 @@ ghost use Rattle.mdmp_wire.specs.Escape.{escaped};
 ghost use Rattle.mdmp_wire.specs.Number.{les};
 ghost use Rattle.mdmp_wire.specs.Units.{units_of, units_in, units_over, plain_units, utf8_of};
 
-use crate::escape::{CHUNK, escape_unit, is_plain, put_chunk};
+use crate::escape::{CHUNK, escape_units, is_plain, put_chunk};
 use crate::record::get_at;
 use crate::units::Units;
 use mdmp_source::{Out, OutFailed};
@@ -54,7 +54,7 @@ impl<'a> UnitsRef<'a> {
         requires { index < length (units_in self.now) }
         ensures { result ≡ slice_index (units_in self.now) index }
     {
-        get_at(self.bytes, 2 * index)
+        unit_at(self.bytes, index)
     }
 
     /// The bytes that the units stand in, two to each and the lower first.
@@ -92,11 +92,7 @@ impl<'a> UnitsRef<'a> {
         ensures within { result ≤ len + 6 * (end - start) }
         ensures same { length text.new ≡ length text.old }
     {
-        let mut len = len;
-        for index in start..end {
-            len = escape_unit(text, len, self.get(index));
-        }
-        len
+        escape_units(text, len, self.bytes, start, end)
     }
 
     /// Writes the units as they are printed: the characters from the space to the tilde but the
@@ -150,6 +146,15 @@ impl<'a> Debug for UnitsRef<'a> {
         }
         f.write_str("\"")
     }
+}
+
+/// The unit at an index of those that stand in these bytes.
+#[inline(always)]
+pub(crate) fn unit_at(bytes: &[u8], index: usize) -> u16
+    requires { index < length (units_of bytes.now) }
+    ensures { result ≡ slice_index (units_of bytes.now) index }
+{
+    get_at(bytes, 2 * index)
 }
 
 /// The bytes of the units that stand whole in these bytes: `over` was given an even number, so they are
