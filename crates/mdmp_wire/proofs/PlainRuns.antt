@@ -1,5 +1,5 @@
 -- Units that are printed as they are, several at a time.
-use Rattle.std.proofs.Common.{◌≡◌, ◌∙◌, ℕ, zero, suc, ◌+◌, ◌*◌, ◌/◌, ◌%◌, ◌^◌, ◌<◌, ◌≤◌, eqb, leb, ltb, Bool, true, false, cond, not, ◌&&◌, List, [], ◌∷◌, ◌++◌, map, length, take, drop, bit_and, bit_or, refl, ap, sym, arith, Fits, w8}
+use Rattle.std.proofs.Common.{◌≡◌, ◌∙◌, ℕ, zero, suc, ◌+◌, ◌*◌, ◌/◌, ◌%◌, ◌^◌, ◌<◌, ◌≤◌, eqb, leb, ltb, Bool, true, false, cond, not, ◌&&◌, List, [], ◌∷◌, ◌++◌, map, length, get_or, slice_index, take, drop, bit_and, bit_or, codes, subst, refl, ap, sym, arith, Fits, w8}
 use Rattle.std.proofs.Math.Seq.{take-append-add}
 use Rattle.std.proofs.lemmas.Bool.Decides.{nat_tests}
 use Rattle.std.proofs.lemmas.Grind.{same_number_lists}
@@ -7,11 +7,12 @@ use Rattle.std.proofs.lemmas.List.{drop_more, get_or-drop, get_or-take, length-m
 use Rattle.std.proofs.lemmas.Nat.{and_mask}
 use Rattle.std.proofs.Math.Facts.{Fits-mask}
 use Rattle.std.proofs.lemmas.Simd.{Each1-all, Each1-zip2, Each2-splat, get_or_wider, length-chunk, leading_from_mask_l, map-map, mask_l-mod, take_more_put_chunk, trailing_mask_l, zip2_of_maps, zip2_splat, zip2_splat_left}
-use Rattle.std.proofs.lemmas.List.Sums.{prefix_len-le-length}
+use Rattle.std.proofs.lemmas.List.Sums.{prefix_len-le-length, prefix_len_stops}
 use Rattle.std.specs.List.{prefix_len}
 use lib.Count.{count_trailing_zeros}
 use lib.ListN.{replicate}
 use lib.Lanes.{Each1, chunk, digits_l, mask_l, number_l, put_chunk, top, zip2}
+use Rattle.mdmp_wire.specs.Digits.{hex}
 use Rattle.mdmp_wire.specs.Escape.{escaped, escaped_unit, is_plain}
 use Rattle.mdmp_wire.specs.Number.{number_at}
 use Rattle.mdmp_wire.specs.NumberLaws.{length-numbers_at, number_at-within, slice_index-numbers_at}
@@ -103,6 +104,16 @@ module _ (v : List ℕ) (long : length v ≡ 8) where
       let mask = mask_l (map (top 15) (stops v)) % 2 ^ 64 in
       let above : 0 < mask_l (map (λ x. top 15 (stop x)) v) = omega (arith, mask_is, some) in
       ap (count_trailing_zeros 64) mask_is ∙ trailing_mask_l (λ x. top 15 (stop x)) 64 v (omega arith) above ∙ run_is
+
+-- the unit behind the run, where one of the n stops it
+pub unit_stops : (i n r : ℕ) (units v : List ℕ) → v ≡ take n (drop i units) → i + n ≤ length units → r ≡ prefix_len is_plain v → r < n
+    → escaped_unit (slice_index units (i + r)) ≡ codes "\\u" ++ hex 4 (slice_index units (i + r))
+unit_stops i n r units v is room run short =
+    let long : length v ≡ n = rw is (length-take-le n (drop i units) (omega (arith, length-drop i units))) in
+    let unit : get_or v r 0 ≡ get_or units (i + r) 0 = rw is (get_or-take n (drop i units) r 0 short ∙ get_or-drop i units r 0) in
+    let stopped : is_plain (get_or v (prefix_len is_plain v) 0) ≡ false = prefix_len_stops is_plain v 0 (omega arith) in
+    let other : is_plain (get_or units (i + r) 0) ≡ false = subst (λ (x : ℕ). is_plain x ≡ false) unit (rw (← run) at stopped) in
+    rw other refl
 
 -- ---- what is put
 

@@ -64,7 +64,7 @@ pub(crate) fn escape_units(
         len += run;
         index += run;
         if run < LANES {
-            len = escape_unit(text, len, unit_at(bytes, index));
+            len = escape_other(text, len, unit_at(bytes, index));
             index += 1;
         }
     }
@@ -87,7 +87,8 @@ fn escape_last(text: &mut [u8], len: usize, bytes: &[u8], start: usize, end: usi
 }
 
 /// Puts a unit as it is printed behind the text of this length, and answers how long both are.
-pub(crate) fn escape_unit(text: &mut [u8], len: usize, unit: u16) -> usize
+#[inline(always)]
+fn escape_unit(text: &mut [u8], len: usize, unit: u16) -> usize
     requires { len + 6 ≤ length text.old }
     ensures text { take result text.new ≡ take len text.old ++ escaped_unit unit }
     ensures within { result ≤ len + 6 }
@@ -97,19 +98,33 @@ pub(crate) fn escape_unit(text: &mut [u8], len: usize, unit: u16) -> usize
         text[len] = unit as u8;
         len + 1
     } else {
-        text[len..len + ESCAPE].copy_from_slice(&escape_of(unit));
-        len + ESCAPE
+        escape_other(text, len, unit)
     }
 }
 
-/// The text of a unit that is not printed as it is.
-fn escape_of(unit: u16) -> [u8; ESCAPE]
-    ensures { result ≡ codes "\\u" ++ hex 4 unit }
+/// Puts a unit that is not printed as it is.
+#[inline(always)]
+fn escape_other(text: &mut [u8], len: usize, unit: u16) -> usize
+    requires { len + 6 ≤ length text.old }
+    ensures text { take result text.new ≡ take len text.old ++ (codes "\\u" ++ hex 4 unit) }
+    ensures within { result ≡ len + 6 }
+    ensures same { length text.new ≡ length text.old }
 {
     if unit == BACKSLASH {
-        return *b"\\u005c";
+        text[len..len + ESCAPE].copy_from_slice(b"\\u005c");
+        return len + ESCAPE;
     }
-    let mut text = *b"\\u0000";
-    hex_digits(u64::from(unit), &mut text[2..]);
-    text
+    fill_escape(&mut text[len..len + ESCAPE], unit);
+    len + ESCAPE
+}
+
+/// Fills the places with the text of a unit that is not printed as it is.
+// It stays out of the loops: paths are full of backslashes, and seldom have another such unit.
+#[inline(never)]
+fn fill_escape(escape: &mut [u8], unit: u16)
+    requires { length escape.old ≡ 6 }
+    ensures { escape.new ≡ codes "\\u" ++ hex 4 unit }
+{
+    escape[..2].copy_from_slice(b"\\u");
+    hex_digits(u64::from(unit), &mut escape[2..]);
 }
