@@ -1,7 +1,7 @@
 -- The texts of units, some at a time.
-use Rattle.std.proofs.Common.{◌≡◌, ◌∙◌, ℕ, ◌+◌, ◌-◌, ◌<◌, ◌≤◌, List, [], ◌∷◌, ◌++◌, length, get_or, slice_index, take, drop, ap, sym, subst, append-nil, length-drop, min, arith}
+use Rattle.std.proofs.Common.{◌≡◌, ◌∙◌, ℕ, ◌+◌, ◌-◌, ◌<◌, ◌≤◌, List, ◌++◌, length, slice_index, take, drop, ap, sym, subst, refl, append_assoc, append-nil, min, arith}
 use Rattle.std.proofs.Math.Seq.{take-add}
-use Rattle.std.proofs.lemmas.List.{take_more, take_all, take-append-drop, get_or-drop}
+use Rattle.std.proofs.lemmas.List.{drop_more, drop-drop, take_all, take-append-drop, take-take}
 use Rattle.std.proofs.lemmas.Grind.{common_steps}
 use Rattle.std.proofs.lemmas.List.Concat.{flat_map-append}
 use Rattle.mdmp_source.specs.Output.{OutState, PutsAll, PutsPrefix}
@@ -24,17 +24,33 @@ PutsPrefix-units a n units s t u put cut =
     sym (flat_map-append escaped_unit (take (a + n) units) (drop (a + n) units)) ∙ ap escaped (take-append-drop (a + n) units) in
     subst (λ (text : List ℕ). PutsPrefix s text u) split (PutsPrefix-front s u _ _ first)
 
--- the text of one unit, behind that of those before it
-pub text_unit : (a i : ℕ) (units : List ℕ) → a ≤ i → i < length units
-    → escaped (take (i + 1 - a) (drop a units)) ≡ escaped (take (i - a) (drop a units)) ++ escaped_unit (slice_index units i)
-text_unit a i units behind lt =
-    let rest = drop a units in
-    let next : i + 1 - a ≡ i - a + 1 = omega arith in
+-- ---- a text with the units from a place on behind it, up to i and then further
+
+-- the next n units
+pub text_run : (front before text : List ℕ) (a i j n : ℕ) (units : List ℕ) → a ≤ i → j ≡ i + n
+    → before ≡ front ++ escaped (take (i - a) (drop a units)) → text ≡ before ++ escaped (take n (drop i units))
+    → text ≡ front ++ escaped (take (j - a) (drop a units))
+text_run front before text a i j n units behind e put more =
     let place : a + (i - a) ≡ i = omega arith in
-    let within : i - a < length rest = omega (arith, length-drop a units) in
-    let is : get_or rest (i - a) 0 ≡ slice_index units i = get_or-drop a units (i - a) 0 ∙ ap (slice_index units) place in
-    rw (next, take_more rest (i - a) 0 within, is) (flat_map-append escaped_unit (take (i - a) rest) (slice_index units i ∷ [])
-    ∙ ap (λ (text : List ℕ). escaped (take (i - a) rest) ++ text) (append-nil (escaped_unit (slice_index units i))))
+    let count : j - a ≡ i - a + n = omega arith in
+    let next = rw (drop-drop, place) at (text_more (i - a) n (drop a units)) in
+    more ∙ rw (put, count, next) (append_assoc front (escaped (take (i - a) (drop a units))) (escaped (take n (drop i units))))
+
+-- n of the next m
+pub text_part : (front before text : List ℕ) (a i n m : ℕ) (units next : List ℕ) → a ≤ i → n ≤ m → next ≡ take m (drop i units)
+    → before ≡ front ++ escaped (take (i - a) (drop a units)) → text ≡ before ++ escaped (take n next)
+    → text ≡ front ++ escaped (take (i + n - a) (drop a units))
+text_part front before text a i n m units next behind few is put more =
+    let same : take n next ≡ take n (drop i units) = rw is (take-take n m (drop i units) few) in
+    text_run front before text a i (i + n) n units behind refl put (rw same at more)
+
+-- one unit more
+pub text_unit : (front before text : List ℕ) (a i : ℕ) (units : List ℕ) → a ≤ i → i < length units
+    → before ≡ front ++ escaped (take (i - a) (drop a units)) → text ≡ before ++ escaped_unit (slice_index units i)
+    → text ≡ front ++ escaped (take (i + 1 - a) (drop a units))
+text_unit front before text a i units behind lt put more =
+    let one : escaped (take 1 (drop i units)) ≡ escaped_unit (slice_index units i) = rw (drop_more units i 0 lt) (append-nil (escaped_unit (slice_index units i))) in
+    text_run front before text a i (i + 1) 1 units behind refl put (more ∙ ap (λ (t : List ℕ). before ++ t) (sym one))
 
 -- as many are taken, or all
 pub same_taken : (n m : ℕ) (units : List ℕ) → m ≡ min (length units) n → take m units ≡ take n units

@@ -1,4 +1,5 @@
 pub mod DigitsLemmas
 pub mod EscapeLemmas
+pub mod PlainRuns
 pub mod Rows
 pub mod Utf16

@@ -1,0 +1,15 @@
+use Rattle.std.proofs.Common.{◌≡◌, ◌+◌, ◌*◌, ◌-◌, ◌≤◌, ◌++◌, take, drop}
+use Rattle.mdmp_wire.specs.Escape.{escaped}
+use Rattle.mdmp_wire.specs.Units.{units_of}
+use Rattle.mdmp_wire.proofs.escape.escape_units.Given as goal
+
+abbrev pub decreases-loop-index : goal.decreases-loop-index
+decreases-loop-index l = l.end - l.index
+
+abbrev pub invariant-loop-index : goal.invariant-loop-index
+invariant-loop-index l = record {
+  text : take l.len l.text ≡ take l.fn.len l.initial.text ++ escaped (take (l.index - l.start) (drop l.start (units_of l.bytes)));
+  within : l.len ≤ l.fn.len + 6 * (l.index - l.start);
+  from : l.start ≤ l.index;
+  to : l.index ≤ l.end;
+}
