@@ -45,6 +45,7 @@ mod held_step;
 mod holding;
 mod item;
 mod kind;
+mod last_read;
 mod laws;
 mod limits;
 mod lister;

@@ -1,22 +1,18 @@
 //! The walk over the entries of a file, without its public face.
-ghost use Rattle.std.specs.Prelude.{◌≡◌, ◌+◌, ◌*◌, ◌^◌, ◌≤◌, ◌<◌, ◌-◌, Some, IfOk, IfErr, IfSome, MatchOption, MatchResult, length, take, vec_len};
-ghost use Rattle.mdmp_source.specs.Range.{IsInside, bytes_at};
-ghost use Rattle.mdmp_lister.specs.Fetching.{ReadsBeside};
+ghost use Rattle.std.specs.Prelude.{◌≡◌, ◌+◌, ◌*◌, ◌^◌, ◌≤◌, ◌<◌, ◌-◌, Some, IfOk, IfErr, IfSome, MatchOption, MatchResult, length, vec_len};
 ghost use Rattle.mdmp_lister.specs.Format.Kind.{HasNoNames, kind_of};
+ghost use Rattle.mdmp_lister.specs.HeldStep.{IsAnswerWhole, IsWhole, answer_told, given_told, read_told, step_told};
 ghost use Rattle.mdmp_lister.specs.Meter.{IsBooked, IsMetered, KeepsTo, counts_of};
 ghost use Rattle.mdmp_lister.specs.Opening.{IsRefused, KeepsToBudget};
 ghost use Rattle.mdmp_lister.specs.Stage.{IsUnended, StaysUnchanged, fault_stage, records_left_in};
-ghost use Rattle.mdmp_lister.specs.HeldStep.{IsAnswerWhole, IsWhole, TellsRange, answer_told, given_told, read_told, step_told};
-ghost use Rattle.mdmp_lister.specs.Step.{IsItemOf, IsNameHeld};
 ghost use Rattle.mdmp_lister.specs.Walk.Owing.{ranges_ahead};
 
 use crate::choice::Choice;
-use crate::codeview::{CodeViewBytes, CodeViewRead, read_codeview};
 use crate::counting::count_ranges;
 use crate::counts::{Counts, listed_bytes};
 use crate::fault::{Fault, FetchFault, ListFault, OpenFault};
-use crate::held_step::{HeldStep, bytes_behind, range_of, record_item, step_of};
-use crate::item::{Item, RangeItem, StreamItem};
+use crate::held_step::{HeldStep, bytes_behind};
+use crate::item::StreamItem;
 use crate::kind::StreamKind;
 use crate::limits::Limits;
 use crate::meter::Meter;
@@ -24,7 +20,6 @@ use crate::opening::{OpenRefused, next_chosen, read_directory, read_header};
 use crate::record_reading::read_item;
 use crate::shape::{Shape, location_fault, record_at};
 use crate::stage::Stage;
-use crate::step::Step;
 use crate::stream_head::begin_stream;
 use mdmp_source::{Location, Source, SourceFault, Store, Window};
 use mdmp_wire::{Entry, Header, Record};
@@ -54,7 +49,7 @@ pub(crate) struct Walk<S: Store + Drop, A: Allocator + Copy> {
 }
 
 impl<S: Store + Drop, A: Allocator + Copy> Walk<S, A> {
-    ghost use Rattle.mdmp_lister.specs.Walk.Requests.{Answered, CodeViewFetched, HeadCounted, EntrySkipped, EntryTaken, HasChanged, HeadRead, RecordsCounted, StepTaken};
+    ghost use Rattle.mdmp_lister.specs.Walk.Requests.{Answered, HeadCounted, EntrySkipped, EntryTaken, HasChanged, HeadRead, RecordsCounted, StepTaken};
     ghost use Rattle.mdmp_lister.specs.Walk.Checking.{EntryBegun, NoneLeft, RecordWasRead, RecordTaken};
     ghost use Rattle.mdmp_lister.specs.Walk.Telling.{numbers_of_walk};
     ghost use Rattle.mdmp_lister.specs.Walk.{CountsRanges, IsListing, IsNewWalk, IsPastHead, IsSound, IsThrough};
@@ -137,71 +132,6 @@ impl<S: Store + Drop, A: Allocator + Copy> Walk<S, A> {
             Stage::Bad(fault) | Stage::Failed(fault) => Err(fault),
             Stage::Ended => Ok(None),
             Stage::Head | Stage::Between | Stage::Records { .. } => self.step(),
-        }
-    }
-
-    /// An answer that was given last, with the step that it tells.
-    pub(crate) fn told(
-        &self,
-        answer: Result<Option<HeldStep>, ListFault>,
-    ) -> Result<Option<Step>, ListFault>
-        requires { IsAnswerWhole self.now.window.held answer }
-        ensures { result ≡ answer_told self.now.window.held answer }
-    {
-        match answer {
-            Ok(None) => Ok(None),
-            Ok(Some(held)) => Ok(Some(step_of(&held, self.window.bytes()))),
-            Err(fault) => Err(fault),
-        }
-    }
-
-    /// The item that was read last, its name lent.
-    pub(crate) fn item(&self, held: &HeldStep) -> Item<'_>
-        requires whole { IsWhole self.now.window.held held.now }
-        requires name { IsNameHeld (vec_len self.now.name) (step_told self.now.window.held held.now) }
-        ensures { IsItemOf self.now.meter.source.size self.now.name.items (step_told self.now.window.held held.now) result }
-    {
-        match held {
-            HeldStep::Stream(stream) => Item::Stream(*stream),
-            HeldStep::Record(record) => record_item(
-                record,
-                self.window.bytes(),
-                &self.name,
-                self.meter.size(),
-            ),
-        }
-    }
-
-    /// The range that was read last, where the item is one.
-    pub(crate) fn range(&self, held: &HeldStep) -> Option<RangeItem>
-        requires { IsWhole self.now.window.held held.now }
-        ensures { TellsRange self.now.meter.source.size (step_told self.now.window.held held.now) result }
-    {
-        range_of(held, self.window.bytes(), self.meter.size())
-    }
-
-    /// Fetches what a CodeView record tells, the bytes behind its first 24 into the front of the buffer of
-    /// names.
-    pub(crate) fn fetch_codeview(&mut self, location: Location) -> Result<CodeViewRead, SourceFault>
-        requires sound { IsSound self.old }
-        requires inside { IsInside location.rva location.size self.old.meter.source.size }
-        ensures { CodeViewFetched location self.old result self.new }
-    {
-        read_codeview(&mut self.meter, location, &mut self.name)
-    }
-
-    /// The bytes of a CodeView record that were fetched, those behind the first 24 lent.
-    pub(crate) fn codeview(&self, read: CodeViewRead) -> CodeViewBytes<'_>
-        requires { read.rest ≤ vec_len self.now.name }
-        ensures head { result.head ≡ read.head }
-        ensures rest { result.rest.now ≡ take read.rest self.now.name.items }
-        ensures size { result.size ≡ read.size }
-    {
-        let CodeViewRead { head, rest, size } = read;
-        CodeViewBytes {
-            head,
-            rest: &self.name[..rest],
-            size,
         }
     }
 
@@ -409,15 +339,6 @@ impl<S: Store + Drop, A: Allocator + Copy> Walk<S, A> {
             stream_type: entry.stream_type,
             location: entry.location,
         })
-    }
-
-    /// Fetches bytes of the file, which lie inside it, aside from the listing.
-    pub(crate) fn read_part(&mut self, at: u64, out: &mut [u8]) -> Result<(), SourceFault>
-        requires { IsInside at (length out.old) self.old.meter.source.size }
-        ensures same { self.new ≡ record self.old { meter = self.new.meter } }
-        ensures reads { ReadsBeside (length out.new) (λ file _. out.new ≡ bytes_at file at (length out.new)) result self.old.meter self.new.meter }
-    {
-        self.meter.fetch_aside(at, out)
     }
 
     /// The numbers that bound what it holds beside a map with room for so many ranges, and what it has
