@@ -96,7 +96,7 @@ impl<'a> Line for First<'a> {
     ghost text = { λ l. take LINE_ROOM l.bytes.now };
 
     fn put(&self, buffer: &mut [u8], at: usize) -> usize {
-        let count = self.bytes.len().min(LINE_ROOM);
+        let count = LINE_ROOM.min(self.bytes.len());
         buffer[at..at + count].copy_from_slice(&self.bytes[..count]);
         at + count
     }

@@ -5,7 +5,8 @@
 //! stand one behind the other take few fetches. An [`Out`] takes the bytes of a text or a dump. The
 //! stores are [`MemoryStore`], [`FileStore`] and, for tests, [`PatchyStore`] and [`TwoFaces`]; the
 //! outputs are [`WriteOut`] over any writer of std, [`BlockOut`], which gathers many small writes
-//! into blocks, and, for tests, [`PatchyOut`].
+//! into blocks, and, for tests, [`PatchyOut`]. A [`Line`] of text is put straight into such a block
+//! ([`put_line`]).
 //!
 //! Beside them stand the tests of place that every layer above makes: [`inside`], and the class of
 //! a [`Location`].

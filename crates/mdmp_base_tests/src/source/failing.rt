@@ -1,8 +1,8 @@
 //! Stores and outputs each of whose calls fails in turn.
 use super::blocks::{assert_given_back, assert_pending, patchy_blocks};
-use super::{Fetched, assert_taken, four_at_one, part, patchy_out, sent, write_whole};
+use super::{Fetched, First, assert_taken, four_at_one, part, patchy_out, sent, write_whole};
 use crate::same::assert_same;
-use mdmp_source::{PatchyOut, PatchyStore, Source, SourceFault};
+use mdmp_source::{PatchyOut, PatchyStore, Source, SourceFault, put_line};
 use std::alloc::Global;
 use std::process::Abort;
 
@@ -59,11 +59,20 @@ fn assert_written(rt: &impl Abort, alloc: Global, fail_at: usize) {
     assert_taken(rt, &out, part(rt, TEXT, 0, fail_at));
 }
 
+/// Asserts that writing a line succeeds where no call fails, and else stops at that call.
+fn assert_line_written(rt: &impl Abort, alloc: Global, fail_at: usize) {
+    let mut out = failing_out(rt, alloc, fail_at);
+    let is_written = put_line(&mut out, &First { bytes: TEXT }).is_ok();
+    assert_same(rt, is_written, fail_at == 9);
+    assert_taken(rt, &out, part(rt, TEXT, 0, fail_at));
+}
+
 #[test]
 fn each_call_of_an_output_may_fail(rt: HostRuntime) {
     for call in 0..10 {
         assert_sent(&rt, rt.alloc(), call);
         assert_written(&rt, rt.alloc(), call);
+        assert_line_written(&rt, rt.alloc(), call);
     }
 }
 
