@@ -1,5 +1,5 @@
 -- The item and the range of a step that is held.
-use Rattle.std.proofs.Common.{◌≡◌, ◌≤◌, ◌^◌, ◌-◌, ◌∷◌, ◌∙◌, [], ℕ, List, Option, Some, None, length, ap, sym}
+use Rattle.std.proofs.Common.{◌≡◌, ◌≤◌, ◌^◌, ◌-◌, ◌∷◌, ◌∙◌, [], ℕ, List, Option, length, ap, sym}
 use Rattle.std.specs.Prelude.{IfSome}
 use Rattle.mdmp_lister.specs.declared.item.Item.{Item}
 use Rattle.mdmp_lister.specs.declared.item.RangeItem.{RangeItem}

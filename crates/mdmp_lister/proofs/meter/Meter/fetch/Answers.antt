@@ -1,4 +1,4 @@
-use Rattle.std.proofs.Common.{ℕ, Ok, Result, ◌≡◌, ◌≤◌, arith, length, refl, rules, sym}
+use Rattle.std.proofs.Common.{ℕ, Ok, Result, ◌≡◌, arith, length, refl, rules, sym}
 use Rattle.mdmp_source.specs.Count.{raised}
 use Rattle.mdmp_lister.specs.Meter.{Books, IsBookedBy, IsMetered, MeterState}
 use Rattle.mdmp_lister.specs.Fetching.{Reads}
