@@ -6,8 +6,9 @@
 //! record are records too, down to the numbers, which stand with their lowest byte first.
 //!
 //! Names are UTF-16: [`UnitsRef`] lends their units from the bytes of a file and [`Units`] owns
-//! them. [`CodeView`] is what a module tells of its debug information. [`hex_digits`] and
-//! [`UnitsRef::escape_into`] are for printing; nothing else here needs an output.
+//! them. [`CodeView`] is what a module tells of its debug information. [`hex_digits`],
+//! [`UnitsRef::escape_at`] and [`UnitsRef::escape_into`] are for printing; only the last needs an
+//! output.
 //!
 //! ```text
 //! let header = Header::check(&head)?;

@@ -123,6 +123,58 @@ fn units_are_escaped_one_by_one(rt: HostRuntime) {
     assert_escapes(&rt, rt.alloc(), edges, b"\\u001f ~\\u0141");
 }
 
+/// Asserts that this stands in a buffer once the units between two indexes are put behind `at `.
+fn assert_put(rt: &impl Abort, bytes: &[u8], start: usize, end: usize, expected: &[u8]) {
+    let units = over(rt, bytes);
+    assert!(rt; start <= end && end <= units.len() && end <= 30);
+    let mut text = [0; 200];
+    text[..3].copy_from_slice(b"at ");
+    let len = units.escape_at(&mut text, 3, start, end);
+    assert_same(rt, part(rt, &text, 0, len), expected);
+}
+
+/// The units of a path.
+const PATH: &[u8] = b"C\0:\0\x5c\0W\0i\0n\0d\0o\0w\0s\0\x5c\0s\0y\0s\0t\0e\0m\03\02\0\x5c\0";
+
+#[test]
+fn units_are_escaped_behind_a_text(rt: HostRuntime) {
+    assert_put(
+        &rt,
+        PATH,
+        0,
+        20,
+        b"at C:\\u005cWindows\\u005csystem32\\u005c",
+    );
+    assert_put(&rt, PATH, 3, 10, b"at Windows");
+    assert_put(&rt, PATH, 11, 19, b"at system32");
+    assert_put(&rt, PATH, 2, 12, b"at \\u005cWindows\\u005cs");
+    assert_put(&rt, PATH, 20, 20, b"at ");
+}
+
+#[test]
+fn units_of_any_kind_are_escaped_behind_a_text(rt: HostRuntime) {
+    let surrogates = b"a\0b\0c\0d\0e\0f\0g\0\x3d\xd8\x00\xdeh\0";
+    assert_put(&rt, surrogates, 0, 10, b"at abcdefg\\ud83d\\ude00h");
+    assert_put(&rt, surrogates, 8, 10, b"at \\ude00h");
+    let edges = b"\x1f\0\x20\0\x7e\0\x7f\0\x80\0\xff\0\x00\0\x22\0";
+    assert_put(
+        &rt,
+        edges,
+        0,
+        8,
+        b"at \\u001f ~\\u007f\\u0080\\u00ff\\u0000\"",
+    );
+    // The lower bytes are those of characters that are printed as they are, and of a backslash.
+    let upper = b"A\x01A\0A\x80A\x7f\x5c\x01A\x20B\0C\0";
+    assert_put(
+        &rt,
+        upper,
+        0,
+        8,
+        b"at \\u0141A\\u8041\\u7f41\\u015c\\u2041BC",
+    );
+}
+
 #[test]
 fn refused_escape_leaves_its_first_part(rt: HostRuntime) {
     let out = patchy_out(&rt, rt.alloc(), 4, 3, None);
