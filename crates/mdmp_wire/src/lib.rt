@@ -24,6 +24,7 @@ mod descriptor;
 mod descriptor64;
 mod digits;
 mod entry;
+mod escape;
 mod exception;
 mod header;
 mod header_fault;

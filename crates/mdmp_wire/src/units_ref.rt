@@ -1,26 +1,19 @@
 //! Units of UTF-16 that are lent.
-ghost use Rattle.std.specs.Prelude.{◌≡◌, ◌==◌, ◌<◌, ◌≤◌, ◌+◌, ◌-◌, ◌*◌, ◌%◌, ◌++◌, length, slice_index, take, drop, codes, IfOk, IsTrue, ◌↔◌, string_bytes};
+ghost use Rattle.std.specs.Prelude.{◌≡◌, ◌==◌, ◌<◌, ◌≤◌, ◌+◌, ◌-◌, ◌*◌, ◌%◌, ◌++◌, length, slice_index, take, drop, IfOk, IsTrue, ◌↔◌, string_bytes};
 ghost use Rattle.std.proofs.Common.{rules};
 ghost use Rattle.std.specs.Cmp.Lexicographic.{pointwise};
 ghost use Rattle.std.specs.Cmp.Rules.{comparing};
 ghost use Rattle.mdmp_source.specs.Output.{Puts};
-ghost use Rattle.mdmp_wire.specs.Digits.{hex};
-ghost use Rattle.mdmp_wire.specs.Escape.{escaped, escaped_unit, is_plain};
+ghost use Rattle.mdmp_wire.specs.Escape.{escaped};
 ghost use Rattle.mdmp_wire.specs.Number.{les};
 ghost use Rattle.mdmp_wire.specs.Units.{units_of, units_in, units_over, plain_units, utf8_of};
 
-use crate::digits::hex_digits;
+use crate::escape::{CHUNK, escape_unit, is_plain, put_chunk};
 use crate::record::get_at;
 use crate::units::Units;
-use mdmp_source::{Out, OutFailed, write_all};
+use mdmp_source::{Out, OutFailed};
 use std::alloc::{AllocError, Allocator};
 use std::fmt::{self, Debug};
-
-/// How many units are one write, at most.
-const CHUNK: usize = 64;
-
-/// How long the text of a unit is, at most.
-const ESCAPE: usize = 6;
 
 /// Units of UTF-16, as the `Buffer` of a `MINIDUMP_STRING`, over the bytes that they stand in.
 ///
@@ -89,6 +82,23 @@ impl<'a> UnitsRef<'a> {
         String::from_utf16_lossy(alloc, &units)
     }
 
+    /// Puts the units from one index up to another behind the first `len` bytes of `text`, as
+    /// [`UnitsRef::escape_into`] writes them, and answers how long both are. Those bytes stay.
+    pub fn escape_at(&self, text: &mut [u8], len: usize, start: usize, end: usize) -> usize
+        requires within { start ≤ end × end ≤ length (units_in self.now) }
+        // A unit is six characters at most.
+        requires room { len + 6 * (end - start) ≤ length text.old }
+        ensures text { take result text.new ≡ take len text.old ++ escaped (take (end - start) (drop start (units_in self.now))) }
+        ensures within { result ≤ len + 6 * (end - start) }
+        ensures same { length text.new ≡ length text.old }
+    {
+        let mut len = len;
+        for index in start..end {
+            len = escape_unit(text, len, self.get(index));
+        }
+        len
+    }
+
     /// Writes the units as they are printed: the characters from the space to the tilde but the
     /// backslash as they are, and any other unit as `\u` and four hexadecimal digits, so that a
     /// surrogate pair is two of them. It takes no memory. Where the output refuses, the first part
@@ -151,63 +161,4 @@ fn whole_units(bytes: &[u8]) -> &[u8]
 {
     let end = bytes.len() - bytes.len() % 2;
     &bytes[..end]
-}
-
-/// Whether a unit is printed as it is.
-fn is_plain(unit: u16) -> bool
-    ensures { result ≡ is_plain unit }
-{
-    0x20 <= unit && unit <= 0x7e && unit != 0x5c
-}
-
-/// Writes the units from an index on, [`CHUNK`] of them at most, as they are printed. They are put
-/// together first, so that they are one write.
-fn put_chunk<O: Out>(out: &mut O, units: UnitsRef<'_>, start: usize) -> Result<(), OutFailed>
-    requires { start < length (units_in units) }
-    ensures { Puts result (O.state out.old) (escaped (take 64 (drop start (units_in units.entry)))) (O.state out.new) }
-{
-    let end = start + (units.len() - start).min(CHUNK);
-    let mut text = [0; ESCAPE * CHUNK];
-    let len = escape_units(&mut text, units, start, end);
-    write_all(out, &text[..len])
-}
-
-/// Puts the texts of the units from one index up to another one behind the other, and answers how
-/// long they are.
-fn escape_units(text: &mut [u8], units: UnitsRef<'_>, start: usize, end: usize) -> usize
-    requires within { start ≤ end × end ≤ length (units_in units) }
-    requires room { 6 * (end - start) ≤ length text.old }
-    ensures text { take result text.new ≡ escaped (take (end - start) (drop start (units_in units.entry))) }
-    ensures within { result ≤ length text.new }
-{
-    let mut len = 0;
-    for index in start..end {
-        len = escape_unit(text, len, units.get(index));
-    }
-    len
-}
-
-/// Puts a unit as it is printed behind the text of this length, and answers how long both are.
-fn escape_unit(text: &mut [u8], len: usize, unit: u16) -> usize
-    requires { len + 6 ≤ length text.old }
-    ensures text { take result text.new ≡ take len text.old ++ escaped_unit unit }
-    ensures within { result ≤ len + 6 }
-    ensures same { length text.new ≡ length text.old }
-{
-    if is_plain(unit) {
-        text[len] = unit as u8;
-        len + 1
-    } else {
-        text[len..len + ESCAPE].copy_from_slice(&escape_of(unit));
-        len + ESCAPE
-    }
-}
-
-/// The text of a unit that is not printed as it is.
-fn escape_of(unit: u16) -> [u8; ESCAPE]
-    ensures { result ≡ codes "\\u" ++ hex 4 unit }
-{
-    let mut text = *b"\\u0000";
-    hex_digits(u64::from(unit), &mut text[2..]);
-    text
 }
