@@ -1,14 +1,16 @@
 //! An output that gathers small writes into blocks.
-ghost use Rattle.std.specs.Prelude.{◌≡◌, ◌≤◌, ◌<◌, ◌+◌, [], ◌↔◌, drop, IsOk, is_err, vec_len, vec_capacity};
+ghost use Rattle.std.specs.Prelude.{◌≡◌, ◌≤◌, ◌<◌, ◌+◌, ◌-◌, ◌++◌, [], ◌↔◌, length, take, drop, true, nat_lt, Ok, IsOk, is_err, vec_len, vec_capacity};
 ghost use Rattle.mdmp_source.specs.Blocks.{BlockState, output_state, MovesFront};
-ghost use Rattle.mdmp_source.specs.Output.{refused_if};
+ghost use Rattle.mdmp_source.specs.Output.{Puts, refused_if};
 
+use crate::line::{LINE_ROOM, Line};
 use crate::output::{Out, OutFailed, send};
 use std::alloc::{AllocFailed, Allocator};
 use std::marker::Model;
 
 /// An output that holds what it took back until a block is full, so that a text made of many small
-/// pieces reaches the inner output by few writes.
+/// pieces reaches the inner output by few writes. A [`Line`] is put straight into the block, where
+/// the block has [`LINE_ROOM`] bytes of room or more.
 ///
 /// What it took is what the inner output took and what is pending. It refuses where the inner
 /// output refuses a block: nothing is lost then, and what is pending stays pending. `flush` before
@@ -16,16 +18,18 @@ use std::marker::Model;
 #[derive(Drop)]
 pub struct BlockOut<O: Out, A: Allocator> {
     inner: O,
-    pending: Vec<u8, A>,
-    room: usize,
+    /// The block, as long as its room. The first bytes are pending, and those behind them mean nothing.
+    buffer: Vec<u8, A>,
+    /// How many bytes are pending.
+    len: usize,
 }
 
 impl<O: Out, A: Allocator> Model for BlockOut<O, A> {
     ghost Value = { BlockState };
 
-    ghost view = { λ b. record { inner = O.state b.inner; pending = b.pending.items; room = b.room } };
+    ghost view = { λ b. record { inner = O.state b.inner; pending = take b.len b.buffer.items; room = vec_len b.buffer } };
 
-    ghost invariant = { λ b. (0 < b.room) × (vec_len b.pending ≤ b.room) × (b.room ≤ vec_capacity b.pending) };
+    ghost invariant = { λ b. (0 < vec_len b.buffer) × (b.len ≤ vec_len b.buffer) };
 }
 
 impl<O: Out, A: Allocator> BlockOut<O, A> {
@@ -46,16 +50,17 @@ impl<O: Out, A: Allocator> BlockOut<O, A> {
     }
 
     /// An output with nothing pending, whose block is the room of this buffer. No call takes memory.
-    pub fn over(buffer: Vec<u8, A>, inner: O) -> Self
+    pub fn over(mut buffer: Vec<u8, A>, inner: O) -> Self
         requires none { buffer.items ≡ [] }
         requires room { 0 < vec_capacity buffer }
         ensures { result ≡ record { inner = O.state inner; pending = []; room = vec_capacity buffer } }
     {
         let room = buffer.capacity();
+        buffer.resize(room, 0).unwrap();
         BlockOut {
             inner,
-            pending: buffer,
-            room,
+            buffer,
+            len: 0,
         }
     }
 
@@ -77,7 +82,7 @@ impl<O: Out, A: Allocator> BlockOut<O, A> {
     pub fn pending(&self) -> &[u8]
         ensures { result.now ≡ self.now.pending }
     {
-        &self.pending
+        &self.buffer[..self.len]
     }
 
     /// Writes what is pending to the inner output. Where that refuses, what it did not take is
@@ -88,7 +93,52 @@ impl<O: Out, A: Allocator> BlockOut<O, A> {
         ensures failures { self.new.inner.failures ≡ refused_if (is_err result) self.old.inner.failures }
         ensures room { self.new.room ≡ self.old.room }
     {
-        send_front(&mut self.inner, &mut self.pending)
+        self.len = send_front(&mut self.inner, &mut self.buffer, self.len);
+        if self.len == 0 {
+            Ok(())
+        } else {
+            Err(OutFailed)
+        }
+    }
+
+    /// How many bytes more have room.
+    fn left(&self) -> usize
+        ensures left { length self.now.pending + result ≡ self.now.room }
+        ensures some { 0 < self.now.room }
+    {
+        self.buffer.len() - self.len
+    }
+
+    /// Flushes, unless the block is too small for a line, and answers whether there is room for one.
+    #[inline(never)]
+    fn make_room(&mut self) -> Result<bool, OutFailed>
+        ensures nothing { Puts result (output_state self.old) [] (output_state self.new) }
+        ensures room { result ≡ Ok true → length self.new.pending + LINE_ROOM ≤ self.new.room }
+    {
+        if self.buffer.len() < LINE_ROOM {
+            return Ok(false);
+        }
+        match self.flush() {
+            Ok(()) => Ok(true),
+            Err(failed) => Err(failed),
+        }
+    }
+
+    /// Puts bytes behind those that are pending.
+    fn append(&mut self, bytes: &[u8])
+        requires { length self.old.pending + length bytes.now ≤ self.old.room }
+        ensures { self.new ≡ record self.old { pending = self.old.pending ++ bytes.now } }
+    {
+        put_behind(&mut self.buffer, self.len, bytes);
+        self.len += bytes.len();
+    }
+
+    /// Puts a line behind the bytes that are pending.
+    fn append_line<L: Line>(&mut self, line: &L)
+        requires { length self.old.pending + LINE_ROOM ≤ self.old.room }
+        ensures { self.new ≡ record self.old { pending = self.old.pending ++ L.text line.now } }
+    {
+        self.len = line.put(&mut self.buffer, self.len);
     }
 }
 
@@ -96,37 +146,49 @@ impl<O: Out, A: Allocator> Out for BlockOut<O, A> {
     ghost state = { output_state };
 
     fn write(&mut self, bytes: &[u8]) -> Result<usize, OutFailed> {
-        if self.pending.len() == self.room {
+        if self.left() == 0 {
             self.flush()?;
         }
-        let count = bytes.len().min(self.room - self.pending.len());
-        self.pending.extend_from_slice(&bytes[..count]).unwrap();
+        let count = bytes.len().min(self.left());
+        self.append(&bytes[..count]);
         Ok(count)
+    }
+
+    fn take_line<L: Line>(&mut self, line: &L) -> Result<bool, OutFailed> {
+        if self.left() < LINE_ROOM && !self.make_room()? {
+            return Ok(false);
+        }
+        self.append_line(line);
+        Ok(true)
     }
 }
 
-/// Moves bytes from the front of `pending` to the output, up to its first refusal.
-fn send_front<O: Out, A: Allocator>(out: &mut O, pending: &mut Vec<u8, A>) -> Result<(), OutFailed>
-    ensures moved { MovesFront (O.state out.old) pending.old.items (O.state out.new) pending.new.items }
-    ensures ok { IsOk result ↔ (pending.new.items ≡ []) }
-    ensures failures { (O.state out.new).failures ≡ refused_if (is_err result) (O.state out.old).failures }
-    ensures len { vec_len pending.new ≤ vec_len pending.old }
-    ensures capacity { vec_capacity pending.new ≡ vec_capacity pending.old }
+/// Moves bytes from the front of the first `len` to the output, up to its first refusal, and answers
+/// how many are left. They stand at the front then.
+fn send_front<O: Out>(out: &mut O, buffer: &mut [u8], len: usize) -> usize
+    requires { len ≤ length buffer.old }
+    ensures bound { result ≤ len }
+    ensures moved { MovesFront (O.state out.old) (take len buffer.old) (O.state out.new) (take result buffer.new) }
+    ensures failures { (O.state out.new).failures ≡ refused_if (nat_lt 0 result) (O.state out.old).failures }
 {
-    let count = send(out, pending);
-    let all = count == pending.len();
-    drop_front(pending, count);
-    if all { Ok(()) } else { Err(OutFailed) }
+    let sent = send(out, &buffer[..len]);
+    drop_front(buffer, len, sent);
+    len - sent
 }
 
-/// Drops the first `count` bytes.
-fn drop_front<A: Allocator>(pending: &mut Vec<u8, A>, count: usize)
-    requires { count ≤ vec_len pending.old }
-    ensures items { pending.new.items ≡ drop count pending.old.items }
-    ensures len { vec_len pending.new + count ≡ vec_len pending.old }
-    ensures capacity { vec_capacity pending.new ≡ vec_capacity pending.old }
+/// Drops the first `count` of the first `len` bytes.
+fn drop_front(buffer: &mut [u8], len: usize, count: usize)
+    requires count { count ≤ len }
+    requires len { len ≤ length buffer.old }
+    ensures { take (len - count) buffer.new ≡ drop count (take len buffer.old) }
 {
-    let left = pending.len() - count;
-    pending.copy_within(count.., 0);
-    pending.truncate(left);
+    buffer.copy_within(count..len, 0);
+}
+
+/// Puts bytes behind the first `at`.
+fn put_behind(buffer: &mut [u8], at: usize, bytes: &[u8])
+    requires { at + length bytes.now ≤ length buffer.old }
+    ensures { take (at + length bytes.now) buffer.new ≡ take at buffer.old ++ bytes.now }
+{
+    buffer[at..at + bytes.len()].copy_from_slice(bytes);
 }

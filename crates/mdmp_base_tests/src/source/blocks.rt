@@ -1,7 +1,7 @@
 //! Outputs that gather small writes into blocks.
 use super::{OutStep, assert_out, assert_taken, patchy_out};
 use crate::same::assert_same;
-use mdmp_source::{BlockOut, Out, OutFailed, PatchyOut};
+use mdmp_source::{BlockOut, LINE_ROOM, Out, OutFailed, PatchyOut};
 use std::alloc::Global;
 use std::process::Abort;
 
@@ -56,6 +56,9 @@ fn assert_gathers(rt: &impl Abort, alloc: Global, inner: &mut PatchyOut<Global>)
     flush_all(rt, &mut blocks);
     assert_pending(rt, &blocks, b"");
 }
+
+/// A line of three bytes.
+const LINE: OutStep = OutStep::Line(b"abc", Ok(()));
 
 #[test]
 fn block_out_gathers_writes(rt: HostRuntime) {
@@ -157,4 +160,62 @@ fn with_room_succeeds(rt: HostRuntime) {
     let inner = patchy_out(&rt, rt.alloc(), 5, 5, None);
     let blocks = blocks_of(&rt, rt.alloc(), 5, inner);
     assert_blocks(&rt, blocks, &NOTHING, b"");
+}
+
+/// What a block of two bytes, which is too small for a line, makes of two.
+const TWO_OF_SIX: [BlockStep; 3] = [
+    BlockStep::Out(LINE),
+    BlockStep::Out(LINE),
+    BlockStep::Holds(b"abca", b"bc"),
+];
+
+#[test]
+fn small_block_takes_lines_in_parts(rt: HostRuntime) {
+    let blocks = patchy_blocks(&rt, rt.alloc(), 2, 100, None);
+    assert_blocks(&rt, blocks, &TWO_OF_SIX, b"abca");
+}
+
+/// Lines that stand one behind the other in a block, and one for which there is no room any more.
+const LINES: [BlockStep; 6] = [
+    BlockStep::Out(LINE),
+    BlockStep::Out(PIECE),
+    BlockStep::Out(LINE),
+    BlockStep::Holds(b"", b"abcabcabc"),
+    BlockStep::Out(LINE),
+    BlockStep::Holds(b"abcabcabc", b"abc"),
+];
+
+#[test]
+fn block_takes_lines_whole(rt: HostRuntime) {
+    let blocks = patchy_blocks(&rt, rt.alloc(), LINE_ROOM + 8, 100, None);
+    assert_blocks(&rt, blocks, &LINES, b"abcabcabc");
+}
+
+/// A line that a block refuses, since the inner output refuses what is pending, and that it takes then.
+const LINE_REFUSED_ONCE: [BlockStep; 6] = [
+    BlockStep::Out(OutStep::Line(b"abcdefgh", Ok(()))),
+    BlockStep::Out(OutStep::Line(b"ij", Err(OutFailed))),
+    BlockStep::Holds(b"abc", b"defgh"),
+    BlockStep::Out(OutStep::Line(b"ij", Ok(()))),
+    BlockStep::Holds(b"abcdefgh", b"ij"),
+    BlockStep::Flush,
+];
+
+#[test]
+fn refused_block_takes_nothing_of_a_line(rt: HostRuntime) {
+    let blocks = patchy_blocks(&rt, rt.alloc(), LINE_ROOM, 3, Some(1));
+    assert_blocks(&rt, blocks, &LINE_REFUSED_ONCE, b"abcdefghij");
+}
+
+/// Asserts that an output that is lent has its lines straight in its block.
+fn assert_lends_block(rt: &impl Abort, blocks: &mut PatchyBlocks) {
+    let mut lent = blocks;
+    assert_out(rt, &mut lent, &[LINE; 2]);
+    assert_pending(rt, lent, b"abcabc");
+}
+
+#[test]
+fn lent_block_takes_lines(rt: HostRuntime) {
+    let mut blocks = patchy_blocks(&rt, rt.alloc(), LINE_ROOM + 8, 100, None);
+    assert_lends_block(&rt, &mut blocks);
 }

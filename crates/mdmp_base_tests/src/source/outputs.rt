@@ -23,9 +23,10 @@ fn patchy_out_takes_few_bytes_and_fails_once(rt: HostRuntime) {
 }
 
 /// Writes that all succeed.
-const SUCCEEDS: [OutStep; 2] = [
+const SUCCEEDS: [OutStep; 3] = [
     OutStep::Write(b"xy", Ok(2)),
     OutStep::WriteAll(b"z", Ok(())),
+    OutStep::Line(b"abc", Ok(())),
 ];
 
 /// Asserts that an output of a vector takes these steps, and that the vector has these bytes then.
@@ -37,7 +38,7 @@ fn assert_vec_out(rt: &impl Abort, alloc: Global, steps: &[OutStep], expected: &
 
 #[test]
 fn write_out_writes_to_its_writer(rt: HostRuntime) {
-    assert_vec_out(&rt, rt.alloc(), &SUCCEEDS, b"xyz");
+    assert_vec_out(&rt, rt.alloc(), &SUCCEEDS, b"xyzabc");
 }
 
 /// Writes that are all refused.
@@ -72,4 +73,14 @@ fn write_all_stops_at_a_refusal(rt: HostRuntime) {
     assert_taken(&rt, &out, b"abcd");
     assert_out(&rt, &mut out, &GOES_ON);
     assert_taken(&rt, &out, b"abcdefghij");
+}
+
+/// A line that stops at a refusal.
+const LINE_STOPS: [OutStep; 1] = [OutStep::Line(b"abcdef", Err(OutFailed))];
+
+#[test]
+fn line_stops_at_a_refusal(rt: HostRuntime) {
+    let mut out = patchy_out(&rt, rt.alloc(), 10, 2, Some(2));
+    assert_out(&rt, &mut out, &LINE_STOPS);
+    assert_taken(&rt, &out, b"abcd");
 }
