@@ -4,6 +4,7 @@ pub mod Checking
 pub mod CopyEnds
 pub mod CopyRows
 pub mod Copying
+pub mod DigitPairs
 pub mod Engining
 pub mod HexLemmas
 pub mod HexRows
@@ -21,7 +22,9 @@ pub mod JsonTexts
 pub mod LineLemmas
 pub mod Listings
 pub mod Loans
+pub mod ModuleParts
 pub mod PdbRows
+pub mod PlacedLemmas
 pub mod PlainLines
 pub mod Printing
 pub mod Rows

@@ -49,6 +49,10 @@ extent_text Outside size offset = place_text (codes "outside ") size offset
 abbrev pub units_text : UnitsRef → List ℕ
 units_text units = concat (codes "\"" ∷ escaped (units_in units) ∷ codes "\"" ∷ [])
 
+-- the first 84 units in double quotes, and the end of the line
+abbrev pub short_name_line : UnitsRef → List ℕ
+short_name_line units = concat (codes "\"" ∷ escaped (take 84 (units_in units)) ∷ codes "\"\n" ∷ [])
+
 -- `none`, `long <length>`, or the escaped units in double quotes
 abbrev pub name_text : Name → List ℕ
 name_text names.None = codes "none"
@@ -83,10 +87,10 @@ thread_line t = concat (codes "thread " ∷ decimal t.index ∷ codes " id " ∷
     ∷ codes " " ∷ extent_text t.stack t.fields.stack.memory.size t.fields.stack.memory.rva
     ∷ codes " context " ∷ extent_text t.context t.fields.thread_context.size t.fields.thread_context.rva ∷ codes "\n" ∷ [])
 
--- `module <k> base <x16> size <n> checksum <n> time <n> version <a>.<b>.<c>.<d> cv <part> misc <part> name <name>`, where a, b,
--- c and d are the halves of the two numbers of the file version
-abbrev pub module_line : ModuleItem → List ℕ
-module_line m = concat (codes "module " ∷ decimal m.index ∷ codes " base 0x" ∷ hex 16 m.fields.base_of_image
+-- `module <k> base <x16> size <n> checksum <n> time <n> version <a>.<b>.<c>.<d> cv <part> misc <part> name `, where a, b, c and d
+-- are the halves of the two numbers of the file version: the line of a module up to its name
+abbrev pub module_fields : ModuleItem → List (List ℕ)
+module_fields m = codes "module " ∷ decimal m.index ∷ codes " base 0x" ∷ hex 16 m.fields.base_of_image
     ∷ codes " size " ∷ decimal m.fields.size_of_image ∷ codes " checksum " ∷ decimal m.fields.checksum
     ∷ codes " time " ∷ decimal m.fields.time_date_stamp
     ∷ codes " version " ∷ decimal (m.fields.version_info.file_version_ms / 65536)
@@ -95,7 +99,11 @@ module_line m = concat (codes "module " ∷ decimal m.index ∷ codes " base 0x"
     ∷ codes "." ∷ decimal (m.fields.version_info.file_version_ls % 65536)
     ∷ codes " cv " ∷ extent_text m.codeview m.fields.cv_record.size m.fields.cv_record.rva
     ∷ codes " misc " ∷ extent_text m.misc m.fields.misc_record.size m.fields.misc_record.rva
-    ∷ codes " name " ∷ name_text m.name ∷ codes "\n" ∷ [])
+    ∷ codes " name " ∷ []
+
+-- that, and `<name>`
+abbrev pub module_line : ModuleItem → List ℕ
+module_line m = concat (module_fields m ++ (name_text m.name ∷ codes "\n" ∷ []))
 
 -- `unloaded <k> base <x16> size <n> checksum <n> time <n> name <name>`
 abbrev pub unloaded_line : UnloadedItem → List ℕ

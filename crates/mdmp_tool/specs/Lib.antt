@@ -3,6 +3,7 @@ pub mod CheckRuns
 pub mod CheckText
 pub mod Commands
 pub mod Copying
+pub mod Digits
 pub mod Engines
 pub mod Faults
 pub mod Forms
@@ -17,6 +18,7 @@ pub mod Line
 pub mod Lines
 pub mod PdbLines
 pub mod Pieces
+pub mod Placed
 pub mod Program
 pub mod Runs
 pub mod Standing

@@ -1,14 +1,16 @@
 //! The lines of the items of a listing.
+ghost use Rattle.std.specs.Prelude.{◌++◌, codes};
 ghost use Rattle.mdmp_source.specs.Output.{Puts};
-ghost use Rattle.mdmp_tool.specs.ItemLines.{entry_line, thread_line, module_line, unloaded_line, exception_line, system_line, region_line, thread_name_line, range_line, item_line};
+ghost use Rattle.mdmp_tool.specs.ItemLines.{entry_line, thread_line, module_line, unloaded_line, exception_line, system_line, region_line, thread_name_line, range_line, item_line, name_text};
 
 use crate::line::put_pieces;
 use crate::pieces::Piece;
+use crate::placed_lines::{ModuleFront, RangeLine, RegionLine, SHORT, ShortName, ThreadLine};
 use mdmp_lister::{
-    ExceptionItem, Item, MemoryInfoItem, ModuleItem, RangeItem, StreamItem, SystemItem, ThreadItem,
-    ThreadNameItem, UnloadedItem,
+    ExceptionItem, Item, MemoryInfoItem, ModuleItem, Name, RangeItem, StreamItem, SystemItem,
+    ThreadItem, ThreadNameItem, UnloadedItem,
 };
-use mdmp_source::{Out, OutFailed};
+use mdmp_source::{Out, OutFailed, put_line};
 
 /// Prints the line of an item.
 pub(crate) fn put_item_line<O: Out>(item: &Item<'_>, out: &mut O) -> Result<(), OutFailed>
@@ -49,81 +51,24 @@ fn put_entry_line<O: Out>(item: &StreamItem, out: &mut O) -> Result<(), OutFaile
 fn put_thread_line<O: Out>(item: &ThreadItem, out: &mut O) -> Result<(), OutFailed>
     ensures { Puts result (O.state out.old) (thread_line item.now) (O.state out.new) }
 {
-    put_pieces(
-        out,
-        &[
-            Piece::Text("thread "),
-            Piece::Decimal(item.index),
-            Piece::Text(" id "),
-            Piece::Decimal(item.fields.thread_id as u64),
-            Piece::Text(" suspend "),
-            Piece::Decimal(item.fields.suspend_count as u64),
-            Piece::Text(" class "),
-            Piece::Decimal(item.fields.priority_class as u64),
-            Piece::Text(" priority "),
-            Piece::Decimal(item.fields.priority as u64),
-            Piece::Text(" teb 0x"),
-            Piece::Hex16(item.fields.teb),
-            Piece::Text(" stack 0x"),
-            Piece::Hex16(item.fields.stack.start_of_memory_range),
-            Piece::Text(" "),
-            Piece::Extent {
-                extent: item.stack,
-                size: item.fields.stack.memory.size as u64,
-                offset: item.fields.stack.memory.rva as u128,
-            },
-            Piece::Text(" context "),
-            Piece::Extent {
-                extent: item.context,
-                size: item.fields.thread_context.size as u64,
-                offset: item.fields.thread_context.rva as u128,
-            },
-            Piece::Text("\n"),
-        ],
-    )
+    put_line(out, &ThreadLine { item })
 }
 
 fn put_module_line<O: Out>(item: &ModuleItem<'_>, out: &mut O) -> Result<(), OutFailed>
     ensures { Puts result (O.state out.old) (module_line item.now) (O.state out.new) }
 {
-    put_pieces(
-        out,
-        &[
-            Piece::Text("module "),
-            Piece::Decimal(item.index),
-            Piece::Text(" base 0x"),
-            Piece::Hex16(item.fields.base_of_image),
-            Piece::Text(" size "),
-            Piece::Decimal(item.fields.size_of_image as u64),
-            Piece::Text(" checksum "),
-            Piece::Decimal(item.fields.checksum as u64),
-            Piece::Text(" time "),
-            Piece::Decimal(item.fields.time_date_stamp as u64),
-            Piece::Text(" version "),
-            Piece::Decimal(item.fields.version_info.file_version_ms as u64 / 65536),
-            Piece::Text("."),
-            Piece::Decimal(item.fields.version_info.file_version_ms as u64 % 65536),
-            Piece::Text("."),
-            Piece::Decimal(item.fields.version_info.file_version_ls as u64 / 65536),
-            Piece::Text("."),
-            Piece::Decimal(item.fields.version_info.file_version_ls as u64 % 65536),
-            Piece::Text(" cv "),
-            Piece::Extent {
-                extent: item.codeview,
-                size: item.fields.cv_record.size as u64,
-                offset: item.fields.cv_record.rva as u128,
-            },
-            Piece::Text(" misc "),
-            Piece::Extent {
-                extent: item.misc,
-                size: item.fields.misc_record.size as u64,
-                offset: item.fields.misc_record.rva as u128,
-            },
-            Piece::Text(" name "),
-            Piece::Name(&item.name),
-            Piece::Text("\n"),
-        ],
-    )
+    put_line(out, &ModuleFront { item })?;
+    put_name_line(out, &item.name)
+}
+
+/// Writes a name and the end of the line.
+fn put_name_line<O: Out>(out: &mut O, name: &Name<'_>) -> Result<(), OutFailed>
+    ensures { Puts result (O.state out.old) (name_text name.now ++ codes "\n") (O.state out.new) }
+{
+    match name {
+        Name::Units(units) if units.len() <= SHORT => put_line(out, &ShortName { units: *units }),
+        _ => put_pieces(out, &[Piece::Name(name), Piece::Text("\n")]),
+    }
 }
 
 fn put_unloaded_line<O: Out>(item: &UnloadedItem<'_>, out: &mut O) -> Result<(), OutFailed>
@@ -218,28 +163,7 @@ fn put_system_line<O: Out>(item: &SystemItem<'_>, out: &mut O) -> Result<(), Out
 fn put_region_line<O: Out>(item: &MemoryInfoItem, out: &mut O) -> Result<(), OutFailed>
     ensures { Puts result (O.state out.old) (region_line item.now) (O.state out.new) }
 {
-    put_pieces(
-        out,
-        &[
-            Piece::Text("region "),
-            Piece::Decimal(item.index),
-            Piece::Text(" base 0x"),
-            Piece::Hex16(item.fields.base_address),
-            Piece::Text(" allocation 0x"),
-            Piece::Hex16(item.fields.allocation_base),
-            Piece::Text(" initial "),
-            Piece::Decimal(item.fields.allocation_protect as u64),
-            Piece::Text(" size "),
-            Piece::Decimal(item.fields.region_size),
-            Piece::Text(" state "),
-            Piece::Decimal(item.fields.state as u64),
-            Piece::Text(" protect "),
-            Piece::Decimal(item.fields.protect as u64),
-            Piece::Text(" type "),
-            Piece::Decimal(item.fields.memory_type as u64),
-            Piece::Text("\n"),
-        ],
-    )
+    put_line(out, &RegionLine { item })
 }
 
 fn put_thread_name_line<O: Out>(item: &ThreadNameItem<'_>, out: &mut O) -> Result<(), OutFailed>
@@ -262,20 +186,5 @@ fn put_thread_name_line<O: Out>(item: &ThreadNameItem<'_>, out: &mut O) -> Resul
 fn put_range_line<O: Out>(item: &RangeItem, out: &mut O) -> Result<(), OutFailed>
     ensures { Puts result (O.state out.old) (range_line item.now) (O.state out.new) }
 {
-    put_pieces(
-        out,
-        &[
-            Piece::Text("range "),
-            Piece::Decimal(item.index),
-            Piece::Text(" start 0x"),
-            Piece::Hex16(item.start),
-            Piece::Text(" "),
-            Piece::Extent {
-                extent: item.extent,
-                size: item.size,
-                offset: item.offset,
-            },
-            Piece::Text("\n"),
-        ],
-    )
+    put_line(out, &RangeLine { item })
 }

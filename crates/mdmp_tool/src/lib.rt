@@ -20,6 +20,7 @@
 mod blocks;
 mod check;
 mod copy;
+mod digits;
 mod engine;
 mod fault;
 mod fault_lines;
@@ -38,6 +39,8 @@ mod lines;
 mod list;
 mod pdb_lines;
 mod pieces;
+mod placed;
+mod placed_lines;
 mod program;
 mod running;
 mod standing;

@@ -1,0 +1,170 @@
+//! Numbers in digits, put behind a text.
+ghost use Rattle.std.specs.Prelude.{◌<◌, ◌+◌, ◌≤◌, length};
+ghost use Rattle.std.specs.Fmt.{decimal};
+ghost use Rattle.mdmp_wire.specs.Digits.{hex};
+ghost use Rattle.mdmp_tool.specs.Digits.{last_digits};
+ghost use Rattle.mdmp_tool.specs.Placed.{IsPlaced};
+
+use crate::placed::{slice_at, text_at};
+use itoa::Buffer;
+
+/// The two decimal digits of each number below 100.
+static DECIMAL_PAIRS: [u8; 200] =
+    *b"00010203040506070809101112131415161718192021222324252627282930313233343536373839404142434445464748495051525354555657585960616263646566676869707172737475767778798081828384858687888990919293949596979899";
+
+/// The two hexadecimal digits of each byte.
+static HEX_PAIRS: [u8; 512] =
+    *b"000102030405060708090a0b0c0d0e0f101112131415161718191a1b1c1d1e1f202122232425262728292a2b2c2d2e2f303132333435363738393a3b3c3d3e3f404142434445464748494a4b4c4d4e4f505152535455565758595a5b5c5d5e5f606162636465666768696a6b6c6d6e6f707172737475767778797a7b7c7d7e7f808182838485868788898a8b8c8d8e8f909192939495969798999a9b9c9d9e9fa0a1a2a3a4a5a6a7a8a9aaabacadaeafb0b1b2b3b4b5b6b7b8b9babbbcbdbebfc0c1c2c3c4c5c6c7c8c9cacbcccdcecfd0d1d2d3d4d5d6d7d8d9dadbdcdddedfe0e1e2e3e4e5e6e7e8e9eaebecedeeeff0f1f2f3f4f5f6f7f8f9fafbfcfdfeff";
+
+/// Puts the two hexadecimal digits of a byte behind the first `len` bytes.
+#[inline(always)]
+fn hex2_at(text: &mut [u8], len: usize, byte: u64) -> usize
+    requires byte { byte < 256 }
+    requires room { len + 2 ≤ length text.old }
+    ensures { IsPlaced text.old len (hex 2 byte) 2 text.new result }
+{
+    let from = byte as usize * 2;
+    text_at(text, len, [HEX_PAIRS[from], HEX_PAIRS[from + 1]])
+}
+
+/// Puts a number in sixteen hexadecimal digits behind the first `len` bytes.
+#[inline(always)]
+pub(crate) fn hex16_at(text: &mut [u8], len: usize, number: u64) -> usize
+    requires { len + 16 ≤ length text.old }
+    ensures { IsPlaced text.old len (hex 16 number) 16 text.new result }
+{
+    let len = hex2_at(text, len, number >> 56);
+    let len = hex2_at(text, len, (number >> 48) % 256);
+    let len = hex2_at(text, len, (number >> 40) % 256);
+    let len = hex2_at(text, len, (number >> 32) % 256);
+    let len = hex2_at(text, len, (number >> 24) % 256);
+    let len = hex2_at(text, len, (number >> 16) % 256);
+    let len = hex2_at(text, len, (number >> 8) % 256);
+    hex2_at(text, len, number % 256)
+}
+
+/// Puts the two decimal digits of a number below 100 behind the first `len` bytes.
+#[inline(always)]
+fn last_two_at(text: &mut [u8], len: usize, number: u32) -> usize
+    requires small { number < 100 }
+    requires room { len + 2 ≤ length text.old }
+    ensures { IsPlaced text.old len (last_digits 2 number) 2 text.new result }
+{
+    let from = number as usize * 2;
+    text_at(text, len, [DECIMAL_PAIRS[from], DECIMAL_PAIRS[from + 1]])
+}
+
+/// Puts the four decimal digits of a number below 10,000, zeros in front among them.
+#[inline(always)]
+fn last_four_at(text: &mut [u8], len: usize, number: u32) -> usize
+    requires small { number < 10000 }
+    requires room { len + 4 ≤ length text.old }
+    ensures { IsPlaced text.old len (last_digits 4 number) 4 text.new result }
+{
+    let len = last_two_at(text, len, number / 100);
+    last_two_at(text, len, number % 100)
+}
+
+/// Puts the eight decimal digits of a number below 100,000,000, zeros in front among them.
+#[inline(always)]
+fn last_eight_at(text: &mut [u8], len: usize, number: u32) -> usize
+    requires small { number < 100000000 }
+    requires room { len + 8 ≤ length text.old }
+    ensures { IsPlaced text.old len (last_digits 8 number) 8 text.new result }
+{
+    let len = last_four_at(text, len, number / 10_000);
+    last_four_at(text, len, number % 10_000)
+}
+
+/// Puts a number of at most two digits behind the first `len` bytes.
+#[inline(always)]
+fn two_at(text: &mut [u8], len: usize, number: u32) -> usize
+    requires small { number < 100 }
+    requires room { len + 2 ≤ length text.old }
+    ensures { IsPlaced text.old len (decimal number) 2 text.new result }
+{
+    if number < 10 {
+        text[len] = b'0' + number as u8;
+        len + 1
+    } else {
+        last_two_at(text, len, number)
+    }
+}
+
+/// Puts a number of at most four digits behind the first `len` bytes.
+#[inline(always)]
+fn four_at(text: &mut [u8], len: usize, number: u32) -> usize
+    requires small { number < 10000 }
+    requires room { len + 4 ≤ length text.old }
+    ensures { IsPlaced text.old len (decimal number) 4 text.new result }
+{
+    if number < 100 {
+        return two_at(text, len, number);
+    }
+    let len = two_at(text, len, number / 100);
+    last_two_at(text, len, number % 100)
+}
+
+/// Puts a number of at most eight digits behind the first `len` bytes.
+#[inline(always)]
+fn eight_at(text: &mut [u8], len: usize, number: u32) -> usize
+    requires small { number < 100000000 }
+    requires room { len + 8 ≤ length text.old }
+    ensures { IsPlaced text.old len (decimal number) 8 text.new result }
+{
+    if number < 10_000 {
+        return four_at(text, len, number);
+    }
+    let len = four_at(text, len, number / 10_000);
+    last_four_at(text, len, number % 10_000)
+}
+
+/// Puts a number of at most twelve digits behind the first `len` bytes.
+#[inline(always)]
+fn twelve_at(text: &mut [u8], len: usize, number: u64) -> usize
+    requires small { number < 1000000000000 }
+    requires room { len + 12 ≤ length text.old }
+    ensures { IsPlaced text.old len (decimal number) 12 text.new result }
+{
+    if number < 100_000_000 {
+        return eight_at(text, len, number as u32);
+    }
+    let len = four_at(text, len, (number / 100_000_000) as u32);
+    last_eight_at(text, len, (number % 100_000_000) as u32)
+}
+
+/// Puts a number in decimal digits behind the first `len` bytes, and is not inlined.
+#[inline(never)]
+fn long_decimal_at(text: &mut [u8], len: usize, number: u64) -> usize
+    requires { len + 20 ≤ length text.old }
+    ensures { IsPlaced text.old len (decimal number) 20 text.new result }
+{
+    if number < 100_000_000 {
+        return eight_at(text, len, number as u32);
+    }
+    let len = twelve_at(text, len, number / 100_000_000);
+    last_eight_at(text, len, (number % 100_000_000) as u32)
+}
+
+/// Puts a number in decimal digits behind the first `len` bytes.
+// Most numbers of most lines have one digit.
+#[inline(always)]
+pub(crate) fn decimal_at(text: &mut [u8], len: usize, number: u64) -> usize
+    requires { len + 20 ≤ length text.old }
+    ensures { IsPlaced text.old len (decimal number) 20 text.new result }
+{
+    if number < 10 {
+        return two_at(text, len, number as u32);
+    }
+    long_decimal_at(text, len, number)
+}
+
+/// Puts a wide number in decimal digits behind the first `len` bytes.
+#[inline(never)]
+pub(crate) fn wide_decimal_at(text: &mut [u8], len: usize, number: u128) -> usize
+    requires { len + 39 ≤ length text.old }
+    ensures { IsPlaced text.old len (decimal number) 39 text.new result }
+{
+    let mut buffer = Buffer::new();
+    slice_at(text, len, buffer.format(number).as_bytes())
+}
