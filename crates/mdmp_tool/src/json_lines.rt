@@ -5,11 +5,12 @@ ghost use Rattle.mdmp_tool.specs.JsonLines.{dump_object, stream_members, thread_
 
 use crate::line::put_pieces;
 use crate::pieces::Piece;
+use crate::placed_objects::RegionObject;
 use mdmp_lister::{
     ExceptionItem, Item, MemoryInfoItem, ModuleItem, RangeItem, StreamItem, SystemItem, ThreadItem,
     ThreadNameItem, UnloadedItem,
 };
-use mdmp_source::{Out, OutFailed};
+use mdmp_source::{Out, OutFailed, put_line};
 use mdmp_wire::Header;
 
 /// Prints the object of an item.
@@ -255,30 +256,7 @@ fn put_system_object<O: Out>(item: &SystemItem<'_>, out: &mut O) -> Result<(), O
 fn put_region_object<O: Out>(item: &MemoryInfoItem, out: &mut O) -> Result<(), OutFailed>
     ensures { Puts result (O.state out.old) (object_line (object (region_members item.now))) (O.state out.new) }
 {
-    put_pieces(
-        out,
-        &[
-            Piece::Text("{\"line\":\"region\",\"entry\":"),
-            Piece::Decimal(item.entry as u64),
-            Piece::Text(",\"index\":"),
-            Piece::Decimal(item.index),
-            Piece::Text(",\"base\":\"0x"),
-            Piece::Hex16(item.fields.base_address),
-            Piece::Text("\",\"allocation\":\"0x"),
-            Piece::Hex16(item.fields.allocation_base),
-            Piece::Text("\",\"initial\":"),
-            Piece::Decimal(item.fields.allocation_protect as u64),
-            Piece::Text(",\"size\":\""),
-            Piece::Decimal(item.fields.region_size),
-            Piece::Text("\",\"state\":"),
-            Piece::Decimal(item.fields.state as u64),
-            Piece::Text(",\"protect\":"),
-            Piece::Decimal(item.fields.protect as u64),
-            Piece::Text(",\"type\":"),
-            Piece::Decimal(item.fields.memory_type as u64),
-            Piece::Text("}\n"),
-        ],
-    )
+    put_line(out, &RegionObject { item })
 }
 
 fn put_thread_name_object<O: Out>(item: &ThreadNameItem<'_>, out: &mut O) -> Result<(), OutFailed>

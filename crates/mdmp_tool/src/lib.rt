@@ -41,6 +41,7 @@ mod pdb_lines;
 mod pieces;
 mod placed;
 mod placed_lines;
+mod placed_objects;
 mod program;
 mod running;
 mod standing;
