@@ -1,6 +1,7 @@
-"""What the benchmarks share: the program, the dumps that they make, and times."""
+"""What the benchmarks share: the program, the dumps that they make, times, and what a process holds and asks of the system."""
 
 import os
+import shutil
 import struct
 import subprocess
 import sys
@@ -8,6 +9,11 @@ import time
 
 ROOT = os.path.dirname(os.path.dirname(os.path.abspath(__file__)))
 RUNS = 9
+MIB = 1 << 20
+STRACE = "/usr/bin/strace"
+TIME = "/usr/bin/time"
+MOST_OF_CAT = 1.2  # of the time of cat that a copy takes
+MOST_MIB = 2.0  # that a process of the program has resident
 
 
 def program():
@@ -18,9 +24,76 @@ def program():
     return path
 
 
+def need(programs):
+    """Installs those of these programs that are missing, each of the Debian package beside its path, where that can be done."""
+
+    def missing():
+        return [package for path, package in programs.items() if not os.access(path, os.X_OK)]
+
+    if missing() and os.geteuid() == 0 and shutil.which("apt-get"):
+        for words in (["update"], ["install", "-y", "--no-install-recommends", *missing()]):
+            how = {**os.environ, "DEBIAN_FRONTEND": "noninteractive"}
+            subprocess.run(["apt-get", *words], stdout=subprocess.DEVNULL, stderr=subprocess.DEVNULL, check=False, env=how)
+    if missing():
+        sys.exit(f"bench: something is missing: apt-get install -y {' '.join(missing())}")
+
+
 def header(stream_type, size):
     """The header of a dump with one stream of so many bytes, which stands behind it, and its directory."""
     return struct.pack("<4sIIIIIQ", b"MDMP", 0xA793, 1, 32, 0, 0, 0) + struct.pack("<III", stream_type, size, 44)
+
+
+def write_regions(path, count):
+    """So many regions of memory (MINIDUMP_MEMORY_INFO_LIST), of 48 bytes each."""
+    with open(path, "wb") as file:
+        file.write(header(16, 16 + 48 * count) + struct.pack("<IIQ", 16, 48, count))
+        for k in range(count):
+            file.write(struct.pack("<QQIIQIIII", k << 12, k << 12, 4, 0, 4096, 0x1000, 2, 0x20000, 0))
+
+
+def module_name(number):
+    """The name of a module: 41 to 71 units, 56 on average."""
+    folder = "packages_of_programs_and_libraries"[: 3 + number % 31]
+    return f"C:\\Windows\\System32\\{folder}\\module_{number:06}.dll"
+
+
+def write_modules(path, count):
+    """So many modules (MINIDUMP_MODULE_LIST), each with a name and a CodeView record of its own."""
+    names = [module_name(k).encode("utf-16le") for k in range(count)]
+    files = [b"RSDS" + struct.pack("<QQI", k, k, 1) + f"module_{k:06}.pdb\0".encode() for k in range(count)]
+    at = 44 + 4 + 108 * count
+    records, parts = [], []
+    for k in range(count):
+        size = 4 + len(names[k])
+        record = struct.pack("<QIIII", k << 16, 4096, 0, 0, at) + bytes(52)
+        records.append(record + struct.pack("<IIII", len(files[k]), at + size, 0, 0) + bytes(16))
+        parts.append(struct.pack("<I", len(names[k])) + names[k] + files[k])
+        at += size + len(files[k])
+    with open(path, "wb") as file:
+        file.write(header(4, 4 + 108 * count) + struct.pack("<I", count) + b"".join(records) + b"".join(parts))
+
+
+def write_ranges(path, ranges):
+    """Ranges of memory (MINIDUMP_MEMORY_LIST), each a first address and a length, and their bytes behind the list."""
+    list_size = 4 + 16 * len(ranges)
+    records = [struct.pack("<I", len(ranges))]
+    rva = 44 + list_size
+    for start, length in ranges:
+        records.append(struct.pack("<QII", start, length, rva))
+        rva += length
+    with open(path, "wb") as file:
+        file.write(header(5, list_size) + b"".join(records))
+        file.write(bytes(i % 251 for i in range(rva - 44 - list_size)))
+
+
+def copied(mdmp, path, out, stream_type):
+    """A shell that removes a copy, and makes it anew by `copy`."""
+    return ["sh", "-c", f"rm -f {out} && exec {mdmp} copy {path} {out} {stream_type}"]
+
+
+def passed(path, out):
+    """A shell that removes a copy, and makes it anew by `cat`."""
+    return ["sh", "-c", f"rm -f {out} && exec cat {path} > {out}"]
 
 
 def best_times(commands, runs=RUNS):
@@ -42,5 +115,12 @@ def best_time(words):
 
 def resident(words):
     """The most KiB that a process has resident."""
-    done = subprocess.run(["/usr/bin/time", "-f", "%M", *words], stdout=subprocess.DEVNULL, stderr=subprocess.PIPE, check=True)
+    done = subprocess.run([TIME, "-f", "%M", *words], stdout=subprocess.DEVNULL, stderr=subprocess.PIPE, check=True)
     return int(done.stderr.split()[-1])
+
+
+def system_calls(words):
+    """How many calls of the system a process makes."""
+    done = subprocess.run([STRACE, "-f", "-c", *words], stdout=subprocess.DEVNULL, stderr=subprocess.PIPE, check=True)
+    total = [line.split() for line in done.stderr.decode().splitlines() if line.endswith(" total")]
+    return int(total[0][3])
