@@ -2,7 +2,7 @@
 use crate::files::{
     assert_file, first_bytes, is_there, numbers_file, remove_file, write_file, write_made,
 };
-use crate::runs::{Line, assert_line, assert_line_in_heap, assert_lines};
+use crate::runs::{CommandCase, assert_line, assert_line_in_heap, assert_lines};
 use crate::same::{assert_same, assert_same_at};
 use mdmp_test_support::{CRASH, SIX, SYSTEM, file_of_numbers, header_of};
 use std::alloc::{AllocGlobal, Global};
@@ -22,7 +22,7 @@ fn assert_copied<R: Files + AllocGlobal + Abort>(
     rt: &R,
     alloc: Global,
     copy: &str,
-    (words, wanted): Line<'_>,
+    (words, wanted): CommandCase<'_>,
     bytes: &[u8],
 ) {
     write_files(rt, alloc, copy);
@@ -32,7 +32,7 @@ fn assert_copied<R: Files + AllocGlobal + Abort>(
 
 #[test]
 fn copy_of_all_is_the_same_file(rt: HostRuntime) {
-    const LINE: Line<'static> = (&["copy", "system.dmp", "all.dmp", "7"], (0, "", ""));
+    const LINE: CommandCase<'static> = (&["copy", "system.dmp", "all.dmp", "7"], (0, "", ""));
     assert_copied(&rt, rt.alloc(), "all.dmp", LINE, &SYSTEM);
 }
 
@@ -42,7 +42,7 @@ fn assert_crash_copied<R: Files + AllocGlobal + Abort>(
     rt: &R,
     alloc: Global,
     copy: &str,
-    line: Line<'_>,
+    line: CommandCase<'_>,
 ) {
     let crash = numbers_file(rt, alloc, 2, &CRASH);
     assert_same(rt, crash.len(), 292);
@@ -51,18 +51,18 @@ fn assert_crash_copied<R: Files + AllocGlobal + Abort>(
 
 #[test]
 fn copy_of_two_types_has_their_streams(rt: HostRuntime) {
-    const LINE: Line<'static> = (&["copy", "six.dmp", "crash.dmp", "3", "6"], (0, "", ""));
+    const LINE: CommandCase<'static> = (&["copy", "six.dmp", "crash.dmp", "3", "6"], (0, "", ""));
     assert_crash_copied(&rt, rt.alloc(), "crash.dmp", LINE);
 }
 
 #[test]
 fn copy_of_a_type_that_is_not_there_is_an_empty_dump(rt: HostRuntime) {
-    const LINE: Line<'static> = (&["copy", "six.dmp", "nothing.dmp", "200000"], (0, "", ""));
+    const LINE: CommandCase<'static> = (&["copy", "six.dmp", "nothing.dmp", "200000"], (0, "", ""));
     assert_copied(&rt, rt.alloc(), "nothing.dmp", LINE, &header_of(0, 32));
 }
 
 /// Copies to a file that is there.
-const TO_A_FILE: [Line<'static>; 3] = [
+const TO_A_FILE: [CommandCase<'static>; 3] = [
     (
         &["copy", "system.dmp", "there.dmp", "7"],
         (3, "", "mdmp: cannot create there.dmp\n"),
@@ -79,7 +79,11 @@ const TO_A_FILE: [Line<'static>; 3] = [
 ];
 
 /// Asserts how each line ends, and that the files that are there are as they were.
-fn assert_none_written<R: Files + AllocGlobal + Abort>(rt: &R, alloc: Global, lines: &[Line<'_>]) {
+fn assert_none_written<R: Files + AllocGlobal + Abort>(
+    rt: &R,
+    alloc: Global,
+    lines: &[CommandCase<'_>],
+) {
     write_files(rt, alloc, "there.dmp");
     write_file(rt, "there.dmp", b"there");
     assert_lines(rt, alloc, lines);
@@ -93,7 +97,7 @@ fn file_that_is_there_is_not_written(rt: HostRuntime) {
 }
 
 /// Copies that are refused.
-const REFUSED: [Line<'static>; 5] = [
+const REFUSED: [CommandCase<'static>; 5] = [
     (
         &["copy", "system.dmp", "refused.dmp", "12"],
         (2, "", "mdmp: type 12 is not copied\n"),
@@ -118,7 +122,11 @@ const REFUSED: [Line<'static>; 5] = [
 ];
 
 /// Asserts how each line ends, and that it makes no file.
-fn assert_none_made<R: Files + AllocGlobal + Abort>(rt: &R, alloc: Global, lines: &[Line<'_>]) {
+fn assert_none_made<R: Files + AllocGlobal + Abort>(
+    rt: &R,
+    alloc: Global,
+    lines: &[CommandCase<'_>],
+) {
     for &(words, wanted) in lines {
         assert_line(rt, alloc, words, wanted);
         assert_same_at(rt, &words, is_there(rt, "refused.dmp"), false);
@@ -139,7 +147,7 @@ fn write_cut(rt: &(impl Files + Abort)) {
 
 #[test]
 fn fault_of_the_file_leaves_an_empty_copy(rt: HostRuntime) {
-    const LINE: Line<'static> = (
+    const LINE: CommandCase<'static> = (
         &["copy", "cut.dmp", "cut.copy.dmp", "7"],
         (
             1,
@@ -154,7 +162,7 @@ fn fault_of_the_file_leaves_an_empty_copy(rt: HostRuntime) {
 #[test]
 fn file_that_gives_no_bytes_leaves_an_empty_copy(rt: HostRuntime) {
     // A directory is opened, and gives no bytes.
-    const LINE: Line<'static> = (
+    const LINE: CommandCase<'static> = (
         &["copy", ".", "folder.dmp", "7"],
         (3, "", "mdmp: store failed at 0\n"),
     );

@@ -1,6 +1,6 @@
 //! Command lines of `hex`, over files that the tests write.
 use crate::files::{write_file, write_made};
-use crate::runs::{Ending, Line, assert_end, assert_line, assert_lines, run_with};
+use crate::runs::{CommandCase, Ending, assert_end, assert_line, assert_lines, run_with};
 use mdmp_test_support::{
     ABCD_RANGE, BY_WHOLE, MEMORY64, Room, WXYZ_RANGE, last_file, memory_file, short_threads_file,
 };
@@ -43,7 +43,7 @@ const WIDE: Ending<'static> = (0, "0x0000000000001000: 41 42 43 44\n", "");
 const COUNT: Ending<'static> = (1, "", "mdmp: entry 0: bad count: offset 44 size 3\n");
 
 /// Command lines over the files that are written.
-const LINES: [Line<'static>; 10] = [
+const LINES: [CommandCase<'static>; 10] = [
     (&["hex", "wide.dmp", "0x1000", "4"], WIDE),
     (&["hex", "wide.dmp", "4096", "4"], WIDE),
     (

@@ -1,6 +1,6 @@
 //! Command lines with options at their limits.
 use crate::files::{remove_file, write_file};
-use crate::runs::{Line, assert_line, assert_lines, run_in_heap};
+use crate::runs::{CommandCase, assert_line, assert_lines, run_in_heap};
 use crate::same::assert_same_at;
 use mdmp_test_support::{BY_SEVEN, MEMORY64, SYSTEM, SYSTEM_TEXT, WIDE_TEXT};
 use std::alloc::{AllocGlobal, Global};
@@ -15,7 +15,7 @@ fn write_files(rt: &(impl Files + Abort), copy: &str) {
 }
 
 /// Command lines with the least window.
-const LEAST_WINDOW: [Line<'static>; 4] = [
+const LEAST_WINDOW: [CommandCase<'static>; 4] = [
     (
         &["check", "--window", "168", "system.dmp"],
         (0, "entry 0: ok\n", ""),
@@ -41,7 +41,7 @@ fn least_window_serves_each_command(rt: HostRuntime) {
 }
 
 /// Command lines with names of no byte.
-const NO_NAME: [Line<'static>; 3] = [
+const NO_NAME: [CommandCase<'static>; 3] = [
     (
         &["check", "--name", "0", "system.dmp"],
         (0, "entry 0: ok\n", ""),
@@ -133,7 +133,7 @@ fn limits_are_those_of_the_words(rt: HostRuntime) {
 }
 
 /// Command lines that their budget ends: before the directory is read, or before the one stream.
-const REACHED: [Line<'static>; 5] = [
+const REACHED: [CommandCase<'static>; 5] = [
     (
         &["list", "--budget", "43", "system.dmp"],
         (3, "", "mdmp: fetch budget reached: offset 32 size 12\n"),
@@ -167,7 +167,7 @@ fn budget_ends_each_command_that_prints(rt: HostRuntime) {
 }
 
 /// Command lines with the greatest budget.
-const GREATEST: [Line<'static>; 3] = [
+const GREATEST: [CommandCase<'static>; 3] = [
     (
         &["check", "--budget=18446744073709551615", "system.dmp"],
         (0, "entry 0: ok\n", ""),

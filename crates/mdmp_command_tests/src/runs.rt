@@ -26,7 +26,7 @@ pub struct CommandEnd {
 pub type Ending<'a> = (u8, &'a str, &'a str);
 
 /// The words of a command line, and how it has to end.
-pub type Line<'a> = (&'a [&'a str], Ending<'a>);
+pub type CommandCase<'a> = (&'a [&'a str], Ending<'a>);
 
 /// An output that has taken nothing.
 pub fn new_out(rt: &impl Abort, alloc: Global, room: Room) -> PatchyOut<Global> {
@@ -185,7 +185,11 @@ pub fn assert_line<R: Files + AllocGlobal + Abort>(
 }
 
 /// Asserts how each of these command lines ends over the files of the system.
-pub fn assert_lines<R: Files + AllocGlobal + Abort>(rt: &R, alloc: Global, lines: &[Line<'_>]) {
+pub fn assert_lines<R: Files + AllocGlobal + Abort>(
+    rt: &R,
+    alloc: Global,
+    lines: &[CommandCase<'_>],
+) {
     for &(words, wanted) in lines {
         assert_line(rt, alloc, words, wanted);
     }

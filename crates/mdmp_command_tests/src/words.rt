@@ -1,7 +1,7 @@
 //! Command lines of `check` and `list`, over files that the tests write.
 use crate::files::{write_faulty, write_file};
 use crate::runs::{
-    Ending, Line, assert_end, assert_line, assert_line_in_heap, first_part, run_with,
+    CommandCase, Ending, assert_end, assert_line, assert_line_in_heap, first_part, run_with,
 };
 use mdmp_test_support::{
     BY_SEVEN, BY_WHOLE, FAULTY_TEXT, FAULTY_TOLD, FAULTY_VERDICTS, Room, SYSTEM, SYSTEM_TEXT,
@@ -20,7 +20,7 @@ fn write_files(rt: &(impl Files + Abort), alloc: Global) {
 }
 
 /// Command lines over the files that are written.
-const LINES: [Line<'static>; 12] = [
+const LINES: [CommandCase<'static>; 12] = [
     (
         &["list", "empty.dmp"],
         (

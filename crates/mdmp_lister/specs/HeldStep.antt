@@ -31,12 +31,12 @@ read_told bytes (Ok h) = Ok (step_told bytes h)
 read_told bytes (Err fault) = Err fault
 
 -- all bytes of its record are there
-abbrev pub IsWhole : List ℕ → HeldStep → Type 0
-IsWhole bytes (held.Stream x) = Unit {0}
-IsWhole bytes (held.Record r) = record_size r.kind ≤ length bytes
+abbrev pub HasItsBytes : List ℕ → HeldStep → Type 0
+HasItsBytes bytes (held.Stream x) = Unit {0}
+HasItsBytes bytes (held.Record r) = record_size r.kind ≤ length bytes
 
-abbrev pub IsAnswerWhole : {E : Type 0} → List ℕ → Result (Option HeldStep) E → Type 0
-IsAnswerWhole bytes answer = IfOk answer (λ given. IfSome given (IsWhole bytes))
+abbrev pub AnswerHasItsBytes : {E : Type 0} → List ℕ → Result (Option HeldStep) E → Type 0
+AnswerHasItsBytes bytes answer = IfOk answer (λ given. IfSome given (HasItsBytes bytes))
 
 -- the range that a step tells, in a file of z bytes, or none where it tells another item
 pub record TellsRange (z : ℕ) (s : Step) (given : Option RangeItem) : Type 0 where

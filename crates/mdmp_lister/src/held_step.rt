@@ -8,7 +8,7 @@ ghost use Rattle.mdmp_wire.specs.AnyRecord.{name_rva};
 ghost use Rattle.mdmp_lister.specs.Format.Item.{record_at};
 ghost use Rattle.mdmp_lister.specs.Format.Kind.{record_size};
 ghost use Rattle.mdmp_lister.specs.Format.Name.{plain_name};
-ghost use Rattle.mdmp_lister.specs.HeldStep.{IsWhole, TellsRange, step_told};
+ghost use Rattle.mdmp_lister.specs.HeldStep.{HasItsBytes, TellsRange, step_told};
 ghost use Rattle.mdmp_lister.specs.Step.{IsHeld, IsItemOf, bytes_behind, name_read};
 
 use crate::fetching::NameRead;
@@ -92,7 +92,7 @@ pub(crate) fn held_name_rva(kind: StreamKind, bytes: &[u8]) -> Option<u64>
 
 /// How many bytes the range has that is held in these bytes, of a 64-bit memory list; 0 of another item.
 pub(crate) fn bytes_behind(held: &HeldStep, bytes: &[u8]) -> u64
-    requires { IsWhole bytes.now held.now }
+    requires { HasItsBytes bytes.now held.now }
     ensures { result ≡ bytes_behind (step_told bytes.now held.now) }
 {
     match held {
@@ -109,7 +109,7 @@ pub(crate) fn bytes_behind(held: &HeldStep, bytes: &[u8]) -> u64
 
 /// The step that is held in these bytes.
 pub(crate) fn step_of(held: &HeldStep, bytes: &[u8]) -> Step
-    requires { IsWhole bytes.now held.now }
+    requires { HasItsBytes bytes.now held.now }
     ensures { result ≡ step_told bytes.now held.now }
 {
     match held {
@@ -203,7 +203,7 @@ pub(crate) fn record_item<'a>(
 
 /// The range that is held in these bytes, where it is one, in a file of `size` bytes.
 pub(crate) fn range_of(held: &HeldStep, bytes: &[u8], size: u64) -> Option<RangeItem>
-    requires { IsWhole bytes.now held.now }
+    requires { HasItsBytes bytes.now held.now }
     ensures { TellsRange size (step_told bytes.now held.now) result }
 {
     match held {

@@ -2,7 +2,7 @@
 ghost use Rattle.std.specs.Prelude.{◌≡◌, ◌≤◌, length, take, vec_len};
 ghost use Rattle.mdmp_source.specs.Range.{IsInside, bytes_at};
 ghost use Rattle.mdmp_lister.specs.Fetching.{ReadsBeside};
-ghost use Rattle.mdmp_lister.specs.HeldStep.{IsAnswerWhole, IsWhole, TellsRange, answer_told, step_told};
+ghost use Rattle.mdmp_lister.specs.HeldStep.{AnswerHasItsBytes, HasItsBytes, TellsRange, answer_told, step_told};
 ghost use Rattle.mdmp_lister.specs.Step.{IsItemOf, IsNameHeld};
 ghost use Rattle.mdmp_lister.specs.Walk.{IsSound};
 
@@ -23,7 +23,7 @@ impl<S: Store + Drop, A: Allocator + Copy> Walk<S, A> {
         &self,
         answer: Result<Option<HeldStep>, ListFault>,
     ) -> Result<Option<Step>, ListFault>
-        requires { IsAnswerWhole self.now.window.held answer }
+        requires { AnswerHasItsBytes self.now.window.held answer }
         ensures { result ≡ answer_told self.now.window.held answer }
     {
         match answer {
@@ -35,7 +35,7 @@ impl<S: Store + Drop, A: Allocator + Copy> Walk<S, A> {
 
     /// The item that was read last, its name lent.
     pub(crate) fn item(&self, held: &HeldStep) -> Item<'_>
-        requires whole { IsWhole self.now.window.held held.now }
+        requires whole { HasItsBytes self.now.window.held held.now }
         requires name { IsNameHeld (vec_len self.now.name) (step_told self.now.window.held held.now) }
         ensures { IsItemOf self.now.meter.source.size self.now.name.items (step_told self.now.window.held held.now) result }
     {
@@ -52,7 +52,7 @@ impl<S: Store + Drop, A: Allocator + Copy> Walk<S, A> {
 
     /// The range that was read last, where the item is one.
     pub(crate) fn range(&self, held: &HeldStep) -> Option<RangeItem>
-        requires { IsWhole self.now.window.held held.now }
+        requires { HasItsBytes self.now.window.held held.now }
         ensures { TellsRange self.now.meter.source.size (step_told self.now.window.held held.now) result }
     {
         range_of(held, self.window.bytes(), self.meter.size())

@@ -3,7 +3,7 @@
 //! A memory list whose head counts more ranges than there is room left for has changed since the file
 //! was opened, when that room was taken by the same head.
 ghost use Rattle.std.specs.Prelude.{◌≡◌, MatchResult};
-ghost use Rattle.mdmp_lister.specs.HeldStep.{IsAnswerWhole, answer_told};
+ghost use Rattle.mdmp_lister.specs.HeldStep.{AnswerHasItsBytes, answer_told};
 ghost use Rattle.mdmp_lister.specs.Walk.{IsSound};
 ghost use Rattle.mdmp_lister.specs.Walk.Owing.{HasRoom, count_answered};
 ghost use Rattle.mdmp_lister.specs.Walk.Requests.{Answered, HeadRead};
@@ -23,7 +23,7 @@ pub(crate) fn advance<S: Store + Drop, A: Allocator + Copy>(
     requires sound { IsSound walk.old }
     requires room { HasRoom room 0 walk.old }
     ensures answered { Answered walk.old (answer_told walk.new.window.held result) walk.new }
-    ensures whole { IsAnswerWhole walk.new.window.held result }
+    ensures whole { AnswerHasItsBytes walk.new.window.held result }
     ensures room { HasRoom room (count_answered (answer_told walk.new.window.held result)) walk.new }
 {
     match walk.stage {

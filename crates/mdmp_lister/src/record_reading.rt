@@ -3,7 +3,7 @@ ghost use Rattle.std.specs.Prelude.{◌≡◌, ◌≤◌, ◌<◌, ◌^◌, ℕ,
 ghost use Rattle.mdmp_lister.specs.Fetching.{Reads, ReadsRecord, TellsRecord};
 ghost use Rattle.mdmp_lister.specs.Following.{IsRecordFault, IsSomeRecord};
 ghost use Rattle.mdmp_lister.specs.Format.Item.{item_at, kind_told, range_offset, record_at};
-ghost use Rattle.mdmp_lister.specs.HeldStep.{IsWhole, read_told};
+ghost use Rattle.mdmp_lister.specs.HeldStep.{HasItsBytes, read_told};
 ghost use Rattle.mdmp_lister.specs.Holding.{ComesTo, IsAhead, Slides, needed};
 ghost use Rattle.mdmp_lister.specs.Meter.{Books};
 ghost use Rattle.mdmp_lister.specs.Fault.{Answers};
@@ -55,7 +55,7 @@ pub(crate) fn read_item<S: Store, A: Allocator>(
     ensures item { (file : List ℕ) → meter.old.source.store.content ≡ Some file → (stream : ℕ)
         → (kind ≡ StreamKind.Memory64 → offset ≡ range_offset file stream index)
         → Answers (item_at file (length buffer.new) entry index stream at kind) (step_item meter.old.source.size buffer.new) (read_told window.new.held result) }
-    ensures whole { IfOk result (IsWhole window.new.held) }
+    ensures whole { IfOk result (HasItsBytes window.new.held) }
     ensures tells { IfOk (read_told window.new.held result) (TellsRecord (length buffer.new) kind) }
     ensures length { length buffer.new ≡ length buffer.old }
     ensures comes { ComesTo at meter.old.source.store.content window.old window.new }

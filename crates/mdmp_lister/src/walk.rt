@@ -1,7 +1,7 @@
 //! The walk over the entries of a file, without its public face.
 ghost use Rattle.std.specs.Prelude.{◌≡◌, ◌+◌, ◌*◌, ◌^◌, ◌≤◌, ◌<◌, ◌-◌, Some, IfOk, IfErr, IfSome, MatchOption, MatchResult, length, vec_len};
 ghost use Rattle.mdmp_lister.specs.Format.Kind.{HasNoNames, kind_of};
-ghost use Rattle.mdmp_lister.specs.HeldStep.{IsAnswerWhole, IsWhole, answer_told, given_told, read_told, step_told};
+ghost use Rattle.mdmp_lister.specs.HeldStep.{AnswerHasItsBytes, HasItsBytes, answer_told, given_told, read_told, step_told};
 ghost use Rattle.mdmp_lister.specs.Meter.{IsBooked, IsMetered, KeepsTo, counts_of};
 ghost use Rattle.mdmp_lister.specs.Opening.{IsRefused, KeepsToBudget};
 ghost use Rattle.mdmp_lister.specs.Stage.{IsUnended, StaysUnchanged, fault_stage, records_left_in};
@@ -108,7 +108,7 @@ impl<S: Store + Drop, A: Allocator + Copy> Walk<S, A> {
     pub(crate) fn advance(&mut self) -> Result<Option<HeldStep>, ListFault>
         requires { IsSound self.old }
         ensures answered { Answered self.old (answer_told self.new.window.held result) self.new }
-        ensures whole { IsAnswerWhole self.new.window.held result }
+        ensures whole { AnswerHasItsBytes self.new.window.held result }
         ensures unchanged { StaysUnchanged self.old.stage → StaysUnchanged self.new.stage }
         ensures nameless { HasNoNames (kind_of self.old.current.stream_type) → self.new.meter.names ≡ self.old.meter.names }
     {
@@ -126,7 +126,7 @@ impl<S: Store + Drop, A: Allocator + Copy> Walk<S, A> {
         requires sound { IsSound self.old }
         requires headed { IsPastHead self.old.stage }
         ensures taken { StepTaken self.old (answer_told self.new.window.held result) self.new }
-        ensures whole { IsAnswerWhole self.new.window.held result }
+        ensures whole { AnswerHasItsBytes self.new.window.held result }
     {
         match self.stage {
             Stage::Bad(fault) | Stage::Failed(fault) => Err(fault),
@@ -151,7 +151,7 @@ impl<S: Store + Drop, A: Allocator + Copy> Walk<S, A> {
         requires sound { IsSound self.old }
         requires stage { IsListing self.old.stage }
         ensures taken { StepTaken self.old (answer_told self.new.window.held result) self.new }
-        ensures whole { IsAnswerWhole self.new.window.held result }
+        ensures whole { AnswerHasItsBytes self.new.window.held result }
     {
         let taken = self.next_record();
         if let Ok(None) = taken {
@@ -256,7 +256,7 @@ impl<S: Store + Drop, A: Allocator + Copy> Walk<S, A> {
         requires sound { IsSound self.old }
         requires stage { IsListing self.old.stage }
         ensures taken { RecordTaken self.old (answer_told self.new.window.held result) self.new }
-        ensures whole { IsAnswerWhole self.new.window.held result }
+        ensures whole { AnswerHasItsBytes self.new.window.held result }
     {
         match self.stage {
             Stage::Records {
@@ -284,7 +284,7 @@ impl<S: Store + Drop, A: Allocator + Copy> Walk<S, A> {
         requires stage { self.old.stage ≡ Stage.Records kind shape index offset }
         requires left { index < shape.count }
         ensures read { RecordWasRead self.old (read_told self.new.window.held result) self.new }
-        ensures whole { IfOk result (IsWhole self.new.window.held) }
+        ensures whole { IfOk result (HasItsBytes self.new.window.held) }
     {
         let number = (self.next - 1) as u32;
         let at = record_at(self.current.location, kind, shape, index, self.meter.size());
@@ -312,7 +312,7 @@ impl<S: Store + Drop, A: Allocator + Copy> Walk<S, A> {
         requires sound { IsSound self.old }
         requires through { IsThrough self.old.stage }
         ensures taken { StepTaken self.old (Ok (given_told self.new.window.held result)) self.new }
-        ensures whole { IfSome result (IsWhole self.new.window.held) }
+        ensures whole { IfSome result (HasItsBytes self.new.window.held) }
         ensures begins { MatchOption result (NoneLeft self.old self.new) (λ step. EntryBegun self.old self.new) }
     {
         let Some(at) = next_chosen(&self.entries, self.next, &self.choice) else {
@@ -328,7 +328,7 @@ impl<S: Store + Drop, A: Allocator + Copy> Walk<S, A> {
         requires sound { IsSound self.old }
         requires within { at < vec_len self.old.entries }
         ensures taken { EntryTaken at self.old (step_told self.new.window.held result) self.new }
-        ensures whole { IsWhole self.new.window.held result }
+        ensures whole { HasItsBytes self.new.window.held result }
     {
         let entry = self.entries[at];
         self.next = at + 1;

@@ -12,7 +12,7 @@ ghost use Rattle.mdmp_lister.specs.Fault.{IsAnsweredFor, IsOfStore, TellsNoChang
 ghost use Rattle.mdmp_lister.specs.Format.Kind.{HasNoNames, kind_of};
 ghost use Rattle.mdmp_lister.specs.Format.Listing.{entry_of, is_chosen};
 ghost use Rattle.mdmp_lister.specs.Format.Refusal.{directory_refusal};
-ghost use Rattle.mdmp_lister.specs.HeldStep.{IsAnswerWhole, answer_told};
+ghost use Rattle.mdmp_lister.specs.HeldStep.{AnswerHasItsBytes, answer_told};
 ghost use Rattle.mdmp_lister.specs.Meter.{IsBooked, counts_of};
 ghost use Rattle.mdmp_lister.specs.Opening.{IsBareRefusal, IsDirectoryRefusal, IsHandedBackBare, IsUnread, IsUnreadFor, KeepsToBudget};
 ghost use Rattle.mdmp_lister.specs.Following.{through};
@@ -296,7 +296,7 @@ fn advance_from<S: Store + Drop, A: Allocator + Copy>(
 ) -> Result<Option<HeldStep>, ListFault>
     requires { IsWalked position.old mark.old walk.old }
     ensures answered { AnsweredFrom position.old walk.old (answer_told walk.new.window.held result) walk.new }
-    ensures whole { IsAnswerWhole walk.new.window.held result }
+    ensures whole { AnswerHasItsBytes walk.new.window.held result }
     ensures walked { IsWalked position.new mark.new walk.new }
     ensures position { position.new ≡ position_by (begun_at (answer_told walk.new.window.held result)) }
     ensures mark { mark.new ≡ mark_by (begun_at (answer_told walk.new.window.held result)) (counts_of walk.new.meter) mark.old }
@@ -322,7 +322,7 @@ fn answer_from<S: Store + Drop, A: Allocator + Copy>(
     requires position { IsPositioned position walk.old }
     requires unchanged { StaysUnchanged walk.old.stage }
     ensures answered { AnsweredFrom position walk.old (answer_told walk.new.window.held result) walk.new }
-    ensures whole { IsAnswerWhole walk.new.window.held result }
+    ensures whole { AnswerHasItsBytes walk.new.window.held result }
     ensures unchanged { StaysUnchanged walk.new.stage }
     ensures nameless { HasNoNames (kind_of walk.old.current.stream_type) → walk.new.meter.names ≡ walk.old.meter.names }
 {

@@ -3,7 +3,7 @@ ghost use Rattle.std.specs.Prelude.{◌<◌, ◌+◌, ◌≤◌, length};
 ghost use Rattle.std.specs.Fmt.{decimal};
 ghost use Rattle.mdmp_wire.specs.Digits.{hex};
 ghost use Rattle.mdmp_tool.specs.Digits.{last_digits};
-ghost use Rattle.mdmp_tool.specs.Placed.{IsPlaced};
+ghost use Rattle.mdmp_tool.specs.Placed.{IsPutBehind};
 
 use crate::placed::{slice_at, text_at};
 use itoa::Buffer;
@@ -21,7 +21,7 @@ static HEX_PAIRS: [u8; 512] =
 fn hex2_at(text: &mut [u8], len: usize, byte: u64) -> usize
     requires byte { byte < 256 }
     requires room { len + 2 ≤ length text.old }
-    ensures { IsPlaced text.old len (hex 2 byte) 2 text.new result }
+    ensures { IsPutBehind text.old len (hex 2 byte) 2 text.new result }
 {
     let from = byte as usize * 2;
     text_at(text, len, [HEX_PAIRS[from], HEX_PAIRS[from + 1]])
@@ -31,7 +31,7 @@ fn hex2_at(text: &mut [u8], len: usize, byte: u64) -> usize
 #[inline(always)]
 pub(crate) fn hex16_at(text: &mut [u8], len: usize, number: u64) -> usize
     requires { len + 16 ≤ length text.old }
-    ensures { IsPlaced text.old len (hex 16 number) 16 text.new result }
+    ensures { IsPutBehind text.old len (hex 16 number) 16 text.new result }
 {
     let len = hex2_at(text, len, number >> 56);
     let len = hex2_at(text, len, (number >> 48) % 256);
@@ -48,7 +48,7 @@ pub(crate) fn hex16_at(text: &mut [u8], len: usize, number: u64) -> usize
 fn last_two_at(text: &mut [u8], len: usize, number: u32) -> usize
     requires small { number < 100 }
     requires room { len + 2 ≤ length text.old }
-    ensures { IsPlaced text.old len (last_digits 2 number) 2 text.new result }
+    ensures { IsPutBehind text.old len (last_digits 2 number) 2 text.new result }
 {
     let from = number as usize * 2;
     text_at(text, len, [DECIMAL_PAIRS[from], DECIMAL_PAIRS[from + 1]])
@@ -59,7 +59,7 @@ fn last_two_at(text: &mut [u8], len: usize, number: u32) -> usize
 fn last_four_at(text: &mut [u8], len: usize, number: u32) -> usize
     requires small { number < 10000 }
     requires room { len + 4 ≤ length text.old }
-    ensures { IsPlaced text.old len (last_digits 4 number) 4 text.new result }
+    ensures { IsPutBehind text.old len (last_digits 4 number) 4 text.new result }
 {
     let len = last_two_at(text, len, number / 100);
     last_two_at(text, len, number % 100)
@@ -70,7 +70,7 @@ fn last_four_at(text: &mut [u8], len: usize, number: u32) -> usize
 fn last_eight_at(text: &mut [u8], len: usize, number: u32) -> usize
     requires small { number < 100000000 }
     requires room { len + 8 ≤ length text.old }
-    ensures { IsPlaced text.old len (last_digits 8 number) 8 text.new result }
+    ensures { IsPutBehind text.old len (last_digits 8 number) 8 text.new result }
 {
     let len = last_four_at(text, len, number / 10_000);
     last_four_at(text, len, number % 10_000)
@@ -81,7 +81,7 @@ fn last_eight_at(text: &mut [u8], len: usize, number: u32) -> usize
 fn two_at(text: &mut [u8], len: usize, number: u32) -> usize
     requires small { number < 100 }
     requires room { len + 2 ≤ length text.old }
-    ensures { IsPlaced text.old len (decimal number) 2 text.new result }
+    ensures { IsPutBehind text.old len (decimal number) 2 text.new result }
 {
     if number < 10 {
         text[len] = b'0' + number as u8;
@@ -96,7 +96,7 @@ fn two_at(text: &mut [u8], len: usize, number: u32) -> usize
 fn four_at(text: &mut [u8], len: usize, number: u32) -> usize
     requires small { number < 10000 }
     requires room { len + 4 ≤ length text.old }
-    ensures { IsPlaced text.old len (decimal number) 4 text.new result }
+    ensures { IsPutBehind text.old len (decimal number) 4 text.new result }
 {
     if number < 100 {
         return two_at(text, len, number);
@@ -110,7 +110,7 @@ fn four_at(text: &mut [u8], len: usize, number: u32) -> usize
 fn eight_at(text: &mut [u8], len: usize, number: u32) -> usize
     requires small { number < 100000000 }
     requires room { len + 8 ≤ length text.old }
-    ensures { IsPlaced text.old len (decimal number) 8 text.new result }
+    ensures { IsPutBehind text.old len (decimal number) 8 text.new result }
 {
     if number < 10_000 {
         return four_at(text, len, number);
@@ -124,7 +124,7 @@ fn eight_at(text: &mut [u8], len: usize, number: u32) -> usize
 fn twelve_at(text: &mut [u8], len: usize, number: u64) -> usize
     requires small { number < 1000000000000 }
     requires room { len + 12 ≤ length text.old }
-    ensures { IsPlaced text.old len (decimal number) 12 text.new result }
+    ensures { IsPutBehind text.old len (decimal number) 12 text.new result }
 {
     if number < 100_000_000 {
         return eight_at(text, len, number as u32);
@@ -137,7 +137,7 @@ fn twelve_at(text: &mut [u8], len: usize, number: u64) -> usize
 #[inline(never)]
 fn long_decimal_at(text: &mut [u8], len: usize, number: u64) -> usize
     requires { len + 20 ≤ length text.old }
-    ensures { IsPlaced text.old len (decimal number) 20 text.new result }
+    ensures { IsPutBehind text.old len (decimal number) 20 text.new result }
 {
     if number < 100_000_000 {
         return eight_at(text, len, number as u32);
@@ -151,7 +151,7 @@ fn long_decimal_at(text: &mut [u8], len: usize, number: u64) -> usize
 #[inline(always)]
 pub(crate) fn decimal_at(text: &mut [u8], len: usize, number: u64) -> usize
     requires { len + 20 ≤ length text.old }
-    ensures { IsPlaced text.old len (decimal number) 20 text.new result }
+    ensures { IsPutBehind text.old len (decimal number) 20 text.new result }
 {
     if number < 10 {
         return two_at(text, len, number as u32);
@@ -163,7 +163,7 @@ pub(crate) fn decimal_at(text: &mut [u8], len: usize, number: u64) -> usize
 #[inline(never)]
 pub(crate) fn wide_decimal_at(text: &mut [u8], len: usize, number: u128) -> usize
     requires { len + 39 ≤ length text.old }
-    ensures { IsPlaced text.old len (decimal number) 39 text.new result }
+    ensures { IsPutBehind text.old len (decimal number) 39 text.new result }
 {
     let mut buffer = Buffer::new();
     slice_at(text, len, buffer.format(number).as_bytes())

@@ -1,6 +1,6 @@
 //! Texts that are put together in a buffer.
 ghost use Rattle.std.specs.Prelude.{◌≡◌, ◌++◌, codes, ◌+◌, ◌≤◌, length};
-ghost use Rattle.mdmp_tool.specs.Placed.{IsPlaced};
+ghost use Rattle.mdmp_tool.specs.Placed.{IsPutBehind};
 ghost use Rattle.std.specs.Fmt.{decimal};
 ghost use Rattle.mdmp_tool.specs.ItemLines.{extent_text, size_text, offset_text};
 
@@ -11,7 +11,7 @@ use mdmp_source::Extent;
 #[inline(always)]
 pub(crate) fn text_at<const N: usize>(text: &mut [u8], len: usize, piece: [u8; N]) -> usize
     requires { len + N ≤ length text.old }
-    ensures { IsPlaced text.old len piece.entry N text.new result }
+    ensures { IsPutBehind text.old len piece.entry N text.new result }
 {
     let end = len + N;
     text[len..end].copy_from_slice(&piece);
@@ -21,7 +21,7 @@ pub(crate) fn text_at<const N: usize>(text: &mut [u8], len: usize, piece: [u8; N
 /// Puts a text behind the first `len` bytes.
 pub(crate) fn slice_at(text: &mut [u8], len: usize, piece: &[u8]) -> usize
     requires { len + length piece.now ≤ length text.old }
-    ensures { IsPlaced text.old len piece.now (length piece.now) text.new result }
+    ensures { IsPutBehind text.old len piece.now (length piece.now) text.new result }
 {
     let end = len + piece.len();
     text[len..end].copy_from_slice(piece);
@@ -31,7 +31,7 @@ pub(crate) fn slice_at(text: &mut [u8], len: usize, piece: &[u8]) -> usize
 /// Puts where something stands behind the first `len` bytes.
 fn offset_at(text: &mut [u8], len: usize, offset: u128) -> usize
     requires { len + 40 ≤ length text.old }
-    ensures { IsPlaced text.old len (offset_text offset) 40 text.new result }
+    ensures { IsPutBehind text.old len (offset_text offset) 40 text.new result }
 {
     let len = text_at(text, len, *b"@");
     if offset < 0x1_0000_0000_0000_0000 {
@@ -49,7 +49,7 @@ pub(crate) fn extent_at(
     offset: u128,
 ) -> usize
     requires { len + 68 ≤ length text.old }
-    ensures { IsPlaced text.old len (extent_text extent size offset) 68 text.new result }
+    ensures { IsPutBehind text.old len (extent_text extent size offset) 68 text.new result }
 {
     match extent {
         Extent::Empty => text_at(text, len, *b"empty"),

@@ -2,7 +2,7 @@
 ghost use Rattle.std.specs.Prelude.{◌+◌, ◌≤◌, length};
 ghost use Rattle.std.specs.List.{concat};
 ghost use Rattle.mdmp_tool.specs.ItemLines.{region_line, range_line, thread_line, module_fields, short_name_line};
-ghost use Rattle.mdmp_tool.specs.Placed.{IsPlaced};
+ghost use Rattle.mdmp_tool.specs.Placed.{IsPutBehind};
 
 use crate::digits::{decimal_at, hex16_at};
 use crate::placed::{extent_at, text_at};
@@ -28,7 +28,7 @@ impl<'a> Line for RegionLine<'a> {
 #[inline(always)]
 fn region_at(text: &mut [u8], len: usize, item: &MemoryInfoItem) -> usize
     requires { len + 219 ≤ length text.old }
-    ensures { IsPlaced text.old len (region_line item.now) 219 text.new result }
+    ensures { IsPutBehind text.old len (region_line item.now) 219 text.new result }
 {
     let len = text_at(text, len, *b"region ");
     let len = decimal_at(text, len, item.index);
@@ -67,7 +67,7 @@ impl<'a> Line for RangeLine<'a> {
 #[inline(always)]
 fn range_at(text: &mut [u8], len: usize, item: &RangeItem) -> usize
     requires { len + 121 ≤ length text.old }
-    ensures { IsPlaced text.old len (range_line item.now) 121 text.new result }
+    ensures { IsPutBehind text.old len (range_line item.now) 121 text.new result }
 {
     let len = text_at(text, len, *b"range ");
     let len = decimal_at(text, len, item.index);
@@ -96,7 +96,7 @@ impl<'a> Line for ThreadLine<'a> {
 #[inline(always)]
 fn thread_at(text: &mut [u8], len: usize, item: &ThreadItem) -> usize
     requires { len + 332 ≤ length text.old }
-    ensures { IsPlaced text.old len (thread_line item.now) 332 text.new result }
+    ensures { IsPutBehind text.old len (thread_line item.now) 332 text.new result }
 {
     let len = text_at(text, len, *b"thread ");
     let len = decimal_at(text, len, item.index);
@@ -145,7 +145,7 @@ impl<'a> Line for ModuleFront<'a> {
 #[inline(always)]
 fn module_at(text: &mut [u8], len: usize, item: &ModuleItem<'_>) -> usize
     requires { len + 377 ≤ length text.old }
-    ensures { IsPlaced text.old len (concat (module_fields item.now)) 377 text.new result }
+    ensures { IsPutBehind text.old len (concat (module_fields item.now)) 377 text.new result }
 {
     let version = &item.fields.version_info;
     let len = text_at(text, len, *b"module ");

@@ -2,7 +2,7 @@
 ghost use Rattle.std.specs.Prelude.{◌+◌, ◌≤◌, length};
 ghost use Rattle.mdmp_tool.specs.Json.{object, object_line};
 ghost use Rattle.mdmp_tool.specs.JsonLines.{region_members};
-ghost use Rattle.mdmp_tool.specs.Placed.{IsPlaced};
+ghost use Rattle.mdmp_tool.specs.Placed.{IsPutBehind};
 
 use crate::digits::{decimal_at, hex16_at};
 use crate::placed::text_at;
@@ -27,7 +27,7 @@ impl<'a> Line for RegionObject<'a> {
 #[inline(always)]
 fn region_object_at(text: &mut [u8], len: usize, item: &MemoryInfoItem) -> usize
     requires { len + 287 ≤ length text.old }
-    ensures { IsPlaced text.old len (object_line (object (region_members item.now))) 287 text.new result }
+    ensures { IsPutBehind text.old len (object_line (object (region_members item.now))) 287 text.new result }
 {
     let len = text_at(text, len, *b"{\"line\":\"region\",\"entry\":");
     let len = decimal_at(text, len, item.entry as u64);

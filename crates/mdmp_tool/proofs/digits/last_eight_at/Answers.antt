@@ -1,7 +1,7 @@
 use Rattle.std.proofs.Common.{◌≡◌, refl, arith}
 use Rattle.mdmp_tool.proofs.DigitPairs.{four_more}
-use Rattle.mdmp_tool.proofs.PlacedLemmas.{IsPlaced-as, IsPlaced-then}
+use Rattle.mdmp_tool.proofs.PlacedLemmas.{IsPutBehind-as, IsPutBehind-then}
 use Rattle.mdmp_tool.proofs.digits.last_eight_at.Goals as goal
 
 pub returns : goal.returns
-returns c = IsPlaced-as (four_more 4 c.args.number _ _ refl refl) (omega arith) (IsPlaced-then c.last_four_at-len.ensures c.last_four_at.ensures)
+returns c = IsPutBehind-as (four_more 4 c.args.number _ _ refl refl) (omega arith) (IsPutBehind-then c.last_four_at-len.ensures c.last_four_at.ensures)

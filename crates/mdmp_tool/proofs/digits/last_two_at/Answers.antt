@@ -1,7 +1,7 @@
 use Rattle.std.proofs.Common.{arith}
 use Rattle.mdmp_tool.proofs.DigitPairs.{row_digits}
-use Rattle.mdmp_tool.proofs.PlacedLemmas.{IsPlaced-as}
+use Rattle.mdmp_tool.proofs.PlacedLemmas.{IsPutBehind-as}
 use Rattle.mdmp_tool.proofs.digits.last_two_at.Goals as goal
 
 pub returns : goal.returns
-returns c = IsPlaced-as (row_digits c.args.number c.requires.small) (omega arith) c.text_at.ensures
+returns c = IsPutBehind-as (row_digits c.args.number c.requires.small) (omega arith) c.text_at.ensures

@@ -1,7 +1,7 @@
 use Rattle.std.proofs.Common.{◌≡◌, refl, arith}
 use Rattle.mdmp_tool.proofs.DigitPairs.{decimal_eight}
-use Rattle.mdmp_tool.proofs.PlacedLemmas.{IsPlaced-as, IsPlaced-then}
+use Rattle.mdmp_tool.proofs.PlacedLemmas.{IsPutBehind-as, IsPutBehind-then}
 use Rattle.mdmp_tool.proofs.digits.long_decimal_at.Goals as goal
 
 pub returns : goal.returns
-returns c = IsPlaced-as (decimal_eight c.args.number _ _ c.if-number-lt100000000.false (omega arith) refl refl) (omega arith) (IsPlaced-then c.twelve_at-len.ensures c.last_eight_at.ensures)
+returns c = IsPutBehind-as (decimal_eight c.args.number _ _ c.if-number-lt100000000.false (omega arith) refl refl) (omega arith) (IsPutBehind-then c.twelve_at-len.ensures c.last_eight_at.ensures)

@@ -2,7 +2,7 @@ use Rattle.std.proofs.Common.{◌≡◌, ◌+◌, ◌*◌, ◌∙◌, refl, arit
 use Rattle.std.proofs.lemmas.Fmt.{decimal_digit}
 use Rattle.std.proofs.lemmas.List.{take_more_set}
 use Rattle.mdmp_tool.proofs.DigitPairs.{decimal_two}
-use Rattle.mdmp_tool.proofs.PlacedLemmas.{IsPlaced-as}
+use Rattle.mdmp_tool.proofs.PlacedLemmas.{IsPutBehind-as}
 use Rattle.mdmp_tool.proofs.digits.two_at.Goals as goal
 
 pub returns-then-number-lt10 : goal.returns-then-number-lt10
@@ -15,4 +15,4 @@ returns-then-number-lt10 c =
     }
 
 pub returns-else-number-lt10 : goal.returns-else-number-lt10
-returns-else-number-lt10 c = IsPlaced-as (decimal_two c.args.number c.if-number-lt10.false c.requires.small) (omega arith) c.last_two_at.ensures
+returns-else-number-lt10 c = IsPutBehind-as (decimal_two c.args.number c.if-number-lt10.false c.requires.small) (omega arith) c.last_two_at.ensures
