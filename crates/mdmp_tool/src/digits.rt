@@ -18,7 +18,7 @@ static HEX_PAIRS: [u8; 512] =
 
 /// Puts the two hexadecimal digits of a byte behind the first `len` bytes.
 #[inline(always)]
-fn hex2_at(text: &mut [u8], len: usize, byte: u64) -> usize
+pub(crate) fn hex2_at(text: &mut [u8], len: usize, byte: u64) -> usize
     requires byte { byte < 256 }
     requires room { len + 2 ≤ length text.old }
     ensures { IsPutBehind text.old len (hex 2 byte) 2 text.new result }

@@ -5,17 +5,14 @@ ghost use Rattle.mdmp_source.specs.Output.{Puts};
 ghost use Rattle.mdmp_map.specs.Ranges.{address_end};
 ghost use Rattle.mdmp_lister.specs.Addressing.{cell, cells};
 ghost use Rattle.mdmp_tool.specs.HexText.{address_text, cell_text, hex_line, line_text, cells_text};
+ghost use Rattle.mdmp_tool.specs.Placed.{IsPutBehind};
 
-use crate::line::put_pieces;
-use crate::pieces::Piece;
-use mdmp_source::{Out, OutFailed, write_all};
-use mdmp_wire::hex_digits;
+use crate::digits::{hex2_at, hex16_at};
+use crate::placed::text_at;
+use mdmp_source::{Line, Out, OutFailed, put_line};
 
 /// How many bytes a line has, at most.
 const LINE: usize = 16;
-
-/// How long the text of a byte is.
-const CELL: usize = 3;
 
 /// Prints the bytes of the addresses from this one on as lines of sixteen, the first of which begins at
 /// the address. `known` says beside each byte whether it is known. No bytes print nothing.
@@ -30,13 +27,13 @@ pub(crate) fn put_hex_lines<O: Out>(
     ensures { Puts result (O.state out.old) (cells_text address (cells bytes.now known.now)) (O.state out.new) }
 {
     for line in 0..bytes.len().div_ceil(LINE) {
-        put_line(out, address, bytes, known, line)?;
+        put_numbered(out, address, bytes, known, line)?;
     }
     Ok(())
 }
 
 /// Prints the line of this number.
-fn put_line<O: Out>(
+fn put_numbered<O: Out>(
     out: &mut O,
     address: u64,
     bytes: &[u8],
@@ -58,6 +55,27 @@ fn put_line<O: Out>(
     )
 }
 
+/// An address and the bytes from it on, on one line. `known` says beside each byte whether it is known.
+#[derive(Clone, Copy)]
+struct HexLine<'a> {
+    address: u64,
+    bytes: &'a [u8],
+    known: &'a [bool],
+    ghost same: { length known.now ≡ length bytes.now },
+    ghost line: { length bytes.now ≤ 16 },
+}
+
+impl<'a> Line for HexLine<'a> {
+    ghost use Rattle.mdmp_lister.specs.Addressing.{cells};
+    ghost use Rattle.mdmp_tool.specs.HexText.{hex_line};
+
+    ghost text = { λ l. hex_line l.address (cells l.bytes.now l.known.now) };
+
+    fn put(&self, buffer: &mut [u8], at: usize) -> usize {
+        hex_line_at(buffer, at, self.address, self.bytes, self.known)
+    }
+}
+
 /// Prints an address, and the bytes from it on, on one line.
 fn put_hex_line<O: Out>(
     out: &mut O,
@@ -69,53 +87,63 @@ fn put_hex_line<O: Out>(
     requires line { length bytes.now ≤ 16 }
     ensures { Puts result (O.state out.old) (hex_line address (cells bytes.now known.now)) (O.state out.new) }
 {
-    put_address(out, address)?;
-    put_cells(out, bytes, known)?;
-    write_all(out, b"\n")
-}
-
-/// Prints an address, and a colon.
-fn put_address<O: Out>(out: &mut O, address: u64) -> Result<(), OutFailed>
-    ensures { Puts result (O.state out.old) (address_text address) (O.state out.new) }
-{
-    put_pieces(
+    put_line(
         out,
-        &[Piece::Text("0x"), Piece::Hex16(address), Piece::Text(":")],
+        &HexLine {
+            address,
+            bytes,
+            known,
+        },
     )
 }
 
-/// Prints the bytes of a line one behind the other, each behind a space. They are put together first, so
-/// that they are one write.
-fn put_cells<O: Out>(out: &mut O, bytes: &[u8], known: &[bool]) -> Result<(), OutFailed>
+/// Puts an address and the bytes from it on behind the first `len` bytes, as a line.
+#[inline(always)]
+fn hex_line_at(text: &mut [u8], len: usize, address: u64, bytes: &[u8], known: &[bool]) -> usize
     requires same { length known.now ≡ length bytes.now }
     requires line { length bytes.now ≤ 16 }
-    ensures { Puts result (O.state out.old) (flat_map cell_text (cells bytes.now known.now)) (O.state out.new) }
+    requires room { len + 68 ≤ length text.old }
+    ensures { IsPutBehind text.old len (hex_line address (cells bytes.now known.now)) 68 text.new result }
 {
-    let mut text = [0; CELL * LINE];
-    let text = &mut text[..CELL * bytes.len()];
-    write_cells(text, bytes, known);
-    write_all(out, text)
+    let len = address_at(text, len, address);
+    let len = cells_at(text, len, bytes, known);
+    text_at(text, len, *b"\n")
 }
 
-/// Puts the texts of bytes one behind the other.
-fn write_cells(text: &mut [u8], bytes: &[u8], known: &[bool])
+/// Puts an address and a colon behind the first `len` bytes.
+#[inline(always)]
+fn address_at(text: &mut [u8], len: usize, address: u64) -> usize
+    requires { len + 19 ≤ length text.old }
+    ensures { IsPutBehind text.old len (address_text address) 19 text.new result }
+{
+    let len = text_at(text, len, *b"0x");
+    let len = hex16_at(text, len, address);
+    text_at(text, len, *b":")
+}
+
+/// Puts the texts of bytes one behind the other, behind the first `len` bytes.
+#[inline(always)]
+fn cells_at(text: &mut [u8], len: usize, bytes: &[u8], known: &[bool]) -> usize
     requires same { length known.now ≡ length bytes.now }
-    requires room { length text.old ≡ 3 * length bytes.now }
-    ensures { text.new ≡ flat_map cell_text (cells bytes.now known.now) }
+    requires room { len + 3 * length bytes.now ≤ length text.old }
+    ensures { IsPutBehind text.old len (flat_map cell_text (cells bytes.now known.now)) (3 * length bytes.now) text.new result }
 {
+    let mut len = len;
     for (index, byte) in bytes.iter().enumerate() {
-        let start = CELL * index;
-        text[start..start + CELL].copy_from_slice(&cell_of(*byte, known[index]));
+        len = cell_at(text, len, *byte, known[index]);
     }
+    len
 }
 
-/// The text of a byte: a space, and two hexadecimal digits, or two question marks where it is not known.
-fn cell_of(byte: u8, is_known: bool) -> [u8; CELL]
-    ensures { result ≡ cell_text (cell byte is_known) }
+/// Puts a space, and two hexadecimal digits, or two question marks where the byte is not known.
+#[inline(always)]
+fn cell_at(text: &mut [u8], len: usize, byte: u8, is_known: bool) -> usize
+    requires { len + 3 ≤ length text.old }
+    ensures { IsPutBehind text.old len (cell_text (cell byte is_known)) 3 text.new result }
 {
-    let mut text = *b" ??";
-    if is_known {
-        hex_digits(u64::from(byte), &mut text[1..]);
+    if !is_known {
+        return text_at(text, len, *b" ??");
     }
-    text
+    let len = text_at(text, len, *b" ");
+    hex2_at(text, len, u64::from(byte))
 }

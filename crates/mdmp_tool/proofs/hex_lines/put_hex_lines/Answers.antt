@@ -5,18 +5,18 @@ use Rattle.mdmp_tool.specs.HexText.{line_text, line_numbers}
 use Rattle.mdmp_tool.proofs.HexLemmas.{PutsAll-item, PutsAll-items, PutsPrefix-item, IsItem-line, length-cells, length-line_numbers}
 use Rattle.mdmp_tool.proofs.hex_lines.put_hex_lines.Goals as goal
 
-pub returns-in_err-put_line : goal.returns-in_err-put_line
-returns-in_err-put_line g c =
+pub returns-in_err-put_numbered : goal.returns-in_err-put_numbered
+returns-in_err-put_numbered g c =
     let cs = cells c.args.bytes.now c.args.known.now in
     MatchResult-from_err _ _ _ c.from_residual.ensures.0 (λ _. rw (length-cells c.args.bytes.now c.args.known.now c.requires.same)
     (PutsPrefix-item (line_text c.args.address cs) _ _ _ _ _ _
-    (IsItem-line (length c.args.bytes.now) c.loop-line.line (omega (arith, c.div_ceil-line-end.ensures))) c.loop-line.invariant c.in_err-put_line.ensures))
+    (IsItem-line (length c.args.bytes.now) c.loop-line.line (omega (arith, c.div_ceil-line-end.ensures))) c.loop-line.invariant c.in_err-put_numbered.ensures))
 
 pub loop-line-preserved : goal.loop-line-preserved
 loop-line-preserved g c =
     let cs = cells c.args.bytes.now c.args.known.now in
     PutsAll-item (line_text c.args.address cs) _ _ _ _ _ _
-    (IsItem-line (length c.args.bytes.now) c.loop-line.line (omega (arith, c.div_ceil-line-end.ensures))) c.loop-line.invariant c.in_ok-put_line.ensures
+    (IsItem-line (length c.args.bytes.now) c.loop-line.line (omega (arith, c.div_ceil-line-end.ensures))) c.loop-line.invariant c.in_ok-put_numbered.ensures
 
 pub returns : goal.returns
 returns g c =

@@ -1,6 +1,6 @@
 use Rattle.std.proofs.Common.{◌*◌, arith}
 use Rattle.mdmp_tool.proofs.HexLemmas.{line_cells}
-use Rattle.mdmp_tool.proofs.hex_lines.put_line.Goals as goal
+use Rattle.mdmp_tool.proofs.hex_lines.put_numbered.Goals as goal
 
 pub returns : goal.returns
 returns g c =
