@@ -1,4 +1,6 @@
-//! Numbers in digits, put behind a text.
+//! Numbers in digits, put behind others.
+//!
+//! Two digits at a time are copied from a table. They are handed over as an array: see [`text_at`].
 ghost use Rattle.std.specs.Prelude.{◌<◌, ◌+◌, ◌≤◌, length};
 ghost use Rattle.std.specs.Fmt.{decimal};
 ghost use Rattle.mdmp_wire.specs.Digits.{hex};
@@ -133,7 +135,8 @@ fn twelve_at(text: &mut [u8], len: usize, number: u64) -> usize
     last_eight_at(text, len, (number % 100_000_000) as u32)
 }
 
-/// Puts a number in decimal digits behind the first `len` bytes, and is not inlined.
+/// Puts a number in decimal digits behind the first `len` bytes: what [`decimal_at`] calls where the
+/// number has more than one.
 #[inline(never)]
 fn long_decimal_at(text: &mut [u8], len: usize, number: u64) -> usize
     requires { len + 20 ≤ length text.old }
@@ -147,7 +150,7 @@ fn long_decimal_at(text: &mut [u8], len: usize, number: u64) -> usize
 }
 
 /// Puts a number in decimal digits behind the first `len` bytes.
-// Most numbers of most lines have one digit.
+// Many numbers of these lines have one digit, so that one is put without a call.
 #[inline(always)]
 pub(crate) fn decimal_at(text: &mut [u8], len: usize, number: u64) -> usize
     requires { len + 20 ≤ length text.old }

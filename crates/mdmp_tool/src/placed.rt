@@ -1,13 +1,15 @@
 //! Texts that are put together in a buffer.
-ghost use Rattle.std.specs.Prelude.{◌≡◌, ◌++◌, codes, ◌+◌, ◌≤◌, length};
+ghost use Rattle.std.specs.Prelude.{◌+◌, ◌≤◌, length};
+ghost use Rattle.mdmp_tool.specs.ItemLines.{extent_text, offset_text};
 ghost use Rattle.mdmp_tool.specs.Placed.{IsPutBehind};
-ghost use Rattle.std.specs.Fmt.{decimal};
-ghost use Rattle.mdmp_tool.specs.ItemLines.{extent_text, size_text, offset_text};
 
 use crate::digits::{decimal_at, wide_decimal_at};
 use mdmp_source::Extent;
 
-/// Puts a text of known length behind the first `len` bytes, and answers how long both are.
+/// Puts a text of known length behind the first `len` bytes of a buffer, and answers how long both
+/// are.
+// An array and not a slice: its length is known when this is compiled, and the buffer can't overlap it,
+// so that it is one store or two.
 #[inline(always)]
 pub(crate) fn text_at<const N: usize>(text: &mut [u8], len: usize, piece: [u8; N]) -> usize
     requires { len + N ≤ length text.old }

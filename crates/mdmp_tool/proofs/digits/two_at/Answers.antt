@@ -1,4 +1,4 @@
-use Rattle.std.proofs.Common.{◌≡◌, ◌+◌, ◌*◌, ◌∙◌, refl, arith, length-set, sym, ap, ◌++◌, take}
+use Rattle.std.proofs.Common.{◌+◌, arith, length-set}
 use Rattle.std.proofs.lemmas.Fmt.{decimal_digit}
 use Rattle.std.proofs.lemmas.List.{take_more_set}
 use Rattle.mdmp_tool.proofs.DigitPairs.{decimal_two}

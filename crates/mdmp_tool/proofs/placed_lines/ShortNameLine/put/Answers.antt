@@ -1,4 +1,4 @@
-use Rattle.std.proofs.Common.{◌≡◌, ◌∙◌, ◌++◌, ℕ, List, ap, arith, take}
+use Rattle.std.proofs.Common.{◌∙◌, ◌++◌, ℕ, List, ap, arith, take}
 use Rattle.mdmp_wire.specs.Escape.{escaped}
 use Rattle.mdmp_wire.specs.Units.{units_in}
 use Rattle.mdmp_tool.specs.Placed.{IsPutBehind}
