@@ -6,19 +6,19 @@ use std::process::Abort;
 use std::rt::Files;
 
 /// Bytes, and their offset.
-pub type Part = (u64, &'static [u8]);
+pub type SpreadPart = (u64, &'static [u8]);
 
 /// The header of a file of one stream, with its directory at 20,000.
-const HEADER: Part = (
+const HEADER: SpreadPart = (
     0,
     b"MDMP\x93\xa7\0\0\x01\0\0\0\x20\x4e\0\0\0\0\0\0\0\0\0\0\0\0\0\0\0\0\0\0",
 );
 
 /// The directory: a system at 40,000.
-const DIRECTORY: Part = (20_000, b"\x07\0\0\0\x38\0\0\0\x40\x9c\0\0");
+const DIRECTORY: SpreadPart = (20_000, b"\x07\0\0\0\x38\0\0\0\x40\x9c\0\0");
 
 /// A system, its record at 40,000 and its name at 60,000.
-pub const SPREAD_SYSTEM: [Part; 4] = [
+pub const SPREAD_SYSTEM: [SpreadPart; 4] = [
     HEADER,
     DIRECTORY,
     (
@@ -31,7 +31,7 @@ pub const SPREAD_SYSTEM: [Part; 4] = [
 
 /// The same, where the length of the name stands at 56,380, at the end of the block that begins with the record,
 /// and its text behind that.
-pub const SPREAD_NAME: [Part; 4] = [
+pub const SPREAD_NAME: [SpreadPart; 4] = [
     HEADER,
     DIRECTORY,
     (
@@ -52,7 +52,7 @@ system architecture 9 level 6 revision 3 processors 4 product 1 version 6.1.7601
 const NAME: &[u8] = b"\x1c\0\0\0S\0e\0r\0v\0i\0c\0e\0 \0P\0a\0c\0k\0 \x001\0\0\0";
 
 /// One range of 64-bit memory, at 40,000, whose bytes stand at 100,000, and a memory list of no ranges, at 60,000.
-pub const SPREAD_MEMORY: [Part; 5] = [
+pub const SPREAD_MEMORY: [SpreadPart; 5] = [
     (
         0,
         b"MDMP\x93\xa7\0\0\x02\0\0\0\x20\x4e\0\0\0\0\0\0\0\0\0\0\0\0\0\0\0\0\0\0",
@@ -70,7 +70,7 @@ pub const SPREAD_MEMORY: [Part; 5] = [
 ];
 
 /// Writes a file of these parts, with zeros between them.
-pub fn write_spread(rt: &(impl Files + Abort), name: &str, parts: &[Part]) {
+pub fn write_spread(rt: &(impl Files + Abort), name: &str, parts: &[SpreadPart]) {
     let mut file = File::create(rt, name).expect(rt, "a file");
     for (at, bytes) in parts {
         write_part(rt, &mut file, *at, *bytes);

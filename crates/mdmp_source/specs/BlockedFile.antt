@@ -10,7 +10,7 @@ held_past (Ok k) block = block
 held_past (Err e) block = record block { bytes = [] }
 
 -- nothing was read yet: the block holds nothing and has room for so many bytes, and the file stands nowhere that is known
-pub record IsUnread {F A : Type 0} (room : ℕ) (f : BlockedFile F A) : Type 0 where
+pub record IsUnreadFile {F A : Type 0} (room : ℕ) (f : BlockedFile F A) : Type 0 where
   pub place : f.file.place ≡ None
   pub block : f.block ≡ record { at = 0; bytes = []; room = room }
 

@@ -1,6 +1,6 @@
 //! An open file, whose small reads are answered from a block.
 ghost use Rattle.std.specs.Prelude.{◌≡◌, ◌≤◌, length, IfOk};
-ghost use Rattle.mdmp_source.specs.BlockedFile.{IsBlockedRead, IsLargeRead, IsSmallRead, IsUnread};
+ghost use Rattle.mdmp_source.specs.BlockedFile.{IsBlockedRead, IsLargeRead, IsSmallRead, IsUnreadFile};
 
 use crate::file_block::FileBlock;
 use crate::placed_file::PlacedFile;
@@ -25,7 +25,7 @@ impl<F: Read + Seek, A: Allocator> BlockedFile<F, A> {
     where
         F: Drop,
         ensures file { IfOk result (λ blocked. blocked.file.file ≡ file) }
-        ensures unread { IfOk result (IsUnread BLOCK) }
+        ensures unread { IfOk result (IsUnreadFile BLOCK) }
     {
         let block = FileBlock::with_room(alloc, BLOCK)?;
         Ok(BlockedFile {

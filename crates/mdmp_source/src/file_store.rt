@@ -31,14 +31,14 @@ pub struct FileStore<F, A: Allocator = Global> {
 impl<F: Read + Seek + OpenFile + Drop, A: Allocator> FileStore<F, A> {
     ghost use Rattle.std.specs.Prelude.{◌≡◌, IfOk, None, false};
     ghost use Rattle.std.specs.Fs.{metadata_len};
-    ghost use Rattle.mdmp_source.specs.BlockedFile.{IsUnread};
+    ghost use Rattle.mdmp_source.specs.BlockedFile.{IsUnreadFile};
     ghost use Rattle.mdmp_source.specs.Store.{IsNew};
 
     /// Opens the file at `path` for reading, and takes the memory of the block, which is all that the store
     /// ever takes. Every refusal of the system is `StoreFailed`, and so is want of memory.
     pub fn open<R: Files<File = F> + Alloc<A = A>>(rt: &R, path: &str) -> Result<Self, StoreFailed>
         ensures new { IfOk result (λ store. IsNew (⟦<FileStore<F, A> as Store>⟧.state store) None false) }
-        ensures unread { IfOk result (λ store. IsUnread BLOCK store.file) }
+        ensures unread { IfOk result (λ store. IsUnreadFile BLOCK store.file) }
     {
         let file = fs::open(rt, path).map_err(|_| StoreFailed)?;
         let metadata = file.metadata().map_err(|_| StoreFailed)?;
