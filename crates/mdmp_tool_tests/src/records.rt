@@ -136,3 +136,48 @@ stream 0 type 16 size 64 rva 44
 region 0 base 0x0000000000010000 allocation 0x0000000000008000 initial 4 size 4096 state 8192 protect 2 type 131072\n";
     assert_listed(&rt, rt.alloc(), &File::Numbers(1, &REGION), 0, text);
 }
+
+/// Two regions whose numbers have many digits, with zeros among them.
+const LONG_NUMBERS: [u32; 31] = [
+    16,
+    112,
+    44,
+    16,
+    48,
+    2,
+    0, // the directory, and the head of the list
+    0x89ab_cdef,
+    0x0123_4567,
+    0xffff_ffff,
+    0xffff_ffff,
+    4294967295,
+    0,
+    0xffff_ffff,
+    0xffff_ffff,
+    99,
+    100,
+    1005,
+    0, // the first region
+    0x00ab_0900,
+    0x1000_0000,
+    0,
+    0,
+    10_000,
+    0,
+    0x6fc1_0005,
+    0x0023_86f2,
+    99_999_999,
+    100_000_000,
+    1_000_007,
+    0, // the second
+];
+
+#[test]
+fn numbers_of_a_region_have_all_their_digits(rt: HostRuntime) {
+    let text =
+        "dump version 0x0000 streams 1 directory 32 checksum 0 time 0 flags 0x0000000000000000
+stream 0 type 16 size 112 rva 44
+region 0 base 0x0123456789abcdef allocation 0xffffffffffffffff initial 4294967295 size 18446744073709551615 state 99 protect 100 type 1005
+region 1 base 0x1000000000ab0900 allocation 0x0000000000000000 initial 10000 size 10000000000000005 state 99999999 protect 100000000 type 1000007\n";
+    assert_listed(&rt, rt.alloc(), &File::Numbers(1, &LONG_NUMBERS), 0, text);
+}
