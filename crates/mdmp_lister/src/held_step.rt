@@ -137,6 +137,7 @@ fn lent_name(buffer: &[u8], name: NameRead) -> Name<'_>
 }
 
 /// The item of a record that is held in these bytes, its name lent from the buffer, in a file of `size` bytes.
+#[inline(always)]
 pub(crate) fn record_item<'a>(
     held: &HeldRecord,
     bytes: &[u8],

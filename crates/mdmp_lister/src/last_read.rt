@@ -34,6 +34,7 @@ impl<S: Store + Drop, A: Allocator + Copy> Walk<S, A> {
     }
 
     /// The item that was read last, its name lent.
+    #[inline(always)]
     pub(crate) fn item(&self, held: &HeldStep) -> Item<'_>
         requires whole { HasItsBytes self.now.window.held held.now }
         requires name { IsNameHeld (vec_len self.now.name) (step_told self.now.window.held held.now) }

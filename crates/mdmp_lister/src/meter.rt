@@ -54,12 +54,13 @@ pub(crate) struct Meter<S: Store> {
     start: Amount,
     /// The most bytes that may be fetched for the listing, where there is a most.
     budget: Option<u64>,
-    /// The bytes fetched, with those of a fetch that was not made since it would have passed the budget.
-    asked: u128,
+    /// The bytes of fetches that were not made since they would have passed the budget.
+    refused: u128,
 }
 
 impl<S: Store> Model for Meter<S> {
     ghost use Rattle.std.specs.Prelude.{◌≤◌};
+    ghost use Rattle.mdmp_source.specs.Count.{raised};
     ghost use Rattle.mdmp_lister.specs.Meter.{IsBookedBy, IsMetered, MeterState};
 
     ghost Value = { MeterState };
@@ -72,10 +73,10 @@ impl<S: Store> Model for Meter<S> {
       aside = m.aside;
       start = m.start;
       budget = m.budget;
-      asked = m.asked;
+      asked = raised m.fetched m.refused;
     } };
 
-    ghost invariant = { λ m. IsBookedBy m.source m.fetched m.calls m.aside m.start × IsMetered m.budget m.fetched m.asked };
+    ghost invariant = { λ m. IsBookedBy m.source m.fetched m.calls m.aside m.start × IsMetered m.budget m.fetched (raised m.fetched m.refused) };
 }
 
 impl<S: Store> Meter<S> {
@@ -104,7 +105,7 @@ impl<S: Store> Meter<S> {
             aside: Amount { bytes: 0, calls: 0 },
             start,
             budget,
-            asked: 0,
+            refused: 0,
         }
     }
 
@@ -125,8 +126,8 @@ impl<S: Store> Meter<S> {
         ensures refused { RefusesFetch at (length out.new) result self.old self.new }
     {
         let size = out.len();
-        self.asked = self.asked.saturating_add(size as u128);
         if is_passed(self.budget, self.fetched, size) {
+            self.refused = self.refused.saturating_add(size as u128);
             return over_budget(at, size);
         }
         self.fetched = self.fetched.saturating_add(size as u128);
@@ -147,8 +148,8 @@ impl<S: Store> Meter<S> {
         // The proof learns here that a place inside the file has 64 bits.
         let _size = self.size();
         let size = window.next_len();
-        self.asked = self.asked.saturating_add(size as u128);
         if is_passed(self.budget, self.fetched, size) {
+            self.refused = self.refused.saturating_add(size as u128);
             return over_budget(window.place() + window.bytes().len() as u64, size);
         }
         self.fetched = self.fetched.saturating_add(size as u128);
@@ -189,7 +190,7 @@ impl<S: Store> Meter<S> {
             aside: self.aside,
             start: self.start,
             budget: self.budget,
-            asked: self.asked,
+            asked: self.fetched.saturating_add(self.refused),
         }
     }
 

@@ -122,6 +122,7 @@ impl<S: Store + Drop, A: Allocator + Copy> Walk<S, A> {
     }
 
     /// The same where the head of the current entry was read, or has a fault.
+    #[inline(always)]
     pub(crate) fn go_on(&mut self) -> Result<Option<HeldStep>, ListFault>
         requires sound { IsSound self.old }
         requires headed { IsPastHead self.old.stage }
@@ -147,6 +148,7 @@ impl<S: Store + Drop, A: Allocator + Copy> Walk<S, A> {
     }
 
     /// Gives the next record, or the next Stream item.
+    #[inline(always)]
     fn step(&mut self) -> Result<Option<HeldStep>, ListFault>
         requires sound { IsSound self.old }
         requires stage { IsListing self.old.stage }

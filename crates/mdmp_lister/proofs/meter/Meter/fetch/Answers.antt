@@ -41,7 +41,7 @@ returns-then-is_passed-clause-reads g c =
 
 pub returns-then-is_passed-clause-counts : goal.returns-then-is_passed-clause-counts
 returns-then-is_passed-clause-counts g c =
-    let asked : c.saturating_add-self-inside.result ≡ raised c.self.inside.asked (length c.args.out.now) = omega (arith, c.self.ranges) in
+    let asked : raised c.self.inside.fetched c.saturating_add-self-inside.result ≡ raised (raised c.self.inside.fetched c.self.inside.refused) (length c.args.out.now) = omega (arith, c.self.ranges) in
     rw (← c.self.view_is, c.over_budget.ensures, asked) refl
 
 pub returns-then-is_passed-clause-refused : goal.returns-then-is_passed-clause-refused
@@ -61,10 +61,12 @@ returns-then-is_passed-clause-refused g c =
 
 pub returns-clause-counts : goal.returns-clause-counts
 returns-clause-counts g c =
-    let asked : c.saturating_add-self-inside.result ≡ raised c.self.inside.asked (length c.fetch.new.out) = omega (arith, c.self.ranges, c.fetch.auto.out) in
-    let fetched : c.saturating_add-self-inside-2.result ≡ raised c.self.inside.fetched (length c.fetch.new.out) = omega (arith, c.self.ranges, c.fetch.auto.out) in
-    let calls : c.saturating_add-self-inside-3.result ≡ raised c.self.inside.calls 1 = omega (arith, c.self.ranges) in
-    rw (← c.self.view_is, asked, fetched, calls) refl
+    let m = c.self.inside in
+    let n = length c.fetch.new.out in
+    let fetched : c.saturating_add-self-inside-2.result ≡ raised m.fetched n = omega (arith, c.self.ranges, c.fetch.auto.out) in
+    let calls : c.saturating_add-self-inside-3.result ≡ raised m.calls 1 = omega (arith, c.self.ranges) in
+    let asked : raised (raised m.fetched n) m.refused ≡ raised (raised m.fetched m.refused) n = omega (arith, c.self.ranges) in
+    rw (← c.self.view_is, fetched, calls, asked) refl
 
 pub returns-clause-reads : goal.returns-clause-reads
 returns-clause-reads g c =
@@ -78,7 +80,7 @@ returns-clause-reads g c =
       aside = m.aside;
       start = m.start;
       budget = m.budget;
-      asked = c.saturating_add-self-inside.result;
+      asked = raised c.saturating_add-self-inside-2.result m.refused;
     } in
     let done : Result (Unit {0}) FetchFault = Ok tt in
     let reads : Reads n (Books 1 n) (λ file x. c.fetch.new.out ≡ bytes_at file c.args.at n) done c.args.self.now new = search rules in
@@ -87,5 +89,5 @@ returns-clause-reads g c =
 pub invariant_of-self-2 : goal.invariant_of-self-2
 invariant_of-self-2 g c =
     let m = c.self.inside in
-    let booked : IsBookedBy c.fetch.new.self c.saturating_add-self-inside-2.result c.saturating_add-self-inside-3.result m.aside m.start × IsMetered m.budget c.saturating_add-self-inside-2.result c.saturating_add-self-inside.result = search rules in
+    let booked : IsBookedBy c.fetch.new.self c.saturating_add-self-inside-2.result c.saturating_add-self-inside-3.result m.aside m.start × IsMetered m.budget c.saturating_add-self-inside-2.result (raised c.saturating_add-self-inside-2.result m.refused) = search rules in
     booked
