@@ -180,8 +180,9 @@ fn size_copied<R: Files + Alloc + Abort>(rt: &R) -> Option<usize> {
 }
 
 /// The lines that tell of a file, a store or an output.
-const FAILURES: [&str; 4] = [
-    "mdmp: cannot open s",
+const FAILURES: [&str; 5] = [
+    "mdmp: cannot open system.dmp\n",
+    "mdmp: cannot open spread.dmp\n",
     "mdmp: cannot create calls.dmp\n",
     "mdmp: store failed at ",
     "mdmp: output failed\n",
