@@ -46,9 +46,9 @@ complete -c mdmp -n 'test (__mdmp_words) = 2; and __fish_seen_subcommand_from he
 complete -c mdmp -l help -d 'Print help'
 complete -c mdmp -n '__fish_seen_subcommand_from list' -l pdb -d 'Tell of symbol files'
 complete -c mdmp -n '__fish_seen_subcommand_from check list' -l json -d 'Print objects of JSON'
-complete -c mdmp -n '__fish_seen_subcommand_from check list hex copy' -l window -x -d 'Read the file by at most so many bytes'
+complete -c mdmp -n '__fish_seen_subcommand_from check list hex copy' -l window -x -d 'Fetch the file by at most so many bytes'
 complete -c mdmp -n '__fish_seen_subcommand_from check list hex copy' -l name -x -d 'Read names of at most so many bytes'
-complete -c mdmp -n '__fish_seen_subcommand_from check list hex' -l budget -x -d 'Read at most so many bytes of the file'
+complete -c mdmp -n '__fish_seen_subcommand_from check list hex' -l budget -x -d 'Fetch at most so many bytes of the file'
 complete -c mdmp -n __mdmp_file -a '(__mdmp_dumps)'
 for type in threads:3 modules:4 memory:5 exception:6 system:7 memory64:9 unloaded:14 regions:16 threadnames:24 \
         UnusedStream:0 ThreadListStream:3 ModuleListStream:4 MemoryListStream:5 ExceptionStream:6 \

@@ -8,7 +8,7 @@ use std::cell::Cell;
 use std::process::Abort;
 use std::rt::Files;
 
-/// How many bytes a small read asks the system for.
+/// How many bytes a read of fewer asks the system for.
 const BLOCK: usize = 16_384;
 
 /// Files of which no call of the system fails.
@@ -40,16 +40,19 @@ fn assert_calls(rt: &(impl Files + AllocGlobal + Abort), fail_at: u64, reads: &[
     }
 }
 
-/// A file is opened, and asked for its size. It is sought only where it does not stand at the place.
-const READS: [CountedRead; 8] = [
+/// A file is opened, and asked for its size. It is sought only where it does not stand at the place. A read is
+/// answered from the block that holds its place, a long one too, and the next one begins where the file stands.
+const READS: [CountedRead; 10] = [
     (0, 4, Some(4)),
     (4, 4, Some(4)),
     (16_380, 8, Some(4)),
     (16_384, 8, Some(5)),
     (32_764, 4, Some(5)),
     (0, 4, Some(7)),
-    (20_000, BLOCK, Some(9)),
-    (4, 4, Some(9)),
+    (16_000, BLOCK, Some(7)),
+    (16_384, BLOCK, Some(8)),
+    (20_000, BLOCK, Some(10)),
+    (4, 4, Some(10)),
 ];
 
 /// A small read fails, and one that goes past the block.

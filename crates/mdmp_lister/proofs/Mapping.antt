@@ -61,9 +61,6 @@ pub fits_by : (z : ℕ) (range : Option RangeItem) → IfSome range (IsRangeIn z
 fits_by z (Some r) placed = λ inside. let parts = placed inside in (parts.0, (parts.1.1, parts.1.1))
 fits_by z None placed = tt
 
-pub placed-fits : (z : ℕ) (x : Item) → IsPlacedIn z x → IsPlacedIn (2 ^ 64 - 1) x
-placed-fits z x placed = fits_by z (summary_of x).range placed
-
 -- ---- the map stays one of the walk
 
 module _ {S A : Type 0} where

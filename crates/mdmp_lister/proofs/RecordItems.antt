@@ -19,11 +19,6 @@ record_at-part : (kind : StreamKind) (n o : ℕ) (F : List ℕ) → record_size 
 record_at-part kinds.Threads n o F room = grind (arith, number_at-within)
 record_at-part _ n o F room = grind (arith, number_at-within, numbers_at-within, array_at-within)
 
--- and it tells its kind
-pub kind_told-at : (kind : StreamKind) (F : List ℕ) (o : ℕ) → kind_told (record_at kind F o) ≡ kind
-kind_told-at kinds.Threads F o = refl
-kind_told-at _ F o = refl
-
 -- where it tells the place of a name, records of its kind have names
 pub named_kind : (w : AnyRecord) (rva : ℕ) → name_rva w ≡ Some rva → has_names (kind_told w) ≡ false → ⊥
 named_kind (any.Thread r) rva is none = cc

@@ -203,7 +203,7 @@ pub(crate) fn record_item<'a>(
 }
 
 /// The range that is held in these bytes, where it is one, in a file of `size` bytes.
-pub(crate) fn range_of(held: &HeldStep, bytes: &[u8], size: u64) -> Option<RangeItem>
+pub(crate) fn held_range(held: &HeldStep, bytes: &[u8], size: u64) -> Option<RangeItem>
     requires { HasItsBytes bytes.now held.now }
     ensures { TellsRange size (step_told bytes.now held.now) result }
 {

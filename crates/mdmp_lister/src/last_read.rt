@@ -8,7 +8,7 @@ ghost use Rattle.mdmp_lister.specs.Walk.{IsSound};
 
 use crate::codeview::{CodeViewBytes, CodeViewRead, read_codeview};
 use crate::fault::ListFault;
-use crate::held_step::{HeldStep, range_of, record_item, step_of};
+use crate::held_step::{HeldStep, held_range, record_item, step_of};
 use crate::item::{Item, RangeItem};
 use crate::step::Step;
 use crate::walk::Walk;
@@ -56,7 +56,7 @@ impl<S: Store + Drop, A: Allocator + Copy> Walk<S, A> {
         requires { HasItsBytes self.now.window.held held.now }
         ensures { TellsRange self.now.meter.source.size (step_told self.now.window.held held.now) result }
     {
-        range_of(held, self.window.bytes(), self.meter.size())
+        held_range(held, self.window.bytes(), self.meter.size())
     }
 
     /// Fetches what a CodeView record tells, the bytes behind its first 24 into the front of the buffer of

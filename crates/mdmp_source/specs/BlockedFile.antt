@@ -15,18 +15,24 @@ pub record HoldsNoBlock {F A : Type 0} (room : ℕ) (f : BlockedFile F A) : Type
   pub block : f.block ≡ record { at = 0; bytes = []; room = room }
 
 module _ {F A E : Type 0} (position : F → Option ℕ) (left : F → Option (List ℕ)) where
+  -- a read that is answered from the block, which holds the byte at its place: nothing is read
+  pub record IsHeldRead (old : BlockedFile F A) (at : ℕ) (result : Result ℕ E) (out : List ℕ) (new : BlockedFile F A) : Type 0 where
+    pub succeeds : IsOk result
+    pub same : new ≡ old
+    pub given : IfOk result (λ k. GivesHeld old.block at k out)
+
+  -- a read behind which the block was read at its place, and which is answered from that
+  pub record IsFilledRead (old : BlockedFile F A) (at : ℕ) (result : Result ℕ E) (out : List ℕ) (new : BlockedFile F A) : Type 0 where
+    pub filled : IsBlockFilled position left old.file at result old.block new.block new.file
+    pub given : IfOk result (λ k. GivesHeld new.block at k out)
+
   -- a read past the block
-  pub record IsLargeRead (old : BlockedFile F A) (at : ℕ) (result : Result ℕ E) (out : List ℕ) (new : BlockedFile F A) : Type 0 where
+  pub record IsReadPast (old : BlockedFile F A) (at : ℕ) (result : Result ℕ E) (out : List ℕ) (new : BlockedFile F A) : Type 0 where
     pub read : IsFileRead position left old.file at result out new.file
     pub holds : new.block ≡ held_past result old.block
 
-  -- a read that is answered from the block: nothing is read where that holds the byte at its place, and else a block there
-  pub record IsSmallRead (old : BlockedFile F A) (at : ℕ) (result : Result ℕ E) (out : List ℕ) (new : BlockedFile F A) : Type 0 where
-    pub held : Holds old.block at → IsOk result × (new ≡ old)
-    pub filled : (Holds old.block at → ⊥) → IsBlockFilled position left old.file at result old.block new.block new.file
-    pub given : IfOk result (λ k. GivesHeld new.block at k out)
-
-  -- a read of less than a block is small, and any other large
+  -- a read: from the block where that holds the byte at its place, and else of a block, if it is for less than one, or past it
   pub record IsBlockedRead (old : BlockedFile F A) (at : ℕ) (result : Result ℕ E) (out : List ℕ) (new : BlockedFile F A) : Type 0 where
-    pub small : length out < old.block.room → IsSmallRead old at result out new
-    pub large : old.block.room ≤ length out → IsLargeRead old at result out new
+    pub held : Holds old.block at → IsHeldRead old at result out new
+    pub filled : (Holds old.block at → ⊥) → length out < old.block.room → IsFilledRead old at result out new
+    pub past : (Holds old.block at → ⊥) → old.block.room ≤ length out → IsReadPast old at result out new

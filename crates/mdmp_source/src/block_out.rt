@@ -10,7 +10,8 @@ use std::marker::Model;
 
 /// An output that holds what it took back until a block is full, so that a text made of many small
 /// pieces reaches the inner output by few writes. A [`Line`] is put straight into the block, where
-/// the block has [`LINE_ROOM`] bytes of room or more.
+/// the block has [`LINE_ROOM`] bytes of room or more; it is flushed where less is left of it, so that a
+/// block should have many times that.
 ///
 /// What it took is what the inner output took and what is pending. It refuses where the inner
 /// output refuses a block: nothing is lost then, and what is pending stays pending. `flush` before

@@ -1,6 +1,6 @@
 //! An open file, whose small reads are answered from a block.
 ghost use Rattle.std.specs.Prelude.{◌≡◌, ◌≤◌, length, IfOk};
-ghost use Rattle.mdmp_source.specs.BlockedFile.{IsBlockedRead, IsLargeRead, IsSmallRead, HoldsNoBlock};
+ghost use Rattle.mdmp_source.specs.BlockedFile.{IsBlockedRead, IsFilledRead, IsReadPast, HoldsNoBlock};
 
 use crate::file_block::FileBlock;
 use crate::placed_file::PlacedFile;
@@ -8,11 +8,11 @@ use crate::store::StoreFailed;
 use std::alloc::{AllocError, Allocator};
 use std::io::{Read, Seek};
 
-/// How many bytes a small read asks the system for: some 44 names of modules stand in them.
+/// How many bytes a read of fewer asks the system for.
 pub(crate) const BLOCK: usize = 16384;
 
-/// An open file, of which a read of less than a block is answered from the block that was read last, and
-/// reads another one where that does not hold the byte at its place. A read of a block or more goes past it.
+/// An open file, of which a read is answered from the block that was read last, where that holds the byte at its
+/// place. Else a read of less than a block reads another one there, and a read of a block or more goes past it.
 #[derive(Drop)]
 pub(crate) struct BlockedFile<F, A: Allocator> {
     file: PlacedFile<F>,
@@ -40,28 +40,28 @@ impl<F: Read + Seek, A: Allocator> BlockedFile<F, A> {
         ensures bound { IfOk result (λ k. k ≤ length out.new) }
         ensures read { IsBlockedRead F.stream_position F.remaining self.old at result out.new self.new }
     {
-        if out.len() < self.block.room() {
-            self.read_small(at, out)
+        if self.block.holds(at) {
+            Ok(self.block.give(at, out))
+        } else if out.len() < self.block.room() {
+            self.read_filled(at, out)
         } else {
-            self.read_large(at, out)
+            self.read_past(at, out)
         }
     }
 
-    /// Answers from the block, which is read at `at` where it does not hold the byte there.
-    fn read_small(&mut self, at: u64, out: &mut [u8]) -> Result<usize, StoreFailed>
+    /// Reads a block at `at`, and answers from it.
+    fn read_filled(&mut self, at: u64, out: &mut [u8]) -> Result<usize, StoreFailed>
         ensures bound { IfOk result (λ k. k ≤ length out.new) }
-        ensures read { IsSmallRead F.stream_position F.remaining self.old at result out.new self.new }
+        ensures read { IsFilledRead F.stream_position F.remaining self.old at result out.new self.new }
     {
-        if !self.block.holds(at) {
-            self.block.fill(&mut self.file, at)?;
-        }
+        self.block.fill(&mut self.file, at)?;
         Ok(self.block.give(at, out))
     }
 
     /// Reads past the block.
-    fn read_large(&mut self, at: u64, out: &mut [u8]) -> Result<usize, StoreFailed>
+    fn read_past(&mut self, at: u64, out: &mut [u8]) -> Result<usize, StoreFailed>
         ensures bound { IfOk result (λ k. k ≤ length out.new) }
-        ensures read { IsLargeRead F.stream_position F.remaining self.old at result out.new self.new }
+        ensures read { IsReadPast F.stream_position F.remaining self.old at result out.new self.new }
     {
         let answer = self.file.read_at(at, out);
         if answer.is_err() {

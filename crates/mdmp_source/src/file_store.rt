@@ -11,11 +11,12 @@ use std::rt::Files;
 
 /// An open file of the system, whose size is taken once. No contract knows its bytes.
 ///
-/// A call of `read_at` for less than 16 KiB is answered from a block of that size, which the store holds:
-/// in part, where the block ends. Where the block does not hold the byte at its place, it is read there
-/// first. So names that stand one behind the other take one call of the system for many. A call for
-/// 16 KiB or more goes past the block. A read is one call of the system, behind one seek where the file is
-/// not known to stand at its place, and fails where either does; the block holds nothing then.
+/// The store holds a block of 16 KiB of the file. A call of `read_at` is answered from it, where it holds the
+/// byte at the call's place: in part, where the block ends. Else a call for less than 16 KiB reads a block at
+/// its place, and is answered from that, and a call for 16 KiB or more goes past the block. So names that
+/// stand one behind the other take one call of the system for many. A read is one call of the system, behind
+/// one seek where the file is not known to stand at its place, and fails where either does; the block holds
+/// nothing then.
 ///
 /// The bytes of an answer are as old as the block: of a file that changes while it is read, a call may give
 /// what was there when an earlier one read the block.

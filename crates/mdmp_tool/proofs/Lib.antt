@@ -1,4 +1,5 @@
 pub mod BlockLemmas
+pub mod BufferLemmas
 pub mod Bytewise
 pub mod Checking
 pub mod CopyEnds
@@ -24,7 +25,6 @@ pub mod Listings
 pub mod Loans
 pub mod ModuleParts
 pub mod PdbRows
-pub mod PlacedLemmas
 pub mod PlainLines
 pub mod Printing
 pub mod Rows

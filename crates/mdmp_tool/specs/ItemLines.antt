@@ -49,10 +49,6 @@ extent_text Outside size offset = place_text (codes "outside ") size offset
 abbrev pub units_text : UnitsRef → List ℕ
 units_text units = concat (codes "\"" ∷ escaped (units_in units) ∷ codes "\"" ∷ [])
 
--- the first 84 units in double quotes, and the end of the line
-abbrev pub short_name_line : UnitsRef → List ℕ
-short_name_line units = concat (codes "\"" ∷ escaped (take 84 (units_in units)) ∷ codes "\"\n" ∷ [])
-
 -- `none`, `long <length>`, or the escaped units in double quotes
 abbrev pub name_text : Name → List ℕ
 name_text names.None = codes "none"

@@ -1,3 +1,4 @@
+pub mod Buffer
 pub mod Causes
 pub mod CheckRuns
 pub mod CheckText
@@ -18,7 +19,6 @@ pub mod Line
 pub mod Lines
 pub mod PdbLines
 pub mod Pieces
-pub mod Placed
 pub mod Program
 pub mod Runs
 pub mod Standing

@@ -5,9 +5,9 @@ ghost use Rattle.std.specs.Prelude.{◌<◌, ◌+◌, ◌≤◌, length};
 ghost use Rattle.std.specs.Fmt.{decimal};
 ghost use Rattle.mdmp_wire.specs.Digits.{hex};
 ghost use Rattle.mdmp_tool.specs.Digits.{last_digits};
-ghost use Rattle.mdmp_tool.specs.Placed.{IsPutBehind};
+ghost use Rattle.mdmp_tool.specs.Buffer.{IsPutBehind};
 
-use crate::placed::{slice_at, text_at};
+use crate::in_buffer::{slice_at, text_at};
 use itoa::Buffer;
 
 /// The two decimal digits of each number below 100.

@@ -5,10 +5,10 @@ ghost use Rattle.mdmp_source.specs.Output.{Puts};
 ghost use Rattle.mdmp_map.specs.Ranges.{address_end};
 ghost use Rattle.mdmp_lister.specs.Addressing.{cell, cells};
 ghost use Rattle.mdmp_tool.specs.HexText.{address_text, cell_text, hex_line, line_text, cells_text};
-ghost use Rattle.mdmp_tool.specs.Placed.{IsPutBehind};
+ghost use Rattle.mdmp_tool.specs.Buffer.{IsPutBehind};
 
 use crate::digits::{hex2_at, hex16_at};
-use crate::placed::text_at;
+use crate::in_buffer::text_at;
 use mdmp_source::{Line, Out, OutFailed, put_line};
 
 /// How many bytes a line has, at most.
@@ -47,11 +47,13 @@ fn put_numbered<O: Out>(
 {
     let start = LINE * line;
     let end = bytes.len().min(start + LINE);
-    put_hex_line(
+    put_line(
         out,
-        address + start as u64,
-        &bytes[start..end],
-        &known[start..end],
+        &HexLine {
+            address: address + start as u64,
+            bytes: &bytes[start..end],
+            known: &known[start..end],
+        },
     )
 }
 
@@ -76,27 +78,6 @@ impl<'a> Line for HexLine<'a> {
     }
 }
 
-/// Prints an address, and the bytes from it on, on one line.
-fn put_hex_line<O: Out>(
-    out: &mut O,
-    address: u64,
-    bytes: &[u8],
-    known: &[bool],
-) -> Result<(), OutFailed>
-    requires same { length known.now ≡ length bytes.now }
-    requires line { length bytes.now ≤ 16 }
-    ensures { Puts result (O.state out.old) (hex_line address (cells bytes.now known.now)) (O.state out.new) }
-{
-    put_line(
-        out,
-        &HexLine {
-            address,
-            bytes,
-            known,
-        },
-    )
-}
-
 /// Puts an address and the bytes from it on behind the first `len` bytes, as a line.
 #[inline(always)]
 fn hex_line_at(text: &mut [u8], len: usize, address: u64, bytes: &[u8], known: &[bool]) -> usize
@@ -106,7 +87,7 @@ fn hex_line_at(text: &mut [u8], len: usize, address: u64, bytes: &[u8], known: &
     ensures { IsPutBehind text.old len (hex_line address (cells bytes.now known.now)) 68 text.new result }
 {
     let len = address_at(text, len, address);
-    let len = cells_at(text, len, bytes, known);
+    let len = hex_cells_at(text, len, bytes, known);
     text_at(text, len, *b"\n")
 }
 
@@ -123,21 +104,21 @@ fn address_at(text: &mut [u8], len: usize, address: u64) -> usize
 
 /// Puts the texts of bytes one behind the other, behind the first `len` bytes.
 #[inline(always)]
-fn cells_at(text: &mut [u8], len: usize, bytes: &[u8], known: &[bool]) -> usize
+fn hex_cells_at(text: &mut [u8], len: usize, bytes: &[u8], known: &[bool]) -> usize
     requires same { length known.now ≡ length bytes.now }
     requires room { len + 3 * length bytes.now ≤ length text.old }
     ensures { IsPutBehind text.old len (flat_map cell_text (cells bytes.now known.now)) (3 * length bytes.now) text.new result }
 {
     let mut len = len;
     for (index, byte) in bytes.iter().enumerate() {
-        len = cell_at(text, len, *byte, known[index]);
+        len = hex_cell_at(text, len, *byte, known[index]);
     }
     len
 }
 
 /// Puts a space, and two hexadecimal digits, or two question marks where the byte is not known.
 #[inline(always)]
-fn cell_at(text: &mut [u8], len: usize, byte: u8, is_known: bool) -> usize
+fn hex_cell_at(text: &mut [u8], len: usize, byte: u8, is_known: bool) -> usize
     requires { len + 3 ≤ length text.old }
     ensures { IsPutBehind text.old len (cell_text (cell byte is_known)) 3 text.new result }
 {

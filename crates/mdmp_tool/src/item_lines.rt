@@ -3,9 +3,9 @@ ghost use Rattle.std.specs.Prelude.{◌++◌, codes};
 ghost use Rattle.mdmp_source.specs.Output.{Puts};
 ghost use Rattle.mdmp_tool.specs.ItemLines.{entry_line, thread_line, module_line, unloaded_line, exception_line, system_line, region_line, thread_name_line, range_line, item_line, name_text};
 
+use crate::buffer_lines::{ModuleFront, RangeLine, RegionLine, SHORT, ShortName, ThreadLine};
 use crate::line::put_pieces;
 use crate::pieces::Piece;
-use crate::placed_lines::{ModuleFront, RangeLine, RegionLine, SHORT, ShortName, ThreadLine};
 use mdmp_lister::{
     ExceptionItem, Item, MemoryInfoItem, ModuleItem, Name, RangeItem, StreamItem, SystemItem,
     ThreadItem, ThreadNameItem, UnloadedItem,

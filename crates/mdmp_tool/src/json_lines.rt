@@ -3,9 +3,9 @@ ghost use Rattle.mdmp_source.specs.Output.{Puts};
 ghost use Rattle.mdmp_tool.specs.Json.{object, object_line};
 ghost use Rattle.mdmp_tool.specs.JsonLines.{dump_object, stream_members, thread_members, module_members, unloaded_members, exception_members, system_members, region_members, thread_name_members, range_members, item_object};
 
+use crate::buffer_objects::RegionObject;
 use crate::line::put_pieces;
 use crate::pieces::Piece;
-use crate::placed_objects::RegionObject;
 use mdmp_lister::{
     ExceptionItem, Item, MemoryInfoItem, ModuleItem, RangeItem, StreamItem, SystemItem, ThreadItem,
     ThreadNameItem, UnloadedItem,

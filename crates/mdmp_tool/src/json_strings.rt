@@ -1,5 +1,5 @@
 //! Texts of JSON, between their quotes: of units, and of bytes. They take no memory.
-ghost use Rattle.std.specs.Prelude.{◌≡◌, ◌<◌, ◌≤◌, ◌∷◌, drop, length, not};
+ghost use Rattle.std.specs.Prelude.{◌≡◌, ◌<◌, ◌≤◌, ◌+◌, ◌*◌, ◌∷◌, drop, length, not};
 ghost use Rattle.std.specs.Char.{encode_utf8};
 ghost use Rattle.std.specs.Char.Utf16.{has_unpaired_surrogate, utf16_chars};
 ghost use Rattle.std.specs.Fmt.{digit_glyph};
@@ -8,7 +8,9 @@ ghost use Rattle.std.specs.Str.Lossy.{utf8_lossy};
 ghost use Rattle.json.specs.Print.{escape, escape_byte, escape_letter};
 ghost use Rattle.mdmp_source.specs.Output.{Puts};
 ghost use Rattle.mdmp_wire.specs.Units.{units_in, utf8_of};
+ghost use Rattle.mdmp_tool.specs.Buffer.{IsPutBehind};
 
+use crate::in_buffer::text_at;
 use mdmp_source::{Out, OutFailed, write_all};
 use mdmp_wire::UnitsRef;
 
@@ -41,39 +43,85 @@ pub(crate) fn hex_digit(upper: bool, number: u8) -> u8
     }
 }
 
-/// Writes a byte of a text as it stands in a string.
+/// How many bytes a byte of a text is in a string, at most.
+const BYTE: usize = 6;
+
+/// Puts a byte of a text as it stands in a string behind the first `len` bytes.
+#[inline(always)]
 #[tactic(auto, unfolding(json::specs::Print::escape_byte))]
-fn put_byte<O: Out>(out: &mut O, byte: u8) -> Result<(), OutFailed>
-    ensures { Puts result (O.state out.old) (escape_byte byte) (O.state out.new) }
+fn escape_byte_at(text: &mut [u8], len: usize, byte: u8) -> usize
+    requires { len + BYTE ≤ length text.old }
+    ensures { IsPutBehind text.old len (escape_byte byte) BYTE text.new result }
 {
     let letter = escape_letter(byte);
     if letter > 0 {
-        return write_all(out, &[b'\\', letter]);
+        return text_at(text, len, [b'\\', letter]);
     }
     if byte < 0x20 {
         let high = hex_digit(false, byte / 16);
         let low = hex_digit(false, byte % 16);
-        return write_all(out, &[b'\\', b'u', b'0', b'0', high, low]);
+        return text_at(text, len, [b'\\', b'u', b'0', b'0', high, low]);
     }
-    write_all(out, &[byte])
+    text_at(text, len, [byte])
+}
+
+/// Puts a text as it stands in a string behind the first `len` bytes.
+fn escape_bytes_at(text: &mut [u8], len: usize, bytes: &[u8]) -> usize
+    requires { len + 6 * length bytes.now ≤ length text.old }
+    ensures { IsPutBehind text.old len (escape bytes.now) (6 * length bytes.now) text.new result }
+{
+    let mut len = len;
+    for byte in bytes {
+        len = escape_byte_at(text, len, *byte);
+    }
+    len
+}
+
+/// How many bytes of a text are put together before they are written.
+const CHUNK: usize = 64;
+
+/// Writes at most [`CHUNK`] bytes of a text as they stand in a string.
+fn put_chunk<O: Out>(out: &mut O, bytes: &[u8]) -> Result<(), OutFailed>
+    requires { length bytes.now ≤ 64 }
+    ensures { Puts result (O.state out.old) (escape bytes.now) (O.state out.new) }
+{
+    let mut text = [0; BYTE * CHUNK];
+    let len = escape_bytes_at(&mut text, 0, bytes);
+    write_all(out, &text[..len])
 }
 
 /// Writes a text as it stands in a string.
 pub(crate) fn put_text_bytes<O: Out>(out: &mut O, bytes: &[u8]) -> Result<(), OutFailed>
     ensures { Puts result (O.state out.old) (escape bytes.now) (O.state out.new) }
 {
-    for byte in bytes {
-        put_byte(out, *byte)?;
+    let mut at = 0;
+    while at < bytes.len() {
+        let count = (bytes.len() - at).min(CHUNK);
+        put_chunk(out, &bytes[at..at + count])?;
+        at += count;
     }
     Ok(())
+}
+
+/// How many bytes a character is in a string, at most: four bytes, each of six.
+const CHARACTER: usize = 24;
+
+/// Puts a character as it stands in a string behind the first `len` bytes.
+fn escape_char_at(text: &mut [u8], len: usize, character: char) -> usize
+    requires { len + CHARACTER ≤ length text.old }
+    ensures { IsPutBehind text.old len (escape (encode_utf8 character)) CHARACTER text.new result }
+{
+    let mut buffer = [0; 4];
+    escape_bytes_at(text, len, character.encode_utf8(&mut buffer).as_bytes())
 }
 
 /// Writes a character as it stands in a string.
 fn put_char<O: Out>(out: &mut O, character: char) -> Result<(), OutFailed>
     ensures { Puts result (O.state out.old) (escape (encode_utf8 character)) (O.state out.new) }
 {
-    let mut buffer = [0; 4];
-    put_text_bytes(out, character.encode_utf8(&mut buffer).as_bytes())
+    let mut text = [0; CHARACTER];
+    let len = escape_char_at(&mut text, 0, character);
+    write_all(out, &text[..len])
 }
 
 /// The character whose units begin at an index, unless a surrogate stands there without its other half, and
@@ -114,17 +162,26 @@ pub(crate) fn is_lossy(units: &UnitsRef<'_>) -> bool
     false
 }
 
+/// How many bytes of characters are put together before they are written.
+const GATHERED: usize = 512;
+
 /// Writes the text of units, with U+FFFD for each surrogate without its other half.
 pub(crate) fn put_text_units<O: Out>(out: &mut O, units: &UnitsRef<'_>) -> Result<(), OutFailed>
     ensures { Puts result (O.state out.old) (escape (utf8_of (units_in units.now))) (O.state out.new) }
 {
+    let mut text = [0; GATHERED];
+    let mut len = 0;
     let mut at = 0;
     while at < units.len() {
         let (found, next) = character_at(units, at);
-        put_char(out, found.unwrap_or('\u{fffd}'))?;
+        len = escape_char_at(&mut text, len, found.unwrap_or('\u{fffd}'));
         at = next;
+        if len + CHARACTER > GATHERED {
+            write_all(out, &text[..len])?;
+            len = 0;
+        }
     }
-    Ok(())
+    write_all(out, &text[..len])
 }
 
 /// Whether some bytes are no UTF-8.

@@ -18,6 +18,8 @@
 #![tactic(auto)]
 
 mod blocks;
+mod buffer_lines;
+mod buffer_objects;
 mod check;
 mod copy;
 mod digits;
@@ -27,6 +29,7 @@ mod fault_lines;
 mod forms;
 mod hex;
 mod hex_lines;
+mod in_buffer;
 mod item_lines;
 mod json_law;
 mod json_lines;
@@ -39,9 +42,6 @@ mod lines;
 mod list;
 mod pdb_lines;
 mod pieces;
-mod placed;
-mod placed_lines;
-mod placed_objects;
 mod program;
 mod running;
 mod standing;

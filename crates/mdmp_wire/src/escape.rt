@@ -16,14 +16,19 @@ pub(crate) const CHUNK: usize = 64;
 /// How long the text of a unit is, at most.
 const ESCAPE: usize = 6;
 
-/// The one character of those from the space to the tilde that is not printed as it is.
-const BACKSLASH: u16 = 0x5c;
+/// The first and the last of the characters that are printed as they are, the space and the tilde.
+pub(crate) const FIRST_PLAIN: u16 = 0x20;
+
+pub(crate) const LAST_PLAIN: u16 = 0x7e;
+
+/// The one character of those between that is not printed as it is.
+pub(crate) const BACKSLASH: u16 = 0x5c;
 
 /// Whether a unit is printed as it is.
 pub(crate) fn is_plain(unit: u16) -> bool
     ensures { result ≡ is_plain unit }
 {
-    0x20 <= unit && unit <= 0x7e && unit != BACKSLASH
+    FIRST_PLAIN <= unit && unit <= LAST_PLAIN && unit != BACKSLASH
 }
 
 /// Writes the units from an index on, [`CHUNK`] of them at most, as they are printed. They are put

@@ -4,6 +4,7 @@ ghost use Rattle.std.specs.List.{prefix_len};
 ghost use Rattle.mdmp_wire.specs.Escape.{escaped, is_plain};
 ghost use Rattle.mdmp_wire.specs.Units.{units_of};
 
+use crate::escape::{BACKSLASH, FIRST_PLAIN, LAST_PLAIN};
 use std::simd::prelude::*;
 
 /// How many units are looked at together.
@@ -41,9 +42,9 @@ fn plain_run(units: u16x8) -> usize
     requires { length units ≡ 8 }
     ensures { result ≡ prefix_len is_plain units }
 {
-    let others = units.simd_lt(u16x8::splat(0x20))
-        | units.simd_gt(u16x8::splat(0x7e))
-        | units.simd_eq(u16x8::splat(0x5c));
+    let others = units.simd_lt(u16x8::splat(FIRST_PLAIN))
+        | units.simd_gt(u16x8::splat(LAST_PLAIN))
+        | units.simd_eq(u16x8::splat(BACKSLASH));
     let mask = others.to_bitmask();
     if mask == 0 {
         LANES

@@ -100,14 +100,14 @@ pub(crate) const FILE: &str = "The minidump that is read";
 
 /// What `--window` sets.
 pub(crate) const WINDOW: &str =
-    "Read the file by at most N bytes, 168 to 1073741824 [default: 65536]";
+    "Fetch the file by at most N bytes, 168 to 1073741824 [default: 65536]";
 
 /// What `--name` sets.
 pub(crate) const NAME: &str = "Read names of at most N bytes, up to 1073741824 [default: 4096]";
 
 /// What `--budget` sets.
 pub(crate) const BUDGET: &str =
-    "Read at most N bytes of the file for its listing, up to 18446744073709551615 (the default)";
+    "Fetch at most N bytes of the file for its listing, up to 18446744073709551615 (the default)";
 
 /// What `--pdb` adds.
 pub(crate) const PDB: &str = "Tell of each module also its symbol file (PDB), where it names one";

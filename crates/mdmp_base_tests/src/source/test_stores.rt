@@ -76,7 +76,7 @@ fn file_store_reads_a_file(rt: HostRuntime) {
     assert_file_reads(&rt, "six_bytes", 0, 6, &SIX_BYTES);
 }
 
-/// How many bytes of a file a call for fewer reads, and is then answered from.
+/// How many bytes of a file a call for fewer reads. Calls are answered from them while they are held.
 const BLOCK: usize = 16_384;
 
 /// Reads of a file of six bytes behind zeros, of which two stand in the first block.
@@ -107,9 +107,9 @@ fn block_at<S: Store>(store: &mut S, at: u64) -> Result<(usize, [u8; 4]), StoreF
     Ok((count, last))
 }
 
-/// Asserts that a call for a block at this place gives all of it, of which the last are these.
-fn assert_block<S: Store>(rt: &impl Abort, store: &mut S, at: u64, last: [u8; 4]) {
-    assert_same_at(rt, &at, block_at(store, at), Ok((BLOCK, last)));
+/// Asserts that a call for a block at this place gives so many bytes, and the last of the room are these.
+fn assert_block<S: Store>(rt: &impl Abort, store: &mut S, at: u64, count: usize, last: [u8; 4]) {
+    assert_same_at(rt, &at, block_at(store, at), Ok((count, last)));
 }
 
 #[test]
@@ -117,10 +117,21 @@ fn file_store_reads_a_block_past_the_one_held(rt: HostRuntime) {
     make_file(&rt, "past_the_block", 16_382);
     let mut store = file_store(&rt, "past_the_block");
     assert_reads(&rt, &mut store, &[(16_384, 4, *b"cdef")]);
-    assert_block(&rt, &mut store, 0, *b"\0\0ab");
-    assert_block(&rt, &mut store, 4, *b"cdef");
+    assert_block(&rt, &mut store, 0, BLOCK, *b"\0\0ab");
+    assert_block(&rt, &mut store, 4, BLOCK, *b"cdef");
     assert_reads(&rt, &mut store, &[(16_384, 4, *b"cdef"), (1, 4, [0; 4])]);
     remove(&rt, "past_the_block");
+}
+
+#[test]
+fn file_store_answers_a_block_from_the_one_held(rt: HostRuntime) {
+    make_file(&rt, "of_the_block", 16_382);
+    let mut store = file_store(&rt, "of_the_block");
+    assert_reads(&rt, &mut store, &[(2, 4, [0; 4])]);
+    assert_block(&rt, &mut store, 2, BLOCK, *b"abcd");
+    assert_block(&rt, &mut store, 6, BLOCK - 4, [0; 4]);
+    assert_block(&rt, &mut store, 16_386, 2, [0; 4]);
+    remove(&rt, "of_the_block");
 }
 
 /// Reads of a file of six bytes behind 4 GiB of zeros.

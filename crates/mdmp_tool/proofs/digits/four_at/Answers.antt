@@ -1,6 +1,6 @@
 use Rattle.std.proofs.Common.{refl, arith}
 use Rattle.mdmp_tool.proofs.DigitPairs.{decimal_more}
-use Rattle.mdmp_tool.proofs.PlacedLemmas.{IsPutBehind-as, IsPutBehind-then}
+use Rattle.mdmp_tool.proofs.BufferLemmas.{IsPutBehind-as, IsPutBehind-then}
 use Rattle.mdmp_tool.proofs.digits.four_at.Goals as goal
 
 pub returns : goal.returns

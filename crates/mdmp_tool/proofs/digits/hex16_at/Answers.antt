@@ -1,5 +1,5 @@
 use Rattle.std.proofs.Common.{arith, ◌/◌, ◌^◌}
-use Rattle.mdmp_tool.proofs.PlacedLemmas.{IsPutBehind-hex}
+use Rattle.mdmp_tool.proofs.BufferLemmas.{IsPutBehind-hex}
 use Rattle.mdmp_tool.proofs.digits.hex16_at.Goals as goal
 
 pub returns : goal.returns

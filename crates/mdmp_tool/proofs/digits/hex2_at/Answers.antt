@@ -1,6 +1,6 @@
 use Rattle.std.proofs.Common.{arith}
 use Rattle.mdmp_tool.proofs.DigitPairs.{row_hex}
-use Rattle.mdmp_tool.proofs.PlacedLemmas.{IsPutBehind-as}
+use Rattle.mdmp_tool.proofs.BufferLemmas.{IsPutBehind-as}
 use Rattle.mdmp_tool.proofs.digits.hex2_at.Goals as goal
 
 pub returns : goal.returns

@@ -2,7 +2,7 @@ use Rattle.std.proofs.Common.{◌+◌, arith, length-set}
 use Rattle.std.proofs.lemmas.Fmt.{decimal_digit}
 use Rattle.std.proofs.lemmas.List.{take_more_set}
 use Rattle.mdmp_tool.proofs.DigitPairs.{decimal_two}
-use Rattle.mdmp_tool.proofs.PlacedLemmas.{IsPutBehind-as}
+use Rattle.mdmp_tool.proofs.BufferLemmas.{IsPutBehind-as}
 use Rattle.mdmp_tool.proofs.digits.two_at.Goals as goal
 
 pub returns-then-number-lt10 : goal.returns-then-number-lt10

@@ -1,4 +1,4 @@
-use Rattle.mdmp_tool.proofs.PlacedLemmas.{IsPutBehind-then}
+use Rattle.mdmp_tool.proofs.BufferLemmas.{IsPutBehind-then}
 use Rattle.mdmp_tool.proofs.hex_lines.address_at.Goals as goal
 
 pub returns : goal.returns

@@ -1,11 +1,11 @@
-use Rattle.std.proofs.Common.{◌≡◌, ◌+◌, ◌*◌, List, ℕ, ap, arith, refl, sym, take}
+use Rattle.std.proofs.Common.{ap, arith, refl, sym}
 use Rattle.std.proofs.lemmas.List.{append-nil, take_all}
 use Rattle.std.specs.List.{flat_map}
 use Rattle.mdmp_lister.specs.Addressing.{cells}
 use Rattle.mdmp_tool.specs.HexText.{cell_text}
 use Rattle.mdmp_tool.proofs.HexLemmas.{IsItem-cell, length-cells, text_more}
-use Rattle.mdmp_tool.proofs.PlacedLemmas.{IsPutBehind-as, IsPutBehind-then}
-use Rattle.mdmp_tool.proofs.hex_lines.cells_at.Goals as goal
+use Rattle.mdmp_tool.proofs.BufferLemmas.{IsPutBehind-as, IsPutBehind-then}
+use Rattle.mdmp_tool.proofs.hex_lines.hex_cells_at.Goals as goal
 
 pub loop-index-init : goal.loop-index-init
 loop-index-init c = record { text = sym (append-nil _); within = omega arith; same = refl }
@@ -15,7 +15,7 @@ loop-index-preserved c =
     let i = c.loop-index.index in
     let all = cells c.args.bytes.now c.args.known.now in
     IsPutBehind-as (sym (text_more cell_text all i _ (IsItem-cell c.args.bytes.now c.args.known.now i _ _ c.requires.same c.loop-index-test.true))) (omega arith)
-    (IsPutBehind-then c.loop-index.invariant c.cell_at-len.ensures)
+    (IsPutBehind-then c.loop-index.invariant c.hex_cell_at-len.ensures)
 
 pub returns : goal.returns
 returns c =

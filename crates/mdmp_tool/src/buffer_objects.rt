@@ -2,10 +2,10 @@
 ghost use Rattle.std.specs.Prelude.{◌+◌, ◌≤◌, length};
 ghost use Rattle.mdmp_tool.specs.Json.{object, object_line};
 ghost use Rattle.mdmp_tool.specs.JsonLines.{region_members};
-ghost use Rattle.mdmp_tool.specs.Placed.{IsPutBehind};
+ghost use Rattle.mdmp_tool.specs.Buffer.{IsPutBehind};
 
 use crate::digits::{decimal_at, hex16_at};
-use crate::placed::text_at;
+use crate::in_buffer::text_at;
 use mdmp_lister::MemoryInfoItem;
 use mdmp_source::Line;
 

@@ -1,7 +1,7 @@
 //! Texts that are put together in a buffer.
 ghost use Rattle.std.specs.Prelude.{◌+◌, ◌≤◌, length};
 ghost use Rattle.mdmp_tool.specs.ItemLines.{extent_text, offset_text};
-ghost use Rattle.mdmp_tool.specs.Placed.{IsPutBehind};
+ghost use Rattle.mdmp_tool.specs.Buffer.{IsPutBehind};
 
 use crate::digits::{decimal_at, wide_decimal_at};
 use mdmp_source::Extent;

@@ -1,6 +1,6 @@
 use Rattle.mdmp_tool.proofs.JsonTexts.{print-region}
-use Rattle.mdmp_tool.proofs.PlacedLemmas.{IsPutBehind-then}
-use Rattle.mdmp_tool.proofs.placed_objects.region_object_at.Goals as goal
+use Rattle.mdmp_tool.proofs.BufferLemmas.{IsPutBehind-then}
+use Rattle.mdmp_tool.proofs.buffer_objects.region_object_at.Goals as goal
 
 pub returns : goal.returns
 returns c = rw (print-region c.args.item.now)

@@ -1,5 +1,5 @@
-use Rattle.mdmp_tool.proofs.PlacedLemmas.{IsPutBehind-then}
-use Rattle.mdmp_tool.proofs.placed_lines.module_at.Goals as goal
+use Rattle.mdmp_tool.proofs.BufferLemmas.{IsPutBehind-then}
+use Rattle.mdmp_tool.proofs.buffer_lines.module_front_at.Goals as goal
 
 pub returns : goal.returns
 returns c =

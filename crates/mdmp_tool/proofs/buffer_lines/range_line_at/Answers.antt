@@ -1,5 +1,5 @@
-use Rattle.mdmp_tool.proofs.PlacedLemmas.{IsPutBehind-then}
-use Rattle.mdmp_tool.proofs.placed_lines.range_at.Goals as goal
+use Rattle.mdmp_tool.proofs.BufferLemmas.{IsPutBehind-then}
+use Rattle.mdmp_tool.proofs.buffer_lines.range_line_at.Goals as goal
 
 pub returns : goal.returns
 returns c =

@@ -1,11 +1,12 @@
 //! Lines that a listing has most of, which are put straight into the output's buffer.
-ghost use Rattle.std.specs.Prelude.{◌+◌, ◌≤◌, length};
+ghost use Rattle.std.specs.Prelude.{◌+◌, ◌++◌, ◌≤◌, codes, length};
 ghost use Rattle.std.specs.List.{concat};
-ghost use Rattle.mdmp_tool.specs.ItemLines.{region_line, range_line, thread_line, module_fields, short_name_line};
-ghost use Rattle.mdmp_tool.specs.Placed.{IsPutBehind};
+ghost use Rattle.mdmp_wire.specs.Units.{units_in};
+ghost use Rattle.mdmp_tool.specs.ItemLines.{region_line, range_line, thread_line, module_fields, units_text};
+ghost use Rattle.mdmp_tool.specs.Buffer.{IsPutBehind};
 
 use crate::digits::{decimal_at, hex16_at};
-use crate::placed::{extent_at, text_at};
+use crate::in_buffer::{extent_at, text_at};
 use mdmp_lister::{MemoryInfoItem, ModuleItem, RangeItem, ThreadItem};
 use mdmp_source::Line;
 use mdmp_wire::UnitsRef;
@@ -20,13 +21,13 @@ impl<'a> Line for RegionLine<'a> {
     ghost text = { λ l. region_line l.item.now };
 
     fn put(&self, buffer: &mut [u8], at: usize) -> usize {
-        region_at(buffer, at, self.item)
+        region_line_at(buffer, at, self.item)
     }
 }
 
 /// Puts the line of a region behind the first `len` bytes.
 #[inline(always)]
-fn region_at(text: &mut [u8], len: usize, item: &MemoryInfoItem) -> usize
+fn region_line_at(text: &mut [u8], len: usize, item: &MemoryInfoItem) -> usize
     requires { len + 219 ≤ length text.old }
     ensures { IsPutBehind text.old len (region_line item.now) 219 text.new result }
 {
@@ -59,13 +60,13 @@ impl<'a> Line for RangeLine<'a> {
     ghost text = { λ l. range_line l.item.now };
 
     fn put(&self, buffer: &mut [u8], at: usize) -> usize {
-        range_at(buffer, at, self.item)
+        range_line_at(buffer, at, self.item)
     }
 }
 
 /// Puts the line of a range behind the first `len` bytes.
 #[inline(always)]
-fn range_at(text: &mut [u8], len: usize, item: &RangeItem) -> usize
+fn range_line_at(text: &mut [u8], len: usize, item: &RangeItem) -> usize
     requires { len + 121 ≤ length text.old }
     ensures { IsPutBehind text.old len (range_line item.now) 121 text.new result }
 {
@@ -88,13 +89,13 @@ impl<'a> Line for ThreadLine<'a> {
     ghost text = { λ l. thread_line l.item.now };
 
     fn put(&self, buffer: &mut [u8], at: usize) -> usize {
-        thread_at(buffer, at, self.item)
+        thread_line_at(buffer, at, self.item)
     }
 }
 
 /// Puts the line of a thread behind the first `len` bytes.
 #[inline(always)]
-fn thread_at(text: &mut [u8], len: usize, item: &ThreadItem) -> usize
+fn thread_line_at(text: &mut [u8], len: usize, item: &ThreadItem) -> usize
     requires { len + 332 ≤ length text.old }
     ensures { IsPutBehind text.old len (thread_line item.now) 332 text.new result }
 {
@@ -137,13 +138,13 @@ impl<'a> Line for ModuleFront<'a> {
     ghost text = { λ l. concat (module_fields l.item.now) };
 
     fn put(&self, buffer: &mut [u8], at: usize) -> usize {
-        module_at(buffer, at, self.item)
+        module_front_at(buffer, at, self.item)
     }
 }
 
 /// Puts the line of a module up to its name behind the first `len` bytes.
 #[inline(always)]
-fn module_at(text: &mut [u8], len: usize, item: &ModuleItem<'_>) -> usize
+fn module_front_at(text: &mut [u8], len: usize, item: &ModuleItem<'_>) -> usize
     requires { len + 377 ≤ length text.old }
     ensures { IsPutBehind text.old len (concat (module_fields item.now)) 377 text.new result }
 {
@@ -184,20 +185,19 @@ fn module_at(text: &mut [u8], len: usize, item: &ModuleItem<'_>) -> usize
 /// How many units of a name have room in a line with the quotes and the end of the line.
 pub(crate) const SHORT: usize = 84;
 
-/// The first [`SHORT`] units of a name between double quotes, and the end of the line.
+/// A name of at most [`SHORT`] units between double quotes, and the end of the line.
 #[derive(Clone, Copy)]
 pub(crate) struct ShortName<'a> {
     pub(crate) units: UnitsRef<'a>,
+    ghost short: { length (units_in units) ≤ 84 },
 }
 
 impl<'a> Line for ShortName<'a> {
-    ghost text = { λ l. short_name_line l.units };
+    ghost text = { λ l. units_text l.units ++ codes "\n" };
 
     fn put(&self, buffer: &mut [u8], at: usize) -> usize {
         let len = text_at(buffer, at, *b"\"");
-        let len = self
-            .units
-            .escape_at(buffer, len, 0, self.units.len().min(SHORT));
+        let len = self.units.escape_at(buffer, len, 0, self.units.len());
         text_at(buffer, len, *b"\"\n")
     }
 }

@@ -2,7 +2,7 @@
 use Rattle.std.proofs.Common.{◌≡◌, ◌∙◌, ℕ, ◌+◌, ◌≤◌, List, ◌++◌, ap, take, suc, ◌/◌, ◌%◌, append_assoc, arith}
 use Rattle.mdmp_wire.specs.Digits.{hex}
 use Rattle.mdmp_tool.proofs.DigitPairs.{hex_more}
-use Rattle.mdmp_tool.specs.Placed.{IsPutBehind}
+use Rattle.mdmp_tool.specs.Buffer.{IsPutBehind}
 
 -- a piece behind a piece
 pub IsPutBehind-then : {a b c p q : List ℕ} {i j k m n : ℕ} → IsPutBehind a i p m b j → IsPutBehind b j q n c k → IsPutBehind a i (p ++ q) (m + n) c k

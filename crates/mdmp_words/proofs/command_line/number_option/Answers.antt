@@ -1,0 +1,9 @@
+use Rattle.std.proofs.Common.{ap, Some}
+use Rattle.clap.specs.Words.{Rule}
+use Rattle.clap.specs.declared.builder.action.ArgAction.TheVariants.{Set}
+use Rattle.mdmp_words.proofs.command_line.number_option.Goals as goal
+
+pub returns-clause-rule : goal.returns-clause-rule
+returns-clause-rule c =
+    rw (c.help.ensures, c.action.ensures, c.value_name.ensures, c.long.ensures)
+    (ap (λ (r : Rule). record r { long = Some c.args.name.now; action = Some Set; value_names = 1 }) c.new.ensures.rule)
