@@ -12,7 +12,7 @@ RUNS = 9
 MIB = 1 << 20
 STRACE = "/usr/bin/strace"
 TIME = "/usr/bin/time"
-MOST_OF_CAT = 1.2  # of the time of cat that a copy takes
+MOST_OF_CAT = 1.2  # of the time of cat that a copy takes, each until the copy is on the disk
 MOST_MIB = 2.0  # that a process of the program has resident
 
 
@@ -86,14 +86,24 @@ def write_ranges(path, ranges):
         file.write(bytes(i % 251 for i in range(rva - 44 - list_size)))
 
 
-def copied(mdmp, path, out, stream_type):
-    """A shell that removes a copy, and makes it anew by `copy`."""
-    return ["sh", "-c", f"rm -f {out} && exec {mdmp} copy {path} {out} {stream_type}"]
+def made(line, out, is_synced):
+    """A shell that removes a copy and makes it anew by this line, and waits, if asked to, until it is on the disk."""
+    return ["sh", "-c", f"rm -f {out} && {line}" + (f" && sync {out}" if is_synced else "")]
 
 
-def passed(path, out):
-    """A shell that removes a copy, and makes it anew by `cat`."""
-    return ["sh", "-c", f"rm -f {out} && exec cat {path} > {out}"]
+def copied(mdmp, path, out, stream_type, is_synced=True):
+    """A copy by `copy`."""
+    return made(f"{mdmp} copy {path} {out} {stream_type}", out, is_synced)
+
+
+def passed(path, out, is_synced=True):
+    """A copy by `cat`."""
+    return made(f"cat {path} > {out}", out, is_synced)
+
+
+def read_and_written(path, out, is_synced=True):
+    """A copy by `dd`, which reads and writes 64 KiB at a time, as `copy` does."""
+    return made(f"dd if={path} of={out} bs=64k status=none", out, is_synced)
 
 
 def best_times(commands, runs=RUNS):
