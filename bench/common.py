@@ -87,8 +87,8 @@ def write_ranges(path, ranges):
 
 
 def made(line, out, is_synced):
-    """A shell that removes a copy and makes it anew by this line, and waits, if asked to, until it is on the disk."""
-    return ["sh", "-c", f"rm -f {out} && {line}" + (f" && sync {out}" if is_synced else "")]
+    """A shell that makes a copy by this line, and waits, if asked to, until it is on the disk."""
+    return ["sh", "-c", line + (f" && sync {out}" if is_synced else "")]
 
 
 def copied(mdmp, path, out, stream_type, is_synced=True):
@@ -106,12 +106,22 @@ def read_and_written(path, out, is_synced=True):
     return made(f"dd if={path} of={out} bs=64k status=none", out, is_synced)
 
 
-def best_times(commands, runs=RUNS):
+def remove(paths):
+    """Removes those of these files that are there, and waits until the disk has nothing left to do."""
+    for path in paths:
+        if os.path.exists(path):
+            os.remove(path)
+    os.sync()
+
+
+def best_times(commands, runs=RUNS, copies=()):
     """The least time, in seconds, of each of these processes as a whole, with its output dropped. They run in turn, so
-    that what else the machine does meets all of them."""
+    that what else the machine does meets all of them; these copies are removed before each."""
     best = [float("inf")] * len(commands)
     for _ in range(runs):
         for k, words in enumerate(commands):
+            if copies:
+                remove(copies)
             start = time.perf_counter()
             subprocess.run(words, stdout=subprocess.DEVNULL, check=True)
             best[k] = min(best[k], time.perf_counter() - start)
