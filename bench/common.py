@@ -12,7 +12,7 @@ RUNS = 9
 MIB = 1 << 20
 STRACE = "/usr/bin/strace"
 TIME = "/usr/bin/time"
-MOST_OF_CAT = 1.2  # of the time of cat that a copy takes, each until the copy is on the disk
+MOST_OF_CAT = 1.2  # of the time of cat that a copy takes
 MOST_MIB = 2.0  # that a process of the program has resident
 
 
@@ -91,17 +91,17 @@ def made(line, out, is_synced):
     return ["sh", "-c", line + (f" && sync {out}" if is_synced else "")]
 
 
-def copied(mdmp, path, out, stream_type, is_synced=True):
+def copied(mdmp, path, out, stream_type, is_synced=False):
     """A copy by `copy`."""
     return made(f"{mdmp} copy {path} {out} {stream_type}", out, is_synced)
 
 
-def passed(path, out, is_synced=True):
+def passed(path, out, is_synced=False):
     """A copy by `cat`."""
     return made(f"cat {path} > {out}", out, is_synced)
 
 
-def read_and_written(path, out, is_synced=True):
+def read_and_written(path, out, is_synced=False):
     """A copy by `dd`, which reads and writes 64 KiB at a time, as `copy` does."""
     return made(f"dd if={path} of={out} bs=64k status=none", out, is_synced)
 
