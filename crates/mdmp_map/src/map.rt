@@ -123,7 +123,6 @@ impl<A: Allocator> AddressMap<A> {
     /// Looks an address up as `look_up` does, and counts a step for each range that it looks at: while
     /// the ranges are sorted as many as their number has binary digits, or one fewer; else one for each
     /// up to the first that holds the address.
-    #[tactic(auto, using(crate::proofs::Places::held_reaches))]
     pub fn look_up_counted<G: Ledger>(&self, address: u64, steps: &mut Steps<G>) -> Found
         ensures found { IsFound self.now.ranges address result }
         ensures reach { IfHeld result (HasReach self.now.ranges address) }
