@@ -18,8 +18,10 @@ use Rattle.mdmp_lister.specs.Format.Listing.{Run}
 use Rattle.mdmp_lister.specs.Step.{current_by, passed_by, step_item}
 use Rattle.mdmp_lister.specs.Format.Summary.{Summary, entry_begun, number_behind}
 use Rattle.mdmp_wire.specs.declared.header.Header.{Header}
-use Rattle.mdmp_lister.specs.Meter.{IsBooked, KeepsTo, counts_of}
+use Rattle.mdmp_lister.specs.Fault.{IsCaused}
+use Rattle.mdmp_lister.specs.Meter.{IsBooked, KeepsTo, counts_of, store_fault_of}
 use Rattle.mdmp_lister.proofs.Budgets.{IsOpening, opening-over, opening-then}
+use Rattle.mdmp_lister.proofs.Fetches.{IsCaused_later}
 use Rattle.mdmp_lister.proofs.Heads.{heads_few}
 use Rattle.mdmp_lister.proofs.Refusals.{IsHandedBack-begun}
 use Rattle.mdmp_lister.proofs.Summary.{begins_as, summary_of-plain}
@@ -76,6 +78,11 @@ module _ {S A : Type 0} (source : SourceState) (choice : Choice) (limits : Limit
       (λ file known. (new.reads.opens file known, new.sound.header_is file (new.spends.fetches.same_content ∙ known)))
       (λ file known. (new.sound.directory file (new.spends.fetches.same_content ∙ known)).each)
       late
+
+  -- with the fault of the store, or none, that the count ended with
+  pub IsCaused-counted : (result : Result ℕ FetchFault) → IsNewWalk source choice limits w → CountsRanges w result n → IsCaused (store_fault_of result) source n.meter.source
+  IsCaused-counted result new counts = IsCaused_later (store_fault_of result) (32 + 12 * w.header.number_of_streams) source w.meter.source n.meter.source
+      new.spends.fetches (record { once = new.spends.steady; told = tt; good = λ file good. refl }) counts.caused
 
   -- which keeps to its budget
   pub KeepsToBudget-counted : (result : Result ℕ FetchFault) → IsNewWalk source choice limits w → CountsRanges w result n → IsBooked n.meter.source (counts_of n.meter) → KeepsTo n.meter.budget n.meter.fetched

@@ -17,6 +17,7 @@ pub mod EntrySteps
 pub mod Fetches
 pub mod Files
 pub mod Handing
+pub mod HeadReads
 pub mod Heads
 pub mod HeldSteps
 pub mod Judging
@@ -34,6 +35,7 @@ pub mod Owing
 pub mod Paying
 pub mod RangeRows
 pub mod RecordItems
+pub mod RecordReads
 pub mod Refusals
 pub mod Requests
 pub mod Room

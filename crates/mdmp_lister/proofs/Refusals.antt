@@ -16,14 +16,14 @@ use Rattle.mdmp_lister.specs.declared.choice.Choice.{Choice}
 use Rattle.mdmp_lister.specs.Format.Directory.{AreFirst}
 use Rattle.mdmp_lister.specs.StreamHead.{heads_ahead}
 use Rattle.mdmp_lister.specs.declared.fault.OpenFault.{OpenFault}
-use Rattle.mdmp_lister.specs.declared.fault.OpenFault.TheVariants.{TooShort, DirectoryOutside, TooManyRanges, Source, Memory, Budget}
+use Rattle.mdmp_lister.specs.declared.fault.OpenFault.TheVariants.{TooShort, BadSignature, BadVersion, DirectoryOutside, TooManyRanges, Source, Memory, Budget}
 use Rattle.mdmp_lister.specs.declared.fault.FetchFault.{FetchFault}
 use Rattle.mdmp_lister.specs.declared.fault.FetchFault.TheVariants as fetch
 use Rattle.mdmp_lister.specs.Meter.{Books, MeterState, store_fault_of}
 use Rattle.mdmp_lister.specs.Fault.{IsCaused}
 use Rattle.mdmp_lister.proofs.Fetches.{FetchesAtMost-within, IsCaused_later, not_unread, unread_caused}
 use Rattle.mdmp_lister.proofs.Heads.{heads_few}
-use Rattle.mdmp_lister.specs.Opening.{Finds, FitsHeader, IsBareRefusal, IsDirectoryRefusal, IsHandedBack, IsHandedBackBare, IsOfHead, IsOpenRefusal, IsRefused, unread_of, IsFromBytes, refusal_of_fetch}
+use Rattle.mdmp_lister.specs.Opening.{Finds, FitsHeader, IsBareRefusal, IsDirectoryRefusal, IsHandedBack, IsHandedBackBare, IsOfHead, IsOpenRefusal, IsRefusalOf, IsRefused, unread_of, IsFromBytes, refusal_of_fetch}
 use Rattle.mdmp_lister.specs.Format.Refusal.{directory_refusal, behind_header}
 
 -- the fault of the directory that a header places in a file of `size` bytes, or none
@@ -156,6 +156,17 @@ pub open_refusal : (size : ℕ) (fault : OpenFault) → IsBareRefusal size fault
 open_refusal size (TooManyRanges count) of = absurd of
 open_refusal size _ of = of
 
+-- where nothing is said of ranges, a fault of the directory is one of the file
+pub refusal_of-directory : (F : List ℕ) (choice : Choice) (size : ℕ) (fault : OpenFault) → IsBareRefusal size fault → IsDirectoryRefusal F fault → IsRefusalOf F choice fault
+refusal_of-directory F choice size (Source fault) bare of = tt
+refusal_of-directory F choice size (Budget offset len) bare of = tt
+refusal_of-directory F choice size Memory bare of = of
+refusal_of-directory F choice size (TooManyRanges count) bare of = absurd bare
+refusal_of-directory F choice size (TooShort told) bare of = rw of refl
+refusal_of-directory F choice size BadSignature bare of = rw of refl
+refusal_of-directory F choice size (BadVersion low) bare of = rw of refl
+refusal_of-directory F choice size (DirectoryOutside offset len) bare of = rw of refl
+
 -- a file whose header was read has one
 pub header-long : (h : Header) (old new : SourceState) → FitsHeader old (Ok h) new → 32 ≤ old.size
 header-long h old new reads = let never : old.size < 32 → ⊥ = λ less. let same = reads.short less in cc in omega (arith, never)
@@ -191,6 +202,25 @@ module _ (old new : MeterState) where
 pub not_of_head : (fault : FetchFault) → IsOfHead (refusal_of_fetch fault) → ⊥
 not_of_head (fetch.Source fault) of = of
 not_of_head (fetch.Budget offset size) of = of
+
+-- nor want of memory
+pub not_of_memory : (fault : FetchFault) → refusal_of_fetch fault ≡ Memory → ⊥
+not_of_memory (fetch.Source fault) same = cc
+not_of_memory (fetch.Budget offset size) same = cc
+
+-- any file may be refused for them, whatever it holds, and any size of 32 or more
+pub refusal_of_fetch-any : (F : List ℕ) (choice : Choice) (fault : FetchFault) → IsRefusalOf F choice (refusal_of_fetch fault)
+refusal_of_fetch-any F choice (fetch.Source fault) = tt
+refusal_of_fetch-any F choice (fetch.Budget offset size) = tt
+
+pub refusal_of_fetch-long : (size : ℕ) (fault : FetchFault) → 32 ≤ size → IsOpenRefusal size (refusal_of_fetch fault)
+refusal_of_fetch-long size (fetch.Source fault) long = long
+refusal_of_fetch-long size (fetch.Budget offset len) long = long
+
+-- with the fault of the store that the fetch told
+pub refusal_of_fetch-caused : (fault : FetchFault) (old new : SourceState) → IsCaused (store_fault_of {T = ℕ} (Err fault)) old new → IsCaused (unread_of (refusal_of_fetch fault)) old new
+refusal_of_fetch-caused (fetch.Source fault) old new caused = caused
+refusal_of_fetch-caused (fetch.Budget offset size) old new caused = caused
 
 -- in its directory
 module _ (old mid new : MeterState) (h : Header) where

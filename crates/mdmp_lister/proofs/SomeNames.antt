@@ -1,5 +1,5 @@
 -- What may be read of a name, whatever stands in the file.
-use Rattle.std.proofs.Common.{◌≡◌, ◌<◌, ◌≤◌, ◌+◌, ◌∙◌, ◌==◌, ◌%◌, ℕ, Bool, true, false, Ok, Err, Result, refl, sym, subst, arith}
+use Rattle.std.proofs.Common.{◌≡◌, ◌<◌, ◌≤◌, ◌+◌, ◌∙◌, ◌==◌, ◌%◌, ℕ, Bool, true, false, Ok, Err, Result, refl, sym, arith}
 use Rattle.std.specs.Prelude.{IfErr, not, nat_lt, if◌then◌else◌}
 use Rattle.std.specs.Result.{IsErr}
 use Rattle.std.proofs.lemmas.Bool.Decides.{nat_tests}
@@ -8,10 +8,8 @@ use Rattle.mdmp_lister.specs.declared.fault.Fault.{Fault}
 use Rattle.mdmp_lister.specs.declared.fault.FaultKind.TheVariants.{NameLengthOutside, NameOdd, NameUnitsOutside}
 use Rattle.mdmp_lister.specs.declared.fetching.NameRead.{NameRead}
 use Rattle.mdmp_lister.specs.declared.fetching.NameRead.TheVariants as read
-use Rattle.mdmp_lister.specs.declared.meter.MeterCounts.{MeterCounts}
 use Rattle.mdmp_lister.specs.Fault.{IsUnobtained}
 use Rattle.mdmp_lister.specs.Following.{IsSomeName, failed, told}
-use Rattle.mdmp_lister.specs.Meter.{IsUnmade}
 
 -- the store failed
 pub some_failed : (z limit rva : ℕ) (r : Result NameRead Fault) → IsErr r → IfErr r (λ fault. IsUnobtained fault.kind) → IsSomeName z limit rva r
@@ -69,16 +67,3 @@ pub some_units : (z limit rva bytes : ℕ) → (rva ≡ 0 → ⊥) → is_inside
 some_units z limit rva bytes some inside is within =
     let past : nat_lt limit bytes ≡ false = grind (arith, nat_tests) in
     rw past at (some_tested z limit rva bytes (Ok tt) some inside is)
-
--- no budget is over by the length of a name
-checked_over : (odd inside : Bool) (most rva bytes : ℕ) (c : MeterCounts) (z : ℕ)
-    → IfErr {T = Unit {0}} {E = Fault} (if odd then Err (record { kind = NameOdd; offset = rva; size = bytes })
-    else if not inside then Err (record { kind = NameUnitsOutside; offset = rva + 4; size = bytes })
-    else Ok tt) (λ fault. IsUnmade most fault.kind fault.offset fault.size c z)
-checked_over true inside most rva bytes c z = tt
-checked_over false false most rva bytes c z = tt
-checked_over false true most rva bytes c z = tt
-
-pub tests_over : (most y rva bytes : ℕ) (fault : Fault) (c : MeterCounts) (z : ℕ) → tests y rva bytes ≡ Err fault → IsUnmade most fault.kind fault.offset fault.size c z
-tests_over most y rva bytes fault c z same =
-    subst (λ (r : Result (Unit {0}) Fault). IfErr r (λ fault. IsUnmade most fault.kind fault.offset fault.size c z)) same (checked_over (bytes % 2 == 1) (is_inside (rva + 4) bytes y) most rva bytes c z)

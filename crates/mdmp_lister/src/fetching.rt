@@ -60,7 +60,7 @@ fn read_length<S: Store>(meter: &mut Meter<S>, rva: u64) -> Result<u32, FetchFau
 
 /// The name at `rva`, its units into the front of a buffer as long as the limit, or its fault: a
 /// length outside the file, an odd one, units outside. The units of a longer name are not fetched.
-#[tactic(auto, using(crate::proofs::Fetches::IsCaused_later, crate::proofs::Costs::source_name_cost, crate::proofs::Naming::source_reached, crate::proofs::Budgets::over_read), unfolding(crate::specs::Format::Name::name_at, mdmp_wire::specs::Number::array_at))]
+#[tactic(auto, unfolding(crate::specs::Format::Name::name_at, mdmp_wire::specs::Number::array_at))]
 pub(crate) fn read_name<S: Store>(
     meter: &mut Meter<S>,
     buffer: &mut [u8],

@@ -103,7 +103,7 @@ impl<S: Store + Drop, A: Allocator + Copy> Lister<S, A> {
     /// many ranges, want of memory, that the store failed, behind which nothing more is fetched, or that
     /// a fetch would have passed the budget, which is not made. What was fetched by then is within the
     /// budget.
-    #[tactic(auto, using(crate::proofs::Paying::bounded_new, crate::proofs::Fetches::IsCaused_later, crate::proofs::Refusals::IsHandedBack_bare, crate::proofs::Refusals::open_refusal))]
+    #[tactic(auto, using(crate::proofs::Paying::bounded_new))]
     pub fn open(
         alloc: A,
         source: Source<S>,

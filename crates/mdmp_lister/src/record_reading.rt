@@ -39,7 +39,7 @@ fn hold_record<S: Store, A: Allocator>(
 
 /// The record at `at`, whose bytes then stand at the front of the window, and its name, or the fault of its
 /// name. The bytes of a range of a 64-bit memory list stand at `offset`.
-#[tactic(auto, using(crate::proofs::RecordItems::item_read, crate::proofs::RecordItems::name_faulted, crate::proofs::Fetches::IsCausedAt_later, crate::proofs::Naming::source_reached, crate::proofs::Sliding::slides_then, crate::proofs::Sliding::slides_fault, crate::proofs::RecordItems::named_kind))]
+#[tactic(auto, using(crate::proofs::RecordItems::item_read, crate::proofs::RecordItems::name_faulted, crate::proofs::Sliding::slides_then, crate::proofs::Sliding::slides_fault, crate::proofs::RecordItems::named_kind))]
 pub(crate) fn read_item<S: Store, A: Allocator>(
     meter: &mut Meter<S>,
     window: &mut Window<A>,

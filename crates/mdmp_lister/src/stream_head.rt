@@ -22,7 +22,7 @@ const GREATEST_HEAD: usize = 16;
 
 /// What the head of a stream says, fetched past the window, or the first fault of the stream: too
 /// short for its head, a bad header size, a bad entry size, a bad count.
-#[tactic(auto, using(crate::proofs::Metering::Books_none, crate::proofs::Budgets::over_read), unfolding(crate::specs::Format::Shape::shape_of))]
+#[tactic(auto, unfolding(crate::specs::Format::Shape::shape_of))]
 pub(crate) fn fetch_head<S: Store>(
     meter: &mut Meter<S>,
     at: Location,
@@ -48,7 +48,7 @@ pub(crate) fn fetch_head<S: Store>(
 
 /// What the head of a stream says, or its first fault. A window is started over the stream, and then
 /// holds what was fetched of it; of a stream that is too short nothing is fetched.
-#[tactic(auto, using(crate::proofs::Sliding::fills_begun, crate::proofs::Budgets::over_read), unfolding(crate::specs::Format::Shape::shape_of))]
+#[tactic(auto, unfolding(crate::specs::Format::Shape::shape_of))]
 pub(crate) fn begin_stream<S: Store, A: Allocator>(
     meter: &mut Meter<S>,
     window: &mut Window<A>,

@@ -1,4 +1,4 @@
-use Rattle.std.proofs.Common.{◌≡◌, ◌∙◌, ◌≤◌, ℕ, List, None, Err, ap, arith, inr, refl, rules, subst}
+use Rattle.std.proofs.Common.{◌≡◌, ◌∙◌, ◌≤◌, ℕ, List, None, Ok, Err, ap, arith, inr, refl, rules, subst}
 use Rattle.std.proofs.lemmas.Bool.{le-ltb, lt-ltb}
 use Rattle.mdmp_source.specs.Source.{FetchesAtMost}
 use Rattle.mdmp_source.specs.SourceLaws.{fetches_then}
@@ -8,8 +8,9 @@ use Rattle.mdmp_lister.specs.Format.Refusal.{directory_refusal, most_ranges, ope
 use Rattle.mdmp_lister.specs.Opening.{IsOfHead, refusal_of_fetch}
 use Rattle.mdmp_lister.specs.StreamHead.{heads_ahead}
 use Rattle.mdmp_lister.proofs.Budgets.{over_fetched}
-use Rattle.mdmp_lister.proofs.Advancing.{IsHandedBack-counted, KeepsToBudget-counted}
-use Rattle.mdmp_lister.proofs.Refusals.{not_of_head}
+use Rattle.mdmp_lister.proofs.Advancing.{IsCaused-counted, IsHandedBack-counted, KeepsToBudget-counted}
+use Rattle.mdmp_lister.proofs.Fetches.{not_unread, unread_caused}
+use Rattle.mdmp_lister.proofs.Refusals.{IsHandedBack_bare, not_of_head, not_of_memory, open_refusal, refusal_of-directory, refusal_of_fetch-any, refusal_of_fetch-caused, refusal_of_fetch-long}
 use Rattle.mdmp_lister.proofs.lister.Lister.open.Goals as goal
 
 pub returns-in-Err-count_ranges-clause-handed_back : goal.returns-in-Err-count_ranges-clause-handed_back
@@ -104,3 +105,46 @@ returns-in-Ok-with_room-clause-new g c =
       range_room = λ file known. free ∙ counts.count file (new.spends.fetches.same_content ∙ known) ∙ ap (range_count file) new.choice_is;
       few = omega (arith, free);
     }
+
+pub returns-in-Err-clause-opens : goal.returns-in-Err-clause-opens
+returns-in-Err-clause-opens g c = λ file known. refusal_of-directory file c.args.choice c.args.source.size c.in-Err.refused.fault c.in-Err.ensures.refused.refusal (c.in-Err.ensures.refused.opens file known)
+
+pub returns-in-Err-clause-handed_back : goal.returns-in-Err-clause-handed_back
+returns-in-Err-clause-handed_back g c = IsHandedBack_bare c.args.choice c.args.source c.in-Err.refused.fault c.in-Err.refused.source c.in-Err.ensures.refused.handed_back
+
+pub returns-in-Err-clause-refusal : goal.returns-in-Err-clause-refusal
+returns-in-Err-clause-refusal g c = open_refusal c.args.source.size c.in-Err.refused.fault c.in-Err.ensures.refused.refusal
+
+pub returns-in-Err-count_ranges-clause-opens : goal.returns-in-Err-count_ranges-clause-opens
+returns-in-Err-count_ranges-clause-opens g c = λ file known. rw (c.refused.ensures.made, c.from.ensures) (refusal_of_fetch-any file c.args.choice c.in-Err-count_ranges.fault)
+
+pub returns-in-Err-count_ranges-clause-good : goal.returns-in-Err-count_ranges-clause-good
+returns-in-Err-count_ranges-clause-good g c =
+    let fault = c.in-Err-count_ranges.fault in
+    let caused = refusal_of_fetch-caused fault c.args.source c.count_ranges.new.self.meter.source
+    (IsCaused-counted c.args.source c.args.choice c.args.limits c.in-Ok.walk c.count_ranges.new.self (Err fault) c.in-Ok.ensures.new c.in-Err-count_ranges.ensures) in
+    rw (c.refused.ensures.made, c.from.ensures) (λ file good. not_unread (refusal_of_fetch fault) (caused.good file good))
+
+pub returns-in-Err-count_ranges-clause-refusal : goal.returns-in-Err-count_ranges-clause-refusal
+returns-in-Err-count_ranges-clause-refusal g c = rw (c.refused.ensures.made, c.from.ensures) (refusal_of_fetch-long c.args.source.size c.in-Err-count_ranges.fault c.in-Ok.ensures.new.reads.long)
+
+pub returns-in-Err-count_ranges-clause-memory : goal.returns-in-Err-count_ranges-clause-memory
+returns-in-Err-count_ranges-clause-memory g c = rw (c.refused.ensures.made, c.from.ensures) (λ memory. absurd (not_of_memory c.in-Err-count_ranges.fault memory))
+
+pub returns-in-Err-count_ranges-clause-cause : goal.returns-in-Err-count_ranges-clause-cause
+returns-in-Err-count_ranges-clause-cause g c =
+    let fault = c.in-Err-count_ranges.fault in
+    let caused = refusal_of_fetch-caused fault c.args.source c.count_ranges.new.self.meter.source
+    (IsCaused-counted c.args.source c.args.choice c.args.limits c.in-Ok.walk c.count_ranges.new.self (Err fault) c.in-Ok.ensures.new c.in-Err-count_ranges.ensures) in
+    rw (c.refused.ensures.made, c.from.ensures) (unread_caused (refusal_of_fetch fault) c.args.source c.count_ranges.new.self.meter.source caused)
+
+pub returns-then-count-gt-MOST_RANGES-clause-cause : goal.returns-then-count-gt-MOST_RANGES-clause-cause
+returns-then-count-gt-MOST_RANGES-clause-cause g c =
+    rw c.refused-then-count-gt-MOST_RANGES.ensures.made (IsCaused-counted c.args.source c.args.choice c.args.limits c.in-Ok.walk c.count_ranges.new.self (Ok c.in-Ok-count_ranges.count) c.in-Ok.ensures.new c.in-Ok-count_ranges.ensures).once
+
+pub returns-in-Err-with_room-clause-opens : goal.returns-in-Err-with_room-clause-opens
+returns-in-Err-with_room-clause-opens g c = λ file known. rw c.refused-in-Err-with_room.ensures.made (c.in-Ok.ensures.new.reads.opens file known)
+
+pub returns-in-Err-with_room-clause-cause : goal.returns-in-Err-with_room-clause-cause
+returns-in-Err-with_room-clause-cause g c =
+    rw c.refused-in-Err-with_room.ensures.made (IsCaused-counted c.args.source c.args.choice c.args.limits c.in-Ok.walk c.count_ranges.new.self (Ok c.in-Ok-count_ranges.count) c.in-Ok.ensures.new c.in-Ok-count_ranges.ensures).once
