@@ -14,9 +14,9 @@ use Rattle.mdmp_dump.specs.declared.view.ViewFault.{ViewFault}
 use Rattle.mdmp_dump.specs.declared.view.ViewFault.TheVariants as view
 use Rattle.mdmp_dump.specs.EntryWalk.{IsSameWalk, Pays, WalkReadsAside, WalkState, chosen_entry, kind_by, listed, name_cost, no_entry, pass_cost, raw_part}
 use Rattle.mdmp_dump.specs.FileRefusal.{body_told, entry_told, view_refusal}
-use Rattle.mdmp_dump.specs.FileView.{AreBare, HasMoved, IsViewPaid, IsPass, IsPassOf, IsView, IsViewed, TellsViewFault, costs_in, cursor_by, file_cursor, file_shape, first_pass, kind_at, opening_cost, names_owed, room_told, shape_by, source_fault, stream_of}
+use Rattle.mdmp_dump.specs.FileView.{AreBare, HasMoved, IsViewPaid, IsPass, IsPassOf, IsView, IsViewed, TellsViewFault, costs_in, cursor_by, file_cursor, file_shape, first_pass, kind_at, opening_cost, known_cursor, known_shape, names_owed, room_told, shape_by, source_fault, stream_of, unknown_cursor, unknown_shape}
 use Rattle.mdmp_dump.specs.FoundRecord.{no_part}
-use Rattle.mdmp_dump.specs.InFile.{stream_named}
+use Rattle.mdmp_dump.specs.InFile.{dump_in, stream_named}
 use Rattle.mdmp_dump.specs.Placed.{size_in}
 use Rattle.mdmp_dump.specs.Reading.{IsLastTold}
 use Rattle.mdmp_dump.specs.Shape.{GivesNone, parts_at, sizes_at}
@@ -61,6 +61,33 @@ module _ (w v : WalkState) (same : IsSameWalk w v) where
   pub opening_stays : (counts : List ℕ) → opening_cost v counts ≡ opening_cost w counts
   opening_stays counts = λ i. 32 + 12 * (same.header i).number_of_streams + sum (costs_in (same.chosen i) counts)
 
+  pub shape_stays : (Z : Type 0) (counts rooms : List ℕ) → file_shape Z v counts rooms ≡ file_shape Z w counts rooms
+  shape_stays Z counts rooms =
+      ap (λ (c : Option (List ℕ)). shape_by Z c v counts rooms) same.fetches.fetches.same_content
+      ∙ by_content (λ c. shape_by Z c v counts rooms ≡ shape_by Z c w counts rooms) w.source.store.content
+      (λ i. unknown_shape (record w { header = same.header i; chosen = same.chosen i }) counts rooms)
+      (λ F known i.
+      known_shape (dump_in {Z = Z} F (same.choice i))
+      (record w { source = record w.source { store = record w.source.store { is_reliable = same.fetches.fetches.same_reliable i } }; chosen = same.chosen i })
+      counts)
+
+  pub cursor_stays : (Z : Type 0) (pass : Option Pass) → file_cursor Z v pass ≡ file_cursor Z w pass
+  cursor_stays Z None = refl
+  cursor_stays Z (Some p) =
+      ap (λ (c : Option (List ℕ)). cursor_by Z c v p) same.fetches.fetches.same_content
+      ∙ by_content (λ c. cursor_by Z c v p ≡ cursor_by Z c w p) w.source.store.content
+      (λ i. unknown_cursor (record w { chosen = same.chosen i }) p)
+      (λ F known i. known_cursor Z F (record w { chosen = same.chosen i }) p)
+
+  -- no fault is told behind it
+  pub moves_quiet : (before : Option ViewFault) → HasMoved w before v None
+  moves_quiet before = record { header = same.header; choice = same.choice; chosen = same.chosen; held = same.held; start = same.start; fetches = same.fetches; told = tt }
+
+  -- or one that was told in it
+  pub moves_told : (before : Option ViewFault) (fault : ViewFault) → IsLastTold (source_fault fault) w.source v.source → HasMoved w before v (Some fault)
+  moves_told before fault told =
+      record { header = same.header; choice = same.choice; chosen = same.chosen; held = same.held; start = same.start; fetches = same.fetches; told = inr told }
+
   pub viewed_stays : (Z : Type 0) (F : List ℕ) (limit : ℕ) (counts rooms : List ℕ) → IsViewed Z F limit w counts rooms → IsViewed Z F limit v counts rooms
   viewed_stays Z F limit counts rooms is = record {
     size = same.fetches.fetches.same_size ∙ is.size;
@@ -73,6 +100,17 @@ module _ (w v : WalkState) (same : IsSameWalk w v) where
         is.roomed k (omega (arith, inside, ap (λ (xs : List Numbered). length xs) same.chosen))
         ∙ ap (λ (x : Numbered). room_told (stream_named {Z = Z} F x.entry)) (sym (entry_stays k));
   }
+
+-- bytes are read beside the walk
+pub aside_same : {count : ℕ} {w v : WalkState} {result : Result (Unit {0}) SourceFault} → WalkReadsAside count w result v → IsSameWalk w v
+aside_same reads = record {
+  header = ap (λ (u : WalkState). u.header) reads.same;
+  choice = ap (λ (u : WalkState). u.choice) reads.same;
+  chosen = ap (λ (u : WalkState). u.chosen) reads.same;
+  held = ap (λ (u : WalkState). u.held) reads.same;
+  start = ap (λ (u : WalkState). u.start) reads.same;
+  fetches = reads.fetches;
+}
 
 -- ---- a pass that begins
 
@@ -123,6 +161,12 @@ first_same w v same k n r = ap (λ (x : Numbered). first_by x k n r) (sym (entry
   first_by x k n r = record { stream = k; rva = x.entry.location.rva; given = 0; left = n; room = r; met = 0; parts = raw_part x.entry ∷ no_part ∷ no_part ∷ [] }
 
 -- ---- a view
+
+-- where the store cannot be a good one, no view is reliable
+unreliable : (Z : Type 0) (w : WalkState) (counts rooms : List ℕ) → ((F : List ℕ) → IsGood w.source.store F → ⊥) → IsTrue (file_shape Z w counts rooms).is_reliable → ⊥
+unreliable Z w counts rooms none = by_content (λ c. IsTrue (shape_by Z c w counts rooms).is_reliable → ⊥) w.source.store.content
+    (λ reliable. absurd (let no = reliable in cc))
+    (λ F known reliable. none F (record { known = known; reliable = reliable }))
 
 module _ (Z : Type 0) (limit : ℕ) (w : WalkState) (counts rooms : List ℕ) (pass : Option Pass) (passed asked : ℕ) (last : Option ViewFault)
     (is : IsView Z limit w counts rooms pass passed asked last) (v : WalkState) (same : IsSameWalk w v) where
@@ -275,14 +319,21 @@ module _ (Z : Type 0) (limit : ℕ) (w : WalkState) (counts rooms : List ℕ) (p
 
   -- over a good store there is no fault
   pub reliable_err : {T : Type 0} (fault : ViewFault) → TellsViewFault {T = T} w (Err fault) v → IsTrue (file_shape Z w counts rooms).is_reliable → ⊥
-  reliable_err fault tells = by_content (λ c. IsTrue (shape_by Z c w counts rooms).is_reliable → ⊥) w.source.store.content
-      (λ reliable. absurd (let no = reliable in cc))
-      (λ F known reliable.
-      let good : IsGood w.source.store F = record { known = known; reliable = reliable } in
-      let ok = tells.good F good (is.steady F good) in
-      cc)
+  reliable_err fault tells = unreliable Z w counts rooms (λ F good. let ok = tells.good F good (is.steady F good) in cc)
 
 -- ---- bytes that are asked of a part
+
+-- a view without a pass has no records and no bytes
+pub records_none : (Z : Type 0) (w : WalkState) (pass : Option Pass) → pass ≡ None → 0 < (file_cursor Z w pass).records → ⊥
+records_none Z w pass none some = (let no = ap (λ (o : Option Pass). (file_cursor Z w o).records) none in omega (arith, some, no))
+
+pub bytes_none : (Z : Type 0) (w : WalkState) (pass : Option Pass) (which at n : ℕ) → pass ≡ None → at + n ≤ (file_cursor Z w pass).sizes which → 0 < n → ⊥
+bytes_none Z w pass which at n none asks some = (let no = ap (λ (o : Option Pass). (file_cursor Z w o).sizes which) none in omega (arith, asks, some, no))
+
+-- none of a good store is refused
+pub reliable_read : (Z : Type 0) (w : WalkState) (counts rooms : List ℕ) {count : ℕ} {fault : SourceFault} {v : WalkState} → WalkReadsAside count w (Err fault) v
+    → IsTrue (file_shape Z w counts rooms).is_reliable → ⊥
+reliable_read Z w counts rooms reads = unreliable Z w counts rooms (λ F good. let ok = reads.good F good in cc)
 
 -- there are so many parts
 which_in : (ps : List PartAt) (k : ℕ) → length ps ≡ 3 → 0 < size_in (get_or ps k no_part).size → k < 3
@@ -299,6 +350,30 @@ bytes_behind F at more n size within =
     ∙ sym (take-take n (size - more) (drop more (drop at F)) (omega (arith, within)))
     ∙ ap (λ (xs : List ℕ). take n xs) (sym (drop-take more (size - more) (drop at F)))
     ∙ ap (λ (m : ℕ). take n (drop more (take m (drop at F)))) (sym whole)
+
+-- no bytes were asked for
+pub view_unasked : (Z : Type 0) (limit : ℕ) (w : WalkState) (counts rooms : List ℕ) (pass : Option Pass) (passed asked : ℕ) (last : Option ViewFault) → IsView Z limit w counts rooms pass passed asked last
+    → (more : ℕ) → more ≡ min (asked + 0) (2 ^ 128 - 1) → IsView Z limit w counts rooms pass passed more last
+view_unasked Z limit w counts rooms pass passed asked last is more sum_is = record {
+  counted = is.counted;
+  roomed = is.roomed;
+  few = is.few;
+  light = is.light;
+  passing = is.passing;
+  paid = record {
+    bytes = λ low.
+        let same : more ≡ asked = omega (arith, uncut asked 0 more (opening_cost w counts + passed) sum_is low) in
+        subst (λ (n : ℕ). w.allowed + w.aside + names_owed w pass ≤ opening_cost w counts + passed + n) (sym same) (is.paid.bytes (subst (λ (n : ℕ). opening_cost w counts + passed + n < 2 ^ 128 - 1) same low));
+    names = λ low.
+        let same : more ≡ asked = omega (arith, uncut asked 0 more (opening_cost w counts + passed) sum_is low) in
+        subst (λ (n : ℕ). 4 * w.names + names_owed w pass ≤ opening_cost w counts + passed + n) (sym same) (is.paid.names (subst (λ (n : ℕ). opening_cost w counts + passed + n < 2 ^ 128 - 1) same low));
+  };
+  bare = is.bare;
+  of_file = is.of_file;
+  pass_of = is.pass_of;
+  ended = is.ended;
+  steady = is.steady;
+}
 
 -- ---- what is left of a pass
 
@@ -360,15 +435,8 @@ module _ (Z : Type 0) (limit : ℕ) (w : WalkState) (counts rooms : List ℕ) (p
   -- bytes were read beside the walk
   module _ (count more : ℕ) (result : Result (Unit {0}) SourceFault) (v : WalkState) (reads : WalkReadsAside count w result v)
       (sum_is : opening_cost w counts + passed + more < 2 ^ 128 - 1 → more ≡ asked + count) where
-    pub read_same : IsSameWalk w v
-    read_same = record {
-      header = ap (λ (u : WalkState). u.header) reads.same;
-      choice = ap (λ (u : WalkState). u.choice) reads.same;
-      chosen = ap (λ (u : WalkState). u.chosen) reads.same;
-      held = ap (λ (u : WalkState). u.held) reads.same;
-      start = ap (λ (u : WalkState). u.start) reads.same;
-      fetches = reads.fetches;
-    }
+    read_same : IsSameWalk w v
+    read_same = aside_same reads
 
     still_going : v.failed ≡ None
     still_going = ap (λ (u : WalkState). u.failed) reads.same ∙ unended

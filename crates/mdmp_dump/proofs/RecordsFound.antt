@@ -129,6 +129,17 @@ pub left_some : (passed : ℕ) (stop : Option (Option ListFault)) (records : ℕ
 left_some passed None records some = (refl, some_left passed records (passed == 0) refl some)
 left_some passed (Some stop) records some = absurd (omega (arith, some))
 
+-- while some are left the answer is not the end
+pub none_given : (old new : WalkerState) → 0 < records_to_give old.list → WalkerLeaves old (Ok None) new → ⊥
+none_given old new left leaves =
+    let some = left_some old.list.passed old.list.stop old.list.records left in
+    let none = leaves.list.places.records in
+    omega (arith, left, some.1.0, none)
+
+-- and behind a fault none are left
+pub far_fault : (old new : WalkerState) (f : ListFault) → WalkerLeaves old (Err f) new → (far : Bool) → IsFar new.list far
+far_fault old new f leaves far some = absurd (let none = ap (λ (stop : Option (Option ListFault)). left_by new.list.passed stop new.list.records) leaves.list.stands.stop in omega (arith, some, none))
+
 -- of a known file they have a shape
 pub record Counted (F : List ℕ) (e : Entry) (n : ℕ) : Type 0 where
   pub placed : location_fault (length F) e ≡ None

@@ -23,7 +23,7 @@ use Rattle.mdmp_dump.specs.declared.dump.Stream.TheVariants as streams
 use Rattle.mdmp_dump.specs.declared.reader.Reader.{Reader}
 use Rattle.mdmp_dump.specs.LaysOut.{HasBytes}
 use Rattle.mdmp_dump.specs.Left.{is_item_of, left_from, run_of}
-use Rattle.mdmp_dump.specs.Reading.{HasBytesAt, HasOneRecord, IsEntryRead, IsLeftBehind, IsNextStream, IsOneStream, IsRaw, NoRowFirst, Settles, TakesSteps, owed, refusal_in}
+use Rattle.mdmp_dump.specs.Reading.{HasBytesAt, HasOneRecord, IsEntryRead, IsGoing, IsLeftBehind, IsNextStream, IsOneStream, IsRaw, ListingGoesOn, NoRowFirst, Settles, TakesSteps, owed, refusal_in}
 use Rattle.mdmp_dump.specs.Refusal.{ReadStep, Take, first_refusal, stream_steps}
 use Rattle.mdmp_dump.proofs.Taking.{FetchesSome_none}
 use Rattle.mdmp_dump.proofs.Left.{all_given, no_row_first, stream_given}
@@ -67,6 +67,12 @@ pub record RawTaken {S A Z : Type 0} (old : Reader S A) (item : StreamItem) (str
       → first_refusal old.left 0 (stream_steps (length F) item.entry item.stream_type item.location ++ rest) last ≡ first_refusal new.left 0 rest last
   pub value : (F : List ℕ) → old.lister.source.store.content ≡ Some F → IsRaw item.stream_type → IsTrue (is_inside item.location.rva item.location.size (length F))
       → RawValue F item stream
+
+-- and behind them the listing goes on as it did before
+pub raw_going : {S A Z : Type 0} (old mid : Reader S A) (item : StreamItem) (stream : Option (Stream Z)) → RawTaken old item stream mid → (next : Option StreamItem) (new : ListerState)
+    → IsGoing mid.lister next new → IsGoing old.lister next new
+raw_going old mid item stream taken None new going = tt
+raw_going old mid item stream taken (Some behind) new going = subst (λ (l : ListerState). ListingGoesOn l new) taken.same going
 
 raw_steps : (size e t : ℕ) (at : Location) (b : Bool) → IsRaw t → is_inside at.rva at.size size ≡ b → stream_steps size e t at ≡ (if b then Take e 0 at.size ∷ [] else [])
 raw_steps size e t at b raw is =

@@ -1,10 +1,10 @@
-use Rattle.std.proofs.Common.{◌≡◌, ◌∙◌, ◌≤◌, ◌^◌, ◌-◌, arith, slice_get, Err, Ok, Some}
+use Rattle.std.proofs.Common.{◌≡◌, ◌∙◌, ◌≤◌, ◌^◌, ◌-◌, arith, slice_get, Err, Ok, None, Some}
 use Rattle.mdmp_lister.specs.Format.Kind.{kind_of}
 use Rattle.mdmp_dump.specs.Walking.{lists_memory64}
 use Rattle.mdmp_lister.specs.Format.Item.{plain}
 use Rattle.mdmp_lister.specs.Format.Listing.{Run}
 use Rattle.mdmp_lister.specs.Walker.{WalkerLeaves}
-use Rattle.mdmp_dump.proofs.RecordsFound.{far_record, gives_fault, gives_next, kept_fault, kept_record, record_is, record_placed}
+use Rattle.mdmp_dump.proofs.RecordsFound.{far_fault, far_record, gives_fault, gives_next, kept_fault, kept_record, none_given, record_is, record_placed}
 use Rattle.mdmp_dump.proofs.entry_walk.found_next.Goals as goal
 
 pub found_item-requires : goal.found_item-requires
@@ -46,3 +46,38 @@ pub returns-in-Err-clause-kept : goal.returns-in-Err-clause-kept
 returns-in-Err-clause-kept g c =
     let leaves : WalkerLeaves c.args.walker.now (Err c.in-Err.fault) c.next.follows.lender-at-none = rw (c.in-Err.is) at c.next.follows.holds-at-none in
     kept_fault c.args.walker.now c.next.follows.lender-at-none c.requires.kept c.requires.left c.in-Err.fault leaves
+
+pub returns-in-Ok-Some-clause-same : goal.returns-in-Ok-Some-clause-same
+returns-in-Ok-Some-clause-same g c =
+    let leaves : WalkerLeaves c.args.walker.now (Ok (Some c.in-Ok-Some.item)) c.next.follows.lender-at-none = rw (c.in-Ok-Some.is, c.in-Ok-Some.field-0-is) at c.next.follows.holds-at-none in
+    leaves.list.same
+
+pub returns-in-Ok-None-clause-gives : goal.returns-in-Ok-None-clause-gives
+returns-in-Ok-None-clause-gives g c =
+    let leaves : WalkerLeaves c.args.walker.now (Ok None) c.next.follows.lender-at-none = rw (c.in-Ok-None.is, c.in-Ok-None.field-0-is) at c.next.follows.holds-at-none in
+    absurd (none_given c.args.walker.now c.next.follows.lender-at-none c.requires.left leaves)
+
+pub returns-in-Ok-None-clause-kept : goal.returns-in-Ok-None-clause-kept
+returns-in-Ok-None-clause-kept g c =
+    let leaves : WalkerLeaves c.args.walker.now (Ok None) c.next.follows.lender-at-none = rw (c.in-Ok-None.is, c.in-Ok-None.field-0-is) at c.next.follows.holds-at-none in
+    absurd (none_given c.args.walker.now c.next.follows.lender-at-none c.requires.left leaves)
+
+pub returns-in-Ok-None-clause-same : goal.returns-in-Ok-None-clause-same
+returns-in-Ok-None-clause-same g c =
+    let leaves : WalkerLeaves c.args.walker.now (Ok None) c.next.follows.lender-at-none = rw (c.in-Ok-None.is, c.in-Ok-None.field-0-is) at c.next.follows.holds-at-none in
+    absurd (none_given c.args.walker.now c.next.follows.lender-at-none c.requires.left leaves)
+
+pub returns-in-Ok-None-clause-far : goal.returns-in-Ok-None-clause-far
+returns-in-Ok-None-clause-far g c =
+    let leaves : WalkerLeaves c.args.walker.now (Ok None) c.next.follows.lender-at-none = rw (c.in-Ok-None.is, c.in-Ok-None.field-0-is) at c.next.follows.holds-at-none in
+    λ some. absurd (none_given c.args.walker.now c.next.follows.lender-at-none c.requires.left leaves)
+
+pub returns-in-Err-clause-far : goal.returns-in-Err-clause-far
+returns-in-Err-clause-far g c =
+    let leaves : WalkerLeaves c.args.walker.now (Err c.in-Err.fault) c.next.follows.lender-at-none = rw (c.in-Err.is) at c.next.follows.holds-at-none in
+    far_fault c.args.walker.now c.next.follows.lender-at-none c.in-Err.fault leaves (lists_memory64 (kind_of c.args.begun.stream_type))
+
+pub returns-in-Err-clause-same : goal.returns-in-Err-clause-same
+returns-in-Err-clause-same g c =
+    let leaves : WalkerLeaves c.args.walker.now (Err c.in-Err.fault) c.next.follows.lender-at-none = rw (c.in-Err.is) at c.next.follows.holds-at-none in
+    leaves.list.same

@@ -4,7 +4,7 @@ use Rattle.mdmp_wire.specs.declared.entry.Entry.{Entry}
 use Rattle.mdmp_dump.specs.declared.pass.Pass.{Pass}
 use Rattle.mdmp_dump.specs.EntryWalk.{Begins, WalkState, chosen_entry, no_entry, raw_part}
 use Rattle.mdmp_dump.specs.FoundRecord.{IsPartIn, no_part}
-use Rattle.mdmp_dump.proofs.FaultsTold.{begin_refused, going_on, same_count, tells_change}
+use Rattle.mdmp_dump.proofs.FaultsTold.{begin_refused, going_on, same_count, tells_change, tells_ok}
 use Rattle.mdmp_dump.proofs.FileViews.{raw_parts}
 use Rattle.mdmp_dump.proofs.Viewed.{raw_inside}
 use Rattle.mdmp_dump.proofs.pass.begin_pass.Goals as goal
@@ -66,3 +66,24 @@ returns-clause-begins g c =
         parts = part i ∷ no_part ∷ no_part ∷ [];
       },
     )
+
+pub returns-in-Err-clause-pays : goal.returns-in-Err-clause-pays
+returns-in-Err-clause-pays g c =
+    let begins = subst (λ (v : WalkState). Begins v c.args.stream (Err c.in-Err.fault) c.begin.new.self) c.entry-entry.ensures.same c.in-Err.ensures in
+    begins.pays
+
+pub returns-then-now-count-clause-pays : goal.returns-then-now-count-clause-pays
+returns-then-now-count-clause-pays g c =
+    let begins = subst (λ (v : WalkState). Begins v c.args.stream (Ok c.in-Ok.now) c.begin.new.self) c.entry-entry.ensures.same c.in-Ok.ensures in
+    begins.pays
+
+pub returns-clause-pays : goal.returns-clause-pays
+returns-clause-pays g c =
+    let begins = subst (λ (v : WalkState). Begins v c.args.stream (Ok c.in-Ok.now) c.begin.new.self) c.entry-entry.ensures.same c.in-Ok.ensures in
+    begins.pays
+
+pub returns-clause-tells : goal.returns-clause-tells
+returns-clause-tells g c =
+    let w = c.args.walk.now in
+    let begins = subst (λ (v : WalkState). Begins v c.args.stream (Ok c.in-Ok.now) c.begin.new.self) c.entry-entry.ensures.same c.in-Ok.ensures in
+    tells_ok Pass w c.begin.new.self _ begins.failed (going_on w c.begin.new.self c.args.stream c.args.count c.requires.counted c.in-Ok.now begins)

@@ -1,5 +1,5 @@
-use Rattle.std.proofs.Common.{◌≡◌, ◌∙◌, Err, Ok, sym}
-use Rattle.mdmp_dump.proofs.Streams.{RawTaken, raw_left, raw_read, raw_taken}
+use Rattle.std.proofs.Common.{◌∙◌, Err, Ok, sym}
+use Rattle.mdmp_dump.proofs.Streams.{RawTaken, raw_going, raw_left, raw_read, raw_taken}
 use Rattle.mdmp_dump.proofs.Taking.{fetches_err, fetches_ok, refused_by}
 use Rattle.mdmp_dump.proofs.read.read_raw.Goals as goal
 use Rattle.mdmp_dump.proofs.read.read_raw.Goals.{else-inside, then-inside+in_ok-bytes}
@@ -59,3 +59,16 @@ returns-in_err-behind-clause-of_file g c =
     let fault = c.in_err-behind.field-0.0 in
     let is = refused_by c.from_residual-in_err-behind.result fault c.from_residual-in_err-behind.ensures.1 in
     rw is (λ file limit x xs known left same raw. raw_read old mid c.behind.new.self item c.if-inside.stream taken file limit x xs known left same raw (Err fault) c.in_err-behind.ensures.gives)
+
+pub returns-clause-going : goal.returns-clause-going
+returns-clause-going g c =
+    let old = c.args.reader.now in
+    let item = c.args.item in
+    let mid = c.if-inside.reader in
+    let taken : RawTaken old item c.if-inside.stream mid = elim c.if-inside.branch [
+      | then-inside+in_ok-bytes w ↦ raw_taken old item c.size.result c.size.ensures.content c.from-at.result c.from-size.result c.from-at.ensures c.from-size.ensures c.if-inside.stream mid
+          w.in_ok-bytes.field-0 w.bytes.new.self (sym c.inside.ensures.value ∙ w.if-inside.true) w.in_ok-bytes.ensures.takes w.in_ok-bytes.ensures.of_file w.reader-is w.stream-is
+      | else-inside w ↦ raw_left old item c.size.result c.size.ensures.content c.from-at.result c.from-size.result c.from-at.ensures c.from-size.ensures c.if-inside.stream mid
+          (sym c.inside.ensures.value ∙ w.if-inside.false) w.reader-is w.stream-is
+    ] in
+    raw_going old mid item c.if-inside.stream taken c.in_ok-behind.field-0 c.behind.new.self.lister c.in_ok-behind.ensures.going

@@ -97,3 +97,6 @@ pub put_stream_parts-requires-clause-parts : goal.put_stream_parts-requires-clau
 put_stream_parts-requires-clause-parts g c =
     let k = c.args.stream in
     room_parts (stream_at (g.V.DumpView.shape c.args.view.now) k) c.args.room c.requires.room ∙ ap (λ (u : ViewShape). room_of (stream_at u k)) (sym c.put_body.ensures.uses.shape)
+
+pub returns-in-Ok-put_padding-clause-moves : goal.returns-in-Ok-put_padding-clause-moves
+returns-in-Ok-put_padding-clause-moves g c = g.met.V.DumpView.follows _ _ _ c.in-Ok.ensures.moves c.put_stream_parts.ensures.moves

@@ -4,7 +4,7 @@ use Rattle.mdmp_dump.specs.Shape.{StreamCursor, head_by, row_by, seen_at}
 use Rattle.mdmp_writer.specs.RecordTexts.{bytes_of_rows}
 use Rattle.mdmp_writer.specs.Written.{head_by_kind, rows}
 use Rattle.mdmp_writer.proofs.Blocks.{begun_seen, known_count}
-use Rattle.mdmp_writer.proofs.Causes.{uses_none, uses_pass, uses_sent, uses_then}
+use Rattle.mdmp_writer.proofs.Causes.{uses_fault, uses_none, uses_out, uses_pass, uses_sent, uses_then, uses_within}
 use Rattle.mdmp_writer.proofs.Counting.{no_rows, ok_is, ok_then}
 use Rattle.mdmp_writer.proofs.Sending.{writes_then}
 use Rattle.mdmp_writer.proofs.body_out.put_body.Goals as goal
@@ -35,3 +35,16 @@ returns-in-Ok-put_head-clause-uses g c =
     uses_then
     (uses_sent (uses_pass _ uses_none c.rewind.ensures.shape c.in-Ok.ensures.passed c.in-Ok.ensures.asked) c.in-Ok-put_head.ensures.cause)
     c.put_record_texts.ensures.uses (omega arith) (omega arith)
+
+pub returns-in-Err-put_head-clause-uses : goal.returns-in-Err-put_head-clause-uses
+returns-in-Err-put_head-clause-uses g c =
+    uses_within
+    (uses_out (uses_pass _ uses_none c.rewind.ensures.shape c.in-Ok.ensures.passed c.in-Ok.ensures.asked) c.in-Err-put_head.ensures.cause) (omega arith) (omega arith)
+
+pub returns-in-Err-clause-uses : goal.returns-in-Err-clause-uses
+returns-in-Err-clause-uses g c =
+    let of = c.in-Err.ensures in
+    uses_fault uses_none c.rewind.ensures.shape of.reliable of.passed (omega (arith, of.asked)) of.told
+
+pub returns-in-Ok-put_head-clause-moves : goal.returns-in-Ok-put_head-clause-moves
+returns-in-Ok-put_head-clause-moves g c = g.met.V.DumpView.follows _ _ _ c.in-Ok.ensures.moves c.put_record_texts.ensures.moves

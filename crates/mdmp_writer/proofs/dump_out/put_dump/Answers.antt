@@ -5,7 +5,7 @@ use Rattle.mdmp_dump.specs.View.{DumpSeen}
 use Rattle.mdmp_writer.specs.Layout.{blocks_end, blocks_size, fars_size, first_block}
 use Rattle.mdmp_writer.specs.Passes.{all_asks, all_costs}
 use Rattle.mdmp_writer.specs.Written.{blocks, directory, far_texts, header_of, seen_text}
-use Rattle.mdmp_writer.proofs.Causes.{uses_asked, uses_none, uses_sent, uses_then}
+use Rattle.mdmp_writer.proofs.Causes.{uses_asked, uses_none, uses_out, uses_sent, uses_then, uses_within}
 use Rattle.mdmp_writer.proofs.Counting.{dump_then, ok_is}
 use Rattle.mdmp_writer.proofs.Sending.{cut_before, cut_behind, cut_same, puts_puts, writes_same, writes_then}
 use Rattle.mdmp_writer.proofs.Streaming.{text_parts}
@@ -69,3 +69,23 @@ returns-in-Ok-put_directory-clause-uses g c =
     uses_then
     (uses_sent (uses_asked head c.put_directory.ensures.shape c.put_directory.ensures.spent) c.in-Ok-put_directory.ensures.cause)
     c.put_streams.ensures.uses (omega (arith, ap (λ (t : ViewShape). all_costs t) same)) (omega (arith, ap (λ (t : ViewShape). all_asks t) same))
+
+pub returns-in-Err-put_directory-clause-uses : goal.returns-in-Err-put_directory-clause-uses
+returns-in-Err-put_directory-clause-uses g c =
+    let asked = uses_asked uses_none (c.streams-streams.ensures.shape ∙ c.header-header.ensures.shape) (c.streams-streams.ensures.spent ∙ c.header-header.ensures.spent) in
+    let head = uses_sent {o = g.O.Out.state c.put_header.new.out} asked c.in-Ok.ensures.cause in
+    uses_within (uses_out (uses_asked head c.put_directory.ensures.shape c.put_directory.ensures.spent) c.in-Err-put_directory.ensures.cause) (omega arith) (omega arith)
+
+pub returns-in-Err-clause-uses : goal.returns-in-Err-clause-uses
+returns-in-Err-clause-uses g c =
+    let asked = uses_asked uses_none (c.streams-streams.ensures.shape ∙ c.header-header.ensures.shape) (c.streams-streams.ensures.spent ∙ c.header-header.ensures.spent) in
+    uses_within (uses_out asked c.in-Err.ensures.cause) (omega arith) (omega arith)
+
+pub returns-in-Ok-put_directory-clause-moves : goal.returns-in-Ok-put_directory-clause-moves
+returns-in-Ok-put_directory-clause-moves g c = g.met.V.DumpView.follows _ _ _ (g.met.V.DumpView.follows _ _ _ (g.met.V.DumpView.follows _ _ _ c.header-header.ensures.moves c.streams-streams.ensures.moves) c.put_directory.ensures.moves) c.put_streams.ensures.moves
+
+pub returns-in-Err-put_directory-clause-moves : goal.returns-in-Err-put_directory-clause-moves
+returns-in-Err-put_directory-clause-moves g c = g.met.V.DumpView.follows _ _ _ (g.met.V.DumpView.follows _ _ _ c.header-header.ensures.moves c.streams-streams.ensures.moves) c.put_directory.ensures.moves
+
+pub returns-in-Err-clause-moves : goal.returns-in-Err-clause-moves
+returns-in-Err-clause-moves g c = g.met.V.DumpView.follows _ _ _ c.header-header.ensures.moves c.streams-streams.ensures.moves

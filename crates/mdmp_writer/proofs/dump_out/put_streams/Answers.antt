@@ -6,7 +6,7 @@ use Rattle.mdmp_writer.specs.Written.{blocks, far_texts}
 use Rattle.mdmp_writer.proofs.Causes.{uses_then, uses_within}
 use Rattle.mdmp_writer.proofs.Counting.{ok_is, ok_then}
 use Rattle.mdmp_writer.proofs.Passing.{asks_within, passes_within}
-use Rattle.mdmp_writer.proofs.Sending.{writes_then}
+use Rattle.mdmp_writer.proofs.Sending.{cut_before, writes_then}
 use Rattle.mdmp_writer.proofs.dump_out.put_streams.Goals as goal
 
 pub returns-in-Ok-clause-writes : goal.returns-in-Ok-clause-writes
@@ -31,3 +31,9 @@ pub returns-in-Err-clause-uses : goal.returns-in-Err-clause-uses
 returns-in-Err-clause-uses g c =
     let s = g.V.DumpView.shape c.args.view.now in
     uses_within c.in-Err.ensures.uses (omega (arith, passes_within s)) (omega (arith, asks_within s))
+
+pub returns-in-Ok-clause-moves : goal.returns-in-Ok-clause-moves
+returns-in-Ok-clause-moves g c = g.met.V.DumpView.follows _ _ _ c.in-Ok.ensures.moves c.put_fars.ensures.moves
+
+pub returns-in-Err-clause-writes : goal.returns-in-Err-clause-writes
+returns-in-Err-clause-writes g c x known all = cut_before _ _ (blocks x.streams c.args.first.at c.args.first.far) (far_texts x.streams) (c.in-Err.ensures.writes x known all)

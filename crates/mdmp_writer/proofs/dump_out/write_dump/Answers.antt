@@ -1,6 +1,6 @@
-use Rattle.std.proofs.Common.{◌≡◌, ◌∙◌, ap, refl, subst, Some, Err, true}
+use Rattle.std.proofs.Common.{◌≡◌, ◌∙◌, ap, refl, subst, Some, Err, true, arith}
 use Rattle.mdmp_dump.specs.View.{dump_seen}
-use Rattle.mdmp_dump.specs.Shape.{ViewShape}
+use Rattle.mdmp_dump.specs.Shape.{Spent, ViewShape}
 use Rattle.mdmp_writer.specs.Gather.{Gathers, GathersPrefix, gathered}
 use Rattle.mdmp_writer.specs.Layout.{file_size, size_or}
 use Rattle.mdmp_writer.specs.Written.{written}
@@ -9,6 +9,7 @@ use Rattle.mdmp_writer.proofs.Causes.{cause_of_output}
 use Rattle.mdmp_writer.proofs.Counting.{dump_out}
 use Rattle.mdmp_writer.proofs.Runs.{all_of_dump, all_out, cut_of_dump, cut_out, fault_of_dump, size_of_shape, stopped}
 use Rattle.mdmp_writer.proofs.Sending.{puts_all, puts_flush}
+use Rattle.mdmp_writer.specs.Passes.{all_asks, all_costs}
 use Rattle.mdmp_writer.proofs.dump_out.write_dump.Goals as goal
 
 pub returns-in-Err-clause-writes : goal.returns-in-Err-clause-writes
@@ -52,3 +53,56 @@ returns-in-Ok-flush-clause-out g c =
 
 pub returns-in-Err-clause-ends : goal.returns-in-Err-clause-ends
 returns-in-Err-clause-ends g c = (ap (size_or (file_size (g.V.DumpView.shape c.args.view.now).streams)) c.in-Err.ensures.ends, refl)
+
+pub returns-in-Ok-flush-clause-shape : goal.returns-in-Ok-flush-clause-shape
+returns-in-Ok-flush-clause-shape g c = c.in-Ok-put_dump.ensures.uses.shape ∙ c.layout.ensures.shape
+
+pub returns-in-Ok-flush-clause-passed : goal.returns-in-Ok-flush-clause-passed
+returns-in-Ok-flush-clause-passed g c =
+    omega (arith, c.in-Ok-put_dump.ensures.uses.passed, ap (λ (q : Spent). q.passed) c.layout.ensures.spent, ap (λ (t : ViewShape). all_costs t) c.layout.ensures.shape)
+
+pub returns-in-Ok-flush-clause-asked : goal.returns-in-Ok-flush-clause-asked
+returns-in-Ok-flush-clause-asked g c =
+    omega (arith, c.in-Ok-put_dump.ensures.uses.asked, ap (λ (q : Spent). q.asked) c.layout.ensures.spent, ap (λ (t : ViewShape). all_asks t) c.layout.ensures.shape)
+
+pub returns-in-Ok-flush-clause-moves : goal.returns-in-Ok-flush-clause-moves
+returns-in-Ok-flush-clause-moves g c = g.met.V.DumpView.follows _ _ _ c.layout.ensures.moves c.in-Ok-put_dump.ensures.moves
+
+pub returns-in-Err-flush-clause-shape : goal.returns-in-Err-flush-clause-shape
+returns-in-Err-flush-clause-shape g c = c.in-Ok-put_dump.ensures.uses.shape ∙ c.layout.ensures.shape
+
+pub returns-in-Err-flush-clause-passed : goal.returns-in-Err-flush-clause-passed
+returns-in-Err-flush-clause-passed g c =
+    omega (arith, c.in-Ok-put_dump.ensures.uses.passed, ap (λ (q : Spent). q.passed) c.layout.ensures.spent, ap (λ (t : ViewShape). all_costs t) c.layout.ensures.shape)
+
+pub returns-in-Err-flush-clause-asked : goal.returns-in-Err-flush-clause-asked
+returns-in-Err-flush-clause-asked g c =
+    omega (arith, c.in-Ok-put_dump.ensures.uses.asked, ap (λ (q : Spent). q.asked) c.layout.ensures.spent, ap (λ (t : ViewShape). all_asks t) c.layout.ensures.shape)
+
+pub returns-in-Err-flush-clause-moves : goal.returns-in-Err-flush-clause-moves
+returns-in-Err-flush-clause-moves g c = g.met.V.DumpView.follows _ _ _ c.layout.ensures.moves c.in-Ok-put_dump.ensures.moves
+
+pub returns-in-Err-put_dump-clause-shape : goal.returns-in-Err-put_dump-clause-shape
+returns-in-Err-put_dump-clause-shape g c = c.in-Err-put_dump.ensures.uses.shape ∙ c.layout.ensures.shape
+
+pub returns-in-Err-put_dump-clause-passed : goal.returns-in-Err-put_dump-clause-passed
+returns-in-Err-put_dump-clause-passed g c =
+    omega (arith, c.in-Err-put_dump.ensures.uses.passed, ap (λ (q : Spent). q.passed) c.layout.ensures.spent, ap (λ (t : ViewShape). all_costs t) c.layout.ensures.shape)
+
+pub returns-in-Err-put_dump-clause-asked : goal.returns-in-Err-put_dump-clause-asked
+returns-in-Err-put_dump-clause-asked g c =
+    omega (arith, c.in-Err-put_dump.ensures.uses.asked, ap (λ (q : Spent). q.asked) c.layout.ensures.spent, ap (λ (t : ViewShape). all_asks t) c.layout.ensures.shape)
+
+pub returns-in-Err-put_dump-clause-moves : goal.returns-in-Err-put_dump-clause-moves
+returns-in-Err-put_dump-clause-moves g c = g.met.V.DumpView.follows _ _ _ c.layout.ensures.moves c.in-Err-put_dump.ensures.moves
+
+pub returns-in-Err-clause-passed : goal.returns-in-Err-clause-passed
+returns-in-Err-clause-passed g c = omega (arith, ap (λ (q : Spent). q.passed) c.layout.ensures.spent)
+
+pub returns-in-Err-clause-asked : goal.returns-in-Err-clause-asked
+returns-in-Err-clause-asked g c = omega (arith, ap (λ (q : Spent). q.asked) c.layout.ensures.spent)
+
+pub returns-in-Err-put_dump-clause-ends : goal.returns-in-Err-put_dump-clause-ends
+returns-in-Err-put_dump-clause-ends g c =
+    let old = g.V.DumpView.shape c.args.view.now in
+    stopped old c.in-Err-put_dump.fault (g.O.Out.state c.args.out.now) (g.O.Out.state c.args.out.now) (g.O.Out.state c.put_dump.new.out) _ c.in-Ok.ensures.ends.0 (ap (λ (t : ViewShape). t.is_reliable) c.layout.ensures.shape) refl c.in-Err-put_dump.ensures.uses.cause

@@ -6,7 +6,7 @@ use Rattle.mdmp_writer.specs.Gather.{Gathers, gathered}
 use Rattle.mdmp_writer.specs.Layout.{far_size}
 use Rattle.mdmp_writer.proofs.Blocks.{far_none, known_size}
 use Rattle.mdmp_writer.proofs.Causes.{uses_asked, uses_none, uses_then, uses_within}
-use Rattle.mdmp_writer.proofs.Counting.{far_kind, some_is, some_none}
+use Rattle.mdmp_writer.proofs.Counting.{far_kind, ok_is, some_is, some_none}
 use Rattle.mdmp_writer.proofs.Sending.{puts_nothing}
 use Rattle.mdmp_writer.proofs.far_out.put_far.Goals as goal
 
@@ -68,3 +68,16 @@ returns-then-is_far-clause-uses g c =
     uses_then asked c.put_memory.ensures.uses
     (omega (arith, ap (λ (u : ViewShape). cost_at u k) same, ap (λ (b : Bool). if b then cost_at s k else 0) far))
     (omega (arith, ap (λ (u : ViewShape). (stream_at u k).bytes) same, ap (λ (b : Bool). if b then (stream_at s k).bytes else 0) far))
+
+pub returns-then-is_far-clause-writes : goal.returns-then-is_far-clause-writes
+returns-then-is_far-clause-writes g c x known =
+    let same = c.parts_size-size.ensures.shape ∙ c.body_size.ensures.shape ∙ c.kind.ensures.shape in
+    c.put_memory.ensures.writes x (ap (λ (u : ViewShape). u.seen) same ∙ known)
+
+pub returns-then-is_far-clause-some : goal.returns-then-is_far-clause-some
+returns-then-is_far-clause-some g c =
+    let same = c.parts_size-size.ensures.shape ∙ c.body_size.ensures.shape ∙ c.kind.ensures.shape in
+    ok_is c.put_memory.result _ _ _ _ (ap (λ (u : ViewShape). far_size (stream_at u c.args.stream)) same) c.put_memory.ensures.some
+
+pub returns-then-is_far-clause-moves : goal.returns-then-is_far-clause-moves
+returns-then-is_far-clause-moves g c = g.met.V.DumpView.follows _ _ _ (g.met.V.DumpView.follows _ _ _ (g.met.V.DumpView.follows _ _ _ c.kind.ensures.moves c.body_size.ensures.moves) c.parts_size-size.ensures.moves) c.put_memory.ensures.moves

@@ -52,3 +52,9 @@ returns-in-Ok-put_record_texts-clause-some g c =
     let some = rw c.in-Ok.ensures.begins at c.in-Ok-put_record_texts.ensures.some in
     ok_then c.put_padding.result _ _ _ (far_of s) rest (far_size s) (omega (arith, length-padding c.args.size, far, ap up far)) some
     (ok_of c.put_padding.result _ _ (padding c.args.size) rest refl c.put_padding.ensures.writes)
+
+pub returns-in-Ok-put_record_texts-clause-moves : goal.returns-in-Ok-put_record_texts-clause-moves
+returns-in-Ok-put_record_texts-clause-moves g c = g.met.V.DumpView.follows _ _ _ c.in-Ok.ensures.moves c.in-Ok-put_record_texts.ensures.moves
+
+pub returns-in-Err-put_record_texts-clause-moves : goal.returns-in-Err-put_record_texts-clause-moves
+returns-in-Err-put_record_texts-clause-moves g c = g.met.V.DumpView.follows _ _ _ c.in-Ok.ensures.moves c.in-Err-put_record_texts.ensures.moves

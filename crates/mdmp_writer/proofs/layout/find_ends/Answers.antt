@@ -59,3 +59,12 @@ returns-clause-ends g c =
     let blocks : c.loop-stream.blocks ≡ blocks_end s.streams = omega (arith, blocks_none s k past, c.loop-stream.invariant.blocks) in
     let file : c.loop-stream.blocks + c.loop-stream.far ≡ file_size s.streams = omega (arith, blocks_none s k past, fars_none s k past, c.loop-stream.invariant.blocks, c.loop-stream.invariant.far) in
     (not_too_large s.streams (omega (arith, blocks, c.loop-stream.invariant.low)) (omega (arith, file, c.if-far-blocks.false)), record { blocks = blocks; file = file })
+
+pub returns-then-block-from-clause-moves : goal.returns-then-block-from-clause-moves
+returns-then-block-from-clause-moves g c = g.met.V.DumpView.follows _ _ _ c.loop-stream.invariant.moves c.room_if.ensures.moves
+
+pub returns-then-room-far-clause-moves : goal.returns-then-room-far-clause-moves
+returns-then-room-far-clause-moves g c = g.met.V.DumpView.follows _ _ _ c.loop-stream.invariant.moves c.room_if.ensures.moves
+
+pub returns-in-None-room_if-clause-moves : goal.returns-in-None-room_if-clause-moves
+returns-in-None-room_if-clause-moves g c = g.met.V.DumpView.follows _ _ _ c.loop-stream.invariant.moves c.room_if.ensures.moves

@@ -8,6 +8,7 @@ use Rattle.mdmp_writer.specs.Gather.{gathered}
 use Rattle.mdmp_writer.proofs.Padded.{fields_text, text_at}
 use Rattle.mdmp_writer.proofs.Sending.{cut_before, cut_behind, cut_same, puts_puts, writes_same, writes_then}
 use Rattle.mdmp_writer.proofs.Counting.{ok_then, some_then}
+use Rattle.mdmp_writer.proofs.Causes.{uses_then, uses_within}
 use Rattle.mdmp_writer.proofs.parts_out.put_fields_parts.Goals as goal
 
 pub returns-in-Err-clause-writes : goal.returns-in-Err-clause-writes
@@ -47,3 +48,20 @@ returns-in-Ok-put_slot-clause-some g c =
     let r = room c.slots.result in
     let all : r 0 + r 1 + r 2 ≡ fields_room f = ap (λ (l : List Slot). room l 0 + room l 1 + room l 2) c.slots.ensures in
     ok_then c.put_slot-in-Ok-put_slot.result _ _ _ (r 0 + r 1) (r 2) (fields_room f) (omega (arith, all)) (some_then _ _ _ (r 0) (r 1) c.in-Ok.ensures.some c.in-Ok-put_slot.ensures.some) c.put_slot-in-Ok-put_slot.ensures.some
+
+pub returns-in-Ok-put_slot-clause-uses : goal.returns-in-Ok-put_slot-clause-uses
+returns-in-Ok-put_slot-clause-uses g c =
+    let n = λ (k : ℕ). size_in (size_at c.args.fields.now k) in
+    uses_then (uses_then {passes = 0} {asks = n 0 + n 1} c.in-Ok.ensures.uses c.in-Ok-put_slot.ensures.uses (omega arith) (omega arith)) c.put_slot-in-Ok-put_slot.ensures.uses (omega arith) (omega arith)
+
+pub returns-in-Err-put_slot-clause-uses : goal.returns-in-Err-put_slot-clause-uses
+returns-in-Err-put_slot-clause-uses g c = uses_then c.in-Ok.ensures.uses c.in-Err-put_slot.ensures.uses (omega arith) (omega arith)
+
+pub returns-in-Err-clause-uses : goal.returns-in-Err-clause-uses
+returns-in-Err-clause-uses g c = uses_within c.in-Err.ensures.uses (omega arith) (omega arith)
+
+pub returns-in-Ok-put_slot-clause-moves : goal.returns-in-Ok-put_slot-clause-moves
+returns-in-Ok-put_slot-clause-moves g c = g.met.V.DumpView.follows _ _ _ (g.met.V.DumpView.follows _ _ _ c.in-Ok.ensures.moves c.in-Ok-put_slot.ensures.moves) c.put_slot-in-Ok-put_slot.ensures.moves
+
+pub returns-in-Err-put_slot-clause-moves : goal.returns-in-Err-put_slot-clause-moves
+returns-in-Err-put_slot-clause-moves g c = g.met.V.DumpView.follows _ _ _ c.in-Ok.ensures.moves c.in-Err-put_slot.ensures.moves

@@ -5,7 +5,7 @@ use Rattle.mdmp_dump.specs.Places.{up}
 use Rattle.mdmp_wire.specs.Number.{le, zeros}
 use Rattle.mdmp_writer.specs.Gather.{gathered}
 use Rattle.mdmp_writer.specs.Written.{padding}
-use Rattle.mdmp_writer.proofs.Causes.{uses_none, uses_sent, uses_then}
+use Rattle.mdmp_writer.proofs.Causes.{uses_none, uses_out, uses_sent, uses_then, uses_within}
 use Rattle.mdmp_writer.proofs.Padded.{around_units}
 use Rattle.mdmp_writer.proofs.Sending.{cut_before, cut_same, writes_same, writes_then}
 use Rattle.mdmp_writer.proofs.Counting.{ok_then, some_of}
@@ -37,3 +37,12 @@ pub returns-in-Ok-clause-uses : goal.returns-in-Ok-clause-uses
 returns-in-Ok-clause-uses g c =
     let size : size_in c.args.name ≡ c.in-Size.size = ap size_in c.in-Size.is in
     uses_then (uses_sent uses_none c.in-Ok.ensures.cause) c.put_units.ensures.uses (omega arith) (omega (arith, size))
+
+pub returns-in-Err-clause-uses : goal.returns-in-Err-clause-uses
+returns-in-Err-clause-uses g c = uses_within (uses_out uses_none c.in-Err.ensures.cause) (omega arith) (omega arith)
+
+pub returns-in-NoPart-clause-uses : goal.returns-in-NoPart-clause-uses
+returns-in-NoPart-clause-uses g c = uses_within uses_none (omega arith) (omega arith)
+
+pub returns-in-Absent-clause-uses : goal.returns-in-Absent-clause-uses
+returns-in-Absent-clause-uses g c = uses_within uses_none (omega arith) (omega arith)

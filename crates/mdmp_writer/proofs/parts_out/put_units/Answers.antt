@@ -31,3 +31,11 @@ returns-in-Ok-put_record-clause-some g c =
 pub returns-in-Ok-put_record-clause-uses : goal.returns-in-Ok-put_record-clause-uses
 returns-in-Ok-put_record-clause-uses g c =
     uses_out (uses_sent c.in-Ok.ensures.uses c.in-Ok-put_record.ensures.cause) c.put_padding.ensures.cause
+
+pub returns-in-Err-put_record-clause-uses : goal.returns-in-Err-put_record-clause-uses
+returns-in-Err-put_record-clause-uses g c = uses_out c.in-Ok.ensures.uses c.in-Err-put_record.ensures.cause
+
+pub returns-in-Err-clause-writes : goal.returns-in-Err-clause-writes
+returns-in-Err-clause-writes g c ps known len =
+    let b = get_or ps c.args.which [] in
+    cut_before _ _ (b ++ zeros 2) (padding (4 + c.args.size + 2)) (cut_before _ _ b (zeros 2) (c.in-Err.ensures.writes ps known len))

@@ -1,4 +1,4 @@
-use Rattle.std.proofs.Common.{refl}
+use Rattle.std.proofs.Common.{◌∙◌, ap, refl}
 use Rattle.mdmp_dump.proofs.EntryWalks.{opened}
 use Rattle.mdmp_lister.proofs.Refusals.{open_refusal}
 use Rattle.mdmp_dump.specs.Reading.{refusal_of}
@@ -31,3 +31,13 @@ returns-in-Err-clause-tells g c =
     (tells_of (refusal_of fault) c.args.source c.in-Err.refused.source
     (opening-fetches {T = Unit {0}} _ fault c.args.source c.in-Err.refused.source of.handed_back.fetches of.cause of.good (open_refusal c.args.source.size fault of.refusal))
     (λ is file known. wants_bare file fault (of.opens file known) is))
+
+pub returns-in-Err-clause-cause : goal.returns-in-Err-clause-cause
+returns-in-Err-clause-cause g c =
+    let fault = c.in-Err.refused.fault in
+    let of = c.in-Err.ensures in
+    rw c.refusal.ensures
+    (opening-fetches {T = Unit {0}} _ fault c.args.source c.in-Err.refused.source of.handed_back.fetches of.cause of.good (open_refusal c.args.source.size fault of.refusal))
+
+pub returns-in-Err-clause-short : goal.returns-in-Err-clause-short
+returns-in-Err-clause-short g c = λ few. c.refusal.ensures ∙ ap refusal_of (c.in-Err.ensures.short few)

@@ -2,7 +2,8 @@ use Rattle.std.proofs.Common.{◌≡◌, ◌∙◌, get_or, ap, subst, sym, arit
 use Rattle.std.proofs.lemmas.List.{get_or_read}
 use Rattle.mdmp_wire.specs.declared.entry.Entry.{Entry}
 use Rattle.mdmp_dump.specs.EntryWalk.{WalkState, chosen_entry, kind_by}
-use Rattle.mdmp_dump.specs.FileView.{IsView}
+use Rattle.mdmp_dump.specs.FileView.{HasMoved, IsView, file_cursor, file_shape}
+use Rattle.mdmp_dump.specs.FileViewLaws.{view_stays}
 use Rattle.mdmp_dump.specs.declared.view.Kind.TheVariants as kinds
 use Rattle.mdmp_dump.specs.Shape.{body_by}
 use Rattle.mdmp_dump.proofs.FileViews.{known_body, raw_body, unused_body}
@@ -66,3 +67,48 @@ returns-in-Raw-clause-size g c =
     raw_body (chosen_entry s.walk k) c.in-Raw.field-0 n r c.from.result (ap (λ (e : Entry). kind_by e.stream_type) (sym entry) ∙ sym c.in-Raw.ensures)
     (c.from.ensures ∙ ap (λ (e : Entry). e.location.size) entry) (omega arith)
     ∙ body
+
+pub returns-in-Unused-clause-shape : goal.returns-in-Unused-clause-shape
+returns-in-Unused-clause-shape g c =
+    let s = c.args.self.now in
+    ap (λ (w : WalkState). file_shape g.row.A.Denot w s.counts.items s.rooms.items) c.entry-entry.ensures.same
+
+pub returns-in-Unused-clause-cursor : goal.returns-in-Unused-clause-cursor
+returns-in-Unused-clause-cursor g c =
+    let s = c.args.self.now in
+    ap (λ (w : WalkState). file_cursor g.row.A.Denot w s.pass) c.entry-entry.ensures.same
+
+pub returns-in-Unused-clause-moves : goal.returns-in-Unused-clause-moves
+returns-in-Unused-clause-moves g c =
+    let s = c.args.self.now in
+    subst (λ (w : WalkState). HasMoved s.walk s.last w s.last) (sym c.entry-entry.ensures.same) (view_stays s.walk s.last)
+
+pub returns-in-Known-clause-shape : goal.returns-in-Known-clause-shape
+returns-in-Known-clause-shape g c =
+    let s = c.args.self.now in
+    ap (λ (w : WalkState). file_shape g.row.A.Denot w s.counts.items s.rooms.items) c.entry-entry.ensures.same
+
+pub returns-in-Known-clause-cursor : goal.returns-in-Known-clause-cursor
+returns-in-Known-clause-cursor g c =
+    let s = c.args.self.now in
+    ap (λ (w : WalkState). file_cursor g.row.A.Denot w s.pass) c.entry-entry.ensures.same
+
+pub returns-in-Known-clause-moves : goal.returns-in-Known-clause-moves
+returns-in-Known-clause-moves g c =
+    let s = c.args.self.now in
+    subst (λ (w : WalkState). HasMoved s.walk s.last w s.last) (sym c.entry-entry.ensures.same) (view_stays s.walk s.last)
+
+pub returns-in-Raw-clause-shape : goal.returns-in-Raw-clause-shape
+returns-in-Raw-clause-shape g c =
+    let s = c.args.self.now in
+    ap (λ (w : WalkState). file_shape g.row.A.Denot w s.counts.items s.rooms.items) c.entry-entry.ensures.same
+
+pub returns-in-Raw-clause-cursor : goal.returns-in-Raw-clause-cursor
+returns-in-Raw-clause-cursor g c =
+    let s = c.args.self.now in
+    ap (λ (w : WalkState). file_cursor g.row.A.Denot w s.pass) c.entry-entry.ensures.same
+
+pub returns-in-Raw-clause-moves : goal.returns-in-Raw-clause-moves
+returns-in-Raw-clause-moves g c =
+    let s = c.args.self.now in
+    subst (λ (w : WalkState). HasMoved s.walk s.last w s.last) (sym c.entry-entry.ensures.same) (view_stays s.walk s.last)

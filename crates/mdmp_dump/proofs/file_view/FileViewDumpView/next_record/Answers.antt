@@ -1,5 +1,5 @@
 use Rattle.std.proofs.Common.{◌<◌, arith}
-use Rattle.mdmp_dump.proofs.Moving.{cursor_left, reliable_err, unended, view_taken, view_untaken}
+use Rattle.mdmp_dump.proofs.Moving.{cursor_left, moves_err, moves_quiet, records_none, reliable_err, shape_stays, unended, view_taken, view_untaken}
 use Rattle.mdmp_dump.proofs.file_view.FileViewDumpView.next_record.Goals as goal
 
 pub take_record-requires-clause-going : goal.take_record-requires-clause-going
@@ -44,3 +44,34 @@ returns-in-Err-clause-reliable g c =
 
 pub returns-in-Ok-clause-gives : goal.returns-in-Ok-clause-gives
 returns-in-Ok-clause-gives g c = rw c.in-Some.is c.in-Ok.ensures.gives
+
+pub returns-in_default-clause-told : goal.returns-in_default-clause-told
+returns-in_default-clause-told g c =
+    let s = c.args.self.now in
+    absurd (records_none g.row.A.Denot s.walk s.pass c.in_default.is c.requires)
+
+pub returns-in_default-clause-reliable : goal.returns-in_default-clause-reliable
+returns-in_default-clause-reliable g c =
+    let s = c.args.self.now in
+    λ reliable. records_none g.row.A.Denot s.walk s.pass c.in_default.is c.requires
+
+pub returns-in-Ok-clause-shape : goal.returns-in-Ok-clause-shape
+returns-in-Ok-clause-shape g c =
+    let s = c.args.self.now in
+    shape_stays s.walk c.take_record.new.walk c.in-Ok.ensures.pays.same g.row.A.Denot s.counts.items s.rooms.items
+
+pub returns-in-Ok-clause-moves : goal.returns-in-Ok-clause-moves
+returns-in-Ok-clause-moves g c =
+    let s = c.args.self.now in
+    moves_quiet s.walk c.take_record.new.walk c.in-Ok.ensures.pays.same s.last
+
+pub returns-in-Err-clause-shape : goal.returns-in-Err-clause-shape
+returns-in-Err-clause-shape g c =
+    let s = c.args.self.now in
+    shape_stays s.walk c.take_record.new.walk c.in-Err.ensures.pays.same g.row.A.Denot s.counts.items s.rooms.items
+
+pub returns-in-Err-clause-moves : goal.returns-in-Err-clause-moves
+returns-in-Err-clause-moves g c =
+    let s = c.args.self.now in
+    let of = c.in-Err.ensures in
+    moves_err g.row.A.Denot s.limit s.walk s.counts.items s.rooms.items s.pass s.passed s.asked s.last s.sound c.take_record.new.walk of.pays.same c.in-Err.fault of.tells

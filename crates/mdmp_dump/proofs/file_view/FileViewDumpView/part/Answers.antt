@@ -1,7 +1,7 @@
 use Rattle.std.proofs.Common.{◌≡◌, ◌<◌, ◌+◌, ◌-◌, ◌^◌, arith, inr, length, Ok, Err, Some, None}
 use Rattle.mdmp_dump.specs.FileView.{opening_cost}
 use Rattle.mdmp_dump.specs.declared.view.ViewFault.TheVariants as view
-use Rattle.mdmp_dump.proofs.Moving.{asked_bytes, asked_inside, asked_which, uncut, view_read}
+use Rattle.mdmp_dump.proofs.Moving.{aside_same, asked_bytes, asked_inside, asked_which, bytes_none, cursor_stays, moves_quiet, moves_told, reliable_read, shape_stays, uncut, view_read, view_unasked}
 use Rattle.mdmp_dump.proofs.file_view.FileViewDumpView.part.Goals as goal
 
 pub offset_bounds-pass-which : goal.offset_bounds-pass-which
@@ -59,3 +59,55 @@ returns-in-Ok-clause-bytes g c =
     let n = length c.args.out.now in
     let some : 0 < n = omega (arith, c.if-count-eq0.false) in
     asked_bytes g.row.A.Denot s.limit s.walk s.counts.items s.rooms.items s.pass s.passed s.asked s.last s.sound p c.in-Some.is c.args.which c.args.at n c.requires some c.read_part.new.out c.read_part.auto.out c.in-Ok.ensures.bytes
+
+pub invariant_of-self : goal.invariant_of-self
+invariant_of-self g c =
+    let s = c.args.self.now in
+    let sum_is = rw c.if-count-eq0.true at c.saturating_add-self.ensures in
+    record { sound = view_unasked g.row.A.Denot s.limit s.walk s.counts.items s.rooms.items s.pass s.passed s.asked s.last s.sound c.saturating_add-self.result sum_is }
+
+pub invariant_of-self-in_default : goal.invariant_of-self-in_default
+invariant_of-self-in_default g c =
+    let s = c.args.self.now in
+    absurd (bytes_none g.row.A.Denot s.walk s.pass c.args.which c.args.at (length c.args.out.now) c.in_default.is c.requires (omega (arith, c.if-count-eq0.false)))
+
+pub returns-in_default-clause-told : goal.returns-in_default-clause-told
+returns-in_default-clause-told g c =
+    let s = c.args.self.now in
+    absurd (bytes_none g.row.A.Denot s.walk s.pass c.args.which c.args.at (length c.args.out.now) c.in_default.is c.requires (omega (arith, c.if-count-eq0.false)))
+
+pub returns-in_default-clause-reliable : goal.returns-in_default-clause-reliable
+returns-in_default-clause-reliable g c =
+    let s = c.args.self.now in
+    λ reliable. bytes_none g.row.A.Denot s.walk s.pass c.args.which c.args.at (length c.args.out.now) c.in_default.is c.requires (omega (arith, c.if-count-eq0.false))
+
+pub returns-in-Ok-clause-shape : goal.returns-in-Ok-clause-shape
+returns-in-Ok-clause-shape g c =
+    let s = c.args.self.now in
+    shape_stays s.walk c.read_part.new.self (aside_same c.in-Ok.ensures.reads) g.row.A.Denot s.counts.items s.rooms.items
+
+pub returns-in-Ok-clause-cursor : goal.returns-in-Ok-clause-cursor
+returns-in-Ok-clause-cursor g c =
+    let s = c.args.self.now in
+    cursor_stays s.walk c.read_part.new.self (aside_same c.in-Ok.ensures.reads) g.row.A.Denot s.pass
+
+pub returns-in-Ok-clause-moves : goal.returns-in-Ok-clause-moves
+returns-in-Ok-clause-moves g c =
+    let s = c.args.self.now in
+    moves_quiet s.walk c.read_part.new.self (aside_same c.in-Ok.ensures.reads) s.last
+
+pub returns-in-Err-clause-shape : goal.returns-in-Err-clause-shape
+returns-in-Err-clause-shape g c =
+    let s = c.args.self.now in
+    shape_stays s.walk c.read_part.new.self (aside_same c.in-Err.ensures.reads) g.row.A.Denot s.counts.items s.rooms.items
+
+pub returns-in-Err-clause-moves : goal.returns-in-Err-clause-moves
+returns-in-Err-clause-moves g c =
+    let s = c.args.self.now in
+    let of = c.in-Err.ensures.reads in
+    moves_told s.walk c.read_part.new.self (aside_same of) s.last (view.Source c.in-Err.fault) of.told
+
+pub returns-in-Err-clause-reliable : goal.returns-in-Err-clause-reliable
+returns-in-Err-clause-reliable g c =
+    let s = c.args.self.now in
+    reliable_read g.row.A.Denot s.walk s.counts.items s.rooms.items c.in-Err.ensures.reads

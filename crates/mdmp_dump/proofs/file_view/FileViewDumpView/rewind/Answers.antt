@@ -5,7 +5,7 @@ use Rattle.mdmp_dump.specs.declared.pass.Pass.{Pass}
 use Rattle.mdmp_dump.specs.EntryWalk.{Pays, WalkState, chosen_entry, listed, pass_cost}
 use Rattle.mdmp_dump.specs.FileView.{TellsViewFault, first_pass, opening_cost, pass_cursor}
 use Rattle.mdmp_dump.proofs.KnownViews.{cost_told, inside_view, pass_begins}
-use Rattle.mdmp_dump.proofs.Moving.{reliable_err, uncut_before, view_begun, view_unbegun}
+use Rattle.mdmp_dump.proofs.Moving.{moves_err, moves_quiet, reliable_err, shape_stays, uncut_before, view_begun, view_unbegun}
 use Rattle.mdmp_dump.proofs.file_view.FileViewDumpView.rewind.Goals as goal
 
 pub index-count-requires : goal.index-count-requires
@@ -133,3 +133,40 @@ returns-in-Err-clause-reliable g c =
     let pays = subst (λ (u : WalkState). Pays (listed (chosen_entry u k).entry) 0 u v) c.entry.ensures.same c.in-Err.ensures.pays in
     let tells = subst (λ (u : WalkState). TellsViewFault {T = Pass} u (Err c.in-Err.fault) v) c.entry.ensures.same c.in-Err.ensures.tells in
     λ reliable. reliable_err g.row.A.Denot s.limit w s.counts.items s.rooms.items s.pass s.passed s.asked s.last s.sound v pays.same c.in-Err.fault tells reliable
+
+pub returns-in-Ok-clause-shape : goal.returns-in-Ok-clause-shape
+returns-in-Ok-clause-shape g c =
+    let s = c.args.self.now in
+    let w = s.walk in
+    let k = c.args.stream in
+    let v = c.begin_pass.new.walk in
+    let pays = subst (λ (u : WalkState). Pays (listed (chosen_entry u k).entry) 0 u v) c.entry.ensures.same c.in-Ok.ensures.pays in
+    shape_stays w v pays.same g.row.A.Denot s.counts.items s.rooms.items
+
+pub returns-in-Ok-clause-moves : goal.returns-in-Ok-clause-moves
+returns-in-Ok-clause-moves g c =
+    let s = c.args.self.now in
+    let w = s.walk in
+    let k = c.args.stream in
+    let v = c.begin_pass.new.walk in
+    let pays = subst (λ (u : WalkState). Pays (listed (chosen_entry u k).entry) 0 u v) c.entry.ensures.same c.in-Ok.ensures.pays in
+    moves_quiet w v pays.same s.last
+
+pub returns-in-Err-clause-shape : goal.returns-in-Err-clause-shape
+returns-in-Err-clause-shape g c =
+    let s = c.args.self.now in
+    let w = s.walk in
+    let k = c.args.stream in
+    let v = c.begin_pass.new.walk in
+    let pays = subst (λ (u : WalkState). Pays (listed (chosen_entry u k).entry) 0 u v) c.entry.ensures.same c.in-Err.ensures.pays in
+    shape_stays w v pays.same g.row.A.Denot s.counts.items s.rooms.items
+
+pub returns-in-Err-clause-moves : goal.returns-in-Err-clause-moves
+returns-in-Err-clause-moves g c =
+    let s = c.args.self.now in
+    let w = s.walk in
+    let k = c.args.stream in
+    let v = c.begin_pass.new.walk in
+    let pays = subst (λ (u : WalkState). Pays (listed (chosen_entry u k).entry) 0 u v) c.entry.ensures.same c.in-Err.ensures.pays in
+    let tells = subst (λ (u : WalkState). TellsViewFault {T = Pass} u (Err c.in-Err.fault) v) c.entry.ensures.same c.in-Err.ensures.tells in
+    moves_err g.row.A.Denot s.limit w s.counts.items s.rooms.items s.pass s.passed s.asked s.last s.sound v pays.same c.in-Err.fault tells

@@ -13,7 +13,7 @@ use Rattle.mdmp_dump.specs.Reading.{AreBytesOf, HasBytesAt}
 use Rattle.mdmp_dump.specs.Telling.{record_told}
 use Rattle.mdmp_dump.specs.TellingLaws.{found_at, made_found}
 use Rattle.mdmp_dump.proofs.Budget.{range-bytes}
-use Rattle.mdmp_dump.proofs.Taking.{Takes_as}
+use Rattle.mdmp_dump.proofs.Taking.{Takes_as, Takes_fault_as, refused_by, row_refused}
 use Rattle.mdmp_dump.proofs.memory64.Memory64RangeRow.read.Goals as goal
 
 -- a range with the start of the descriptor at o, and its bytes
@@ -38,3 +38,8 @@ returns g c = record {
   stands = λ file limit e k at o item known given tells named.
       range64_of file limit e k at o item given _ tells _ refl (c.in_ok-bytes.ensures.of_file file known);
 }
+
+pub returns-in_err-bytes : goal.returns-in_err-bytes
+returns-in_err-bytes g c =
+    let is = refused_by c.from_residual.result c.in_err-bytes.field-0.0 c.from_residual.ensures.1 in
+    row_refused _ _ _ _ _ _ _ _ _ _ is (Takes_fault_as _ _ _ _ c.in_err-bytes.ensures.takes)

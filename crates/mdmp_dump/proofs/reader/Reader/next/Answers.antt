@@ -1,7 +1,7 @@
-use Rattle.std.proofs.Common.{◌≡◌, ◌∙◌}
+use Rattle.std.proofs.Common.{◌∙◌}
 use Rattle.mdmp_dump.specs.Telling.{record_told}
 use Rattle.mdmp_dump.proofs.Settled.{row-read, row-refused}
-use Rattle.mdmp_dump.proofs.Taking.{fetches_err, fetches_ok, refused_by}
+use Rattle.mdmp_dump.proofs.Taking.{Fetches_as, fetches_err, fetches_ok, refused_by}
 use Rattle.mdmp_dump.proofs.reader.Reader.next.Goals as goal
 
 pub returns-in_err-read-in-Record-clause-fetches : goal.returns-in_err-read-in-Record-clause-fetches
@@ -30,3 +30,9 @@ returns-in_ok-read-in-Record-clause-of_file g c = λ file limit x k xs known lef
 
 pub read-requires : goal.read-requires
 read-requires g c = rw c.in-Record.is at c.in_ok-found.ensures.classed
+
+pub returns-in_err-found-clause-fetches : goal.returns-in_err-found-clause-fetches
+returns-in_err-found-clause-fetches g c =
+    let fault = c.in_err-found.field-0.0 in
+    let is = refused_by c.from_residual.result fault c.from_residual.ensures.1 in
+    rw is (Fetches_as fault c.args.self.now.lister.source c.find.new.self.lister.source c.in_err-found.ensures.fetches)

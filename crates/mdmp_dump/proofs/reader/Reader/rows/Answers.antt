@@ -1,4 +1,4 @@
-use Rattle.std.proofs.Common.{◌≡◌, ◌∙◌, ◌+◌, ◌∷◌, [], ◌++◌, ℕ, length, length-append, Some, Err, arith, subst, sym}
+use Rattle.std.proofs.Common.{◌≡◌, ◌∙◌, ◌+◌, ◌∷◌, [], ◌++◌, ℕ, length, length-append, Some, arith, subst, sym}
 use Rattle.mdmp_dump.specs.Left.{left_from}
 use Rattle.mdmp_dump.proofs.Settled.{rows-all, rows-more}
 use Rattle.mdmp_dump.proofs.Taking.{FetchesSome_then, Fetches_memory, fetches_err, fetches_ok, refused_by}
@@ -49,3 +49,13 @@ returns-in-Behind-clause-of_file g c = λ file limit x xs known left kind.
       value = (rw c.new.ensures (rows-all file x g.T.Row.kind (g.T.Row.IsAt file x.entry.location.rva) rows kind so_far.1.0 given.0.0), given.0.1);
       settles = so_far.1.1 ∙ given.1;
     }
+
+pub returns-in_err-row-clause-of_file : goal.returns-in_err-row-clause-of_file
+returns-in_err-row-clause-of_file g c =
+    let before = c.loop-rows.invariant in
+    let fault = c.in_err-row.field-0.0 in
+    let is = refused_by c.from_residual.result fault c.from_residual.ensures.1 in
+    rw is (λ file limit x xs known left kind.
+    let so_far = before.of_file file limit x xs known left kind in
+    let given = c.in_err-row.ensures.of_file file limit x (length c.loop-rows.rows.items) xs (before.fetches.fetches.same_content ∙ known) so_far.0 kind in
+    record { value = tt; settles = λ own. so_far.1.1 ∙ given.1 own })

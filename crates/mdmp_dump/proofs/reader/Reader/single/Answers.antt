@@ -1,6 +1,6 @@
-use Rattle.std.proofs.Common.{◌≡◌, ◌∙◌, refl}
+use Rattle.std.proofs.Common.{◌∙◌, refl}
 use Rattle.mdmp_dump.proofs.Settled.{behind-given, no-row-after-one, one-read}
-use Rattle.mdmp_dump.proofs.Taking.{fetches_err, fetches_ok, refused_by}
+use Rattle.mdmp_dump.proofs.Taking.{Fetches_as, fetches_err, fetches_ok, refused_by}
 use Rattle.mdmp_dump.proofs.reader.Reader.single.Goals as goal
 
 pub returns-in_err-behind-in-Row-clause-fetches : goal.returns-in_err-behind-in-Row-clause-fetches
@@ -32,3 +32,9 @@ returns-in_ok-behind-in-Row-clause-of_file g c = λ file limit x xs known left k
       value = ((c.in-Row.row, (refl, one-read file limit x xs g.T.Row.kind (g.T.Row.IsAt file x.entry.location.rva) kind one c.in-Row.row given.0.0 all.0)), all.1);
       settles = given.1 ∙ behind.1;
     }
+
+pub returns-in_err-row-clause-fetches : goal.returns-in_err-row-clause-fetches
+returns-in_err-row-clause-fetches g c =
+    let fault = c.in_err-row.field-0.0 in
+    let is = refused_by c.from_residual.result fault c.from_residual.ensures.1 in
+    rw is (Fetches_as fault c.args.self.now.lister.source c.next.new.self.lister.source c.in_err-row.ensures.fetches)
