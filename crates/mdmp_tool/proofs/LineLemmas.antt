@@ -1,8 +1,8 @@
 -- Texts that are put together before they are written.
-use Rattle.std.proofs.Common.{◌≡◌, ◌∙◌, ◌<◌, ◌+◌, ℕ, List, [], ◌++◌, Result, Ok, Err, MatchResult, length, get_or, take, drop, ap, sym, subst, append_assoc, append-nil}
+use Rattle.std.proofs.Common.{◌≡◌, ◌∙◌, ◌<◌, ◌+◌, ℕ, List, [], ◌∷◌, ◌++◌, Result, Ok, Err, MatchResult, length, get_or, take, drop, ap, sym, subst, append_assoc, append-nil}
 use Rattle.std.specs.List.{flat_map}
 use Rattle.mdmp_source.specs.Output.{OutState, PutsAll, PutsPrefix, Puts}
-use Rattle.std.proofs.lemmas.List.{take-append-drop}
+use Rattle.std.proofs.lemmas.List.{take-append-drop, take_more}
 use Rattle.std.proofs.lemmas.List.Concat.{flat_map-append}
 use Rattle.mdmp_source.specs.OutputLaws.{PutsAll-nothing, PutsAll-PutsAll, PutsPrefix-front, PutsPrefix-last, Puts-behind}
 use Rattle.mdmp_tool.proofs.HexLemmas.{texts_with}
@@ -69,3 +69,12 @@ IsGathered-cut_item f xs i d a b c start held lt had cut =
     subst (λ (x : List ℕ). PutsPrefix a x c)
     (ap (λ (x : List ℕ). x ++ rest) (append_assoc start text more) ∙ append_assoc start (text ++ more) rest ∙ ap (λ (x : List ℕ). start ++ x) (sym whole))
     (PutsPrefix-front a c ((start ++ text) ++ more) rest (IsGathered-cut a b c (start ++ text) held more had cut))
+
+-- ---- texts of a list, one behind the other
+
+-- that of one more behind those before it
+pub PutsAll-flat_map : {X : Type 0} (f : X → List ℕ) (xs : List X) (i : ℕ) (d : X) (a b c : OutState) → i < length xs
+    → PutsAll a (flat_map f (take i xs)) b → PutsAll b (f (get_or xs i d)) c → PutsAll a (flat_map f (take (i + 1) xs)) c
+PutsAll-flat_map f xs i d a b c lt before one =
+    rw (take_more xs i d lt, flat_map-append f (take i xs) (get_or xs i d ∷ []), append-nil (f (get_or xs i d)))
+    (PutsAll-PutsAll a b c (flat_map f (take i xs)) (f (get_or xs i d)) before one)

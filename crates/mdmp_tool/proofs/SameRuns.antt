@@ -66,6 +66,11 @@ told_over T f kind v over = tt
 pub over_listing : (T : Type 0) (f : ListFault) (v : ListerState) → IsRefusedIn f v → HasBudgetCause {T = T} (Err (listing_told f)) v
 over_listing T f v over = told_over T f f.kind v over
 
+-- a fault ends a run as it ended a part of it
+pub over_fault : (T U : Type 0) (f : ToolFault) (v : ListerState) → HasBudgetCause {T = T} (Err f) v → HasBudgetCause {T = U} (Err f) v
+over_fault T U (Budget offset size) v over = over
+over_fault T U f v over = tt
+
 -- behind another answer, which may tell a budget too
 listed_with : {T : Type 0} (limits : Limits) (old new : SourceState) (answer other : Result T ToolFault) (is : HasListed limits old answer new) → HasBudgetCause other is.lister → HasListed limits old other new
 listed_with limits old new answer other is over = record {

@@ -2,9 +2,10 @@
 use Rattle.std.proofs.Common.{◌≡◌, ◌∙◌, ◌<◌, ◌+◌, ◌++◌, ◌∷◌, ℕ, List, [], Bool, true, false, Option, Some, inl, inr, refl, ap, subst, sym, arith, append-nil, length}
 use Rattle.std.specs.Prelude.{IfSome, Result, Ok, Err, slice_get, take}
 use Rattle.std.specs.List.{flat_map}
+use Rattle.std.specs.Result.{IsErrAnd}
 use Rattle.std.proofs.lemmas.Grind.{common_steps}
 use Rattle.mdmp_source.specs.Extent.{extent_of}
-use Rattle.mdmp_source.specs.Output.{OutState, PutsAll, PutsPrefix}
+use Rattle.mdmp_source.specs.Output.{HasRefused, OutState, PutsAll, PutsPrefix}
 use Rattle.mdmp_source.specs.OutputLaws.{PutsAll-PutsAll, PutsPrefix-front, PutsPrefix-last, TakesPrefix-front}
 use Rattle.mdmp_source.specs.Range.{IsInside}
 use Rattle.mdmp_source.specs.Source.{SourceState, FetchesAtMost, FetchesSome}
@@ -26,13 +27,13 @@ use Rattle.mdmp_lister.specs.Format.Item.{item_of, plain}
 use Rattle.mdmp_lister.specs.Fault.{IsOfStore, IsUnobtained, IsToldIn}
 use Rattle.mdmp_lister.specs.Format.Listing.{Run, only_fault}
 use Rattle.mdmp_lister.specs.Following.{FitsFile}
-use Rattle.mdmp_lister.specs.Lister.{Gives}
+use Rattle.mdmp_lister.specs.Lister.{Gives, ListerState, NextStands}
 use Rattle.mdmp_tool.specs.declared.fault.ToolFault.{ToolFault}
 use Rattle.mdmp_tool.specs.declared.fault.ToolFault.TheVariants.{List as BadList, Source, Budget, Out}
 use Rattle.mdmp_tool.specs.Causes.{HasSourceCause}
 use Rattle.mdmp_tool.specs.Engines.{EndsAtFault, IsBehind, Leaves, Pace, UnlessEarly, up_to_a_fault}
 use Rattle.mdmp_tool.specs.Forms.{item_line_in}
-use Rattle.mdmp_tool.specs.Runs.{ListsNext, PutsSymbols}
+use Rattle.mdmp_tool.specs.Runs.{IsBehindNext, ListsNext, PutsSymbols}
 use Rattle.mdmp_tool.specs.Telling.{listing_told, told_by}
 use Rattle.mdmp_tool.specs.Text.{inside_only, item_lines, next_lines, symbols_of, symbols_text}
 use Rattle.mdmp_tool.specs.declared.list.ModuleSymbols.{ModuleSymbols}
@@ -132,6 +133,34 @@ Leaves-listed {T} pace untouched e f old new out some told good fits quiet ends 
   by kinds.Budget is = record { good = λ file reliable. tt; behind = quiet; reads = record { cause = tt; fetches = some }; out_cause = refl }
   by _ is = record { good = λ file reliable. tt; behind = (((λ of. rw is at of), fits), ends); reads = record { cause = tt; fetches = some }; out_cause = refl }
 
+-- nothing ended it behind some fetches, and no output refused
+pub Leaves-done : {T : Type 0} {pace : Pace} {untouched : Type 0} (n : ℕ) (old new : SourceState) (before after : OutState) (x : T) → FetchesAtMost n old new
+    → after.failures ≡ before.failures → Leaves pace untouched old before (Ok x) new after
+Leaves-done n old new before after x fetches steady =
+    record { good = λ file good. tt; behind = tt; reads = record { cause = tt; fetches = record { count = n; fetches = fetches } }; out_cause = steady }
+
+-- the output refused
+pub Leaves-cut : {T : Type 0} {pace : Pace} {untouched : Type 0} (n : ℕ) (old new : SourceState) (before after : OutState) → FetchesAtMost n old new
+    → HasRefused before.failures after.failures → Leaves {T = T} pace untouched old before (Err Out) new after
+Leaves-cut n old new before after fetches refused =
+    record { good = λ file good. tt; behind = tt; reads = record { cause = tt; fetches = record { count = n; fetches = fetches } }; out_cause = refused }
+
+-- a fault is not the answer that more is left
+pub fault-more : {P : Type 0} (f : ToolFault) → Err f ≡ Ok true → P
+fault-more f more = absurd (cc)
+
+-- nor is the end
+pub end-more : {P : Type 0} (r : Result Bool ToolFault) → r ≡ Ok false → r ≡ Ok true → P
+end-more r end more = absurd (cc)
+
+-- one item fewer is left where an item was given, and a call aside leaves it so
+pub IsBehindNext-aside : (u v w : ListerState) (x : Item) → NextStands u (Ok (Some x)) v → w ≡ record v { source = w.source; counts = w.counts } → IsBehindNext u w
+IsBehindNext-aside u v w x stands stays = record {
+  left = ap (λ (l : ListerState). l.left) stays ∙ stands.left;
+  going = ap (λ (l : ListerState). l.stop) stays ∙ stands.stop;
+  falls = rw (ap (λ (l : ListerState). l.work) stays) stands.falls;
+}
+
 -- ---- behind some fetches
 
 cause_then : {T : Type 0} (n : ℕ) (a b c : SourceState) (r : Result T ToolFault) → FetchesAtMost n a b → HasSourceCause b r c → HasSourceCause a r c
@@ -152,6 +181,11 @@ Leaves-later n a b c before now after r fetches same left = record {
   };
   out_cause = cause_from now after before after r (sym same) refl left.out_cause;
 }
+
+-- what a `?` hands on
+pub refused_by : {T : Type 0} (result : Result T ToolFault) (fault : ToolFault) → IsErrAnd result (λ told. told ≡ fault) → result ≡ Err fault
+refused_by (Ok x) fault is = absurd is
+refused_by (Err told) fault is = ap (λ (f : ToolFault). Err f) is
 
 -- a fault ends a run as it ended the printing of an item
 pub Leaves-fault : {T U : Type 0} (f : ToolFault) (old new : SourceState) (before after : OutState) → Leaves {T = T} up_to_a_fault ⊥ old before (Err f) new after

@@ -1,22 +1,30 @@
-use Rattle.std.proofs.Common.{rules, ◌≡◌, ◌∙◌, ◌+◌, ℕ, ap, refl, subst}
+use Rattle.std.proofs.Common.{rules, ◌≡◌, ◌∙◌, ◌+◌, ℕ, Err, ap, refl, subst, sym}
 use Rattle.mdmp_source.specs.SourceLaws.{fetches_then}
 use Rattle.mdmp_tool.proofs.Engining.{IsQuiet-behind, IsRefusal-behind, Runs-opened, Runs-unopened, Tells-unopened, may_change}
+use Rattle.mdmp_lister.specs.Format.Refusal.{opening_fault}
 use Rattle.mdmp_lister.specs.Counts.{AreHeld, AreSpent}
 use Rattle.mdmp_lister.specs.declared.counts.Counts.{Counts}
 use Rattle.mdmp_lister.specs.Lister.{Rooms}
 use Rattle.mdmp_tool.specs.Causes.{MayChange}
-use Rattle.mdmp_tool.specs.Engines.{IsBehind, IsReadThrough}
+use Rattle.mdmp_tool.specs.Engines.{IsBehind, IsReadThrough, Runs, Tells, directly, unless_refused}
+use Rattle.mdmp_tool.specs.declared.fault.ToolFault.{ToolFault}
 use Rattle.mdmp_tool.proofs.SameRuns.{early_opening, over_opening}
 use Rattle.mdmp_tool.proofs.engine.run_source.Goals as goal
 
 pub returns-in-Err-clause-runs : goal.returns-in-Err-clause-runs
 returns-in-Err-clause-runs g c = λ file known.
-    rw c.told_opening.ensures (Runs-unopened file g.E.Engine.choice _ _ _ _ c.in-Err.refused.fault (rw c.chosen.ensures at (c.in-Err.ensures.opens file known)))
+    let before = g.O.Out.state c.args.out.now in
+    let ends = g.E.Engine.Ends c.args.engine file c.args.limits.name in
+    let text = unless_refused (opening_fault file g.E.Engine.choice) (g.E.Engine.text c.args.engine file c.args.limits.name) in
+    subst (λ (f : ToolFault). Runs file g.E.Engine.choice ends g.E.Engine.pace text before (Err f) before) (sym c.told_opening.ensures)
+    (Runs-unopened file g.E.Engine.choice ends g.E.Engine.pace text before c.in-Err.refused.fault (rw c.chosen.ensures at (c.in-Err.ensures.opens file known)))
 
 pub returns-in-Err-clause-tells : goal.returns-in-Err-clause-tells
 returns-in-Err-clause-tells g c =
     let of = c.in-Err.ensures in
-    rw c.told_opening.ensures (Tells-unopened g.row.E-Answer.Denot g.E.Engine.pace (g.O.Out.state c.args.out.now) c.in-Err.refused.fault c.args.source c.in-Err.refused.source of.good of.refusal of.short of.cause)
+    let before = g.O.Out.state c.args.out.now in
+    subst (λ (f : ToolFault). Tells {T = g.row.E-Answer.Denot} directly g.E.Engine.pace c.args.source.store c.args.source.size before (Err f) before) (sym c.told_opening.ensures)
+    (Tells-unopened g.row.E-Answer.Denot g.E.Engine.pace before c.in-Err.refused.fault c.args.source c.in-Err.refused.source of.good of.refusal of.short of.cause)
 
 pub returns-clause-runs : goal.returns-clause-runs
 returns-clause-runs g c = λ file known.
@@ -56,7 +64,8 @@ returns-clause-reads g c =
 pub returns-in-Err-clause-through : goal.returns-in-Err-clause-through
 returns-in-Err-clause-through g c =
     let back = c.in-Err.ensures.handed_back in
-    rw c.told_opening.ensures (IsReadThrough.refused back.asked (early_opening g.row.E-Answer.Denot c.in-Err.refused.fault)
+    subst (λ (f : ToolFault). IsReadThrough {T = g.row.E-Answer.Denot} c.args.limits c.args.source (Err f) c.in-Err.refused.source) (sym c.told_opening.ensures)
+    (IsReadThrough.refused back.asked (early_opening g.row.E-Answer.Denot c.in-Err.refused.fault)
     (over_opening g.row.E-Answer.Denot c.args.limits c.args.source c.in-Err.refused.fault c.in-Err.refused.source c.in-Err.ensures.kept) back.bound back.inside)
 
 pub returns-clause-through : goal.returns-clause-through

@@ -40,3 +40,12 @@ returns-in-Err-clause-leaves g c =
 
 pub returns-in-Err-clause-over : goal.returns-in-Err-clause-over
 returns-in-Err-clause-over g c = rw c.told_list.ensures (over_listing (Unit {0}) c.in-Err.fault c.list_ranges.new.self c.in-Err.ensures.refused)
+
+pub returns-in-Err-clause-same : goal.returns-in-Err-clause-same
+returns-in-Err-clause-same g c = run_list _ _ _ (run_none _) c.list_ranges.ensures.same
+
+pub returns-in_default-vec-clause-same : goal.returns-in_default-vec-clause-same
+returns-in_default-vec-clause-same g c = run_list _ _ _ (run_none _) c.list_ranges.ensures.same
+
+pub returns-in_default-clause-same : goal.returns-in_default-clause-same
+returns-in_default-clause-same g c = run_list _ _ _ (run_none _) c.list_ranges.ensures.same

@@ -1,8 +1,8 @@
-use Rattle.std.proofs.Common.{rules, ◌≡◌, ◌∙◌, ◌+◌, Ok, Err, true, false, ap}
+use Rattle.std.proofs.Common.{◌∙◌, ◌+◌, Ok, Err, true, false, ap}
 use Rattle.mdmp_source.specs.SourceLaws.{fetches_then}
 use Rattle.mdmp_lister.specs.Lister.{tail}
 use Rattle.mdmp_tool.proofs.Printing.{HasPrinted-next, ListsRun-end, ListsRun-fault, next_told, next_within}
-use Rattle.mdmp_tool.proofs.Symbols.{Leaves-fault, Leaves-later}
+use Rattle.mdmp_tool.proofs.Symbols.{Leaves-fault, Leaves-later, refused_by}
 use Rattle.mdmp_tool.proofs.SameRuns.{run_then}
 use Rattle.mdmp_tool.proofs.list.list_items.Goals as goal
 
@@ -10,7 +10,7 @@ pub returns-in_err-list_next-clause-lists : goal.returns-in_err-list_next-clause
 returns-in_err-list_next-clause-lists g c = λ file content run known.
     let so_far = c.loop.invariant in
     let f = c.in_err-list_next.field-0.0 in
-    let is : c.from_residual.result ≡ Err f = search rules in
+    let is = refused_by c.from_residual.result f c.from_residual.ensures.1 in
     let printed = so_far.printed file content run known in
     let next = next_within c.args.form c.args.pdb file _ _ printed.0 _ (Err f) _ so_far.run.limit (c.in_err-list_next.ensures.lists file (so_far.source.fetches.same_content ∙ content) printed.0 printed.1.0) in
     rw is (ListsRun-fault c.args.form c.args.pdb file c.args.lister.now.limit run printed.0 _ _ _ f printed.1.1 next)
@@ -19,7 +19,7 @@ pub returns-in_err-list_next-clause-leaves : goal.returns-in_err-list_next-claus
 returns-in_err-list_next-clause-leaves g c =
     let so_far = c.loop.invariant in
     let f = c.in_err-list_next.field-0.0 in
-    let is : c.from_residual.result ≡ Err f = search rules in
+    let is = refused_by c.from_residual.result f c.from_residual.ensures.1 in
     rw is (Leaves-fault f _ _ _ _ (Leaves-later _ _ _ _ _ _ _ (Err f) so_far.source.fetches so_far.steady c.in_err-list_next.ensures.leaves))
 
 pub loop-preserved : goal.loop-preserved

@@ -1,12 +1,12 @@
-use Rattle.std.proofs.Common.{rules, ◌≡◌, ◌∙◌, ◌+◌, ℕ, Bool, List, Some, Err, subst}
+use Rattle.std.proofs.Common.{◌≡◌, ◌∙◌, ◌+◌, ℕ, Bool, List, Some, Err, false, refl, subst}
 use Rattle.std.specs.Prelude.{slice_get}
 use Rattle.mdmp_source.specs.SourceLaws.{fetches_then}
 use Rattle.mdmp_lister.specs.FaultLaws.{next_fits}
 use Rattle.mdmp_lister.specs.Format.Item.{plain}
 use Rattle.mdmp_tool.specs.Engines.{up_to_a_fault}
 use Rattle.mdmp_tool.specs.Runs.{PutsSymbols}
-use Rattle.mdmp_tool.proofs.Symbols.{Leaves-fault, Leaves-later, Leaves-listed, ListsNext-cut, ListsNext-fault, ListsNext-line, ListsNext-symbols, symbols-inside, symbols_text-is}
-use Rattle.mdmp_tool.proofs.SameRuns.{over_listing}
+use Rattle.mdmp_tool.proofs.Symbols.{IsBehindNext-aside, Leaves-cut, Leaves-done, Leaves-fault, Leaves-later, Leaves-listed, ListsNext-cut, ListsNext-fault, ListsNext-line, ListsNext-symbols, end-more, fault-more, refused_by, symbols-inside, symbols_text-is}
+use Rattle.mdmp_tool.proofs.SameRuns.{over_fault, over_listing, run_list, run_none, run_then}
 use Rattle.mdmp_tool.proofs.list.list_next.Goals as goal
 
 pub returns-in-Err-put_item-clause-lists : goal.returns-in-Err-put_item-clause-lists
@@ -20,7 +20,7 @@ returns-in_err-put_symbols-clause-lists g c = λ file content left known.
     let x = c.in-Ok-Some.item in
     let holds = c.next.follows.holds-at-none.list in
     let f = c.in_err-put_symbols.field-0.0 in
-    let is : c.from_residual.result ≡ Err f = search rules in
+    let is = refused_by c.from_residual.result f c.from_residual.ensures.1 in
     let first : slice_get left.items 0 ≡ Some (plain x) = rw c.in-Ok-Some.field-0-is at (c.in-Ok-Some.ensures.gives left known) in
     let line = symbols_text-is c.args.form file _ _ _ _ holds.same.limit c.symbols_of.ensures in
     let end = λ (text : List ℕ). PutsSymbols text (g.O.Out.state c.put_item.new.out) (Err f) (g.O.Out.state c.put_symbols.new.out) in
@@ -31,7 +31,7 @@ pub returns-in_err-put_symbols-clause-leaves : goal.returns-in_err-put_symbols-c
 returns-in_err-put_symbols-clause-leaves g c =
     let holds = c.next.follows.holds-at-none.list in
     let f = c.in_err-put_symbols.field-0.0 in
-    let is : c.from_residual.result ≡ Err f = search rules in
+    let is = refused_by c.from_residual.result f c.from_residual.ensures.1 in
     rw is (Leaves-fault f _ _ _ _ (Leaves-later _ _ _ _ _ _ _ (Err f) holds.spends.fetches c.in-Ok.ensures.steady c.in_err-put_symbols.ensures.leaves))
 
 pub returns-clause-lists : goal.returns-clause-lists
@@ -75,3 +75,52 @@ pub returns-in-Err-clause-over : goal.returns-in-Err-clause-over
 returns-in-Err-clause-over g c =
     let holds = c.next.follows.holds-at-none in
     rw c.told_list.ensures (over_listing Bool c.in-Err.fault c.next.follows.lender-at-none (rw c.in-Err.is at holds.list.spends.refused))
+
+pub returns-in-Ok-None-clause-lists : goal.returns-in-Ok-None-clause-lists
+returns-in-Ok-None-clause-lists g c = λ file content left known. (rw c.in-Ok-None.field-0-is at (c.in-Ok-None.ensures.gives left known), refl)
+
+pub returns-in-Ok-None-clause-rest : goal.returns-in-Ok-None-clause-rest
+returns-in-Ok-None-clause-rest g c = end-more _ refl
+
+pub returns-in-Ok-None-clause-leaves : goal.returns-in-Ok-None-clause-leaves
+returns-in-Ok-None-clause-leaves g c = Leaves-done _ _ _ _ _ false c.next.follows.holds-at-none.list.spends.fetches refl
+
+pub returns-in-Ok-None-clause-same : goal.returns-in-Ok-None-clause-same
+returns-in-Ok-None-clause-same g c = run_list _ _ _ (run_none _) c.next.follows.holds-at-none.list.same
+
+pub returns-in-Err-put_item-clause-rest : goal.returns-in-Err-put_item-clause-rest
+returns-in-Err-put_item-clause-rest g c = fault-more _
+
+pub returns-in-Err-put_item-clause-leaves : goal.returns-in-Err-put_item-clause-leaves
+returns-in-Err-put_item-clause-leaves g c = Leaves-cut _ _ _ _ _ c.next.follows.holds-at-none.list.spends.fetches c.in-Err-put_item.ensures.refused
+
+pub returns-in-Err-put_item-clause-same : goal.returns-in-Err-put_item-clause-same
+returns-in-Err-put_item-clause-same g c = run_list _ _ _ (run_none _) c.next.follows.holds-at-none.list.same
+
+pub returns-in_err-put_symbols-clause-rest : goal.returns-in_err-put_symbols-clause-rest
+returns-in_err-put_symbols-clause-rest g c =
+    let f = c.in_err-put_symbols.field-0.0 in
+    let is = refused_by c.from_residual.result f c.from_residual.ensures.1 in
+    rw is (fault-more f)
+
+pub returns-in_err-put_symbols-clause-same : goal.returns-in_err-put_symbols-clause-same
+returns-in_err-put_symbols-clause-same g c = run_then _ _ _ (run_list _ _ _ (run_none _) c.next.follows.holds-at-none.list.same) c.in_err-put_symbols.ensures.same
+
+pub returns-in_err-put_symbols-clause-over : goal.returns-in_err-put_symbols-clause-over
+returns-in_err-put_symbols-clause-over g c =
+    let f = c.in_err-put_symbols.field-0.0 in
+    let is = refused_by c.from_residual.result f c.from_residual.ensures.1 in
+    rw is (over_fault (Unit {0}) Bool f _ c.in_err-put_symbols.ensures.over)
+
+pub returns-clause-rest : goal.returns-clause-rest
+returns-clause-rest g c = λ more.
+    IsBehindNext-aside _ _ _ c.in-Ok-Some.item (rw (c.in-Ok-Some.is, c.in-Ok-Some.field-0-is) at c.next.follows.holds-at-none.list.stands) c.in_ok-put_symbols.ensures.stays
+
+pub returns-clause-same : goal.returns-clause-same
+returns-clause-same g c = run_then _ _ _ (run_list _ _ _ (run_none _) c.next.follows.holds-at-none.list.same) c.in_ok-put_symbols.ensures.same
+
+pub returns-in-Err-clause-rest : goal.returns-in-Err-clause-rest
+returns-in-Err-clause-rest g c = fault-more _
+
+pub returns-in-Err-clause-same : goal.returns-in-Err-clause-same
+returns-in-Err-clause-same g c = run_list _ _ _ (run_none _) c.next.follows.holds-at-none.list.same

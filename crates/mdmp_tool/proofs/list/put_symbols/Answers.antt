@@ -1,0 +1,27 @@
+use Rattle.mdmp_tool.proofs.Symbols.{Leaves-cut, Leaves-done}
+use Rattle.mdmp_tool.proofs.SameRuns.{run_aside}
+use Rattle.mdmp_tool.proofs.list.put_symbols.Goals as goal
+
+pub returns-in-Ok-put_pdb-clause-stays : goal.returns-in-Ok-put_pdb-clause-stays
+returns-in-Ok-put_pdb-clause-stays g c = c.codeview.follows.holds-at-none.same
+
+pub returns-in-Ok-put_pdb-clause-leaves : goal.returns-in-Ok-put_pdb-clause-leaves
+returns-in-Ok-put_pdb-clause-leaves g c = Leaves-done _ _ _ _ _ tt c.codeview.follows.holds-at-none.fetches c.in-Ok-put_pdb.ensures.steady
+
+pub returns-in-Ok-put_pdb-clause-same : goal.returns-in-Ok-put_pdb-clause-same
+returns-in-Ok-put_pdb-clause-same g c = run_aside _ _ _ _ c.codeview.follows.holds-at-none
+
+pub returns-in-Err-put_pdb-clause-stays : goal.returns-in-Err-put_pdb-clause-stays
+returns-in-Err-put_pdb-clause-stays g c = c.codeview.follows.holds-at-none.same
+
+pub returns-in-Err-put_pdb-clause-leaves : goal.returns-in-Err-put_pdb-clause-leaves
+returns-in-Err-put_pdb-clause-leaves g c = Leaves-cut _ _ _ _ _ c.codeview.follows.holds-at-none.fetches c.in-Err-put_pdb.ensures.refused
+
+pub returns-in-Err-put_pdb-clause-same : goal.returns-in-Err-put_pdb-clause-same
+returns-in-Err-put_pdb-clause-same g c = run_aside _ _ _ _ c.codeview.follows.holds-at-none
+
+pub returns-in-Err-clause-stays : goal.returns-in-Err-clause-stays
+returns-in-Err-clause-stays g c = c.codeview.follows.holds-at-none.same
+
+pub returns-in-Err-clause-same : goal.returns-in-Err-clause-same
+returns-in-Err-clause-same g c = run_aside _ _ _ _ c.codeview.follows.holds-at-none
