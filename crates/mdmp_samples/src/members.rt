@@ -120,11 +120,7 @@ fn is_member(alloc: Global, value: &Value, wanted: Member<'_>) -> bool {
         Member::Hex4(number) => is_text(value, format!(in alloc; "0x{number:04x}")),
         Member::Hex8(number) => is_text(value, format!(in alloc; "0x{number:08x}")),
         Member::Hex16(number) => is_text(value, format!(in alloc; "0x{number:016x}")),
-        Member::Version(high, low) => {
-            let (a, b) = (high / 65536, high % 65536);
-            let (c, d) = (low / 65536, low % 65536);
-            is_text(value, format!(in alloc; "{a}.{b}.{c}.{d}"))
-        }
+        Member::Version(high, low) => is_version(alloc, value, high, low),
         Member::System(major, minor, build) => is_text(
             value,
             format!(in alloc; "{major}.{minor}.{build}"),
@@ -134,13 +130,23 @@ fn is_member(alloc: Global, value: &Value, wanted: Member<'_>) -> bool {
         Member::Values(count, values) => are_values(alloc, value, count, values),
         Member::Part(extent, size, offset) => is_part(value, extent, size, offset, 0),
         Member::Stack(start, extent, size, offset) => {
-            let start = format!(in alloc; "0x{start:016x}");
-            let is_start = match value.get("start") {
-                Some(value) => is_text(value, start),
-                None => false,
-            };
-            is_start && is_part(value, extent, size, offset, 1)
+            is_start(alloc, value, start) && is_part(value, extent, size, offset, 1)
         }
+    }
+}
+
+/// Whether a value is the text of a version of four parts, in two words.
+fn is_version(alloc: Global, value: &Value, high: u32, low: u32) -> bool {
+    let (a, b) = (high / 65536, high % 65536);
+    let (c, d) = (low / 65536, low % 65536);
+    is_text(value, format!(in alloc; "{a}.{b}.{c}.{d}"))
+}
+
+/// Whether a value starts at this address.
+fn is_start(alloc: Global, value: &Value, start: u64) -> bool {
+    match value.get("start") {
+        Some(value) => is_text(value, format!(in alloc; "0x{start:016x}")),
+        None => false,
     }
 }
 

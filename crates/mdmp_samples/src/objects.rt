@@ -81,8 +81,13 @@ fn objects_of(rt: &HostRuntime, command: &[&str], name: u32) -> Option<Vec<u8>> 
 /// How many objects are listed of a dump, or none where one is not what it is to be.
 fn listed_members(rt: &HostRuntime, dump: &str, name: u32) -> Option<u64> {
     let text = objects_of(rt, &["list", dump, "--json", "--pdb"], name)?;
+    listed_in(rt, dump, name, str::from_utf8(&text).ok()?)
+}
+
+/// The same of this text.
+fn listed_in(rt: &HostRuntime, dump: &str, name: u32, text: &str) -> Option<u64> {
     let mut lister = limited_lister(rt, dump, name)?;
-    listed_objects(rt.alloc(), str::from_utf8(&text).ok()?, &mut lister)
+    listed_objects(rt.alloc(), text, &mut lister)
 }
 
 /// The object of the next line.
@@ -130,13 +135,25 @@ fn compared(
     match awaited {
         Awaited::Item => compared_item(alloc, &object, lister),
         Awaited::Symbols(entry, index, place) => {
-            if !inside(u64::from(place.rva), u64::from(place.size), lister.size()) {
-                return None;
-            }
-            let bytes = lister.codeview(place).ok()?;
-            is_pdb(alloc, &object, entry, index, &bytes.read())?.then_some(Awaited::Item)
-        },
+            compared_symbols(alloc, &object, lister, entry, index, place)
+        }
     }
+}
+
+/// The same of the CodeView record that stands here, of a module of this entry and number.
+fn compared_symbols(
+    alloc: Global,
+    object: &Value,
+    lister: &mut DumpLister,
+    entry: u32,
+    index: u64,
+    place: Location,
+) -> Option<Awaited> {
+    if !inside(u64::from(place.rva), u64::from(place.size), lister.size()) {
+        return None;
+    }
+    let bytes = lister.codeview(place).ok()?;
+    is_pdb(alloc, object, entry, index, &bytes.read())?.then_some(Awaited::Item)
 }
 
 /// The same of the next item.
@@ -170,9 +187,14 @@ impl VerdictSink for JudgedEntries {
 /// How many objects are told of the entries of a dump, or none where one is not what it is to be.
 fn judged_members(rt: &HostRuntime, dump: &str, name: u32) -> Option<usize> {
     let text = objects_of(rt, &["check", dump, "--json"], name)?;
-    let mut lister = limited_lister(rt, dump, name)?;
-    let verdicts = verdicts_of(rt.alloc(), &mut lister)?;
+    let verdicts = judged_entries(rt, dump, name)?;
     judged_objects(rt.alloc(), str::from_utf8(&text).ok()?, &verdicts)
+}
+
+/// The verdicts of a dump's entries.
+fn judged_entries(rt: &HostRuntime, dump: &str, name: u32) -> Option<Vec<Verdict>> {
+    let mut lister = limited_lister(rt, dump, name)?;
+    verdicts_of(rt.alloc(), &mut lister)
 }
 
 fn verdicts_of(alloc: Global, lister: &mut DumpLister) -> Option<Vec<Verdict>> {

@@ -37,9 +37,11 @@ pub fn is_pdb(
     index: u64,
     told: &CodeView<'_>,
 ) -> Option<bool> {
-    let line = ("line", Member::Word("pdb"));
-    let entry = ("entry", Member::Number(u64::from(entry)));
-    let index = ("index", Member::Number(index));
+    let front = [
+        ("line", Member::Word("pdb")),
+        ("entry", Member::Number(u64::from(entry))),
+        ("index", Member::Number(index)),
+    ];
     match told {
         CodeView::Rsds {
             guid,
@@ -47,44 +49,67 @@ pub fn is_pdb(
             name,
             ended,
         } => {
-            let members = [
-                line,
-                entry,
-                index,
-                ("kind", Member::Word("rsds")),
-                ("guid", Member::Text),
-                ("age", Member::Number(u64::from(*age))),
-                ("debug_id", Member::Text),
-                ("name", Member::Bytes(name)),
-                ("cut", Member::Truth(!*ended)),
-            ];
             let is_named = has_identity(alloc, object, guid, *age)?;
-            Some(is_named && has_bytes(alloc, object, &members, name))
+            Some(is_named && is_rsds(alloc, object, front, *age, name, *ended))
         },
         CodeView::Other { signature, size } => {
-            let members = [
-                line,
-                entry,
-                index,
-                ("kind", Member::Word("other")),
-                ("signature", Member::Text),
-                ("size", Member::Number(u64::from(*size))),
-            ];
             let signature = hex::encode(alloc, signature).ok()?;
             let is_signed = has_word(object, "signature", signature.as_str());
-            Some(is_signed && has_members(alloc, object, &members))
+            Some(is_signed && is_other(alloc, object, front, *size))
         },
-        CodeView::Short { size } => {
-            let members = [
-                line,
-                entry,
-                index,
-                ("kind", Member::Word("short")),
-                ("size", Member::Number(u64::from(*size))),
-            ];
-            Some(has_members(alloc, object, &members))
-        },
+        CodeView::Short { size } => Some(is_short(alloc, object, front, *size)),
     }
+}
+
+/// The first members of the object of a CodeView record.
+type Front = [(&'static str, Member<'static>); 3];
+
+/// Whether an object has the members of an RSDS record, whatever its identity is.
+fn is_rsds(
+    alloc: Global,
+    object: &Value,
+    [line, entry, index]: Front,
+    age: u32,
+    name: &[u8],
+    ended: bool,
+) -> bool {
+    let members = [
+        line,
+        entry,
+        index,
+        ("kind", Member::Word("rsds")),
+        ("guid", Member::Text),
+        ("age", Member::Number(u64::from(age))),
+        ("debug_id", Member::Text),
+        ("name", Member::Bytes(name)),
+        ("cut", Member::Truth(!ended)),
+    ];
+    has_bytes(alloc, object, &members, name)
+}
+
+/// The same of a record with another signature, whatever that is.
+fn is_other(alloc: Global, object: &Value, [line, entry, index]: Front, size: u32) -> bool {
+    let members = [
+        line,
+        entry,
+        index,
+        ("kind", Member::Word("other")),
+        ("signature", Member::Text),
+        ("size", Member::Number(u64::from(size))),
+    ];
+    has_members(alloc, object, &members)
+}
+
+/// The same of a record that is too short for a signature.
+fn is_short(alloc: Global, object: &Value, [line, entry, index]: Front, size: u32) -> bool {
+    let members = [
+        line,
+        entry,
+        index,
+        ("kind", Member::Word("short")),
+        ("size", Member::Number(u64::from(size))),
+    ];
+    has_members(alloc, object, &members)
 }
 
 /// Whether an object tells this identity of a symbol file, and what a symbol store is asked for by it and

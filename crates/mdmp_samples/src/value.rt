@@ -80,9 +80,13 @@ fn told_of(stream: &Stream<Global>) -> StreamLength {
 /// The streams of a dump's list.
 fn told_by_list(rt: &HostRuntime, dump: &str) -> Option<Vec<StreamLength>> {
     let mut lister = lister_of(rt, dump)?;
-    let mut lengths = Vec::new(rt.alloc());
+    lengths_in(rt.alloc(), &mut lister)
+}
+
+fn lengths_in(alloc: Global, lister: &mut DumpLister) -> Option<Vec<StreamLength>> {
+    let mut lengths = Vec::new(alloc);
     for _ in 0..u64::MAX {
-        if !add_next(&mut lister, &mut lengths)? {
+        if !add_next(lister, &mut lengths)? {
             return Some(lengths);
         }
     }

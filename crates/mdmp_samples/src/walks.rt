@@ -16,9 +16,13 @@ pub fn tell_walk(rt: &HostRuntime, dump: &str) -> Option<()> {
 /// How many entries a dump has, or none where one of them gives something else than in the list.
 fn entries_walked(rt: &HostRuntime, dump: &str) -> Option<u32> {
     let mut walker = walker_of(rt, dump)?;
+    walk_back(rt, dump, &mut walker)
+}
+
+fn walk_back(rt: &HostRuntime, dump: &str, walker: &mut DumpWalker) -> Option<u32> {
     let entries = walker.header().number_of_streams;
     for number in (0..entries).rev() {
-        compare_entry(rt, dump, &mut walker, number)?;
+        compare_entry(rt, dump, walker, number)?;
     }
     Some(entries)
 }
@@ -28,9 +32,15 @@ fn entries_walked(rt: &HostRuntime, dump: &str) -> Option<u32> {
 fn compare_entry(rt: &HostRuntime, dump: &str, walker: &mut DumpWalker, number: u32) -> Option<()> {
     seek(walker, number)?;
     let mut lister = lister_of(rt, dump)?;
-    skip_entries(&mut lister, number)?;
+    compare_items(&mut lister, walker, number)
+}
+
+/// Leaves out what is listed before this entry, and compares what both give from there on, up to what is
+/// not an item of the entry. None where they differ.
+fn compare_items(lister: &mut DumpLister, walker: &mut DumpWalker, number: u32) -> Option<()> {
+    skip_entries(lister, number)?;
     for _ in 0..u64::MAX {
-        if !compare_next(&mut lister, walker, number)? {
+        if !compare_next(lister, walker, number)? {
             return Some(());
         }
     }

@@ -86,9 +86,18 @@ fn compare_view(
     room: usize,
     file: &[u8],
 ) -> Option<()> {
-    let mut view = view_of(rt, dump, choice_of(stream_type)?)?;
-    let bytes = written_of(rt.alloc(), &mut view, room)?;
+    let bytes = written_by_view(rt, dump, stream_type, room)?;
     (bytes.as_slice() == file).then_some(())
+}
+
+fn written_by_view(
+    rt: &HostRuntime,
+    dump: &str,
+    stream_type: Option<u32>,
+    room: usize,
+) -> Option<Vec<u8>> {
+    let mut view = view_of(rt, dump, choice_of(stream_type)?)?;
+    written_of(rt.alloc(), &mut view, room)
 }
 
 fn choice_of(stream_type: Option<u32>) -> Option<Choice> {
