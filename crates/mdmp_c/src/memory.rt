@@ -1,8 +1,9 @@
 //! Calls that give memory of the dumped process.
+ghost use Rattle.mdmp_c.specs.Fault.{status_of};
 ghost use Rattle.mdmp_c.specs.Memory.{ReadsKept, ReadsMemory};
 
 use crate::addressing::read_by;
-use crate::fault::{NO_FAULT, PlainFault, of_kind, open_fault, plain_list_fault};
+use crate::fault::{NO_FAULT, PlainFault, of_kind, open_fault, plain_list_fault, status_of};
 use crate::giving::refuse;
 use crate::limits::{PlainLimits, limits_of};
 use crate::rows::RangeRow;
@@ -24,29 +25,40 @@ pub extern "C" fn mdmp_memory_(
 ) -> u32
     ensures { ReadsMemory file.now limits.now address result fault.new out.old out.new known.old known.new }
 {
-    let mut none = 0;
+    *fault = read_memory(alloc, file, limits, address, out, known);
+    status_of(fault)
+}
+
+/// Puts memory of the dumped process into buffers, and tells what was wrong, or that nothing was.
+fn read_memory(
+    alloc: Global,
+    file: &[u8],
+    limits: &PlainLimits,
+    address: u64,
+    out: &mut [u8],
+    known: &mut [bool],
+) -> PlainFault
+    ensures { ReadsMemory file.now limits.now address (status_of result) result out.old out.new known.old known.new }
+{
     if out.len() != known.len() {
-        return refuse(of_kind(70), &mut none, fault);
+        return of_kind(70);
     }
     let Some(limits) = limits_of(limits) else {
-        return refuse(of_kind(67), &mut none, fault);
+        return of_kind(67);
     };
     let source = Source::new(MemoryStore::new(file));
     let mut lister = match Lister::open(alloc, source, limits, Choice::memory_lists()) {
         Ok(lister) => lister,
-        Err(refused) => return refuse(open_fault(refused.fault), &mut none, fault),
+        Err(refused) => return open_fault(refused.fault),
     };
     match lister.list_ranges() {
         Ok(()) => {}
-        Err(found) => return refuse(plain_list_fault(found), &mut none, fault),
+        Err(found) => return plain_list_fault(found),
     }
     match lister.read_address(address, out, known) {
-        Ok(()) => {
-            *fault = NO_FAULT;
-            0
-        }
+        Ok(()) => NO_FAULT,
         // The store is memory, which does not fail.
-        Err(_) => refuse(of_kind(69), &mut none, fault),
+        Err(_) => of_kind(69),
     }
 }
 

@@ -1,5 +1,7 @@
 //! What a module tells of its symbol file.
-ghost use Rattle.mdmp_c.specs.Symbols.{GivesSymbols, IsPlaceInside, RefusesPlace};
+ghost use Rattle.std.specs.Prelude.{◌≡◌};
+ghost use Rattle.mdmp_wire.specs.CodeView.{codeview_of};
+ghost use Rattle.mdmp_c.specs.Symbols.{GivesSymbols, IsPlaceInside, RefusesPlace, place_location, symbols_row};
 
 use crate::fault::{NO_FAULT, PlainFault, of_kind};
 use crate::parts::PartPlace;
@@ -43,7 +45,6 @@ const NO_SYMBOLS: Symbols = Symbols {
 };
 
 /// Gives what the CodeView record at a place tells, as the `codeview` of a module.
-#[tactic(auto, unfolding(mdmp_wire::specs::Number::array_at))]
 #[unsafe(no_mangle)]
 pub extern "C" fn mdmp_symbols_(
     file: &[u8],
@@ -54,10 +55,10 @@ pub extern "C" fn mdmp_symbols_(
     ensures inside { IsPlaceInside file.now place.now → GivesSymbols file.now place.now result fault.new out.new }
     ensures outside { (IsPlaceInside file.now place.now → ⊥) → RefusesPlace place.now result fault.new out.new }
 {
-    *out = NO_SYMBOLS;
     let at = u64::from(place.rva);
     let size = u64::from(place.size);
     if place.size == 0 || !inside(at, size, file.len() as u64) {
+        *out = NO_SYMBOLS;
         *fault = PlainFault {
             offset: at,
             size,
@@ -66,6 +67,17 @@ pub extern "C" fn mdmp_symbols_(
         };
         return 1;
     }
+    *out = symbols_at(file, place);
+    *fault = NO_FAULT;
+    0
+}
+
+/// What the CodeView record at a place inside the file tells.
+#[tactic(auto, unfolding(mdmp_wire::specs::Number::array_at))]
+fn symbols_at(file: &[u8], place: &PartPlace) -> Symbols
+    requires { IsPlaceInside file.now place.now }
+    ensures { result ≡ symbols_row place.now (codeview_of file.now (place_location place.now) place.now.size) }
+{
     let start = place.rva as usize;
     let end = start + place.size as usize;
     let middle = start + (place.size as usize).min(24);
@@ -75,19 +87,22 @@ pub extern "C" fn mdmp_symbols_(
             age,
             name,
             ended,
-        } => {
-            out.age = age;
-            out.guid = guid.into_bytes();
-            out.name_offset = middle as u64;
-            out.name_size = (name.len() % (1 << 32)) as u32;
-            out.name_ended = if ended { 1 } else { 0 };
-        }
-        CodeView::Other { signature, size: _ } => {
-            out.kind = 1;
-            out.signature = signature;
-        }
-        CodeView::Short { size: _ } => out.kind = 2,
+        } => Symbols {
+            age,
+            guid: guid.into_bytes(),
+            name_offset: middle as u64,
+            name_size: (name.len() % (1 << 32)) as u32,
+            name_ended: if ended { 1 } else { 0 },
+            ..NO_SYMBOLS
+        },
+        CodeView::Other { signature, size: _ } => Symbols {
+            kind: 1,
+            signature,
+            ..NO_SYMBOLS
+        },
+        CodeView::Short { size: _ } => Symbols {
+            kind: 2,
+            ..NO_SYMBOLS
+        },
     }
-    *fault = NO_FAULT;
-    0
 }

@@ -9,7 +9,7 @@ use Rattle.mdmp_lister.specs.declared.fault.FaultKind.TheVariants as kinds
 use Rattle.mdmp_c.specs.Limits.{AreLimits, HasBudget}
 use Rattle.mdmp_c.proofs.Remembered.{ReadsMemory-fault, ReadsMemory-refused}
 use Rattle.mdmp_c.proofs.Stopping.{has_budget, listing_over, opening_over}
-use Rattle.mdmp_c.proofs.memory.mdmp_memory_.Goals as goal
+use Rattle.mdmp_c.proofs.memory.read_memory.Goals as goal
 
 pub returns-in-Err : goal.returns-in-Err
 returns-in-Err c =
@@ -19,7 +19,7 @@ returns-in-Err c =
     ReadsMemory-refused file c.args.limits.now c.memory_lists.result c.args.address _ _ valid c.if-out-known.false c.memory_lists.ensures c.in-Err.refused.fault _ _
     (opening_over c.args.limits.now c.in-Some.limits _ c.in-Err.refused.fault _ c.in-Some.ensures.3 c.in-Err.ensures.kept)
     (c.in-Err.ensures.opens file good.known) (c.in-Err.ensures.good file good)
-    (c.refuse-in-Err.ensures.status ∙ ap status_of c.open_fault.ensures) (c.refuse-in-Err.ensures.fault ∙ c.open_fault.ensures)
+    (ap status_of c.open_fault.ensures) c.open_fault.ensures
 
 pub returns-in-Err-list_ranges : goal.returns-in-Err-list_ranges
 returns-in-Err-list_ranges c =
@@ -36,7 +36,7 @@ returns-in-Err-list_ranges c =
     (listing_over c.in-Some.limits.budget f c.list_ranges.new.self (c.in-Err-list_ranges.ensures.same.budget ∙ new.list.counts.budget_is) c.in-Err-list_ranges.ensures.refused is) in
     ReadsMemory-fault file c.args.limits.now name choice f _ _ _ _ _ valid c.if-out-known.false c.memory_lists.ensures c.in-Some.ensures.2 (c.in-Ok.ensures.opens file good.known)
     (c.in-Err-list_ranges.ensures.good file now) (c.in-Err-list_ranges.ensures.lists (listing file choice name) left) can
-    (c.refuse-in-Err-list_ranges.ensures.status ∙ ap status_of c.plain_list_fault.ensures) (c.refuse-in-Err-list_ranges.ensures.fault ∙ c.plain_list_fault.ensures)
+    (ap status_of c.plain_list_fault.ensures) c.plain_list_fault.ensures
 
 pub returns : goal.returns
 returns c =
