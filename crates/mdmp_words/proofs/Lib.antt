@@ -1,5 +1,4 @@
 pub mod AskingLemmas
-pub mod CommandLemmas
 pub mod RequestRows
 pub mod TypeLemmas
 pub mod WordLemmas

@@ -1,8 +1,8 @@
 -- The command line of `mdmp`, as `clap` reads it: its commands, and the words and options of each.
-use Rattle.std.specs.Prelude.{Bool, List, [], ◌∷◌, Some, true, codes, fold}
+use Rattle.std.specs.Prelude.{◌≡◌, Bool, List, [], ◌∷◌, Some, true, false, codes, fold}
 use Rattle.clap.specs.Lexer.{usize_max}
 use Rattle.clap.specs.Walk.{Rule, Text}
-use Rattle.clap.specs.Simple.{App, Shape, new_app, new_rule, on_top, with_rule, with_subcommand}
+use Rattle.clap.specs.Simple.{App, Shape, app_of, new_app, new_rule, on_top, with_rule, with_subcommand}
 use Rattle.clap.specs.declared.builder.action.ArgAction.TheVariants.{Append, Set, SetTrue}
 use Rattle.clap.specs.declared.builder.command.Command.{Command}
 use Rattle.clap.specs.declared.builder.command.Command.TheViews.{out-Command}
@@ -70,3 +70,8 @@ commands = fold with_subcommand program (check_command ∷ list_command ∷ hex_
 -- an option of the command stands for its subcommands too
 abbrev pub has_globals : Command → Bool
 has_globals made = (out-Command made).has_globals
+
+-- a command has this form, and no option that stands for its subcommands too
+pub record IsCommand (app : App) (made : Command) : Type 0 where
+  pub app_is : app_of made ≡ app
+  pub local : has_globals made ≡ false

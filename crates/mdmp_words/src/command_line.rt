@@ -1,7 +1,7 @@
 //! The commands and their words, as `clap` reads them. It takes its memory from `Global` alone.
 ghost use Rattle.std.specs.Prelude.{◌≡◌, IfOk, false};
-ghost use Rattle.clap.specs.Words.{app_of, new_app, rule_of, shape_of};
-ghost use Rattle.mdmp_words.specs.CommandLine.{budgeted, check_command, commands, copy_command, flag, has_globals, hex_command, limited, list_command, number_option, program, word, words};
+ghost use Rattle.clap.specs.Words.{App, Rule, Shape, app_of, new_app, rule_of, shape_of, with_rule, with_subcommand};
+ghost use Rattle.mdmp_words.specs.CommandLine.{IsCommand, budgeted, check_command, commands, copy_command, flag, has_globals, hex_command, limited, list_command, number_option, program, word, words};
 
 use crate::help;
 use clap::{Arg, ArgAction, Command};
@@ -11,11 +11,34 @@ use std::alloc::{AllocError, Global};
 pub(crate) fn command_line<'a>(alloc: Global) -> Result<Command<'a>, AllocError>
     ensures { IfOk result (λ made. app_of made ≡ commands) }
 {
-    program(alloc)?
-        .subcommand(check_command(alloc)?)?
-        .subcommand(list_command(alloc)?)?
-        .subcommand(hex_command(alloc)?)?
-        .subcommand(copy_command(alloc)?)
+    let made = with_command(program(alloc), check_command(alloc));
+    let made = with_command(made, list_command(alloc));
+    let made = with_command(made, hex_command(alloc));
+    with_command(made, copy_command(alloc))
+}
+
+/// A program with one more command, where there was memory for both. A chain of `?` has a way out at each step, by
+/// which all that was made is given back, so one step stands here, and another in `with_arg`.
+fn with_command<'a>(
+    program: Result<Command<'a>, AllocError>,
+    command: Result<Command<'a>, AllocError>,
+) -> Result<Command<'a>, AllocError>
+    ensures { (app : App) (shape : Shape) → IfOk program.entry (λ made. app_of made ≡ app)
+        → IfOk command.entry (λ made. shape_of made ≡ shape) → IfOk command.entry (λ made. has_globals made ≡ false)
+        → IfOk result (λ made. app_of made ≡ with_subcommand app shape) }
+{
+    program?.subcommand(command?)
+}
+
+/// A command with one more word or option.
+fn with_arg<'a>(
+    command: Result<Command<'a>, AllocError>,
+    arg: Arg<'a>,
+) -> Result<Command<'a>, AllocError>
+    ensures { (app : App) (rule : Rule) → IfOk command.entry (IsCommand app) → rule_of arg.entry ≡ rule
+        → arg.entry.global ≡ false → IfOk result (IsCommand (with_rule app rule)) }
+{
+    command?.arg(arg)
 }
 
 /// The program, with no command yet.
@@ -31,8 +54,7 @@ fn program<'a>(alloc: Global) -> Result<Command<'a>, AllocError>
 
 /// A command of this name, with what help says of it above its words and under them.
 fn described<'a>(alloc: Global, name: &'a str, above: &'a str, under: &'a str) -> Command<'a>
-    ensures app { app_of result ≡ new_app name.entry.now }
-    ensures local { has_globals result ≡ false }
+    ensures { IsCommand (new_app name.entry.now) result }
 {
     Command::new(alloc, name).about(above).after_help(under)
 }
@@ -41,44 +63,43 @@ fn check_command<'a>(alloc: Global) -> Result<Command<'a>, AllocError>
     ensures shape { IfOk result (λ made. shape_of made ≡ check_command) }
     ensures local { IfOk result (λ made. has_globals made ≡ false) }
 {
-    let file = word(alloc, "FILE", help::FILE);
-    let command = described(alloc, "check", help::CHECK_ABOUT, help::CHECK_AFTER)
-        .arg(file)?
-        .arg(flag(alloc, "json", help::JSON))?;
-    with_budget(alloc, command)
+    let made = described(alloc, "check", help::CHECK_ABOUT, help::CHECK_AFTER);
+    let made = with_arg(Ok(made), word(alloc, "FILE", help::FILE));
+    let made = with_arg(made, flag(alloc, "json", help::JSON));
+    with_budget(alloc, made)
 }
 
 fn list_command<'a>(alloc: Global) -> Result<Command<'a>, AllocError>
     ensures shape { IfOk result (λ made. shape_of made ≡ list_command) }
     ensures local { IfOk result (λ made. has_globals made ≡ false) }
 {
-    let command = described(alloc, "list", help::LIST_ABOUT, help::LIST_AFTER)
-        .arg(word(alloc, "FILE", help::FILE))?
-        .arg(flag(alloc, "pdb", help::PDB))?
-        .arg(flag(alloc, "json", help::JSON))?;
-    with_budget(alloc, command)
+    let made = described(alloc, "list", help::LIST_ABOUT, help::LIST_AFTER);
+    let made = with_arg(Ok(made), word(alloc, "FILE", help::FILE));
+    let made = with_arg(made, flag(alloc, "pdb", help::PDB));
+    let made = with_arg(made, flag(alloc, "json", help::JSON));
+    with_budget(alloc, made)
 }
 
 fn hex_command<'a>(alloc: Global) -> Result<Command<'a>, AllocError>
     ensures shape { IfOk result (λ made. shape_of made ≡ hex_command) }
     ensures local { IfOk result (λ made. has_globals made ≡ false) }
 {
-    let command = described(alloc, "hex", help::HEX_ABOUT, help::HEX_AFTER)
-        .arg(word(alloc, "FILE", help::FILE))?
-        .arg(word(alloc, "ADDRESS", help::ADDRESS))?
-        .arg(word(alloc, "LENGTH", help::LENGTH))?;
-    with_budget(alloc, command)
+    let made = described(alloc, "hex", help::HEX_ABOUT, help::HEX_AFTER);
+    let made = with_arg(Ok(made), word(alloc, "FILE", help::FILE));
+    let made = with_arg(made, word(alloc, "ADDRESS", help::ADDRESS));
+    let made = with_arg(made, word(alloc, "LENGTH", help::LENGTH));
+    with_budget(alloc, made)
 }
 
 fn copy_command<'a>(alloc: Global) -> Result<Command<'a>, AllocError>
     ensures shape { IfOk result (λ made. shape_of made ≡ copy_command) }
     ensures local { IfOk result (λ made. has_globals made ≡ false) }
 {
-    let command = described(alloc, "copy", help::COPY_ABOUT, help::COPY_AFTER)
-        .arg(word(alloc, "IN", help::IN))?
-        .arg(word(alloc, "OUT", help::OUT))?
-        .arg(words(alloc, "TYPE", help::TYPE))?;
-    with_limits(alloc, command)
+    let made = described(alloc, "copy", help::COPY_ABOUT, help::COPY_AFTER);
+    let made = with_arg(Ok(made), word(alloc, "IN", help::IN));
+    let made = with_arg(made, word(alloc, "OUT", help::OUT));
+    let made = with_arg(made, words(alloc, "TYPE", help::TYPE));
+    with_limits(alloc, made)
 }
 
 /// A word that has to be there, at its place.
@@ -114,21 +135,25 @@ fn flag<'a>(alloc: Global, name: &'a str, help: &'a str) -> Arg<'a>
 }
 
 /// A command with the options that limit how a file is read.
-fn with_limits<'a>(alloc: Global, command: Command<'a>) -> Result<Command<'a>, AllocError>
-    ensures app { IfOk result (λ made. app_of made ≡ limited (app_of command.entry)) }
-    ensures local { IfOk result (λ made. has_globals made ≡ has_globals command.entry) }
+fn with_limits<'a>(
+    alloc: Global,
+    command: Result<Command<'a>, AllocError>,
+) -> Result<Command<'a>, AllocError>
+    ensures { (app : App) → IfOk command.entry (IsCommand app) → IfOk result (IsCommand (limited app)) }
 {
-    command
-        .arg(number_option(alloc, "window", help::WINDOW))?
-        .arg(number_option(alloc, "name", help::NAME))
+    let made = with_arg(command, number_option(alloc, "window", help::WINDOW));
+    with_arg(made, number_option(alloc, "name", help::NAME))
 }
 
 /// The same with the option that limits how much of a file is read.
-fn with_budget<'a>(alloc: Global, command: Command<'a>) -> Result<Command<'a>, AllocError>
-    ensures app { IfOk result (λ made. app_of made ≡ budgeted (limited (app_of command.entry))) }
-    ensures local { IfOk result (λ made. has_globals made ≡ has_globals command.entry) }
+fn with_budget<'a>(
+    alloc: Global,
+    command: Result<Command<'a>, AllocError>,
+) -> Result<Command<'a>, AllocError>
+    ensures { (app : App) → IfOk command.entry (IsCommand app) → IfOk result (IsCommand (budgeted (limited app))) }
 {
-    with_limits(alloc, command)?.arg(number_option(alloc, "budget", help::BUDGET))
+    let made = with_limits(alloc, command);
+    with_arg(made, number_option(alloc, "budget", help::BUDGET))
 }
 
 /// An option that takes a number.

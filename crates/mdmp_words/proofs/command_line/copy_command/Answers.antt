@@ -1,23 +1,21 @@
-use Rattle.std.proofs.Common.{◌∙◌, ap, codes}
+use Rattle.std.proofs.Common.{ap, codes}
 use Rattle.std.proofs.lemmas.Result.{IfOk-weaker}
-use Rattle.mdmp_words.proofs.CommandLemmas.{adds_rule, adds_local}
 use Rattle.clap.specs.Words.{App}
-use Rattle.mdmp_words.specs.CommandLine.{limited, word, words}
+use Rattle.mdmp_words.specs.CommandLine.{word, words}
 use Rattle.mdmp_words.proofs.command_line.copy_command.Goals as goal
 
 pub returns-clause-shape : goal.returns-clause-shape
 returns-clause-shape c =
-    let app1 = adds_rule c.described.result c.in_ok-arg.field-0 c.word.result _ (word (codes "IN")) c.in_ok-arg.ensures c.word.ensures.local
-    c.described.ensures.app c.word.ensures.rule in
-    let app2 = adds_rule c.in_ok-arg.field-0 c.in_ok-arg-2.field-0 c.word-2.result _ (word (codes "OUT")) c.in_ok-arg-2.ensures c.word-2.ensures.local
-    app1 c.word-2.ensures.rule in
-    let app3 = adds_rule c.in_ok-arg-2.field-0 c.in_ok-command.command c.words.result _ (words (codes "TYPE")) c.in_ok-command.ensures c.words.ensures.local
-    app2 c.words.ensures.rule in
-    IfOk-weaker c.with_limits.result _ _ (λ made is. ap (λ (a : App). a.top) (is ∙ ap limited app3)) c.with_limits.ensures.app
+    let made0 = c.described-made.ensures in
+    let made1 = c.with_arg-made.ensures _ (word (codes "IN")) made0 c.word.ensures.rule c.word.ensures.local in
+    let made2 = c.with_arg-made-2.ensures _ (word (codes "OUT")) made1 c.word-2.ensures.rule c.word-2.ensures.local in
+    let made3 = c.with_arg-made-3.ensures _ (words (codes "TYPE")) made2 c.words.ensures.rule c.words.ensures.local in
+    IfOk-weaker c.with_limits.result _ _ (λ made is. ap (λ (a : App). a.top) is.app_is) (c.with_limits.ensures _ made3)
 
 pub returns-clause-local : goal.returns-clause-local
 returns-clause-local c =
-    let local1 = adds_local c.described.result c.in_ok-arg.field-0 c.word.result c.in_ok-arg.ensures c.word.ensures.local ∙ c.described.ensures.local in
-    let local2 = adds_local c.in_ok-arg.field-0 c.in_ok-arg-2.field-0 c.word-2.result c.in_ok-arg-2.ensures c.word-2.ensures.local ∙ local1 in
-    let local3 = adds_local c.in_ok-arg-2.field-0 c.in_ok-command.command c.words.result c.in_ok-command.ensures c.words.ensures.local ∙ local2 in
-    IfOk-weaker c.with_limits.result _ _ (λ made is. is ∙ local3) c.with_limits.ensures.local
+    let made0 = c.described-made.ensures in
+    let made1 = c.with_arg-made.ensures _ (word (codes "IN")) made0 c.word.ensures.rule c.word.ensures.local in
+    let made2 = c.with_arg-made-2.ensures _ (word (codes "OUT")) made1 c.word-2.ensures.rule c.word-2.ensures.local in
+    let made3 = c.with_arg-made-3.ensures _ (words (codes "TYPE")) made2 c.words.ensures.rule c.words.ensures.local in
+    IfOk-weaker c.with_limits.result _ _ (λ made is. is.local) (c.with_limits.ensures _ made3)

@@ -1,23 +1,21 @@
-use Rattle.std.proofs.Common.{◌∙◌, ap, codes}
+use Rattle.std.proofs.Common.{ap, codes}
 use Rattle.std.proofs.lemmas.Result.{IfOk-weaker}
-use Rattle.mdmp_words.proofs.CommandLemmas.{adds_rule, adds_local}
 use Rattle.clap.specs.Words.{App}
-use Rattle.mdmp_words.specs.CommandLine.{budgeted, limited, word}
+use Rattle.mdmp_words.specs.CommandLine.{word}
 use Rattle.mdmp_words.proofs.command_line.hex_command.Goals as goal
 
 pub returns-clause-shape : goal.returns-clause-shape
 returns-clause-shape c =
-    let app1 = adds_rule c.described.result c.in_ok-arg.field-0 c.word.result _ (word (codes "FILE")) c.in_ok-arg.ensures c.word.ensures.local
-    c.described.ensures.app c.word.ensures.rule in
-    let app2 = adds_rule c.in_ok-arg.field-0 c.in_ok-arg-2.field-0 c.word-2.result _ (word (codes "ADDRESS")) c.in_ok-arg-2.ensures c.word-2.ensures.local
-    app1 c.word-2.ensures.rule in
-    let app3 = adds_rule c.in_ok-arg-2.field-0 c.in_ok-command.command c.word-3.result _ (word (codes "LENGTH")) c.in_ok-command.ensures c.word-3.ensures.local
-    app2 c.word-3.ensures.rule in
-    IfOk-weaker c.with_budget.result _ _ (λ made is. ap (λ (a : App). a.top) (is ∙ ap (λ (a : App). budgeted (limited a)) app3)) c.with_budget.ensures.app
+    let made0 = c.described-made.ensures in
+    let made1 = c.with_arg-made.ensures _ (word (codes "FILE")) made0 c.word.ensures.rule c.word.ensures.local in
+    let made2 = c.with_arg-made-2.ensures _ (word (codes "ADDRESS")) made1 c.word-2.ensures.rule c.word-2.ensures.local in
+    let made3 = c.with_arg-made-3.ensures _ (word (codes "LENGTH")) made2 c.word-3.ensures.rule c.word-3.ensures.local in
+    IfOk-weaker c.with_budget.result _ _ (λ made is. ap (λ (a : App). a.top) is.app_is) (c.with_budget.ensures _ made3)
 
 pub returns-clause-local : goal.returns-clause-local
 returns-clause-local c =
-    let local1 = adds_local c.described.result c.in_ok-arg.field-0 c.word.result c.in_ok-arg.ensures c.word.ensures.local ∙ c.described.ensures.local in
-    let local2 = adds_local c.in_ok-arg.field-0 c.in_ok-arg-2.field-0 c.word-2.result c.in_ok-arg-2.ensures c.word-2.ensures.local ∙ local1 in
-    let local3 = adds_local c.in_ok-arg-2.field-0 c.in_ok-command.command c.word-3.result c.in_ok-command.ensures c.word-3.ensures.local ∙ local2 in
-    IfOk-weaker c.with_budget.result _ _ (λ made is. is ∙ local3) c.with_budget.ensures.local
+    let made0 = c.described-made.ensures in
+    let made1 = c.with_arg-made.ensures _ (word (codes "FILE")) made0 c.word.ensures.rule c.word.ensures.local in
+    let made2 = c.with_arg-made-2.ensures _ (word (codes "ADDRESS")) made1 c.word-2.ensures.rule c.word-2.ensures.local in
+    let made3 = c.with_arg-made-3.ensures _ (word (codes "LENGTH")) made2 c.word-3.ensures.rule c.word-3.ensures.local in
+    IfOk-weaker c.with_budget.result _ _ (λ made is. is.local) (c.with_budget.ensures _ made3)
