@@ -75,13 +75,17 @@ entry_line s = concat (codes "stream " ∷ decimal s.entry ∷ codes " type " �
     ∷ codes " size " ∷ decimal s.location.size ∷ codes " rva " ∷ decimal s.location.rva ∷ codes "\n" ∷ [])
 
 -- `thread <k> id <n> suspend <n> class <n> priority <n> teb <x16> stack <x16> <part> context <part>`
-abbrev pub thread_line : ThreadItem → List ℕ
-thread_line t = concat (codes "thread " ∷ decimal t.index ∷ codes " id " ∷ decimal t.fields.thread_id
+abbrev pub thread_fields : ThreadItem → List (List ℕ)
+thread_fields t = codes "thread " ∷ decimal t.index ∷ codes " id " ∷ decimal t.fields.thread_id
     ∷ codes " suspend " ∷ decimal t.fields.suspend_count ∷ codes " class " ∷ decimal t.fields.priority_class
     ∷ codes " priority " ∷ decimal t.fields.priority ∷ codes " teb 0x" ∷ hex 16 t.fields.teb
     ∷ codes " stack 0x" ∷ hex 16 t.fields.stack.start_of_memory_range
     ∷ codes " " ∷ extent_text t.stack t.fields.stack.memory.size t.fields.stack.memory.rva
-    ∷ codes " context " ∷ extent_text t.context t.fields.thread_context.size t.fields.thread_context.rva ∷ codes "\n" ∷ [])
+    ∷ codes " context " ∷ extent_text t.context t.fields.thread_context.size t.fields.thread_context.rva ∷ codes "\n" ∷ []
+
+-- these, one behind the other
+abbrev pub thread_line : ThreadItem → List ℕ
+thread_line t = concat (thread_fields t)
 
 -- `module <k> base <x16> size <n> checksum <n> time <n> version <a>.<b>.<c>.<d> cv <part> misc <part> name `, where a, b, c and d
 -- are the halves of the two numbers of the file version: the line of a module up to its name

@@ -1,8 +1,8 @@
 //! Lines that a listing has most of, which are put straight into the output's buffer.
-ghost use Rattle.std.specs.Prelude.{◌+◌, ◌++◌, ◌≤◌, codes, length};
+ghost use Rattle.std.specs.Prelude.{◌+◌, ◌++◌, ◌≤◌, codes, drop, length};
 ghost use Rattle.std.specs.List.{concat};
 ghost use Rattle.mdmp_wire.specs.Units.{units_in};
-ghost use Rattle.mdmp_tool.specs.ItemLines.{region_line, range_line, thread_line, module_fields, units_text};
+ghost use Rattle.mdmp_tool.specs.ItemLines.{region_line, range_line, thread_fields, thread_line, module_fields, units_text};
 ghost use Rattle.mdmp_tool.specs.Buffer.{IsPutBehind};
 
 use crate::digits::{decimal_at, hex16_at};
@@ -111,6 +111,15 @@ fn thread_line_at(text: &mut [u8], len: usize, item: &ThreadItem) -> usize
     let len = decimal_at(text, len, item.fields.priority as u64);
     let len = text_at(text, len, *b" teb 0x");
     let len = hex16_at(text, len, item.fields.teb);
+    thread_parts_at(text, len, item)
+}
+
+/// Puts the line of a thread from its stack on behind the first `len` bytes.
+#[inline(always)]
+fn thread_parts_at(text: &mut [u8], len: usize, item: &ThreadItem) -> usize
+    requires { len + 172 ≤ length text.old }
+    ensures { IsPutBehind text.old len (concat (drop 12 (thread_fields item.now))) 172 text.new result }
+{
     let len = text_at(text, len, *b" stack 0x");
     let len = hex16_at(text, len, item.fields.stack.start_of_memory_range);
     let len = text_at(text, len, *b" ");
@@ -148,7 +157,6 @@ fn module_front_at(text: &mut [u8], len: usize, item: &ModuleItem<'_>) -> usize
     requires { len + 377 ≤ length text.old }
     ensures { IsPutBehind text.old len (concat (module_fields item.now)) 377 text.new result }
 {
-    let version = &item.fields.version_info;
     let len = text_at(text, len, *b"module ");
     let len = decimal_at(text, len, item.index);
     let len = text_at(text, len, *b" base 0x");
@@ -159,6 +167,16 @@ fn module_front_at(text: &mut [u8], len: usize, item: &ModuleItem<'_>) -> usize
     let len = decimal_at(text, len, item.fields.checksum as u64);
     let len = text_at(text, len, *b" time ");
     let len = decimal_at(text, len, item.fields.time_date_stamp as u64);
+    module_version_at(text, len, item)
+}
+
+/// Puts the line of a module from its version up to its name behind the first `len` bytes.
+#[inline(always)]
+fn module_version_at(text: &mut [u8], len: usize, item: &ModuleItem<'_>) -> usize
+    requires { len + 244 ≤ length text.old }
+    ensures { IsPutBehind text.old len (concat (drop 10 (module_fields item.now))) 244 text.new result }
+{
+    let version = &item.fields.version_info;
     let len = text_at(text, len, *b" version ");
     let len = decimal_at(text, len, version.file_version_ms as u64 / 65536);
     let len = text_at(text, len, *b".");
@@ -167,6 +185,15 @@ fn module_front_at(text: &mut [u8], len: usize, item: &ModuleItem<'_>) -> usize
     let len = decimal_at(text, len, version.file_version_ls as u64 / 65536);
     let len = text_at(text, len, *b".");
     let len = decimal_at(text, len, version.file_version_ls as u64 % 65536);
+    module_parts_at(text, len, item)
+}
+
+/// Puts the line of a module from its parts up to its name behind the first `len` bytes.
+#[inline(always)]
+fn module_parts_at(text: &mut [u8], len: usize, item: &ModuleItem<'_>) -> usize
+    requires { len + 152 ≤ length text.old }
+    ensures { IsPutBehind text.old len (concat (drop 18 (module_fields item.now))) 152 text.new result }
+{
     let len = text_at(text, len, *b" cv ");
     let codeview = &item.fields.cv_record;
     let len = extent_at(

@@ -12,16 +12,4 @@ returns c =
     (IsPutBehind-then c.text_at-len-4.ensures
     (IsPutBehind-then c.decimal_at-len-3.ensures
     (IsPutBehind-then c.text_at-len-5.ensures
-    (IsPutBehind-then c.decimal_at-len-4.ensures
-    (IsPutBehind-then c.text_at-len-6.ensures
-    (IsPutBehind-then c.decimal_at-len-5.ensures
-    (IsPutBehind-then c.text_at-len-7.ensures
-    (IsPutBehind-then c.decimal_at-len-6.ensures
-    (IsPutBehind-then c.text_at-len-8.ensures
-    (IsPutBehind-then c.decimal_at-len-7.ensures
-    (IsPutBehind-then c.text_at-len-9.ensures
-    (IsPutBehind-then c.decimal_at-len-8.ensures
-    (IsPutBehind-then c.text_at-len-10.ensures
-    (IsPutBehind-then c.extent_at-len.ensures
-    (IsPutBehind-then c.text_at-len-11.ensures
-    (IsPutBehind-then c.extent_at-len-2.ensures c.text_at.ensures)))))))))))))))))))))
+    (IsPutBehind-then c.decimal_at-len-4.ensures c.module_version_at.ensures)))))))))

@@ -14,10 +14,4 @@ returns c =
     (IsPutBehind-then c.text_at-len-5.ensures
     (IsPutBehind-then c.decimal_at-len-5.ensures
     (IsPutBehind-then c.text_at-len-6.ensures
-    (IsPutBehind-then c.hex16_at-len.ensures
-    (IsPutBehind-then c.text_at-len-7.ensures
-    (IsPutBehind-then c.hex16_at-len-2.ensures
-    (IsPutBehind-then c.text_at-len-8.ensures
-    (IsPutBehind-then c.extent_at-len.ensures
-    (IsPutBehind-then c.text_at-len-9.ensures
-    (IsPutBehind-then c.extent_at-len-2.ensures c.text_at.ensures)))))))))))))))))
+    (IsPutBehind-then c.hex16_at-len.ensures c.thread_parts_at.ensures)))))))))))
