@@ -1,5 +1,5 @@
 //! A disk in memory each of whose growths is refused: the name of the file that is made, and its bytes.
-use crate::disks::{asked, size_made};
+use crate::disks::{DiskRequests, asked, size_made};
 use crate::runs::{CommandEnd, run_over};
 use crate::same::{assert_same, assert_same_at, assert_that};
 use mdmp_disk::{GivenFile, MemoryDisk};
@@ -60,8 +60,17 @@ fn copy_once<R: AllocGlobal + Abort>(
     heap: &MeteredHeap<Global>,
 ) -> (CommandEnd, Option<usize>) {
     let mut disk = MemoryDisk::new(heap, &FILES);
-    let ended = run_over(rt, alloc, &mut disk, &COPY);
-    (ended, size_made(rt, &disk))
+    copy_over(rt, alloc, &mut disk)
+}
+
+/// Copies over a disk, and tells how many bytes the copy has, if there is one.
+fn copy_over<R: AllocGlobal + Abort>(
+    rt: &R,
+    alloc: Global,
+    disk: &mut MeteredDisk<'_>,
+) -> (CommandEnd, Option<usize>) {
+    let ended = run_over(rt, alloc, disk, &COPY);
+    (ended, size_made(rt, disk))
 }
 
 /// How many growths of a copy were refused, one after the other, until none was left to refuse.
@@ -79,24 +88,19 @@ fn each_growth_of_a_file_that_is_made_may_be_refused(rt: HostRuntime) {
     assert_that(&rt, growths_refused(&rt, rt.alloc()) > 1);
 }
 
-/// Asserts that the name of a copy is refused over a disk of which nothing was asked.
-fn assert_name_refused<R: AllocGlobal + Abort>(rt: &R, alloc: Global, disk: &mut MeteredDisk<'_>) {
-    let ended = run_over(rt, alloc, disk, &COPY);
-    assert_refused(rt, 0, &ended, size_made(rt, disk));
-    assert_same(rt, asked(disk), (1, 0, 1));
-}
-
-/// Asserts that a copy is made over a disk that refused its name before.
-fn assert_made<R: AllocGlobal + Abort>(rt: &R, alloc: Global, disk: &mut MeteredDisk<'_>) {
-    let ended = run_over(rt, alloc, disk, &COPY);
-    assert_whole(rt, &ended, size_made(rt, disk));
-    assert_same(rt, asked(disk), (2, 1, 1));
+/// Asserts what was asked of this disk.
+fn assert_requests(rt: &impl Abort, disk: &MeteredDisk<'_>, wanted: DiskRequests) {
+    assert_same(rt, asked(disk), wanted);
 }
 
 #[test]
 fn file_whose_name_was_refused_is_made_later(rt: HostRuntime) {
     let heap = MeteredHeap::new(rt.alloc(), Refusal::Only(0));
     let mut disk = MemoryDisk::new(&heap, &FILES);
-    assert_name_refused(&rt, rt.alloc(), &mut disk);
-    assert_made(&rt, rt.alloc(), &mut disk);
+    let (refused, left) = copy_over(&rt, rt.alloc(), &mut disk);
+    assert_requests(&rt, &disk, (1, 0, 1));
+    let (made, size) = copy_over(&rt, rt.alloc(), &mut disk);
+    assert_requests(&rt, &disk, (2, 1, 1));
+    assert_refused(&rt, 0, &refused, left);
+    assert_whole(&rt, &made, size);
 }

@@ -25,6 +25,19 @@ fn is_read<S: Store>(rt: &impl Abort, store: &mut S, at: u64, room: usize) -> bo
     store.read_at(at, out).is_ok()
 }
 
+/// Asserts that reads, one behind the other, take so many of these calls.
+fn assert_reads<S: Store>(
+    rt: &impl Abort,
+    store: &mut S,
+    calls: &Cell<u64>,
+    reads: &[CountedRead],
+) {
+    for (at, room, counted) in reads {
+        let is_read = is_read(rt, store, *at, *room);
+        assert_same_at(rt, &at, is_read.then_some(calls.get()), *counted);
+    }
+}
+
 /// Asserts that reads of a file of zeros, one behind the other, take so many calls, of which one alone fails.
 fn assert_calls(rt: &(impl Files + AllocGlobal + Abort), fail_at: u64, reads: &[CountedRead]) {
     let calls = Cell::new(0);
@@ -34,10 +47,7 @@ fn assert_calls(rt: &(impl Files + AllocGlobal + Abort), fail_at: u64, reads: &[
         fail_at,
     };
     let mut store = FileStore::open(&system, "zeros").expect(rt, "a store");
-    for (at, room, counted) in reads {
-        let is_read = is_read(rt, &mut store, *at, *room);
-        assert_same_at(rt, &at, is_read.then_some(calls.get()), *counted);
-    }
+    assert_reads(rt, &mut store, &calls, reads);
 }
 
 /// A file is opened, and asked for its size. It is sought only where it does not stand at the place. A read is
@@ -83,6 +93,14 @@ fn read_name<S: Store>(rt: &impl Abort, source: &mut Source<S>, at: u64) {
     source.fetch(at + 4, &mut bytes).expect(rt, "a text");
 }
 
+/// Reads all names, one behind the other.
+fn read_names<S: Store + Drop>(rt: &impl Abort, store: S) {
+    let mut source = Source::new(store);
+    for number in 0..NAMES {
+        read_name(rt, &mut source, number * NAME);
+    }
+}
+
 /// How many calls of the system it takes to open a file of names and to read them all.
 fn calls_of_names(rt: &(impl Files + AllocGlobal + Abort)) -> u64 {
     let calls = Cell::new(0);
@@ -91,10 +109,8 @@ fn calls_of_names(rt: &(impl Files + AllocGlobal + Abort)) -> u64 {
         calls: &calls,
         fail_at: NONE_FAILS,
     };
-    let mut source = Source::new(FileStore::open(&system, "names").expect(rt, "a store"));
-    for number in 0..NAMES {
-        read_name(rt, &mut source, number * NAME);
-    }
+    let store = FileStore::open(&system, "names").expect(rt, "a store");
+    read_names(rt, store);
     calls.get()
 }
 

@@ -1,7 +1,7 @@
 //! The files that the tests write, remove and compare. Each call ends the test by itself where it fails, but
 //! for one that removes a file, which may not be there.
 use crate::same::assert_same_at;
-use mdmp_test_support::{FAULTY, faulty_file, file_of_numbers};
+use mdmp_test_support::{FAULTY, faulty_file, file_of_numbers, module_file};
 use std::alloc::{Alloc, AllocError, Global};
 use std::fs;
 use std::process::Abort;
@@ -31,6 +31,17 @@ pub fn write_file(rt: &(impl Files + Abort), name: &str, bytes: &[u8]) {
 pub fn write_made(rt: &(impl Files + Abort), name: &str, bytes: Result<Vec<u8>, AllocError>) {
     let bytes = bytes.expect(rt, "memory for a file");
     write_file(rt, name, bytes.as_slice())
+}
+
+/// Writes a file of one module with this CodeView record, which is said to have so many bytes.
+pub fn write_module(
+    rt: &(impl Files + Abort),
+    alloc: Global,
+    name: &str,
+    size: u32,
+    record: &[u8],
+) {
+    write_made(rt, name, module_file(alloc, size, record))
 }
 
 /// Writes the file whose numbers are `FAULTY`.

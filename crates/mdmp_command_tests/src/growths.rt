@@ -75,13 +75,25 @@ fn status_over<R: AllocGlobal + Abort>(
         fail_at: None,
     }];
     let mut disk = MemoryDisk::new(alloc, &files);
-    let status = if matches!(way, CommandWay::Arguments) {
-        let given = arguments(rt, alloc, &["mdmp"], words);
-        status_of_args(rt, heap, &mut disk, Ok(given), out, err)
-    } else {
-        status_on_disk(rt, heap, &mut disk, words, out, err)
+    let status = match way {
+        CommandWay::Arguments => status_of_program(rt, alloc, heap, &mut disk, words, out, err),
+        _ => status_on_disk(rt, heap, &mut disk, words, out, err),
     };
     (status, made_on(&disk))
+}
+
+/// The status of a program over a disk, with memory of this heap.
+fn status_of_program<R: AllocGlobal + Abort>(
+    rt: &R,
+    alloc: Global,
+    heap: &MeteredHeap<Global>,
+    disk: &mut MemoryDisk<'_, Global>,
+    words: &[&str],
+    out: &mut PatchyOut<Global>,
+    err: &mut PatchyOut<Global>,
+) -> u8 {
+    let given = arguments(rt, alloc, &["mdmp"], words);
+    status_of_args(rt, heap, disk, Ok(given), out, err)
 }
 
 /// The status of a command, with memory of this heap, and how many bytes the file has that it made.

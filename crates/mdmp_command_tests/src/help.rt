@@ -151,11 +151,16 @@ fn help_of_copy_names_the_types_that_are_copied(rt: HostRuntime) {
     assert_same_at(&rt, &65536, copied(65536), true);
 }
 
+/// Asserts that a command line without words told what the help prints.
+fn assert_tells_help(rt: &impl Abort, none: &CommandEnd, help: &CommandEnd) {
+    assert_end(rt, &"no words", none, (2, "", help.text.as_str()))
+}
+
 /// Asserts that a command line without words is answered by the help.
 fn assert_answered_by_help<R: Files + AllocGlobal + Abort>(rt: &R, alloc: Global) {
     let help = asked_in(rt, alloc, &["--help"], FOR_LONG_TEXT);
     let none = asked_in(rt, alloc, &[], FOR_LONG_TEXT);
-    assert_end(rt, &"no words", &none, (2, "", help.text.as_str()))
+    assert_tells_help(rt, &none, &help)
 }
 
 #[test]

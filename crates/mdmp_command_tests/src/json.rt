@@ -1,8 +1,8 @@
 //! Command lines whose lines are objects of JSON.
-use crate::files::{numbers_file, write_faulty, write_file, write_made};
+use crate::files::{numbers_file, write_faulty, write_file, write_module};
 use crate::runs::{Ending, assert_end, run_with};
 use crate::same::assert_same_at;
-use mdmp_test_support::{CODEVIEW_RECORD, FAULTY_TOLD, FOR_LONG_TEXT, module_file};
+use mdmp_test_support::{CODEVIEW_RECORD, FAULTY_TOLD, FOR_LONG_TEXT};
 use std::alloc::{AllocGlobal, Global};
 use std::process::Abort;
 use std::rt::Files;
@@ -65,11 +65,7 @@ fn assert_module<R: Files + AllocGlobal + Abort>(
 
 #[test]
 fn objects_are_listed(rt: HostRuntime) {
-    write_made(
-        &rt,
-        "module.dmp",
-        module_file(rt.alloc(), 30, CODEVIEW_RECORD),
-    );
+    write_module(&rt, rt.alloc(), "module.dmp", 30, CODEVIEW_RECORD);
     for &(words, object) in &OBJECTS {
         assert_module(&rt, rt.alloc(), words, object);
     }
@@ -80,8 +76,10 @@ fn objects_are_listed(rt: HostRuntime) {
 const BAD_NAME: &[u8; 30] =
     b"RSDS\x33\x22\x11\x00\x55\x44\x77\x66\x88\x99\xaa\xbb\xcc\xdd\xee\xff\xef\xcd\xab\0\"\xffa\xe2\x82\0";
 
-/// Records of a size, and the object that is told of each.
-const RECORDS: [(u32, &[u8], &str); 3] = [
+/// The size that a CodeView record is said to have, the record, and what the object ends with that is told of it.
+type CodeViewRow = (u32, &'static [u8], &'static str);
+
+const RECORDS: [CodeViewRow; 3] = [
     (
         30,
         BAD_NAME,
@@ -103,12 +101,20 @@ fn assert_last<R: Files + AllocGlobal + Abort>(rt: &R, alloc: Global, words: &[&
     assert_same_at(rt, &words, text.get(start..), Some(last))
 }
 
+/// Asserts that the object of a module with this CodeView record ends so.
+fn assert_record<R: Files + AllocGlobal + Abort>(
+    rt: &R,
+    alloc: Global,
+    (size, record, last): CodeViewRow,
+) {
+    write_module(rt, alloc, "record.dmp", size, record);
+    assert_last(rt, alloc, &["list", "--json", "--pdb", "record.dmp"], last)
+}
+
 #[test]
 fn records_of_each_kind_are_objects(rt: HostRuntime) {
-    for &(size, record, last) in &RECORDS {
-        write_made(&rt, "record.dmp", module_file(rt.alloc(), size, record));
-        let words = ["list", "--json", "--pdb", "record.dmp"];
-        assert_last(&rt, rt.alloc(), &words, last);
+    for row in &RECORDS {
+        assert_record(&rt, rt.alloc(), *row);
     }
 }
 

@@ -118,10 +118,9 @@ fn assert_in_little<R: Files + AllocGlobal + Abort>(
     } else {
         "mdmp: out of memory\n"
     };
-    let found = (ended.status, ended.told.as_str());
-    assert_same_at(rt, &words, found, (status, told));
     let is_right = status == 0 || ended.text.is_empty();
-    assert_same_at(rt, &words, is_right, true);
+    let found = (ended.status, ended.told.as_str(), is_right);
+    assert_same_at(rt, &words, found, (status, told, true));
 }
 
 #[test]

@@ -1,15 +1,10 @@
 //! Command lines of `list` with the CodeView records of modules.
-use crate::files::write_made;
+use crate::files::write_module;
 use crate::runs::assert_line;
-use mdmp_test_support::{CODEVIEW_LINE, CODEVIEW_RECORD, MODULE_FILE_TEXT, module_file};
+use mdmp_test_support::{CODEVIEW_LINE, CODEVIEW_RECORD, MODULE_FILE_TEXT};
 use std::alloc::{AllocGlobal, Global};
 use std::process::Abort;
 use std::rt::Files;
-
-/// Writes a file of one module with its CodeView record.
-fn write_module(rt: &(impl Files + Abort), alloc: Global) {
-    write_made(rt, "module.dmp", module_file(alloc, 30, CODEVIEW_RECORD))
-}
 
 /// The line of the record where its name is cut.
 const CUT_LINE: &str = "pdb 00112233-4455-6677-8899-aabbccddeeff age 1 name \"\" cut\n";
@@ -39,7 +34,7 @@ fn assert_listed<R: Files + AllocGlobal + Abort>(
 
 #[test]
 fn symbols_are_listed_where_they_are_asked_for(rt: HostRuntime) {
-    write_module(&rt, rt.alloc());
+    write_module(&rt, rt.alloc(), "module.dmp", 30, CODEVIEW_RECORD);
     for &(words, line) in &LINES {
         assert_listed(&rt, rt.alloc(), words, line);
     }

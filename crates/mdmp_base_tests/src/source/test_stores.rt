@@ -107,31 +107,49 @@ fn block_at<S: Store>(store: &mut S, at: u64) -> Result<(usize, [u8; 4]), StoreF
     Ok((count, last))
 }
 
-/// Asserts that a call for a block at this place gives so many bytes, and the last of the room are these.
-fn assert_block<S: Store>(rt: &impl Abort, store: &mut S, at: u64, count: usize, last: [u8; 4]) {
-    assert_same_at(rt, &at, block_at(store, at), Ok((count, last)));
+/// A call of a store with room for four bytes, or for a block: where it begins, how many bytes it gives, and the
+/// last four of the room.
+#[derive(Clone, Copy)]
+enum RoomRow {
+    Four(u64, usize, [u8; 4]),
+    Block(u64, usize, [u8; 4]),
+}
+
+/// Asserts that calls over a file of six bytes behind 16,382 zeros, one behind the other, answer as their rows say.
+fn assert_rooms(rt: &(impl Files + AllocGlobal + Abort), path: &str, rows: &[RoomRow]) {
+    make_file(rt, path, 16_382);
+    let mut store = file_store(rt, path);
+    for row in rows {
+        let (at, found, count, last) = match *row {
+            RoomRow::Four(at, count, last) => (at, four_at(&mut store, at), count, last),
+            RoomRow::Block(at, count, last) => (at, block_at(&mut store, at), count, last),
+        };
+        assert_same_at(rt, &at, found, Ok((count, last)));
+    }
+    remove(rt, path);
 }
 
 #[test]
 fn file_store_reads_a_block_past_the_one_held(rt: HostRuntime) {
-    make_file(&rt, "past_the_block", 16_382);
-    let mut store = file_store(&rt, "past_the_block");
-    assert_reads(&rt, &mut store, &[(16_384, 4, *b"cdef")]);
-    assert_block(&rt, &mut store, 0, BLOCK, *b"\0\0ab");
-    assert_block(&rt, &mut store, 4, BLOCK, *b"cdef");
-    assert_reads(&rt, &mut store, &[(16_384, 4, *b"cdef"), (1, 4, [0; 4])]);
-    remove(&rt, "past_the_block");
+    let rows = [
+        RoomRow::Four(16_384, 4, *b"cdef"),
+        RoomRow::Block(0, BLOCK, *b"\0\0ab"),
+        RoomRow::Block(4, BLOCK, *b"cdef"),
+        RoomRow::Four(16_384, 4, *b"cdef"),
+        RoomRow::Four(1, 4, [0; 4]),
+    ];
+    assert_rooms(&rt, "past_the_block", &rows);
 }
 
 #[test]
 fn file_store_answers_a_block_from_the_one_held(rt: HostRuntime) {
-    make_file(&rt, "of_the_block", 16_382);
-    let mut store = file_store(&rt, "of_the_block");
-    assert_reads(&rt, &mut store, &[(2, 4, [0; 4])]);
-    assert_block(&rt, &mut store, 2, BLOCK, *b"abcd");
-    assert_block(&rt, &mut store, 6, BLOCK - 4, [0; 4]);
-    assert_block(&rt, &mut store, 16_386, 2, [0; 4]);
-    remove(&rt, "of_the_block");
+    let rows = [
+        RoomRow::Four(2, 4, [0; 4]),
+        RoomRow::Block(2, BLOCK, *b"abcd"),
+        RoomRow::Block(6, BLOCK - 4, [0; 4]),
+        RoomRow::Block(16_386, 2, [0; 4]),
+    ];
+    assert_rooms(&rt, "of_the_block", &rows);
 }
 
 /// Reads of a file of six bytes behind 4 GiB of zeros.
