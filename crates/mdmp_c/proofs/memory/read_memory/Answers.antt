@@ -50,3 +50,6 @@ returns c =
     } in
     let wrong = c.in-Err-read_address.ensures.reads.good file last in
     absurd (cc)
+
+pub returns-in-Ok-read_address : goal.returns-in-Ok-read_address
+returns-in-Ok-read_address c = search rules

@@ -14,3 +14,6 @@ returns-else-send-bytes g c =
       took = TakesPrefix-take _ _ c.send.result c.args.bytes.now c.send.ensures.took;
       refused = subst (HasRefused before) (sym once) (HasRefused-once before);
     }
+
+pub returns-then-send-bytes : goal.returns-then-send-bytes
+returns-then-send-bytes g c = grind (arith, common_steps)

@@ -1,4 +1,4 @@
-use Rattle.std.proofs.Common.{arith}
+use Rattle.std.proofs.Common.{rules, arith}
 use Rattle.std.proofs.lemmas.Grind.{common_steps}
 use Rattle.mdmp_source.proofs.Bytes.{filled_more}
 use Rattle.mdmp_source.proofs.source.fill.Goals as goal
@@ -17,3 +17,9 @@ loop-filled-preserved g c =
       more_calls = grind (arith, common_steps, c.in-Ok.ensures.state, so_far.more_calls, c.in-Ok.count-test.1);
       few_calls = grind (arith, common_steps, c.in-Ok.ensures.state, so_far.few_calls, c.in-Ok.count-test.1);
     }
+
+pub returns-in-Ok-eq0-clause-cause : goal.returns-in-Ok-eq0-clause-cause
+returns-in-Ok-eq0-clause-cause g c = search rules
+
+pub returns-in-Ok-eq0-clause-once : goal.returns-in-Ok-eq0-clause-once
+returns-in-Ok-eq0-clause-once g c = search rules
