@@ -91,9 +91,9 @@ def made(line, out, is_synced):
     return ["sh", "-c", line + (f" && sync {out}" if is_synced else "")]
 
 
-def copied(mdmp, path, out, stream_type, is_synced=False):
-    """A copy by `copy`."""
-    return made(f"{mdmp} copy {path} {out} {stream_type}", out, is_synced)
+def copied(mdmp, path, out, stream_type, is_synced=False, options=()):
+    """A copy by `copy`, with these options."""
+    return made(" ".join([mdmp, "copy", *options, path, out, str(stream_type)]), out, is_synced)
 
 
 def passed(path, out, is_synced=False):
