@@ -1,13 +1,14 @@
 """What the benchmarks share: the program, the dumps that they make, times, and what a process holds and asks of the system."""
 
 import os
-import shutil
 import struct
 import subprocess
 import sys
 import time
 
 ROOT = os.path.dirname(os.path.dirname(os.path.abspath(__file__)))
+sys.path.append(os.path.join(ROOT, "tests"))
+from need import need  # noqa: E402, F401
 RUNS = 9
 MIB = 1 << 20
 STRACE = "/usr/bin/strace"
@@ -22,20 +23,6 @@ def program():
     if not os.access(path, os.X_OK):
         sys.exit(f"bench: no program {path}: build it by (cd crates/mdmp && rt run -- --version)")
     return path
-
-
-def need(programs):
-    """Installs those of these programs that are missing, each of the Debian package beside its path, where that can be done."""
-
-    def missing():
-        return [package for path, package in programs.items() if not os.access(path, os.X_OK)]
-
-    if missing() and os.geteuid() == 0 and shutil.which("apt-get"):
-        for words in (["update"], ["install", "-y", "--no-install-recommends", *missing()]):
-            how = {**os.environ, "DEBIAN_FRONTEND": "noninteractive"}
-            subprocess.run(["apt-get", *words], stdout=subprocess.DEVNULL, stderr=subprocess.DEVNULL, check=False, env=how)
-    if missing():
-        sys.exit(f"bench: something is missing: apt-get install -y {' '.join(missing())}")
 
 
 def header(stream_type, size):

@@ -5,7 +5,7 @@ _mdmp() {
     # the command, and how many words of its own stand before this one
     for ((i = 1; i < COMP_CWORD; i++)); do
         case ${COMP_WORDS[i]} in
-            --window | --name | --budget)
+            --window | --name | --budget | --memory | --aside)
                 # the number of an option is a word, alone or behind '='
                 i=$((i + 1))
                 [[ ${COMP_WORDS[i]} == = ]] && i=$((i + 1))
@@ -16,16 +16,15 @@ _mdmp() {
     done
     COMPREPLY=()
     case $before in
-        = | --window | --name | --budget) return ;;
+        = | --window | --name | --budget | --memory | --aside) return ;;
     esac
-    local words=
+    local words= limits='--window --name --budget --memory --untrusted --help'
     case $command in
         '') words='check list hex copy help --help --version' ;;
         help) ((place == 0)) && words='check list hex copy' ;;
-        check) words='--json --window --name --budget --help' ;;
-        list) words='--pdb --json --window --name --budget --help' ;;
-        hex) words='--window --name --budget --help' ;;
-        copy) words='--window --name --help' ;;
+        check) words="--json $limits" ;;
+        list) words="--pdb --json --aside $limits" ;;
+        hex | copy) words=$limits ;;
     esac
     if [[ $word == -* || -z $command || $command == help ]]; then
         mapfile -t COMPREPLY < <(compgen -W "$words" -- "$word")

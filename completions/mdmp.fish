@@ -7,7 +7,7 @@ function __mdmp_words
     for word in (commandline -opc)
         if test $is_number = 1
             set is_number 0
-        else if contains -- $word --window --name --budget
+        else if contains -- $word --window --name --budget --memory --aside
             set is_number 1
         else if not string match -q -- '-*' $word
             set count (math $count + 1)
@@ -48,7 +48,10 @@ complete -c mdmp -n '__fish_seen_subcommand_from list' -l pdb -d 'Tell of symbol
 complete -c mdmp -n '__fish_seen_subcommand_from check list' -l json -d 'Print objects of JSON'
 complete -c mdmp -n '__fish_seen_subcommand_from check list hex copy' -l window -x -d 'Fetch the file by at most so many bytes'
 complete -c mdmp -n '__fish_seen_subcommand_from check list hex copy' -l name -x -d 'Read names of at most so many bytes'
-complete -c mdmp -n '__fish_seen_subcommand_from check list hex' -l budget -x -d 'Fetch at most so many bytes of the file'
+complete -c mdmp -n '__fish_seen_subcommand_from check list hex copy' -l budget -x -d 'Read at most so many bytes of the file'
+complete -c mdmp -n '__fish_seen_subcommand_from check list hex copy' -l memory -x -d 'Use at most so many bytes of memory'
+complete -c mdmp -n '__fish_seen_subcommand_from list' -l aside -x -d 'Read at most so many bytes of CodeView records'
+complete -c mdmp -n '__fish_seen_subcommand_from check list hex copy' -l untrusted -d 'Limit what a file from a stranger may cost'
 complete -c mdmp -n __mdmp_file -a '(__mdmp_dumps)'
 for type in threads:3 modules:4 memory:5 exception:6 system:7 memory64:9 unloaded:14 regions:16 threadnames:24 \
         UnusedStream:0 ThreadListStream:3 ModuleListStream:4 MemoryListStream:5 ExceptionStream:6 \

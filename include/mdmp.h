@@ -1,8 +1,11 @@
 /* mdmp: reads Windows minidump files, for C and C++ and what calls C.
  *
  * Every call reads a file that stands wholly in memory (read it or map it), for as long as the call takes.
- * There are no handles, no callbacks and no state: but for want of memory, and for a budget that is reached, what
- * a call answers is a function of its arguments.
+ * There are no handles, no callbacks and no state: what a call answers depends only on its arguments, unless memory
+ * runs out or a limit is reached.
+ *
+ * Limits. For a file from a stranger, pass MDMP_LIMITS_UNTRUSTED. MDMP_NO_LIMIT in the place of a limit is no limit,
+ * and 0 is no byte. A structure of zeros is refused with MDMP_FAULT_BAD_LIMITS, since its window is below 168.
  *
  * Ownership. All that is written to is the caller's, and need not be set before. What a call takes by malloc
  * it has given back when it returns, on every path. No pointer into the library or the file comes back: a name
@@ -18,15 +21,20 @@
  *                      (a check and its verdicts go on behind it; mdmp_copy, mdmp_memory and mdmp_header give
  *                      nothing, and mdmp_symbols zeros); of a file that can't be opened nothing, and `size` or
  *                      `count` is 0.
- *   MDMP_BAD_ARGUMENT  limits, types or lengths are wrong, and `fault` says which. The buffer is as it was,
- *                      and `size` or `count` is 0.
- *   MDMP_NO_MEMORY     MDMP_FAULT_NO_MEMORY: malloc or realloc answered NULL. The buffer is as it was, `size` or
- *                      `count` is 0.
- *                      MDMP_FAULT_BUDGET: a fetch was not made, since it would have passed the budget of mdmp_limits.
- *                      Given is all up to there (a check and its verdicts end there too; mdmp_memory gives nothing);
- *                      where the file was not opened yet nothing, and `size` or `count` is 0.
+ *   MDMP_BAD_ARGUMENT  limits, types or lengths are wrong, and `fault` says which. The buffer is as it was
+ *                      (mdmp_symbols gives zeros), and `size` or `count` is 0.
+ *   MDMP_NO_MEMORY     malloc or realloc answered NULL. The buffer is as it was, and `size` or `count` is 0.
  *   MDMP_BUFFER_TOO_SHORT     the buffer holds as much as it has room for. `size` or `count` says how much there
  *                      is, and `fault` what is wrong with the file, as if there had been room.
+ *   MDMP_LIMIT         a limit of mdmp_limits was reached, and the kind of the fault says which:
+ *                      MDMP_FAULT_BUDGET        the next read would pass `budget`, and was not made.
+ *                      MDMP_FAULT_ASIDE_LIMIT   the next CodeView record would pass `aside`, and was not read.
+ *                      MDMP_FAULT_MEMORY_LIMIT  the lists of the call would pass `memory`, and were not made.
+ *                      MDMP_FAULT_COPY_BUDGET   the copy would pass `budget`, and was not begun.
+ *                      After the first two, all that precedes is given, and `size` or `count` says how much
+ *                      (mdmp_memory and mdmp_copy give nothing; a check and its verdicts end there). After the
+ *                      last two, and if the file was not opened yet, the buffer is as it was, and `size` or
+ *                      `count` is 0.
  *
  * So a caller guesses a size, and calls at most twice; a room of 0 asks for the size alone.
  *
@@ -50,18 +58,19 @@ extern "C" {
 #endif
 
 /* What mdmp_abi() answers of the library that belongs to this header. */
-#define MDMP_ABI 1
+#define MDMP_ABI 2
 
 /* This header's version, as mdmp_version() answers it: major << 16 | minor << 8 | patch. */
 #define MDMP_VERSION 0x000100
 
-/* What a call answers. 0 to 3 are the exit statuses of the command. */
+/* What a call answers. 0 to 3 are exit statuses of the command too, and for 5 the command exits with 3. */
 typedef enum mdmp_status {
-    MDMP_OK = 0,              /* good */
-    MDMP_FAULT = 1,           /* the file is at fault */
-    MDMP_BAD_ARGUMENT = 2,    /* an argument is: limits, types of streams, lengths */
-    MDMP_NO_MEMORY = 3,       /* memory was wanting, or the budget was reached: the kind of the fault says which */
-    MDMP_BUFFER_TOO_SHORT = 4 /* the buffer was too short */
+    MDMP_OK = 0,               /* good */
+    MDMP_FAULT = 1,            /* the file is at fault */
+    MDMP_BAD_ARGUMENT = 2,     /* an argument is: limits, types of streams, lengths */
+    MDMP_NO_MEMORY = 3,        /* out of memory */
+    MDMP_BUFFER_TOO_SHORT = 4, /* the buffer was too short */
+    MDMP_LIMIT = 5             /* a limit was reached: the kind of the fault says which */
 } mdmp_status;
 
 /* What is wrong. Beside each stand the numbers of mdmp_fault that it uses. */
@@ -86,12 +95,15 @@ typedef enum mdmp_fault_kind {
     MDMP_FAULT_COPY_TOO_LARGE = 49,      /* the copy would be longer than the format can say */
     MDMP_FAULT_BAD_ENTRIES = 64,         /* size: how many entries of the directory have a fault */
     MDMP_FAULT_NOT_COPIED = 65,          /* size: a type of stream that is not copied */
-    MDMP_FAULT_NO_MEMORY = 66,           /* memory was wanting: malloc or realloc answered NULL */
+    MDMP_FAULT_NO_MEMORY = 66,           /* out of memory: malloc or realloc answered NULL */
     MDMP_FAULT_BAD_LIMITS = 67,          /* a limit is out of its bounds */
     MDMP_FAULT_BAD_TYPES = 68,           /* the types to be copied are none, or over 16 */
     MDMP_FAULT_STORE = 69,               /* no call over a file in memory answers this */
     MDMP_FAULT_LENGTHS_DIFFER = 70,      /* two buffers that must have one length differ */
-    MDMP_FAULT_BUDGET = 71               /* offset, size: not fetched, as it would pass the budget */
+    MDMP_FAULT_BUDGET = 71,              /* offset, size: bytes that were not read, as they would pass the budget */
+    MDMP_FAULT_MEMORY_LIMIT = 72,        /* size (high: its upper 64 bits): how many bytes the lists would take */
+    MDMP_FAULT_ASIDE_LIMIT = 73,         /* offset, size: a CodeView record that was not read, as it would pass the limit */
+    MDMP_FAULT_COPY_BUDGET = 74          /* size (high: its upper 64 bits): how many bytes the copy needs */
 } mdmp_fault_kind;
 
 /* Which part of a record a fault is of. */
@@ -125,13 +137,15 @@ typedef enum mdmp_symbol_kind {
     MDMP_SYMBOLS_SHORT = 2  /* a record that is too short for its kind */
 } mdmp_symbol_kind;
 
-/* How much a call holds at a time, and how much it fetches. MDMP_LIMITS_DEFAULT has the command's own, and
- * no budget. A byte that is fetched twice counts twice. What is read beside the listing does not count:
- * CodeView records, and the bytes that mdmp_memory gives. mdmp_copy has no budget: it does not look at it. */
+/* How much a call reads and holds. For a file from a stranger, use MDMP_LIMITS_UNTRUSTED;
+ * MDMP_LIMITS_DEFAULT has no limit on budget, memory and aside. There MDMP_NO_LIMIT is no limit, and 0 is
+ * no byte. Each call counts from 0. */
 typedef struct mdmp_limits {
-    uint32_t window; /* bytes of the file's records: 168 to 2^30 */
-    uint32_t name;   /* bytes of a name: at most 2^30 */
-    uint64_t budget; /* the most bytes of the file that a call fetches for its listing; 0: as many as it takes */
+    uint32_t window; /* bytes of the file's records that are held at a time: 168 to 2^30 */
+    uint32_t name;   /* bytes of the longest name that is read: at most 2^30 */
+    uint64_t budget; /* the most bytes of the file that are read to list or copy it; what is read twice counts twice */
+    uint64_t memory; /* the most bytes that the lists of a call take: window, directory, ranges of memory, name */
+    uint64_t aside;  /* the most bytes of CodeView records that a list with `pdb` reads; they are not in budget */
 } mdmp_limits;
 
 /* What is wrong, and where. A number that the kind says nothing of is 0. */
@@ -297,20 +311,35 @@ typedef struct mdmp_range {
     uint32_t reserved[2]; /* 0 */
 } mdmp_range;
 
+/* A slot of an index: addresses that follow each other, all of which have one row as the first that holds
+ * them. */
+typedef struct mdmp_slot {
+    uint64_t start;  /* the first of them, an address of the dumped process */
+    uint64_t length; /* how many there are */
+    uint64_t offset; /* where its byte stands, an offset from the start of the file; of modules, of the image */
+    uint64_t owner;  /* the number of the row, from 0 */
+} mdmp_slot;
+
 /* What the CodeView record of a module tells. */
 typedef struct mdmp_symbol_file {
     uint64_t name_offset; /* of RSDS: where the file's name stands, an offset from the start of the dump */
     uint32_t kind;        /* mdmp_symbol_kind: which kind of record it is; what follows is 0 where the kind has none */
     uint32_t age;         /* of RSDS: how often the symbol file was written */
-    uint32_t name_size;   /* of RSDS: bytes of its name, of no known encoding */
-    uint32_t name_ended;  /* of RSDS: 1 where a zero byte ends the name, 0 where the record ends first */
+    uint32_t name_size;   /* of RSDS: bytes of its name, of no known encoding, at most `name` of the limits */
+    uint32_t name_ended;  /* of RSDS: 1 if a zero byte ends the name, 0 if the record or the limit does */
     uint8_t guid[16];     /* of RSDS: its identity, in the order in which it is printed */
     uint8_t signature[4]; /* of another kind: its first four bytes */
     uint32_t reserved[3]; /* 0 */
 } mdmp_symbol_file;
 
-/* The window and the longest name of the command, and no budget. */
-#define MDMP_LIMITS_DEFAULT { 65536, 4096, 0 }
+/* In the place of a limit: there is none. */
+#define MDMP_NO_LIMIT UINT64_MAX
+
+/* The window and the longest name of the command, and no other limit. */
+#define MDMP_LIMITS_DEFAULT { 65536, 4096, MDMP_NO_LIMIT, MDMP_NO_LIMIT, MDMP_NO_LIMIT }
+
+/* The same window and longest name, and limits for a file from a stranger. */
+#define MDMP_LIMITS_UNTRUSTED { 65536, 4096, 67108864, 67108864, 67108864 }
 
 /* MDMP_ABI of the library: it rises where a structure or the meaning of a call changes. */
 uint32_t mdmp_abi(void);
@@ -356,10 +385,17 @@ uint32_t mdmp_memory_(const uint8_t *file, size_t file_size, const mdmp_limits *
     uint8_t *out, size_t room, bool *known, size_t known_size, mdmp_fault *fault);
 uint32_t mdmp_read_(const uint8_t *file, size_t file_size, const mdmp_range *ranges, size_t ranges_count,
     uint64_t address, uint8_t *out, size_t room, bool *known, size_t known_size, mdmp_fault *fault);
+uint32_t mdmp_index_(const uint8_t *file, size_t file_size, const mdmp_range *ranges, size_t ranges_count,
+    mdmp_slot *out, size_t room, uint64_t *count, mdmp_fault *fault);
+uint32_t mdmp_index_modules_(const mdmp_module *modules, size_t modules_count, mdmp_slot *out, size_t room,
+    uint64_t *count, mdmp_fault *fault);
+uint32_t mdmp_read_index_(const uint8_t *file, size_t file_size, const mdmp_slot *slots, size_t slots_count,
+    uint64_t address, uint8_t *out, size_t room, bool *known, size_t known_size, mdmp_fault *fault);
+uint32_t mdmp_where_(const mdmp_slot *slots, size_t slots_count, uint64_t address, uint64_t *owner);
 uint32_t mdmp_name_(const uint8_t *file, size_t file_size, uint64_t rva, uint32_t limit, uint8_t *out,
     size_t room, uint64_t *size, mdmp_fault *fault);
-uint32_t mdmp_symbols_(const uint8_t *file, size_t file_size, const mdmp_place *place, mdmp_symbol_file *out,
-    mdmp_fault *fault);
+uint32_t mdmp_symbols_(const uint8_t *file, size_t file_size, const mdmp_limits *limits,
+    const mdmp_place *place, mdmp_symbol_file *out, mdmp_fault *fault);
 uint32_t mdmp_fault_text_(const mdmp_fault *fault, uint8_t *out, size_t room, uint64_t *size);
 
 /* The header of a file. Its checksum is not checked, nor what its entries name. Takes no memory. A
@@ -414,7 +450,8 @@ static inline uint32_t mdmp_verdicts(const uint8_t *file, size_t file_size, cons
 
 /* The text that `mdmp list` prints, up to the first fault: a line for the header, one for each entry and
  * one for each record. With `pdb` that of `mdmp list --pdb`: what a CodeView record tells is one more
- * line. */
+ * line, and `aside` limits how many bytes of these records are read. If a list ends there, the line of the
+ * record's module is given. */
 static inline uint32_t mdmp_list(const uint8_t *file, size_t file_size, const mdmp_limits *limits, bool pdb,
     uint8_t *out, size_t room, uint64_t *size, mdmp_fault *fault) {
     static uint8_t no_file;
@@ -446,7 +483,8 @@ static inline uint32_t mdmp_list_part(const uint8_t *file, size_t file_size, con
 }
 
 /* The bytes of a new file with the streams of 1 to 16 types and all that their records name, as `mdmp
- * copy` writes it. Nothing is given of a file with a fault. */
+ * copy` writes it. Nothing is given of a file with a fault. If the whole copy would read more than
+ * `budget`, it is not begun: MDMP_FAULT_COPY_BUDGET says how many bytes it needs. */
 static inline uint32_t mdmp_copy(const uint8_t *file, size_t file_size, const mdmp_limits *limits,
     const uint32_t *types, size_t types_count, uint8_t *out, size_t room, uint64_t *size, mdmp_fault *fault) {
     static uint8_t no_file;
@@ -538,8 +576,8 @@ static inline uint32_t mdmp_ranges(const uint8_t *file, size_t file_size, const 
 
 /* Memory of the dumped process from an address on: out[i] is the byte at address + i where known[i] is
  * true; else both are 0. `room` and `known_size` are the same. No address wraps: behind 2^64 - 1 nothing
- * is known. Where a memory list has a fault, or the budget has no room for one, both buffers are as they
- * were. */
+ * is known. If a memory list has a fault, or a limit was reached, both buffers are as they were. `budget`
+ * does not count the bytes that are given. */
 static inline uint32_t mdmp_memory(const uint8_t *file, size_t file_size, const mdmp_limits *limits,
     uint64_t address, uint8_t *out, size_t room, bool *known, size_t known_size, mdmp_fault *fault) {
     static uint8_t no_file;
@@ -564,6 +602,51 @@ static inline uint32_t mdmp_read(const uint8_t *file, size_t file_size, const md
         known_size, fault);
 }
 
+/* An index of ranges that mdmp_ranges gave, for callers that read often: sorted slots that do not overlap.
+ * A slot belongs to the first range that holds its addresses. Ranges that mdmp_read passes over are passed
+ * over. Two slots for each range are enough room. With less, MDMP_BUFFER_TOO_SHORT: `count` is that
+ * number, and `out` is as it was. Takes no memory, and time in proportion to r log r for r ranges. */
+static inline uint32_t mdmp_index(const uint8_t *file, size_t file_size, const mdmp_range *ranges,
+    size_t ranges_count, mdmp_slot *out, size_t room, uint64_t *count, mdmp_fault *fault) {
+    static uint8_t no_file;
+    static mdmp_range no_ranges;
+    static mdmp_slot no_out;
+    return mdmp_index_(file_size != 0 ? file : &no_file, file_size, ranges_count != 0 ? ranges : &no_ranges,
+        ranges_count, room != 0 ? out : &no_out, room, count, fault);
+}
+
+/* The same of the images of modules that mdmp_modules gave: base_of_image and size_of_image. */
+static inline uint32_t mdmp_index_modules(const mdmp_module *modules, size_t modules_count, mdmp_slot *out,
+    size_t room, uint64_t *count, mdmp_fault *fault) {
+    static mdmp_module no_modules;
+    static mdmp_slot no_out;
+    return mdmp_index_modules_(modules_count != 0 ? modules : &no_modules, modules_count,
+        room != 0 ? out : &no_out, room, count, fault);
+}
+
+/* What mdmp_read gives, by an index that mdmp_index made of the same ranges and the same file. Its time
+ * grows with the bytes and with the slots that they are in, and not with the ranges. Slots that are no
+ * index give bytes of the file, or none. Takes no memory. */
+static inline uint32_t mdmp_read_index(const uint8_t *file, size_t file_size, const mdmp_slot *slots,
+    size_t slots_count, uint64_t address, uint8_t *out, size_t room, bool *known, size_t known_size,
+    mdmp_fault *fault) {
+    static uint8_t no_file;
+    static mdmp_slot no_slots;
+    static uint8_t no_out;
+    static bool no_known;
+    return mdmp_read_index_(file_size != 0 ? file : &no_file, file_size, slots_count != 0 ? slots : &no_slots,
+        slots_count, address, room != 0 ? out : &no_out, room, known_size != 0 ? known : &no_known,
+        known_size, fault);
+}
+
+/* The owner of an address in an index: the number of the first row that holds it, or 2^64 - 1 if none
+ * does. It answers MDMP_OK. */
+static inline uint32_t mdmp_where(const mdmp_slot *slots, size_t slots_count, uint64_t address,
+    uint64_t *owner) {
+    static mdmp_slot no_slots;
+    return mdmp_where_(slots_count != 0 ? slots : &no_slots, slots_count, address, owner);
+}
+
 /* The name at `rva`, of at most `limit` bytes of units, as UTF-8 with no zero behind it: a surrogate
  * without its other half becomes U+FFFD. An rva of 0 is no name, and the text is empty. */
 static inline uint32_t mdmp_name(const uint8_t *file, size_t file_size, uint64_t rva, uint32_t limit,
@@ -575,11 +658,13 @@ static inline uint32_t mdmp_name(const uint8_t *file, size_t file_size, uint64_t
 }
 
 /* What the CodeView record at a place tells, as the `codeview` of a module. Its extent is not looked at: a
- * place that is empty or not inside the file is MDMP_FAULT, and `out` all zero. Takes no memory. */
-static inline uint32_t mdmp_symbols(const uint8_t *file, size_t file_size, const mdmp_place *place,
-    mdmp_symbol_file *out, mdmp_fault *fault) {
+ * place that is empty or not inside the file is MDMP_FAULT. If the status is not MDMP_OK, `out` is all
+ * zero. At most `limits->name` bytes of the name are read: if none of them is zero, `name_size` counts
+ * them and `name_ended` is 0. Takes no memory. */
+static inline uint32_t mdmp_symbols(const uint8_t *file, size_t file_size, const mdmp_limits *limits,
+    const mdmp_place *place, mdmp_symbol_file *out, mdmp_fault *fault) {
     static uint8_t no_file;
-    return mdmp_symbols_(file_size != 0 ? file : &no_file, file_size, place, out, fault);
+    return mdmp_symbols_(file_size != 0 ? file : &no_file, file_size, limits, place, out, fault);
 }
 
 /* The command's words of a fault, without `mdmp: ` and a line's end; empty for MDMP_FAULT_NONE. Of a fault
@@ -598,10 +683,12 @@ static inline uint32_t mdmp_fault_text(const mdmp_fault *fault, uint8_t *out, si
 #define MDMP_ASSERT_(condition, words) _Static_assert(condition, words)
 #endif
 MDMP_ASSERT_(sizeof(bool) == 1, "bool");
-MDMP_ASSERT_(sizeof(mdmp_limits) == 16, "mdmp_limits");
+MDMP_ASSERT_(sizeof(mdmp_limits) == 32, "mdmp_limits");
 MDMP_ASSERT_(offsetof(mdmp_limits, window) == 0, "mdmp_limits.window");
 MDMP_ASSERT_(offsetof(mdmp_limits, name) == 4, "mdmp_limits.name");
 MDMP_ASSERT_(offsetof(mdmp_limits, budget) == 8, "mdmp_limits.budget");
+MDMP_ASSERT_(offsetof(mdmp_limits, memory) == 16, "mdmp_limits.memory");
+MDMP_ASSERT_(offsetof(mdmp_limits, aside) == 24, "mdmp_limits.aside");
 MDMP_ASSERT_(sizeof(mdmp_fault) == 64, "mdmp_fault");
 MDMP_ASSERT_(offsetof(mdmp_fault, kind) == 0, "mdmp_fault.kind");
 MDMP_ASSERT_(offsetof(mdmp_fault, entry) == 4, "mdmp_fault.entry");
@@ -726,6 +813,11 @@ MDMP_ASSERT_(offsetof(mdmp_range, offset_high) == 32, "mdmp_range.offset_high");
 MDMP_ASSERT_(offsetof(mdmp_range, entry) == 40, "mdmp_range.entry");
 MDMP_ASSERT_(offsetof(mdmp_range, extent) == 44, "mdmp_range.extent");
 MDMP_ASSERT_(offsetof(mdmp_range, reserved) == 48, "mdmp_range.reserved");
+MDMP_ASSERT_(sizeof(mdmp_slot) == 32, "mdmp_slot");
+MDMP_ASSERT_(offsetof(mdmp_slot, start) == 0, "mdmp_slot.start");
+MDMP_ASSERT_(offsetof(mdmp_slot, length) == 8, "mdmp_slot.length");
+MDMP_ASSERT_(offsetof(mdmp_slot, offset) == 16, "mdmp_slot.offset");
+MDMP_ASSERT_(offsetof(mdmp_slot, owner) == 24, "mdmp_slot.owner");
 MDMP_ASSERT_(sizeof(mdmp_symbol_file) == 56, "mdmp_symbol_file");
 MDMP_ASSERT_(offsetof(mdmp_symbol_file, name_offset) == 0, "mdmp_symbol_file.name_offset");
 MDMP_ASSERT_(offsetof(mdmp_symbol_file, kind) == 8, "mdmp_symbol_file.kind");

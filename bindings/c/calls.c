@@ -1,14 +1,6 @@
 /* What each call answers of a small dump, of wrong arguments, and of NULL beside a length of 0. */
 #include "fillers.h"
-
-static const uint8_t SYSTEM[136] =
-    "MDMP\x93\xa7\0\0\x01\0\0\0\x20\0\0\0\0\0\0\0\0\0\0\0\0\0\0\0\0\0\0\0"
-    "\x07\0\0\0\x38\0\0\0\x2c\0\0\0"
-    "\x09\0\x06\0\x03\0\x04\x01\x06\0\0\0\x01\0\0\0\xb1\x1d\0\0\x02\0\0\0\x64\0\0\0\0\x01\0\0"
-    "\0\0\0\0\0\0\0\0\0\0\0\0\0\0\0\0\0\0\0\0\0\0\0\0"
-    "\x1c\0\0\0S\0e\0r\0v\0i\0c\0e\0 \0P\0a\0c\0k\0 \0001\0\0\0\0";
-
-#define FILE_OF(bytes) (bytes), sizeof(bytes)
+#include "small.h"
 
 static mdmp_fault fault;
 
@@ -31,7 +23,8 @@ static void test_small_dump(void) {
     /* a name that is longer than its limit is told by its length */
     ASSERT(mdmp_name(FILE_OF(SYSTEM), 100, 27, name, sizeof name, &size, &fault) == MDMP_FAULT);
     ASSERT(fault.kind == MDMP_FAULT_NAME_TOO_LONG && fault.size == 28 && size == 0);
-    const mdmp_limits short_names = {65536, 27, 0};
+    mdmp_limits short_names = LIMITS;
+    short_names.name = 27;
     ASSERT(mdmp_systems(FILE_OF(SYSTEM), &short_names, &system, 1, &count, &fault) == MDMP_OK);
     ASSERT(system.csd_version.state == MDMP_NAME_LONG && system.csd_version.size == 28);
     ASSERT(mdmp_name(FILE_OF(SYSTEM), UINT64_MAX - 1, 4096, name, sizeof name, &size, &fault) == MDMP_FAULT);
@@ -63,87 +56,6 @@ static void test_bad_entry(void) {
     ASSERT(mdmp_streams(SYSTEM, 99, &stream, 1, &count, &fault) == MDMP_OK && count == 1 && stream.size == 56);
 }
 
-/* With these limits each call but mdmp_copy gives nothing, for this reason. */
-static void test_refusals(const mdmp_limits *limits, uint32_t status, mdmp_fault reason) {
-    uint8_t out[512];
-    bool known[8];
-    uint64_t count;
-    memset(out, 0xaa, sizeof out);
-#define REFUSED(call)                                         \
-    ASSERT((call) == status && count == 0 && out[0] == 0xaa); \
-    ASSERT(memcmp(&fault, &reason, sizeof fault) == 0)
-#define TABLE(call, type)                                                \
-    count = 1;                                                           \
-    {                                                                    \
-        static type row;                                                 \
-        REFUSED(call(FILE_OF(SYSTEM), limits, &row, 1, &count, &fault)); \
-    }
-    count = 1;
-    REFUSED(mdmp_check(FILE_OF(SYSTEM), limits, out, sizeof out, &count, &fault));
-    count = 1;
-    REFUSED(mdmp_list(FILE_OF(SYSTEM), limits, false, out, sizeof out, &count, &fault));
-    count = 1;
-    REFUSED(mdmp_list_part(FILE_OF(SYSTEM), limits, false, 0, out, sizeof out, &count, &fault));
-    TABLE(mdmp_verdicts, mdmp_fault)
-    TABLE(mdmp_threads, mdmp_thread)
-    TABLE(mdmp_modules, mdmp_module)
-    TABLE(mdmp_exceptions, mdmp_exception)
-    TABLE(mdmp_systems, mdmp_system)
-    TABLE(mdmp_unloaded, mdmp_unloaded_module)
-    TABLE(mdmp_regions, mdmp_region)
-    TABLE(mdmp_thread_names, mdmp_thread_name)
-    TABLE(mdmp_ranges, mdmp_range)
-    count = 0;
-    REFUSED(mdmp_memory(FILE_OF(SYSTEM), limits, 0, out, 8, known, 8, &fault));
-}
-
-static void test_limits(void) {
-    static const mdmp_limits BAD[] = {{167, 0, 0}, {(1u << 30) + 1, 0, 0}, {168, (1u << 30) + 1, 0}};
-    uint8_t out[512];
-    uint64_t count;
-    const uint32_t type = 3;
-    for (size_t i = 0; i < sizeof BAD / sizeof *BAD; i++) {
-        test_refusals(&BAD[i], MDMP_BAD_ARGUMENT, (mdmp_fault){.kind = MDMP_FAULT_BAD_LIMITS});
-        memset(out, 0xaa, sizeof out);
-        ASSERT(mdmp_copy(FILE_OF(SYSTEM), &BAD[i], &type, 1, out, sizeof out, &count, &fault) == MDMP_BAD_ARGUMENT);
-        ASSERT(fault.kind == MDMP_FAULT_BAD_LIMITS && count == 0 && out[0] == 0xaa);
-    }
-    static const mdmp_limits LEAST = {168, 0, 0}, MOST = {1u << 30, 1u << 30, UINT64_MAX};
-    ASSERT(mdmp_check(FILE_OF(SYSTEM), &LEAST, out, sizeof out, &count, &fault) == MDMP_OK && count == 12);
-    ASSERT(mdmp_check(FILE_OF(SYSTEM), &MOST, out, sizeof out, &count, &fault) == MDMP_OK && count == 12);
-}
-
-/* A listing of the dump fetches 132 bytes: of the header 32, the directory 12, the record 56, and the name 4 and 28. */
-static void test_budget(void) {
-    mdmp_limits limits = LIMITS;
-    uint8_t out[512], whole[512];
-    uint64_t count, size;
-    mdmp_system system;
-    const uint32_t type = 7;
-    ASSERT(mdmp_list(FILE_OF(SYSTEM), &LIMITS, false, whole, sizeof whole, &size, &fault) == MDMP_OK);
-    limits.budget = 1;
-    test_refusals(&limits, MDMP_NO_MEMORY, (mdmp_fault){.kind = MDMP_FAULT_BUDGET, .offset = 0, .size = 32});
-    limits.budget = 43;
-    test_refusals(&limits, MDMP_NO_MEMORY, (mdmp_fault){.kind = MDMP_FAULT_BUDGET, .offset = 32, .size = 12});
-    ASSERT(mdmp_copy(FILE_OF(SYSTEM), &limits, &type, 1, out, sizeof out, &count, &fault) == MDMP_OK && count == 136);
-    /* before the name is read: given are the lines of the header and of the entry, and no byte more is touched */
-    limits.budget = 131;
-    memset(out, 0xaa, sizeof out);
-    ASSERT(mdmp_list(FILE_OF(SYSTEM), &limits, false, out, sizeof out, &count, &fault) == MDMP_NO_MEMORY);
-    ASSERT(fault.kind == MDMP_FAULT_BUDGET && fault.offset == 104 && fault.size == 28);
-    ASSERT(count > 0 && count < size && memcmp(out, whole, (size_t)count) == 0 && out[count] == 0xaa);
-    ASSERT(memcmp(whole + count, "system ", 7) == 0);
-    ASSERT(mdmp_list(FILE_OF(SYSTEM), &limits, false, NULL, 0, &count, &fault) == MDMP_BUFFER_TOO_SHORT);
-    ASSERT(fault.kind == MDMP_FAULT_BUDGET);
-    ASSERT(mdmp_systems(FILE_OF(SYSTEM), &limits, &system, 1, &count, &fault) == MDMP_NO_MEMORY && count == 0);
-    ASSERT(fault.kind == MDMP_FAULT_BUDGET && fault.offset == 104 && fault.size == 28);
-    limits.budget = 132;
-    ASSERT(mdmp_list(FILE_OF(SYSTEM), &limits, false, out, sizeof out, &count, &fault) == MDMP_OK);
-    ASSERT(count == size && memcmp(out, whole, (size_t)size) == 0);
-    ASSERT(mdmp_check(FILE_OF(SYSTEM), &limits, out, sizeof out, &count, &fault) == MDMP_OK && count == 12);
-    ASSERT(mdmp_systems(FILE_OF(SYSTEM), &limits, &system, 1, &count, &fault) == MDMP_OK && count == 1);
-}
-
 static void test_arguments(void) {
     uint8_t out[512];
     bool known[8];
@@ -168,31 +80,76 @@ static void test_arguments(void) {
         mdmp_list_part(FILE_OF(SYSTEM), &LIMITS, false, UINT64_MAX, NULL, 0, &size, &fault) == MDMP_OK && size == 0);
 }
 
+/* Ranges that overlap, that end at the last address, and that nobody gave. */
+static const mdmp_range RANGES[] = {
+    {.start = 0, .size = 8, .offset = 0, .extent = MDMP_EXTENT_INSIDE},
+    {.start = 4, .size = 8, .offset = 100, .extent = MDMP_EXTENT_INSIDE},
+    {.start = UINT64_MAX - 1, .size = 8, .offset = 44, .extent = MDMP_EXTENT_INSIDE},
+    {.start = 20, .size = 8, .offset = 129, .extent = MDMP_EXTENT_INSIDE},                 /* one byte too far */
+    {.start = 20, .size = 8, .offset = UINT64_MAX - 3, .extent = MDMP_EXTENT_INSIDE},      /* far behind the end */
+    {.start = 20, .size = 8, .offset = 0, .offset_high = 1, .extent = MDMP_EXTENT_INSIDE}, /* farther */
+    {.start = 20, .size = UINT64_MAX, .offset = 1, .extent = MDMP_EXTENT_INSIDE},          /* longer than the file */
+    {.start = 20, .size = 8, .offset = 0, .extent = MDMP_EXTENT_OUTSIDE},                  /* not inside, as it says */
+    {.start = 27, .size = 1, .offset = 135, .extent = MDMP_EXTENT_INSIDE, .reserved = {7, 7}}, /* the last byte */
+};
+enum { COUNT = sizeof RANGES / sizeof *RANGES };
+
 /* The first range that holds an address gives its byte; no address wraps; ranges that nobody gave are passed over. */
 static void test_read(void) {
-    const mdmp_range ranges[] = {
-        {.start = 0, .size = 8, .offset = 0, .extent = MDMP_EXTENT_INSIDE},
-        {.start = 4, .size = 8, .offset = 100, .extent = MDMP_EXTENT_INSIDE},
-        {.start = UINT64_MAX - 1, .size = 8, .offset = 44, .extent = MDMP_EXTENT_INSIDE},
-        {.start = 20, .size = 8, .offset = 129, .extent = MDMP_EXTENT_INSIDE},                 /* one byte too far */
-        {.start = 20, .size = 8, .offset = UINT64_MAX - 3, .extent = MDMP_EXTENT_INSIDE},      /* far behind the end */
-        {.start = 20, .size = 8, .offset = 0, .offset_high = 1, .extent = MDMP_EXTENT_INSIDE}, /* farther */
-        {.start = 20, .size = UINT64_MAX, .offset = 1, .extent = MDMP_EXTENT_INSIDE},          /* longer than the file */
-        {.start = 20, .size = 8, .offset = 0, .extent = MDMP_EXTENT_OUTSIDE},                  /* not inside, as it says */
-        {.start = 27, .size = 1, .offset = 135, .extent = MDMP_EXTENT_INSIDE, .reserved = {7, 7}}, /* the last byte */
-    };
-    enum { COUNT = sizeof ranges / sizeof *ranges };
     uint8_t out[32];
     bool known[32];
-    ASSERT(mdmp_read(FILE_OF(SYSTEM), ranges, COUNT, 0, out, 32, known, 32, &fault) == MDMP_OK);
+    ASSERT(mdmp_read(FILE_OF(SYSTEM), RANGES, COUNT, 0, out, 32, known, 32, &fault) == MDMP_OK);
     for (size_t i = 0; i < 32; i++) {
         ASSERT(known[i] == (i < 12 || i == 27));
         ASSERT(out[i] == (i < 8 ? SYSTEM[i] : i < 12 ? SYSTEM[100 + i - 4] : i == 27 ? SYSTEM[135] : 0));
     }
-    ASSERT(mdmp_read(FILE_OF(SYSTEM), ranges, COUNT, UINT64_MAX - 2, out, 8, known, 8, &fault) == MDMP_OK);
+    ASSERT(mdmp_read(FILE_OF(SYSTEM), RANGES, COUNT, UINT64_MAX - 2, out, 8, known, 8, &fault) == MDMP_OK);
     for (size_t i = 0; i < 8; i++) {
         ASSERT(known[i] == (i == 1 || i == 2) && out[i] == (known[i] ? SYSTEM[44 + i - 1] : 0));
     }
+}
+
+/* A read by an index gives what a read by its ranges gives; a room that is too small is told. */
+static void test_index(void) {
+    const uint64_t addresses[] = {0, 3, 20, 27, UINT64_MAX - 2, UINT64_MAX};
+    mdmp_slot slots[2 * COUNT] = {{.owner = 7}};
+    uint64_t count, owner;
+    ASSERT(mdmp_index(FILE_OF(SYSTEM), RANGES, COUNT, slots, 2 * COUNT - 1, &count, &fault) == MDMP_BUFFER_TOO_SHORT);
+    ASSERT(count == 2 * COUNT && slots[0].owner == 7);
+    ASSERT(mdmp_index(FILE_OF(SYSTEM), RANGES, COUNT, slots, 2 * COUNT, &count, &fault) == MDMP_OK);
+    ASSERT(count <= 2 * COUNT && fault.kind == MDMP_FAULT_NONE);
+    for (size_t i = 0; i < sizeof addresses / sizeof *addresses; i++) {
+        uint8_t out[16], by_index[16];
+        bool known[16], known_by_index[16];
+        ASSERT(mdmp_read(FILE_OF(SYSTEM), RANGES, COUNT, addresses[i], out, 16, known, 16, &fault) == MDMP_OK);
+        ASSERT(mdmp_read_index(
+                   FILE_OF(SYSTEM), slots, (size_t)count, addresses[i], by_index, 16, known_by_index, 16, &fault) ==
+               MDMP_OK);
+        ASSERT(memcmp(out, by_index, 16) == 0 && memcmp(known, known_by_index, sizeof known) == 0);
+    }
+    const uint64_t owners[] = {0, 0, UINT64_MAX, 8, UINT64_MAX, 2};
+    for (size_t i = 0; i < sizeof addresses / sizeof *addresses; i++) {
+        ASSERT(mdmp_where(slots, (size_t)count, addresses[i], &owner) == MDMP_OK);
+        ASSERT(owner == owners[i]);
+    }
+    uint8_t byte = 0xaa;
+    ASSERT(mdmp_read_index(FILE_OF(SYSTEM), slots, 1, 0, &byte, 1, NULL, 0, &fault) == MDMP_BAD_ARGUMENT);
+    ASSERT(fault.kind == MDMP_FAULT_LENGTHS_DIFFER && byte == 0xaa);
+}
+
+/* The first module whose image holds an address is its owner. */
+static void test_where(void) {
+    const mdmp_module modules[] = {{.base_of_image = 0x2000, .size_of_image = 0x1000},
+                                   {.base_of_image = 0x1000, .size_of_image = 0x2000},
+                                   {.base_of_image = 0x1000, .size_of_image = 0}};
+    mdmp_slot slots[6];
+    uint64_t count, owner;
+    ASSERT(mdmp_index_modules(modules, 3, slots, 6, &count, &fault) == MDMP_OK && count >= 2);
+    ASSERT(mdmp_where(slots, (size_t)count, 0xfff, &owner) == MDMP_OK && owner == UINT64_MAX);
+    ASSERT(mdmp_where(slots, (size_t)count, 0x1fff, &owner) == MDMP_OK && owner == 1);
+    ASSERT(mdmp_where(slots, (size_t)count, 0x2000, &owner) == MDMP_OK && owner == 0);
+    ASSERT(mdmp_where(slots, (size_t)count, 0x3000, &owner) == MDMP_OK && owner == UINT64_MAX);
+    ASSERT(mdmp_where(NULL, 0, 0, &owner) == MDMP_OK && owner == UINT64_MAX);
 }
 
 /* A NULL stands beside each length of 0. */
@@ -212,7 +169,8 @@ static void test_null(void) {
         ASSERT(status == (count == 0 ? MDMP_OK : MDMP_BUFFER_TOO_SHORT) && fault.kind == MDMP_FAULT_NONE);
     }
     ASSERT(mdmp_header(NULL, 0, &header, &fault) == MDMP_FAULT && fault.kind == MDMP_FAULT_FILE_TOO_SHORT);
-    ASSERT(mdmp_symbols(NULL, 0, &place, &symbols, &fault) == MDMP_FAULT && fault.kind == MDMP_FAULT_PART_OUTSIDE);
+    ASSERT(mdmp_symbols(NULL, 0, &LIMITS, &place, &symbols, &fault) == MDMP_FAULT);
+    ASSERT(fault.kind == MDMP_FAULT_PART_OUTSIDE);
     ASSERT(mdmp_copy(NULL, 0, &LIMITS, NULL, 0, NULL, 0, &count, &fault) == MDMP_BAD_ARGUMENT);
     ASSERT(mdmp_memory(NULL, 0, &LIMITS, 0, NULL, 0, NULL, 0, &fault) == MDMP_FAULT);
     ASSERT(mdmp_read(NULL, 0, NULL, 0, 0, NULL, 0, NULL, 0, &fault) == MDMP_OK && fault.kind == MDMP_FAULT_NONE);
@@ -252,6 +210,9 @@ static void test_words(void) {
         {MDMP_FAULT_STORE, "store failed"},
         {MDMP_FAULT_LENGTHS_DIFFER, "lengths differ"},
         {MDMP_FAULT_BUDGET, "fetch budget reached: offset 9 size 8"},
+        {MDMP_FAULT_MEMORY_LIMIT, "memory limit reached: 8"},
+        {MDMP_FAULT_ASIDE_LIMIT, "aside limit reached: offset 9 size 8"},
+        {MDMP_FAULT_COPY_BUDGET, "copy needs 8 bytes"},
     };
     uint8_t out[128];
     uint64_t size;
@@ -282,10 +243,10 @@ int main(void) {
     ASSERT(mdmp_version() == MDMP_VERSION);
     test_small_dump();
     test_bad_entry();
-    test_limits();
-    test_budget();
     test_arguments();
     test_read();
+    test_index();
+    test_where();
     test_null();
     test_words();
     return 0;

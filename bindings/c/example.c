@@ -37,7 +37,7 @@ int main(int argc, char **argv) {
         fprintf(stderr, "usage: %s DUMP\n", argv[0]);
         return 2;
     }
-    const mdmp_limits limits = MDMP_LIMITS_DEFAULT;
+    const mdmp_limits limits = MDMP_LIMITS_UNTRUSTED;
     mdmp_fault fault;
     mdmp_module *modules = NULL;
     uint64_t count = 0;

@@ -25,7 +25,7 @@ class Fault : public std::runtime_error {
 
 // All records of one kind, by a call such as mdmp_threads.
 template <typename Record, typename Call> std::vector<Record> all(Call call, const std::vector<std::uint8_t> &file) {
-    const mdmp_limits limits = MDMP_LIMITS_DEFAULT;
+    const mdmp_limits limits = MDMP_LIMITS_UNTRUSTED;
     std::vector<Record> records(16);
     mdmp_fault fault;
     std::uint64_t count = 0;

@@ -28,7 +28,14 @@ static uint64_t below(uint64_t bound) {
 /* ---- what is true of each answer */
 
 static uint32_t status_of(const mdmp_fault *fault) {
-    return fault->kind == MDMP_FAULT_NONE ? MDMP_OK : fault->kind < MDMP_FAULT_NOT_COPIED ? MDMP_FAULT : MDMP_BAD_ARGUMENT;
+    switch (fault->kind) {
+    case MDMP_FAULT_NONE: return MDMP_OK;
+    case MDMP_FAULT_BUDGET:
+    case MDMP_FAULT_MEMORY_LIMIT:
+    case MDMP_FAULT_ASIDE_LIMIT:
+    case MDMP_FAULT_COPY_BUDGET: return MDMP_LIMIT;
+    default: return fault->kind < MDMP_FAULT_NOT_COPIED ? MDMP_FAULT : MDMP_BAD_ARGUMENT;
+    }
 }
 
 static void test_fault(const mdmp_fault *fault) {
@@ -123,14 +130,14 @@ static void test_budget(blob file) {
     uint64_t size, given;
     mdmp_fault fault, same;
     mdmp_limits half = LIMITS;
-    half.budget = file.size / 2 + 1; /* 0 would be none */
+    half.budget = file.size / 2;
     mdmp_list(file.bytes, file.size, &LIMITS, false, NULL, 0, &size, &fault);
     uint8_t *text = malloc((size_t)size + 1), *first = malloc((size_t)size + 1);
     mdmp_list(file.bytes, file.size, &LIMITS, false, text, (size_t)size, &size, &fault);
     uint32_t status = mdmp_list(file.bytes, file.size, &half, false, first, (size_t)size, &given, &same);
     ASSERT(given <= size && memcmp(first, text, (size_t)given) == 0);
     if (same.kind == MDMP_FAULT_BUDGET) {
-        ASSERT(status == MDMP_NO_MEMORY && same.size <= file.size && same.offset <= file.size - same.size);
+        ASSERT(status == MDMP_LIMIT && same.size <= file.size && same.offset <= file.size - same.size);
         test_fault(&same);
     } else {
         ASSERT(status == status_of(&fault) && given == size && memcmp(&fault, &same, sizeof fault) == 0);
@@ -160,6 +167,29 @@ static void test_address(
     }
 }
 
+/* A read by an index of at most eight ranges gives what a read by the ranges gives; slots that are no index do no harm. */
+static void test_index(blob file, const mdmp_range *ranges, size_t count) {
+    mdmp_slot slots[16];
+    uint64_t given, address = below(64);
+    mdmp_fault fault;
+    ASSERT(mdmp_index(file.bytes, file.size, ranges, count, slots, 16, &given, &fault) == MDMP_OK && given <= 2 * count);
+    uint8_t *out = fenced_last(&out_pages, 64), bytes[64];
+    bool *known = fenced_last(&known_pages, 64), are_known[64];
+    ASSERT(mdmp_read(file.bytes, file.size, ranges, count, address, bytes, 64, are_known, 64, &fault) == MDMP_OK);
+    ASSERT(mdmp_read_index(file.bytes, file.size, slots, (size_t)given, address, out, 64, known, 64, &fault) == MDMP_OK);
+    ASSERT(memcmp(out, bytes, 64) == 0 && memcmp(known, are_known, sizeof are_known) == 0);
+    for (size_t i = 0; i < 16; i++) {
+        slots[i] = (mdmp_slot){.start = below(64),
+            .length = next_number() >> below(64),
+            .offset = next_number() >> below(64),
+            .owner = next_number()};
+    }
+    ASSERT(mdmp_read_index(file.bytes, file.size, slots, 16, address, out, 64, known, 64, &fault) == MDMP_OK);
+    for (size_t i = 0; i < 64; i++) {
+        ASSERT(known[i] || out[i] == 0);
+    }
+}
+
 static void test_memory(blob file) {
     uint64_t count;
     mdmp_fault fault;
@@ -182,6 +212,7 @@ static void test_memory(blob file) {
     uint8_t *out = fenced_last(&out_pages, 64);
     bool *known = fenced_last(&known_pages, 64);
     ASSERT(mdmp_read(file.bytes, file.size, ranges, (size_t)count, below(64), out, 64, known, 64, &fault) == MDMP_OK);
+    test_index(file, ranges, count < 8 ? (size_t)count : 8);
     free(ranges);
 }
 
@@ -194,9 +225,11 @@ static void test_places(blob file) {
         uint32_t rva = (uint32_t)below(file.size + 4), size = (uint32_t)below(i < 2 ? 64 : file.size + 4);
         const mdmp_place place = {size, rva, (uint32_t)below(5), 0};
         mdmp_symbol_file symbols;
-        status = mdmp_symbols(file.bytes, file.size, &place, &symbols, &fault);
+        mdmp_limits limits = LIMITS;
+        limits.name = (uint32_t)below(40);
+        status = mdmp_symbols(file.bytes, file.size, &limits, &place, &symbols, &fault);
         ASSERT(status == (size != 0 && (uint64_t)rva + size <= file.size ? MDMP_OK : MDMP_FAULT));
-        ASSERT(symbols.name_offset + symbols.name_size <= file.size);
+        ASSERT(symbols.name_offset + symbols.name_size <= file.size && symbols.name_size <= limits.name);
         test_fault(&fault);
     }
 }

@@ -2,6 +2,7 @@
  * with
  * --wrap=malloc --wrap=realloc --wrap=free: refused DUMP.. */
 #include "fillers.h"
+#include "small.h"
 
 #include <sys/resource.h>
 
@@ -126,16 +127,27 @@ static void test_none(blob file) {
     ASSERT(mdmp_ranges(file.bytes, file.size, &LIMITS, NULL, 0, &count, &fault) != MDMP_FAULT);
     mdmp_range *ranges = malloc(((size_t)count + 1) * sizeof *ranges);
     ASSERT(mdmp_ranges(file.bytes, file.size, &LIMITS, ranges, (size_t)count, &count, &fault) == MDMP_OK);
+    const size_t room = 2 * (size_t)count;
+    mdmp_slot *slots = malloc((room + 1) * sizeof *slots);
+    const mdmp_module module = {.base_of_image = 8, .size_of_image = 8};
+    mdmp_slot places[2];
+    uint64_t indexed, owner;
+    ASSERT(ranges != NULL && slots != NULL);
     allowed = 0;
     asked = 0;
     ASSERT(mdmp_header(file.bytes, file.size, &header, &fault) == MDMP_OK);
-    ASSERT(mdmp_symbols(file.bytes, file.size, &place, &symbols, &fault) == MDMP_OK);
+    ASSERT(mdmp_symbols(file.bytes, file.size, &LIMITS, &place, &symbols, &fault) == MDMP_OK);
     ASSERT(mdmp_read(file.bytes, file.size, &range, 1, 4, out, 16, known, 16, &fault) == MDMP_OK);
     ASSERT(known[3] && !known[4]);
     uint64_t start = count == 0 ? 0 : ranges[count / 2].start;
     ASSERT(mdmp_read(file.bytes, file.size, ranges, (size_t)count, start, out, 16, known, 16, &fault) == MDMP_OK);
+    ASSERT(mdmp_index(file.bytes, file.size, ranges, (size_t)count, slots, room, &indexed, &fault) == MDMP_OK);
+    ASSERT(mdmp_read_index(file.bytes, file.size, slots, (size_t)indexed, start, out, 16, known, 16, &fault) == MDMP_OK);
+    ASSERT(mdmp_index_modules(&module, 1, places, 2, &indexed, &fault) == MDMP_OK && indexed == 1);
+    ASSERT(mdmp_where(places, 1, 9, &owner) == MDMP_OK && owner == 0);
     allowed = -1;
     ASSERT(asked == 0);
+    free(slots);
     free(ranges);
 }
 
@@ -172,16 +184,68 @@ static void test_touched(blob file) {
     ASSERT(after.ru_maxrss - before.ru_maxrss < 256 * 1024);
 }
 
-/* A part of a list takes no memory for the text: what is held is the same, however long the text is. */
+/* A list takes no memory for text that the buffer has no room for: what is held is the same, however long the text is. */
 static void test_part(blob file) {
     uint8_t out[64];
     uint64_t size, left;
     mdmp_fault fault;
+    largest = 0;
     ASSERT(mdmp_list(file.bytes, file.size, &LIMITS, false, NULL, 0, &size, &fault) == MDMP_BUFFER_TOO_SHORT);
+    ASSERT(size < 1 << 18 || largest < size);
+    largest = 0;
+    ASSERT(mdmp_list_json(file.bytes, file.size, &LIMITS, false, out, sizeof out, &left, &fault) == MDMP_BUFFER_TOO_SHORT);
+    ASSERT(left < 1 << 18 || largest < left);
     largest = 0;
     ASSERT(
         mdmp_list_part(file.bytes, file.size, &LIMITS, false, 0, out, sizeof out, &left, &fault) == MDMP_BUFFER_TOO_SHORT);
     ASSERT(left == size && (size < 1 << 18 || largest < size));
+}
+
+static uint32_t list_within(const mdmp_limits *limits, uint8_t *out, size_t room, uint64_t *size, mdmp_fault *fault) {
+    return mdmp_list(FILE_OF(SYSTEM), limits, false, out, room, size, fault);
+}
+
+static uint32_t copy_within(const mdmp_limits *limits, uint8_t *out, size_t room, uint64_t *size, mdmp_fault *fault) {
+    const uint32_t type = 7;
+    return mdmp_copy(FILE_OF(SYSTEM), limits, &type, 1, out, room, size, fault);
+}
+
+/* A call within limits is refused each allocation, before and after which a limit may be reached: it says which, and in
+ * both cases gives nothing and keeps nothing. */
+static void test_limited(uint32_t (*call)(const mdmp_limits *, uint8_t *, size_t, uint64_t *, mdmp_fault *), mdmp_limits limits,
+                         uint32_t kind) {
+    for (long granted = 0;; granted++) {
+        uint8_t out[512];
+        uint64_t size = 1;
+        mdmp_fault fault;
+        long kept = live;
+        memset(out, 0xaa, sizeof out);
+        allowed = granted;
+        asked = 0;
+        uint32_t status = call(&limits, out, sizeof out, &size, &fault);
+        allowed = -1;
+        ASSERT(live == kept && size == 0 && is_untouched(out, sizeof out));
+        if (status == MDMP_LIMIT) {
+            ASSERT(fault.kind == kind && asked == granted);
+            return;
+        }
+        ASSERT(status == MDMP_NO_MEMORY && fault.kind == MDMP_FAULT_NO_MEMORY && asked == granted + 1);
+    }
+}
+
+/* The dump has one entry: its lists take W + 12 + L bytes, and those of a copy 2W + 24. A copy of it needs over 168 bytes. */
+static void test_limits(void) {
+    mdmp_limits limits = LIMITS;
+    limits.memory = LIMITS.window + LIMITS.name + 11;
+    test_limited(list_within, limits, MDMP_FAULT_MEMORY_LIMIT);
+    limits.memory = 2 * LIMITS.window + 23;
+    test_limited(copy_within, limits, MDMP_FAULT_MEMORY_LIMIT);
+    limits.memory = MDMP_NO_LIMIT;
+    limits.budget = 43;
+    test_limited(list_within, limits, MDMP_FAULT_BUDGET);
+    test_limited(copy_within, limits, MDMP_FAULT_BUDGET);
+    limits.budget = 168;
+    test_limited(copy_within, limits, MDMP_FAULT_COPY_BUDGET);
 }
 
 int main(int argc, char **argv) {
@@ -211,6 +275,7 @@ int main(int argc, char **argv) {
         free(file.bytes);
     }
     test_fault_text();
+    test_limits();
     free(out);
     ASSERT(live == 0);
     return 0;

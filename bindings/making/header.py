@@ -75,11 +75,23 @@ def inline_text(call: Call) -> str:
     return f"{comment(call.doc)}\n{declaration(call, call.name, ' {')}\n" + "\n".join(lines) + "\n}"
 
 
+def limits_text(interface: Interface) -> str:
+    """The limits that a caller begins with."""
+    sizes = f"{interface.limits['window']}, {interface.limits['name']}"
+    none, most = ["MDMP_NO_LIMIT"] * 3, [str(interface.limits["untrusted"])] * 3
+    return (
+        "/* In the place of a limit: there is none. */\n#define MDMP_NO_LIMIT UINT64_MAX\n\n"
+        "/* The window and the longest name of the command, and no other limit. */\n"
+        f"#define MDMP_LIMITS_DEFAULT {{ {sizes}, {', '.join(none)} }}\n\n"
+        "/* The same window and longest name, and limits for a file from a stranger. */\n"
+        f"#define MDMP_LIMITS_UNTRUSTED {{ {sizes}, {', '.join(most)} }}"
+    )
+
+
 def header_text(interface: Interface) -> str:
     page = "\n".join(f" * {line}".rstrip() for line in interface.page.splitlines())
     plain = [call for call in interface.calls if call.name == call.symbol]
     others = [call for call in interface.calls if call.name != call.symbol]
-    limits = "{ 65536, 4096, 0 }"
     parts = [
         f"/*{page[2:]}\n */",
         "/* Made by bindings/generate from bindings/interface.toml. */\n#ifndef MDMP_H\n#define MDMP_H",
@@ -90,7 +102,7 @@ def header_text(interface: Interface) -> str:
         f"#define MDMP_VERSION 0x{interface.version_number:06x}",
         *[enum_text(enum) for enum in interface.enums.values()],
         *[structure_text(structure) for structure in interface.structures.values()],
-        f"/* The window and the longest name of the command, and no budget. */\n#define MDMP_LIMITS_DEFAULT {limits}",
+        limits_text(interface),
         *[f"{comment(call.doc)}\n{declaration(call, call.name, ';')}" for call in plain],
         "/* What the library exports. These take no NULL, not even beside a length of 0: call those below. */\n"
         + "\n".join(declaration(call, call.symbol, ";") for call in others),

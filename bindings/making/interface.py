@@ -96,6 +96,7 @@ class Interface:
         self.abi: int = data["abi"]
         self.version = tuple(int(part) for part in data["version"].split("."))
         self.page: str = data["page"].strip("\n")
+        self.limits: dict[str, int] = data["limits"]
         self.enums = {entry["name"]: Enum(**entry) for entry in data["enum"]}
         self.structures: dict[str, Structure] = {}
         for entry in data["structure"]:
@@ -103,6 +104,11 @@ class Interface:
         self.calls: list[Call] = []
         for entry in data["call"]:
             self.calls += self._calls(entry)
+
+    @property
+    def soname(self) -> str:
+        """The SONAME of the shared library, which is also the name of its file."""
+        return f"libmdmp.so.{self.abi}"
 
     @property
     def version_number(self) -> int:

@@ -60,7 +60,10 @@ def structures_text(interface: Interface) -> str:
         "from __future__ import annotations\n\n"
         "from ctypes import (\n    CDLL,\n    POINTER,\n    Array,\n    Structure,\n    c_bool,\n    c_size_t,\n    c_uint8,\n"
         "    c_uint32,\n    c_uint64,\n    c_void_p,\n)\n\n"
-        f"ABI = {interface.abi}\n\n\n"
+        f"ABI = {interface.abi}\nSONAME = \"{interface.soname}\"\n\n"
+        f"WINDOW, NAME = {interface.limits['window']}, {interface.limits['name']}\n"
+        f"UNTRUSTED = {interface.limits['untrusted']}  # each limit of MDMP_LIMITS_UNTRUSTED\n"
+        "NO_LIMIT = (1 << 64) - 1\n\n\n"
         + "\n\n\n".join(structure_text(interface, structure) for structure in structures)
         + "\n\n\n# Of each structure its size, and where each field stands.\n"
         + "LAYOUT: dict[type[Structure], tuple[int, dict[str, int]]] = {\n"

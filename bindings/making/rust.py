@@ -84,6 +84,13 @@ def ffi_text(interface: Interface) -> str:
         "use std::mem::{offset_of, size_of};\n\n"
         "/// What `mdmp_abi` answers of the library that belongs to this crate.\n"
         f"pub const ABI: u32 = {interface.abi};\n\n"
+        "/// The window and the longest name of `MDMP_LIMITS_DEFAULT`.\n"
+        f"pub const WINDOW: u32 = {interface.limits['window']};\n"
+        f"pub const NAME: u32 = {interface.limits['name']};\n"
+        "/// Each limit of `MDMP_LIMITS_UNTRUSTED`.\n"
+        f"pub const UNTRUSTED: u64 = {interface.limits['untrusted']:_};\n"
+        "/// In the place of a limit: there is none.\n"
+        "pub const NO_LIMIT: u64 = u64::MAX;\n\n"
         + "\n\n".join(structure_text(interface, structure) for structure in structures)
         + "\n\n// The layout that the library has: no padding, nothing moved.\nconst _: () = {\n"
         + "\n".join(asserts_text(structure) for structure in structures)

@@ -1,4 +1,4 @@
-"""The wheel holds libmdmp.so.0, which is of one platform but of no Python's: any Python 3 may load it."""
+"""The wheel holds the shared library, which is of one platform but of no Python's: any Python 3 may load it."""
 
 from setuptools import Distribution, setup
 from wheel.bdist_wheel import bdist_wheel

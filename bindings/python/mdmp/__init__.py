@@ -13,14 +13,16 @@
 0x7fcaa7956000 ld-linux-x86-64.so.2
 
 `open` maps a file, and `Dump` takes its bytes. A file that is at fault raises `Fault`, whose `partial` holds what stood
-before the fault, and so does a listing that would pass its budget; wrong limits or types raise ValueError, and want of
-memory MemoryError. `python -m mdmp FILE` prints what `mdmp list FILE` does.
+before the fault. A dump begins with the limits for files from strangers, `Limits.untrusted()`: if one is reached,
+`LimitReached` is raised, and `limits=None` lifts them all. Wrong limits or types raise ValueError, and if memory runs out
+MemoryError is raised. `python -m mdmp FILE` prints what `mdmp list FILE` does.
 """
 
 from ._buffer import Bytes
 from ._dump import Dump, Where, open
-from ._fault import Fault
+from ._fault import Fault, LimitReached, OutputLimit
 from ._library import library as _library
+from ._limits import Limits
 from ._memory import Cells, Memory
 from ._parts import SymbolFile, Version
 from ._records import (
@@ -53,10 +55,13 @@ __all__ = [
     "Fault",
     "FaultKind",
     "Header",
+    "LimitReached",
+    "Limits",
     "Memory",
     "Module",
     "NamePlace",
     "NameState",
+    "OutputLimit",
     "Part",
     "Place",
     "Range",

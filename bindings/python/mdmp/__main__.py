@@ -2,8 +2,9 @@
 
 With a first word `page` or `day` it makes a page to look at instead (docs/PAGES.md); a file of such a name is `./page`.
 
-The exit status is the command's: 0 good, 1 the file is at fault, 2 the words of the command line are, 3 no memory, no
-room for the output, a budget that is reached, or a file that can't be opened.
+The file has the limits of strangers (`mdmp list --untrusted`), but for a budget that is given. The exit status is the
+command's: 0 good, 1 the file is at fault, 2 the words of the command line are, 3 no memory, no room for the output, a limit
+that is reached, or a file that can't be opened.
 """
 
 from __future__ import annotations
@@ -11,13 +12,14 @@ from __future__ import annotations
 import argparse
 import os
 import sys
+from dataclasses import replace
 
 import mdmp
 
 
 def run(arguments: argparse.Namespace) -> None:
-    limits = {"window": arguments.window, "name": arguments.name, "budget": arguments.budget}
-    with mdmp.open(arguments.file, **limits) as dump:
+    limits = replace(mdmp.Limits.untrusted(), window=arguments.window, name=arguments.name, budget=arguments.budget)
+    with mdmp.open(arguments.file, limits=limits) as dump:
         if arguments.check:
             try:
                 sys.stdout.write(dump.check())
@@ -37,7 +39,7 @@ def status_of(arguments: argparse.Namespace) -> int:
             sys.stdout.flush()
         return 0
     except mdmp.Fault as fault:
-        told, status = str(fault), 3 if fault.kind == mdmp.FaultKind.BUDGET else 1
+        told, status = str(fault), 3 if isinstance(fault, mdmp.LimitReached) else 1
     except ValueError as error:
         told, status = str(error), 2
     except MemoryError:
@@ -62,9 +64,10 @@ def main() -> int:
     which = words.add_mutually_exclusive_group()
     which.add_argument("--check", action="store_true", help="tell of each entry whether it is good")
     which.add_argument("--pdb", action="store_true", help="tell the symbol file of each module too")
-    words.add_argument("--window", type=int, default=65536, help="by how many bytes the file is read")
-    words.add_argument("--name", type=int, default=4096, help="the longest name that is read, in bytes")
-    words.add_argument("--budget", type=int, help="the most bytes of the file that are fetched for its listing")
+    most = mdmp.Limits.untrusted()
+    words.add_argument("--window", type=int, default=most.window, help="by how many bytes the file is read")
+    words.add_argument("--name", type=int, default=most.name, help="the longest name that is read, in bytes")
+    words.add_argument("--budget", type=int, default=most.budget, help="the most bytes of the file that are read to list it")
     return status_of(words.parse_args())
 
 

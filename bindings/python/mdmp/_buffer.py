@@ -1,4 +1,4 @@
-"""The bytes of a file, lent to the library without a copy.
+"""The bytes of a file, lent to the library without a copy; and copies of bytes at an address.
 
 `ctypes` gives the address of a buffer only where it may be written to, which a read-only mapping is not. Python's own
 call for it, PyObject_GetBuffer, gives that of any buffer, and keeps the buffer in its place until PyBuffer_Release:
@@ -10,7 +10,7 @@ from __future__ import annotations
 import mmap
 from array import array
 from ctypes import Structure, addressof, byref, c_char_p, c_int, c_ssize_t, c_uint8, c_void_p, py_object, pythonapi
-from typing import Union
+from typing import Any, Union
 
 Bytes = Union[bytes, bytearray, memoryview, mmap.mmap, "array[int]"]
 
@@ -38,6 +38,16 @@ _get.argtypes, _get.restype = [py_object, c_void_p, c_int], c_int
 _release.argtypes, _release.restype = [c_void_p], None
 _SIMPLE = 0
 _nothing = c_uint8()
+# Its own object for the function, so that no other package's types of arguments meet these.
+_copied = pythonapi["PyBytes_FromStringAndSize"]
+_copied.argtypes, _copied.restype = [c_void_p, c_ssize_t], py_object
+
+
+def bytes_at(place: Any, size: int) -> bytes:
+    """A copy of the first bytes of an array, or of those at an address. `ctypes.string_at` takes the size as a C int: it
+    raises an error from 2 GiB on, and from 4 GiB on it gives fewer bytes."""
+    made: bytes = _copied(place, size)
+    return made
 
 
 class Lent:

@@ -5,65 +5,36 @@ from __future__ import annotations
 import io
 import mmap
 import os
-from ctypes import byref, c_uint8, c_uint32, c_uint64, string_at
-from typing import IO, Any, Callable, NamedTuple, TypeVar
-from uuid import UUID
+from ctypes import POINTER, byref, c_uint8, c_uint32, c_uint64, cast, sizeof
+from typing import IO, NamedTuple
 
 from . import _structures
 from ._buffer import Bytes, Lent
+from ._calls import Calls, some_records, some_text
 from ._fault import Fault, expect_good, fault_of
-from ._library import Filled, fill, library
+from ._images import Images
+from ._library import Filled, array_of, library
+from ._limits import UNTRUSTED, Left, Limits, limits_of, number
 from ._memory import Memory
-from ._parts import SymbolFile
+from ._output import exception_size
 from ._records import (
     ExceptionRecord,
-    Extent,
     FaultKind,
     Header,
     Module,
-    NameState,
     Range,
     Region,
     Status,
     Stream,
-    SymbolKind,
     System,
     Thread,
     ThreadName,
     UnloadedModule,
 )
 
-_T = TypeVar("_T")
-_PART = 16 << 20
-
-
-# A number for a u32 or a u64 of the library. ctypes would drop what is above its bits.
-def _number(name: str, number: int, bits: int) -> int:
-    if not 0 <= number < 1 << bits:
-        raise ValueError(f"{name} is not between 0 and {(1 << bits) - 1}")
-    return number
-
-
-def _u32(name: str, number: int) -> int:
-    return _number(name, number, 32)
-
-
-# To the library 0 is no budget. The first fetch has 32 bytes, so that a budget of 1 has room for none, as one of 0.
-def _budget(budget: int | None) -> int:
-    return 0 if budget is None else max(_number("budget", budget, 64), 1)
-
-
-# Guesses of how many items a file of some size has: powers of two, so that there are few types of arrays.
-def _some_records(size: int) -> int:
-    return 1 << min(size // 24, 8191).bit_length()
-
-
-def _some_text(size: int) -> int:
-    return 1 << min(max(size * 2, 1 << 15), 1 << 20).bit_length()
-
-
-def _some_name(_: int) -> int:
-    return 512
+_PART = 64 << 20
+_WRITTEN = 1 << 20
+_BYTES = POINTER(c_uint8)
 
 
 class Where(NamedTuple):
@@ -76,15 +47,12 @@ class Where(NamedTuple):
         return f"{self.module.name}+{self.offset:#x}"
 
 
-class Dump:
+class Dump(Calls):
     """A minidump over the bytes of a file: `bytes`, or whatever else lies in one piece. They are not copied, and must
     not change meanwhile.
 
-    `window` and `name` are the limits of the command: by how many bytes the file's records are read, and the longest
-    name. `budget` is the most bytes of the file that are fetched for one listing, where there is a most: a listing that
-    would fetch more raises Fault of the kind `FaultKind.BUDGET`. Each table, each text and the memory's ranges are a
-    listing of their own, which is made again where its first guess of a size was too small; CodeView records and the
-    bytes of memory do not count, and `copy` has no budget.
+    `limits` say how much is read and kept: if nothing is said `Limits.untrusted()`, and None is no limit at all. `window`,
+    `name` and `budget` set these numbers of `limits`. A call that reaches a limit raises `LimitReached`.
     What a dump gives are values of their own, which outlive it. Any number of threads may use one dump.
 
     >>> import mdmp
@@ -96,11 +64,17 @@ class Dump:
     0x190000000 
     """
 
-    def __init__(self, data: Bytes, *, window: int = 65536, name: int = 4096, budget: int | None = None) -> None:
-        self._data: Bytes | None = data
+    def __init__(
+        self,
+        data: Bytes,
+        *,
+        limits: Limits | None = UNTRUSTED,
+        window: int | Left = Left.OUT,
+        name: int | Left = Left.OUT,
+        budget: int | None | Left = Left.OUT,
+    ) -> None:
+        super().__init__(data, limits_of(limits, window=window, name=name, budget=budget))
         self._mapping: mmap.mmap | None = None
-        self._limits = _structures.Limits(_u32("window", window), _u32("name", name), _budget(budget))
-        self._kept: dict[str, Any] = {}
 
     def close(self) -> None:
         """Gives the file back: whatever is asked of the dump from now on is a ValueError. Raises BufferError, and
@@ -116,65 +90,7 @@ class Dump:
     def __exit__(self, *_: object) -> None:
         self.close()
 
-    # ---- calls
-
-    def _lent(self) -> Lent:
-        if self._data is None:
-            raise ValueError("the dump was closed")
-        return Lent(self._data)
-
-    def _fill(self, call: Any, item: Any, guess: Callable[[int], int], *arguments: Any) -> Filled:
-        """What a call gives, where the guess is how many items a file of some size has."""
-        with self._lent() as (file, size):
-            return fill(lambda *out: call(file, size, *arguments, *out), item, guess(size))
-
-    def _keep(self, name: str, make: Callable[[], _T]) -> _T:
-        """What was made of this name before, or else is made now."""
-        self._lent()
-        if name not in self._kept:
-            self._kept[name] = make()
-        made: _T = self._kept[name]
-        return made
-
-    def _rows(self, call: Any, record: Any) -> Any:
-        """The records of one kind."""
-
-        def make() -> tuple[Any, ...]:
-            raw = getattr(_structures, record.__name__)
-            filled = self._fill(call, raw, _some_records, byref(self._limits))
-            given = tuple([record._of(filled.items[at], self) for at in range(filled.given)])
-            expect_good(filled.status, filled.fault, given)
-            return given
-
-        return self._keep(record.__name__, make)
-
-    def _text(self, call: Any, *arguments: Any) -> str:
-        filled = self._fill(call, c_uint8, _some_text, byref(self._limits), *arguments)
-        text = filled.bytes().decode("utf-8")
-        expect_good(filled.status, filled.fault, text)
-        return text
-
-    def _name_at(self, place: _structures.NamePlace) -> str | None:
-        """The name at a place, or None where there is none, or a longer one than the limit."""
-        if place.state != NameState.GIVEN:
-            return None
-        filled = self._fill(library.mdmp_name_, c_uint8, _some_name, place.rva, self._limits.name)
-        expect_good(filled.status, filled.fault)
-        return filled.bytes().decode("utf-8")
-
-    def _symbols_at(self, place: _structures.Place) -> SymbolFile | None:
-        """What the CodeView record at a place tells, or None where the file has none."""
-        if place.extent != Extent.INSIDE:
-            return None
-        raw, fault = _structures.SymbolFile(), _structures.Fault()
-        with self._lent() as (file, size):
-            status = library.mdmp_symbols_(file, size, byref(place), byref(raw), byref(fault))
-            expect_good(status, fault)
-            name = string_at(file + raw.name_offset, raw.name_size)
-        kind = SymbolKind(raw.kind)
-        guid = UUID(bytes=bytes(raw.guid)) if kind == SymbolKind.RSDS else None
-        signature = bytes(raw.signature) if kind == SymbolKind.OTHER else b""
-        return SymbolFile(kind, guid, raw.age, name, raw.name_ended == 1, signature)
+    # ---- what a dump has
 
     def _thread_name(self, thread_id: int) -> str | None:
         """The first name that the file has for a thread, before a fault of its names, or None."""
@@ -187,8 +103,6 @@ class Dump:
             return {row.thread_id: row.name for row in reversed(rows)}
 
         return self._keep("names by threads", make).get(thread_id)
-
-    # ---- what a dump has
 
     @property
     def header(self) -> Header:
@@ -207,12 +121,8 @@ class Dump:
     def streams(self) -> tuple[Stream, ...]:
         """The entries of the directory as they stand there, whether or not what they name is good."""
 
-        def make() -> tuple[Stream, ...]:
-            filled = self._fill(library.mdmp_streams_, _structures.Stream, _some_records)
-            expect_good(filled.status, filled.fault)
-            return tuple([Stream._of(filled.items[at], self) for at in range(filled.given)])
-
-        return self._keep("streams", make)
+        rows: tuple[Stream, ...] = self._rows(library.mdmp_streams_, Stream, has_limits=False)
+        return rows
 
     @property
     def verdicts(self) -> tuple[Fault | None, ...]:
@@ -231,12 +141,17 @@ class Dump:
         """
 
         def make() -> tuple[Fault | None, ...]:
-            filled = self._fill(library.mdmp_verdicts_, _structures.Fault, _some_records, byref(self._limits))
-            rows = [filled.items[at] for at in range(filled.given)]
-            given = tuple([fault_of(raw) if raw.kind else None for raw in rows])
-            if filled.fault.kind != FaultKind.BAD_ENTRIES:
-                expect_good(filled.status, filled.fault, given)
-            return given
+            raw, kept = _structures.Fault, 0
+            filled = self._fill(library.mdmp_verdicts_, raw, some_records, byref(self._plain), most=self._most(sizeof(raw)))
+            given: list[Fault | None] = []
+            for at in range(filled.given):
+                verdict = fault_of(filled.items[at]) if filled.items[at].kind else None
+                kept += sizeof(raw) if verdict is None else exception_size(verdict)
+                self._expect_room(kept, given)
+                given.append(verdict)
+            if filled.is_cut or filled.fault.kind != FaultKind.BAD_ENTRIES:
+                self._expect_whole(filled, tuple(given))
+            return tuple(given)
 
         return self._keep("verdicts", make)
 
@@ -308,11 +223,14 @@ class Dump:
 
     @property
     def memory(self) -> Memory:
-        """Memory of the dumped process, by address."""
+        """Memory of the dumped process, by address. If its ranges are too many for `output`, nothing of it is given."""
 
         def make() -> Memory:
-            filled = self._fill(library.mdmp_ranges_, _structures.Range, _some_records, byref(self._limits))
-            expect_good(filled.status, filled.fault)
+            kept = 2 * sizeof(_structures.Slot)  # of a range, in the index
+            filled = self._fill(
+                library.mdmp_ranges_, _structures.Range, some_records, byref(self._plain), most=self._most(kept)
+            )
+            self._expect_whole(filled, None)
             return Memory(self, filled.items, filled.given)
 
         return self._keep("memory", make)
@@ -327,10 +245,24 @@ class Dump:
         linux-vdso.so.1+0x10
         None
         """
-        for module in self.modules:
-            if 0 <= address - module.base_of_image < module.size_of_image:
-                return Where(module, address - module.base_of_image)
-        return None
+        at = self._images.first(address)
+        if at is None:
+            return None
+        module = self.modules[at]
+        return Where(module, address - module.base_of_image)
+
+    @property
+    def _images(self) -> Images:
+        """An index of the modules' images."""
+
+        def make() -> Images:
+            modules = self.modules
+            rows = array_of(_structures.Module, len(modules))()
+            for row, module in zip(rows, modules):
+                row.base_of_image, row.size_of_image = module.base_of_image, module.size_of_image
+            return Images(rows, len(modules))
+
+        return self._keep("images", make)
 
     # ---- texts, and copies
 
@@ -369,17 +301,21 @@ class Dump:
         return self._text(library.mdmp_list_json_, pdb)
 
     def write_list(self, stream: IO[str], *, pdb: bool = False) -> None:
-        """Writes the text of `list` in parts of 16 MiB: of a long one no more is held at a time."""
+        """Writes the text of `list`, however long it is. The file is listed once for each 64 MiB of the text, and so mostly
+        once; no more than such a part of the text is in memory at a time."""
         skip = 0
-        with self._lent() as (file, size):
-            out, left, fault = (c_uint8 * _PART)(), c_uint64(), _structures.Fault()
+        # Memory that takes no room until it is written to.
+        with self._lent() as (file, size), mmap.mmap(-1, _PART, flags=mmap.MAP_PRIVATE) as part:
+            left, fault = c_uint64(), _structures.Fault()
             status = int(Status.BUFFER_TOO_SHORT)
             while status == Status.BUFFER_TOO_SHORT:
-                status = library.mdmp_list_part_(
-                    file, size, byref(self._limits), pdb, skip, out, _PART, byref(left), byref(fault)
-                )
+                with Lent(part) as (out, room):
+                    status = library.mdmp_list_part_(
+                        file, size, byref(self._plain), pdb, skip, cast(out, _BYTES), room, byref(left), byref(fault)
+                    )
                 given = min(left.value, _PART)
-                stream.write(string_at(out, given).decode("ascii"))
+                for at in range(0, given, _WRITTEN):
+                    stream.write(part[at : min(at + _WRITTEN, given)].decode("ascii"))
                 skip += given
         expect_good(status, fault)
 
@@ -392,14 +328,32 @@ class Dump:
         >>> [stream.stream_type for stream in small.streams]
         [7, 3]
         """
-        chosen = (c_uint32 * max(len(types), 1))(*(_u32("type", number) for number in types))
-        filled = self._fill(library.mdmp_copy_, c_uint8, _some_text, byref(self._limits), chosen, len(types))
+        return self._copied(types, self._plain).bytes()
+
+    def write_copy(self, path: str | os.PathLike[str], *types: int, limits: Limits | None = None) -> None:
+        """Writes what `copy` gives into a new file, with no limits but those that are given here. The path must not exist
+        yet: FileExistsError if it does. If the dump has a fault no file is made."""
+        lifted = limits or Limits(self._limits.window, self._limits.name)
+        filled = self._copied(types, lifted._plain())
+        with io.open(path, "xb", buffering=0) as stream:
+            left = memoryview(filled.items)[: filled.given].cast("B")
+            while len(left):
+                left = left[stream.write(left[:_PART]) or 0 :]
+
+    def _copied(self, types: tuple[int, ...], limits: _structures.Limits) -> Filled:
+        chosen = (c_uint32 * max(len(types), 1))(*(number("type", given, 32) for given in types))
+        filled = self._fill(library.mdmp_copy_, c_uint8, some_text, byref(limits), chosen, len(types))
         expect_good(filled.status, filled.fault)
-        return filled.bytes()
+        return filled
 
 
 def open(
-    path: str | os.PathLike[str], *, window: int = 65536, name: int = 4096, budget: int | None = None
+    path: str | os.PathLike[str],
+    *,
+    limits: Limits | None = UNTRUSTED,
+    window: int | Left = Left.OUT,
+    name: int | Left = Left.OUT,
+    budget: int | None | Left = Left.OUT,
 ) -> Dump:
     """A dump over a file, which is mapped: for reading alone, and without a copy. The limits are those of `Dump`.
 
@@ -408,10 +362,11 @@ def open(
     ...     print(len(dump.threads), "thread", dump.system.csd_version)
     1 thread -fc-v595 #1 SMP PREEMPT_DYNAMIC @0 x86_64
     """
+    given = limits_of(limits, window=window, name=name, budget=budget)
     with io.open(path, "rb") as stream:
         if os.fstat(stream.fileno()).st_size == 0:
-            return Dump(b"", window=window, name=name, budget=budget)  # nothing can be mapped
+            return Dump(b"", limits=given)  # nothing can be mapped
         mapping = mmap.mmap(stream.fileno(), 0, access=mmap.ACCESS_READ)
-    dump = Dump(mapping, window=window, name=name, budget=budget)
+    dump = Dump(mapping, limits=given)
     dump._mapping = mapping
     return dump

@@ -10,8 +10,7 @@ from ._records import FaultKind, Part, Status
 
 
 class Fault(Exception):
-    """What is wrong with a file, in the command's words, and as numbers; or, where `kind` is `FaultKind.BUDGET`, which
-    bytes were not fetched since they would have passed the budget.
+    """What is wrong with a file, in the command's words, and as numbers. If a limit was reached, it is a `LimitReached`.
 
     >>> import mdmp
     >>> try:
@@ -47,20 +46,56 @@ class Fault(Exception):
         return str(self.args[0])
 
     def __repr__(self) -> str:
-        return f"Fault({self.args[0]!r})"
+        return f"{type(self).__name__}({self.args[0]!r})"
+
+
+class LimitReached(Fault):
+    """A limit of the dump was reached (`Limits`), and `partial` holds what was given before it. `kind` says which limit:
+
+    BUDGET        the bytes at `offset`, `size` of them, would pass `budget`, and were not read
+    MEMORY_LIMIT  the lists would take `size` bytes, which is over `memory`
+    ASIDE_LIMIT   the CodeView record at `offset`, of which `size` bytes are read, would pass `aside`
+    COPY_BUDGET   the copy needs `size` bytes, which is over `budget`
+
+    `OutputLimit` is the one of `output`.
+    """
+
+
+class OutputLimit(LimitReached):
+    """The next row of a property, or the next line of a text, would pass `output` of the dump's limits. `partial` holds
+    the rows or the lines before it, `size` is that limit, and `kind` is `FaultKind.NONE`: the library has no such fault.
+
+    >>> import mdmp
+    >>> try:
+    ...     mdmp.open("crashpad-one.dmp", limits=mdmp.Limits(output=8)).list()
+    ... except mdmp.OutputLimit as reached:
+    ...     print(reached, repr(reached.partial))
+    output limit of 8 bytes reached: limits=None lifts all limits ''
+    """
+
+
+_LIMITS = (FaultKind.BUDGET, FaultKind.MEMORY_LIMIT, FaultKind.ASIDE_LIMIT, FaultKind.COPY_BUDGET)
+_WIDE = (FaultKind.TOO_MANY_RANGES, FaultKind.MEMORY_LIMIT, FaultKind.COPY_BUDGET)
+
+
+def output_limit(most: int, partial: Any) -> OutputLimit:
+    """The next row or line would pass so many bytes."""
+    words = f"output limit of {most} bytes reached: limits=None lifts all limits"
+    return OutputLimit(words, FaultKind.NONE, size=most, partial=partial)
 
 
 def fault_of(raw: _structures.Fault, partial: Any = None) -> Fault:
     """The exception of a plain fault."""
     kind = FaultKind(raw.kind)
     is_of_entry = FaultKind.STREAM_OUTSIDE <= kind <= FaultKind.NAME_TOO_LONG
-    return Fault(
+    made = LimitReached if kind in _LIMITS else Fault
+    return made(
         fault_text(raw),
         kind,
         raw.entry if is_of_entry else None,
         raw.index if raw.has_index else None,
         raw.offset | (raw.high << 64 if kind == FaultKind.PART_OUTSIDE else 0),
-        raw.size | (raw.high << 64 if kind == FaultKind.TOO_MANY_RANGES else 0),
+        raw.size | (raw.high << 64 if kind in _WIDE else 0),
         Part(raw.part) if raw.part else None,
         partial,
     )
@@ -70,7 +105,7 @@ def expect_good(status: int, raw: _structures.Fault, partial: Any = None) -> Non
     """Raises what a status tells, unless it is good."""
     if status == Status.OK:
         return
-    if status == Status.NO_MEMORY and raw.kind != FaultKind.BUDGET:
+    if status == Status.NO_MEMORY:
         raise MemoryError(fault_text(raw))
     if status == Status.BAD_ARGUMENT:
         raise ValueError(fault_text(raw))

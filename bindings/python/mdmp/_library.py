@@ -3,23 +3,25 @@
 from __future__ import annotations
 
 import os
-from ctypes import CDLL, Array, byref, c_uint8, c_uint64, string_at
+from ctypes import CDLL, Array, byref, c_uint8, c_uint64
 from functools import lru_cache
 from typing import Any, Callable, NamedTuple
 
 from . import _structures
+from ._buffer import bytes_at
 from ._records import Status
 
 
 def _load() -> CDLL:
     """The library that MDMP_LIBRARY names, or the one beside this file, or the system's."""
     named = os.environ.get("MDMP_LIBRARY")
-    beside = os.path.join(os.path.dirname(os.path.abspath(__file__)), "libmdmp.so.0")
-    path = named or (beside if os.path.exists(beside) else "libmdmp.so.0")
+    soname = _structures.SONAME
+    beside = os.path.join(os.path.dirname(os.path.abspath(__file__)), soname)
+    path = named or (beside if os.path.exists(beside) else soname)
     try:
         loaded = CDLL(path)
     except OSError as error:
-        raise ImportError(f"libmdmp.so.0 was not found ({error}): install it, or name it in MDMP_LIBRARY") from None
+        raise ImportError(f"{soname} was not found ({error}): install it, or name it in MDMP_LIBRARY") from None
     loaded.mdmp_abi.argtypes = []
     if loaded.mdmp_abi() != _structures.ABI:
         raise ImportError(f"{path} has calls of form {loaded.mdmp_abi()}, and this package wants {_structures.ABI}")
@@ -38,25 +40,38 @@ def array_of(item: Any, room: int) -> type[Array[Any]]:
 
 
 class Filled(NamedTuple):
-    """What a call answered, and the buffer that it filled."""
+    """What a call answered, and the buffer that it filled. `is_cut` if there are more items than were to be given."""
 
     status: Status
     items: Array[Any]
     given: int
     fault: _structures.Fault
+    is_cut: bool = False
 
     def bytes(self) -> bytes:
         """The bytes that were given."""
-        return string_at(self.items, self.given)
+        return bytes_at(self.items, self.given)
+
+    def text(self) -> str:
+        """The text that was given: of one that is cut its whole lines."""
+        data = memoryview(self.items)[: self.given]
+        if not self.is_cut:
+            return str(data, "utf-8")
+        text = str(data, "utf-8", "ignore")  # the last letter may be cut too
+        return text[: text.rfind("\n") + 1]
 
 
-def fill(call: Callable[..., int], item: Any, room: int) -> Filled:
-    """Calls with a buffer for so many items, and where that is too short, with one as long as it asks for."""
+def fill(call: Callable[..., int], item: Any, room: int, most: int | None = None) -> Filled:
+    """Calls with a buffer for so many items. If that is too short, calls with one as long as it asks for, but for no more
+    than the most items."""
     while True:
+        room = room if most is None else min(room, most)
         items, count, fault = array_of(item, room)(), c_uint64(), _structures.Fault()
         status = call(items, room, byref(count), byref(fault))
         if status != Status.BUFFER_TOO_SHORT:
             return Filled(Status(status), items, count.value, fault)
+        if room == most:
+            return Filled(Status.BUFFER_TOO_SHORT, items, room, fault, is_cut=True)
         room = count.value
 
 

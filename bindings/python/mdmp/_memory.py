@@ -2,10 +2,11 @@
 
 from __future__ import annotations
 
-from ctypes import Array, byref, c_bool, c_uint8, string_at
+from ctypes import Array, byref, c_bool, c_uint8, c_uint64
 from typing import TYPE_CHECKING, NamedTuple, overload
 
 from . import _structures
+from ._buffer import bytes_at
 from ._fault import expect_good
 from ._library import array_of, library
 
@@ -25,7 +26,7 @@ class Cells(NamedTuple):
 
 
 class Memory:
-    """Memory of the dumped process, by address. `dump.memory` reads the file's lists once, and keeps them.
+    """Memory of the dumped process, by address. `dump.memory` reads the file's lists once, and keeps an index of them.
 
     >>> import mdmp
     >>> with mdmp.open("crashpad-one.dmp") as dump:
@@ -37,7 +38,12 @@ class Memory:
     """
 
     def __init__(self, dump: Dump, ranges: Array[_structures.Range], count: int) -> None:
-        self._dump, self._ranges, self._count = dump, ranges, count
+        room, given, fault = 2 * count, c_uint64(), _structures.Fault()
+        slots = array_of(_structures.Slot, room)()
+        with dump._lent() as (file, file_size):
+            status = library.mdmp_index_(file, file_size, ranges, count, slots, room, byref(given), byref(fault))
+        expect_good(status, fault)
+        self._dump, self._slots, self._count = dump, slots, given.value
 
     def read(self, address: int, size: int) -> Cells:
         """The bytes from an address on, and which of them the file has.
@@ -51,11 +57,11 @@ class Memory:
             raise ValueError("addresses lie below 2**64")
         out, known, fault = array_of(c_uint8, size)(), array_of(c_bool, size)(), _structures.Fault()
         with self._dump._lent() as (file, file_size):
-            status = library.mdmp_read_(
-                file, file_size, self._ranges, self._count, address, out, size, known, size, byref(fault)
+            status = library.mdmp_read_index_(
+                file, file_size, self._slots, self._count, address, out, size, known, size, byref(fault)
             )
         expect_good(status, fault)
-        return Cells(string_at(out, size), tuple(known[:size]))
+        return Cells(bytes_at(out, size), tuple(known[:size]))
 
     @overload
     def __getitem__(self, key: int) -> int: ...

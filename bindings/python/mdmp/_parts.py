@@ -52,9 +52,9 @@ class SymbolFile:
     age: int
     """Of RSDS: how often the symbol file was written."""
     name: bytes
-    """Of RSDS: its name, in no known encoding."""
+    """Of RSDS: its name, in no known encoding: at most as many bytes as the longest name of the dump's limits."""
     name_ended: bool
-    """Of RSDS: whether a zero byte ends the name, and not the record's end."""
+    """Of RSDS: whether a zero byte ends the name, and neither the record nor that limit."""
     signature: bytes
     """Of another kind: its first four bytes."""
 

@@ -30,13 +30,14 @@ __all__ = [
 
 
 class Status(Numbers):
-    """What a call answers. 0 to 3 are the exit statuses of the command.
+    """What a call answers. 0 to 3 are exit statuses of the command too, and for 5 the command exits with 3.
 
     OK                good
     FAULT             the file is at fault
     BAD_ARGUMENT      an argument is: limits, types of streams, lengths
-    NO_MEMORY         memory was wanting, or the budget was reached: the kind of the fault says which
+    NO_MEMORY         out of memory
     BUFFER_TOO_SHORT  the buffer was too short
+    LIMIT             a limit was reached: the kind of the fault says which
     """
 
     OK = 0
@@ -44,6 +45,7 @@ class Status(Numbers):
     BAD_ARGUMENT = 2
     NO_MEMORY = 3
     BUFFER_TOO_SHORT = 4
+    LIMIT = 5
 
 
 class FaultKind(Numbers):
@@ -69,12 +71,15 @@ class FaultKind(Numbers):
     COPY_TOO_LARGE       the copy would be longer than the format can say
     BAD_ENTRIES          size: how many entries of the directory have a fault
     NOT_COPIED           size: a type of stream that is not copied
-    NO_MEMORY            memory was wanting: malloc or realloc answered NULL
+    NO_MEMORY            out of memory: malloc or realloc answered NULL
     BAD_LIMITS           a limit is out of its bounds
     BAD_TYPES            the types to be copied are none, or over 16
     STORE                no call over a file in memory answers this
     LENGTHS_DIFFER       two buffers that must have one length differ
-    BUDGET               offset, size: not fetched, as it would pass the budget
+    BUDGET               offset, size: bytes that were not read, as they would pass the budget
+    MEMORY_LIMIT         size (high: its upper 64 bits): how many bytes the lists would take
+    ASIDE_LIMIT          offset, size: a CodeView record that was not read, as it would pass the limit
+    COPY_BUDGET          size (high: its upper 64 bits): how many bytes the copy needs
     """
 
     NONE = 0
@@ -103,6 +108,9 @@ class FaultKind(Numbers):
     STORE = 69
     LENGTHS_DIFFER = 70
     BUDGET = 71
+    MEMORY_LIMIT = 72
+    ASIDE_LIMIT = 73
+    COPY_BUDGET = 74
 
 
 class Part(Numbers):

@@ -15,7 +15,12 @@ from ctypes import (
     c_void_p,
 )
 
-ABI = 1
+ABI = 2
+SONAME = "libmdmp.so.2"
+
+WINDOW, NAME = 65536, 4096
+UNTRUSTED = 67108864  # each limit of MDMP_LIMITS_UNTRUSTED
+NO_LIMIT = (1 << 64) - 1
 
 
 class Limits(Structure):
@@ -24,11 +29,15 @@ class Limits(Structure):
     window: int
     name: int
     budget: int
+    memory: int
+    aside: int
 
     _fields_ = [
         ("window", c_uint32),
         ("name", c_uint32),
         ("budget", c_uint64),
+        ("memory", c_uint64),
+        ("aside", c_uint64),
     ]
 
 
@@ -358,6 +367,22 @@ class Range(Structure):
     ]
 
 
+class Slot(Structure):
+    """mdmp_slot"""
+
+    start: int
+    length: int
+    offset: int
+    owner: int
+
+    _fields_ = [
+        ("start", c_uint64),
+        ("length", c_uint64),
+        ("offset", c_uint64),
+        ("owner", c_uint64),
+    ]
+
+
 class SymbolFile(Structure):
     """mdmp_symbol_file"""
 
@@ -385,8 +410,8 @@ class SymbolFile(Structure):
 # Of each structure its size, and where each field stands.
 LAYOUT: dict[type[Structure], tuple[int, dict[str, int]]] = {
     Limits: (
-        16,
-        {"window": 0, "name": 4, "budget": 8},
+        32,
+        {"window": 0, "name": 4, "budget": 8, "memory": 16, "aside": 24},
     ),
     Fault: (
         64,
@@ -453,6 +478,10 @@ LAYOUT: dict[type[Structure], tuple[int, dict[str, int]]] = {
         56,
         {"index": 0, "start": 8, "size": 16, "offset": 24, "offset_high": 32, "entry": 40, "extent": 44,
             "reserved": 48},
+    ),
+    Slot: (
+        32,
+        {"start": 0, "length": 8, "offset": 16, "owner": 24},
     ),
     SymbolFile: (
         56,
@@ -660,6 +689,41 @@ def declare(library: CDLL) -> None:
         POINTER(Fault),
     ]
     library.mdmp_read_.restype = c_uint32
+    library.mdmp_index_.argtypes = [
+        c_void_p,
+        c_size_t,
+        POINTER(Range),
+        c_size_t,
+        POINTER(Slot),
+        c_size_t,
+        POINTER(c_uint64),
+        POINTER(Fault),
+    ]
+    library.mdmp_index_.restype = c_uint32
+    library.mdmp_index_modules_.argtypes = [
+        POINTER(Module),
+        c_size_t,
+        POINTER(Slot),
+        c_size_t,
+        POINTER(c_uint64),
+        POINTER(Fault),
+    ]
+    library.mdmp_index_modules_.restype = c_uint32
+    library.mdmp_read_index_.argtypes = [
+        c_void_p,
+        c_size_t,
+        POINTER(Slot),
+        c_size_t,
+        c_uint64,
+        POINTER(c_uint8),
+        c_size_t,
+        POINTER(c_bool),
+        c_size_t,
+        POINTER(Fault),
+    ]
+    library.mdmp_read_index_.restype = c_uint32
+    library.mdmp_where_.argtypes = [POINTER(Slot), c_size_t, c_uint64, POINTER(c_uint64)]
+    library.mdmp_where_.restype = c_uint32
     library.mdmp_name_.argtypes = [
         c_void_p,
         c_size_t,
@@ -671,7 +735,14 @@ def declare(library: CDLL) -> None:
         POINTER(Fault),
     ]
     library.mdmp_name_.restype = c_uint32
-    library.mdmp_symbols_.argtypes = [c_void_p, c_size_t, POINTER(Place), POINTER(SymbolFile), POINTER(Fault)]
+    library.mdmp_symbols_.argtypes = [
+        c_void_p,
+        c_size_t,
+        POINTER(Limits),
+        POINTER(Place),
+        POINTER(SymbolFile),
+        POINTER(Fault),
+    ]
     library.mdmp_symbols_.restype = c_uint32
     library.mdmp_fault_text_.argtypes = [POINTER(Fault), POINTER(c_uint8), c_size_t, POINTER(c_uint64)]
     library.mdmp_fault_text_.restype = c_uint32

@@ -112,6 +112,16 @@ def many_modules(count: int) -> bytes:
     return file.bytes()
 
 
+def crowded(modules: list[tuple[int, int]], addresses: list[int]) -> bytes:
+    """A dump of modules, each a first address and a size, that crashed at these addresses."""
+    file = File(1 + len(addresses))
+    places = [file.name(f"module_{number}.dll") for number in range(len(modules))]
+    file.stream(4, listed([module(place, base, size) for place, (base, size) in zip(places, modules)]))
+    for number, address in enumerate(addresses):
+        file.stream(6, exception(number, 0xC0000005, address))
+    return file.bytes()
+
+
 def overlapping() -> bytes:
     """A dump whose streams lie over one another, over the directory and behind the file's end, with a gap between."""
     file = File(8)

@@ -4,7 +4,9 @@ from __future__ import annotations
 
 import os
 import pathlib
+import random
 import sys
+import time
 import tempfile
 import unittest
 import xml.etree.ElementTree
@@ -16,6 +18,7 @@ from mdmp.pages.counting import Build, Counted, Crash
 from mdmp.pages.day import Day
 
 from . import made
+from .test_images import looked_for
 
 
 def dies(*_: object) -> str:
@@ -65,6 +68,30 @@ class Days(unittest.TestCase):
         self.assertEqual(sorted(counted.bad), sorted(str(self.folder / name) for name in ("a.DMP", "no-dump.dmp")))
         self.assertEqual((counted.bad_count, counted.without), (2, 3))
         self.assertEqual(counted.first[Crash(0xC0000005, "one.dll", 0x1234)], str(self.folder / "deep/er/0.dmp"))
+
+    def test_first_of_modules_that_overlap(self) -> None:
+        numbers = random.Random(11)
+        for name in ("few.dmp", "some.dmp", "many.dmp"):
+            count = {"few.dmp": 3, "some.dmp": 40, "many.dmp": 500}[name]
+            modules = [(numbers.randrange(1 << 20), numbers.randrange(1 << 18)) for _ in range(count)]
+            addresses = [numbers.randrange(1 << 21) for _ in range(count)] + [modules[0][0], sum(modules[0])]
+            wanted: Counter[Crash] = Counter()
+            for address in addresses:
+                at = looked_for(modules, address)
+                crash = (None, None) if at is None else (f"module_{at}.dll", address - modules[at][0])
+                wanted[Crash(0xC0000005, *crash)] += 1
+            counted = counting.count([self.put(name, made.crowded(modules, addresses))])
+            self.assertEqual(counted.crashes, wanted)
+            self.assertEqual(sum(counted.builds.values()), len(addresses))
+
+    def test_many_modules_and_crashes(self) -> None:
+        count = 8000
+        nested = [(start, count) for start in range(count, 0, -1)]
+        path = self.put("nested.dmp", made.crowded(nested, list(range(1, count + 1))))
+        begin = time.process_time()
+        counted = counting.count([path])
+        self.assertLess(time.process_time() - begin, 5)  # each for each would take over half a minute
+        self.assertEqual(len(counted.crashes), count)
 
     def test_any_number_of_workers_counts_the_same(self) -> None:
         for number in range(130):

@@ -8,11 +8,15 @@ from __future__ import annotations
 import os
 import pathlib
 import random
+import struct
 import subprocess
 import sys
 import tempfile
+import time
 import unittest
 import xml.etree.ElementTree
+from ctypes import Array, Structure
+from typing import Any
 from unittest import mock
 
 import mdmp
@@ -135,6 +139,51 @@ class Tables(unittest.TestCase):
         self.assertEqual((short.is_too_long, crash.verdict(short)[1], len(short.modules)), (True, "long", 0))
 
 
+class Lists(unittest.TestCase):
+    """The rows of lists, and their members."""
+
+    def test_members_are_those_of_the_rows(self) -> None:
+        def paths_of(raw: Any) -> list[str]:
+            """The members that are numbers, with those of members."""
+            found = []
+            for name, kind, *_ in raw._fields_:
+                if issubclass(kind, Structure):
+                    found += [f"{name}.{inner}" for inner in paths_of(kind)]
+                elif not issubclass(kind, Array):
+                    found.append(name)
+            return found
+
+        def member(row: Any, path: str) -> Any:
+            for name in path.split("."):
+                row = getattr(row, name)
+            return row
+
+        rows = 0
+        for path in [FOLDER / "llvm-all-kinds.dmp", FOLDER / "crashpad-one.dmp", FOLDER / "made.dmp"]:
+            for listing in read(path.read_bytes()).lists:
+                names = paths_of(type(listing.items[0]))
+                given = list(listing.members(*names))
+                wanted = [tuple(member(row, name) for name in names) for row in listing.raw()]
+                self.assertEqual(given, wanted)
+                self.assertEqual(list(listing.members(*names[1::2], most=1)), [row[1::2] for row in wanted[:1]])
+                rows += len(wanted)
+        self.assertGreater(rows, 60)
+
+    def test_many_ranges_cost_little(self) -> None:
+        entries, ranges = 700, 500
+        file = made.File(entries)
+        data = made.listed([struct.pack("<QII", number * 377_777 % 100_003, 1, 32) for number in range(ranges)])
+        at = file.part(data)
+        for _ in range(entries):
+            file.entry(5, len(data), at)
+        begin = time.process_time()
+        reading = read(file.bytes())
+        self.assertEqual(len(drawn(reading)), 2)
+        self.assertEqual(tables.ranges(reading).left_out, "Left out of this table: 349,500 of 350,000 ranges.")
+        self.assertIn(" Of 350,000 ranges the first 99,300 are drawn.", places.not_drawn(reading))
+        self.assertLess(time.process_time() - begin, 2)
+
+
 class Places(unittest.TestCase):
     """What lies over what."""
 
@@ -152,6 +201,26 @@ class Places(unittest.TestCase):
         self.assertEqual((places.over_another(spans), list(places.pairs(spans, 9))), ([], []))
         self.assertEqual(places.over_another([*spans, Span(9, 12, "name", 1)]), [(9, 12)])
 
+    def test_pairs_are_what_comparing_each_with_each_gives(self) -> None:
+        numbers = random.Random(50)
+        for _ in range(300):
+            starts = [numbers.randrange(12) for _ in range(numbers.randrange(2, 20))]
+            spans = sorted(Span(at, at + numbers.randrange(5), "name", which) for which, at in enumerate(starts))
+            wanted = [
+                (first, second)
+                for at, second in enumerate(spans)
+                for first in spans[:at]
+                if first.end > second.start and first[:2] != second[:2]
+            ]
+            self.assertEqual(list(places.pairs(spans, 1000)), wanted)
+            self.assertEqual(list(places.pairs(spans, 3)), wanted[:3])
+
+    def test_many_things_at_one_place(self) -> None:
+        spans = [Span(32, 33, "range", which) for which in range(100_000)]
+        begin = time.process_time()
+        self.assertEqual(list(places.pairs(spans, 9)), [])
+        self.assertLess(time.process_time() - begin, 1)  # each with 64 others would take over 2 seconds
+
     def test_over_another_is_what_counting_bytes_gives(self) -> None:
         numbers = random.Random(49)
         for _ in range(300):
@@ -166,9 +235,21 @@ class Places(unittest.TestCase):
     def test_what_is_not_drawn_is_told(self) -> None:
         reading = read(made.many_modules(30))
         self.assertEqual(places.not_drawn(reading), "")
-        with mock.patch.object(places, "DRAWN", 20):
+        with mock.patch.object(places, "DRAWN", 21):  # of which one is the entry of the directory
             self.assertEqual(places.not_drawn(reading), " Of 30 modules the first 20 are drawn.")
             self.assertEqual(sum(span.kind == "name" for span in places.in_file(reading)), 20)
+
+    def test_no_list_is_cut_for_a_longer_one(self) -> None:
+        reading = read(made.named("app.dll", modules=5))
+        counts = {"entries": 9, "threads": 2, "modules": 5, "unloaded modules": 1, "exceptions": 1, "systems": 1}
+        counts |= {"names of threads": 2, "ranges": 1}
+        self.assertEqual({name: len(rows) for name, rows in places._lists(reading).items()}, counts)
+        for most in range(2 * sum(counts.values())):
+            with mock.patch.object(places, "DRAWN", most):
+                drawn = places.most_drawn(reading)
+                rows = sum(min(count, drawn) for count in counts.values())
+                self.assertLessEqual(rows, most)
+                self.assertTrue(rows == sum(counts.values()) or rows > most - len(counts), most)
 
     def test_runs(self) -> None:
         spans = [Span(at * 100, at * 100 + 10, "name", at) for at in range(1000)] + [Span(5, 6, "stream", 0)]

@@ -16,10 +16,14 @@ import sys
 import tempfile
 import threading
 import unittest
-from typing import Callable
+from typing import Any, Callable
+from unittest import mock
 
 import mdmp
-from mdmp import _buffer, _fault, _structures
+from mdmp import _buffer, _dump, _fault, _structures
+from mdmp._library import library
+
+from . import made
 
 FOLDER = pathlib.Path(os.environ["MDMP_STORED"])
 KINDS = FOLDER / "llvm-all-kinds.dmp"
@@ -96,6 +100,11 @@ class Faults(unittest.TestCase):
         with self.assertRaisesRegex(MemoryError, "out of memory"):
             _fault.expect_good(mdmp.Status.NO_MEMORY, _structures.Fault(kind=66))
 
+    def test_great_numbers(self) -> None:
+        for kind in (mdmp.FaultKind.TOO_MANY_RANGES, mdmp.FaultKind.MEMORY_LIMIT, mdmp.FaultKind.COPY_BUDGET):
+            fault = _fault.fault_of(_structures.Fault(kind=kind, size=1, high=1))
+            self.assertEqual((fault.size, isinstance(fault, mdmp.LimitReached)), ((1 << 64) + 1, kind > 70))
+
     def test_records_do_not_change(self) -> None:
         with mdmp.open(KINDS) as dump, self.assertRaises(dataclasses.FrozenInstanceError):
             dump.threads[0].teb = 0  # type: ignore[misc]
@@ -145,13 +154,59 @@ class Faults(unittest.TestCase):
         self.assertEqual((within.list(), within.verdicts), (whole, (None,)))
         self.assertEqual(within.systems[0].csd_version, "Service Pack 1")
         self.assertEqual(mdmp.Dump(SYSTEM, budget=(1 << 64) - 1).list(), whole)
-        self.assertEqual(mdmp.Dump(SYSTEM, budget=0).copy(7), SYSTEM)
 
     def test_long_name(self) -> None:
         with mdmp.open(KINDS, name=3) as dump:
             first = dump.modules[0]
             self.assertIsNone(first.name)
             self.assertEqual(first.name_place.state, mdmp.NameState.LONG)
+
+
+    def test_long_name_of_a_symbol_file(self) -> None:
+        data = made.named("module.dll")
+        for most, name, has_end in [
+            (4096, b"module.dll", True),
+            (11, b"module.dll", True),  # the zero byte is the last that is read
+            (10, b"module.dll", False),
+            (6, b"module", False),
+            (0, b"", False),
+        ]:
+            found = mdmp.Dump(data, name=most).modules[0].symbols
+            assert found is not None
+            self.assertEqual((found.name, found.name_ended), (name, has_end), most)
+
+
+class Writing(unittest.TestCase):
+    """How often a file is listed to write its list."""
+
+    def written(self, dump: mdmp.Dump) -> tuple[str, int]:
+        """The text that is written, and how often the file was listed for it."""
+        calls = 0
+        call = library.mdmp_list_part_
+
+        def counted(*arguments: Any) -> int:
+            nonlocal calls
+            calls += 1
+            return int(call(*arguments))
+
+        out = io.StringIO()
+        with mock.patch.object(library, "mdmp_list_part_", counted):
+            dump.write_list(out)
+        return out.getvalue(), calls
+
+    def test_a_file_is_listed_once(self) -> None:
+        for data in (KINDS.read_bytes(), made.many_modules(150_000)):
+            text, calls = self.written(mdmp.Dump(data))
+            self.assertTrue(text == mdmp.Dump(data).list())
+            self.assertEqual(calls, 1)
+        self.assertGreater(len(text), 16 << 20)
+
+    def test_parts(self) -> None:
+        whole = mdmp.Dump(KINDS.read_bytes()).list()
+        for size in (4096, len(whole) - 1, len(whole), len(whole) + 1):
+            with mock.patch.object(_dump, "_PART", size), mock.patch.object(_dump, "_WRITTEN", 100):
+                text, calls = self.written(mdmp.Dump(KINDS.read_bytes()))
+            self.assertEqual((text, calls), (whole, -(-len(whole) // size)))
 
 
 class Buffers(unittest.TestCase):

@@ -3,21 +3,24 @@
 use crate::error::{ended, Error};
 use crate::fault::Fault;
 use crate::ffi;
+use crate::limits::Limits;
 use crate::memory::Memory;
 use crate::records::{
     ExceptionRecord, Extent, FaultKind, Header, Module, NamePlace, NameState, Place, Range, Region,
     Stream, SymbolKind, System, Thread, ThreadName, UnloadedModule,
 };
 use std::io;
+use std::mem::size_of;
 
 const BUFFER_TOO_SHORT: u32 = 4;
-const PART: usize = 16 << 20;
+const PART: usize = 64 << 20;
 
 /// A minidump over the bytes of a file.
 #[derive(Clone, Copy)]
 pub struct Dump<'a> {
     file: &'a [u8],
-    limits: ffi::Limits,
+    limits: Limits,
+    plain: ffi::Limits,
 }
 
 /// Whether an entry of the directory is good.
@@ -40,51 +43,69 @@ pub struct SymbolFile<'a> {
     pub guid: [u8; 16],
     /// Of RSDS: how often the symbol file was written.
     pub age: u32,
-    /// Of RSDS: its name, in no known encoding.
+    /// Of RSDS: its name, in no known encoding: at most as many bytes as the longest name of the dump's limits.
     pub name: &'a [u8],
-    /// Of RSDS: whether a zero byte ends the name, and not the record's end.
+    /// Of RSDS: whether a zero byte ends the name, and neither the record nor that limit.
     pub name_ended: bool,
     /// Of another kind: its first four bytes.
     pub signature: [u8; 4],
 }
 
-/// What a call that fills a buffer answered.
+/// What a call that fills a buffer answered. If there are more items than there is room for, `cut` is that `output`.
 struct Filled<T> {
     status: u32,
     items: Vec<T>,
     fault: ffi::Fault,
+    cut: Option<u64>,
 }
 
 impl<T> Filled<T> {
     fn ended<U>(self, made: impl FnOnce(Vec<T>) -> U) -> Result<U, Error<U>> {
-        ended(self.status, self.fault, made(self.items))
+        match self.cut {
+            Some(most) => Err(Error::OutputLimit(most, made(self.items))),
+            None => ended(self.status, self.fault, made(self.items)),
+        }
     }
 }
 
-/// Calls with a buffer for so many items, and where that is too short, with one as long as it asks for.
+impl Filled<u8> {
+    /// The text that was given: of one that is cut its whole lines. The texts of the library and its names are UTF-8.
+    fn text(mut self) -> Result<String, Error<String>> {
+        if self.cut.is_some() {
+            let lines = self.items.iter().rposition(|byte| *byte == b'\n');
+            self.items.truncate(lines.map_or(0, |at| at + 1));
+        }
+        self.ended(|bytes| String::from_utf8(bytes).expect("the library gives UTF-8"))
+    }
+}
+
+/// Calls with a buffer for so many items. If that is too short, calls with one as long as it asks for, but for no more items
+/// than `output` of the limits has room for.
 fn fill<T: Copy + Default>(
-    mut room: usize,
+    room: usize,
+    limits: &Limits,
     call: impl Fn(&mut [T], &mut u64, &mut ffi::Fault) -> u32,
 ) -> Filled<T> {
+    let most = limits.room_for(size_of::<T>()).unwrap_or(usize::MAX);
+    let mut room = room.min(most);
     loop {
         let (mut items, mut count, mut fault) =
             (vec![T::default(); room], 0, ffi::Fault::default());
         let status = call(&mut items, &mut count, &mut fault);
-        if status != BUFFER_TOO_SHORT {
+        let cut = limits
+            .output
+            .filter(|_| status == BUFFER_TOO_SHORT && room == most);
+        if status != BUFFER_TOO_SHORT || cut.is_some() {
             items.truncate(count as usize);
             return Filled {
                 status,
                 items,
                 fault,
+                cut,
             };
         }
-        room = count as usize;
+        room = (count as usize).min(most);
     }
-}
-
-/// The texts of the library and its names are UTF-8.
-fn text(bytes: Vec<u8>) -> String {
-    String::from_utf8(bytes).expect("the library gives UTF-8")
 }
 
 macro_rules! tables {
@@ -92,8 +113,8 @@ macro_rules! tables {
         impl Dump<'_> {
             $($(#[$doc])*
             pub fn $method(&self) -> Result<Vec<$record>, Error<Vec<$record>>> {
-                fill(self.room(), |out: &mut [ffi::$record], count, fault| {
-                    ffi::$call(self.file, &self.limits, out, count, fault)
+                fill(self.room(), &self.limits, |out: &mut [ffi::$record], count, fault| {
+                    ffi::$call(self.file, &self.plain, out, count, fault)
                 })
                     .ended(|rows| rows.into_iter().map($record::from).collect())
             })*
@@ -121,38 +142,50 @@ tables! {
 }
 
 impl<'a> Dump<'a> {
-    /// A dump over the bytes of a file, with the limits of the command.
+    /// A dump over the bytes of a file, with the limits for files from strangers: [`Limits::untrusted`].
     pub fn new(file: &'a [u8]) -> Self {
+        let limits = Limits::untrusted();
         Dump {
             file,
-            limits: ffi::Limits {
-                window: 65536,
-                name: 4096,
-                budget: 0,
-            },
+            limits,
+            plain: limits.plain(),
         }
     }
 
-    /// The same by other windows: by how many bytes the file's records are read, 168 to 2^30.
-    pub fn with_window(mut self, bytes: u32) -> Self {
-        self.limits.window = bytes;
+    /// The same dump with these limits: `Limits::none()` lifts all.
+    pub fn with_limits(mut self, limits: Limits) -> Self {
+        self.limits = limits;
+        self.plain = limits.plain();
         self
     }
 
-    /// The same with another longest name, in bytes, at most 2^30.
-    pub fn with_longest_name(mut self, bytes: u32) -> Self {
-        self.limits.name = bytes;
-        self
+    /// The limits of this dump.
+    pub fn limits(&self) -> Limits {
+        self.limits
     }
 
-    /// The same with a budget: the most bytes of the file that are fetched for one listing. A call that would fetch
-    /// more is an [`Error::Budget`]. Each call is a listing of its own, which is made again where its first
-    /// guess of a size was too small; CodeView records and the bytes of memory do not count, and [`Dump::copy`] has no
-    /// budget.
-    pub fn with_budget(mut self, bytes: u64) -> Self {
-        // To the library 0 is no budget. The first fetch has 32 bytes, so that a budget of 1 has room for none.
-        self.limits.budget = bytes.max(1);
-        self
+    /// The same dump with another `window` of its limits.
+    pub fn with_window(self, window: u32) -> Self {
+        self.with_limits(Limits {
+            window,
+            ..self.limits
+        })
+    }
+
+    /// The same dump with another `name` of its limits, the longest name in bytes.
+    pub fn with_longest_name(self, name: u32) -> Self {
+        self.with_limits(Limits {
+            name,
+            ..self.limits
+        })
+    }
+
+    /// The same dump with another `budget` of its limits. 0 is no byte.
+    pub fn with_budget(self, bytes: u64) -> Self {
+        self.with_limits(Limits {
+            budget: Some(bytes),
+            ..self.limits
+        })
     }
 
     /// How many records of a kind the file may well have: they are seldom shorter than 24 bytes.
@@ -174,18 +207,19 @@ impl<'a> Dump<'a> {
 
     /// The entries of the directory as they stand there, whether or not what they name is good.
     pub fn streams(&self) -> Result<Vec<Stream>, Error> {
-        fill(self.room(), |out: &mut [ffi::Stream], count, fault| {
-            ffi::mdmp_streams(self.file, out, count, fault)
-        })
+        fill(
+            self.room(),
+            &self.limits,
+            |out: &mut [ffi::Stream], count, fault| ffi::mdmp_streams(self.file, out, count, fault),
+        )
         .ended(|rows| rows.into_iter().map(Stream::from).collect())
         .map_err(Error::without_partial)
     }
 
-    /// Whether each entry of the directory is good. An error only where the file can't be opened, or the budget was
-    /// reached.
+    /// Whether each entry of the directory is good. An error only if the file can't be opened, or a limit was reached.
     pub fn verdicts(&self) -> Result<Vec<Verdict>, Error<Vec<Verdict>>> {
-        let filled = fill(self.room(), |out, count, fault| {
-            ffi::mdmp_verdicts(self.file, &self.limits, out, count, fault)
+        let filled = fill(self.room(), &self.limits, |out, count, fault| {
+            ffi::mdmp_verdicts(self.file, &self.plain, out, count, fault)
         });
         let has_all = FaultKind::from(filled.fault.kind) == FaultKind::BadEntries;
         let verdict = |raw: ffi::Fault| Verdict {
@@ -200,19 +234,19 @@ impl<'a> Dump<'a> {
 
     /// The text of `mdmp check`: a line for each entry. An error where an entry is bad, with the whole text.
     pub fn check(&self) -> Result<String, Error<String>> {
-        fill(self.text_room(), |out, size, fault| {
-            ffi::mdmp_check(self.file, &self.limits, out, size, fault)
+        fill(self.text_room(), &self.limits, |out, size, fault| {
+            ffi::mdmp_check(self.file, &self.plain, out, size, fault)
         })
-        .ended(text)
+        .text()
     }
 
     /// The text of `mdmp check --json`: an object of JSON for each entry, one a line. An error where an entry is bad, with
     /// the whole text.
     pub fn check_json(&self) -> Result<String, Error<String>> {
-        fill(self.text_room(), |out, size, fault| {
-            ffi::mdmp_check_json(self.file, &self.limits, out, size, fault)
+        fill(self.text_room(), &self.limits, |out, size, fault| {
+            ffi::mdmp_check_json(self.file, &self.plain, out, size, fault)
         })
-        .ended(text)
+        .text()
     }
 
     /// The text of `mdmp list`.
@@ -226,10 +260,10 @@ impl<'a> Dump<'a> {
     }
 
     fn listed(&self, pdb: bool) -> Result<String, Error<String>> {
-        fill(self.text_room(), |out, size, fault| {
-            ffi::mdmp_list(self.file, &self.limits, pdb, out, size, fault)
+        fill(self.text_room(), &self.limits, |out, size, fault| {
+            ffi::mdmp_list(self.file, &self.plain, pdb, out, size, fault)
         })
-        .ended(text)
+        .text()
     }
 
     /// The text of `mdmp list --json`: an object of JSON in the place of each line.
@@ -243,14 +277,15 @@ impl<'a> Dump<'a> {
     }
 
     fn listed_json(&self, pdb: bool) -> Result<String, Error<String>> {
-        fill(self.text_room(), |out, size, fault| {
-            ffi::mdmp_list_json(self.file, &self.limits, pdb, out, size, fault)
+        fill(self.text_room(), &self.limits, |out, size, fault| {
+            ffi::mdmp_list_json(self.file, &self.plain, pdb, out, size, fault)
         })
-        .ended(text)
+        .text()
     }
 
-    /// Writes the text of `mdmp list` in parts: of a long one no more than 16 MiB are held at a time. A fault is told
-    /// behind what stands before it, as an [`Error`] in the `io::Error`.
+    /// Writes the text of `mdmp list`, however long it is. The file is listed once for each 64 MiB of the text, and so mostly once; no more
+    /// than such a part of the text is in memory at a time. A fault is told behind what stands before it, as an
+    /// [`Error`] in the `io::Error`.
     pub fn write_list(&self, out: &mut impl io::Write) -> io::Result<()> {
         let mut part = vec![0; PART];
         let mut skip = 0;
@@ -258,7 +293,7 @@ impl<'a> Dump<'a> {
             let (mut left, mut fault) = (0, ffi::Fault::default());
             let status = ffi::mdmp_list_part(
                 self.file,
-                &self.limits,
+                &self.plain,
                 false,
                 skip,
                 &mut part,
@@ -276,8 +311,8 @@ impl<'a> Dump<'a> {
 
     /// The bytes of a new file with the streams of 1 to 16 types, and all that their records name.
     pub fn copy(&self, types: &[u32]) -> Result<Vec<u8>, Error> {
-        fill(self.text_room(), |out, size, fault| {
-            ffi::mdmp_copy(self.file, &self.limits, types, out, size, fault)
+        fill(self.text_room(), &Limits::none(), |out, size, fault| {
+            ffi::mdmp_copy(self.file, &self.plain, types, out, size, fault)
         })
         .ended(|bytes| bytes)
         .map_err(Error::without_partial)
@@ -285,10 +320,10 @@ impl<'a> Dump<'a> {
 
     /// Memory of the dumped process, by address.
     pub fn memory(&self) -> Result<Memory<'a>, Error> {
-        fill(self.room(), |out, count, fault| {
-            ffi::mdmp_ranges(self.file, &self.limits, out, count, fault)
+        fill(self.room(), &self.limits, |out, count, fault| {
+            ffi::mdmp_ranges(self.file, &self.plain, out, count, fault)
         })
-        .ended(|ranges| Memory::new(self.file, ranges))
+        .ended(|ranges| Memory::new(self.file, &ranges))
         .map_err(Error::without_partial)
     }
 
@@ -297,10 +332,11 @@ impl<'a> Dump<'a> {
         if place.state != NameState::Given {
             return Ok(None);
         }
-        fill(512, |out, size, fault| {
+        fill(512, &Limits::none(), |out, size, fault| {
             ffi::mdmp_name(self.file, place.rva, self.limits.name, out, size, fault)
         })
-        .ended(|bytes| Some(text(bytes)))
+        .text()
+        .map(Some)
         .map_err(Error::without_partial)
     }
 
@@ -315,7 +351,7 @@ impl<'a> Dump<'a> {
             ..ffi::Place::default()
         };
         let (mut out, mut fault) = (ffi::SymbolFile::default(), ffi::Fault::default());
-        let status = ffi::mdmp_symbols(self.file, &raw, &mut out, &mut fault);
+        let status = ffi::mdmp_symbols(self.file, &self.plain, &raw, &mut out, &mut fault);
         ended(status, fault, ())?;
         let start = out.name_offset as usize;
         Ok(Some(SymbolFile {

@@ -2,7 +2,7 @@
 
 use crate::fault::Fault;
 use crate::ffi;
-use crate::records::{FaultKind, Status};
+use crate::records::Status;
 use std::fmt;
 
 /// Why a call gave nothing, or not all. `T` is what stood before the fault.
@@ -10,9 +10,11 @@ use std::fmt;
 pub enum Error<T = ()> {
     /// The file is at fault; what stood before the fault was given.
     Fault(Fault, T),
-    /// A fetch that would have passed the budget was not made: the fault has its offset and size. What stood before it
-    /// was given.
-    Budget(Fault, T),
+    /// A limit was reached, and the fault's kind says which: `Budget`, `MemoryLimit`, `AsideLimit` or `CopyBudget`. What
+    /// stood before it was given.
+    Limit(Fault, T),
+    /// The next row or line would pass this `output` of the limits. The rows or lines before it were given.
+    OutputLimit(u64, T),
     /// An argument is: limits, or types of streams.
     BadArgument(Fault),
     /// There was no memory.
@@ -23,18 +25,20 @@ impl<T> Error<T> {
     /// The fault, where there is one.
     pub fn fault(&self) -> Option<&Fault> {
         match self {
-            Error::Fault(fault, _) | Error::Budget(fault, _) | Error::BadArgument(fault) => {
+            Error::Fault(fault, _) | Error::Limit(fault, _) | Error::BadArgument(fault) => {
                 Some(fault)
             }
-            Error::NoMemory => None,
+            Error::OutputLimit(..) | Error::NoMemory => None,
         }
     }
 
     /// What stood before the fault.
     pub fn into_partial(self) -> Option<T> {
         match self {
-            Error::Fault(_, partial) | Error::Budget(_, partial) => Some(partial),
-            _ => None,
+            Error::Fault(_, partial)
+            | Error::Limit(_, partial)
+            | Error::OutputLimit(_, partial) => Some(partial),
+            Error::BadArgument(_) | Error::NoMemory => None,
         }
     }
 
@@ -42,7 +46,8 @@ impl<T> Error<T> {
     pub fn without_partial(self) -> Error {
         match self {
             Error::Fault(fault, _) => Error::Fault(fault, ()),
-            Error::Budget(fault, _) => Error::Budget(fault, ()),
+            Error::Limit(fault, _) => Error::Limit(fault, ()),
+            Error::OutputLimit(most, _) => Error::OutputLimit(most, ()),
             Error::BadArgument(fault) => Error::BadArgument(fault),
             Error::NoMemory => Error::NoMemory,
         }
@@ -51,9 +56,13 @@ impl<T> Error<T> {
 
 impl<T> fmt::Display for Error<T> {
     fn fmt(&self, f: &mut fmt::Formatter<'_>) -> fmt::Result {
-        match self.fault() {
-            Some(fault) => fault.fmt(f),
-            None => f.write_str("out of memory"),
+        match (self, self.fault()) {
+            (_, Some(fault)) => fault.fmt(f),
+            (Error::OutputLimit(most, _), _) => write!(
+                f,
+                "output limit of {most} bytes reached: Limits::none() lifts all limits"
+            ),
+            _ => f.write_str("out of memory"),
         }
     }
 }
@@ -63,7 +72,8 @@ impl<T> fmt::Debug for Error<T> {
     fn fmt(&self, f: &mut fmt::Formatter<'_>) -> fmt::Result {
         match self {
             Error::Fault(fault, _) => write!(f, "Fault({fault:?}, ..)"),
-            Error::Budget(fault, _) => write!(f, "Budget({fault:?}, ..)"),
+            Error::Limit(fault, _) => write!(f, "Limit({fault:?}, ..)"),
+            Error::OutputLimit(most, _) => write!(f, "OutputLimit({most}, ..)"),
             Error::BadArgument(fault) => f.debug_tuple("BadArgument").field(fault).finish(),
             Error::NoMemory => f.write_str("NoMemory"),
         }
@@ -77,9 +87,7 @@ pub(crate) fn ended<T>(status: u32, fault: ffi::Fault, given: T) -> Result<T, Er
     match Status::from(status) {
         Status::Ok => Ok(given),
         Status::BadArgument => Err(Error::BadArgument(Fault(fault))),
-        Status::NoMemory if FaultKind::from(fault.kind) == FaultKind::Budget => {
-            Err(Error::Budget(Fault(fault), given))
-        }
+        Status::Limit => Err(Error::Limit(Fault(fault), given)),
         Status::NoMemory => Err(Error::NoMemory),
         _ => Err(Error::Fault(Fault(fault), given)),
     }
@@ -98,5 +106,27 @@ mod tests {
         );
         assert_eq!(format!("{error:?}"), "NoMemory");
         assert_eq!(error.into_partial(), None);
+    }
+
+    #[test]
+    fn limits_are_told_apart() {
+        let raw = ffi::Fault {
+            kind: 72,
+            size: 5,
+            high: 1,
+            ..ffi::Fault::default()
+        };
+        let error = ended(5, raw, vec![1]).unwrap_err();
+        assert!(matches!(error, Error::Limit(..)));
+        assert_eq!(error.fault().unwrap().size(), (1 << 64) + 5);
+        assert_eq!(error.into_partial(), Some(vec![1]));
+        let error = Error::OutputLimit(9, "one\n");
+        assert_eq!(
+            error.to_string(),
+            "output limit of 9 bytes reached: Limits::none() lifts all limits"
+        );
+        assert_eq!(format!("{error:?}"), "OutputLimit(9, ..)");
+        assert_eq!(error.fault(), None);
+        assert_eq!(error.into_partial(), Some("one\n"));
     }
 }

@@ -33,12 +33,17 @@ impl Fault {
 
     /// An offset from the start of the file, where the kind has one.
     pub fn offset(&self) -> u128 {
-        self.wide(FaultKind::PartOutside, self.0.offset)
+        self.wide(&[FaultKind::PartOutside], self.0.offset)
     }
 
     /// Bytes, or the number that the kind says.
     pub fn size(&self) -> u128 {
-        self.wide(FaultKind::TooManyRanges, self.0.size)
+        let wide = [
+            FaultKind::TooManyRanges,
+            FaultKind::MemoryLimit,
+            FaultKind::CopyBudget,
+        ];
+        self.wide(&wide, self.0.size)
     }
 
     /// Which part of the record, where the fault is of one.
@@ -46,9 +51,13 @@ impl Fault {
         (self.0.part != 0).then(|| self.0.part.into())
     }
 
-    /// A number whose upper half is told where the fault is of this kind.
-    fn wide(&self, kind: FaultKind, lower: u64) -> u128 {
-        let upper = if self.kind() == kind { self.0.high } else { 0 };
+    /// A number whose upper half is told if the fault is of one of these kinds.
+    fn wide(&self, kinds: &[FaultKind], lower: u64) -> u128 {
+        let upper = if kinds.contains(&self.kind()) {
+            self.0.high
+        } else {
+            0
+        };
         u128::from(upper) << 64 | u128::from(lower)
     }
 }

@@ -3,7 +3,15 @@
 use std::mem::{offset_of, size_of};
 
 /// What `mdmp_abi` answers of the library that belongs to this crate.
-pub const ABI: u32 = 1;
+pub const ABI: u32 = 2;
+
+/// The window and the longest name of `MDMP_LIMITS_DEFAULT`.
+pub const WINDOW: u32 = 65536;
+pub const NAME: u32 = 4096;
+/// Each limit of `MDMP_LIMITS_UNTRUSTED`.
+pub const UNTRUSTED: u64 = 67_108_864;
+/// In the place of a limit: there is none.
+pub const NO_LIMIT: u64 = u64::MAX;
 
 /// `mdmp_limits`
 #[repr(C)]
@@ -12,6 +20,8 @@ pub struct Limits {
     pub window: u32,
     pub name: u32,
     pub budget: u64,
+    pub memory: u64,
+    pub aside: u64,
 }
 
 /// `mdmp_fault`
@@ -203,6 +213,16 @@ pub struct Range {
     pub reserved: [u32; 2],
 }
 
+/// `mdmp_slot`
+#[repr(C)]
+#[derive(Clone, Copy, Debug, Default, PartialEq, Eq)]
+pub struct Slot {
+    pub start: u64,
+    pub length: u64,
+    pub offset: u64,
+    pub owner: u64,
+}
+
 /// `mdmp_symbol_file`
 #[repr(C)]
 #[derive(Clone, Copy, Debug, Default, PartialEq, Eq)]
@@ -219,10 +239,12 @@ pub struct SymbolFile {
 
 // The layout that the library has: no padding, nothing moved.
 const _: () = {
-    assert!(size_of::<Limits>() == 16);
+    assert!(size_of::<Limits>() == 32);
     assert!(offset_of!(Limits, window) == 0);
     assert!(offset_of!(Limits, name) == 4);
     assert!(offset_of!(Limits, budget) == 8);
+    assert!(offset_of!(Limits, memory) == 16);
+    assert!(offset_of!(Limits, aside) == 24);
     assert!(size_of::<Fault>() == 64);
     assert!(offset_of!(Fault, kind) == 0);
     assert!(offset_of!(Fault, entry) == 4);
@@ -347,6 +369,11 @@ const _: () = {
     assert!(offset_of!(Range, entry) == 40);
     assert!(offset_of!(Range, extent) == 44);
     assert!(offset_of!(Range, reserved) == 48);
+    assert!(size_of::<Slot>() == 32);
+    assert!(offset_of!(Slot, start) == 0);
+    assert!(offset_of!(Slot, length) == 8);
+    assert!(offset_of!(Slot, offset) == 16);
+    assert!(offset_of!(Slot, owner) == 24);
     assert!(size_of::<SymbolFile>() == 56);
     assert!(offset_of!(SymbolFile, name_offset) == 0);
     assert!(offset_of!(SymbolFile, kind) == 8);
@@ -546,6 +573,42 @@ mod symbols {
             known_size: usize,
             fault: *mut Fault,
         ) -> u32;
+        pub fn mdmp_index_(
+            file: *const u8,
+            file_size: usize,
+            ranges: *const Range,
+            ranges_count: usize,
+            out: *mut Slot,
+            room: usize,
+            count: *mut u64,
+            fault: *mut Fault,
+        ) -> u32;
+        pub fn mdmp_index_modules_(
+            modules: *const Module,
+            modules_count: usize,
+            out: *mut Slot,
+            room: usize,
+            count: *mut u64,
+            fault: *mut Fault,
+        ) -> u32;
+        pub fn mdmp_read_index_(
+            file: *const u8,
+            file_size: usize,
+            slots: *const Slot,
+            slots_count: usize,
+            address: u64,
+            out: *mut u8,
+            room: usize,
+            known: *mut bool,
+            known_size: usize,
+            fault: *mut Fault,
+        ) -> u32;
+        pub fn mdmp_where_(
+            slots: *const Slot,
+            slots_count: usize,
+            address: u64,
+            owner: *mut u64,
+        ) -> u32;
         pub fn mdmp_name_(
             file: *const u8,
             file_size: usize,
@@ -559,6 +622,7 @@ mod symbols {
         pub fn mdmp_symbols_(
             file: *const u8,
             file_size: usize,
+            limits: *const Limits,
             place: *const Place,
             out: *mut SymbolFile,
             fault: *mut Fault,
@@ -997,6 +1061,81 @@ pub fn mdmp_read(
     }
 }
 
+/// `mdmp_index` of mdmp.h
+pub fn mdmp_index(
+    file: &[u8],
+    ranges: &[Range],
+    out: &mut [Slot],
+    count: &mut u64,
+    fault: &mut Fault,
+) -> u32 {
+    // SAFETY: as `symbols` says.
+    unsafe {
+        symbols::mdmp_index_(
+            file.as_ptr(),
+            file.len(),
+            ranges.as_ptr(),
+            ranges.len(),
+            out.as_mut_ptr(),
+            out.len(),
+            count,
+            fault,
+        )
+    }
+}
+
+/// `mdmp_index_modules` of mdmp.h
+pub fn mdmp_index_modules(
+    modules: &[Module],
+    out: &mut [Slot],
+    count: &mut u64,
+    fault: &mut Fault,
+) -> u32 {
+    // SAFETY: as `symbols` says.
+    unsafe {
+        symbols::mdmp_index_modules_(
+            modules.as_ptr(),
+            modules.len(),
+            out.as_mut_ptr(),
+            out.len(),
+            count,
+            fault,
+        )
+    }
+}
+
+/// `mdmp_read_index` of mdmp.h
+pub fn mdmp_read_index(
+    file: &[u8],
+    slots: &[Slot],
+    address: u64,
+    out: &mut [u8],
+    known: &mut [bool],
+    fault: &mut Fault,
+) -> u32 {
+    // SAFETY: as `symbols` says.
+    unsafe {
+        symbols::mdmp_read_index_(
+            file.as_ptr(),
+            file.len(),
+            slots.as_ptr(),
+            slots.len(),
+            address,
+            out.as_mut_ptr(),
+            out.len(),
+            known.as_mut_ptr(),
+            known.len(),
+            fault,
+        )
+    }
+}
+
+/// `mdmp_where` of mdmp.h
+pub fn mdmp_where(slots: &[Slot], address: u64, owner: &mut u64) -> u32 {
+    // SAFETY: as `symbols` says.
+    unsafe { symbols::mdmp_where_(slots.as_ptr(), slots.len(), address, owner) }
+}
+
 /// `mdmp_name` of mdmp.h
 pub fn mdmp_name(
     file: &[u8],
@@ -1022,9 +1161,15 @@ pub fn mdmp_name(
 }
 
 /// `mdmp_symbols` of mdmp.h
-pub fn mdmp_symbols(file: &[u8], place: &Place, out: &mut SymbolFile, fault: &mut Fault) -> u32 {
+pub fn mdmp_symbols(
+    file: &[u8],
+    limits: &Limits,
+    place: &Place,
+    out: &mut SymbolFile,
+    fault: &mut Fault,
+) -> u32 {
     // SAFETY: as `symbols` says.
-    unsafe { symbols::mdmp_symbols_(file.as_ptr(), file.len(), place, out, fault) }
+    unsafe { symbols::mdmp_symbols_(file.as_ptr(), file.len(), limits, place, out, fault) }
 }
 
 /// `mdmp_fault_text` of mdmp.h

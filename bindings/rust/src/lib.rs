@@ -1,8 +1,9 @@
 //! Windows minidump files, read by a proved library.
 //!
 //! A [`Dump`] stands over the bytes of a file, which are read or mapped by whoever has them. What it gives are values of
-//! their own. A file that is at fault is an [`Error::Fault`], which holds what stood before the fault, and a listing
-//! that would pass its budget an [`Error::Budget`].
+//! their own. A file that is at fault is an [`Error::Fault`], which holds what stood before the fault. A dump begins with
+//! the limits for files from strangers, [`Limits::untrusted`]: a call that reaches one is an [`Error::Limit`] or an
+//! [`Error::OutputLimit`].
 //!
 //! ```
 //! # fn main() -> Result<(), Box<dyn std::error::Error>> {
@@ -30,6 +31,7 @@ mod fault;
 #[allow(unsafe_code, dead_code)]
 // unsafe here alone; each call of the header is declared, used or not
 mod ffi;
+mod limits;
 mod memory;
 mod records;
 
@@ -37,6 +39,7 @@ pub use dump::SymbolFile;
 pub use dump::{Dump, Verdict};
 pub use error::Error;
 pub use fault::Fault;
+pub use limits::Limits;
 pub use memory::Memory;
 pub use records::{
     ExceptionRecord, Extent, FaultKind, Header, Module, NamePlace, NameState, Part, Place, Range,

@@ -2,16 +2,26 @@
 
 use crate::ffi;
 
-/// Memory of the dumped process, by address. The file's lists were read once, and are kept.
+/// Memory of the dumped process, by address. The file's lists were read once, and an index of them is kept.
 #[derive(Clone)]
 pub struct Memory<'a> {
     file: &'a [u8],
-    ranges: Vec<ffi::Range>,
+    ranges: usize,
+    slots: Vec<ffi::Slot>,
 }
 
 impl<'a> Memory<'a> {
-    pub(crate) fn new(file: &'a [u8], ranges: Vec<ffi::Range>) -> Self {
-        Memory { file, ranges }
+    pub(crate) fn new(file: &'a [u8], ranges: &[ffi::Range]) -> Self {
+        let mut slots = vec![ffi::Slot::default(); 2 * ranges.len()];
+        let (mut count, mut fault) = (0, ffi::Fault::default());
+        let status = ffi::mdmp_index(file, ranges, &mut slots, &mut count, &mut fault);
+        assert_eq!(status, 0, "two slots for each range are enough");
+        slots.truncate(count as usize);
+        Memory {
+            file,
+            ranges: ranges.len(),
+            slots,
+        }
     }
 
     /// Reads memory from an address on: where `known[i]` becomes true, `out[i]` is the byte at `address + i`; elsewhere
@@ -21,7 +31,7 @@ impl<'a> Memory<'a> {
     /// Where `out` and `known` differ in length.
     pub fn read(&self, address: u64, out: &mut [u8], known: &mut [bool]) {
         let mut fault = ffi::Fault::default();
-        let status = ffi::mdmp_read(self.file, &self.ranges, address, out, known, &mut fault);
+        let status = ffi::mdmp_read_index(self.file, &self.slots, address, out, known, &mut fault);
         assert_eq!(status, 0, "out and known have one length");
     }
 
@@ -42,6 +52,6 @@ impl<'a> Memory<'a> {
 
 impl std::fmt::Debug for Memory<'_> {
     fn fmt(&self, f: &mut std::fmt::Formatter<'_>) -> std::fmt::Result {
-        write!(f, "Memory of {} ranges", self.ranges.len())
+        write!(f, "Memory of {} ranges", self.ranges)
     }
 }

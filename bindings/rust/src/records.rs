@@ -2,7 +2,7 @@
 
 use crate::ffi;
 
-/// What a call answers. 0 to 3 are the exit statuses of the command.
+/// What a call answers. 0 to 3 are exit statuses of the command too, and for 5 the command exits with 3.
 #[derive(Clone, Copy, Debug, PartialEq, Eq, Hash)]
 #[non_exhaustive]
 pub enum Status {
@@ -12,10 +12,12 @@ pub enum Status {
     Fault,
     /// An argument is: limits, types of streams, lengths.
     BadArgument,
-    /// Memory was wanting, or the budget was reached: the kind of the fault says which.
+    /// Out of memory.
     NoMemory,
     /// The buffer was too short.
     BufferTooShort,
+    /// A limit was reached: the kind of the fault says which.
+    Limit,
     /// A number that this crate has no name for.
     Unknown(u32),
 }
@@ -28,6 +30,7 @@ impl From<u32> for Status {
             2 => Status::BadArgument,
             3 => Status::NoMemory,
             4 => Status::BufferTooShort,
+            5 => Status::Limit,
             other => Status::Unknown(other),
         }
     }
@@ -77,7 +80,7 @@ pub enum FaultKind {
     BadEntries,
     /// Size: a type of stream that is not copied.
     NotCopied,
-    /// Memory was wanting: malloc or realloc answered NULL.
+    /// Out of memory: malloc or realloc answered NULL.
     NoMemory,
     /// A limit is out of its bounds.
     BadLimits,
@@ -87,8 +90,14 @@ pub enum FaultKind {
     Store,
     /// Two buffers that must have one length differ.
     LengthsDiffer,
-    /// Offset, size: not fetched, as it would pass the budget.
+    /// Offset, size: bytes that were not read, as they would pass the budget.
     Budget,
+    /// Size (high: its upper 64 bits): how many bytes the lists would take.
+    MemoryLimit,
+    /// Offset, size: a CodeView record that was not read, as it would pass the limit.
+    AsideLimit,
+    /// Size (high: its upper 64 bits): how many bytes the copy needs.
+    CopyBudget,
     /// A number that this crate has no name for.
     Unknown(u32),
 }
@@ -122,6 +131,9 @@ impl From<u32> for FaultKind {
             69 => FaultKind::Store,
             70 => FaultKind::LengthsDiffer,
             71 => FaultKind::Budget,
+            72 => FaultKind::MemoryLimit,
+            73 => FaultKind::AsideLimit,
+            74 => FaultKind::CopyBudget,
             other => FaultKind::Unknown(other),
         }
     }

@@ -398,58 +398,6 @@ fn faults_are_told() {
     assert_eq!(long.name(&long.modules().unwrap()[0].name).unwrap(), None);
 }
 
-/// A system, whose name is that of its service pack: 136 bytes, of which a listing fetches 132.
-fn system() -> Vec<u8> {
-    let mut file = b"MDMP\x93\xa7\0\0".to_vec();
-    // What is left of the header, and the directory.
-    for number in [1u32, 32, 0, 0, 0, 0, 7, 56, 44] {
-        file.extend(number.to_le_bytes());
-    }
-    file.extend(b"\x09\0\x06\0\x03\0\x04\x01");
-    for number in [6u32, 1, 7601, 2, 100, 256] {
-        file.extend(number.to_le_bytes());
-    }
-    file.extend([0; 24]);
-    file.extend(28u32.to_le_bytes());
-    file.extend("Service Pack 1".encode_utf16().flat_map(u16::to_le_bytes));
-    file.extend([0; 4]);
-    file
-}
-
-#[test]
-fn budget_is_kept() {
-    let file = system();
-    assert_eq!(file.len(), 136);
-    let dump = Dump::new(&file);
-    let whole = dump.list().unwrap();
-    // Before the directory is read.
-    let error = dump.with_budget(43).list().unwrap_err();
-    assert!(matches!(error, Error::Budget(..)));
-    let fault = *error.fault().unwrap();
-    assert_eq!(fault.kind(), FaultKind::Budget);
-    assert_eq!((fault.offset(), fault.size()), (32, 12));
-    assert_eq!(error.to_string(), "fetch budget reached: offset 32 size 12");
-    assert_eq!(error.into_partial().unwrap(), "");
-    // Before the name is read.
-    let error = dump.with_budget(131).list().unwrap_err();
-    let fault = *error.fault().unwrap();
-    assert_eq!((fault.offset(), fault.size()), (104, 28));
-    let lines: Vec<&str> = whole.split_inclusive('\n').collect();
-    assert_eq!(error.into_partial().unwrap(), lines[..2].concat());
-    let error = dump.with_budget(0).systems().unwrap_err();
-    assert_eq!(error.to_string(), "fetch budget reached: offset 0 size 32");
-    let within = dump.with_budget(132);
-    assert_eq!(within.list().unwrap(), whole);
-    assert_eq!(within.verdicts().unwrap()[0].fault, None);
-    let systems = within.systems().unwrap();
-    assert_eq!(
-        within.name(&systems[0].csd_version).unwrap().as_deref(),
-        Some("Service Pack 1")
-    );
-    assert_eq!(dump.with_budget(u64::MAX).list().unwrap(), whole);
-    assert_eq!(dump.with_budget(0).copy(&[7]).unwrap(), file);
-}
-
 #[test]
 fn one_dump_serves_threads() {
     each_dump(|dump, _, path| {

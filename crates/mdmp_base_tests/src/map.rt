@@ -1,6 +1,7 @@
 //! The place of an address, among ranges and in a map of them.
 mod finding;
 mod gaps;
+mod paint;
 pub mod room;
 mod steps;
 mod table;

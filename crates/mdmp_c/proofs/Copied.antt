@@ -4,15 +4,21 @@ use Rattle.std.specs.Prelude.{Result}
 use Rattle.mdmp_source.specs.Output.{OutState}
 use Rattle.mdmp_tool.specs.declared.fault.ToolFault.{ToolFault}
 use Rattle.mdmp_tool.specs.Causes.{IsNoSourceFault}
-use Rattle.mdmp_tool.specs.Copying.{Copies}
+use Rattle.mdmp_lister.specs.declared.limits.Limits.{Limits}
+use Rattle.mdmp_tool.specs.Copying.{Copies, TellsCopyBudget, TellsCopyMemory}
 use Rattle.mdmp_c.specs.declared.fault.PlainFault.{PlainFault}
+use Rattle.mdmp_c.specs.declared.limits.PlainLimits.{PlainLimits}
+use Rattle.mdmp_c.specs.Limits.{AreGiven}
 use Rattle.mdmp_c.specs.Copies.{IsCopyTold}
 use Rattle.mdmp_c.specs.ToolFault.{copy_answer}
 
-pub IsCopyTold-of : (Z : Type 0) (F : List ℕ) (size : ℕ) (types given : List ℕ) (limit name : ℕ) (content : Option (List ℕ)) (before after : OutState) (bytes : List ℕ)
-    (answer : Result ℕ ToolFault) (told : PlainFault) → content ≡ Some F → size ≡ length F → given ≡ types → name ≡ limit → before.taken ≡ Some [] → after.taken ≡ Some bytes
-    → IsNoSourceFault answer → told ≡ copy_answer answer → Copies Z content size given name before answer after → IsCopyTold Z F types limit told bytes
-IsCopyTold-of Z F size types given limit name content before after bytes answer told known sized same named none wrote good is copies = record {
+pub IsCopyTold-of : (Z : Type 0) (F : List ℕ) (size : ℕ) (types given : List ℕ) (plain : PlainLimits) (limits : Limits) (content : Option (List ℕ)) (before after : OutState) (bytes : List ℕ)
+    (answer : Result ℕ ToolFault) (told : PlainFault) → content ≡ Some F → size ≡ length F → given ≡ types → AreGiven plain limits → before.taken ≡ Some [] → after.taken ≡ Some bytes
+    → IsNoSourceFault answer → told ≡ copy_answer answer → Copies Z content size given limits.name before answer after
+    → TellsCopyBudget Z given limits.budget content answer → TellsCopyMemory limits content answer → IsCopyTold Z F types plain told bytes
+IsCopyTold-of Z F size types given plain limits content before after bytes answer told known sized same fits none wrote good is copies budget memory = record {
+  limits = limits;
+  given = fits;
   answer = answer;
   told_is = is;
   before = before;
@@ -20,9 +26,13 @@ IsCopyTold-of Z F size types given limit name content before after bytes answer 
   after = after;
   wrote = wrote;
   copies =
-      subst (λ n. Copies Z (Some F) (length F) types n before answer after) named
-      (subst (λ (ts : List ℕ). Copies Z (Some F) (length F) ts name before answer after) same
-      (subst (λ z. Copies Z (Some F) z given name before answer after) sized
-      (subst (λ (c : Option (List ℕ)). Copies Z c size given name before answer after) known copies)));
+      subst (λ n. Copies Z (Some F) (length F) types n before answer after) fits.name
+      (subst (λ (ts : List ℕ). Copies Z (Some F) (length F) ts limits.name before answer after) same
+      (subst (λ z. Copies Z (Some F) z given limits.name before answer after) sized
+      (subst (λ (c : Option (List ℕ)). Copies Z c size given limits.name before answer after) known copies)));
   good = good;
+  budget =
+      subst (λ (ts : List ℕ). TellsCopyBudget Z ts limits.budget (Some F) answer) same
+      (subst (λ (c : Option (List ℕ)). TellsCopyBudget Z given limits.budget c answer) known budget);
+  memory = subst (λ (c : Option (List ℕ)). TellsCopyMemory limits c answer) known memory;
 }

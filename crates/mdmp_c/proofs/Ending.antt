@@ -1,13 +1,14 @@
 -- How a call that gives rows ends.
-use Rattle.std.proofs.Common.{◌≡◌, ◌∙◌, ℕ, false, arith, List, [], Option, Some, None, ap, refl, sym, length}
+use Rattle.std.proofs.Common.{◌≡◌, ◌∙◌, ℕ, false, arith, List, [], Option, Some, None, ap, refl, subst, sym, length}
 use Rattle.std.specs.Prelude.{filter_map, nat_lt, if◌then◌else◌}
 use Rattle.std.proofs.lemmas.Bool.Decides.{nat_tests}
 use Rattle.std.proofs.lemmas.List.Elements.{filter_map-append}
 use Rattle.mdmp_c.specs.declared.fault.PlainFault.{PlainFault}
-use Rattle.mdmp_c.specs.Fault.{budget_fault, list_told, open_fault, plain_by_kind, plain_list_fault, status_of, told_unless}
+use Rattle.mdmp_c.specs.Fault.{budget_fault, list_told, open_fault, plain_by_kind, plain_list_fault, status_of, told_unless, wide_fault}
 use Rattle.mdmp_c.specs.Giving.{Ends, GivesList, answers, bad_limits, stops, told_count, wants}
 use Rattle.mdmp_c.specs.Table.{Collects, IsTable, PutsRows, collects_all, collects_some, rows_unless}
 use Rattle.mdmp_c.proofs.Gathered.{put_front-nothing}
+use Rattle.mdmp_c.proofs.Stopping.{IsLimitTold}
 use Rattle.mdmp_lister.specs.declared.choice.Choice.{Choice}
 use Rattle.mdmp_lister.specs.declared.fault.FaultKind.{FaultKind}
 use Rattle.mdmp_lister.specs.declared.fault.FaultKind.TheVariants as kinds
@@ -29,18 +30,18 @@ fits_nothing n s =
     let never : nat_lt n 0 ≡ false = grind (arith, nat_tests) in
     rw never refl
 
--- what is told of a file where there is no budget
+-- what is told of a file without limits
 pub record WouldTell {T : Type 0} (IsTold : PlainFault → List T → Type 0) : Type 0 where
   pub whole : PlainFault
   pub all : List T
   pub is : IsTold whole all
 
-module _ {T : Type 0} (IsTold : PlainFault → List T → Type 0) (F : List ℕ) (choice : Choice) (valid can_stop : Type 0)
+module _ {T : Type 0} (IsTold : PlainFault → List T → Type 0) (F : List ℕ) (choice : Choice) (valid : Type 0) (MayTell : PlainFault → Type 0)
     (none_told : (fault : OpenFault) → opening_fault F choice ≡ Some fault → IsTold (open_fault fault) []) (would : WouldTell IsTold) where
   -- a file that is refused has no rows
   refused : (fault : OpenFault) (status count : ℕ) (told : PlainFault) (before after : List T) → valid → opening_fault F choice ≡ Some fault
       → status ≡ status_of (open_fault fault) → count ≡ 0 → told ≡ open_fault fault → after ≡ before
-      → Ends IsTold valid can_stop bad_limits status count told before after
+      → Ends IsTold valid MayTell bad_limits status count told before after
   refused fault status count told before after ok is ends none tells same =
       answers (open_fault fault) [] ok (none_told fault is)
       record {
@@ -50,26 +51,28 @@ module _ {T : Type 0} (IsTold : PlainFault → List T → Type 0) (F : List ℕ)
         out = same ∙ sym (put_front-nothing before);
       }
 
-  -- nor has one whose opening reached the budget
-  stopped : (offset size status count : ℕ) (told : PlainFault) (before after : List T) → valid → can_stop → status ≡ 3 → count ≡ 0 → told ≡ budget_fault offset size → after ≡ before
-      → Ends IsTold valid can_stop bad_limits status count told before after
-  stopped offset size status count told before after ok can ends none tells same =
-      stops (budget_fault offset size) [] ok can
-      record { offset = offset; size = size; told_is = refl; whole = would.whole; rest = would.all; begins = would.is }
+  -- nor has one whose opening reached a limit
+  stopped : (reason : PlainFault) (status count : ℕ) (told : PlainFault) (before after : List T) → valid → MayTell reason → status ≡ status_of reason → count ≡ 0 → told ≡ reason → after ≡ before
+      → Ends IsTold valid MayTell bad_limits status count told before after
+  stopped reason status count told before after ok can ends none tells same =
+      stops reason [] ok can
+      record { whole = would.whole; rest = would.all; begins = would.is }
       record {
-        status_is = ends ∙ fits_nothing (length before) 3;
+        status_is = ends ∙ fits_nothing (length before) (status_of reason);
         count_is = none;
         fault_is = tells;
         out = same ∙ sym (put_front-nothing before);
       }
 
   pub Ends-refused : (fault : OpenFault) (status count : ℕ) (told : PlainFault) (before after : List T) → valid
-      → ((offset size : ℕ) → fault ≡ opening.Budget offset size → can_stop) → IsRefusalOf F choice fault → (IsUnread fault → ⊥)
+      → (IsLimitTold fault → MayTell (open_fault fault)) → IsRefusalOf F choice fault → (IsUnread fault → ⊥)
       → status ≡ status_of (open_fault fault) → count ≡ 0 → told ≡ open_fault fault → after ≡ before
-      → Ends IsTold valid can_stop bad_limits status count told before after
+      → Ends IsTold valid MayTell bad_limits status count told before after
   Ends-refused (opening.Source f) status count told before after ok can is read ends none tells same = absurd (read tt)
   Ends-refused (opening.Budget offset size) status count told before after ok can is read ends none tells same =
-      stopped offset size status count told before after ok (can offset size refl) ends none tells same
+      stopped (budget_fault offset size) status count told before after ok (can tt) ends none tells same
+  Ends-refused (opening.MemoryLimit held) status count told before after ok can is read ends none tells same =
+      stopped (wide_fault 72 held) status count told before after ok (can tt) ends none tells same
   Ends-refused opening.Memory status count told before after ok can is read ends none tells same =
       wants ok record { status_is = ends; count_is = none; fault_is = tells; untouched = same }
   Ends-refused (opening.TooShort size) status count told before after ok can is read ends none tells same =
@@ -97,7 +100,7 @@ module _ {T : Type 0} (row : Item → Option T) (F : List ℕ) (choice : Choice)
     is = record { told_is = refl; rows_are = refl };
   }
 
-  module _ (valid can_stop : Type 0) (budget : Option ℕ) where
+  module _ (valid : Type 0) (MayTell : PlainFault → Type 0) (budget : Option ℕ) where
     rows_given : (items : List Item) (status count : ℕ) (told fault : PlainFault) (before after : List T) → PutsRows row items count before after
         → ((n : ℕ) → count ≡ told_count n → status ≡ (if nat_lt (length before) n then 4 else status_of told)) → fault ≡ told
         → GivesList told (filter_map row items) status count fault before after
@@ -109,20 +112,18 @@ module _ {T : Type 0} (row : Item → Option T) (F : List ℕ) (choice : Choice)
     }
 
     -- the rows of a file that was opened were put into the array
-    pub Ends-collected : (status count : ℕ) (fault : Option ListFault) (told : PlainFault) (before after : List T) → valid → ((budget ≡ None → ⊥) → can_stop) → opening_fault F choice ≡ None
+    pub Ends-collected : (status count : ℕ) (fault : Option ListFault) (told : PlainFault) (before after : List T) → valid → ((budget ≡ None → ⊥) → (offset size : ℕ) → MayTell (budget_fault offset size)) → opening_fault F choice ≡ None
         → Collects row budget run count fault before after
         → ((n : ℕ) → count ≡ told_count n → status ≡ (if nat_lt (length before) n then 4 else status_of (list_told fault)))
-        → told ≡ list_told fault → Ends (IsTable row F choice limit) valid can_stop bad_limits status count told before after
+        → told ≡ list_told fault → Ends (IsTable row F choice limit) valid MayTell bad_limits status count told before after
     Ends-collected status count fault told before after ok can opened (collects_all same h) ends tells =
         answers (list_told fault) (filter_map row run.items) ok
         record { told_is = rw opened (ap list_told same); rows_are = rw opened refl }
         (rows_given run.items status count (list_told fault) told before after h ends tells)
     Ends-collected status count fault told before after ok can opened (collects_some given cut h) ends tells =
-        stops (list_told fault) (filter_map row given) ok (can cut.can_stop)
+        stops (list_told fault) (filter_map row given) ok
+        (subst MayTell (sym (ap list_told cut.told_is ∙ plain_budget cut.told cut.kind)) (can cut.can_stop cut.told.offset cut.told.size))
         record {
-          offset = cut.told.offset;
-          size = cut.told.size;
-          told_is = ap list_told cut.told_is ∙ plain_budget cut.told cut.kind;
           whole = list_told run.fault;
           rest = filter_map row cut.rest;
           begins = record {

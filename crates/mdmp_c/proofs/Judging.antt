@@ -1,5 +1,5 @@
 -- The verdicts that a sink has put into an array, and how a call that gives them ends.
-use Rattle.std.proofs.Common.{◌≡◌, ◌∙◌, ◌<◌, ◌+◌, ◌-◌, ◌^◌, ◌++◌, ℕ, List, [], ◌∷◌, Option, Some, None, ap, arith, inl, inr, length, length-append, map, refl, sym, append_assoc, append-nil}
+use Rattle.std.proofs.Common.{◌≡◌, ◌∙◌, ◌<◌, ◌+◌, ◌-◌, ◌^◌, ◌++◌, ℕ, List, [], ◌∷◌, Option, Some, None, ap, arith, inl, inr, length, length-append, map, refl, subst, sym, append_assoc, append-nil}
 use Rattle.std.specs.Prelude.{Result, min, nat_lt, if◌then◌else◌}
 use Rattle.std.proofs.lemmas.List.{length-map, map-append}
 use Rattle.mdmp_lister.specs.declared.choice.Choice.TheVariants.{All}
@@ -13,7 +13,7 @@ use Rattle.mdmp_tool.specs.CheckText.{bad_count, fault_count}
 use Rattle.mdmp_tool.proofs.Checking.{bad_entries as few_entries}
 use Rattle.mdmp_c.specs.declared.fault.PlainFault.{PlainFault}
 use Rattle.mdmp_c.specs.declared.verdict_rows.Judged.{Judged}
-use Rattle.mdmp_c.specs.Fault.{open_fault, status_of, told_unless}
+use Rattle.mdmp_c.specs.Fault.{budget_fault, open_fault, status_of, told_unless}
 use Rattle.mdmp_c.specs.Giving.{Ends, GivesList, answers, bad_limits, put_front, stops, told_count}
 use Rattle.mdmp_c.specs.Table.{rows_unless}
 use Rattle.mdmp_c.specs.ToolFault.{bad_entries}
@@ -95,22 +95,20 @@ verdicts_given vs judged status count told fault before after h ends counts same
       out = h.out;
     }
 
-pub Ends-judged : (F : List ℕ) (limit : ℕ) (valid can_stop : Type 0) (budget : Option ℕ) (judged : Judged) (status count : ℕ) (told fault : PlainFault) (before after : List PlainFault) → valid
-    → ((budget ≡ None → ⊥) → can_stop) → opening_fault F All ≡ None
+pub Ends-judged : (F : List ℕ) (limit : ℕ) (valid : Type 0) (MayTell : PlainFault → Type 0) (budget : Option ℕ) (judged : Judged) (status count : ℕ) (told fault : PlainFault) (before after : List PlainFault) → valid
+    → ((budget ≡ None → ⊥) → (offset size : ℕ) → MayTell (budget_fault offset size)) → opening_fault F All ≡ None
     → entry_count F < 2 ^ 32 → Judges F All limit budget judged before after → told ≡ ending_told judged.bad judged.fault
     → ((n : ℕ) → judged.count ≡ told_count n → status ≡ (if nat_lt (length before) n then 4 else status_of told)) → count ≡ judged.count → fault ≡ told
-    → Ends (AreVerdicts F limit) valid can_stop bad_limits status count fault before after
-Ends-judged F limit valid can_stop budget judged status count told fault before after ok can opened few (judges_all none h) tells ends counts same =
+    → Ends (AreVerdicts F limit) valid MayTell bad_limits status count fault before after
+Ends-judged F limit valid MayTell budget judged status count told fault before after ok can opened few (judges_all none h) tells ends counts same =
     let bad : judged.bad ≡ bad_count (verdicts F All limit) = h.bad_is ∙ few_told F limit few in
     answers told (map verdict_row (verdicts F All limit)) ok
     record { told_is = tells ∙ ap (ending_told judged.bad) none ∙ ap bad_entries bad ∙ (rw opened refl); rows_are = rw opened refl }
     (verdicts_given (verdicts F All limit) judged status count told fault before after h ends counts same)
-Ends-judged F limit valid can_stop budget judged status count told fault before after ok can opened few (judges_some vs cut h) tells ends counts same =
-    stops told (map verdict_row vs) ok (can cut.can_stop)
+Ends-judged F limit valid MayTell budget judged status count told fault before after ok can opened few (judges_some vs cut h) tells ends counts same =
+    stops told (map verdict_row vs) ok
+    (subst MayTell (sym (tells ∙ ap (ending_told judged.bad) cut.told_is ∙ plain_budget cut.told cut.kind)) (can cut.can_stop cut.told.offset cut.told.size))
     record {
-      offset = cut.told.offset;
-      size = cut.told.size;
-      told_is = tells ∙ ap (ending_told judged.bad) cut.told_is ∙ plain_budget cut.told cut.kind;
       whole = bad_entries (bad_count (verdicts F All limit));
       rest = map verdict_row cut.rest;
       begins = record {

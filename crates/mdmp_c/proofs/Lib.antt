@@ -1,6 +1,7 @@
 pub mod Stopping
 pub mod Ending
 pub mod Gathered
+pub mod Indexed
 pub mod Kept
 pub mod Told
 pub mod Directories

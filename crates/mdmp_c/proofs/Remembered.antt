@@ -12,11 +12,11 @@ use Rattle.mdmp_lister.specs.Format.Listing.{listing, memory_lists}
 use Rattle.mdmp_lister.specs.Format.Refusal.{opening_fault}
 use Rattle.mdmp_c.specs.declared.fault.PlainFault.{PlainFault}
 use Rattle.mdmp_c.specs.declared.limits.PlainLimits.{PlainLimits}
-use Rattle.mdmp_c.specs.Limits.{AreLimits, HasBudget}
-use Rattle.mdmp_c.specs.Fault.{open_fault, plain_by_kind, plain_list_fault, no_fault, status_of}
+use Rattle.mdmp_c.specs.Limits.{AreLimits, ReachesLimit}
+use Rattle.mdmp_c.specs.Fault.{budget_fault, open_fault, plain_by_kind, plain_list_fault, no_fault, status_of, wide_fault}
 use Rattle.mdmp_c.specs.Memory.{ReadsMemory, faulty, memory_told, stops, wants}
 use Rattle.mdmp_c.proofs.Ending.{plain_budget}
-use Rattle.mdmp_c.proofs.Stopping.{of_budget}
+use Rattle.mdmp_c.proofs.Stopping.{IsLimitTold, of_budget}
 
 -- a fault of a listing that is the file's has status 1
 pub status-file : (kind : FaultKind) (f : ListFault) → (IsUnobtained kind → ⊥) → status_of (plain_by_kind kind f) ≡ 1
@@ -47,13 +47,13 @@ some_fault told status none = let wrong : status_of no_fault ≡ 1 = subst (λ (
 -- the memory lists of a file that can be opened end with a fault: it is the file's, or the budget was reached
 pub ReadsMemory-fault : (F : List ℕ) (limits : PlainLimits) (name : ℕ) (choice : Choice) (f : ListFault) (address status : ℕ) (fault : PlainFault) (out : List ℕ) (known : List Bool)
     → AreLimits limits → length out ≡ length known → choice ≡ memory_lists → name ≡ limits.name → opening_fault F choice ≡ None → (IsOfStore f.kind → ⊥)
-    → ((IsUnobtained f.kind → ⊥) → (listing F choice name).fault ≡ Some f) → (f.kind ≡ kinds.Budget → HasBudget limits)
+    → ((IsUnobtained f.kind → ⊥) → (listing F choice name).fault ≡ Some f) → (f.kind ≡ kinds.Budget → ReachesLimit limits (budget_fault f.offset f.size))
     → status ≡ status_of (plain_list_fault f) → fault ≡ plain_list_fault f → ReadsMemory F limits address status fault out out known known
 ReadsMemory-fault F limits name choice f address status fault out known valid same is named opened good lists can ends tells = by (of_budget f.kind good) where
   by : (f.kind ≡ kinds.Budget) ⊎ (IsUnobtained f.kind → ⊥) → ReadsMemory F limits address status fault out out known known
   by (inl budget) =
       let plain = plain_budget f budget in
-      stops valid (can budget) same f.offset f.size
+      stops valid (budget_fault f.offset f.size) (can budget) same
       record { status_is = ends ∙ ap status_of plain; fault_is = tells ∙ plain; out = refl; known = refl }
   by (inr of_file) =
       let told = memory_told-fault F limits.name name choice f is named opened (lists of_file) in
@@ -71,12 +71,14 @@ module _ (F : List ℕ) (limits : PlainLimits) (choice : Choice) (address : ℕ)
       faulty valid same (some_fault _ (ap status_of all ∙ one))
       record { status_is = ends ∙ one; fault_is = tells ∙ sym all; out = refl; known = refl }
 
-  pub ReadsMemory-refused : (fault : OpenFault) (status : ℕ) (told : PlainFault) → ((offset size : ℕ) → fault ≡ opening.Budget offset size → HasBudget limits)
+  pub ReadsMemory-refused : (fault : OpenFault) (status : ℕ) (told : PlainFault) → (IsLimitTold fault → ReachesLimit limits (open_fault fault))
       → IsRefusalOf F choice fault → (IsUnread fault → ⊥) → status ≡ status_of (open_fault fault) → told ≡ open_fault fault
       → ReadsMemory F limits address status told out out known known
   ReadsMemory-refused (opening.Source fault) status told can of read ends tells = absurd (read tt)
   ReadsMemory-refused (opening.Budget offset size) status told can of read ends tells =
-      stops valid (can offset size refl) same offset size record { status_is = ends; fault_is = tells; out = refl; known = refl }
+      stops valid (budget_fault offset size) (can tt) same record { status_is = ends; fault_is = tells; out = refl; known = refl }
+  ReadsMemory-refused (opening.MemoryLimit held) status told can of read ends tells =
+      stops valid (wide_fault 72 held) (can tt) same record { status_is = ends; fault_is = tells; out = refl; known = refl }
   ReadsMemory-refused opening.Memory status told can of read ends tells = wants valid same record { status_is = ends; fault_is = tells; out = refl; known = refl }
   ReadsMemory-refused (opening.TooShort size) status told can of read ends tells = refused_for (opening.TooShort size) status told of refl ends tells
   ReadsMemory-refused opening.BadSignature status told can of read ends tells = refused_for opening.BadSignature status told of refl ends tells

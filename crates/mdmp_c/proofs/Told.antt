@@ -31,80 +31,108 @@ first_taken before after whole text none is first =
     let same : text ≡ first.sent = cc in
     ap (λ (xs : List ℕ). xs ++ first.rest) same ∙ sym first.whole
 
--- memory was wanting, or this is what is told of a file, or the first of it, up to where the budget was reached
-abbrev pub MayTell : {X : Type 0} → (PlainFault → List X → Type 0) → Type 0 → PlainFault → List X → Type 0
-MayTell IsTold can_stop told xs = (told ≡ no_memory) ⊎ (IsTold told xs ⊎ (can_stop × IsStopped IsTold told xs))
+-- memory ran out, or this is what is told of a file, or the first of it, up to where a limit was reached
+abbrev pub IsTellable : {X : Type 0} → (PlainFault → List X → Type 0) → (PlainFault → Type 0) → PlainFault → List X → Type 0
+IsTellable IsTold MayTell told xs = (told ≡ no_memory) ⊎ (IsTold told xs ⊎ (MayTell told × IsStopped IsTold xs))
+
+-- an answer that tells a limit
+abbrev pub IsLimited : {T : Type 0} → Result T ToolFault → Type 0
+IsLimited (Err (tool.Budget offset size)) = Unit {0}
+IsLimited (Err (tool.MemoryLimit held)) = Unit {0}
+IsLimited (Err (tool.AsideLimit offset size)) = Unit {0}
+IsLimited answer = ⊥
 
 -- of a check
-pub IsCheck-told : (form : LineForm) (F : List ℕ) (limit : ℕ) (can_stop : Type 0) (before after : OutState) (text : List ℕ) (answer : Result ℕ ToolFault) → before.taken ≡ Some [] → after.taken ≡ Some text
-    → IsNoSourceFault answer → ((offset size : ℕ) → answer ≡ Err (tool.Budget offset size) → can_stop) → Checks form F limit before answer after
-    → MayTell (IsCheck form F limit) can_stop (check_answer answer) text
-IsCheck-told form F limit can_stop before after text (Ok bad) none is read can runs = inr (inl record {
+pub IsCheck-told : (form : LineForm) (F : List ℕ) (limit : ℕ) (MayTell : PlainFault → Type 0) (before after : OutState) (text : List ℕ) (answer : Result ℕ ToolFault) → before.taken ≡ Some [] → after.taken ≡ Some text
+    → IsNoSourceFault answer → (IsLimited answer → MayTell (check_answer answer)) → Checks form F limit before answer after
+    → IsTellable (IsCheck form F limit) MayTell (check_answer answer) text
+IsCheck-told form F limit MayTell before after text (Ok bad) none is read can runs = inr (inl record {
   told_is = rw (runs.says.0, runs.says.1) refl;
   text_is = taken before after (check_text form F limit) text none is runs.writes;
 })
-IsCheck-told form F limit can_stop before after text (Err (tool.Opening fault)) none is read can runs = inr (inl record {
+IsCheck-told form F limit MayTell before after text (Err (tool.Opening fault)) none is read can runs = inr (inl record {
   told_is = rw runs.says refl;
   text_is = rw runs.says (taken before after [] text none is runs.writes);
 })
-IsCheck-told form F limit can_stop before after text (Err (tool.List fault)) none is read can runs = absurd runs.writes
-IsCheck-told form F limit can_stop before after text (Err (tool.Budget offset size)) none is read can runs = inr (inr (
-  can offset size refl,
+IsCheck-told form F limit MayTell before after text (Err (tool.List fault)) none is read can runs = absurd runs.writes
+IsCheck-told form F limit MayTell before after text (Err (tool.Budget offset size)) none is read can runs = inr (inr (
+  can tt,
   record {
-    offset = offset;
-    size = size;
-    told_is = refl;
     whole = told_unless (opening_fault F All) (bad_entries (bad_count (verdicts F All limit)));
     rest = runs.writes.took.rest;
     begins = record { told_is = refl; text_is = first_taken before after (check_text form F limit) text none is runs.writes.took };
   },
 ))
-IsCheck-told form F limit can_stop before after text (Err tool.Memory) none is read can runs = inl refl
-IsCheck-told form F limit can_stop before after text (Err tool.Out) none is read can runs = inl refl
-IsCheck-told form F limit can_stop before after text (Err (tool.Source fault)) none is read can runs = absurd read
-IsCheck-told form F limit can_stop before after text (Err (tool.Reading fault)) none is read can runs = absurd runs.writes
-IsCheck-told form F limit can_stop before after text (Err (tool.Layout fault)) none is read can runs = absurd runs.writes
-IsCheck-told form F limit can_stop before after text (Err (tool.NotCopied t)) none is read can runs = absurd runs.writes
+IsCheck-told form F limit MayTell before after text (Err (tool.MemoryLimit held)) none is read can runs = inr (inr (
+  can tt,
+  record {
+    whole = told_unless (opening_fault F All) (bad_entries (bad_count (verdicts F All limit)));
+    rest = check_text form F limit;
+    begins = record { told_is = refl; text_is = ap (λ (xs : List ℕ). xs ++ check_text form F limit) (taken before after [] text none is runs.writes) };
+  },
+))
+IsCheck-told form F limit MayTell before after text (Err (tool.AsideLimit offset size)) none is read can runs = absurd runs.says.1
+IsCheck-told form F limit MayTell before after text (Err (tool.CopyBudget needed)) none is read can runs = absurd runs.writes
+IsCheck-told form F limit MayTell before after text (Err tool.Memory) none is read can runs = inl refl
+IsCheck-told form F limit MayTell before after text (Err tool.Out) none is read can runs = inl refl
+IsCheck-told form F limit MayTell before after text (Err (tool.Source fault)) none is read can runs = absurd read
+IsCheck-told form F limit MayTell before after text (Err (tool.Reading fault)) none is read can runs = absurd runs.writes
+IsCheck-told form F limit MayTell before after text (Err (tool.Layout fault)) none is read can runs = absurd runs.writes
+IsCheck-told form F limit MayTell before after text (Err (tool.NotCopied t)) none is read can runs = absurd runs.writes
 
 -- of a list
-pub IsList-told : (form : LineForm) (pdb : Bool) (F : List ℕ) (limit : ℕ) (can_stop : Type 0) (before after : OutState) (text : List ℕ) (answer : Result (Unit {0}) ToolFault) → before.taken ≡ Some []
-    → after.taken ≡ Some text → IsNoSourceFault answer → ((offset size : ℕ) → answer ≡ Err (tool.Budget offset size) → can_stop) → Lists form pdb F limit before answer after
-    → MayTell (IsList form pdb F limit) can_stop (list_answer answer) text
-IsList-told form pdb F limit can_stop before after text (Ok x) none is read can runs = inr (inl record {
+pub IsList-told : (form : LineForm) (pdb : Bool) (F : List ℕ) (limit : ℕ) (MayTell : PlainFault → Type 0) (before after : OutState) (text : List ℕ) (answer : Result (Unit {0}) ToolFault) → before.taken ≡ Some []
+    → after.taken ≡ Some text → IsNoSourceFault answer → (IsLimited answer → MayTell (list_answer answer)) → Lists form pdb F limit before answer after
+    → IsTellable (IsList form pdb F limit) MayTell (list_answer answer) text
+IsList-told form pdb F limit MayTell before after text (Ok x) none is read can runs = inr (inl record {
   told_is = rw (runs.says.0, runs.says.1) refl;
   text_is = taken before after (list_text form pdb F limit) text none is runs.writes;
 })
-IsList-told form pdb F limit can_stop before after text (Err (tool.Opening fault)) none is read can runs = inr (inl record {
+IsList-told form pdb F limit MayTell before after text (Err (tool.Opening fault)) none is read can runs = inr (inl record {
   told_is = rw runs.says refl;
   text_is = rw runs.says (taken before after [] text none is runs.writes);
 })
-IsList-told form pdb F limit can_stop before after text (Err (tool.List fault)) none is read can runs = inr (inl record {
+IsList-told form pdb F limit MayTell before after text (Err (tool.List fault)) none is read can runs = inr (inl record {
   told_is = rw (runs.says.0, runs.says.1) refl;
   text_is = taken before after (list_text form pdb F limit) text none is runs.writes;
 })
-IsList-told form pdb F limit can_stop before after text (Err (tool.Budget offset size)) none is read can runs = inr (inr (
-  can offset size refl,
+IsList-told form pdb F limit MayTell before after text (Err (tool.Budget offset size)) none is read can runs = inr (inr (
+  can tt,
   record {
-    offset = offset;
-    size = size;
-    told_is = refl;
     whole = told_unless (opening_fault F All) (list_told (listing F All limit).fault);
     rest = runs.writes.took.rest;
     begins = record { told_is = refl; text_is = first_taken before after (list_text form pdb F limit) text none is runs.writes.took };
   },
 ))
-IsList-told form pdb F limit can_stop before after text (Err tool.Memory) none is read can runs = inl refl
-IsList-told form pdb F limit can_stop before after text (Err tool.Out) none is read can runs = inl refl
-IsList-told form pdb F limit can_stop before after text (Err (tool.Source fault)) none is read can runs = absurd read
-IsList-told form pdb F limit can_stop before after text (Err (tool.Reading fault)) none is read can runs = absurd runs.writes
-IsList-told form pdb F limit can_stop before after text (Err (tool.Layout fault)) none is read can runs = absurd runs.writes
-IsList-told form pdb F limit can_stop before after text (Err (tool.NotCopied t)) none is read can runs = absurd runs.writes
+IsList-told form pdb F limit MayTell before after text (Err (tool.MemoryLimit held)) none is read can runs = inr (inr (
+  can tt,
+  record {
+    whole = told_unless (opening_fault F All) (list_told (listing F All limit).fault);
+    rest = list_text form pdb F limit;
+    begins = record { told_is = refl; text_is = ap (λ (xs : List ℕ). xs ++ list_text form pdb F limit) (taken before after [] text none is runs.writes) };
+  },
+))
+IsList-told form pdb F limit MayTell before after text (Err (tool.AsideLimit offset size)) none is read can runs = inr (inr (
+  can tt,
+  record {
+    whole = told_unless (opening_fault F All) (list_told (listing F All limit).fault);
+    rest = runs.writes.took.rest;
+    begins = record { told_is = refl; text_is = first_taken before after (list_text form pdb F limit) text none is runs.writes.took };
+  },
+))
+IsList-told form pdb F limit MayTell before after text (Err (tool.CopyBudget needed)) none is read can runs = absurd runs.writes
+IsList-told form pdb F limit MayTell before after text (Err tool.Memory) none is read can runs = inl refl
+IsList-told form pdb F limit MayTell before after text (Err tool.Out) none is read can runs = inl refl
+IsList-told form pdb F limit MayTell before after text (Err (tool.Source fault)) none is read can runs = absurd read
+IsList-told form pdb F limit MayTell before after text (Err (tool.Reading fault)) none is read can runs = absurd runs.writes
+IsList-told form pdb F limit MayTell before after text (Err (tool.Layout fault)) none is read can runs = absurd runs.writes
+IsList-told form pdb F limit MayTell before after text (Err (tool.NotCopied t)) none is read can runs = absurd runs.writes
 
 -- what was given unless memory was wanting
-pub Ends-given : {X : Type 0} (IsTold : PlainFault → List X → Type 0) (valid can_stop : Type 0) (refusal told : PlainFault) (xs : List X) (status count : ℕ) (fault : PlainFault)
-    (before after : List X) → valid → MayTell IsTold can_stop told xs → GivesOrWants told xs status count fault before after
-    → Ends IsTold valid can_stop refusal status count fault before after
-Ends-given IsTold valid can_stop refusal told xs status count fault before after ok (inl none) (given some gives) = absurd (some none)
-Ends-given IsTold valid can_stop refusal told xs status count fault before after ok (inr (inl is)) (given some gives) = answers told xs ok is gives
-Ends-given IsTold valid can_stop refusal told xs status count fault before after ok (inr (inr (can, is))) (given some gives) = stops told xs ok can is gives
-Ends-given IsTold valid can_stop refusal told xs status count fault before after ok either (wanted fails) = wants ok fails
+pub Ends-given : {X : Type 0} (IsTold : PlainFault → List X → Type 0) (valid : Type 0) (MayTell : PlainFault → Type 0) (refusal told : PlainFault) (xs : List X) (status count : ℕ) (fault : PlainFault)
+    (before after : List X) → valid → IsTellable IsTold MayTell told xs → GivesOrWants told xs status count fault before after
+    → Ends IsTold valid MayTell refusal status count fault before after
+Ends-given IsTold valid MayTell refusal told xs status count fault before after ok (inl none) (given some gives) = absurd (some none)
+Ends-given IsTold valid MayTell refusal told xs status count fault before after ok (inr (inl is)) (given some gives) = answers told xs ok is gives
+Ends-given IsTold valid MayTell refusal told xs status count fault before after ok (inr (inr (can, is))) (given some gives) = stops told xs ok can is gives
+Ends-given IsTold valid MayTell refusal told xs status count fault before after ok either (wanted fails) = wants ok fails

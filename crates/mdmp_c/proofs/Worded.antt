@@ -61,6 +61,7 @@ opening_words (opening.DirectoryOutside offset size) fits = refl
 opening_words (opening.TooManyRanges count) fits = ap (λ n. Some (fault_text (tool.Opening (opening.TooManyRanges n)))) (whole_number count)
 opening_words opening.Memory fits = refl
 opening_words (opening.Budget offset size) fits = refl
+opening_words (opening.MemoryLimit held) fits = ap (λ n. Some (fault_text (tool.Opening (opening.MemoryLimit n)))) (whole_number held)
 opening_words (opening.Source fault) fits = absurd fits
 
 list_words : (f : ListFault) (kind : FaultKind) → f.kind ≡ kind → FitsKind kind → words_of (plain_list_fault f) ≡ Some (fault_text (tool.List f))
@@ -118,6 +119,9 @@ words_back (tool.NotCopied t) fits = ap (λ n. Some (fault_text (tool.NotCopied 
 words_back tool.Out fits = absurd fits
 words_back tool.Memory fits = refl
 words_back (tool.Budget offset size) fits = refl
+words_back (tool.MemoryLimit held) fits = ap (λ n. Some (fault_text (tool.MemoryLimit n))) (whole_number held)
+words_back (tool.AsideLimit offset size) fits = refl
+words_back (tool.CopyBudget needed) fits = ap (λ n. Some (fault_text (tool.CopyBudget n))) (whole_number needed)
 words_back (tool.Source fault) fits = absurd fits
 
 -- ---- of what no command tells

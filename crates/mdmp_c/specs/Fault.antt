@@ -22,16 +22,25 @@ no_memory = of_kind 66
 abbrev pub budget_fault : ℕ → ℕ → PlainFault
 budget_fault offset size = record (of_kind 71) { offset = offset; size = size }
 
+-- a CodeView record was not read, with which more bytes than the limit would have been read aside
+abbrev pub aside_fault : ℕ → ℕ → PlainFault
+aside_fault offset size = record (of_kind 73) { offset = offset; size = size }
+
+-- a fault of this kind that tells a number of 128 bits
+abbrev pub wide_fault : ℕ → ℕ → PlainFault
+wide_fault kind number = record (of_kind kind) { size = number % 2 ^ 64; high = number / 2 ^ 64 }
+
 -- a fault of the opening
 abbrev pub open_fault : OpenFault → PlainFault
 open_fault (opening.TooShort size) = record (of_kind 1) { size = size }
 open_fault opening.BadSignature = of_kind 2
 open_fault (opening.BadVersion low) = record (of_kind 3) { size = low }
 open_fault (opening.DirectoryOutside offset size) = record (of_kind 4) { offset = offset; size = size }
-open_fault (opening.TooManyRanges count) = record (of_kind 5) { size = count % 2 ^ 64; high = count / 2 ^ 64 }
+open_fault (opening.TooManyRanges count) = wide_fault 5 count
 open_fault opening.Memory = no_memory
 open_fault (opening.Source fault) = of_kind 69
 open_fault (opening.Budget offset size) = budget_fault offset size
+open_fault (opening.MemoryLimit held) = wide_fault 72 held
 
 -- what is wrong with an entry
 abbrev pub kind_number : FaultKind → ℕ
@@ -64,12 +73,13 @@ plain_by_kind kind f = record {
 abbrev pub plain_list_fault : ListFault → PlainFault
 plain_list_fault f = plain_by_kind f.kind f
 
--- 0 of no fault, 1 where the file is at fault, 2 where an argument is, 3 where memory was wanting or the budget was reached
+-- 0 of no fault, 1 if the file is at fault, 2 if an argument is, 3 if memory ran out, 5 if a limit was reached
 abbrev pub status_of : PlainFault → ℕ
 status_of fault =
     if fault.kind == 0 then 0
     else if fault.kind == 65 || fault.kind == 67 || fault.kind == 68 || fault.kind == 70 then 2
-    else if fault.kind == 66 || fault.kind == 69 || fault.kind == 71 then 3
+    else if fault.kind == 66 || fault.kind == 69 then 3
+    else if fault.kind == 71 || fault.kind == 72 || fault.kind == 73 || fault.kind == 74 then 5
     else 1
 
 -- what is told of a file that is refused, or else of one that can be opened

@@ -74,6 +74,9 @@ rest_in p =
     else if p.kind == 65 then Some (tool.NotCopied (p.size % 2 ^ 32))
     else if p.kind == 66 then Some tool.Memory
     else if p.kind == 71 then Some (tool.Budget p.offset p.size)
+    else if p.kind == 72 then Some (tool.MemoryLimit (whole p.high p.size))
+    else if p.kind == 73 then Some (tool.AsideLimit p.offset p.size)
+    else if p.kind == 74 then Some (tool.CopyBudget (whole p.high p.size))
     else None
 
 abbrev pub or_reading : PlainFault → Option ReadFault → Option ToolFault

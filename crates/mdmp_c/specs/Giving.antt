@@ -1,7 +1,7 @@
 -- How what a call gives reaches its caller.
 use Rattle.std.specs.Prelude.{◌≡◌, ◌++◌, ◌-◌, ◌^◌, ℕ, List, length, take, drop, min, nat_lt, if◌then◌else◌}
 use Rattle.mdmp_c.specs.declared.fault.PlainFault.{PlainFault}
-use Rattle.mdmp_c.specs.Fault.{budget_fault, no_memory, of_kind, status_of}
+use Rattle.mdmp_c.specs.Fault.{no_memory, of_kind, status_of}
 
 -- a list at the front of a buffer, as far as there is room, and behind it what stood there
 abbrev pub put_front : {X : Type 0} → List X → List X → List X
@@ -31,26 +31,22 @@ pub data GivesOrWants {X : Type 0} (told : PlainFault) (xs : List X) (status cou
   given : (told ≡ no_memory → ⊥) → GivesList told xs status count fault before after → GivesOrWants told xs status count fault before after
   wanted : Fails no_memory status count fault before after → GivesOrWants told xs status count fault before after
 
--- the budget is told, which a fetch of some bytes would have passed; what was read up to there is the first of what is told of
--- the file where there is no budget
-pub record IsStopped {X : Type 0} (IsTold : PlainFault → List X → Type 0) (told : PlainFault) (xs : List X) : Type 0 where
-  pub offset : ℕ
-  pub size : ℕ
-  pub told_is : told ≡ budget_fault offset size
+-- a call ended at a limit: what was read up to there is the first of what is told of the file without limits
+pub record IsStopped {X : Type 0} (IsTold : PlainFault → List X → Type 0) (xs : List X) : Type 0 where
   pub whole : PlainFault
   pub rest : List X
   pub begins : IsTold whole (xs ++ rest)
 
 -- what a call answers: with good arguments that is what is told of the file, and what is given of it; or memory was wanting, in
--- which case nothing is told of it; or, where it can be, the budget was reached, and what was read up to there is given. With
+-- which case nothing is told of it; or a limit was reached that may be told, and what was read up to there is given. With
 -- others it is that one of these is bad
-pub data Ends {X : Type 0} (IsTold : PlainFault → List X → Type 0) (IsValid CanStop : Type 0) (refusal : PlainFault) (status count : ℕ) (fault : PlainFault) (before after : List X) : Type 0 where
+pub data Ends {X : Type 0} (IsTold : PlainFault → List X → Type 0) (IsValid : Type 0) (MayTell : PlainFault → Type 0) (refusal : PlainFault) (status count : ℕ) (fault : PlainFault) (before after : List X) : Type 0 where
   answers : (told : PlainFault) (xs : List X) → IsValid → IsTold told xs → GivesList told xs status count fault before after
-      → Ends IsTold IsValid CanStop refusal status count fault before after
-  wants : IsValid → Fails no_memory status count fault before after → Ends IsTold IsValid CanStop refusal status count fault before after
-  stops : (told : PlainFault) (xs : List X) → IsValid → CanStop → IsStopped IsTold told xs → GivesList told xs status count fault before after
-      → Ends IsTold IsValid CanStop refusal status count fault before after
-  refuses : (IsValid → ⊥) → Fails refusal status count fault before after → Ends IsTold IsValid CanStop refusal status count fault before after
+      → Ends IsTold IsValid MayTell refusal status count fault before after
+  wants : IsValid → Fails no_memory status count fault before after → Ends IsTold IsValid MayTell refusal status count fault before after
+  stops : (told : PlainFault) (xs : List X) → IsValid → MayTell told → IsStopped IsTold xs → GivesList told xs status count fault before after
+      → Ends IsTold IsValid MayTell refusal status count fault before after
+  refuses : (IsValid → ⊥) → Fails refusal status count fault before after → Ends IsTold IsValid MayTell refusal status count fault before after
 
 abbrev pub bad_limits : PlainFault
 bad_limits = of_kind 67

@@ -2,6 +2,7 @@ pub mod Directory
 pub mod Fault
 pub mod FaultText
 pub mod Giving
+pub mod Index
 pub mod Limits
 pub mod Memory
 pub mod Places

@@ -2,9 +2,9 @@
 use Rattle.std.specs.Prelude.{◌≡◌, ◌+◌, ◌==◌, ◌&&◌, ℕ, Bool, List, length, Option, Some, None, filter_map, nat_le, nat_lt, if◌then◌else◌}
 use Rattle.mdmp_c.specs.declared.fault.PlainFault.{PlainFault}
 use Rattle.mdmp_c.specs.declared.limits.PlainLimits.{PlainLimits}
-use Rattle.mdmp_c.specs.Fault.{budget_fault, list_told, no_fault, no_memory, of_kind, told_unless}
+use Rattle.mdmp_c.specs.Fault.{list_told, no_fault, no_memory, of_kind, told_unless}
 use Rattle.mdmp_c.specs.Giving.{bad_limits}
-use Rattle.mdmp_c.specs.Limits.{AreLimits, HasBudget}
+use Rattle.mdmp_c.specs.Limits.{AreLimits, ReachesLimit}
 use Rattle.mdmp_lister.specs.Addressing.{ReadsCells}
 use Rattle.mdmp_lister.specs.Format.Listing.{listing, memory_lists}
 use Rattle.mdmp_lister.specs.Format.Ranges.{ranges_of}
@@ -51,7 +51,7 @@ abbrev pub memory_told : List ℕ → ℕ → PlainFault
 memory_told F limit = told_unless (opening_fault F memory_lists) (list_told (listing F memory_lists limit).fault)
 
 -- memory of F by all ranges of its memory lists, none of which has a fault; or nothing, where they have one, memory was wanting
--- or the budget was reached before they were read
+-- or a limit was reached before they were read
 pub data ReadsMemory (F : List ℕ) (limits : PlainLimits) (address status : ℕ) (fault : PlainFault) (out_before out_after : List ℕ) (known_before known_after : List Bool) : Type 0 where
   reads : AreLimits limits → length out_before ≡ length known_before → memory_told F limits.name ≡ no_fault
       → GivesCells F (ranges_of (listing F memory_lists limits.name).items) address status fault out_after known_after
@@ -60,8 +60,8 @@ pub data ReadsMemory (F : List ℕ) (limits : PlainLimits) (address status : ℕ
       → ReadsMemory F limits address status fault out_before out_after known_before known_after
   wants : AreLimits limits → length out_before ≡ length known_before → GivesNoBytes status 3 no_memory fault out_before out_after known_before known_after
       → ReadsMemory F limits address status fault out_before out_after known_before known_after
-  stops : AreLimits limits → HasBudget limits → length out_before ≡ length known_before → (offset size : ℕ)
-      → GivesNoBytes status 3 (budget_fault offset size) fault out_before out_after known_before known_after
+  stops : AreLimits limits → (told : PlainFault) → ReachesLimit limits told → length out_before ≡ length known_before
+      → GivesNoBytes status 5 told fault out_before out_after known_before known_after
       → ReadsMemory F limits address status fault out_before out_after known_before known_after
   differ : (length out_before ≡ length known_before → ⊥) → GivesNoBytes status 2 lengths_differ fault out_before out_after known_before known_after
       → ReadsMemory F limits address status fault out_before out_after known_before known_after

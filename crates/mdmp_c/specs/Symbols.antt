@@ -5,7 +5,8 @@ use Rattle.mdmp_wire.specs.CodeView.{CodeViewValue, Rsds, Other, Short, codeview
 use Rattle.mdmp_c.specs.declared.fault.PlainFault.{PlainFault}
 use Rattle.mdmp_c.specs.declared.parts.PartPlace.{PartPlace}
 use Rattle.mdmp_c.specs.declared.symbols.Symbols.{Symbols}
-use Rattle.mdmp_c.specs.Fault.{no_fault, of_kind}
+use Rattle.mdmp_c.specs.Fault.{no_fault, of_kind, status_of}
+use Rattle.mdmp_c.specs.Giving.{bad_limits}
 
 -- some bytes stand there, inside F
 abbrev pub IsPlaceInside : List ℕ → PartPlace → Type 0
@@ -38,14 +39,20 @@ symbols_row place (Short size) = record no_symbols { kind = 2 }
 abbrev pub place_location : PartPlace → Location
 place_location place = record { size = place.size; rva = place.rva }
 
--- the record at a place was told
-pub record GivesSymbols (F : List ℕ) (place : PartPlace) (status : ℕ) (fault : PlainFault) (after : Symbols) : Type 0 where
+-- the record at a place was told, of whose name at most limit bytes are read
+pub record GivesSymbols (F : List ℕ) (limit : ℕ) (place : PartPlace) (status : ℕ) (fault : PlainFault) (after : Symbols) : Type 0 where
   pub status_is : status ≡ 0
   pub fault_is : fault ≡ no_fault
-  pub out : after ≡ symbols_row place (codeview_of F (place_location place) place.size)
+  pub out : after ≡ symbols_row place (codeview_of F (place_location place) limit)
 
 -- no bytes stand at a place, or not inside the file
 pub record RefusesPlace (place : PartPlace) (status : ℕ) (fault : PlainFault) (after : Symbols) : Type 0 where
   pub status_is : status ≡ 1
   pub fault_is : fault ≡ record (of_kind 32) { offset = place.rva; size = place.size; part = 3 }
+  pub out : after ≡ no_symbols
+
+-- the limits are not good
+pub record RefusesLimits (status : ℕ) (fault : PlainFault) (after : Symbols) : Type 0 where
+  pub status_is : status ≡ status_of bad_limits
+  pub fault_is : fault ≡ bad_limits
   pub out : after ≡ no_symbols

@@ -7,14 +7,14 @@ use Rattle.mdmp_lister.specs.declared.choice.Choice.TheVariants.{All}
 use Rattle.mdmp_lister.specs.Format.Listing.{Run, listing}
 use Rattle.mdmp_lister.specs.Format.Refusal.{opening_fault}
 use Rattle.mdmp_tool.specs.declared.fault.ToolFault.{ToolFault}
-use Rattle.mdmp_tool.specs.declared.fault.ToolFault.TheVariants.{List as BadList, Budget, Memory, Out}
+use Rattle.mdmp_tool.specs.declared.fault.ToolFault.TheVariants.{List as BadList, Budget, AsideLimit, Memory, Out}
 use Rattle.mdmp_tool.specs.Text.{list_text}
-use Rattle.mdmp_words.specs.declared.request.LineForm.TheVariants.{Text}
+use Rattle.mdmp_words.specs.declared.request.LineForm.{LineForm}
 
--- what is told of F by a list, and what stands behind the first `skip` bytes of its text
-pub record IsListPart (skip : ℕ) (pdb : Bool) (F : List ℕ) (limit : ℕ) (told : PlainFault) (part : List ℕ) : Type 0 where
+-- what is told of F by a list in this form, and what stands behind the first `skip` bytes of its text
+pub record IsListPart (form : LineForm) (pdb : Bool) (skip : ℕ) (F : List ℕ) (limit : ℕ) (told : PlainFault) (part : List ℕ) : Type 0 where
   pub told_is : told ≡ told_unless (opening_fault F All) (list_told (listing F All limit).fault)
-  pub part_is : part ≡ drop skip (list_text Text pdb F limit)
+  pub part_is : part ≡ drop skip (list_text form pdb F limit)
 
 -- of a text that is made piece by piece, what stands behind its first `skip` bytes was counted and, as much as there is room for,
 -- kept; so many of the bytes that come next are passed over
@@ -24,19 +24,25 @@ pub record IsPartOf (skip room : ℕ) (text : List ℕ) (left space size : ℕ) 
   pub size_is : size ≡ told_count (length (drop skip text))
   pub kept_is : kept ≡ take room (drop skip text)
 
--- the first bytes of a text were put somewhere, and then the budget was reached
-pub record PutsFirst (IsPut : List ℕ → Type 0) (budget : Option ℕ) (text : List ℕ) : Type 0 where
-  pub can_stop : budget ≡ None → ⊥
+-- the first bytes of a text were put somewhere, and then a limit was reached
+pub record PutsFirst (IsPut : List ℕ → Type 0) (limit : Option ℕ) (text : List ℕ) : Type 0 where
+  pub can_stop : limit ≡ None → ⊥
   pub given : List ℕ
   pub rest : List ℕ
   pub begins : text ≡ given ++ rest
   pub put : IsPut given
 
--- the text of a run was put somewhere, up to its fault or none, or up to where the budget was reached; or memory was wanting
-abbrev pub PutsRun : (List ℕ → Type 0) → Option ℕ → List ℕ → Run → Result (Unit {0}) ToolFault → Type 0
-PutsRun IsPut budget text run (Ok x) = (run.fault ≡ None) × IsPut text
-PutsRun IsPut budget text run (Err (BadList fault)) = (run.fault ≡ Some fault) × IsPut text
-PutsRun IsPut budget text run (Err (Budget offset size)) = PutsFirst IsPut budget text
-PutsRun IsPut budget text run (Err Out) = Unit {0}
-PutsRun IsPut budget text run (Err Memory) = Unit {0}
-PutsRun IsPut budget text run (Err fault) = ⊥
+-- the text of a run was put somewhere, up to its fault or none, or up to where a limit was reached; or memory ran out
+abbrev pub PutsRun : (List ℕ → Type 0) → Option ℕ → Option ℕ → List ℕ → Run → Result (Unit {0}) ToolFault → Type 0
+PutsRun IsPut budget aside text run (Ok x) = (run.fault ≡ None) × IsPut text
+PutsRun IsPut budget aside text run (Err (BadList fault)) = (run.fault ≡ Some fault) × IsPut text
+PutsRun IsPut budget aside text run (Err (Budget offset size)) = PutsFirst IsPut budget text
+PutsRun IsPut budget aside text run (Err (AsideLimit offset size)) = PutsFirst IsPut aside text
+PutsRun IsPut budget aside text run (Err Out) = Unit {0}
+PutsRun IsPut budget aside text run (Err Memory) = Unit {0}
+PutsRun IsPut budget aside text run (Err fault) = ⊥
+
+-- a text was put somewhere, and it ends at this fault; or memory ran out
+pub data EndsAt (IsPut : List ℕ → Type 0) (text : List ℕ) (fault : ToolFault) (result : Result (Unit {0}) ToolFault) : Type 0 where
+  ends_at : result ≡ Err fault → IsPut text → EndsAt IsPut text fault result
+  ends_early : result ≡ Err Memory → EndsAt IsPut text fault result

@@ -1,7 +1,7 @@
 -- The faults of commands as plain numbers.
 use Rattle.std.specs.Prelude.{ℕ, ◌/◌, ◌%◌, ◌^◌, ◌==◌, Result, Ok, Err, replicate, if◌then◌else◌}
 use Rattle.mdmp_c.specs.declared.fault.PlainFault.{PlainFault}
-use Rattle.mdmp_c.specs.Fault.{budget_fault, plain_list_fault, no_fault, no_memory, of_kind, open_fault}
+use Rattle.mdmp_c.specs.Fault.{aside_fault, budget_fault, plain_list_fault, no_fault, no_memory, of_kind, open_fault, wide_fault}
 use Rattle.mdmp_dump.specs.declared.fault.PartName.{PartName}
 use Rattle.mdmp_dump.specs.declared.fault.PartName.TheVariants as parts
 use Rattle.mdmp_dump.specs.declared.fault.ReadFault.{ReadFault}
@@ -59,6 +59,9 @@ tool_fault tool.Out = no_memory
 tool_fault tool.Memory = no_memory
 tool_fault (tool.Source fault) = of_kind 69
 tool_fault (tool.Budget offset size) = budget_fault offset size
+tool_fault (tool.MemoryLimit held) = wide_fault 72 held
+tool_fault (tool.AsideLimit offset size) = aside_fault offset size
+tool_fault (tool.CopyBudget needed) = wide_fault 74 needed
 
 -- how many entries have a fault, which is none where all are good
 abbrev pub bad_entries : ℕ → PlainFault

@@ -1,24 +1,16 @@
 //! Memory of the dumped process, read of a file in memory by ranges that a caller kept.
-ghost use Rattle.std.specs.Prelude.{◌≡◌, ◌≤◌, ◌<◌, ◌+◌, None, Some, IfSome, is_some, length, replicate};
+ghost use Rattle.std.specs.Prelude.{◌≡◌, ◌≤◌, ◌<◌, ◌+◌, ◌-◌, ◌∷◌, ◌++◌, [], ℕ, List, Some, false, get_or, length, slice_index, true};
 ghost use Rattle.mdmp_c.specs.Memory.{kept_range, kept_ranges};
-ghost use Rattle.mdmp_lister.specs.Addressing.{IsStretch, ReadsCells};
-ghost use Rattle.mdmp_map.specs.Finding.{IsFound};
-ghost use Rattle.mdmp_source.specs.Range.{bytes_at};
+ghost use Rattle.mdmp_lister.specs.Addressing.{ReadsCells};
+ghost use Rattle.mdmp_lister.specs.Painting.{AreCells, ArePainted};
+ghost use Rattle.mdmp_map.specs.declared.range.Range.{Range};
+ghost use Rattle.mdmp_map.specs.Ranges.{IsPlaced, IsWithin};
 
 use crate::rows::RangeRow;
-use mdmp_map::{Found, Range, Search};
-
-/// Addresses that follow each other, which one range is the first to hold, or which none holds.
-#[derive(Clone, Copy)]
-struct RowStretch {
-    /// Where the first byte stands in the file, or none where no range holds an address of them.
-    offset: Option<u64>,
-    /// How many addresses they are.
-    count: usize,
-}
+use mdmp_map::{BLOCK, Paint, PaintedRun, Range};
 
 /// The range that a row is, where its bytes lie inside a file of `size` bytes, as it says.
-fn kept_range(size: u64, row: &RangeRow) -> Option<Range>
+pub(crate) fn kept_range(size: u64, row: &RangeRow) -> Option<Range>
     ensures { result ≡ kept_range size row.now }
 {
     if row.extent == 2
@@ -37,68 +29,64 @@ fn kept_range(size: u64, row: &RangeRow) -> Option<Range>
     }
 }
 
-/// Finds an address among those of some ranges whose bytes lie inside a file of `size` bytes.
-fn look_up(size: u64, rows: &[RangeRow], address: u64) -> Found
-    ensures { IsFound (kept_ranges size rows.now) address result }
-{
-    let mut search = Search::new(address);
-    for row in rows {
-        if let Some(range) = kept_range(size, row) {
-            if let Some(place) = search.look(&range) {
-                return Found::Held(place);
-            }
-        }
-    }
-    Found::Gap(search.gap())
-}
-
-/// The addresses from this one on that stand together, as far as they do, and at most so many. No range
-/// holds an address of 2^64 or more.
-fn stretch_at(size: u64, rows: &[RangeRow], address: u128, most: usize) -> RowStretch
-    requires { 0 < most }
-    ensures some { 0 < result.count }
-    ensures most { result.count ≤ most }
-    ensures stretch { IsStretch (kept_ranges size rows.now) address result.offset result.count }
-    ensures within { IfSome result.offset (λ at. at + result.count ≤ size) }
-{
-    let Ok(first) = u64::try_from(address) else {
-        return RowStretch {
-            offset: None,
-            count: most,
-        };
-    };
-    match look_up(size, rows, first) {
-        Found::Held(place) => RowStretch {
-            offset: Some(place.offset),
-            count: place.left.min(most as u64) as usize,
-        },
-        Found::Gap(count) => RowStretch {
-            offset: None,
-            count: count.min(most as u128) as usize,
-        },
-    }
-}
-
-/// Copies the bytes that stand from an offset of the file on; where there is none they are not known.
-fn read_stretch(file: &[u8], offset: Option<u64>, out: &mut [u8], known: &mut [bool])
+/// Copies a run of a block, none of whose bytes is known yet.
+fn read_run(file: &[u8], run: PaintedRun, out: &mut [u8], known: &mut [bool])
     requires same { length out.old ≡ length known.old }
-    requires inside { IfSome offset (λ at. at + length out.old ≤ length file.now) }
-    ensures known { known.new ≡ replicate (length out.new) (is_some offset) }
-    ensures zeros { offset ≡ None → out.new ≡ replicate (length out.new) 0 }
-    ensures bytes { IfSome offset (λ at. out.new ≡ bytes_at file.now at (length out.new)) }
+    requires some { run.first < run.end }
+    requires within { run.end ≤ length out.old }
+    requires inside { run.offset + (run.end - run.first) ≤ length file.now }
+    ensures known { (k : ℕ) → run.first ≤ k → k < run.end → get_or known.new k false ≡ true }
+    ensures known_below { (k : ℕ) → k < run.first → get_or known.new k false ≡ get_or known.old k false }
+    ensures known_behind { (k : ℕ) → run.end ≤ k → get_or known.new k false ≡ get_or known.old k false }
+    ensures bytes { (k : ℕ) → run.first ≤ k → k < run.end → slice_index out.new k ≡ slice_index file.now (run.offset + (k - run.first)) }
+    ensures bytes_below { (k : ℕ) → k < run.first → slice_index out.new k ≡ slice_index out.old k }
+    ensures bytes_behind { (k : ℕ) → run.end ≤ k → slice_index out.new k ≡ slice_index out.old k }
 {
-    known.fill(offset.is_some());
-    match offset {
-        None => out.fill(0),
-        Some(at) => {
-            let start = at as usize;
-            let end = start + out.len();
-            out.copy_from_slice(&file[start..end]);
+    known[run.first..run.end].fill(true);
+    let start = run.offset as usize;
+    let end = start + (run.end - run.first);
+    out[run.first..run.end].copy_from_slice(&file[start..end]);
+}
+
+/// Copies the bytes of a range at those places of a block that no range before it holds.
+fn read_range(file: &[u8], paint: &mut Paint, range: &Range, out: &mut [u8], known: &mut [bool])
+    requires same { length out.old ≡ length known.old }
+    requires placed { IsPlaced range.now }
+    requires inside { IsWithin (length file.now) range.now }
+    requires painted { ArePainted paint.old known.old }
+    ensures painted { ArePainted paint.new known.new }
+    ensures start { paint.new.start ≡ paint.old.start }
+    ensures cells { (seen : List Range) → AreCells (Some file.now) seen paint.old.start out.old known.old
+        → AreCells (Some file.now) (seen ++ range.now ∷ []) paint.old.start out.new known.new }
+{
+    let mut from = 0;
+    'runs: while let Some(run) = paint.paint(range, from) {
+        read_run(file, run, out, known);
+        from = run.end;
+    }
+}
+
+/// Reads a block of addresses, at most 16384, by a look at one row after another.
+fn read_block(file: &[u8], rows: &[RangeRow], address: u128, out: &mut [u8], known: &mut [bool])
+    requires same { length out.old ≡ length known.old }
+    requires few { length out.old ≤ 16384 }
+    ensures { ReadsCells (Some file.now) (kept_ranges (length file.now) rows.now) address out.new known.new }
+{
+    out.fill(0);
+    known.fill(false);
+    let size = file.len() as u64;
+    let mut paint = Paint::over(address, out.len());
+    for row in rows {
+        if paint.is_full() {
+            return;
+        }
+        if let Some(range) = kept_range(size, row) {
+            read_range(file, &mut paint, &range, out, known);
         }
     }
 }
 
-/// Reads memory by those of some ranges whose bytes lie inside the file.
+/// Reads memory by those of some ranges whose bytes lie inside the file, block after block.
 pub(crate) fn read_by(
     file: &[u8],
     rows: &[RangeRow],
@@ -109,22 +97,11 @@ pub(crate) fn read_by(
     requires { length out.old ≡ length known.old }
     ensures { ReadsCells (Some file.now) (kept_ranges (length file.now) rows.now) address out.new known.new }
 {
-    let size = file.len() as u64;
     let mut done = 0;
     while done < out.len() {
-        let stretch = stretch_at(
-            size,
-            rows,
-            u128::from(address) + done as u128,
-            out.len() - done,
-        );
-        let end = done + stretch.count;
-        read_stretch(
-            file,
-            stretch.offset,
-            &mut out[done..end],
-            &mut known[done..end],
-        );
+        let end = done + (out.len() - done).min(BLOCK);
+        let at = u128::from(address) + done as u128;
+        read_block(file, rows, at, &mut out[done..end], &mut known[done..end]);
         done = end;
     }
 }

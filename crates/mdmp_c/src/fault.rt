@@ -1,6 +1,6 @@
 //! Faults as plain numbers, for callers in other languages.
 ghost use Rattle.std.specs.Prelude.{◌≡◌};
-ghost use Rattle.mdmp_c.specs.Fault.{budget_fault, kind_number, plain_list_fault, of_kind, open_fault, status_of};
+ghost use Rattle.mdmp_c.specs.Fault.{budget_fault, kind_number, plain_list_fault, of_kind, open_fault, status_of, wide_fault};
 
 use mdmp_lister::{FaultKind, ListFault, OpenFault};
 use std::mem::size_of;
@@ -62,6 +62,17 @@ pub(crate) fn budget_fault(offset: u64, size: u64) -> PlainFault
     }
 }
 
+/// A fault of this kind that tells a number of 128 bits.
+pub(crate) fn wide_fault(kind: u32, number: u128) -> PlainFault
+    ensures { result ≡ wide_fault kind number }
+{
+    PlainFault {
+        size: (number % (1 << 64)) as u64,
+        high: (number / (1 << 64)) as u64,
+        ..of_kind(kind)
+    }
+}
+
 /// A fault of the opening.
 pub(crate) fn open_fault(fault: OpenFault) -> PlainFault
     ensures { result ≡ open_fault fault }
@@ -78,14 +89,11 @@ pub(crate) fn open_fault(fault: OpenFault) -> PlainFault
             size,
             ..of_kind(4)
         },
-        OpenFault::TooManyRanges { count } => PlainFault {
-            size: (count % (1 << 64)) as u64,
-            high: (count / (1 << 64)) as u64,
-            ..of_kind(5)
-        },
+        OpenFault::TooManyRanges { count } => wide_fault(5, count),
         OpenFault::Memory => of_kind(66),
         OpenFault::Source(_) => of_kind(69),
         OpenFault::Budget { offset, size } => budget_fault(offset, size),
+        OpenFault::MemoryLimit { held } => wide_fault(72, held),
     }
 }
 
@@ -127,15 +135,16 @@ pub(crate) fn plain_list_fault(fault: ListFault) -> PlainFault
     }
 }
 
-/// The status of a call that tells this fault: 0 of none, 1 where the file is at fault, 2 where an
-/// argument is, 3 where memory was wanting or the fetch budget was reached.
+/// The status of a call that reports this fault: 0 for none, 1 if the file is at fault, 2 if an argument
+/// is, 3 if memory ran out, 5 if a limit was reached.
 pub(crate) fn status_of(fault: &PlainFault) -> u32
     ensures { result ≡ status_of fault.now }
 {
     match fault.kind {
         0 => 0,
         65 | 67 | 68 | 70 => 2,
-        66 | 69 | 71 => 3,
+        66 | 69 => 3,
+        71 | 72 | 73 | 74 => 5,
         _ => 1,
     }
 }

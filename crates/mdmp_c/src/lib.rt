@@ -5,10 +5,10 @@
 //! number of them may run at once over the same file. What a call takes from the allocator is given back
 //! before it returns.
 //!
-//! A call answers a status: 0 for good, 1 where the file is at fault, 2 where an argument is, 3 where
-//! memory was wanting or the fetch budget was reached, 4 where the buffer was too short; [`PlainFault`] says what is wrong, and where.
-//! [`PlainLimits`] bound what is read at a time, and how much is fetched in all: where that budget is reached,
-//! what was read up to there is given.
+//! A call returns a status: 0 if all is good, 1 for an error in the file, 2 for a bad argument, 3 if memory ran out, 4 if the
+//! buffer is too short, 5 if a limit was reached. [`PlainFault`] says what is wrong, and where.
+//! [`PlainLimits`] limit what is read at a time, what is read in all, and memory. If a limit is reached, the call gives what
+//! it read before.
 //! What a call gives is said by the definitions that the Rust calls have: of a text those of mdmp_tool,
 //! of a record the listing of mdmp_lister. `specs/Giving.antt` says how it reaches the caller.
 #![tactic(auto)]
@@ -23,6 +23,7 @@ mod fault;
 mod fault_text;
 mod giving;
 mod header_rows;
+mod index;
 mod limits;
 mod list_part;
 mod memory;
@@ -46,6 +47,7 @@ pub use crate::directory::{mdmp_header_, mdmp_streams_};
 pub use crate::fault::{NO_FAULT, PlainFault};
 pub use crate::fault_text::mdmp_fault_text_;
 pub use crate::header_rows::{HeaderRow, StreamRow};
+pub use crate::index::{NO_OWNER, mdmp_index_, mdmp_index_modules_, mdmp_read_index_, mdmp_where_};
 pub use crate::limits::PlainLimits;
 pub use crate::list_part::mdmp_list_part_;
 pub use crate::memory::{mdmp_memory_, mdmp_read_};
@@ -61,9 +63,10 @@ pub use crate::rows::{
 pub use crate::symbols::{Symbols, mdmp_symbols_};
 pub use crate::texts::{mdmp_check_, mdmp_check_json_, mdmp_list_, mdmp_list_json_};
 pub use crate::verdicts::mdmp_verdicts_;
+pub use mdmp_index::IndexSlot;
 
 /// The number of these calls' form: it rises where a structure or the meaning of a call changes.
-pub const ABI: u32 = 1;
+pub const ABI: u32 = 2;
 
 /// The version of the library, 0.1.0: its three numbers, a byte each, the greatest first.
 pub const VERSION: u32 = 0x000100;
@@ -71,7 +74,7 @@ pub const VERSION: u32 = 0x000100;
 /// Answers [`ABI`], which a caller compares with the header's.
 #[unsafe(no_mangle)]
 pub extern "C" fn mdmp_abi() -> u32
-    ensures { result ≡ 1 }
+    ensures { result ≡ 2 }
 {
     ABI
 }
@@ -84,5 +87,7 @@ pub extern "C" fn mdmp_version() -> u32
     VERSION
 }
 
+#[cfg(test)]
+mod symbol_tests;
 #[cfg(test)]
 mod tests;

@@ -1,10 +1,11 @@
 //! Limits as plain numbers.
-ghost use Rattle.mdmp_c.specs.Limits.{IsLimits};
+ghost use Rattle.std.specs.Prelude.{◌≡◌};
+ghost use Rattle.mdmp_c.specs.Limits.{IsLimits, limit_of};
 
 use mdmp_lister::Limits;
 use std::mem::size_of;
 
-/// How many bytes a call holds of the file's records at a time, and of a name.
+/// How many bytes a call takes of the file's records at a time, and of a name; and its limits.
 #[repr(C)]
 #[derive(Clone, Copy)]
 pub struct PlainLimits {
@@ -12,18 +13,40 @@ pub struct PlainLimits {
     pub window: u32,
     /// The longest name that is read, in bytes: at most 2^30.
     pub name: u32,
-    /// How many bytes may be fetched for the listing, or 0 where there is no such limit.
+    /// How many bytes may be fetched for the listing, or [`NO_LIMIT`].
     pub budget: u64,
+    /// How many bytes the lists of a call may take, or [`NO_LIMIT`].
+    pub memory: u64,
+    /// How many bytes of CodeView records a list may read, or [`NO_LIMIT`].
+    pub aside: u64,
 }
 
-const _: () = prove!(size_of::<PlainLimits>() == 16);
+const _: () = prove!(size_of::<PlainLimits>() == 32);
+
+/// Stands in the place of a limit if there is none.
+pub const NO_LIMIT: u64 = u64::MAX;
 
 /// The limits that these numbers are, if they are good.
 pub(crate) fn limits_of(plain: &PlainLimits) -> Option<Limits>
     ensures { IsLimits plain.now result }
 {
-    if plain.budget == 0 {
-        return Limits::new(plain.window, plain.name);
+    let sizes = Limits::new(plain.window, plain.name)?;
+    Some(Limits {
+        window: sizes.window,
+        name: sizes.name,
+        budget: limit_of(plain.budget),
+        memory: limit_of(plain.memory),
+        aside: limit_of(plain.aside),
+    })
+}
+
+/// The most that a number limits, if it is a limit.
+fn limit_of(number: u64) -> Option<u64>
+    ensures { result ≡ limit_of number }
+{
+    if number == NO_LIMIT {
+        None
+    } else {
+        Some(number)
     }
-    Limits::with_budget(plain.window, plain.name, plain.budget)
 }

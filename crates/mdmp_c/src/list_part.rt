@@ -1,11 +1,12 @@
-//! The call that gives a part of a long text.
-ghost use Rattle.std.specs.Prelude.{◌≡◌, ◌++◌, None, Some, ℕ, List};
+//! The text of a list, or a part of it, made a line at a time.
+ghost use Rattle.std.specs.Prelude.{◌≡◌, ◌++◌, None, Some, ℕ, List, true};
 ghost use Rattle.mdmp_c.specs.Giving.{Ends, bad_limits};
-ghost use Rattle.mdmp_c.specs.Limits.{AreLimits, HasBudget};
-ghost use Rattle.mdmp_c.specs.TextPart.{IsListPart, IsPartOf, PutsRun};
+ghost use Rattle.mdmp_lister.specs.Memory.{is_within};
+ghost use Rattle.mdmp_c.specs.Limits.{AreLimits, ReachesLimit};
+ghost use Rattle.mdmp_c.specs.TextPart.{EndsAt, IsListPart, IsPartOf, PutsRun};
 ghost use Rattle.mdmp_lister.specs.Format.Listing.{Run};
 ghost use Rattle.mdmp_source.specs.Store.{IsGood};
-ghost use Rattle.mdmp_tool.specs.Lines.{dump_line};
+ghost use Rattle.mdmp_tool.specs.Forms.{dump_line_in};
 ghost use Rattle.mdmp_tool.specs.Text.{run_text};
 ghost use Rattle.mdmp_words.specs.declared.request.LineForm.TheVariants.{Text};
 
@@ -16,7 +17,7 @@ use crate::text_part::TextPart;
 use crate::tool_fault::list_answer;
 use mdmp_lister::{Choice, Lister};
 use mdmp_source::{MemoryStore, OutFailed, Source, Store, WriteOut};
-use mdmp_tool::{LineForm, ToolFault, list_next, put_dump_line};
+use mdmp_tool::{LineForm, ToolFault, list_next, put_dump};
 use std::alloc::{AllocError, Allocator, Global};
 
 /// Gives what stands behind the first `skip` bytes of the text of `list`, as [`mdmp_list_`](crate::mdmp_list_)
@@ -32,7 +33,37 @@ pub extern "C" fn mdmp_list_part_(
     size: &mut u64,
     fault: &mut PlainFault,
 ) -> u32
-    ensures { Ends (IsListPart skip pdb file.now limits.now.name) (AreLimits limits.now) (HasBudget limits.now) bad_limits result size.new fault.new out.old out.new }
+    ensures { Ends (IsListPart Text pdb skip file.now limits.now.name) (AreLimits limits.now) (ReachesLimit limits.now) bad_limits result size.new fault.new out.old out.new }
+{
+    give_list(
+        alloc,
+        file,
+        limits,
+        LineForm::Text,
+        pdb,
+        skip,
+        out,
+        size,
+        fault,
+    )
+}
+
+/// Gives what follows the first `skip` bytes of the text of `list` in this form. Of the text no more is held at a time than
+/// the buffer has room for, and the lines of one item.
+// Lines go by way of a buffer of the call's own: a call that runs out of memory leaves the caller's buffer as it was, and the
+// lines of an item may be of any length.
+pub(crate) fn give_list(
+    alloc: Global,
+    file: &[u8],
+    limits: &PlainLimits,
+    form: LineForm,
+    pdb: bool,
+    skip: u64,
+    out: &mut [u8],
+    size: &mut u64,
+    fault: &mut PlainFault,
+) -> u32
+    ensures { Ends (IsListPart form pdb skip file.now limits.now.name) (AreLimits limits.now) (ReachesLimit limits.now) bad_limits result size.new fault.new out.old out.new }
 {
     let Some(limits) = limits_of(limits) else {
         return refuse(of_kind(67), size, fault);
@@ -43,7 +74,7 @@ pub extern "C" fn mdmp_list_part_(
         Err(refused) => return refuse(open_fault(refused.fault), size, fault),
     };
     let mut part = TextPart::new(alloc, skip, out.len());
-    let answer = put_list(alloc, &mut lister, pdb, &mut part);
+    let answer = put_list(alloc, &mut lister, form, pdb, limits.aside, &mut part);
     part.give(list_answer(answer), out, size, fault)
 }
 
@@ -51,51 +82,69 @@ pub extern "C" fn mdmp_list_part_(
 fn put_list<S: Store + Drop, A: Allocator + Copy>(
     alloc: Global,
     lister: &mut Lister<S, A>,
+    form: LineForm,
     pdb: bool,
+    aside: Option<u64>,
     part: &mut TextPart,
 ) -> Result<(), ToolFault>
-    requires { lister.old.stop ≡ None }
+    requires going { lister.old.stop ≡ None }
+    requires kept { is_within aside lister.old.counts.aside.bytes ≡ true }
     ensures { (file : List ℕ) → IsGood lister.old.source.store file → (left : Run) → lister.old.left ≡ Some left → (skip room : ℕ) (given : List ℕ)
         → IsPartOf skip room given part.old.skip part.old.room part.old.size part.old.kept.items
-        → PutsRun (λ text. IsPartOf skip room text part.new.skip part.new.room part.new.size part.new.kept.items) lister.old.counts.budget
-        (given ++ (dump_line lister.old.header ++ run_text Text pdb file lister.old.limit left)) left result }
+        → PutsRun (λ text. IsPartOf skip room text part.new.skip part.new.room part.new.size part.new.kept.items) lister.old.counts.budget aside
+        (given ++ (dump_line_in form lister.old.header ++ run_text form pdb file lister.old.limit left)) left result }
 {
     let mut line = WriteOut::new(Vec::new(alloc));
-    if let Err(OutFailed) = put_dump_line(&lister.header(), &mut line) {
+    if let Err(OutFailed) = put_dump(form, &lister.header(), &mut line) {
         return Err(ToolFault::Out);
     }
     let line = line.into_inner();
     if let Err(AllocError) = part.take(&line) {
         return Err(ToolFault::Memory);
     }
-    put_items(lister, pdb, line, part)
+    put_items(lister, form, pdb, aside, line, part)
 }
 
 /// Puts the lines of the items that are left into a part of their text, those of one at a time.
 fn put_items<S: Store + Drop, A: Allocator + Copy>(
     lister: &mut Lister<S, A>,
+    form: LineForm,
     pdb: bool,
+    aside: Option<u64>,
     line: Vec<u8>,
     part: &mut TextPart,
 ) -> Result<(), ToolFault>
-    requires { lister.old.stop ≡ None }
+    requires going { lister.old.stop ≡ None }
+    requires kept { is_within aside lister.old.counts.aside.bytes ≡ true }
     ensures { (file : List ℕ) → IsGood lister.old.source.store file → (left : Run) → lister.old.left ≡ Some left → (skip room : ℕ) (given : List ℕ)
         → IsPartOf skip room given part.old.skip part.old.room part.old.size part.old.kept.items
-        → PutsRun (λ text. IsPartOf skip room text part.new.skip part.new.room part.new.size part.new.kept.items) lister.old.counts.budget
-        (given ++ run_text Text pdb file lister.old.limit left) left result }
+        → PutsRun (λ text. IsPartOf skip room text part.new.skip part.new.room part.new.size part.new.kept.items) lister.old.counts.budget aside
+        (given ++ run_text form pdb file lister.old.limit left) left result }
 {
     let mut line = line;
     loop {
         line.clear();
         let mut lines = WriteOut::new(line);
-        match list_next(lister, LineForm::Text, pdb, &mut lines) {
+        match list_next(lister, form, pdb, aside, &mut lines) {
             Ok(true) => {}
             Ok(false) => return Ok(()),
-            Err(fault) => return Err(fault),
+            // The line of a module is given, also if its CodeView record would pass the limit.
+            Err(fault) => return end_items(fault, lines.into_inner(), part),
         }
         line = lines.into_inner();
         if let Err(AllocError) = part.take(&line) {
             return Err(ToolFault::Memory);
         }
+    }
+}
+
+/// Puts the lines into a part of their text that were made before a fault ends the list, and returns the fault.
+fn end_items(fault: ToolFault, line: Vec<u8>, part: &mut TextPart) -> Result<(), ToolFault>
+    ensures { (skip room : ℕ) (given : List ℕ) → IsPartOf skip room given part.old.skip part.old.room part.old.size part.old.kept.items
+        → EndsAt (λ text. IsPartOf skip room text part.new.skip part.new.room part.new.size part.new.kept.items) (given ++ line.items) fault result }
+{
+    match part.take(&line) {
+        Ok(()) => Err(fault),
+        Err(AllocError) => Err(ToolFault::Memory),
     }
 }

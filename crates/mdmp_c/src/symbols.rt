@@ -1,9 +1,11 @@
 //! What a module tells of its symbol file.
 ghost use Rattle.std.specs.Prelude.{◌≡◌};
 ghost use Rattle.mdmp_wire.specs.CodeView.{codeview_of};
-ghost use Rattle.mdmp_c.specs.Symbols.{GivesSymbols, IsPlaceInside, RefusesPlace, place_location, symbols_row};
+ghost use Rattle.mdmp_c.specs.Limits.{AreLimits};
+ghost use Rattle.mdmp_c.specs.Symbols.{GivesSymbols, IsPlaceInside, RefusesLimits, RefusesPlace, place_location, symbols_row};
 
-use crate::fault::{NO_FAULT, PlainFault, of_kind};
+use crate::fault::{NO_FAULT, PlainFault, of_kind, status_of};
+use crate::limits::{PlainLimits, limits_of};
 use crate::parts::PartPlace;
 use mdmp_source::inside;
 use mdmp_wire::CodeView;
@@ -19,9 +21,9 @@ pub struct Symbols {
     pub kind: u32,
     /// Of the kind RSDS: how often the symbol file was written since it got its identity.
     pub age: u32,
-    /// How many bytes the name has, of no known encoding.
+    /// How many bytes the name has, or the longest name of the limits if it has more. They are of no known encoding.
     pub name_size: u32,
-    /// 1 where a zero byte ends the name, 0 where the record ends first.
+    /// 1 if a zero byte ends the name, 0 if the record or the limit on names ends first.
     pub name_ended: u32,
     /// Of the kind RSDS: the symbol file's identity, in the order in which it is printed.
     pub guid: [u8; 16],
@@ -44,17 +46,25 @@ const NO_SYMBOLS: Symbols = Symbols {
     reserved: [0; 3],
 };
 
-/// Gives what the CodeView record at a place tells, as the `codeview` of a module.
+/// Gives what the CodeView record at a place tells, as the `codeview` of a module. Of the name of a symbol file it reads
+/// no more bytes than the longest name of the limits has.
 #[unsafe(no_mangle)]
 pub extern "C" fn mdmp_symbols_(
     file: &[u8],
+    limits: &PlainLimits,
     place: &PartPlace,
     out: &mut Symbols,
     fault: &mut PlainFault,
 ) -> u32
-    ensures inside { IsPlaceInside file.now place.now → GivesSymbols file.now place.now result fault.new out.new }
-    ensures outside { (IsPlaceInside file.now place.now → ⊥) → RefusesPlace place.now result fault.new out.new }
+    ensures inside { AreLimits limits.now → IsPlaceInside file.now place.now → GivesSymbols file.now limits.now.name place.now result fault.new out.new }
+    ensures outside { AreLimits limits.now → (IsPlaceInside file.now place.now → ⊥) → RefusesPlace place.now result fault.new out.new }
+    ensures limits { (AreLimits limits.now → ⊥) → RefusesLimits result fault.new out.new }
 {
+    let Some(limits) = limits_of(limits) else {
+        *out = NO_SYMBOLS;
+        *fault = of_kind(67);
+        return status_of(fault);
+    };
     let at = u64::from(place.rva);
     let size = u64::from(place.size);
     if place.size == 0 || !inside(at, size, file.len() as u64) {
@@ -67,21 +77,26 @@ pub extern "C" fn mdmp_symbols_(
         };
         return 1;
     }
-    *out = symbols_at(file, place);
+    *out = symbols_at(file, place, limits.name);
     *fault = NO_FAULT;
     0
 }
 
-/// What the CodeView record at a place inside the file tells.
+/// What the CodeView record at a place inside the file tells, of whose name at most `limit` bytes are read.
 #[tactic(auto, unfolding(mdmp_wire::specs::Number::array_at))]
-fn symbols_at(file: &[u8], place: &PartPlace) -> Symbols
+fn symbols_at(file: &[u8], place: &PartPlace, limit: u32) -> Symbols
     requires { IsPlaceInside file.now place.now }
-    ensures { result ≡ symbols_row place.now (codeview_of file.now (place_location place.now) place.now.size) }
+    ensures { result ≡ symbols_row place.now (codeview_of file.now (place_location place.now) limit) }
 {
     let start = place.rva as usize;
-    let end = start + place.size as usize;
-    let middle = start + (place.size as usize).min(24);
-    match CodeView::read(&file[start..middle], &file[middle..end], place.size) {
+    let size = place.size as usize;
+    let middle = start + size.min(24);
+    let rest = size.saturating_sub(24).min(limit as usize);
+    match CodeView::read(
+        &file[start..middle],
+        &file[middle..middle + rest],
+        place.size,
+    ) {
         CodeView::Rsds {
             guid,
             age,

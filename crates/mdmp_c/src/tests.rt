@@ -8,21 +8,25 @@ use crate::directory::mdmp_header_;
 use crate::fault::{NO_FAULT, PlainFault};
 use crate::fault_text::mdmp_fault_text_;
 use crate::header_rows::HeaderRow;
-use crate::limits::PlainLimits;
+use crate::index::{mdmp_index_, mdmp_read_index_};
+use crate::limits::{NO_LIMIT, PlainLimits};
 use crate::list_part::mdmp_list_part_;
 use crate::memory::{mdmp_memory_, mdmp_read_};
 use crate::records::mdmp_ranges_;
 use crate::rows::RangeRow;
 use crate::texts::{mdmp_check_, mdmp_list_};
 use crate::verdicts::mdmp_verdicts_;
+use mdmp_index::IndexSlot;
 use std::alloc::Global;
 use std::fmt::Debug;
 use std::process::Abort;
 
-const LIMITS: PlainLimits = PlainLimits {
+pub(crate) const LIMITS: PlainLimits = PlainLimits {
     window: 65536,
     name: 4096,
-    budget: 0,
+    budget: NO_LIMIT,
+    memory: NO_LIMIT,
+    aside: NO_LIMIT,
 };
 
 /// A system, whose name is that of its service pack.
@@ -40,7 +44,7 @@ const MEMORY64: [u8; 98] = *b"MDMP\x93\xa7\0\0\x01\0\0\0\x20\0\0\0\0\0\0\0\0\0\0
 \0\x20\0\0\0\0\0\0\x04\0\0\0\0\0\0\0ABCDEF";
 
 /// Asserts that what was found is what was expected.
-fn assert_same<T: PartialEq + Debug + Drop>(rt: &impl Abort, found: T, expected: T) {
+pub(crate) fn assert_same<T: PartialEq + Debug + Drop>(rt: &impl Abort, found: T, expected: T) {
     assert_eq!(rt; found, expected)
 }
 
@@ -161,6 +165,41 @@ fn memory_is_read_by_kept_ranges(rt: HostRuntime) {
     assert_same(&rt, by_all, by_kept);
 }
 
+/// Makes an index of two ranges of a file and reads six bytes at an address by it: both statuses and how many
+/// slots it has, and these bytes.
+fn read_by_index(file: &[u8], ranges: &[RangeRow; 2], address: u64) -> ((u32, u64, u32), [u8; 6]) {
+    let none = IndexSlot {
+        start: 0,
+        length: 0,
+        offset: 0,
+        owner: 0,
+    };
+    let mut slots = [none; 4];
+    let mut count = 0;
+    let mut fault = NO_FAULT;
+    let indexed = mdmp_index_(file, ranges, &mut slots, &mut count, &mut fault);
+    let mut out = [7; 6];
+    let mut known = [true; 6];
+    let given = count.min(4) as usize;
+    let status = mdmp_read_index_(
+        file,
+        &slots[..given],
+        address,
+        &mut out,
+        &mut known,
+        &mut fault,
+    );
+    ((indexed, count, status), out)
+}
+
+#[test]
+fn memory_is_read_by_an_index(rt: HostRuntime) {
+    let (told, kept) = ranges(rt.alloc(), &MEMORY64);
+    assert_same(&rt, told, (0, 2));
+    let by_index = read_by_index(&MEMORY64, &kept, 0xfff);
+    assert_same(&rt, by_index, ((0, 1, 0), *b"\0ABCD\0"));
+}
+
 /// Gives the header of a file: the status, how many streams it has, and the kind and the size of the fault.
 fn header(file: &[u8]) -> (u32, u32, u32, u64) {
     let mut header = HeaderRow {
@@ -194,22 +233,49 @@ fn a_small_window_is_a_bad_limit(rt: HostRuntime) {
     assert_same(&rt, checked, ((2, 0, 67), [7; 4]));
 }
 
-/// Lists a file within a budget: the status, and the kind, the offset and the size of the fault.
-fn list_within(alloc: Global, file: &[u8], budget: u64) -> (u32, u32, u64, u64) {
+/// Lists a file within limits: the status, and the kind, the offset and the size of the fault.
+fn list_within(alloc: Global, file: &[u8], limits: PlainLimits) -> (u32, u32, u64, u64) {
     let mut out = [7; 400];
     let mut size = 0;
     let mut fault = NO_FAULT;
-    let limits = PlainLimits { budget, ..LIMITS };
     let status = mdmp_list_(alloc, file, &limits, false, &mut out, &mut size, &mut fault);
     (status, fault.kind, fault.offset, fault.size)
 }
 
 #[test]
 fn a_budget_ends_a_listing(rt: HostRuntime) {
-    assert_same(&rt, list_within(rt.alloc(), &SYSTEM, 31), (3, 71, 0, 32));
-    assert_same(&rt, list_within(rt.alloc(), &SYSTEM, 43), (3, 71, 32, 12));
-    assert_same(&rt, list_within(rt.alloc(), &SYSTEM, 131), (3, 71, 104, 28));
-    assert_same(&rt, list_within(rt.alloc(), &SYSTEM, 132), (0, 0, 0, 0));
+    let rows = [
+        (0, (5, 71, 0, 32)),
+        (31, (5, 71, 0, 32)),
+        (43, (5, 71, 32, 12)),
+        (131, (5, 71, 104, 28)),
+        (132, (0, 0, 0, 0)),
+    ];
+    for (budget, told) in rows {
+        let limits = PlainLimits { budget, ..LIMITS };
+        assert_same(&rt, list_within(rt.alloc(), &SYSTEM, limits), told);
+    }
+}
+
+#[test]
+fn a_limit_of_memory_refuses_a_file(rt: HostRuntime) {
+    // A window of 65536 bytes, an entry of 12, and a name of 4096.
+    for (memory, told) in [(69644, (0, 0, 0, 0)), (69643, (5, 72, 0, 69644))] {
+        let limits = PlainLimits { memory, ..LIMITS };
+        assert_same(&rt, list_within(rt.alloc(), &SYSTEM, limits), told);
+    }
+}
+
+#[test]
+fn limits_of_zeros_are_bad(rt: HostRuntime) {
+    let zeros = PlainLimits {
+        window: 0,
+        name: 0,
+        budget: 0,
+        memory: 0,
+        aside: 0,
+    };
+    assert_same(&rt, list_within(rt.alloc(), &SYSTEM, zeros), (2, 67, 0, 0));
 }
 
 /// The fault of `SYSTEM` where the bytes of its name are cut off.
@@ -269,9 +335,9 @@ fn budget_reached(offset: u64, size: u64) -> PlainFault {
 fn a_budget_ends_verdicts(rt: HostRuntime) {
     let mut verdicts = [budget_reached(0, 0); 2];
     let judged = judge_within(rt.alloc(), 31, &mut verdicts);
-    assert_same(&rt, judged, ((3, 0), budget_reached(0, 32)));
+    assert_same(&rt, judged, ((5, 0), budget_reached(0, 32)));
     let judged = judge_within(rt.alloc(), 147, &mut verdicts);
-    assert_same(&rt, judged, ((3, 1), budget_reached(148, 4)));
+    assert_same(&rt, judged, ((5, 1), budget_reached(148, 4)));
     assert_same(&rt, verdicts, [NO_FAULT, budget_reached(0, 0)]);
     let judged = judge_within(rt.alloc(), 147, &mut []);
     assert_same(&rt, judged, ((4, 1), budget_reached(148, 4)));

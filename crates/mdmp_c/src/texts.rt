@@ -1,15 +1,16 @@
 //! Calls that give a text: the lines of `check` and of `list`, in either form.
 ghost use Rattle.mdmp_c.specs.Giving.{Ends, bad_limits};
-ghost use Rattle.mdmp_c.specs.Limits.{AreLimits, HasBudget};
+ghost use Rattle.mdmp_c.specs.Limits.{AreLimits, ReachesLimit};
 ghost use Rattle.mdmp_c.specs.Texts.{IsCheck, IsList};
 ghost use Rattle.mdmp_words.specs.declared.request.LineForm.TheVariants.{Json, Text};
 
 use crate::fault::{PlainFault, of_kind};
 use crate::giving::{give_or_want, refuse};
 use crate::limits::{PlainLimits, limits_of};
-use crate::tool_fault::{check_answer, list_answer};
+use crate::list_part::give_list;
+use crate::tool_fault::check_answer;
 use mdmp_source::{MemoryStore, WriteOut};
-use mdmp_tool::{LineForm, run_check, run_list};
+use mdmp_tool::{LineForm, run_check};
 use std::alloc::Global;
 
 /// Gives the text of `check`: a line for each entry, that it is good, or its first fault. `fault` tells
@@ -23,7 +24,7 @@ pub extern "C" fn mdmp_check_(
     size: &mut u64,
     fault: &mut PlainFault,
 ) -> u32
-    ensures { Ends (IsCheck Text file.now limits.now.name) (AreLimits limits.now) (HasBudget limits.now) bad_limits result size.new fault.new out.old out.new }
+    ensures { Ends (IsCheck Text file.now limits.now.name) (AreLimits limits.now) (ReachesLimit limits.now) bad_limits result size.new fault.new out.old out.new }
 {
     check_in(alloc, file, limits, LineForm::Text, out, size, fault)
 }
@@ -38,7 +39,7 @@ pub extern "C" fn mdmp_check_json_(
     size: &mut u64,
     fault: &mut PlainFault,
 ) -> u32
-    ensures { Ends (IsCheck Json file.now limits.now.name) (AreLimits limits.now) (HasBudget limits.now) bad_limits result size.new fault.new out.old out.new }
+    ensures { Ends (IsCheck Json file.now limits.now.name) (AreLimits limits.now) (ReachesLimit limits.now) bad_limits result size.new fault.new out.old out.new }
 {
     check_in(alloc, file, limits, LineForm::Json, out, size, fault)
 }
@@ -55,7 +56,7 @@ pub extern "C" fn mdmp_list_(
     size: &mut u64,
     fault: &mut PlainFault,
 ) -> u32
-    ensures { Ends (IsList Text pdb file.now limits.now.name) (AreLimits limits.now) (HasBudget limits.now) bad_limits result size.new fault.new out.old out.new }
+    ensures { Ends (IsList Text pdb file.now limits.now.name) (AreLimits limits.now) (ReachesLimit limits.now) bad_limits result size.new fault.new out.old out.new }
 {
     list_in(alloc, file, limits, LineForm::Text, pdb, out, size, fault)
 }
@@ -71,7 +72,7 @@ pub extern "C" fn mdmp_list_json_(
     size: &mut u64,
     fault: &mut PlainFault,
 ) -> u32
-    ensures { Ends (IsList Json pdb file.now limits.now.name) (AreLimits limits.now) (HasBudget limits.now) bad_limits result size.new fault.new out.old out.new }
+    ensures { Ends (IsList Json pdb file.now limits.now.name) (AreLimits limits.now) (ReachesLimit limits.now) bad_limits result size.new fault.new out.old out.new }
 {
     list_in(alloc, file, limits, LineForm::Json, pdb, out, size, fault)
 }
@@ -86,7 +87,7 @@ fn check_in(
     size: &mut u64,
     fault: &mut PlainFault,
 ) -> u32
-    ensures { Ends (IsCheck form file.now limits.now.name) (AreLimits limits.now) (HasBudget limits.now) bad_limits result size.new fault.new out.old out.new }
+    ensures { Ends (IsCheck form file.now limits.now.name) (AreLimits limits.now) (ReachesLimit limits.now) bad_limits result size.new fault.new out.old out.new }
 {
     let Some(limits) = limits_of(limits) else {
         return refuse(of_kind(67), size, fault);
@@ -108,13 +109,7 @@ fn list_in(
     size: &mut u64,
     fault: &mut PlainFault,
 ) -> u32
-    ensures { Ends (IsList form pdb file.now limits.now.name) (AreLimits limits.now) (HasBudget limits.now) bad_limits result size.new fault.new out.old out.new }
+    ensures { Ends (IsList form pdb file.now limits.now.name) (AreLimits limits.now) (ReachesLimit limits.now) bad_limits result size.new fault.new out.old out.new }
 {
-    let Some(limits) = limits_of(limits) else {
-        return refuse(of_kind(67), size, fault);
-    };
-    let mut text = WriteOut::new(Vec::new(alloc));
-    let answer = run_list(alloc, MemoryStore::new(file), limits, form, pdb, &mut text);
-    let text = text.into_inner();
-    give_or_want(list_answer(answer), &text, out, size, fault)
+    give_list(alloc, file, limits, form, pdb, 0, out, size, fault)
 }

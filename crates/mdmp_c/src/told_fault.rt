@@ -91,7 +91,7 @@ fn reading_in(fault: &PlainFault) -> Option<ReadFault>
     }
 }
 
-/// A fault of the copy, want of memory, or the fetch budget.
+/// A fault of the copy, that memory ran out, or that a limit was reached.
 fn rest_in(fault: &PlainFault) -> Option<ToolFault>
     ensures { result ≡ rest_in fault.now }
 {
@@ -103,6 +103,16 @@ fn rest_in(fault: &PlainFault) -> Option<ToolFault>
         71 => Some(ToolFault::Budget {
             offset: fault.offset,
             size: fault.size,
+        }),
+        72 => Some(ToolFault::MemoryLimit {
+            held: whole(fault.high, fault.size),
+        }),
+        73 => Some(ToolFault::AsideLimit {
+            offset: fault.offset,
+            size: fault.size,
+        }),
+        74 => Some(ToolFault::CopyBudget {
+            needed: whole(fault.high, fault.size),
         }),
         _ => None,
     }

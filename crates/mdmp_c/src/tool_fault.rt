@@ -2,7 +2,9 @@
 ghost use Rattle.std.specs.Prelude.{◌≡◌};
 ghost use Rattle.mdmp_c.specs.ToolFault.{check_answer, copy_answer, list_answer, part_number, read_fault, tool_fault};
 
-use crate::fault::{NO_FAULT, PlainFault, budget_fault, of_kind, open_fault, plain_list_fault};
+use crate::fault::{
+    NO_FAULT, PlainFault, budget_fault, of_kind, open_fault, plain_list_fault, wide_fault,
+};
 use mdmp_dump::{PartName, ReadFault};
 use mdmp_tool::ToolFault;
 use mdmp_writer::LayoutFault;
@@ -86,6 +88,13 @@ pub(crate) fn tool_fault(fault: ToolFault) -> PlainFault
         ToolFault::Out | ToolFault::Memory => of_kind(66),
         ToolFault::Source(_) => of_kind(69),
         ToolFault::Budget { offset, size } => budget_fault(offset, size),
+        ToolFault::MemoryLimit { held } => wide_fault(72, held),
+        ToolFault::AsideLimit { offset, size } => PlainFault {
+            offset,
+            size,
+            ..of_kind(73)
+        },
+        ToolFault::CopyBudget { needed } => wide_fault(74, needed),
     }
 }
 

@@ -1,7 +1,7 @@
 //! The call that gives verdicts.
 ghost use Rattle.std.specs.Prelude.{◌≡◌};
 ghost use Rattle.mdmp_c.specs.Giving.{Ends, bad_limits};
-ghost use Rattle.mdmp_c.specs.Limits.{AreLimits, HasBudget};
+ghost use Rattle.mdmp_c.specs.Limits.{AreLimits, ReachesLimit};
 ghost use Rattle.mdmp_c.specs.Verdicts.{AreVerdicts, ending_told};
 
 use crate::fault::{PlainFault, of_kind, open_fault, plain_list_fault};
@@ -27,7 +27,7 @@ pub extern "C" fn mdmp_verdicts_(
     count: &mut u64,
     fault: &mut PlainFault,
 ) -> u32
-    ensures { Ends (AreVerdicts file.now limits.now.name) (AreLimits limits.now) (HasBudget limits.now) bad_limits result count.new fault.new out.old out.new }
+    ensures { Ends (AreVerdicts file.now limits.now.name) (AreLimits limits.now) (ReachesLimit limits.now) bad_limits result count.new fault.new out.old out.new }
 {
     let Some(limits) = limits_of(limits) else {
         return refuse(of_kind(67), count, fault);

@@ -6,10 +6,29 @@ use std::io;
 use std::io::{ErrorKind, Read, Seek, SeekFrom, Write};
 use std::rt::Files;
 
-/// Counts a call in this cell, and fails with the one that has to.
-fn count(calls: &Cell<u64>, fail_at: u64) -> io::Result<()> {
-    let call = calls.get();
-    calls.set(call.wrapping_add(1));
+/// The calls of files of a runtime.
+#[derive(Drop)]
+pub struct FileCalls {
+    /// How many calls there were.
+    pub made: Cell<u64>,
+    /// How many bytes the reads among them asked for.
+    pub asked: Cell<u64>,
+}
+
+impl FileCalls {
+    /// No calls yet.
+    pub fn none() -> Self {
+        FileCalls {
+            made: Cell::new(0),
+            asked: Cell::new(0),
+        }
+    }
+}
+
+/// Counts a call, and fails with the one that has to.
+fn count(calls: &FileCalls, fail_at: u64) -> io::Result<()> {
+    let call = calls.made.get();
+    calls.made.set(call.wrapping_add(1));
     if call == fail_at {
         return Err(io::Error::from(ErrorKind::OutOfMemory));
     }
@@ -21,9 +40,8 @@ fn count(calls: &Cell<u64>, fail_at: u64) -> io::Result<()> {
 #[derive(Drop)]
 pub struct FailingSystem<'r, 'a, R> {
     pub rt: &'r R,
-    /// How many calls there were.
-    pub calls: &'a Cell<u64>,
-    /// Which of them fails.
+    pub calls: &'a FileCalls,
+    /// Which of the calls fails.
     pub fail_at: u64,
 }
 
@@ -31,7 +49,7 @@ pub struct FailingSystem<'r, 'a, R> {
 #[derive(Drop)]
 pub struct FailingFile<'a, F> {
     file: F,
-    calls: &'a Cell<u64>,
+    calls: &'a FileCalls,
     fail_at: u64,
 }
 
@@ -117,6 +135,8 @@ impl<F: OpenFile> OpenFile for FailingFile<'_, F> {
 impl<F: Read> Read for FailingFile<'_, F> {
     fn read(&mut self, buf: &mut [u8]) -> io::Result<usize> {
         count(self.calls, self.fail_at)?;
+        let asked = self.calls.asked.get();
+        self.calls.asked.set(asked.wrapping_add(buf.len() as u64));
         self.file.read(buf)
     }
 }

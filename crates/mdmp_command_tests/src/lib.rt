@@ -35,6 +35,8 @@ mod hex_words;
 #[cfg(test)]
 mod json;
 #[cfg(test)]
+mod limit_edges;
+#[cfg(test)]
 mod limit_words;
 #[cfg(test)]
 mod limits;
@@ -56,5 +58,7 @@ mod same;
 mod spread_files;
 #[cfg(test)]
 mod system_calls;
+#[cfg(test)]
+mod untrusted_words;
 #[cfg(test)]
 mod words;

@@ -5,7 +5,7 @@ use crate::same::assert_same_at;
 use mdmp_test_support::SYSTEM;
 
 /// Words of no command.
-const OF_NO_COMMAND: [&[&str]; 21] = [
+const OF_NO_COMMAND: [&[&str]; 24] = [
     &[],
     &["help", "none"],
     &[""],
@@ -26,7 +26,10 @@ const OF_NO_COMMAND: [&[&str]; 21] = [
     &["copy"],
     &["copy", "none.dmp"],
     &["copy", "none.dmp", "none"],
-    &["copy", "none.dmp", "none", "7", "--budget", "5"],
+    &["copy", "none.dmp", "none", "7", "--aside", "5"],
+    &["check", "none.dmp", "--aside", "5"],
+    &["hex", "none.dmp", "0x1000", "4", "--aside", "5"],
+    &["list", "none.dmp", "--untrusted=5"],
 ];
 
 #[test]
@@ -43,12 +46,15 @@ const SEVENTEEN_TYPES: [&str; 20] = [
 ];
 
 /// Words with a number out of its limits.
-const OUT_OF_LIMITS: [&[&str]; 9] = [
+const OUT_OF_LIMITS: [&[&str]; 12] = [
     &["check", "none.dmp", "--window", "167"],
     &["list", "none.dmp", "--window", "1073741825"],
     &["list", "none.dmp", "--name", "1073741825"],
     &["hex", "none.dmp", "0", "1", "--window", "167"],
     &["copy", "none.dmp", "none", "7", "--window", "167"],
+    &["check", "none.dmp", "--memory", "18446744073709551616"],
+    &["list", "none.dmp", "--aside", "18446744073709551616"],
+    &["copy", "none.dmp", "none", "7", "--budget", "x"],
     &["hex", "none.dmp", "0x", "1"],
     &["hex", "none.dmp", "0x00000000000000001", "1"],
     &["copy", "none.dmp", "none", "4294967296"],
@@ -66,7 +72,7 @@ fn numbers_out_of_their_limits_are_refused(rt: HostRuntime) {
 const MAKING: [&[&str]; 3] = [
     &["copy", "system.dmp", "unmade.dmp"],
     &["copy", "system.dmp", "unmade.dmp", "7", "--window", "167"],
-    &["copy", "system.dmp", "unmade.dmp", "7", "--budget", "5"],
+    &["copy", "system.dmp", "unmade.dmp", "7", "--aside", "5"],
 ];
 
 #[test]

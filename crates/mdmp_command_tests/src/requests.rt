@@ -156,7 +156,7 @@ fn one_to_sixteen_types_are_named(rt: HostRuntime) {
 }
 
 /// Words that `clap` refuses.
-const REFUSED: [&[&str]; 23] = [
+const REFUSED: [&[&str]; 28] = [
     &[],
     &[""],
     &["print", "a"],
@@ -169,6 +169,11 @@ const REFUSED: [&[&str]; 23] = [
     &["list", "a", "--window"],
     &["list", "a", "--window", "200", "--window", "200"],
     &["list", "-x"],
+    &["list", "a", "--memory"],
+    &["list", "a", "--memory", "5", "--memory", "5"],
+    &["list", "a", "--aside", "5", "--aside", "5"],
+    &["copy", "a", "b", "3", "--budget", "5", "--budget", "5"],
+    &["list", "a", "--untrusted", "--untrusted"],
     &["list", "a", "--json", "--json"],
     &["list", "a", "--json=x"],
     &["check", "a", "--pdb"],
@@ -203,7 +208,7 @@ fn assert_told(rt: &impl Abort, alloc: Global, words: &[&str], line: &str) {
 }
 
 /// Words that ask for help or the version, and a line of it.
-const ASKING: [AskedRow; 13] = [
+const ASKING: [AskedRow; 18] = [
     (&["--help"], "Usage: mdmp <COMMAND>\n"),
     (&["-h"], "Usage: mdmp <COMMAND>\n"),
     (&["help"], "Usage: mdmp <COMMAND>\n"),
@@ -221,6 +226,11 @@ const ASKING: [AskedRow; 13] = [
     (&["check", "--help"], "\n      --json "),
     (&["list", "--help"], "\n      --json "),
     (&["list", "--help"], "\n      --pdb "),
+    (&["list", "--help"], "\n      --aside <N> "),
+    (&["check", "--help"], "\n      --memory <N> "),
+    (&["hex", "--help"], "\n      --untrusted "),
+    (&["copy", "--help"], "\n      --budget <N> "),
+    (&["copy", "--help"], "\n      --untrusted "),
     (&["--version"], "mdmp 0.1.0\n"),
     (&["-V"], "mdmp 0.1.0\n"),
 ];

@@ -29,17 +29,17 @@ pub const SPREAD_SYSTEM: [FilePart; 4] = [
     (60_000, NAME),
 ];
 
-/// The same, where the length of the name stands at 56,380, at the end of the block that begins with the record,
+/// The same, where the length of the name stands at 40,508, at the end of the block that begins with the record,
 /// and its text behind that.
 pub const SPREAD_NAME: [FilePart; 4] = [
     HEADER,
     DIRECTORY,
     (
         40_000,
-        b"\x09\0\x06\0\x03\0\x04\x01\x06\0\0\0\x01\0\0\0\xb1\x1d\0\0\x02\0\0\0\x3c\xdc\0\0\0\x01\0\0\
+        b"\x09\0\x06\0\x03\0\x04\x01\x06\0\0\0\x01\0\0\0\xb1\x1d\0\0\x02\0\0\0\x3c\x9e\0\0\0\x01\0\0\
 \0\0\0\0\0\0\0\0\0\0\0\0\0\0\0\0\0\0\0\0\0\0\0\0",
     ),
-    (56_380, NAME),
+    (40_508, NAME),
 ];
 
 /// What `list` prints of both.

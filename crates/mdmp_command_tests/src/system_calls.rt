@@ -1,5 +1,5 @@
 //! Command lines over files of the system, of which each call fails in turn.
-use crate::failing_system::FailingSystem;
+use crate::failing_system::{FailingSystem, FileCalls};
 use crate::files::{is_there, remove_file, write_file};
 use crate::runs::{CommandEnd, ended, new_out, status_of};
 use crate::same::{assert_same, assert_same_at, assert_that};
@@ -7,7 +7,6 @@ use crate::spread_files::{SPREAD_MEMORY, SPREAD_NAME, SPREAD_SYSTEM, SPREAD_TEXT
 use mdmp_source::{FileStore, Store};
 use mdmp_test_support::{BY_SEVEN, MEMORY64, SYSTEM, SYSTEM_TEXT, WIDE_TEXT};
 use std::alloc::{Alloc, AllocGlobal, Global};
-use std::cell::Cell;
 use std::fs;
 use std::process::Abort;
 use std::rt::Files;
@@ -19,7 +18,7 @@ fn run_failing<R: Files + AllocGlobal + Abort>(
     words: &[&str],
     fail_at: u64,
 ) -> CommandEnd {
-    let calls = Cell::new(0);
+    let calls = FileCalls::none();
     let system = FailingSystem {
         rt,
         calls: &calls,
@@ -116,7 +115,7 @@ const NAME_LISTED: [(u64, &str); 5] = [
     (4, "mdmp: store failed at 0\n"),
     (6, "mdmp: store failed at 20000\n"),
     (8, "mdmp: store failed at 40000\n"),
-    (9, "mdmp: store failed at 56384\n"),
+    (9, "mdmp: store failed at 40512\n"),
 ];
 
 /// Behind the heads of the lists they are sought again, and then the memory.
@@ -243,7 +242,7 @@ fn each_call_behind_a_copy_may_fail(rt: HostRuntime) {
 
 /// How many bytes the file of this name has, where the call of this number fails.
 fn size_without<R: Files + AllocGlobal>(rt: &R, name: &str, fail_at: u64) -> Option<u64> {
-    let calls = Cell::new(0);
+    let calls = FileCalls::none();
     let system = FailingSystem {
         rt,
         calls: &calls,

@@ -28,7 +28,7 @@ use Rattle.mdmp_lister.specs.Format.Shape.{record_count}
 use Rattle.mdmp_lister.specs.FaultLaws.{follows_fits}
 use Rattle.mdmp_lister.specs.Lister.{IsRefusedIn, IsSameLister, ListerState, cursor_in, tail}
 use Rattle.mdmp_lister.specs.Stage.{stop_after}
-use Rattle.mdmp_lister.specs.Walk.Paying.{entry_cost, entry_cost_by}
+use Rattle.mdmp_lister.specs.Listed.{entry_cost, entry_cost_by}
 use Rattle.mdmp_lister.specs.Following.{IsBegun, Standing, begun as unread_head}
 use Rattle.mdmp_lister.specs.Step.{TellsAnswer}
 use Rattle.mdmp_lister.specs.Walker.{CountsRecords, GivesEntry, IsSought, IsSoughtAt, StepLeaves, WalkerLeaves, WalkerState, is_failed, records_answer, seeks}

@@ -1,5 +1,7 @@
+pub mod Asks
 pub mod Begun
 pub mod Budget
+pub mod Budgets
 pub mod Classed
 pub mod DumpRows
 pub mod Costs

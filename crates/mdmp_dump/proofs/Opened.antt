@@ -1,5 +1,5 @@
 -- What the opening of a file tells of the dump that it lays out.
-use Rattle.std.proofs.Common.{◌≡◌, ◌≤◌, ◌*◌, ℕ, List, length, Option, Some, None, Err, Bool, true, false, nat_lt, if◌then◌else◌, arith, ltb-false, refl, subst}
+use Rattle.std.proofs.Common.{◌≡◌, ◌≤◌, ◌<◌, ◌+◌, ◌*◌, ◌^◌, ℕ, List, length, Option, Some, None, Err, Bool, true, false, nat_lt, if◌then◌else◌, arith, ltb-false, refl, subst, sym}
 use Rattle.std.proofs.lemmas.Grind.{common_steps}
 use Rattle.std.specs.Prelude.{IfSome, IsTrue}
 use Rattle.mdmp_source.specs.Range.{is_inside}
@@ -14,12 +14,18 @@ use Rattle.mdmp_lister.specs.declared.fault.OpenFault.{OpenFault}
 use Rattle.mdmp_lister.specs.declared.fault.OpenFault.TheVariants as opening
 use Rattle.mdmp_lister.specs.Format.Listing.{entry_count}
 use Rattle.mdmp_lister.specs.Format.Refusal.{behind_directory, behind_header, directory_fault, directory_refusal, opening_fault}
-use Rattle.mdmp_lister.specs.Opening.{IsDirectoryRefusal, IsOpenRefusal, IsRefusalOf, IsUnread, IsUnreadFor, KeepsToBudget}
+use Rattle.mdmp_source.specs.Count.{raised}
+use Rattle.mdmp_lister.specs.Opening.{IsBareRefusal, IsDirectoryRefusal, IsOpenRefusal, IsRefusalOf, IsUnread, IsUnreadFor, KeepsToBudget}
+use Rattle.std.proofs.lemmas.Bool.Decides.{nat_tests}
+use Rattle.mdmp_lister.specs.Format.Bounds.{held_bound}
+use Rattle.mdmp_lister.specs.Memory.{IsWalkRefusal, TellsWalkMemory, is_within, memory_fault, walk_fault}
+use Rattle.mdmp_dump.specs.Opening.{FetchesWithin, IsLimited, IsNameless, IsShortOf, copy_fault, copy_held, half_of, opening_bound}
+use Rattle.mdmp_dump.proofs.Budgets.{over_more}
 use Rattle.mdmp_lister.specs.declared.limits.Limits.{Limits}
 use Rattle.mdmp_dump.specs.FileRefusal.{view_refusal}
 use Rattle.mdmp_dump.specs.declared.fault.ReadFault.{ReadFault}
 use Rattle.mdmp_dump.specs.declared.fault.ReadFault.TheVariants as faults
-use Rattle.mdmp_dump.specs.Reading.{Fetches, IsLastTold, IsOwn, IsWanting, MayBeTold, TellsOf, refusal_of, store_fault}
+use Rattle.mdmp_dump.specs.Reading.{Fetches, IsLastTold, IsWanting, MayBeTold, TellsOf, refusal_of, store_fault}
 use Rattle.mdmp_source.specs.declared.fault.SourceFault.{SourceFault}
 use Rattle.mdmp_source.specs.declared.fault.SourceFault.TheVariants.{Changed}
 use Rattle.mdmp_dump.specs.Refusal.{read_refusal}
@@ -70,6 +76,7 @@ pub opening-settles : (F : List ℕ) (choice : Choice) (limit parts : ℕ) (faul
 opening-settles F choice limit parts (opening.Source fault) is own = absurd (own tt)
 opening-settles F choice limit parts (opening.Budget offset size) is own = absurd (own tt)
 opening-settles F choice limit parts opening.Memory is own = absurd (own tt)
+opening-settles F choice limit parts (opening.MemoryLimit held) is own = absurd (own tt)
 opening-settles F choice limit parts fault is own = rw is refl
 
 -- a refusal does not tell a budget
@@ -81,13 +88,95 @@ pub tells_none : (limits : Limits) (old : SourceState) (fault : OpenFault) (new 
 tells_none limits old (opening.Budget at len) new none over = λ offset size same. let never : IsTrue false = rw none at over.over.passes in cc never
 tells_none limits old fault new none over = λ offset size same. cc same
 
--- and that of its view, for which no ranges are counted and there is no budget
-pub directory-settles : (F : List ℕ) (choice : Choice) (names : ℕ) (fault : OpenFault) → TellsNone fault → IsDirectoryRefusal F fault
-    → (IsOwn (refusal_of fault) → ⊥) → view_refusal F choice names ≡ Some (refusal_of fault)
-directory-settles F choice names (opening.Source fault) none is own = absurd (own (fault, refl))
-directory-settles F choice names (opening.Budget offset size) none is own = absurd (none offset size refl)
-directory-settles F choice names opening.Memory none is own = absurd (own tt)
-directory-settles F choice names fault none is own = rw is refl
+-- and that of its view, for which no ranges are counted
+pub directory-settles : (F : List ℕ) (choice : Choice) (names : ℕ) (fault : OpenFault) → IsDirectoryRefusal F fault
+    → (IsWanting (refusal_of (copy_fault fault)) → ⊥) → view_refusal F choice names ≡ Some (refusal_of (copy_fault fault))
+directory-settles F choice names (opening.Source fault) is own = absurd (own tt)
+directory-settles F choice names (opening.Budget offset size) is own = absurd (own tt)
+directory-settles F choice names opening.Memory is own = absurd (own tt)
+directory-settles F choice names (opening.MemoryLimit held) is own = absurd (own tt)
+directory-settles F choice names fault is own = rw is refl
+
+-- ---- what a copy tells of memory
+
+pub copied_refusal : (F : List ℕ) (fault : OpenFault) → IsDirectoryRefusal F fault → IsDirectoryRefusal F (copy_fault fault)
+copied_refusal F (opening.MemoryLimit held) is = is
+copied_refusal F fault is = is
+
+pub copied_unread : (fault : OpenFault) (old new : SourceState) → IsUnreadFor fault old new → IsUnreadFor (copy_fault fault) old new
+copied_unread (opening.MemoryLimit held) old new is = is
+copied_unread fault old new is = is
+
+pub copied_good : (fault : OpenFault) → (IsUnread fault → ⊥) → IsUnread (copy_fault fault) → ⊥
+copied_good (opening.MemoryLimit held) never is = never is
+copied_good fault never is = never is
+
+pub copied_open : (size : ℕ) (fault : OpenFault) → IsOpenRefusal size fault → IsOpenRefusal size (copy_fault fault)
+copied_open size (opening.MemoryLimit held) is = is
+copied_open size fault is = is
+
+pub copied_bare : (size : ℕ) (fault : OpenFault) → IsBareRefusal size fault → IsBareRefusal size (copy_fault fault)
+copied_bare size (opening.MemoryLimit held) is = is
+copied_bare size fault is = is
+
+pub copied_none : (fault : OpenFault) → TellsNone fault → TellsNone (copy_fault fault)
+copied_none (opening.MemoryLimit held) none = λ offset size same. cc same
+copied_none fault none = none
+
+-- twice as much is within a limit where that is within half of it
+twice_within : (memory : Option ℕ) (n : ℕ) → is_within (half_of memory) n ≡ true → is_within memory (2 * n) ≡ true
+twice_within None n is = refl
+twice_within (Some most) n is = grind (arith, nat_tests, is)
+
+twice_over : (memory : Option ℕ) (n : ℕ) → is_within (half_of memory) n ≡ false → is_within memory (2 * n) ≡ false
+twice_over None n is = is
+twice_over (Some most) n is = grind (arith, nat_tests, is)
+
+module _ (limits nameless : Limits) (halved : IsNameless limits nameless) where
+  twice_held : (entries : ℕ) → 2 * held_bound nameless.window nameless.name entries 0 ≡ copy_held limits.window entries
+  twice_held entries = omega (arith, halved.window, halved.name)
+
+  pub copy_within : (entries : ℕ) → is_within nameless.memory (held_bound nameless.window nameless.name entries 0) ≡ true → is_within limits.memory (copy_held limits.window entries) ≡ true
+  copy_within entries is =
+      let half : is_within (half_of limits.memory) (held_bound nameless.window nameless.name entries 0) ≡ true = subst (λ (m : Option ℕ). is_within m (held_bound nameless.window nameless.name entries 0) ≡ true) halved.memory is in
+      subst (λ (n : ℕ). is_within limits.memory n ≡ true) (twice_held entries) (twice_within limits.memory (held_bound nameless.window nameless.name entries 0) half)
+
+  held_of : (F : List ℕ) (held : ℕ) → directory_refusal F ≡ None → walk_fault nameless F ≡ Some (opening.MemoryLimit held) → held ≡ held_bound nameless.window nameless.name (entry_count F) 0
+  held_of F held opens is =
+      let told : memory_fault nameless.memory (held_bound nameless.window nameless.name (entry_count F) 0) ≡ Some (opening.MemoryLimit held) = rw opens at is in
+      by (is_within nameless.memory (held_bound nameless.window nameless.name (entry_count F) 0)) told where
+        by : (b : Bool) → (if b then None else Some (opening.MemoryLimit (held_bound nameless.window nameless.name (entry_count F) 0))) ≡ Some (opening.MemoryLimit held) → held ≡ held_bound nameless.window nameless.name (entry_count F) 0
+        by true none = absurd (cc none)
+        by false some = let same = some in cc
+
+  -- it is told only where a copy would hold more
+  pub limited : (old : SourceState) (fault : OpenFault) (new : SourceState) → old.size < 2 ^ 64 → TellsWalkMemory nameless old fault new → ((F : List ℕ) → old.store.content ≡ Some F → IsDirectoryRefusal F fault)
+      → ((F : List ℕ) → old.store.content ≡ Some F → IsWalkRefusal nameless F fault) → IsLimited limits old.store.content (refusal_of (copy_fault fault))
+  limited old (opening.MemoryLimit held) new small over opens within =
+      let window = limits.window_most in
+      let twice : raised held held ≡ 2 * held = omega (arith, over.held_is, over.inside, small, halved.window, halved.name, window) in
+      let half : is_within (half_of limits.memory) held ≡ false = subst (λ (m : Option ℕ). is_within m held ≡ false) halved.memory over.over in (
+        subst (λ (n : ℕ). is_within limits.memory n ≡ false) (sym twice) (twice_over limits.memory held half),
+        λ F known. (opens F known, omega (arith, twice, held_of F held (opens F known) (within F known), halved.window, halved.name)),
+      )
+  limited old opening.Memory new small over opens within = tt
+  limited old fault new small over opens within = tt
+
+-- ---- what an opening spends of a budget
+
+pub kept_fetches : (limits : Limits) (old : SourceState) (fault : OpenFault) (new : SourceState) → KeepsToBudget limits old fault new → FetchesWithin limits.budget old new
+kept_fetches limits old fault new kept most is =
+    let within : nat_lt most kept.fetched ≡ false = rw is at kept.kept in
+    omega (arith, ltb-false most kept.fetched within, kept.spent)
+
+pub opening_short : (limits : Limits) (old : SourceState) (fault : OpenFault) (new : SourceState) → KeepsToBudget limits old fault new → (F : List ℕ) (choice : Choice) → old.store.content ≡ Some F
+    → IsShortOf limits.budget F choice (refusal_of (copy_fault fault))
+opening_short limits old (opening.Budget offset size) new kept F choice known =
+    let over = kept.over in
+    over_more limits.budget (raised kept.fetched size) (opening_bound F choice + 16 * entry_count F) (omega (arith, over.bound, over.known F known)) over.passes
+opening_short limits old opening.Memory new kept F choice known = tt
+opening_short limits old (opening.MemoryLimit held) new kept F choice known = tt
+opening_short limits old fault new kept F choice known = tt
 
 -- of which a fault of the store is told as such
 pub opening-fetches : {T : Type 0} (n : ℕ) (fault : OpenFault) (old new : SourceState) → FetchesAtMost n old new → IsUnreadFor fault old new

@@ -1,5 +1,5 @@
 -- A view of a file that was opened.
-use Rattle.std.proofs.Common.{◌≡◌, ◌∙◌, ◌≤◌, ◌<◌, ◌+◌, ◌*◌, ◌^◌, ℕ, List, [], length, Option, Some, None, ap, arith, get_or, inl, inr, map, refl, subst, sum, sym}
+use Rattle.std.proofs.Common.{◌≡◌, ◌∙◌, ◌≤◌, ◌<◌, ◌+◌, ◌*◌, ◌^◌, ◌⊎◌, ℕ, List, [], length, Option, Some, None, ap, arith, get_or, inl, inr, ltb-false, map, refl, subst, sum, sym}
 use Rattle.std.proofs.lemmas.Bool.{cases_lt}
 use Rattle.std.specs.Prelude.{IsTrue}
 use Rattle.mdmp_source.specs.Count.{raised}
@@ -9,15 +9,20 @@ use Rattle.mdmp_lister.specs.declared.choice.Choice.{Choice}
 use Rattle.mdmp_lister.specs.declared.fault.OpenFault.{OpenFault}
 use Rattle.mdmp_lister.specs.Format.Listing.{Numbered, chosen, entry_count}
 use Rattle.mdmp_lister.specs.Format.Refusal.{directory_refusal}
+use Rattle.mdmp_lister.specs.Meter.{KeepsTo}
 use Rattle.mdmp_lister.specs.Opening.{IsHandedBackBare}
+use Rattle.mdmp_lister.specs.declared.fault.OpenFault.TheVariants as opening
+use Rattle.mdmp_lister.specs.declared.limits.Limits.{Limits}
 use Rattle.mdmp_dump.specs.declared.fault.ReadFault.{ReadFault}
+use Rattle.mdmp_dump.specs.declared.fault.ReadFault.TheVariants as faults
 use Rattle.mdmp_dump.specs.EntryWalk.{IsOpenedWalk, MayCount, WalkState, chosen_entry, kind_by}
-use Rattle.mdmp_dump.specs.FileRefusal.{run_told, view_refusal}
-use Rattle.mdmp_dump.specs.FileView.{AreBare, AreCounted, AreWalked, IsViewPaid, IsView, IsViewed, PaysAll, PaysSome, costs_in, file_shape, kind_at, opening_cost, pass_cost_in, room_told, shape_by}
+use Rattle.mdmp_dump.specs.FileRefusal.{IsOfOpening, run_told, view_refusal}
+use Rattle.mdmp_dump.specs.FileView.{AreBare, AreCounted, AreWalked, IsShortAt, IsViewPaid, IsView, IsViewed, KeepsAll, PaysAll, PaysSome, asks_in, costs_in, file_shape, kind_at, opening_cost, pass_cost_in, room_told, shape_by}
 use Rattle.mdmp_dump.specs.InFile.{dump_in, stream_named}
 use Rattle.mdmp_dump.specs.Left.{run_of}
-use Rattle.mdmp_dump.specs.Opening.{HasSpentOpening, opening_bound}
+use Rattle.mdmp_dump.specs.Opening.{HasSpentOpening, IsLimited, IsShortOf, copy_bound, opening_bound}
 use Rattle.mdmp_dump.specs.Shape.{GivesNone, IsViewOf}
+use Rattle.mdmp_dump.proofs.Budgets.{over_tells}
 use Rattle.mdmp_dump.proofs.Costs.{costs_are}
 use Rattle.mdmp_dump.proofs.Moving.{content_before, entry_stays, opening_stays}
 use Rattle.mdmp_dump.proofs.Refusals.{none_told, opened_run}
@@ -121,6 +126,27 @@ module _ (Z : Type 0) (source : SourceState) (window limit : ℕ) (choice : Choi
       let all : sum (costs_in v.chosen counts) ≡ sum (map (pass_cost_in F) (chosen F choice)) = ap sum (costs ∙ ap (map (pass_cost_in F)) chosen_are) in
       omega (arith, entries, all)
 
+  -- what a copy of it needs is what a copy of the file may fetch
+  pub view_needs : (F : List ℕ) → source.store.content ≡ Some F → (costs asks needed : ℕ) → costs ≡ sum (costs_in w.chosen counts) → costs ≤ 2 ^ 100 → asks ≡ raised 0 (asks_in Z F w.chosen)
+      → needed ≡ raised (32 + 12 * v.header.number_of_streams + 3 * costs) asks → needed ≡ raised 0 (copy_bound Z F choice)
+  view_needs F known costs asks needed sum_is few asks_are is =
+      let opened_of = view_cost F known in
+      let first = opened.header_is F known in
+      let entries : v.header.number_of_streams ≡ entry_count F = ap (λ h. h.number_of_streams) (pays.same.header ∙ first) in
+      let asked : asks_in Z F w.chosen ≡ asks_in Z F (chosen F choice) = ap (asks_in Z F) (opened.chosen_are F known) in
+      let whole : opening_cost w counts ≡ 32 + 12 * w.header.number_of_streams + sum (costs_in w.chosen counts) = refl in
+      let same : w.header.number_of_streams ≡ v.header.number_of_streams = ap (λ h. h.number_of_streams) (sym pays.same.header) in
+      let bound : opening_bound F choice ≡ 32 + 12 * entry_count F + sum (map (pass_cost_in F) (chosen F choice)) = refl in
+      omega (arith, opened_of, costs_same, whole, same, bound, entries, asked, sum_is, few, light, opened.held, asks_are, is)
+
+  -- and no less than three passes over each stream cost
+  pub view_needed : (costs asks needed : ℕ) → costs ≡ sum (costs_in w.chosen counts) → needed ≡ raised (32 + 12 * v.header.number_of_streams + 3 * costs) asks
+      → opening_cost v counts + 2 * sum (costs_in v.chosen counts) ≤ needed
+  view_needed costs asks needed sum_is is =
+      let same : sum (costs_in v.chosen counts) ≡ sum (costs_in w.chosen counts) = ap (λ (xs : List Numbered). sum (costs_in xs counts)) pays.same.chosen in
+      let whole : opening_cost v counts ≡ 32 + 12 * v.header.number_of_streams + sum (costs_in v.chosen counts) = refl in
+      omega (arith, same, whole, sum_is, is)
+
   pub view_start : v.start ≡ source.fetched
   view_start = pays.same.start ∙ opened.start
 
@@ -148,9 +174,9 @@ head_spent source left choice fault back = record {
 }
 
 -- a stream was, behind some others
-module _ (source : SourceState) (window : ℕ) (choice : Choice) (w v : WalkState) (opened : IsOpenedWalk source window choice w) (some : PaysSome w v) where
-  pub walk_spent : (left : SourceState) → left.fetched ≡ raised v.start (v.fetched + v.aside) → (v.names + 1 < 2 ^ 128 → v.fetched ≤ v.allowed) → HasSpentOpening choice source left
-  walk_spent left booked most = record {
+module _ (source : SourceState) (window : ℕ) (choice : Choice) (w v : WalkState) (opened : IsOpenedWalk source window choice w) where
+  pub walk_spent : PaysSome w v → (left : SourceState) → left.fetched ≡ raised v.start (v.fetched + v.aside) → (v.names + 1 < 2 ^ 128 → v.fetched ≤ v.allowed) → HasSpentOpening choice source left
+  walk_spent some left booked most = record {
     entries = w.header.number_of_streams;
     chosen_are = w.chosen;
     reached = some.reached;
@@ -164,3 +190,53 @@ module _ (source : SourceState) (window : ℕ) (choice : Choice) (w v : WalkStat
         let passes : sum (map (pass_cost_in F) w.chosen) ≡ sum (map (pass_cost_in F) (chosen F choice)) = ap (λ (xs : List Numbered). sum (map (pass_cost_in F) xs)) (opened.chosen_are F known) in
         omega (arith, entries, passes, some.few F (opened.fetches.fetches.same_content ∙ known));
   }
+
+  -- what was fetched is within a budget that the opening of the walk and the walk kept to
+  module _ (budget : Option ℕ) (kept : KeepsTo budget w.fetched) (keeps : (v ≡ w) ⊎ KeepsAll budget w v) (most : ℕ) (is : budget ≡ Some most) where
+    not_over : (n : ℕ) → KeepsTo budget n → n ≤ most
+    not_over n within = ltb-false most n (rw is at within)
+
+    -- as the view counts it, which stops at the greatest
+    pub walk_kept : (told : ℕ) → told ≡ raised v.fetched v.aside → told < 2 ^ 128 → (v.names + 1 < 2 ^ 128 → v.fetched ≤ v.allowed) → told ≤ most
+    walk_kept told count small allowed = elim keeps [
+      | inl same ↦
+          let fetched : v.fetched ≡ w.fetched = ap (λ (u : WalkState). u.fetched) same in
+          let aside : v.aside ≡ w.aside = ap (λ (u : WalkState). u.aside) same in
+          omega (arith, count, fetched, aside, opened.aside, not_over w.fetched kept)
+      | inr all ↦
+          let room = not_over (opening_cost w all.reached) all.kept in
+          elim (cases_lt (v.names + 1) (2 ^ 128)) [
+            | inl few ↦ omega (arith, count, allowed few, all.pays.allowed few, opened.allowed, all.pays.aside, opened.aside, room)
+            | inr many ↦ omega (arith, many, small, all.pays.reached, opened.names, room)
+          ]
+    ]
+
+    -- and as its source does
+    pub walk_within : (left : SourceState) → left.fetched ≡ raised v.start (v.fetched + v.aside) → (v.names + 1 < 2 ^ 128 → v.fetched ≤ v.allowed) → left.fetched ≤ source.fetched + most
+    walk_within left booked allowed = elim keeps [
+      | inl same ↦
+          let fetched : v.fetched ≡ w.fetched = ap (λ (u : WalkState). u.fetched) same in
+          let aside : v.aside ≡ w.aside = ap (λ (u : WalkState). u.aside) same in
+          let start : v.start ≡ w.start = ap (λ (u : WalkState). u.start) same in
+          omega (arith, booked, fetched, aside, start, opened.start, opened.aside, not_over w.fetched kept)
+      | inr all ↦
+          let room = not_over (opening_cost w all.reached) all.kept in
+          elim (cases_lt (v.names + 1) (2 ^ 128)) [
+            | inl few ↦ omega (arith, booked, allowed few, all.pays.allowed few, opened.allowed, all.pays.aside, opened.aside, all.pays.same.start, opened.start, room)
+            | inr many ↦ omega (arith, many, booked, all.pays.reached, opened.names, all.pays.same.start, opened.start, room)
+          ]
+    ]
+
+-- a budget that ends the walk has no room for what the opening may fetch
+pub walk_short : (source : SourceState) (window : ℕ) (choice : Choice) (w : WalkState) → IsOpenedWalk source window choice w → (budget : Option ℕ) (F : List ℕ) → source.store.content ≡ Some F → (fault : ReadFault)
+    → IsShortAt budget (32 + 12 * w.header.number_of_streams + sum (map (pass_cost_in F) w.chosen)) fault → IsShortOf budget F choice fault
+walk_short source window choice w opened budget F known fault over =
+    let entries : w.header.number_of_streams ≡ entry_count F = ap (λ h. h.number_of_streams) (opened.header_is F known) in
+    let passes : sum (map (pass_cost_in F) w.chosen) ≡ sum (map (pass_cost_in F) (chosen F choice)) = ap (λ (xs : List Numbered). sum (map (pass_cost_in F) xs)) (opened.chosen_are F known) in
+    over_tells budget (32 + 12 * w.header.number_of_streams + sum (map (pass_cost_in F) w.chosen)) (opening_bound F choice + 16 * entry_count F) fault (omega (arith, entries, passes)) over
+
+-- the limit of memory is not told of a walk
+pub walk_limited : (limits : Limits) (content : Option (List ℕ)) (budget : Option ℕ) (fault : ReadFault) → IsOfOpening budget fault → IsLimited limits content fault
+walk_limited limits content budget (faults.Opening (opening.Budget offset size)) is = tt
+walk_limited limits content budget (faults.Opening fault) is = absurd is
+walk_limited limits content budget fault is = tt

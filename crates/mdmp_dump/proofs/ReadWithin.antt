@@ -1,15 +1,18 @@
 -- A reading that ends within a budget or none.
-use Rattle.std.proofs.Common.{◌≡◌, ◌⊎◌, inl, inr, ℕ, Option, Some, None, Err, refl, subst, sym}
+use Rattle.std.proofs.Common.{◌≡◌, ◌⊎◌, inl, inr, ℕ, List, Option, Some, None, Err, refl, subst, sym}
 use Rattle.mdmp_source.specs.Source.{SourceState}
 use Rattle.mdmp_lister.specs.declared.fault.FaultKind.{FaultKind}
 use Rattle.mdmp_lister.specs.declared.fault.FaultKind.TheVariants as kinds
 use Rattle.mdmp_lister.specs.declared.fault.ListFault.{ListFault}
 use Rattle.mdmp_lister.specs.declared.fault.OpenFault.{OpenFault}
 use Rattle.mdmp_lister.specs.declared.fault.OpenFault.TheVariants as opening
+use Rattle.mdmp_lister.specs.declared.choice.Choice.{Choice}
+use Rattle.mdmp_lister.specs.declared.limits.Limits.{Limits}
+use Rattle.mdmp_lister.specs.Memory.{IsRefusalWithin, TellsMemory}
 use Rattle.mdmp_dump.specs.FileRefusal.{IsUnbudgeted}
 use Rattle.mdmp_dump.specs.declared.fault.ReadFault.{ReadFault}
 use Rattle.mdmp_dump.specs.declared.fault.ReadFault.TheVariants as faults
-use Rattle.mdmp_dump.specs.Reading.{Fetches, IsWithoutBudget, Settles, listed_within, opened_within, read_within, refusal_of}
+use Rattle.mdmp_dump.specs.Reading.{Fetches, IsWithoutBudget, Settles, TellsLimit, listed_within, opened_within, read_within, refusal_of}
 use Rattle.mdmp_dump.proofs.Opened.{TellsNone}
 use Rattle.mdmp_dump.proofs.Taking.{Fetches_memory}
 
@@ -22,6 +25,8 @@ listed-either None kind fault = inl refl
 
 opened-either : (budget : Option ℕ) (fault : OpenFault) → (opened_within budget fault ≡ faults.Opening fault) ⊎ (opened_within budget fault ≡ faults.Memory)
 opened-either None (opening.Budget offset size) = inr refl
+opened-either None (opening.MemoryLimit held) = inr refl
+opened-either (Some budget) (opening.MemoryLimit held) = inr refl
 opened-either (Some budget) (opening.Budget offset size) = inl refl
 opened-either (Some budget) fault = inl refl
 opened-either None fault = inl refl
@@ -38,6 +43,7 @@ listed-without fault kind is = subst IsUnbudgeted (sym is) tt
 
 opened-without : (fault : OpenFault) → IsWithoutBudget (opened_within None fault)
 opened-without (opening.Budget offset size) = tt
+opened-without (opening.MemoryLimit held) = tt
 opened-without fault = tt
 
 pub without : (fault : ReadFault) → IsWithoutBudget (read_within None fault)
@@ -50,6 +56,33 @@ pub refusal-without : (fault : OpenFault) → TellsNone fault → IsWithoutBudge
 refusal-without (opening.Budget offset size) none = absurd (none offset size refl)
 refusal-without opening.Memory none = tt
 refusal-without fault none = tt
+
+-- the limit of memory is told by the opening
+pub opening-limited : (limits : Limits) (choice : Choice) (old : SourceState) (fault : OpenFault) (new : SourceState) → TellsMemory limits old fault new
+    → ((file : List ℕ) → old.store.content ≡ Some file → IsRefusalWithin limits file choice fault) → TellsLimit limits choice old.store.content (refusal_of fault)
+opening-limited limits choice old (opening.MemoryLimit held) new over within = (over.1.1.over, within)
+opening-limited limits choice old opening.Memory new over within = tt
+opening-limited limits choice old fault new over within = tt
+
+-- and not behind it
+opened-limited : (limits : Limits) (choice : Choice) (content : Option (List ℕ)) (budget : Option ℕ) (fault : OpenFault) → TellsLimit limits choice content (opened_within budget fault)
+opened-limited limits choice content None (opening.Budget offset size) = tt
+opened-limited limits choice content (Some budget) (opening.Budget offset size) = tt
+opened-limited limits choice content None (opening.MemoryLimit held) = tt
+opened-limited limits choice content (Some budget) (opening.MemoryLimit held) = tt
+opened-limited limits choice content None fault = tt
+opened-limited limits choice content (Some budget) fault = tt
+
+listed-limited : (limits : Limits) (choice : Choice) (content : Option (List ℕ)) (budget : Option ℕ) (kind : FaultKind) (fault : ListFault) → TellsLimit limits choice content (listed_within budget kind fault)
+listed-limited limits choice content None kinds.Budget fault = tt
+listed-limited limits choice content (Some budget) kinds.Budget fault = tt
+listed-limited limits choice content None kind fault = tt
+listed-limited limits choice content (Some budget) kind fault = tt
+
+pub limited-within : (limits : Limits) (choice : Choice) (content : Option (List ℕ)) (budget : Option ℕ) (fault : ReadFault) → TellsLimit limits choice content (read_within budget fault)
+limited-within limits choice content budget (faults.List fault) = listed-limited limits choice content budget fault.kind fault
+limited-within limits choice content budget (faults.Opening fault) = opened-limited limits choice content budget fault
+limited-within limits choice content budget fault = tt
 
 pub settles-within : {T : Type 0} (budget : Option ℕ) (old : Option ReadFault) (fault : ReadFault) (new : T → Option ReadFault) → Settles {T = T} old (Err fault) new → Settles {T = T} old (Err (read_within budget fault)) new
 settles-within budget old fault new settles = by (either budget fault) where

@@ -33,7 +33,7 @@ use Rattle.mdmp_lister.specs.Format.Summary.{Summary, number_behind, entry_begun
 use Rattle.mdmp_lister.specs.FaultLaws.{next_fits}
 use Rattle.mdmp_lister.specs.Lister.{IsSameLister, tail}
 use Rattle.mdmp_lister.specs.Meter.{Moves}
-use Rattle.mdmp_lister.specs.Walk.Paying.{entry_cost}
+use Rattle.mdmp_lister.specs.Listed.{entry_cost}
 use Rattle.mdmp_lister.specs.Walk.Positions.{mark_by, position_by}
 use Rattle.mdmp_lister.specs.Walker.{IsSpentSince, WalkerLeaves, WalkerState, is_sought, seeks}
 use Rattle.mdmp_dump.specs.declared.fault.ReadFault.{ReadFault}

@@ -20,7 +20,7 @@ use Rattle.mdmp_dump.specs.declared.fault.ReadFault.{ReadFault}
 use Rattle.mdmp_dump.specs.declared.fault.ReadFault.TheVariants as faults
 use Rattle.mdmp_dump.specs.declared.found_record.FoundRecord.{FoundRecord}
 use Rattle.mdmp_dump.specs.EntryWalk.{FindsRow, IsRowFound, no_entry}
-use Rattle.mdmp_dump.specs.FileRefusal.{IsOfWalk, IsViewRefusal, body_told, entry_told, first_told, opened_told, run_told, view_refusal}
+use Rattle.mdmp_dump.specs.FileRefusal.{IsOfOpening, IsViewRefusal, body_told, entry_told, first_told, opened_told, run_told, view_refusal}
 use Rattle.mdmp_dump.specs.Left.{body_from, records_from, run_of, shaped_from}
 use Rattle.mdmp_dump.specs.Reading.{IsOwn, IsReadRefusal, refusal_of}
 use Rattle.mdmp_dump.specs.Refusal.{ReadStep, Refuse, Take, item_steps}
@@ -249,13 +249,14 @@ module _ (F : List ℕ) (limit : ℕ) (x : Numbered) where
 -- ---- whatever the bytes
 
 -- a walk that could not be opened
-pub bare_refusal : (size : ℕ) (fault : OpenFault) → TellsNone fault → IsBareRefusal size fault → IsViewRefusal size (refusal_of fault)
-bare_refusal size opening.Memory none is = tt
-bare_refusal size (opening.Budget offset len) none is = absurd (none offset len refl)
-bare_refusal size fault none is = is
+pub bare_refusal : (budget : Option ℕ) (size : ℕ) (fault : OpenFault) → (budget ≡ None → TellsNone fault) → IsBareRefusal size fault → IsViewRefusal budget size (refusal_of fault)
+bare_refusal budget size opening.Memory none is = tt
+bare_refusal budget size (opening.Budget offset len) none is = (λ no. none no offset len refl, is)
+bare_refusal budget size fault none is = is
 
 -- and one that was refused
-pub walk_refusal : (size : ℕ) (fault : ReadFault) → IsOfWalk fault → IsReadRefusal size fault → IsViewRefusal size fault
-walk_refusal size (faults.Opening f) is fits = absurd is
-walk_refusal size (faults.List f) is fits = (fits, is)
-walk_refusal size fault is fits = is
+pub walk_refusal : (budget : Option ℕ) (size : ℕ) (fault : ReadFault) → IsOfOpening budget fault → IsReadRefusal size fault → IsViewRefusal budget size fault
+walk_refusal budget size (faults.Opening (opening.Budget offset len)) is fits = (is, fits)
+walk_refusal budget size (faults.Opening f) is fits = absurd is
+walk_refusal budget size (faults.List f) is fits = (fits, is)
+walk_refusal budget size fault is fits = is

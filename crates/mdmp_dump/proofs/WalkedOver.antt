@@ -1,28 +1,38 @@
 -- A file that is walked over as a view of it is opened.
-use Rattle.std.proofs.Common.{◌≡◌, ◌∙◌, ◌<◌, ◌≤◌, ◌+◌, ◌*◌, ◌^◌, ℕ, zero, suc, List, [], ◌∷◌, ◌++◌, length, get_or, take, Some, None, Result, Ok, Err, ap, arith, inl, inr, refl, subst, sym, sum, length-append}
+use Rattle.std.proofs.Common.{◌≡◌, ◌∙◌, ◌<◌, ◌≤◌, ◌+◌, ◌*◌, ◌^◌, ◌⊎◌, ℕ, zero, suc, List, [], ◌∷◌, ◌++◌, length, get_or, map, take, Option, Some, None, Result, Ok, Err, ap, arith, inl, inr, refl, subst, sym, sum, length-append}
+use Rattle.std.specs.Prelude.{sum_by}
+use Rattle.std.proofs.Math.Nat.{mul-le-mul_right}
 use Rattle.std.proofs.lemmas.Bool.{cases_lt}
-use Rattle.std.proofs.lemmas.List.{get_or_append_left, get_or_push}
+use Rattle.std.proofs.lemmas.List.{get_or_append_left, get_or_push, take_all}
+use Rattle.std.proofs.lemmas.List.Sums.{sum_by_push}
+use Rattle.mdmp_source.specs.Count.{raised}
+use Rattle.mdmp_source.specs.Source.{FetchesSome}
+use Rattle.mdmp_lister.specs.declared.fault.OpenFault.TheVariants as opening
 use Rattle.mdmp_lister.specs.Format.Listing.{Numbered}
 use Rattle.mdmp_lister.specs.Format.Shape.{record_count}
+use Rattle.mdmp_lister.specs.Meter.{KeepsTo}
 use Rattle.mdmp_dump.specs.declared.fault.ReadFault.{ReadFault}
+use Rattle.mdmp_dump.specs.declared.fault.ReadFault.TheVariants as faults
 use Rattle.mdmp_dump.specs.declared.found_record.FoundRecord.{FoundRecord}
 use Rattle.mdmp_dump.specs.declared.view.Fields.{Fields}
 use Rattle.mdmp_dump.specs.declared.view.Kind.{Kind}
 use Rattle.mdmp_dump.specs.declared.view.Kind.TheVariants.{Known}
-use Rattle.mdmp_dump.specs.EntryWalk.{Begins, FindsRow, GivesNext, IsSameWalk, MayCount, Pays, WalkState, chosen_entry, kind_by, listed, name_cost, no_entry, pass_cost}
+use Rattle.mdmp_dump.specs.EntryWalk.{Begins, FindsRow, GivesNext, IsSameWalk, MayCount, Pays, WalkState, chosen_entry, kind_by, listed, name_cost, no_entry, pass_cost, raw_part}
 use Rattle.mdmp_dump.specs.FileRefusal.{body_told, entry_told, run_told}
 use Rattle.mdmp_dump.specs.Left.{run_of}
-use Rattle.mdmp_dump.specs.FileView.{AreBare, AreCounted, AreWalked, HasWalked, PaysAll, PaysSome, PaysUpTo, costs_in, count_in, kind_at, room_told, stream_of}
+use Rattle.mdmp_dump.specs.FileView.{AreBare, AreCounted, AreWalked, HasWalked, IsShortAt, KeepsAll, KeepsUpTo, PaysAll, PaysSome, PaysUpTo, costs_in, count_in, kind_at, opening_cost, pass_cost_in, room_told, stream_asks, stream_of}
 use Rattle.mdmp_dump.specs.FoundRecord.{fields_of}
 use Rattle.mdmp_dump.specs.InFile.{stream_named}
-use Rattle.mdmp_dump.specs.Placed.{far_room, fields_room}
-use Rattle.mdmp_dump.specs.Reading.{Fetches, IsOwn}
-use Rattle.mdmp_dump.specs.Shape.{GivesNone, parts_in, seen_record, told, type_told}
-use Rattle.mdmp_dump.specs.View.{kind_in, records_seen}
+use Rattle.mdmp_dump.specs.Placed.{far_room, fields_bytes, fields_room, size_in}
+use Rattle.mdmp_dump.specs.Reading.{Fetches, IsWanting}
+use Rattle.mdmp_dump.specs.Seen.{Seen, nothing_seen}
+use Rattle.mdmp_dump.specs.Shape.{GivesNone, all_bytes, parts_in, seen_record, told, type_told}
+use Rattle.mdmp_dump.specs.View.{kind_in, raw_in, records_seen}
+use Rattle.mdmp_dump.proofs.Budgets.{budget_wants, kept_less, over_tells, wanting_own}
 use Rattle.mdmp_dump.proofs.Costs.{costs_most, costs_push}
 use Rattle.mdmp_dump.proofs.Refusals.{count_refused, entry_begins, one_told, row_passed, row_refused, rows_passed}
 use Rattle.mdmp_dump.proofs.Taking.{FetchesSome_none, FetchesSome_then, fetches_err}
-use Rattle.mdmp_dump.proofs.Viewed.{records_are, rooms_all, rooms_none, rooms_step, row_seen}
+use Rattle.mdmp_dump.proofs.Viewed.{raw_sized, records_are, rooms_all, rooms_none, rooms_step, row_seen}
 
 -- ---- walks one behind the other
 
@@ -45,16 +55,34 @@ pays_then a b c d u v w p q = record {
   more = omega (arith, p.more, q.more);
 }
 
+-- ---- the bytes of names and parts
+
+pub bytes_more : (xs : List Seen) (k : ℕ) → k < length xs → all_bytes (take (k + 1) xs) ≡ all_bytes (take k xs) + fields_bytes (get_or xs k nothing_seen).fields
+unfolding all_bytes
+bytes_more [] k within = absurd (omega (arith, within))
+bytes_more (x ∷ xs) zero within = omega arith
+bytes_more (x ∷ xs) (suc k) within =
+    let next : suc k + 1 ≡ suc (k + 1) = omega arith in
+    let more : all_bytes (take (k + 1) xs) ≡ all_bytes (take k xs) + fields_bytes (get_or xs k nothing_seen).fields = bytes_more xs k (omega (arith, within)) in
+    ap (λ (m : ℕ). all_bytes (take m (x ∷ xs))) next
+    ∙ (let h : fields_bytes x.fields + all_bytes (take (k + 1) xs) ≡ fields_bytes x.fields + all_bytes (take k xs) + fields_bytes (get_or xs k nothing_seen).fields = omega (arith, more) in h)
+
+bytes_none : (xs : List Seen) → all_bytes (take 0 xs) ≡ 0
+unfolding all_bytes
+bytes_none xs = refl
+
 -- ---- the records of a stream
 
 -- so many of its records were found, none of them refused, and their names and parts take so much
-pub record IsWalkedTo (Z : Type 0) (F : List ℕ) (limit : ℕ) (x : Numbered) (count index room : ℕ) : Type 0 where
+pub record IsWalkedTo (Z : Type 0) (F : List ℕ) (limit : ℕ) (x : Numbered) (count index room asks : ℕ) : Type 0 where
+  pub asks_is : asks ≡ all_bytes (take index (records_seen (stream_named {Z = Z} F x.entry))) + length (raw_in (stream_named {Z = Z} F x.entry))
   pub counted : record_count F x.entry ≡ Ok count
   pub quiet : entry_told F limit x ≡ body_told F limit x index
   pub room_is : room ≡ told (parts_in (kind_in (stream_named {Z = Z} F x.entry)) (take index (records_seen (stream_named {Z = Z} F x.entry))))
 
 -- and the walk stands behind them
-pub record IsWalking (Z : Type 0) (limit : ℕ) (old : WalkState) (k count : ℕ) (now : WalkState) (index room : ℕ) : Type 0 where
+pub record IsWalking (Z : Type 0) (limit : ℕ) (old : WalkState) (k count : ℕ) (now : WalkState) (index room asks : ℕ) : Type 0 where
+  pub asks_most : asks ≤ 2 ^ 64 + index * 2 ^ 66
   pub pays : Pays (listed (chosen_entry old k).entry) (index * name_cost (chosen_entry old k).entry.stream_type) old now
   pub current : now.current ≡ chosen_entry old k
   pub left : index + now.left ≡ count
@@ -62,7 +90,7 @@ pub record IsWalking (Z : Type 0) (limit : ℕ) (old : WalkState) (k count : ℕ
   pub counts : MayCount old.source.size (chosen_entry old k).entry count
   pub going : now.failed ≡ None
   pub bare : GivesNone (kind_at old k) index → room ≡ 0
-  pub of_file : (F : List ℕ) → old.source.store.content ≡ Some F → IsWalkedTo Z F limit (chosen_entry old k) count index room
+  pub of_file : (F : List ℕ) → old.source.store.content ≡ Some F → IsWalkedTo Z F limit (chosen_entry old k) count index room asks
 
 -- a record is found of a known stream alone
 found_none : (kind : Kind) (t index : ℕ) → kind ≡ Known t → GivesNone kind (index + 1) → ⊥
@@ -76,8 +104,9 @@ one_more : (index cost : ℕ) → (index + 1) * cost ≡ index * cost + cost
 one_more index cost = omega arith
 
 module _ (Z : Type 0) (limit : ℕ) (old : WalkState) (k : ℕ) where
-  pub walking_begins : (count : ℕ) (now : WalkState) → Begins old k (Ok count) now → IsWalking Z limit old k count now 0 0
-  walking_begins count now begins = record {
+  pub walking_begins : (count : ℕ) (now : WalkState) (asks : ℕ) → asks ≡ size_in (raw_part (chosen_entry old k).entry).size → asks ≤ 2 ^ 64 → Begins old k (Ok count) now → IsWalking Z limit old k count now 0 0 asks
+  walking_begins count now asks raw few begins = record {
+    asks_most = omega (arith, few);
     pays = subst (λ (b : ℕ). Pays (listed (chosen_entry old k).entry) b old now) (no_more (name_cost (chosen_entry old k).entry.stream_type)) begins.pays;
     current = begins.begun.0;
     left = omega (arith, begins.begun.1);
@@ -86,6 +115,10 @@ module _ (Z : Type 0) (limit : ℕ) (old : WalkState) (k : ℕ) where
     going = begins.failed;
     bare = λ none. refl;
     of_file = λ F known. record {
+      asks_is =
+          let none = bytes_none (records_seen (stream_of {Z = Z} F old k)) in
+          let sized = raw_sized Z F (chosen_entry old k) count (begins.of_file F known) in
+          omega (arith, raw, none, sized);
       counted = begins.of_file F known;
       quiet = entry_begins F limit (chosen_entry old k);
       room_is = sym (rooms_none (kind_in (stream_of {Z = Z} F old k)) (records_seen (stream_of {Z = Z} F old k)));
@@ -101,10 +134,10 @@ module _ (Z : Type 0) (limit : ℕ) (old : WalkState) (k : ℕ) where
 
   pub walking_unbegun : (fault : ReadFault) (now : WalkState) → Begins old k (Err fault) now → (F : List ℕ) → old.source.store.content ≡ Some F → HasWalked Z F limit old k (Err fault)
   walking_unbegun fault now begins F known = λ own.
-      let told = begins.of_file F known own in
+      let told = begins.of_file F known (λ is. own (wanting_own fault is)) in
       count_refused F limit (chosen_entry old k) told.0 told.1.0 ∙ ap Some (sym told.1.1)
 
-  module _ (count : ℕ) (now : WalkState) (index room : ℕ) (walking : IsWalking Z limit old k count now index room) (next : WalkState) where
+  module _ (count : ℕ) (now : WalkState) (index room asks : ℕ) (walking : IsWalking Z limit old k count now index room asks) (next : WalkState) where
     known_now : (F : List ℕ) → old.source.store.content ≡ Some F → now.source.store.content ≡ Some F
     known_now F known = walking.pays.same.fetches.fetches.same_content ∙ known
 
@@ -125,10 +158,11 @@ module _ (Z : Type 0) (limit : ℕ) (old : WalkState) (k : ℕ) where
         let bytes : listed (chosen_entry old k).entry + 0 ≡ listed (chosen_entry old k).entry = omega arith in
         subst (λ (a : ℕ). Pays a ((index + 1) * cost) old next) bytes (subst (λ (b : ℕ). Pays (listed (chosen_entry old k).entry + 0) b old next) (sym (one_more index cost)) both)
 
-    pub walking_goes : (f : FoundRecord) (g : Fields) (met : ℕ) → GivesNext now limit (Ok f) next → index < count → g ≡ fields_of f → met ≡ told (told (room + fields_room g) + far_room g)
-        → IsWalking Z limit old k count next (index + 1) met
-    walking_goes f g met gives fewer same sum =
+    pub walking_goes : (f : FoundRecord) (g : Fields) (met bytes : ℕ) → GivesNext now limit (Ok f) next → index < count → g ≡ fields_of f → met ≡ told (told (room + fields_room g) + far_room g)
+        → bytes ≡ fields_bytes g → bytes ≤ 2 ^ 66 → IsWalking Z limit old k count next (index + 1) met (asks + bytes)
+    walking_goes f g met bytes gives fewer same sum size few =
         record {
+          asks_most = omega (arith, walking.asks_most, few);
           pays = row_paid (Ok f) gives;
           current = gives.goes.0 ∙ walking.current;
           left = omega (arith, walking.left, gives.goes.1);
@@ -141,6 +175,12 @@ module _ (Z : Type 0) (limit : ℕ) (old : WalkState) (k : ℕ) where
               let row = row_next (Ok f) gives F known in
               let fields : g ≡ (seen_record (stream_of {Z = Z} F old k) index).fields = same ∙ (row_seen Z F (chosen_entry old k) count of.counted limit index f row).fields in
               record {
+                asks_is =
+                    let s = stream_of {Z = Z} F old k in
+                    let inside : index < length (records_seen s) = omega (arith, fewer, records_are Z F (chosen_entry old k) count of.counted) in
+                    let more = bytes_more (records_seen s) index inside in
+                    let these : bytes ≡ fields_bytes (seen_record s index).fields = size ∙ ap (λ (h : Fields). fields_bytes h) fields in
+                    omega (arith, of.asks_is, more, these);
                 counted = of.counted;
                 quiet = of.quiet ∙ row_passed F limit (chosen_entry old k) count of.counted index f row;
                 room_is = rooms_step Z F (chosen_entry old k) count of.counted index room met fewer of.room_is (subst (λ (h : Fields). met ≡ told (told (room + fields_room h) + far_room h)) fields sum);
@@ -150,7 +190,7 @@ module _ (Z : Type 0) (limit : ℕ) (old : WalkState) (k : ℕ) where
     pub walking_refused : (fault : ReadFault) → GivesNext now limit (Err fault) next → (F : List ℕ) → old.source.store.content ≡ Some F → HasWalked Z F limit old k (Err fault)
     walking_refused fault gives F known = λ own.
         let of = walking.of_file F known in
-        of.quiet ∙ row_refused F limit (chosen_entry old k) count of.counted index fault (row_next (Err fault) gives F known) own
+        of.quiet ∙ row_refused F limit (chosen_entry old k) count of.counted index fault (row_next (Err fault) gives F known) (λ is. own (wanting_own fault is))
 
     pub walking_paid : (fault : ReadFault) → GivesNext now limit (Err fault) next → index < count → PaysUpTo k old next
     walking_paid fault gives fewer = record {
@@ -159,17 +199,66 @@ module _ (Z : Type 0) (limit : ℕ) (old : WalkState) (k : ℕ) where
       few = λ F known. omega (arith, fewer, ap count_in (walking.of_file F known).counted);
     }
 
+    -- within a budget that has room for a pass over all of its records
+    pub walking_keeps : (budget : Option ℕ) (spent : ℕ) (fault : ReadFault) → GivesNext now limit (Err fault) next → index < count → KeepsTo budget (spent + pass_cost (chosen_entry old k).entry count)
+        → KeepsUpTo budget spent k old next
+    walking_keeps budget spent fault gives fewer kept =
+        let cost = name_cost (chosen_entry old k).entry.stream_type in
+        let less : (index + 1) * cost ≤ count * cost = mul-le-mul_right cost (omega (arith, fewer)) in
+        record {
+          reached = index + 1;
+          pays = row_paid (Err fault) gives;
+          kept = kept_less budget (spent + pass_cost (chosen_entry old k).entry count) (spent + pass_cost (chosen_entry old k).entry (index + 1)) (omega (arith, less)) kept;
+        }
+
     pub walking_fetches : {T : Type 0} (fault : ReadFault) → GivesNext now limit (Err fault) next → Fetches {T = T} (Err fault) old.source next.source
     walking_fetches {T = T} fault gives = fetches_err old.source now.source next.source walking.pays.same.fetches fault gives.fetches
 
-  pub walking_ends : (count : ℕ) (now : WalkState) (index room : ℕ) → IsWalking Z limit old k count now index room → index ≡ count → (F : List ℕ) → old.source.store.content ≡ Some F
-      → HasWalked Z F limit old k (Ok (record { count = count; room = room }))
-  walking_ends count now index room walking all F known =
+  -- none of its records was reached
+  pub unbegun_keeps : (budget : Option ℕ) (spent : ℕ) (result : Result ℕ ReadFault) (now : WalkState) → Begins old k result now → KeepsTo budget (spent + pass_cost (chosen_entry old k).entry 0) → KeepsUpTo budget spent k old now
+  unbegun_keeps budget spent result now begins kept = record {
+    reached = 0;
+    pays = subst (λ (b : ℕ). Pays (listed (chosen_entry old k).entry) b old now) (no_more (name_cost (chosen_entry old k).entry.stream_type)) begins.pays;
+    kept = kept;
+  }
+
+  -- a budget has no room for it
+  pub begun_paid : (result : Result ℕ ReadFault) (now : WalkState) → Begins old k result now → PaysUpTo k old now
+  begun_paid result now begins = record {
+    reached = 0;
+    pays = subst (λ (b : ℕ). Pays (listed (chosen_entry old k).entry) b old now) (no_more (name_cost (chosen_entry old k).entry.stream_type)) begins.pays;
+    few = λ F known. omega arith;
+  }
+
+  pub untouched_paid : PaysUpTo k old old
+  untouched_paid = record {
+    reached = 0;
+    pays = record {
+      same = record { header = refl; choice = refl; chosen = refl; held = refl; start = refl; fetches = FetchesSome_none old.source };
+      aside = refl;
+      allowed = λ few. omega arith;
+      reached = omega arith;
+      more = omega arith;
+    };
+    few = λ F known. omega arith;
+  }
+
+  pub budget_refuses : (fault : ReadFault) (offset size : ℕ) → fault ≡ faults.Opening (opening.Budget offset size) → (F : List ℕ) → HasWalked Z F limit old k (Err fault)
+  budget_refuses fault offset size is F = λ own. absurd (own (budget_wants fault offset size is))
+
+  pub budget_fetches : {T : Type 0} (fault : ReadFault) (offset size : ℕ) (now : WalkState) → fault ≡ faults.Opening (opening.Budget offset size) → 32 ≤ old.source.size → FetchesSome old.source now.source
+      → Fetches {T = T} (Err fault) old.source now.source
+  budget_fetches fault offset size now is long fetches = rw is (record { fetches = fetches; told = tt; good = λ F good. refl; refusal = long })
+
+  pub walking_ends : (count : ℕ) (now : WalkState) (index room asks cost : ℕ) → IsWalking Z limit old k count now index room asks → index ≡ count → (F : List ℕ) → old.source.store.content ≡ Some F
+      → HasWalked Z F limit old k (Ok (record { count = count; room = room; cost = cost; asks = asks }))
+  walking_ends count now index room asks cost walking all F known =
       let of = walking.of_file F known in
       let s = stream_of {Z = Z} F old k in (
         of.counted,
         of.room_is ∙ ap told (rooms_all (kind_in s) (records_seen s) index (omega (arith, all, records_are Z F (chosen_entry old k) count of.counted))),
         of.quiet ∙ ap (body_told F limit (chosen_entry old k)) all ∙ rows_passed F limit (chosen_entry old k) count of.counted,
+        of.asks_is ∙ ap (λ (xs : List Seen). all_bytes xs + length (raw_in s)) (take_all index (records_seen s) (omega (arith, all, records_are Z F (chosen_entry old k) count of.counted))),
       )
 
 -- ---- all streams
@@ -183,6 +272,14 @@ pub record AreWalking (Z : Type 0) (limit : ℕ) (old now : WalkState) (counts r
   pub counts_fit : AreCounted old.source.size old counts
   pub bare : AreBare (kind_at old) counts rooms
   pub of_file : (F : List ℕ) → old.source.store.content ≡ Some F → AreWalked Z F limit old counts rooms
+
+-- what they cost and have, in all
+pub record AreSummed (Z : Type 0) (budget : Option ℕ) (old now : WalkState) (counts : List ℕ) (k costs asks : ℕ) : Type 0 where
+  pub costs_are : costs ≡ sum (costs_in old.chosen counts)
+  pub costs_few : costs ≤ k * 2 ^ 64
+  pub asks_few : asks < 2 ^ 128
+  pub asks_are : (F : List ℕ) → old.source.store.content ≡ Some F → asks ≡ raised 0 (sum_by (λ (x : Numbered). stream_asks (stream_named {Z = Z} F x.entry)) (take k old.chosen))
+  pub keeps : (now ≡ old) ⊎ KeepsTo budget (opening_cost old counts)
 
 bare_push : (kind : ℕ → Kind) (ns rs : List ℕ) (n r : ℕ) → length rs ≡ length ns → AreBare kind ns rs → (GivesNone (kind (length ns)) n → r ≡ 0) → AreBare kind (ns ++ n ∷ []) (rs ++ r ∷ [])
 bare_push kind [] [] n r same each last zero = last
@@ -217,6 +314,23 @@ none_walked w = record {
 
 pub none_paid : (w : WalkState) → PaysSome w w
 none_paid w = record { reached = []; pays = none_walked w; few = λ F known. omega (arith, none_cost_sum w.chosen) }
+
+-- a list's first elements and one more
+take_more : {X : Type 0} (xs : List X) (k : ℕ) (d : X) → k < length xs → take (k + 1) xs ≡ take k xs ++ get_or xs k d ∷ []
+take_more [] k d within = absurd (omega (arith, within))
+take_more (x ∷ xs) zero d within = refl
+take_more (x ∷ xs) (suc k) d within =
+    let next : suc k + 1 ≡ suc (k + 1) = omega arith in
+    ap (λ (m : ℕ). take m (x ∷ xs)) next ∙ ap (λ ys. x ∷ ys) (take_more xs k d (omega (arith, within)))
+
+pub all_summed : (Z : Type 0) (budget : Option ℕ) (old : WalkState) → AreSummed Z budget old old [] 0 0 0
+all_summed Z budget old = record {
+  costs_are = sym (none_cost_sum old.chosen);
+  costs_few = omega arith;
+  asks_few = omega arith;
+  asks_are = λ F known. refl;
+  keeps = inl refl;
+}
 
 module _ (Z : Type 0) (limit : ℕ) (old : WalkState) where
   pub all_begin : old.failed ≡ None → AreWalking Z limit old old [] [] 0
@@ -261,9 +375,9 @@ module _ (Z : Type 0) (limit : ℕ) (old : WalkState) where
     entry_here = entry_now ∙ ap (chosen_entry old) (sym walking.counted)
 
     pub one_walked : (n r : ℕ) → Pays (listed (chosen_entry now k).entry) (n * name_cost (chosen_entry now k).entry.stream_type) now next → next.failed ≡ None → MayCount now.source.size (chosen_entry now k).entry n → (GivesNone (kind_at now k) n → r ≡ 0)
-        → ((F : List ℕ) → now.source.store.content ≡ Some F → HasWalked Z F limit now k (Ok (record { count = n; room = r }))) → (counts_new rooms_new : List ℕ) → counts_new ≡ counts ++ n ∷ [] → rooms_new ≡ rooms ++ r ∷ []
+        → (cost asks : ℕ) → ((F : List ℕ) → now.source.store.content ≡ Some F → HasWalked Z F limit now k (Ok (record { count = n; room = r; cost = cost; asks = asks }))) → (counts_new rooms_new : List ℕ) → counts_new ≡ counts ++ n ∷ [] → rooms_new ≡ rooms ++ r ∷ []
         → AreWalking Z limit old next counts_new rooms_new (k + 1)
-    one_walked n r pays going fits bare of counts_new rooms_new pushed also =
+    one_walked n r pays going fits bare cost asks of counts_new rooms_new pushed also =
         record {
           pays = one_pays n pays counts_new pushed;
           counted = ap (λ (ns : List ℕ). length ns) pushed ∙ length-append counts (n ∷ []) ∙ ap (λ (i : ℕ). i + 1) walking.counted;
@@ -292,7 +406,7 @@ module _ (Z : Type 0) (limit : ℕ) (old : WalkState) where
         }
 
     pub one_refused : (fault : ReadFault) → ((F : List ℕ) → now.source.store.content ≡ Some F → HasWalked Z F limit now k (Err fault)) → (F : List ℕ) → old.source.store.content ≡ Some F
-        → (IsOwn fault → ⊥) → run_told F (run_of F limit old.chosen) ≡ Some fault
+        → (IsWanting fault → ⊥) → run_told F (run_of F limit old.chosen) ≡ Some fault
     one_refused fault of F known own =
         one_told F limit old.chosen k fault
         (λ i before. (walking.of_file F known).quiet i (omega (arith, before, walking.counted))) inside
@@ -308,6 +422,60 @@ module _ (Z : Type 0) (limit : ℕ) (old : WalkState) where
           (λ i before. omega (arith, ap count_in ((walking.of_file F known).counted i before)))
           (subst (λ (x : Numbered). up.reached ≤ count_in (record_count F x.entry)) entry_here (up.few F (file_now F known))));
     }
+
+    -- what is spent with a pass over one stream more
+    spent_more : (n : ℕ) → opening_cost old (counts ++ n ∷ []) ≡ opening_cost old counts + pass_cost (chosen_entry now k).entry n
+    spent_more n =
+        let pushed = costs_push old.chosen counts n (omega (arith, inside, walking.counted)) in
+        let here : pass_cost (get_or old.chosen (length counts) no_entry).entry n ≡ pass_cost (chosen_entry now k).entry n = ap (λ (x : Numbered). pass_cost x.entry n) (sym entry_here) in
+        omega (arith, pushed, here)
+
+    -- a known file has no fewer bytes to walk over
+    spent_most : (F : List ℕ) → old.source.store.content ≡ Some F → opening_cost old counts + pass_cost_in F (chosen_entry now k) ≤ 32 + 12 * old.header.number_of_streams + sum (map (pass_cost_in F) old.chosen)
+    spent_most F known =
+        let n = count_in (record_count F (chosen_entry now k).entry) in
+        let all = costs_most F old.chosen (counts ++ n ∷ [])
+        (each_push (λ i m. m ≤ count_in (record_count F (chosen_entry old i).entry)) counts n
+        (λ i before. omega (arith, ap count_in ((walking.of_file F known).counted i before)))
+        (subst (λ (x : Numbered). n ≤ count_in (record_count F x.entry)) entry_here (omega arith))) in
+        omega (arith, all, spent_more n)
+
+    module _ (budget : Option ℕ) (costs asks : ℕ) (summed : AreSummed Z budget old now counts k costs asks) where
+      -- one stream more was walked over
+      pub one_summed : (n cost more : ℕ) → cost ≡ pass_cost (chosen_entry now k).entry n → cost ≤ 2 ^ 64 → KeepsTo budget (opening_cost old counts + pass_cost (chosen_entry now k).entry n)
+          → ((F : List ℕ) → now.source.store.content ≡ Some F → more ≡ stream_asks (stream_of {Z = Z} F now k)) → (counts_new : List ℕ) → counts_new ≡ counts ++ n ∷ []
+          → (asks_new : ℕ) → asks_new ≡ raised asks more → AreSummed Z budget old next counts_new (k + 1) (costs + cost) asks_new
+      one_summed n cost more cost_is few kept asks_of counts_new pushed asks_new sum_is = record {
+        costs_are =
+            let spent = spent_more n in
+            let same = ap (λ (ns : List ℕ). sum (costs_in old.chosen ns)) pushed in
+            omega (arith, spent, same, cost_is, summed.costs_are);
+        costs_few = omega (arith, few, summed.costs_few);
+        asks_few = omega (arith, sum_is, summed.asks_few);
+        asks_are = λ F known.
+            let f : Numbered → ℕ = λ (x : Numbered). stream_asks (stream_named {Z = Z} F x.entry) in
+            let taken : sum_by f (take (k + 1) old.chosen) ≡ sum_by f (take k old.chosen) + f (get_or old.chosen k no_entry) =
+            ap (sum_by f) (take_more old.chosen k no_entry inside) ∙ sum_by_push f (take k old.chosen) (get_or old.chosen k no_entry) in
+            let one : more ≡ f (get_or old.chosen k no_entry) = asks_of F (file_now F known) ∙ ap f entry_now in
+            omega (arith, taken, one, sum_is, summed.asks_are F known);
+        keeps = inr (subst (KeepsTo budget) (sym (ap (opening_cost old) pushed ∙ spent_more n)) kept);
+      }
+
+      -- or it was not
+      pub one_keeps : ((next ≡ now) ⊎ KeepsUpTo budget (opening_cost old counts) k now next) → (next ≡ old) ⊎ KeepsAll budget old next
+      one_keeps (inl same) = elim summed.keeps [
+        | inl first ↦ inl (same ∙ first)
+        | inr kept ↦ inr (record { reached = counts; pays = subst (λ (w : WalkState). PaysAll counts old w) (sym same) walking.pays; kept = kept })
+      ]
+      one_keeps (inr up) = inr (record {
+        reached = counts ++ up.reached ∷ [];
+        pays = one_pays up.reached up.pays (counts ++ up.reached ∷ []) refl;
+        kept = subst (KeepsTo budget) (sym (spent_more up.reached)) up.kept;
+      })
+
+      pub one_over : (F : List ℕ) → old.source.store.content ≡ Some F → (fault : ReadFault) → IsShortAt budget (opening_cost old counts + pass_cost_in F (chosen_entry now k)) fault
+          → IsShortAt budget (32 + 12 * old.header.number_of_streams + sum (map (pass_cost_in F) old.chosen)) fault
+      one_over F known fault over = over_tells budget (opening_cost old counts + pass_cost_in F (chosen_entry now k)) (32 + 12 * old.header.number_of_streams + sum (map (pass_cost_in F) old.chosen)) fault (spent_most F known) over
 
     pub one_fetches : {T U : Type 0} (fault : ReadFault) → Fetches {T = T} (Err fault) now.source next.source → Fetches {T = U} (Err fault) old.source next.source
     one_fetches fault fetches = fetches_err old.source now.source next.source walking.pays.same.fetches fault fetches

@@ -1,6 +1,6 @@
 -- Why a file gives no view of its dump, where memory suffices and its bytes are obtained: parts are not taken, so that they
 -- have no limit, and neither has the number of ranges of memory.
-use Rattle.std.specs.Prelude.{ℕ, ◌+◌, List, [], ◌∷◌, length, Option, Some, None, option_map, flat_map}
+use Rattle.std.specs.Prelude.{◌≡◌, ℕ, ◌+◌, List, [], ◌∷◌, length, Option, Some, None, option_map, flat_map}
 use Rattle.mdmp_lister.specs.declared.choice.Choice.{Choice}
 use Rattle.mdmp_lister.specs.declared.fault.FaultKind.{FaultKind}
 use Rattle.mdmp_lister.specs.declared.fault.FaultKind.TheVariants as kinds
@@ -52,20 +52,26 @@ abbrev pub IsUnbudgeted : FaultKind → Type 0
 IsUnbudgeted kinds.Budget = ⊥
 IsUnbudgeted kind = Unit {0}
 
--- a walk may answer this fault, whatever the file's bytes: none of its opening, parts have no limit, and it has no budget
+-- a walk may answer this fault, whatever the file's bytes: none of its opening, parts have no limit, and its budget was lifted
 abbrev pub IsOfWalk : ReadFault → Type 0
 IsOfWalk (faults.Opening fault) = ⊥
 IsOfWalk (faults.PartsTooLarge e k) = ⊥
 IsOfWalk (faults.List fault) = IsUnbudgeted fault.kind
 IsOfWalk fault = Unit {0}
 
--- a file of `size` bytes may be refused so, whatever they are: of its opening no number of ranges is told, and no budget
-abbrev pub IsViewRefusal : ℕ → ReadFault → Type 0
-IsViewRefusal size (faults.Opening opening.Memory) = ⊥
-IsViewRefusal size (faults.Opening (opening.Budget offset len)) = ⊥
-IsViewRefusal size (faults.Opening fault) = IsBareRefusal size fault
-IsViewRefusal size (faults.List fault) = FitsFile size fault × IsUnbudgeted fault.kind
-IsViewRefusal size fault = IsOfWalk fault
+-- the opening of a view may answer this fault while it walks over the streams: its budget is told only if there is one
+abbrev pub IsOfOpening : Option ℕ → ReadFault → Type 0
+IsOfOpening budget (faults.Opening (opening.Budget offset size)) = budget ≡ None → ⊥
+IsOfOpening budget fault = IsOfWalk fault
+
+-- a file of `size` bytes may be refused so, whatever they are: of its opening no number of ranges is told, and the budget
+-- only if there is one
+abbrev pub IsViewRefusal : Option ℕ → ℕ → ReadFault → Type 0
+IsViewRefusal budget size (faults.Opening opening.Memory) = ⊥
+IsViewRefusal budget size (faults.Opening (opening.Budget offset len)) = (budget ≡ None → ⊥) × IsBareRefusal size (opening.Budget offset len)
+IsViewRefusal budget size (faults.Opening fault) = IsBareRefusal size fault
+IsViewRefusal budget size (faults.List fault) = FitsFile size fault × IsUnbudgeted fault.kind
+IsViewRefusal budget size fault = IsOfWalk fault
 
 -- the bytes of all parts inside F, and of the streams whose records are not known
 abbrev pub parts_taken : List ℕ → Choice → ℕ → ℕ

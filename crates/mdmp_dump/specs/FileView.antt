@@ -1,5 +1,5 @@
 -- A view of a file, by what it keeps of each stream.
-use Rattle.std.specs.Prelude.{◌≡◌, ◌≤◌, ◌<◌, ◌+◌, ◌-◌, ◌*◌, ◌/◌, ◌^◌, ◌⊎◌, ℕ, List, [], ◌∷◌, length, map, get_or, take, Option, Some, None, Result, Ok, Err, false, ◌==◌, if◌then◌else◌, sum, IfErr, IfSome, IsOk, MatchResult}
+use Rattle.std.specs.Prelude.{◌≡◌, ◌≤◌, ◌<◌, ◌+◌, ◌-◌, ◌*◌, ◌/◌, ◌^◌, ◌⊎◌, ℕ, List, [], ◌∷◌, length, map, get_or, take, Option, Some, None, Result, Ok, Err, false, ◌==◌, if◌then◌else◌, sum, sum_by, IfErr, IfSome, IsOk, IsTrue, MatchResult}
 use Rattle.mdmp_source.specs.Range.{bytes_at}
 use Rattle.mdmp_source.specs.Source.{FetchesSome}
 use Rattle.mdmp_source.specs.Store.{AreBytes, IsGood}
@@ -9,6 +9,9 @@ use Rattle.mdmp_wire.specs.Header.{header_at}
 use Rattle.mdmp_wire.specs.declared.header.Header.{Header}
 use Rattle.mdmp_lister.specs.Format.Listing.{Numbered, chosen}
 use Rattle.mdmp_lister.specs.Format.Shape.{record_count}
+use Rattle.mdmp_lister.specs.declared.fault.OpenFault.TheVariants as opening
+use Rattle.mdmp_lister.specs.Meter.{KeepsTo, is_passed}
+use Rattle.mdmp_dump.specs.declared.fault.ReadFault.TheVariants as faults
 use Rattle.mdmp_dump.specs.declared.dump.Dump.{Dump}
 use Rattle.mdmp_dump.specs.declared.dump.Stream.{Stream}
 use Rattle.mdmp_dump.specs.declared.fault.ReadFault.{ReadFault}
@@ -24,9 +27,9 @@ use Rattle.mdmp_dump.specs.FileRefusal.{body_told, entry_told, view_refusal}
 use Rattle.mdmp_dump.specs.FoundRecord.{AreIn, no_part}
 use Rattle.mdmp_dump.specs.InFile.{dump_in, stream_named}
 use Rattle.mdmp_dump.specs.Placed.{size_in}
-use Rattle.mdmp_dump.specs.Reading.{IsLastTold, IsOwn}
-use Rattle.mdmp_dump.specs.Shape.{StreamCursor, GivesNone, ViewShape, StreamShape, is_far, parts_at, parts_in, shape_seen, sizes_at, told, value_cursor}
-use Rattle.mdmp_dump.specs.View.{dump_seen, header_seen, kind_in, records_seen}
+use Rattle.mdmp_dump.specs.Reading.{IsLastTold, IsWanting}
+use Rattle.mdmp_dump.specs.Shape.{StreamCursor, GivesNone, ViewShape, StreamShape, all_bytes, is_far, parts_at, parts_in, shape_seen, sizes_at, told, value_cursor}
+use Rattle.mdmp_dump.specs.View.{dump_seen, header_seen, kind_in, raw_in, records_seen}
 
 -- ---- what a pass costs
 
@@ -121,6 +124,10 @@ module _ {Z : Type 0} where
   abbrev pub met_told : Stream Z → ℕ → ℕ
   met_told s given = told (parts_in (kind_in s) (take given (records_seen s)))
 
+  -- the bytes of its names and parts, and its own where its records are not known
+  abbrev pub stream_asks : Stream Z → ℕ
+  stream_asks s = all_bytes (records_seen s) + length (raw_in s)
+
   abbrev pub known_shape : (d : Dump Z) → WalkState → List ℕ → ViewShape
   known_shape d w counts = record {
     header = header_seen d;
@@ -174,6 +181,11 @@ module _ (Z : Type 0) where
   abbrev pub file_cursor : WalkState → Option Pass → StreamCursor
   file_cursor w None = no_cursor
   file_cursor w (Some p) = pass_cursor w p
+
+-- the bytes that can be asked for of some entries of F
+module _ (Z : Type 0) where
+  abbrev pub asks_in : List ℕ → List Numbered → ℕ
+  asks_in F xs = sum_by (λ x. stream_asks (stream_named {Z = Z} F x.entry)) xs
 
 -- a pass over a stream of so many records that begins, whose names and parts take so much
 abbrev pub first_pass : WalkState → ℕ → ℕ → ℕ → Pass
@@ -230,13 +242,31 @@ module _ (Z : Type 0) where
   abbrev pub HasWalked : List ℕ → ℕ → WalkState → ℕ → Result Walked ReadFault → Type 0
   HasWalked F limit w k (Ok walked) =
       (record_count F (chosen_entry w k).entry ≡ Ok walked.count) × (walked.room ≡ room_told (stream_of {Z = Z} F w k)) × (entry_told F limit (chosen_entry w k) ≡ None)
-  HasWalked F limit w k (Err fault) = (IsOwn fault → ⊥) → entry_told F limit (chosen_entry w k) ≡ Some fault
+      × (walked.asks ≡ stream_asks (stream_of {Z = Z} F w k))
+  HasWalked F limit w k (Err fault) = (IsWanting fault → ⊥) → entry_told F limit (chosen_entry w k) ≡ Some fault
 
   -- so many streams were
   pub record AreWalked (F : List ℕ) (limit : ℕ) (w : WalkState) (counts rooms : List ℕ) : Type 0 where
     pub counted : (k : ℕ) → k < length counts → record_count F (chosen_entry w k).entry ≡ Ok (get_or counts k 0)
     pub roomed : (k : ℕ) → k < length counts → get_or rooms k 0 ≡ room_told (stream_of {Z = Z} F w k)
     pub quiet : (k : ℕ) → k < length counts → entry_told F limit (chosen_entry w k) ≡ None
+
+-- the same within a budget: so many of its records were reached, and what was spent before with a pass over them is within it
+pub record KeepsUpTo (budget : Option ℕ) (spent k : ℕ) (old new : WalkState) : Type 0 where
+  pub reached : ℕ
+  pub pays : Pays (listed (chosen_entry old k).entry) (reached * name_cost (chosen_entry old k).entry.stream_type) old new
+  pub kept : KeepsTo budget (spent + pass_cost (chosen_entry old k).entry reached)
+
+-- the streams were walked over within a budget, with the header and the directory, of so many records each
+pub record KeepsAll (budget : Option ℕ) (old new : WalkState) : Type 0 where
+  pub reached : List ℕ
+  pub pays : PaysAll reached old new
+  pub kept : KeepsTo budget (opening_cost old reached)
+
+-- a budget that ends an opening has no room for so many bytes
+abbrev pub IsShortAt : Option ℕ → ℕ → ReadFault → Type 0
+IsShortAt budget bound (faults.Opening (opening.Budget offset size)) = IsTrue (is_passed budget bound)
+IsShortAt budget bound fault = Unit {0}
 
 -- each of the streams of a walk over a file of z bytes has as many records as what was read of its head counts
 abbrev pub AreCounted : ℕ → WalkState → List ℕ → Type 0

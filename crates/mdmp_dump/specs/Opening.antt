@@ -1,18 +1,69 @@
 -- A view of a file as those see it who open it.
-use Rattle.std.specs.Prelude.{◌≡◌, ◌≤◌, ◌+◌, ◌*◌, ℕ, List, None, Some, length, map, sum}
+use Rattle.std.specs.Prelude.{◌≡◌, ◌≤◌, ◌+◌, ◌*◌, ◌/◌, ℕ, List, Option, None, Some, false, true, length, map, sum}
 use Rattle.mdmp_source.specs.Count.{raised}
 use Rattle.mdmp_source.specs.Source.{SourceState, FetchesSome}
 use Rattle.mdmp_source.specs.declared.store.Store.{Ghosts}
 use Rattle.mdmp_lister.specs.declared.choice.Choice.{Choice}
+use Rattle.mdmp_lister.specs.declared.fault.OpenFault.{OpenFault}
+use Rattle.mdmp_lister.specs.declared.fault.OpenFault.TheVariants as opening
+use Rattle.mdmp_lister.specs.declared.limits.Limits.{Limits}
 use Rattle.mdmp_lister.specs.Format.Listing.{Numbered, chosen, entry_count}
+use Rattle.mdmp_lister.specs.Format.Refusal.{directory_refusal}
+use Rattle.mdmp_lister.specs.Memory.{is_within}
 use Rattle.mdmp_dump.specs.declared.file_view.FileView.{FileView}
-use Rattle.mdmp_dump.specs.FileView.{AreCounted, costs_in, opening_cost, pass_cost_in}
+use Rattle.mdmp_dump.specs.declared.fault.ReadFault.{ReadFault}
+use Rattle.mdmp_dump.specs.declared.fault.ReadFault.TheVariants as faults
+use Rattle.mdmp_dump.specs.FileView.{AreCounted, IsShortAt, asks_in, costs_in, opening_cost, pass_cost_in}
 
 -- ---- what a known file costs
 
 -- what opening a view of F may fetch: the header, the directory, and one pass over each chosen stream
 abbrev pub opening_bound : List ℕ → Choice → ℕ
 opening_bound F choice = 32 + 12 * entry_count F + sum (map (pass_cost_in F) (chosen F choice))
+
+-- what a copy of the chosen streams of F may fetch: it opens a view, passes over each stream twice more, and asks for the
+-- bytes of all names, parts and streams whose records are not known
+abbrev pub copy_bound : (Z : Type 0) → List ℕ → Choice → ℕ
+copy_bound Z F choice = opening_bound F choice + 2 * sum (map (pass_cost_in F) (chosen F choice)) + asks_in Z F (chosen F choice)
+
+-- ---- limits
+
+-- half of a limit
+abbrev pub half_of : Option ℕ → Option ℕ
+half_of None = None
+half_of (Some most) = Some (most / 2)
+
+-- the limits of the walk under a view: it reads no names, and a copy holds twice what it does
+pub record IsNameless (limits nameless : Limits) : Type 0 where
+  pub window : nameless.window ≡ limits.window
+  pub name : nameless.name ≡ 0
+  pub budget : nameless.budget ≡ limits.budget
+  pub memory : nameless.memory ≡ half_of limits.memory
+
+-- why a file gives no view, by why it can't be listed: of memory it is told what a copy would hold
+abbrev pub copy_fault : OpenFault → OpenFault
+copy_fault (opening.MemoryLimit held) = opening.MemoryLimit (raised held held)
+copy_fault fault = fault
+
+-- at most so many bytes were fetched as a budget has
+abbrev pub FetchesWithin : Option ℕ → SourceState → SourceState → Type 0
+FetchesWithin budget old new = (most : ℕ) → budget ≡ Some most → new.fetched ≤ old.fetched + most
+
+-- what a copy holds of a file with so many entries: two windows, and 24 bytes for each
+abbrev pub copy_held : ℕ → ℕ → ℕ
+copy_held window entries = 2 * window + 24 * entries
+
+-- a file gives no view for the limit of memory only where a copy would hold more; of a known one the header and the place of
+-- the directory are good, and it is told how much
+abbrev pub IsLimited : Limits → Option (List ℕ) → ReadFault → Type 0
+IsLimited limits content (faults.Opening (opening.MemoryLimit held)) =
+    (is_within limits.memory held ≡ false) × ((file : List ℕ) → content ≡ Some file → (directory_refusal file ≡ None) × (held ≡ copy_held limits.window (entry_count file)))
+IsLimited limits content fault = Unit {0}
+
+-- where a budget ends the opening of a view, it has less room than the opening may fetch; of the directory that is known with
+-- 16 bytes more for each entry
+abbrev pub IsShortOf : Option ℕ → List ℕ → Choice → ReadFault → Type 0
+IsShortOf budget F choice fault = IsShortAt budget (opening_bound F choice + 16 * entry_count F) fault
 
 -- ---- what a file costs that gives no view
 
@@ -50,18 +101,30 @@ module _ {S A : Type 0} {G : Ghosts S} where
   abbrev pub fetched_by : FileView S A G → ℕ
   fetched_by v = raised v.walk.fetched v.walk.aside
 
+  -- what a copy of all that it gives may fetch
+  abbrev pub needed_by : FileView S A G → ℕ
+  needed_by v = v.needed
+
+  -- the bytes that were fetched since it was opened
+  abbrev pub spent_by : FileView S A G → ℕ
+  spent_by v = v.walk.fetched + v.walk.aside
+
   -- what its source's own count was when it was opened
   abbrev pub started_by : FileView S A G → ℕ
   started_by v = v.walk.start
 
   -- it was opened over a source through a window of so many bytes, for this choice of the entries, and nothing was asked of it yet
-  pub record IsNewView (source : SourceState) (window : ℕ) (choice : Choice) (v : FileView S A G) : Type 0 where
+  pub record IsNewView (source : SourceState) (window : ℕ) (memory : Option ℕ) (choice : Choice) (v : FileView S A G) : Type 0 where
     pub choice_is : v.walk.choice ≡ choice
     -- of each stream it keeps as many records as what was read of its head counts, whatever the file holds
     pub counted : AreCounted source.size v.walk v.counts.items
     pub fetches : FetchesSome source (source_in v)
     pub start : started_by v ≡ source.fetched
     pub held : held_by v ≡ window + 24 * entries_in v
+    -- a copy holds no more than the limit of memory, if there is one
+    pub within : is_within memory (copy_held window (entries_in v)) ≡ true
+    -- it needs no less than three passes over each stream cost
+    pub needed : opened_by v + 2 * sum (costs_in v.walk.chosen v.counts.items) ≤ needed_by v
     pub passed : v.passed ≡ 0
     pub asked : v.asked ≡ 0
     pub last : v.last ≡ None

@@ -1,5 +1,5 @@
 -- What reading a file into a value does, step by step.
-use Rattle.std.specs.Prelude.{◌≡◌, ◌≤◌, ◌<◌, ◌+◌, ◌*◌, ℕ, List, [], ◌∷◌, ◌++◌, length, Option, Some, None, Result, Ok, Err, IsTrue, IsFalse, ◌==◌, IfErr, IfOk, IfSome, slice_get, flat_map, option_map}
+use Rattle.std.specs.Prelude.{◌≡◌, ◌≤◌, ◌<◌, ◌+◌, ◌*◌, ℕ, List, [], ◌∷◌, ◌++◌, length, Option, Some, None, Result, Ok, Err, IsTrue, IsFalse, false, ◌==◌, IfErr, IfOk, IfSome, slice_get, flat_map, option_map}
 use Rattle.mdmp_source.specs.Source.{SourceState, FetchesSome, IsTold}
 use Rattle.mdmp_source.specs.Store.{IsGood}
 use Rattle.mdmp_source.specs.declared.fault.SourceFault.{SourceFault}
@@ -21,6 +21,9 @@ use Rattle.mdmp_lister.specs.Fault.{IsUnobtained}
 use Rattle.mdmp_lister.specs.Opening.{IsOpenRefusal}
 use Rattle.mdmp_lister.specs.Following.{FitsFile}
 use Rattle.mdmp_lister.specs.Lister.{ListerState, tail}
+use Rattle.mdmp_lister.specs.Memory.{is_within, opening_fault_within}
+use Rattle.mdmp_lister.specs.declared.choice.Choice.{Choice}
+use Rattle.mdmp_lister.specs.declared.limits.Limits.{Limits}
 use Rattle.mdmp_lister.specs.declared.name.Name.{Name}
 use Rattle.mdmp_lister.specs.declared.kind.StreamKind.{StreamKind}
 use Rattle.mdmp_lister.specs.declared.shape.Shape.{Shape}
@@ -77,9 +80,10 @@ abbrev pub IsOwn : ReadFault → Type 0
 IsOwn faults.Memory = Unit {0}
 IsOwn fault = (told : SourceFault) × (store_fault fault ≡ Some told)
 
--- memory is wanting, the store, or the budget: it is none of the file
+-- memory is wanting, the store, or the budget, or more memory would be held than the limit: it is none of the file
 abbrev pub IsWanting : ReadFault → Type 0
 IsWanting faults.Memory = Unit {0}
+IsWanting (faults.Opening (opening.MemoryLimit held)) = Unit {0}
 IsWanting (faults.Source fault) = Unit {0}
 IsWanting (faults.List fault) = IsUnobtained fault.kind
 IsWanting (faults.Opening (opening.Source fault)) = Unit {0}
@@ -92,13 +96,21 @@ IsWithoutBudget (faults.Opening (opening.Budget offset size)) = ⊥
 IsWithoutBudget (faults.List fault) = IsUnbudgeted fault.kind
 IsWithoutBudget fault = Unit {0}
 
--- what is told where a reading ends so within a budget or none: without one it does not end by it
+-- a reading that ends by the limit of memory would hold more, and for a known file that is the first fault within the limits
+abbrev pub TellsLimit : Limits → Choice → Option (List ℕ) → ReadFault → Type 0
+TellsLimit limits choice content (faults.Opening (opening.MemoryLimit held)) =
+    (is_within limits.memory held ≡ false) × ((file : List ℕ) → content ≡ Some file → opening_fault_within limits file choice ≡ Some (opening.MemoryLimit held))
+TellsLimit limits choice content fault = Unit {0}
+
+-- what is told where a reading of an opened file ends so within a budget or none: without one it does not end by it, and
+-- the limit of memory was tested before
 abbrev pub listed_within : Option ℕ → FaultKind → ListFault → ReadFault
 listed_within None kinds.Budget fault = faults.Memory
 listed_within budget kind fault = faults.List fault
 
 abbrev pub opened_within : Option ℕ → OpenFault → ReadFault
 opened_within None (opening.Budget offset size) = faults.Memory
+opened_within budget (opening.MemoryLimit held) = faults.Memory
 opened_within budget fault = faults.Opening fault
 
 abbrev pub read_within : Option ℕ → ReadFault → ReadFault

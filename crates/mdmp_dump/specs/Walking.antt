@@ -10,7 +10,7 @@ use Rattle.mdmp_lister.specs.Format.Kind.{is_memory64, kind_of}
 use Rattle.mdmp_lister.specs.Format.Listing.{Numbered, only_chosen}
 use Rattle.mdmp_lister.specs.Format.Shape.{record_count}
 use Rattle.mdmp_lister.specs.Lister.{ListerState}
-use Rattle.mdmp_lister.specs.Walk.Paying.{entry_cost}
+use Rattle.mdmp_lister.specs.Listed.{entry_cost}
 use Rattle.mdmp_lister.specs.Walker.{WalkerState, is_sought}
 use Rattle.mdmp_dump.specs.declared.entry_walk.EntryPlace.{EntryPlace}
 use Rattle.mdmp_dump.specs.EntryWalk.{WalkState, no_entry, numbered}

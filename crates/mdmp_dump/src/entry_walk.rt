@@ -1,5 +1,5 @@
 //! A walk over the streams of a file, a record at a time.
-ghost use Rattle.std.specs.Prelude.{◌≡◌, ◌≤◌, ◌<◌, ◌+◌, ◌^◌, ℕ, List, IfErr, IfOk, MatchResult, length, slice_get, None, Some, Err, OnOk};
+ghost use Rattle.std.specs.Prelude.{◌≡◌, ◌≤◌, ◌<◌, ◌+◌, ◌^◌, ℕ, List, IfErr, IfOk, MatchResult, length, slice_get, None, Some, Err, OnOk, true};
 ghost use Rattle.mdmp_source.specs.Count.{raised};
 ghost use Rattle.mdmp_source.specs.Range.{IsInside, bytes_at};
 ghost use Rattle.mdmp_source.specs.Store.{IsOfBytes, IsSizeOf};
@@ -10,8 +10,10 @@ ghost use Rattle.mdmp_lister.specs.Format.Listing.{entry_of};
 ghost use Rattle.mdmp_lister.specs.Lister.{IsSameLister};
 ghost use Rattle.mdmp_dump.specs.Walking.{IsFar, IsKept, IsPlace, IsPlaceOf, chosen_of, lists_memory64, records_to_give, state_of};
 ghost use Rattle.mdmp_dump.specs.FileRefusal.{IsViewRefusal, view_refusal};
-ghost use Rattle.mdmp_dump.specs.Opening.{HasSpentOpening};
-ghost use Rattle.mdmp_dump.specs.Reading.{Fetches, IsOwn, TellsOf};
+ghost use Rattle.mdmp_lister.specs.Meter.{KeepsTo};
+ghost use Rattle.mdmp_dump.specs.Opening.{FetchesWithin, HasSpentOpening, IsLimited, IsNameless, IsShortOf, copy_fault, copy_held};
+ghost use Rattle.mdmp_lister.specs.Memory.{is_within};
+ghost use Rattle.mdmp_dump.specs.Reading.{Fetches, IsWanting, TellsOf, refusal_of};
 
 use crate::fault::ReadFault;
 use crate::found_record::{FoundRecord, found_item};
@@ -62,8 +64,9 @@ impl<S: Store + Drop, A: Allocator + Copy> Model for EntryWalk<S, A> {
 }
 
 impl<S: Store + Drop, A: Allocator + Copy> EntryWalk<S, A> {
-    /// Opens a file. Memory is taken for its directory and the window. It has no budget: what it may fetch is
-    /// bounded by what the file holds and by what it is asked.
+    /// Opens a file within the budget, and lifts that: what the walk may fetch then is bounded by what the file
+    /// holds and by what it is asked. Memory is taken for the directory and the window, if a copy has room for
+    /// twice as much.
     pub(crate) fn open(
         alloc: A,
         source: Source<S>,
@@ -71,34 +74,41 @@ impl<S: Store + Drop, A: Allocator + Copy> EntryWalk<S, A> {
         choice: Choice,
     ) -> Result<Self, ViewRefused<S>>
         ensures opened { IfOk result (IsOpenedWalk source limits.window choice) }
+        ensures kept { IfOk result (λ walk. KeepsTo limits.budget walk.fetched) }
+        ensures memory { IfOk result (λ walk. is_within limits.memory (copy_held limits.window walk.header.number_of_streams) ≡ true) }
         ensures of_file { (file : List ℕ) → source.store.content ≡ Some file
             → MatchResult result (λ _. directory_refusal file ≡ None)
-            (λ refused. (names : ℕ) → (IsOwn refused.fault → ⊥) → view_refusal file choice names ≡ Some refused.fault) }
+            (λ refused. (names : ℕ) → (IsWanting refused.fault → ⊥) → view_refusal file choice names ≡ Some refused.fault) }
         ensures cause { IfErr result (λ refused. Fetches {T = Unit {0}} (Err refused.fault) source refused.source) }
-        ensures refusal { IfErr result (λ refused. IsViewRefusal source.size refused.fault) }
+        ensures refusal { IfErr result (λ refused. IsViewRefusal limits.budget source.size refused.fault) }
+        ensures within { IfErr result (λ refused. FetchesWithin limits.budget source refused.source) }
+        ensures over { (file : List ℕ) → source.store.content ≡ Some file → IfErr result (λ refused. IsShortOf limits.budget file choice refused.fault) }
+        ensures limited { IfErr result (λ refused. IsLimited limits source.store.content refused.fault) }
         ensures short { source.size < 32 → MatchResult result (λ _. ⊥) (λ refused. refused.fault ≡ ReadFault.Opening (OpenFault.TooShort source.size)) }
         ensures spends { IfErr result (λ refused. HasSpentOpening choice source refused.source) }
         ensures tells { IfErr result (λ refused. TellsOf source.store.content refused.fault) }
     {
-        let nameless = Limits {
-            window: limits.window,
-            name: 0,
-            budget: None,
-        };
-        match Walker::open(alloc, source, nameless, choice) {
-            Ok(walker) => Ok(EntryWalk {
-                walker,
-                place: EntryPlace {
-                    number: 0,
-                    stream: 0,
-                },
-                begun: Entry {
-                    stream_type: 0,
-                    location: nowhere(),
-                },
-            }),
+        // The proof learns here that the size has 64 bits.
+        let _size = source.size();
+        match Walker::open(alloc, source, nameless(limits), choice) {
+            Ok(mut walker) => {
+                // The proof learns here that what was fetched is within the budget.
+                let _counts = walker.counts();
+                walker.lift_budget();
+                Ok(EntryWalk {
+                    walker,
+                    place: EntryPlace {
+                        number: 0,
+                        stream: 0,
+                    },
+                    begun: Entry {
+                        stream_type: 0,
+                        location: nowhere(),
+                    },
+                })
+            },
             Err(refused) => Err(ViewRefused {
-                fault: refusal(refused.fault),
+                fault: copy_refusal(refused.fault),
                 source: refused.source,
             }),
         }
@@ -196,6 +206,35 @@ impl<S: Store + Drop, A: Allocator + Copy> EntryWalk<S, A> {
         ensures booked { result.fetched ≡ raised self.start (self.fetched + self.aside) }
     {
         self.walker.into_source()
+    }
+}
+
+/// The limits of a walk that reads no names. A copy holds twice what the walk does: a view keeps 12 bytes
+/// for each entry beside the walk's 12, and what writes it has a buffer of the window's size.
+fn nameless(limits: Limits) -> Limits
+    ensures { IsNameless limits result }
+{
+    Limits {
+        window: limits.window,
+        name: 0,
+        budget: limits.budget,
+        memory: match limits.memory {
+            Some(most) => Some(most / 2),
+            None => None,
+        },
+        aside: None,
+    }
+}
+
+/// Why a file gives no view. Of memory it is told how much a copy would hold.
+fn copy_refusal(fault: OpenFault) -> ReadFault
+    ensures { result ≡ refusal_of (copy_fault fault) }
+{
+    match fault {
+        OpenFault::MemoryLimit { held } => ReadFault::Opening(OpenFault::MemoryLimit {
+            held: held.saturating_add(held),
+        }),
+        fault => refusal(fault),
     }
 }
 

@@ -2,7 +2,7 @@
 ghost use Rattle.std.specs.Prelude.{◌≡◌, ◌≤◌, ◌<◌, ◌+◌, ◌*◌, ℕ, List, None, Some, Err, IfErr, IfOk, IsTrue, MatchResult};
 ghost use Rattle.mdmp_source.specs.Store.{IsGood};
 ghost use Rattle.mdmp_dump.specs.FileView.{HasMoved, IsView, file_cursor, file_shape};
-ghost use Rattle.mdmp_dump.specs.Reading.{Fetches, IsOwn, TellsOf, store_fault};
+ghost use Rattle.mdmp_dump.specs.Reading.{Fetches, IsWanting, TellsOf, store_fault};
 
 use crate::entry_walk::{EntryWalk, ViewRefused};
 use crate::fault::ReadFault;
@@ -16,7 +16,8 @@ use std::alloc::Allocator;
 /// The dump that a file lays out, given a record at a time: its names and parts are fetched when they are
 /// asked for.
 ///
-/// It holds a window, the directory, and 12 bytes for each entry of it, however long the file is.
+/// It holds a window, the directory, and 12 bytes for each entry of it, however long the file is. Its limit
+/// of memory is that of a copy: it counts the buffer of the window's size, too, that what writes the view has.
 #[derive(Drop)]
 pub struct FileView<S: Store + Drop, A: Allocator + Copy> {
     walk: EntryWalk<S, A>,
@@ -28,6 +29,8 @@ pub struct FileView<S: Store + Drop, A: Allocator + Copy> {
     asked: u128,
     /// The fault of the last call that fetched, or none.
     last: Option<ViewFault>,
+    /// How many bytes a copy of all that it gives may fetch, with those of its opening.
+    needed: u128,
     ghost sound: { IsView A limit walk counts.items rooms.items pass passed asked last },
 }
 
@@ -35,12 +38,18 @@ impl<S: Store + Drop, A: Allocator + Copy> FileView<S, A> {
     ghost use Rattle.mdmp_dump.specs.FileRefusal.{IsViewRefusal, view_refusal};
     ghost use Rattle.mdmp_dump.specs.InFile.{dump_in};
     ghost use Rattle.mdmp_dump.specs.LaysOut.{LaysOut};
-    ghost use Rattle.mdmp_dump.specs.Opening.{HasSpentOpening, IsNewView, fetched_by, held_by, opened_by, opening_bound, source_in, started_by};
+    ghost use Rattle.mdmp_source.specs.Count.{raised};
+    ghost use Rattle.mdmp_dump.specs.Opening.{FetchesWithin, HasSpentOpening, IsLimited, IsNewView, IsShortOf, copy_bound, fetched_by, held_by, needed_by, opened_by, opening_bound, source_in, spent_by, started_by};
     ghost use Rattle.mdmp_dump.specs.Reading.{Settles};
     ghost use Rattle.mdmp_dump.specs.Shape.{IsViewOf};
 
     /// Opens a view of the chosen entries of a file. Every fault of its listing, every part that lies
     /// outside and every name over the limit is told here, the first of them in the order of the listing.
+    ///
+    /// If there is a budget, no more is fetched here: a stream is begun only if the budget has room for all
+    /// of it, and else `OpenFault::Budget` names it. Once the view is open, the budget is lifted. If there is
+    /// a limit of memory, a copy keeps to it: the view and a buffer of the window's size, so 24 bytes for
+    /// each entry of the directory and two windows. Else `OpenFault::MemoryLimit` tells how much that is.
     pub fn open(
         alloc: A,
         source: Source<S>,
@@ -51,12 +60,16 @@ impl<S: Store + Drop, A: Allocator + Copy> FileView<S, A> {
             LaysOut file choice (dump_in {Z = A} file choice) × IsViewOf (dump_in {Z = A} file choice) (⟦<FileView<S, A> as DumpView>⟧.shape view)) }
         ensures refuses { (file : List ℕ) → source.store.content ≡ Some file → Settles (view_refusal file choice limits.name) result (λ _. None) }
         ensures good { (file : List ℕ) → IsGood source.store file → IfErr result (λ fault. store_fault fault ≡ None) }
-        ensures refusal { IfErr result (IsViewRefusal source.size) }
+        ensures refusal { IfErr result (IsViewRefusal limits.budget source.size) }
         ensures short { source.size < 32 → MatchResult result (λ _. ⊥) (λ fault. fault ≡ ReadFault.Opening (OpenFault.TooShort source.size)) }
-        ensures new { IfOk result (IsNewView source limits.window choice) }
+        ensures new { IfOk result (IsNewView source limits.window limits.memory choice) }
         ensures cost { (file : List ℕ) → source.store.content ≡ Some file → IfOk result (λ view. opened_by view ≡ opening_bound file choice) }
+        ensures needs { (file : List ℕ) → source.store.content ≡ Some file → IfOk result (λ view. needed_by view ≡ raised 0 (copy_bound A file choice)) }
+        ensures kept { (most : ℕ) → limits.budget ≡ Some most → IfOk result (λ view. fetched_by view ≤ most) }
+        ensures over { (file : List ℕ) → source.store.content ≡ Some file → IfErr result (IsShortOf limits.budget file choice) }
         ensures reliable { (file : List ℕ) → IsGood source.store file → IfOk result (λ view. IsTrue (⟦<FileView<S, A> as DumpView>⟧.shape view).is_reliable) }
         ensures tells { IfErr result (TellsOf source.store.content) }
+        ensures limited { IfErr result (IsLimited limits source.store.content) }
     {
         match FileView::open_source(alloc, source, limits, choice) {
             Ok(view) => Ok(view),
@@ -74,15 +87,20 @@ impl<S: Store + Drop, A: Allocator + Copy> FileView<S, A> {
         ensures views { (file : List ℕ) → source.store.content ≡ Some file → IfOk result (λ view.
             LaysOut file choice (dump_in {Z = A} file choice) × IsViewOf (dump_in {Z = A} file choice) (⟦<FileView<S, A> as DumpView>⟧.shape view)) }
         ensures refuses { (file : List ℕ) → source.store.content ≡ Some file
-            → MatchResult result (λ _. view_refusal file choice limits.name ≡ None) (λ refused. (IsOwn refused.fault → ⊥) → view_refusal file choice limits.name ≡ Some refused.fault) }
+            → MatchResult result (λ _. view_refusal file choice limits.name ≡ None) (λ refused. (IsWanting refused.fault → ⊥) → view_refusal file choice limits.name ≡ Some refused.fault) }
         ensures cause { IfErr result (λ refused. Fetches {T = Unit {0}} (Err refused.fault) source refused.source) }
-        ensures refusal { IfErr result (λ refused. IsViewRefusal source.size refused.fault) }
+        ensures refusal { IfErr result (λ refused. IsViewRefusal limits.budget source.size refused.fault) }
         ensures short { source.size < 32 → MatchResult result (λ _. ⊥) (λ refused. refused.fault ≡ ReadFault.Opening (OpenFault.TooShort source.size)) }
-        ensures new { IfOk result (IsNewView source limits.window choice) }
+        ensures new { IfOk result (IsNewView source limits.window limits.memory choice) }
         ensures cost { (file : List ℕ) → source.store.content ≡ Some file → IfOk result (λ view. opened_by view ≡ opening_bound file choice) }
+        ensures needs { (file : List ℕ) → source.store.content ≡ Some file → IfOk result (λ view. needed_by view ≡ raised 0 (copy_bound A file choice)) }
         ensures spends { IfErr result (λ refused. HasSpentOpening choice source refused.source) }
+        ensures kept { (most : ℕ) → limits.budget ≡ Some most → IfOk result (λ view. fetched_by view ≤ most) }
+        ensures within { IfErr result (λ refused. FetchesWithin limits.budget source refused.source) }
+        ensures over { (file : List ℕ) → source.store.content ≡ Some file → IfErr result (λ refused. IsShortOf limits.budget file choice refused.fault) }
         ensures reliable { (file : List ℕ) → IsGood source.store file → IfOk result (λ view. IsTrue (⟦<FileView<S, A> as DumpView>⟧.shape view).is_reliable) }
         ensures tells { IfErr result (λ refused. TellsOf source.store.content refused.fault) }
+        ensures limited { IfErr result (λ refused. IsLimited limits source.store.content refused.fault) }
     {
         let mut walk = match EntryWalk::open(alloc, source, limits, choice) {
             Ok(walk) => walk,
@@ -92,17 +110,30 @@ impl<S: Store + Drop, A: Allocator + Copy> FileView<S, A> {
         // the number of entries has 32 bits.
         let _size = walk.size();
         let _entries = walk.header().number_of_streams;
-        match walk_all(alloc, &mut walk, limits.name) {
-            Ok(Kept { counts, rooms }) => Ok(FileView {
-                walk,
-                limit: limits.name,
-                counts,
-                rooms,
-                pass: None,
-                passed: 0,
-                asked: 0,
-                last: None,
-            }),
+        match walk_all(alloc, &mut walk, limits.name, limits.budget) {
+            Ok(
+                Kept {
+                    counts,
+                    rooms,
+                    costs,
+                    asks,
+                },
+            ) => {
+                // The proof learns here that what was fetched is within the budget.
+                let _spent = walk.fetched();
+                let opened = 32 + 12 * u128::from(walk.header().number_of_streams);
+                Ok(FileView {
+                    walk,
+                    limit: limits.name,
+                    counts,
+                    rooms,
+                    pass: None,
+                    passed: 0,
+                    asked: 0,
+                    last: None,
+                    needed: (opened + 3 * costs).saturating_add(asks),
+                })
+            }
             Err(fault) => {
                 // The proof learns here how much that is at most.
                 let _fetched = walk.fetched();
@@ -122,6 +153,15 @@ impl<S: Store + Drop, A: Allocator + Copy> FileView<S, A> {
         self.walk.held() + 12 * entries
     }
 
+    /// How many bytes a copy of all that it gives may fetch, with those of its opening: 32 for the header,
+    /// 12 for each entry, what three passes over each stream cost, and the bytes of all names, parts and
+    /// streams whose records are not known, as they were when it was opened; 2^128 - 1 if they are more.
+    pub fn needed(&self) -> u128
+        ensures { result ≡ needed_by self.now }
+    {
+        self.needed
+    }
+
     /// How many bytes were fetched since it was opened.
     pub fn fetched(&self) -> u128
         ensures value { result ≡ fetched_by self.now }
@@ -133,6 +173,7 @@ impl<S: Store + Drop, A: Allocator + Copy> FileView<S, A> {
     /// Hands the source back, which counted what was fetched since it was opened.
     pub fn into_source(self) -> Source<S>
         ensures value { result ≡ source_in self }
+        ensures booked { result.fetched ≡ raised (started_by self) (spent_by self) }
         ensures spent { result.fetched ≤ started_by self + (opened_by self + (⟦<FileView<S, A> as DumpView>⟧.spent self).passed + (⟦<FileView<S, A> as DumpView>⟧.spent self).asked) }
     {
         // The proof learns here how much that is at most.

@@ -108,7 +108,7 @@ pub(crate) fn met_room(total: u64, fields: &Fields) -> u64
 }
 
 /// The raw bytes of a stream, as a part.
-fn raw_part(entry: Entry) -> PartAt
+pub(crate) fn raw_part(entry: Entry) -> PartAt
     ensures { result ≡ raw_part entry }
 {
     let size = match kind_of(entry.stream_type) {

@@ -1,6 +1,6 @@
 //! A record as it is written, with the places of its name and parts.
 ghost use Rattle.std.specs.Prelude.{◌≡◌, ◌+◌, ◌<◌, ◌≤◌, ◌^◌};
-ghost use Rattle.mdmp_dump.specs.Placed.{address_of, far_room, fields_room, location_of, name_room, part_room, placed, size_in, slot_room};
+ghost use Rattle.mdmp_dump.specs.Placed.{address_of, far_room, fields_bytes, fields_room, location_of, name_room, part_room, placed, size_in, slot_room};
 
 use crate::view::{Fields, PartSize};
 use mdmp_source::Location;
@@ -113,6 +113,15 @@ fn address(name: PartSize, at: u64) -> u32
         PartSize::Size(_) => at as u32,
         PartSize::Absent(_) => 0,
     }
+}
+
+/// How many bytes the name and parts of a record have, without what pads them.
+pub(crate) fn part_bytes(fields: &Fields) -> u128
+    ensures value { result ≡ fields_bytes fields.now }
+    ensures bound { result ≤ 2 ^ 66 }
+{
+    let [first, second, third] = fields.parts;
+    u128::from(first.size()) + u128::from(second.size()) + u128::from(third.size())
 }
 
 /// The bytes of a part, and what pads them.

@@ -4,7 +4,7 @@ ghost use Rattle.mdmp_source.specs.Store.{IsGood};
 ghost use Rattle.mdmp_lister.specs.Format.Listing.{Numbered};
 ghost use Rattle.mdmp_dump.specs.LaysOut.{AreStreams, LaysOut};
 ghost use Rattle.mdmp_dump.specs.Left.{is_item_of, left_from, run_of};
-ghost use Rattle.mdmp_dump.specs.Reading.{Fetches, IsEntryRead, IsGoing, IsOneStream, IsRaw, IsReadRefusal, IsWithoutBudget, Settles, TellsOf, owed, read_within, refusal_of, store_fault};
+ghost use Rattle.mdmp_dump.specs.Reading.{Fetches, IsEntryRead, IsGoing, IsOneStream, IsRaw, IsReadRefusal, IsWithoutBudget, Settles, TellsLimit, TellsOf, owed, read_within, refusal_of, store_fault};
 ghost use Rattle.mdmp_dump.specs.Refusal.{read_refusal};
 
 use crate::dump::{Dump, Stream};
@@ -40,7 +40,8 @@ pub struct ReadAnswered<S: Store + Drop, A: Allocator> {
 ///
 /// It answers the first reason in the order of the listing why the file gives no dump, or want of
 /// memory, which is told as [`ReadFault::Memory`] wherever it comes behind the header and the place of
-/// the directory, or the fault of the store, or that the budget of the limits was reached.
+/// the directory, or the fault of the store, or that the budget of the limits was reached. The limit of
+/// memory is that of its lister: the dump itself is not counted.
 pub fn read_dump<S: Store + Drop, A: Allocator + Copy>(
     alloc: A,
     source: Source<S>,
@@ -54,6 +55,7 @@ pub fn read_dump<S: Store + Drop, A: Allocator + Copy>(
     ensures refusal { IfErr result (IsReadRefusal source.size) }
     ensures short { source.size < 32 → result ≡ Err (ReadFault.Opening (OpenFault.TooShort source.size)) }
     ensures tells { IfErr result (TellsOf source.store.content) }
+    ensures limited { IfErr result (TellsLimit limits choice source.store.content) }
     ensures unbudgeted { limits.budget ≡ None → IfErr result IsWithoutBudget }
 {
     read_source(alloc, source, limits, choice, parts).answer
@@ -72,6 +74,7 @@ pub fn read_source<S: Store + Drop, A: Allocator + Copy>(
     ensures cause { Fetches result.answer source result.source }
     ensures short { source.size < 32 → result.answer ≡ Err (ReadFault.Opening (OpenFault.TooShort source.size)) }
     ensures tells { IfErr result.answer (TellsOf source.store.content) }
+    ensures limited { IfErr result.answer (TellsLimit limits choice source.store.content) }
     ensures unbudgeted { limits.budget ≡ None → IfErr result.answer IsWithoutBudget }
 {
     let all = matches!(&choice, Choice::All);
@@ -114,11 +117,14 @@ pub fn read_source<S: Store + Drop, A: Allocator + Copy>(
     }
 }
 
-/// Why a file that was opened gives no dump. Without a budget no listing ends by it, which the clauses of
-/// the reader do not tell: the arms that answer want of memory are never reached.
+/// Why a file that was opened gives no dump. Without a budget no listing ends by it, and none by the limit of
+/// memory, which the clauses of the reader do not tell: the arms that answer want of memory are never reached.
 fn told_within(budget: Option<u64>, fault: ReadFault) -> ReadFault
     ensures { result ≡ read_within budget fault }
 {
+    if matches!(&fault, ReadFault::Opening(OpenFault::MemoryLimit { .. })) {
+        return ReadFault::Memory;
+    }
     if budget.is_some() {
         return fault;
     }

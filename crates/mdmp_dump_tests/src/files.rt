@@ -11,6 +11,8 @@ pub const LEAST: Limits = Limits {
     window: 168,
     name: 0,
     budget: None,
+    memory: None,
+    aside: None,
 };
 
 /// The least window, and the room for a name that the program has.
@@ -18,6 +20,8 @@ pub const NAMED: Limits = Limits {
     window: 168,
     name: 4096,
     budget: None,
+    memory: None,
+    aside: None,
 };
 
 /// What a file is made of.

@@ -78,8 +78,8 @@ fn outcome_of_view<S: Store + Drop>(
 }
 
 /// What a source is read into.
-#[derive(Clone, Copy)]
-enum ReadInto {
+#[derive(Clone, Copy, Debug)]
+pub enum ReadInto {
     Value,
     View,
 }

@@ -2,6 +2,7 @@
 mod calls;
 mod changes;
 mod copies;
+mod limits;
 mod memory;
 mod names;
 mod refused;
@@ -172,7 +173,12 @@ fn write_sample(
 }
 
 /// A file that becomes another one of the same length at this read.
-fn two_faces<'a>(rt: &impl Abort, first: &'a [u8], second: &'a [u8], turn: u64) -> TwoFaces<'a> {
+pub fn two_faces<'a>(
+    rt: &impl Abort,
+    first: &'a [u8],
+    second: &'a [u8],
+    turn: u64,
+) -> TwoFaces<'a> {
     if first.len() != second.len() {
         rt.panic("a file of another length")
     }

@@ -70,7 +70,7 @@ pub enum Counted {
 pub const OUT_OF_MEMORY: &str = "out of memory";
 
 /// What troubles a file where a budget is reached and there is none.
-pub const NO_BUDGET: &str = "the budget is reached without one";
+pub const NO_LIMIT: &str = "a limit is reached without one";
 
 /// How many things are counted.
 const THINGS: usize = 58;

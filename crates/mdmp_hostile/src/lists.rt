@@ -1,7 +1,7 @@
 //! A file listed through two windows.
 
 use crate::bounds::{check_bounds, counts_of};
-use crate::census::{Census, Counted, NO_BUDGET, OUT_OF_MEMORY};
+use crate::census::{Census, Counted, NO_LIMIT, OUT_OF_MEMORY};
 use crate::windows::{NotOpened, TwoWindows, open};
 use mdmp_lister::{
     Counts, Item, ListFault, Lister, Name, OpenFault, RunFault, Sink, Stopped, StreamItem,
@@ -109,7 +109,7 @@ pub fn list_file(
 fn refused(refusal: NotOpened, census: &mut Census) -> FileListed {
     match refusal.fault {
         OpenFault::Memory => census.keep_trouble(OUT_OF_MEMORY),
-        OpenFault::Budget { .. } => census.keep_trouble(NO_BUDGET),
+        OpenFault::Budget { .. } | OpenFault::MemoryLimit { .. } => census.keep_trouble(NO_LIMIT),
         OpenFault::Source(_) => census.keep_trouble("opening: the store is at fault"),
         _ => {},
     }

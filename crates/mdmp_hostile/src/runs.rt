@@ -1,7 +1,7 @@
 //! One file, run through.
 
 use crate::budgets::check_budgets;
-use crate::census::{Census, Counted, NO_BUDGET, OUT_OF_MEMORY};
+use crate::census::{Census, Counted, NO_LIMIT, OUT_OF_MEMORY};
 use crate::chance::Chance;
 use crate::copies::copy_file;
 use crate::damage::damage;
@@ -88,7 +88,7 @@ pub fn count_refusal(census: &mut Census, fault: OpenFault) {
         OpenFault::BadVersion { .. } => census.count(Counted::BadVersion),
         OpenFault::DirectoryOutside { .. } => census.count(Counted::DirectoryOutside),
         OpenFault::TooManyRanges { .. } => census.count(Counted::TooManyRanges),
-        OpenFault::Budget { .. } => census.keep_trouble(NO_BUDGET),
+        OpenFault::Budget { .. } | OpenFault::MemoryLimit { .. } => census.keep_trouble(NO_LIMIT),
         OpenFault::Source(_) | OpenFault::Memory => {},
     }
 }
@@ -103,7 +103,7 @@ fn count_fault(census: &mut Census, kind: FaultKind) {
         FaultKind::NameLengthOutside => census.count(Counted::NameLengthOutside),
         FaultKind::NameOdd => census.count(Counted::NameOdd),
         FaultKind::NameUnitsOutside => census.count(Counted::NameUnitsOutside),
-        FaultKind::Budget => census.keep_trouble(NO_BUDGET),
+        FaultKind::Budget => census.keep_trouble(NO_LIMIT),
         FaultKind::Source(_) => {},
     }
 }

@@ -1,5 +1,5 @@
 -- What is read beside the listing leaves of a walk.
-use Rattle.std.proofs.Common.{◌≡◌, ◌+◌, ◌-◌, ◌∙◌, ℕ, List, Result, ap, sym, vec_len}
+use Rattle.std.proofs.Common.{◌≡◌, ◌+◌, ◌-◌, ◌∙◌, ℕ, List, Result, ap, sym}
 use Rattle.std.specs.Option.{option_map}
 use Rattle.mdmp_source.specs.declared.fault.SourceFault.{SourceFault}
 use Rattle.mdmp_source.specs.declared.location.Location.{Location}
@@ -12,6 +12,7 @@ use Rattle.mdmp_lister.specs.Lister.{ListerState}
 use Rattle.mdmp_lister.specs.Meter.{BooksAside}
 use Rattle.mdmp_lister.specs.Walk.Mapping.{IsMapped}
 use Rattle.mdmp_lister.specs.Walk.Paying.{owed_of, unread_bytes}
+use Rattle.mdmp_lister.specs.CodeView.{codeview_most}
 use Rattle.mdmp_lister.specs.Walk.Requests.{CodeViewFetched}
 use Rattle.mdmp_lister.specs.Walk.{IsSound, left_of, left_of_entry}
 
@@ -28,7 +29,7 @@ state_aside old new is limit left unread =
 
 module _ {S A : Type 0} where
   -- but for what was counted and the bytes of the buffer of names it stays
-  pub aside_sound : (n : ℕ) (w new : Walk S A) → IsSound w → BooksAside n w.meter new.meter → vec_len new.name ≡ vec_len w.name → IsSound (record w { meter = new.meter; name = new.name })
+  pub aside_sound : (n : ℕ) (w new : Walk S A) → IsSound w → BooksAside n w.meter new.meter → new.name.limit ≡ w.name.limit → IsSound (record w { meter = new.meter; name = new.name })
   aside_sound n w new old books room =
       let content = books.fetches.same_content in
       let size = books.fetches.same_size in
@@ -38,6 +39,7 @@ module _ {S A : Type 0} where
         small = rw room old.small;
         few = old.few;
         whole = old.whole;
+        listed = rw size old.listed;
         placed = old.placed;
         staged = rw size old.staged;
         holding = rw content old.holding;
@@ -49,7 +51,7 @@ module _ {S A : Type 0} where
         refused = rw room (over_at_kept _ w.stage w.meter new.meter books.spends.same_budget books.spends.same_fetched books.spends.same_asked size old.refused);
       }
 
-  aside_mapped : (n : ℕ) (w new : Walk S A) (map : MapState) → IsMapped w map → BooksAside n w.meter new.meter → vec_len new.name ≡ vec_len w.name → IsMapped (record w { meter = new.meter; name = new.name }) map
+  pub aside_mapped : (n : ℕ) (w new : Walk S A) (map : MapState) → IsMapped w map → BooksAside n w.meter new.meter → new.name.limit ≡ w.name.limit → IsMapped (record w { meter = new.meter; name = new.name }) map
   aside_mapped n w new map old books room =
       let content = books.fetches.same_content in
       let size = books.fetches.same_size in
@@ -66,7 +68,7 @@ module _ {S A : Type 0} where
       }
 
   pub codeview_mapped : (at : Location) (w new : Walk S A) (result : Result CodeViewRead SourceFault) (map : MapState) → CodeViewFetched at w result new → IsMapped w map → IsMapped new map
-  codeview_mapped at w new result map fetched old = rw fetched.same (aside_mapped (24 + vec_len w.name) w new map old fetched.read.reads.books fetched.room)
+  codeview_mapped at w new result map fetched old = rw fetched.same (aside_mapped (codeview_most at w.name.limit) w new map old fetched.read.reads.books fetched.room)
 
   -- what is left, where names have at most `limit` bytes
   abbrev left_by : ℕ → Walk S A → List ℕ → Run

@@ -1,5 +1,5 @@
 -- What the Stream item of an entry leaves of a walk.
-use Rattle.std.proofs.Common.{◌≡◌, ◌+◌, ◌∙◌, ◌∷◌, ℕ, List, Some, Ok, arith, ap, get_or, refl, slice_get, subst, sym, vec_len}
+use Rattle.std.proofs.Common.{◌≡◌, ◌+◌, ◌∙◌, ◌∷◌, ℕ, List, Some, Ok, arith, ap, get_or, refl, slice_get, subst, sym}
 use Rattle.std.proofs.Math.Nat.{add-sub_cancel}
 use Rattle.std.proofs.lemmas.Option.{slice_get_read}
 use Rattle.mdmp_wire.specs.declared.entry.Entry.{Entry}
@@ -40,11 +40,11 @@ module _ {S A : Type 0} (w : Walk S A) (at : ℕ) (e : Entry) where
         let ok = w.entries.ok.0 in
         record {
           sound = then;
-          same = record { header_is = refl; entries = refl; choice = refl; window = refl; name = refl };
+          same = record { header_is = refl; entries = refl; choice = refl; listed = refl; window = refl; name = refl };
           listing = λ file known.
               rw (add-sub_cancel at 1)
               (through-left w file through
-              ∙ listing_from-first file w.choice (vec_len w.name) w.next at e (next.first file (sound.directory file known)) (is_entry file known));
+              ∙ listing_from-first file w.choice w.name.limit w.next at e (next.first file (sound.directory file known)) (is_entry file known));
           given = record { held = (tt, tt); begins = refl; head = refl; falls = omega (arith, ok, next.within) };
           met = λ _. tt;
           stage = refl;
@@ -52,7 +52,7 @@ module _ {S A : Type 0} (w : Walk S A) (at : ℕ) (e : Entry) where
           current = refl;
           records = λ some. absurd (omega (arith, some, through-none w.stage through));
           follows = λ _.
-              goes_on (goes_through w.choice w.entries.items w.meter.source.size (vec_len w.name) (cursor_of w) w.stage (Ok (Some stream)) (cursor_of began) through
+              goes_on (goes_through w.choice w.entries.items w.meter.source.size w.name.limit (cursor_of w) w.stage (Ok (Some stream)) (cursor_of began) through
               (record { number = at; entry = e; first = next.stands e is_read; step_is = refl; stands = refl }));
           rests = omega (arith, ok, next.within);
           fetches = FetchesAtMost-within 0 _ w.meter.source w.meter.source (omega arith) (FetchesAtMost-none w.meter.source);

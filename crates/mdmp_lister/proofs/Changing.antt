@@ -137,7 +137,7 @@ module _ {S A : Type 0} (room : ℕ) (old mid : Walk S A) (f : ListFault) (head 
 
   same : SameEntry old stopped
   same = record {
-    room = record { header_is = head.same.room.header_is; entries = head.same.room.entries; choice = head.same.room.choice; window = head.same.room.window; name = head.same.room.name };
+    room = record { header_is = head.same.room.header_is; entries = head.same.room.entries; choice = head.same.room.choice; listed = head.same.room.listed; window = head.same.room.window; name = head.same.room.name };
     next = head.same.next;
     current = head.same.current;
   }

@@ -39,13 +39,13 @@ pub fetched_within : (head : List ℕ) (size room : ℕ) → fetched_behind head
 fetched_within head size room = grind (arith, common_steps)
 
 -- what a record tells by its first bytes and the fetched ones behind them
-pub codeview-fetched : (F head name past : List ℕ) (at : Location) (limit count : ℕ) → head ≡ take (length head) (drop at.rva F) → length head ≡ min at.size 24
-    → name ≡ take (length name) (drop (at.rva + 24) F) → length name ≡ count → count ≡ min (at.size - 24) limit → codeview_in head (take count (name ++ past)) at.size ≡ codeview_of F at limit
+pub codeview-fetched : (F head buffer : List ℕ) (at : Location) (limit count : ℕ) → head ≡ take (length head) (drop at.rva F) → length head ≡ min at.size 24
+    → take count buffer ≡ take count (drop (at.rva + 24) F) → count ≡ min (at.size - 24) limit → codeview_in head (take count buffer) at.size ≡ codeview_of F at limit
 unfolding array_at
-codeview-fetched F head name past at limit count first size behind long fits =
+codeview-fetched F head buffer at limit count first size behind fits =
     let front : head ≡ array_at F at.rva (min at.size 24) = subst (λ n. head ≡ take n (drop at.rva F)) size first in
-    let rest : name ≡ array_at F (at.rva + 24) (min (at.size - 24) limit) = subst (λ n. name ≡ take n (drop (at.rva + 24) F)) (long ∙ fits) behind in
-    ap (λ bytes. codeview_in bytes (take count (name ++ past)) at.size) front ∙ ap (λ bytes. codeview_in (array_at F at.rva (min at.size 24)) bytes at.size) (front-kept name past count long ∙ rest)
+    let rest : take count buffer ≡ array_at F (at.rva + 24) (min (at.size - 24) limit) = subst (λ n. take count buffer ≡ take n (drop (at.rva + 24) F)) fits behind in
+    ap (λ bytes. codeview_in bytes (take count buffer) at.size) front ∙ ap (λ bytes. codeview_in (array_at F at.rva (min at.size 24)) bytes at.size) rest
 
 -- bytes that are lent tell what was read
 module _ (bytes : CodeViewBytes) (read : CodeViewRead) (head : bytes.head ≡ read.head) (size : bytes.size ≡ read.size) where

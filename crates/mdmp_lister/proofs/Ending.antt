@@ -1,5 +1,5 @@
 -- A walk at its end.
-use Rattle.std.proofs.Common.{◌≡◌, ◌≤◌, ◌-◌, ◌∙◌, ℕ, List, length, arith, ap, vec_len}
+use Rattle.std.proofs.Common.{◌≡◌, ◌≤◌, ◌-◌, ◌∙◌, ℕ, List, length, arith, ap}
 use Rattle.mdmp_lister.specs.declared.stage.Stage.TheVariants.{Ended}
 use Rattle.mdmp_lister.specs.declared.walk.Walk.{Walk}
 use Rattle.mdmp_lister.specs.declared.stage.Stage.{Stage}
@@ -14,10 +14,10 @@ use Rattle.mdmp_lister.proofs.Entries.{listing_from-end}
 module _ {S A : Type 0} (w : Walk S A) (file : List ℕ) where
   pub left_of-ended : w.stage ≡ Ended → length w.entries.items ≤ w.next → IsDirectory file w.entries.items → left_of w file ≡ nothing
   left_of-ended end over directory =
-      ap (λ (s : Stage). joined (left_of_entry file (vec_len w.name) (w.next - 1) w.current s) (listing_from file w.choice (vec_len w.name) w.next)) end
-      ∙ listing_from-end file w.choice (vec_len w.name) w.next (omega (arith, over, directory.count))
+      ap (λ (s : Stage). joined (left_of_entry file w.name.limit (w.next - 1) w.current s) (listing_from file w.choice w.name.limit w.next)) end
+      ∙ listing_from-end file w.choice w.name.limit w.next (omega (arith, over, directory.count))
 
   pub left_of-fault : (f : ListFault) → w.stage ≡ fault_stage f → left_of w file ≡ only_fault f
   left_of-fault f at =
-      ap (λ (s : Stage). joined (left_of_entry file (vec_len w.name) (w.next - 1) w.current s) (listing_from file w.choice (vec_len w.name) w.next)) at
-      ∙ ap (λ (run : Run). joined run (listing_from file w.choice (vec_len w.name) w.next)) (fault_stage-left file (vec_len w.name) (w.next - 1) w.current f)
+      ap (λ (s : Stage). joined (left_of_entry file w.name.limit (w.next - 1) w.current s) (listing_from file w.choice w.name.limit w.next)) at
+      ∙ ap (λ (run : Run). joined run (listing_from file w.choice w.name.limit w.next)) (fault_stage-left file w.name.limit (w.next - 1) w.current f)

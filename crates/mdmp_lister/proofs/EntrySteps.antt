@@ -1,5 +1,5 @@
 -- What requests leave of a walk within an entry: behind its head, behind each record, and at their faults.
-use Rattle.std.proofs.Common.{◌≡◌, ◌≤◌, ◌<◌, ◌+◌, ◌-◌, ◌*◌, ◌/◌, ◌^◌, ◌∙◌, ℕ, List, None, Some, Ok, Err, false, arith, ap, length, min, refl, subst, sym, vec_len}
+use Rattle.std.proofs.Common.{◌≡◌, ◌≤◌, ◌<◌, ◌+◌, ◌-◌, ◌*◌, ◌/◌, ◌^◌, ◌∙◌, ℕ, List, None, Some, Ok, Err, false, arith, ap, length, min, refl, subst, sym}
 use Rattle.mdmp_source.specs.Store.{IsGood}
 use Rattle.mdmp_lister.specs.declared.fault.Fault.{Fault}
 use Rattle.mdmp_lister.specs.declared.fault.FaultKind.TheVariants.{StreamOutside}
@@ -71,7 +71,7 @@ module _ {S A : Type 0} (old new : Walk S A) (kind : StreamKind) (at : old.stage
         same = same;
         left = λ file content.
             let size = rw content at sound.sized in
-            rw (next, at, same.room.name, same.next, same.current) (sym (body-shaped file (vec_len old.name) (old.next - 1) e kind (rw size at whole) known head.shape (shape file content)));
+            rw (next, at, same.room.name, same.next, same.current) (sym (body-shaped file old.name.limit (old.next - 1) e kind (rw size at whole) known head.shape (shape file content)));
         stage = rw next tt;
         begins =
             let whole_count : head.shape.count ≡ head.shape.count - 0 = omega arith in
@@ -85,7 +85,7 @@ module _ {S A : Type 0} (old new : Walk S A) (kind : StreamKind) (at : old.stage
       }
 
   pub answered_head : (f : ListFault) → new.stage ≡ fault_stage f → FaultMet old f new → spent ≤ old.current.location.size
-      → ((file : List ℕ) → old.meter.source.store.content ≡ Some file → (IsUnobtained f.kind → ⊥) → entry_body file (vec_len old.name) (record { number = old.next - 1; entry = old.current }) ≡ only_fault f)
+      → ((file : List ℕ) → old.meter.source.store.content ≡ Some file → (IsUnobtained f.kind → ⊥) → entry_body file old.name.limit (record { number = old.next - 1; entry = old.current }) ≡ only_fault f)
       → ((file : List ℕ) → IsGood old.meter.source.store file → IsOfStore f.kind → ⊥)
       → (fault : Fault) → IsListFaultOf (old.next - 1) None fault f → IsSomeShape old.current.location kind (Err fault) → Answered old (Err f) new
   unfolding stream_calls
@@ -95,7 +95,7 @@ module _ {S A : Type 0} (old new : Walk S A) (kind : StreamKind) (at : old.stage
       let inside = listed-inside z e kind whole known in
       answered_fault spent 1 spent old new f sound (rw at at sound.staged) (rw at refl) (rw at (omega arith)) same next met
       books.fetches (omega arith)
-      (Spends-booked 1 spent (vec_len old.name) old.meter new.meter books)
+      (Spends-booked 1 spent old.name.limit old.meter new.meter books)
       (rw (at, entry_cost-listed (λ d. d) z e kind known inside) bytes)
       (rw (at, entry_cost-listed (stream_calls old.window.room) z e kind known inside) (omega arith))
       (λ file content not. rw at (left file content not)) good
@@ -111,7 +111,7 @@ module _ {S A : Type 0} (old new : Walk S A) (f : ListFault) (at : old.stage ≡
   stopped = record old { stage = fault_stage f }
 
   same : SameEntry old stopped
-  same = record { room = record { header_is = refl; entries = refl; choice = refl; window = refl; name = refl }; next = refl; current = refl }
+  same = record { room = record { header_is = refl; entries = refl; choice = refl; listed = refl; window = refl; name = refl }; next = refl; current = refl }
 
   outside_answered : (fault : Fault) → IsListFaultOf (old.next - 1) None fault f → location_fault old.meter.source.size old.current ≡ Some fault → fault.kind ≡ StreamOutside
       → Answered old (Err f) stopped
@@ -127,7 +127,7 @@ module _ {S A : Type 0} (old new : Walk S A) (f : ListFault) (at : old.stage ≡
         over = rw is tt;
       })
       (FetchesAtMost-none old.meter.source) (omega arith)
-      (Spends-booked 0 0 (vec_len old.name) old.meter old.meter (Books_none 0 0 old.meter))
+      (Spends-booked 0 0 old.name.limit old.meter old.meter (Books_none 0 0 old.meter))
       (omega arith) (omega arith)
       (λ file content not.
       let here : location_fault (length file) old.current ≡ Some fault = rw (rw content at sound.sized) at located in
@@ -152,7 +152,7 @@ module _ {S A : Type 0} (old new : Walk S A) (kind : StreamKind) (shape : Shape)
   -- the rest of the entry is left behind it
   pub given_record : (step : Step) (next : ℕ) → new.stage ≡ stage.Records kind shape (k + 1) next
       → ((file : List ℕ) → old.meter.source.store.content ≡ Some file → (kind ≡ Memory64 → offset ≡ range_offset file old.current.location.rva k)
-      → item_at file (vec_len old.name) (old.next - 1) k old.current.location.rva place kind ≡ Ok (step_item old.meter.source.size new.name.items step))
+      → item_at file old.name.limit (old.next - 1) k old.current.location.rva place kind ≡ Ok (step_item old.meter.source.size new.name.items step))
       → RecordGiven old step new
   given_record step next on item = record {
     same = same;
@@ -160,16 +160,16 @@ module _ {S A : Type 0} (old new : Walk S A) (kind : StreamKind) (shape : Shape)
     left = λ file known.
         let here = (rw at at (sound.headed file known)).1 in
         rw (on, at, same.room.name, same.next, same.current)
-        (records-given file (vec_len old.name) (old.next - 1) old.current.location.rva kind shape k left _ (rw stands at (item file known here)));
+        (records-given file old.name.limit (old.next - 1) old.current.location.rva kind shape k left _ (rw stands at (item file known here)));
   }
 
   pub answered_record : (spent : ℕ) (step : Step) (next : ℕ) → new.stage ≡ stage.Records kind shape (k + 1) next → next ≡ offset + bytes_behind step → next < offset + 2 ^ 64
-      → ReadsRecord old.window.room spent (vec_len old.name) (Ok step) old.meter new.meter → TellsRecord (vec_len old.name) kind step
+      → ReadsRecord old.window.room spent old.name.limit (Ok step) old.meter new.meter → TellsRecord (length new.name.items) kind step
       → ComesTo place old.meter.source.store.content old.window new.window → spent + unfetched new.window ≤ unfetched old.window
       → min 1 spent + fills greatest_record new.window ≤ fills greatest_record old.window
       → ((file : List ℕ) → old.meter.source.store.content ≡ Some file → (kind ≡ Memory64 → offset ≡ range_offset file old.current.location.rva k)
-      → item_at file (vec_len old.name) (old.next - 1) k old.current.location.rva place kind ≡ Ok (step_item old.meter.source.size new.name.items step))
-      → IsSomeRecord old.meter.source.size (vec_len old.name) kind (old.next - 1) k offset step
+      → item_at file old.name.limit (old.next - 1) k old.current.location.rva place kind ≡ Ok (step_item old.meter.source.size new.name.items step))
+      → IsSomeRecord old.meter.source.size old.name.limit kind (old.next - 1) k offset step
       → Answered old (Ok (Some step)) new
   answered_record spent step next on behind bound reads tells comes bytes called item some =
       let z = old.meter.source.size in
@@ -183,13 +183,13 @@ module _ {S A : Type 0} (old new : Walk S A) (kind : StreamKind) (shape : Shape)
         λ list.
             let here = headed.1 in
             let places = reading.ranges list in
-            range-next file (vec_len old.name) (old.next - 1) k e.location.rva place z offset next new.name.items kind step list tells.held.1
+            range-next file old.name.limit (old.next - 1) k e.location.rva place z offset next new.name.items kind step list tells.held.1
             (item file known here) (here list) (rw (places.0, places.1) at stands) behind,
       ))
       (λ end. absurd (cc)) (λ file good. rw on tt) (rw on tt))
       (rw at refl) (rw on refl) (rw (on, at) (omega (arith, left))) (rw (on, at) (omega (arith, left)))
       same (tells.passed old.next) (tells.stays e)
-      (rw (reading.known, same.room.name) tells.held) tells.begins
+      (rw reading.known tells.held) tells.begins
       reads.fetches (omega arith)
       reads.spends (rw (on, at) (omega (arith, bytes))) (rw (on, at) (omega (arith, called)))
       reads.named
@@ -206,12 +206,12 @@ module _ {S A : Type 0} (old new : Walk S A) (kind : StreamKind) (shape : Shape)
         },
       )))
 
-  pub answered_record_fault : (spent : ℕ) (fault : Fault) (f : ListFault) → new.stage ≡ fault_stage f → ReadsRecord old.window.room spent (vec_len old.name) (Err fault) old.meter new.meter
+  pub answered_record_fault : (spent : ℕ) (fault : Fault) (f : ListFault) → new.stage ≡ fault_stage f → ReadsRecord old.window.room spent old.name.limit (Err fault) old.meter new.meter
       → spent ≤ unfetched old.window → min 1 spent ≤ fills greatest_record old.window
       → IsListFaultOf (old.next - 1) (Some k) fault f
       → ((file : List ℕ) → old.meter.source.store.content ≡ Some file → (kind ≡ Memory64 → offset ≡ range_offset file old.current.location.rva k) → (IsUnobtained fault.kind → ⊥)
-      → item_at file (vec_len old.name) (old.next - 1) k old.current.location.rva place kind ≡ Err fault)
-      → IsRecordFault old.meter.source.size (vec_len old.name) kind fault
+      → item_at file old.name.limit (old.next - 1) k old.current.location.rva place kind ≡ Err fault)
+      → IsRecordFault old.meter.source.size old.name.limit kind fault
       → Answered old (Err f) new
   answered_record_fault spent fault f next reads bytes called told item some =
       let e = old.current in
@@ -227,7 +227,7 @@ module _ {S A : Type 0} (old new : Walk S A) (kind : StreamKind) (shape : Shape)
       (λ file known not.
       let here = (rw at at (sound.headed file known)).1 in
       let other : IsUnobtained fault.kind → ⊥ = λ is. not (rw (sym told.kind) at is) in
-      rw (at, told.of_file other) (records-faulted file (vec_len old.name) (old.next - 1) e.location.rva kind shape k left fault (rw stands at (item file known here other))))
+      rw (at, told.of_file other) (records-faulted file old.name.limit (old.next - 1) e.location.rva kind shape k left fault (rw stands at (item file known here other))))
       (λ file good. not_of_source f.kind (ap source_of told.kind ∙ reads.caused.caused.good file good))
       (following.goes_on (rw at (
         λ none. absurd (omega (arith, none, left)),

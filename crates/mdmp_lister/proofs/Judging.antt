@@ -1,5 +1,5 @@
 -- What a check reads of an entry: items one behind the other, and the fault or the end behind them.
-use Rattle.std.proofs.Common.{◌≡◌, ◌≤◌, ◌+◌, ◌-◌, ◌++◌, ◌∷◌, [], ◌∙◌, ℕ, List, false, Option, Some, None, Ok, Err, arith, ap, append_assoc, append-nil, refl, subst, sym, vec_len}
+use Rattle.std.proofs.Common.{◌≡◌, ◌≤◌, ◌+◌, ◌-◌, ◌++◌, ◌∷◌, [], ◌∙◌, ℕ, List, false, Option, Some, None, Ok, Err, arith, ap, append_assoc, append-nil, refl, subst, sym}
 use Rattle.std.proofs.lemmas.List.Elements.{filter_map-append}
 use Rattle.std.proofs.lemmas.List.Sums.{sum_by-append, sum_by-cons}
 use Rattle.std.specs.Prelude.{map}
@@ -77,6 +77,7 @@ module _ {S A : Type 0} where
     header_is = then.header_is ∙ first.header_is;
     entries = then.entries ∙ first.entries;
     choice = then.choice ∙ first.choice;
+    listed = then.listed ∙ first.listed;
     window = then.window ∙ first.window;
     name = then.name ∙ first.name;
   }
@@ -89,19 +90,19 @@ module _ {S A : Type 0} where
   }
 
   same_entry_none : (a : Walk S A) → SameEntry a a
-  same_entry_none a = record { room = record { header_is = refl; entries = refl; choice = refl; window = refl; name = refl }; next = refl; current = refl }
+  same_entry_none a = record { room = record { header_is = refl; entries = refl; choice = refl; listed = refl; window = refl; name = refl }; next = refl; current = refl }
 
   -- ---- items
 
   -- what comes next is said by the choice, the directory and the sizes of an earlier walk too
   may_before : (xs : List Item) (a b c : Walk S A) → SameRoom a b → b.meter.source.size ≡ a.meter.source.size
-      → MayCome b.choice b.entries.items b.meter.source.size (vec_len b.name) (cursor_of b) xs (cursor_of c)
-      → MayCome a.choice a.entries.items a.meter.source.size (vec_len a.name) (cursor_of b) xs (cursor_of c)
+      → MayCome b.choice b.entries.items b.meter.source.size b.name.limit (cursor_of b) xs (cursor_of c)
+      → MayCome a.choice a.entries.items a.meter.source.size a.name.limit (cursor_of b) xs (cursor_of c)
   may_before xs a b c same size may =
-      subst (λ z. MayCome a.choice a.entries.items z (vec_len a.name) (cursor_of b) xs (cursor_of c)) size
+      subst (λ z. MayCome a.choice a.entries.items z a.name.limit (cursor_of b) xs (cursor_of c)) size
       (subst (λ n. MayCome a.choice a.entries.items b.meter.source.size n (cursor_of b) xs (cursor_of c)) same.name
-      (subst (λ (es : List Entry). MayCome a.choice es b.meter.source.size (vec_len b.name) (cursor_of b) xs (cursor_of c)) (ap (λ es. es.items) same.entries)
-      (subst (λ (o : Choice). MayCome o b.entries.items b.meter.source.size (vec_len b.name) (cursor_of b) xs (cursor_of c)) same.choice may)))
+      (subst (λ (es : List Entry). MayCome a.choice es b.meter.source.size b.name.limit (cursor_of b) xs (cursor_of c)) (ap (λ es. es.items) same.entries)
+      (subst (λ (o : Choice). MayCome o b.entries.items b.meter.source.size b.name.limit (cursor_of b) xs (cursor_of c)) same.choice may)))
 
   pub items_then : (xs ys : List Item) (a b c : Walk S A) (m n o : MapState) → ItemsRead xs a m b n → ItemsRead ys b n c o → ItemsRead (xs ++ ys) a m c o
   items_then xs ys a b c m n o first then =
@@ -118,7 +119,7 @@ module _ {S A : Type 0} where
         names = omega (arith, all, first.names, then.names);
         cost = HasCost-then (unread_bytes a) (unread_bytes b) (unread_bytes c) a.meter.source b.meter.source c.meter.source xs ys first.cost then.cost;
         rests = omega (arith, first.rests, then.rests);
-        may = may_then a.choice a.entries.items a.meter.source.size (vec_len a.name) (cursor_of a) (cursor_of b) (cursor_of c) xs ys first.may
+        may = may_then a.choice a.entries.items a.meter.source.size a.name.limit (cursor_of a) (cursor_of b) (cursor_of c) xs ys first.may
             (may_before ys a b c first.same.room first.cost.fetches.same_size then.may);
       }
 
@@ -133,7 +134,7 @@ module _ {S A : Type 0} where
     names = omega arith;
     cost = HasCost-none (unread_bytes a) a.meter.source;
     rests = omega arith;
-    may = may_none a.choice a.entries.items a.meter.source.size (vec_len a.name) (cursor_of a);
+    may = may_none a.choice a.entries.items a.meter.source.size a.name.limit (cursor_of a);
   }
 
   -- the head was read, and no item
@@ -198,7 +199,7 @@ module _ {S A : Type 0} where
           names = omega (arith, names, one, same);
           cost =
               let z = a.meter.source.size in
-              let fits = rw b.name.ok.0 at held.0 in
+              let fits = held.0 in
               let begins : (summary_of x).stream ≡ stream_told step = begins_as b.meter.source.size b.name.items step x item.item in
               let spent : item_cost x ≡ step_cost step = item_cost-step b.meter.source.size b.name.items _ step x fits held.1 item.item in
               HasCost-one (unread_bytes a) (unread_bytes b) a.meter.source b.meter.source x
@@ -212,7 +213,7 @@ module _ {S A : Type 0} where
               (
                 record {
                   read = step;
-                  told = rw (item.item, size) (step-told a.meter.source.size b.name.items step (rw b.name.ok.0 at held.0));
+                  told = rw (item.item, size) (step-told a.meter.source.size b.name.items step held.0);
                   follows = e.follows going;
                 },
                 refl,
@@ -284,7 +285,7 @@ module _ {S A : Type 0} where
       → current_of a file ≡ only_fault f
   fault_left a b f file e known not =
       let left = current_of a file in
-      joined_fault left.items left.fault (rest_of a file) f (listed_begins file (vec_len a.name) (chosen_from file a.choice a.next)) (e.listing file known not).0
+      joined_fault left.items left.fault (rest_of a file) f (listed_begins file a.name.limit (chosen_from file a.choice a.next)) (e.listing file known not).0
 
 -- ---- an entry that was judged
 
@@ -298,7 +299,7 @@ module _ {S A : Type 0} (items : List Item) (a b : Walk S A) (m n : MapState) (r
     ranges = read.ranges;
     left = λ file known.
         read.left file known
-        ∙ ap (give_all items) (stage-through file (vec_len b.name) (b.next - 1) b.current b.stage through)
+        ∙ ap (give_all items) (stage-through file b.name.limit (b.next - 1) b.current b.stage through)
         ∙ ap (λ (xs : List Item). record { items = xs; fault = None }) (append-nil items);
     counts = moves_then (names_of_all items) 0 (names_of_all items + 0) a.meter b.meter b.meter (omega arith) read.counts (Moves-none 0 b.meter);
     names = omega (arith, read.names);
@@ -309,16 +310,16 @@ module _ {S A : Type 0} (items : List Item) (a b : Walk S A) (m n : MapState) (r
   }
 
   module _ (c : Walk S A) (o : MapState) (f : ListFault) (going : stop_of b.stage ≡ None) (met : FaultRead b n f c o) where
-    fetched : FetchesAtMost (unread_bytes a + items_cost a.meter.source.size items + bad_name_cost (vec_len a.name) f.kind) a.meter.source c.meter.source
+    fetched : FetchesAtMost (unread_bytes a + items_cost a.meter.source.size items + bad_name_cost a.name.limit f.kind) a.meter.source c.meter.source
     fetched =
-        let limit : bad_name_cost (vec_len b.name) f.kind ≡ bad_name_cost (vec_len a.name) f.kind = ap (λ n. bad_name_cost n f.kind) read.same.room.name in
-        FetchesAtMost-within _ (unread_bytes a + items_cost a.meter.source.size items + bad_name_cost (vec_len a.name) f.kind) a.meter.source c.meter.source (omega (arith, limit, read.cost.within))
+        let limit : bad_name_cost b.name.limit f.kind ≡ bad_name_cost a.name.limit f.kind = ap (λ n. bad_name_cost n f.kind) read.same.room.name in
+        FetchesAtMost-within _ (unread_bytes a + items_cost a.meter.source.size items + bad_name_cost a.name.limit f.kind) a.meter.source c.meter.source (omega (arith, limit, read.cost.within))
         (fetches_then _ _ a.meter.source b.meter.source c.meter.source read.cost.fetches met.answered.fetches)
 
     here : SameEntry b c
     here = record { room = met.answered.same; next = met.answered.passed; current = met.answered.current }
 
-    follows : Follows a.choice a.entries.items a.meter.source.size (vec_len a.name) (cursor_of b) (Err f) (cursor_of c)
+    follows : Follows a.choice a.entries.items a.meter.source.size a.name.limit (cursor_of b) (Err f) (cursor_of c)
     follows =
         rw (sym read.same.room.choice, sym (ap (λ es. es.items) read.same.room.entries), sym read.cost.fetches.same_size, sym read.same.room.name) (met.answered.follows going)
 
@@ -355,7 +356,7 @@ module _ {S A : Type 0} (items : List Item) (a b : Walk S A) (m n : MapState) (r
             items = items;
             behind = read.may.behind;
             come = read.may.come;
-            ends = (cursor_of c, follows_read a.choice a.entries.items a.meter.source.size (vec_len a.name) read.may.behind (cursor_of b) (Err f) (cursor_of c) read.may.reads follows);
+            ends = (cursor_of c, follows_read a.choice a.entries.items a.meter.source.size a.name.limit read.may.behind (cursor_of b) (Err f) (cursor_of c) read.may.reads follows);
           };
         }
 

@@ -1,5 +1,5 @@
 -- What a request for the next item leaves, as those who list see it.
-use Rattle.std.proofs.Common.{◌≡◌, ◌<◌, ◌∙◌, arith, ℕ, List, Option, None, Some, Result, Ok, Err, ap, length, refl, slice_get, sym, vec_capacity, vec_len}
+use Rattle.std.proofs.Common.{◌≡◌, ◌<◌, ◌∙◌, arith, ℕ, List, Option, None, Some, Result, Ok, Err, ap, length, refl, slice_get, sym, vec_capacity}
 use Rattle.std.specs.Option.{option_map}
 use Rattle.mdmp_map.specs.declared.range.Range.{Range}
 use Rattle.mdmp_lister.specs.declared.fault.ListFault.{ListFault}
@@ -37,7 +37,7 @@ module _ {S A : Type 0} where
     header = w.header;
     entries = w.entries.items;
     choice = w.choice;
-    limit = vec_len w.name;
+    limit = w.name.limit;
     rooms = record { entries = vec_capacity w.entries; window = w.window.room; ranges = room };
     passed = w.next;
     current = w.current;
@@ -97,7 +97,7 @@ module _ {S A : Type 0} (w n : Walk S A) (room : ℕ) where
   pub follows_item : (rs rest : List Range) (s : Step) (x : Item) → Answered w (Ok (Some s)) n → plain x ≡ step_item n.meter.source.size n.name.items s → stop_of w.stage ≡ None
       → AnswersNext (listed_by rs room w) (Ok (Some x)) (listed_by rest room n)
   follows_item rs rest s x e told going =
-      let held : IsNameHeld (length n.name.items) s = rw n.name.ok.0 at e.given.held.0 in
+      let held : IsNameHeld (length n.name.items) s = e.given.held.0 in
       record {
         read = Ok (Some s);
         told = (plain x, (refl, rw (told, e.fetches.same_size) (step-told w.meter.source.size n.name.items s held)));
@@ -189,7 +189,7 @@ module _ {S A : Type 0} (w n : Walk S A) (room : ℕ) where
         record {
           same = same_list rs rest (Ok (Some s)) e;
           spends = record {
-            fetches = rw (item_cost-step z buffer _ s x (rw n.name.ok.0 at held.0) held.1 told, begins) e.fetches;
+            fetches = rw (item_cost-step z buffer _ s x held.0 held.1 told, begins) e.fetches;
             counts = e.counts;
             names = names_raised z buffer _ s x w.meter.names n.meter.names held.1 told e.named;
             names_at_fault = λ _. tt;

@@ -26,6 +26,7 @@ pub mod Leaving
 pub mod Listed
 pub mod Looks
 pub mod Mapping
+pub mod Memory
 pub mod Metering
 pub mod NameRows
 pub mod Naming
@@ -51,3 +52,4 @@ pub mod Unchanged
 pub mod Unseen
 pub mod Verdicts
 pub mod Walked
+pub mod Painted

@@ -6,7 +6,7 @@ use Rattle.mdmp_wire.specs.declared.entry.Entry.{Entry}
 use Rattle.mdmp_lister.specs.declared.choice.Choice.{Choice}
 use Rattle.mdmp_lister.specs.Format.Listing.{is_chosen}
 use Rattle.mdmp_lister.specs.Format.Numbers.{is_listed}
-use Rattle.mdmp_lister.specs.Walk.Paying.{cost_by, entry_cost_by, sizes_in}
+use Rattle.mdmp_lister.specs.Listed.{cost_by, entry_cost_by, sizes_in}
 
 module _ (f : ℕ → ℕ) (choice : Choice) (size : ℕ) where
   then_sum : (chosen listed : Bool) (e : Entry) (es : List Entry)

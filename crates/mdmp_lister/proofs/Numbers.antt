@@ -14,7 +14,8 @@ use Rattle.mdmp_lister.specs.Format.Bounds.{call_bound, fetch_bound}
 use Rattle.mdmp_lister.specs.Format.Numbers.{is_listed, listed_entries, listed_bytes, listed_sizes, sizes_of}
 use Rattle.mdmp_lister.specs.Format.Directory.{IsDirectory}
 use Rattle.mdmp_lister.specs.Format.Listing.{Numbered, entries_from, entry_of, is_chosen, only_chosen}
-use Rattle.mdmp_lister.specs.Walk.Paying.{IsBounded, cost_by, cost_of, sizes_in, stream_calls}
+use Rattle.mdmp_lister.specs.Walk.Paying.{IsBounded, stream_calls}
+use Rattle.mdmp_lister.specs.Listed.{cost_by, cost_of, sizes_in}
 use Rattle.mdmp_lister.specs.Walk.{IsSound}
 use Rattle.mdmp_lister.proofs.Heads.{heads_few}
 use Rattle.mdmp_lister.proofs.Leaving.{listed_by}
@@ -56,7 +57,7 @@ costs_listed F choice z es size dir = ap sum (sizes_listed F choice z es size di
 -- ---- the bound
 
 module _ {S A : Type 0} (w : Walk S A) (sound : IsSound w) (bounded : IsBounded w) where
-  pub asked_most : w.meter.asked ≤ fetch_bound (vec_len w.name) (length w.entries.items) (cost_of w.choice w.meter.source.size w.entries.items) w.meter.names
+  pub asked_most : w.meter.asked ≤ fetch_bound w.name.limit (length w.entries.items) (cost_of w.choice w.meter.source.size w.entries.items) w.meter.names
   asked_most =
       let ok = w.entries.ok.0 in
       omega (arith, ok, paid_bound _ w bounded, heads_few w.choice w.meter.source.size w.entries.items)
@@ -72,7 +73,7 @@ module _ {S A : Type 0} (w : Walk S A) (sound : IsSound w) (bounded : IsBounded 
   asked_below small =
       let ok = w.entries.ok.0 in
       let names : w.meter.names ≤ 2 ^ 66 = omega (arith, bounded.names) in
-      let limit : vec_len w.name + 4 ≤ 2 ^ 33 = omega (arith, sound.small) in
+      let limit : w.name.limit + 4 ≤ 2 ^ 33 = omega (arith, sound.small) in
       omega (arith, ok, asked_most, small, sound.few, mul-le-mul names limit)
 
 -- ---- the numbers that are told

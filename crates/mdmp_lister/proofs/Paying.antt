@@ -18,7 +18,8 @@ use Rattle.mdmp_lister.specs.declared.shape.Shape.{Shape}
 use Rattle.mdmp_lister.specs.declared.stage.Stage.TheVariants.{Between}
 use Rattle.mdmp_lister.specs.declared.walk.Walk.{Walk}
 use Rattle.mdmp_lister.specs.Meter.{Books, Spends}
-use Rattle.mdmp_lister.specs.Walk.Paying.{IsBounded, IsPaid, IsWithinSince, allowed_of, calls_of, calls_owed, cost_of, entry_cost_by, owed_of, unread_bytes}
+use Rattle.mdmp_lister.specs.Walk.Paying.{IsBounded, IsPaid, IsWithinSince, allowed_of, calls_of, calls_owed, owed_of, unread_bytes}
+use Rattle.mdmp_lister.specs.Listed.{cost_of, entry_cost_by}
 use Rattle.mdmp_lister.specs.Format.Shape.{FitsIn}
 use Rattle.mdmp_lister.specs.Format.Kind.{kind_of, record_size}
 use Rattle.mdmp_lister.specs.Stage.{fault_stage, stage_by}
@@ -56,7 +57,7 @@ module _ {S A : Type 0} (allowed : Amount) (before calls spent : ℕ) (old new :
       → calls_of new.window.room new.choice old.meter.source.size (drop old.next new.entries.items) ≡ calls_of old.window.room old.choice old.meter.source.size (drop old.next old.entries.items)
   later same = rw (same.room.choice, same.room.entries, same.room.window) refl
 
-  pub paid_named : IsPaid allowed before old → Spends calls spent (vec_len old.name) old.meter new.meter → SameEntry old new → new.meter.source.size ≡ old.meter.source.size
+  pub paid_named : IsPaid allowed before old → Spends calls spent old.name.limit old.meter new.meter → SameEntry old new → new.meter.source.size ≡ old.meter.source.size
       → owed_of old.meter.source.size old.current new.window new.stage + spent ≤ owed_of old.meter.source.size old.current old.window old.stage
       → calls_owed old.meter.source.size old.current new.window new.stage + calls ≤ calls_owed old.meter.source.size old.current old.window old.stage
       → stage_work new.stage < stage_work old.stage
@@ -84,7 +85,7 @@ module _ {S A : Type 0} (allowed : Amount) (before calls spent : ℕ) (old new :
 -- ---- what was fetched since
 
 module _ {S A : Type 0} (calls spent begun : ℕ) (old new : Walk S A) where
-  pub within_named : vec_len new.name ≡ vec_len old.name → Spends calls spent (vec_len old.name) old.meter new.meter → unread_bytes new + spent ≤ unread_bytes old + begun
+  pub within_named : new.name.limit ≡ old.name.limit → Spends calls spent old.name.limit old.meter new.meter → unread_bytes new + spent ≤ unread_bytes old + begun
       → IsWithinSince old.meter.asked old.meter.names (unread_bytes old + begun) new
   within_named room spends owes = λ few.
       let pays = spends.paid (omega (arith, few, spends.more_names)) in
@@ -121,7 +122,7 @@ module _ {S A : Type 0} (allowed : Amount) (w : Walk S A) where
   }
 
   -- what any walk has fetched, and its calls
-  pub paid_bound : IsPaid allowed 0 w → w.meter.asked ≤ allowed.bytes + w.meter.names * (vec_len w.name + 4)
+  pub paid_bound : IsPaid allowed 0 w → w.meter.asked ≤ allowed.bytes + w.meter.names * (w.name.limit + 4)
   paid_bound paid = omega (arith, paid.bytes)
 
   pub called_bound : IsPaid allowed 0 w → w.meter.calls ≤ allowed.calls + w.meter.names * 2

@@ -16,14 +16,14 @@ use Rattle.mdmp_lister.specs.declared.choice.Choice.{Choice}
 use Rattle.mdmp_lister.specs.Format.Directory.{AreFirst}
 use Rattle.mdmp_lister.specs.StreamHead.{heads_ahead}
 use Rattle.mdmp_lister.specs.declared.fault.OpenFault.{OpenFault}
-use Rattle.mdmp_lister.specs.declared.fault.OpenFault.TheVariants.{TooShort, BadSignature, BadVersion, DirectoryOutside, TooManyRanges, Source, Memory, Budget}
+use Rattle.mdmp_lister.specs.declared.fault.OpenFault.TheVariants.{TooShort, BadSignature, BadVersion, DirectoryOutside, TooManyRanges, Source, Memory, MemoryLimit, Budget}
 use Rattle.mdmp_lister.specs.declared.fault.FetchFault.{FetchFault}
 use Rattle.mdmp_lister.specs.declared.fault.FetchFault.TheVariants as fetch
 use Rattle.mdmp_lister.specs.Meter.{Books, MeterState, store_fault_of}
 use Rattle.mdmp_lister.specs.Fault.{IsCaused}
 use Rattle.mdmp_lister.proofs.Fetches.{FetchesAtMost-within, IsCaused_later, not_unread, unread_caused}
 use Rattle.mdmp_lister.proofs.Heads.{heads_few}
-use Rattle.mdmp_lister.specs.Opening.{Finds, FitsHeader, IsBareRefusal, IsDirectoryRefusal, IsHandedBack, IsHandedBackBare, IsOfHead, IsOpenRefusal, IsRefusalOf, IsRefused, unread_of, IsFromBytes, refusal_of_fetch}
+use Rattle.mdmp_lister.specs.Opening.{Finds, FitsHeader, IsBareRefusal, IsHeaderRefusal, IsDirectoryRefusal, IsHandedBack, IsHandedBackBare, IsOfHead, IsOpenRefusal, IsRefusalOf, IsRefused, IsUnread, IsUnreadFor, unread_of, IsFromBytes, refusal_of_fetch}
 use Rattle.mdmp_lister.specs.Format.Refusal.{directory_refusal, behind_header}
 
 -- the fault of the directory that a header places in a file of `size` bytes, or none
@@ -132,23 +132,29 @@ directory_room rva count size (inr all) = omega (arith, all)
 
 -- ---- what a file is refused with
 
--- no header and no directory is refused for want of memory
-if_other : (b : Bool) (x y : Option OpenFault) → (x ≡ Some Memory → ⊥) → (y ≡ Some Memory → ⊥) → (if b then x else y) ≡ Some Memory → ⊥
-if_other true x y first second = first
-if_other false x y first second = second
+-- no header and no directory is refused for another fault than its own
+if_other : (b : Bool) (x y : Option OpenFault) (fault : OpenFault) → (x ≡ Some fault → ⊥) → (y ≡ Some fault → ⊥) → (if b then x else y) ≡ Some fault → ⊥
+if_other true x y fault first second = first
+if_other false x y fault first second = second
 
-behind_header-other : (F : List ℕ) (fault : Option HeaderFault) → behind_header F fault ≡ Some Memory → ⊥
-behind_header-other F (Some header.BadSignature) same = cc
-behind_header-other F (Some (header.BadVersion low)) same = cc
-behind_header-other F None same = if_other _ None (Some (DirectoryOutside _ _)) (λ none. cc) (λ some. cc) same
+-- a fault of the header or of the place of the directory is one
+of_head : (own fault : OpenFault) → IsOfHead own → (IsOfHead fault → ⊥) → Some own ≡ Some fault → ⊥
+of_head own fault of late same = late (subst IsOfHead (let is : own ≡ fault = cc in is) of)
 
-directory_refusal-other : (F : List ℕ) → directory_refusal F ≡ Some Memory → ⊥
-directory_refusal-other F same = if_other _ (Some (TooShort (length F))) (behind_header F (header_fault F)) (λ some. cc) (behind_header-other F (header_fault F)) same
+behind_header-other : (F : List ℕ) (own : Option HeaderFault) (fault : OpenFault) → (IsOfHead fault → ⊥) → behind_header F own ≡ Some fault → ⊥
+behind_header-other F (Some header.BadSignature) fault late same = of_head BadSignature fault tt late same
+behind_header-other F (Some (header.BadVersion low)) fault late same = of_head (BadVersion low) fault tt late same
+behind_header-other F None fault late same = if_other _ None (Some (DirectoryOutside _ _)) fault (λ none. cc) (λ some. of_head (DirectoryOutside _ _) fault tt late some) same
+
+pub directory_refusal-other : (F : List ℕ) (fault : OpenFault) → (IsOfHead fault → ⊥) → directory_refusal F ≡ Some fault → ⊥
+directory_refusal-other F fault late same =
+    if_other _ (Some (TooShort (length F))) (behind_header F (header_fault F)) fault (λ some. of_head (TooShort (length F)) fault tt late some) (behind_header-other F (header_fault F) fault late) same
 
 -- what the header of a file is refused with, its header and directory are
 refusal-found : (F : List ℕ) (fault : OpenFault) → Finds F (Err fault) → IsDirectoryRefusal F fault
 refusal-found F (Source fault) finds = tt
-refusal-found F Memory finds = absurd (directory_refusal-other F finds)
+refusal-found F Memory finds = absurd (directory_refusal-other F Memory (λ of. of) finds)
+refusal-found F (MemoryLimit held) finds = absurd (directory_refusal-other F (MemoryLimit held) (λ of. of) finds)
 refusal-found F _ finds = finds
 
 -- a refusal of one whose ranges are not counted is one of any
@@ -161,11 +167,17 @@ pub refusal_of-directory : (F : List ℕ) (choice : Choice) (size : ℕ) (fault 
 refusal_of-directory F choice size (Source fault) bare of = tt
 refusal_of-directory F choice size (Budget offset len) bare of = tt
 refusal_of-directory F choice size Memory bare of = of
+refusal_of-directory F choice size (MemoryLimit held) bare of = of
 refusal_of-directory F choice size (TooManyRanges count) bare of = absurd bare
 refusal_of-directory F choice size (TooShort told) bare of = rw of refl
 refusal_of-directory F choice size BadSignature bare of = rw of refl
 refusal_of-directory F choice size (BadVersion low) bare of = rw of refl
 refusal_of-directory F choice size (DirectoryOutside offset len) bare of = rw of refl
+
+-- what a header is refused with, a walk may be
+header_refusal : (size : ℕ) (fault : OpenFault) → IsHeaderRefusal size fault → IsBareRefusal size fault
+header_refusal size (MemoryLimit held) of = absurd of
+header_refusal size _ of = of
 
 -- a file whose header was read has one
 pub header-long : (h : Header) (old new : SourceState) → FitsHeader old (Ok h) new → 32 ≤ old.size
@@ -178,25 +190,37 @@ module _ (old new : MeterState) where
   IsRefused-header fault reads finds books caused = record {
     handed_back = IsHandedBackBare-head old.source new.source fault books.fetches books.source_calls (λ size same. reads.untouched size (cc));
     opens = λ file known. refusal-found file fault (finds file known);
-    refusal = reads.refusal;
+    refusal = header_refusal old.source.size fault reads.refusal;
     short = λ less. let same = reads.short less in cc;
     memory = λ _. books.fetches;
     cause = unread_caused fault old.source new.source caused;
     good = λ file good. not_unread fault (caused.good file good);
   }
 
-  -- for want of memory, behind its header
-  pub IsRefused-memory : (h : Header) → FitsHeader old.source (Ok h) new.source → ((file : List ℕ) → old.source.store.content ≡ Some file → Finds file (Ok h))
-      → Books 1 32 old new → IsCaused None old.source new.source → IsRefused old.source Memory new.source
-  IsRefused-memory h reads finds books caused = record {
-    handed_back = IsHandedBackBare-head old.source new.source Memory books.fetches books.source_calls (λ size same. cc);
-    opens = λ file known. (finds file known).0;
-    refusal = header-long h old.source new.source reads;
+  -- for too little memory, behind its header
+  IsRefused-behind : (fault : OpenFault) (h : Header) → ((size : ℕ) → fault ≡ TooShort size → ⊥) → ((file : List ℕ) → directory_refusal file ≡ None → IsDirectoryRefusal file fault)
+      → (32 ≤ old.source.size → IsBareRefusal old.source.size fault) → IsUnreadFor fault old.source new.source → (IsUnread fault → ⊥)
+      → FitsHeader old.source (Ok h) new.source → ((file : List ℕ) → old.source.store.content ≡ Some file → Finds file (Ok h))
+      → Books 1 32 old new → IsRefused old.source fault new.source
+  IsRefused-behind fault h late opens refusal cause obtained reads finds books = record {
+    handed_back = IsHandedBackBare-head old.source new.source fault books.fetches books.source_calls (λ size same. absurd (late size same));
+    opens = λ file known. opens file (finds file known).0;
+    refusal = refusal (header-long h old.source new.source reads);
     short = λ less. absurd (omega (arith, less, header-long h old.source new.source reads));
     memory = λ _. books.fetches;
-    cause = caused.once;
-    good = λ file good unread. unread;
+    cause = cause;
+    good = λ file good. obtained;
   }
+
+  pub IsRefused-memory : (h : Header) → FitsHeader old.source (Ok h) new.source → ((file : List ℕ) → old.source.store.content ≡ Some file → Finds file (Ok h))
+      → Books 1 32 old new → IsCaused None old.source new.source → IsRefused old.source Memory new.source
+  IsRefused-memory h reads finds books caused =
+      IsRefused-behind Memory h (λ size same. cc) (λ file opens. opens) (λ long. long) caused.once (λ unread. unread) reads finds books
+
+  pub IsRefused-limit : (held : ℕ) (h : Header) → FitsHeader old.source (Ok h) new.source → ((file : List ℕ) → old.source.store.content ≡ Some file → Finds file (Ok h))
+      → Books 1 32 old new → IsCaused None old.source new.source → IsRefused old.source (MemoryLimit held) new.source
+  IsRefused-limit held h reads finds books caused =
+      IsRefused-behind (MemoryLimit held) h (λ size same. cc) (λ file opens. opens) (λ long. long) caused.once (λ unread. unread) reads finds books
 
 -- bytes that were not obtained are no fault of a header
 pub not_of_head : (fault : FetchFault) → IsOfHead (refusal_of_fetch fault) → ⊥

@@ -1,5 +1,5 @@
 -- What requests leave of a walk: at a fault, at a stop, and behind a head that was read.
-use Rattle.std.proofs.Common.{◌≡◌, ◌≤◌, ◌<◌, ◌+◌, ◌-◌, ◌⊎◌, ◌∙◌, ℕ, List, Option, None, Some, Result, Ok, Err, IfOk, IfErr, IfSome, arith, ap, inl, inr, length, refl, subst, sym, vec_len}
+use Rattle.std.proofs.Common.{◌≡◌, ◌≤◌, ◌<◌, ◌+◌, ◌-◌, ◌⊎◌, ◌∙◌, ℕ, List, Option, None, Some, Result, Ok, Err, IfOk, IfErr, IfSome, arith, ap, inl, inr, length, refl, subst, sym}
 use Rattle.mdmp_source.specs.Source.{FetchesAtMost}
 use Rattle.mdmp_source.specs.SourceLaws.{fetches_then}
 use Rattle.mdmp_source.specs.Store.{IsGood}
@@ -87,7 +87,7 @@ stage-through F limit number e (Records kind shape index offset) through =
 stage-through F limit number e _ through = absurd through
 
 pub through-left : {S A : Type 0} (w : Walk S A) (file : List ℕ) → IsThrough w.stage → left_of w file ≡ rest_of w file
-through-left w file through = ap (λ (run : Run). joined run (rest_of w file)) (stage-through file (vec_len w.name) (w.next - 1) w.current w.stage through)
+through-left w file through = ap (λ (run : Run). joined run (rest_of w file)) (stage-through file w.name.limit (w.next - 1) w.current w.stage through)
 
 -- ---- where a walk stands
 
@@ -136,12 +136,12 @@ module _ {S A : Type 0} (n calls spent : ℕ) (old new : Walk S A) (f : ListFaul
   -- behind some fetches of the current entry, of which its head or a record is left
   pub answered_fault : IsSound old → 0 < old.next → stop_of old.stage ≡ None → 0 < stage_work old.stage
       → SameEntry old new → new.stage ≡ fault_stage f → FaultMet old f new
-      → FetchesAtMost n old.meter.source new.meter.source → n ≤ spent + bad_name_cost (vec_len old.name) f.kind
-      → Spends calls spent (vec_len old.name) old.meter new.meter → spent ≤ owed_of old.meter.source.size old.current old.window old.stage
+      → FetchesAtMost n old.meter.source new.meter.source → n ≤ spent + bad_name_cost old.name.limit f.kind
+      → Spends calls spent old.name.limit old.meter new.meter → spent ≤ owed_of old.meter.source.size old.current old.window old.stage
       → calls ≤ calls_owed old.meter.source.size old.current old.window old.stage
       → ((file : List ℕ) → old.meter.source.store.content ≡ Some file → (IsUnobtained f.kind → ⊥) → current_of old file ≡ only_fault f)
       → ((file : List ℕ) → IsGood old.meter.source.store file → IsOfStore f.kind → ⊥)
-      → Follows old.choice old.entries.items old.meter.source.size (vec_len old.name) (cursor_of old) (Err f) (cursor_of new)
+      → Follows old.choice old.entries.items old.meter.source.size old.name.limit (cursor_of old) (Err f) (cursor_of new)
       → Answered old (Err f) new
   answered_fault sound begun going some same at met fetches within spends owed called left good follows =
       let none : unread_bytes new ≡ 0 = rw at (fault_stage-owed new.meter.source.size new.current new.window f) in
@@ -164,7 +164,7 @@ module _ {S A : Type 0} (n calls spent : ℕ) (old new : Walk S A) (f : ListFaul
         follows = λ _. follows;
         rests = rw (same.room.entries, same.next, at, fault_stage-work f) (omega arith);
         fetches = FetchesAtMost-within n _ old.meter.source new.meter.source (omega (arith, within, owed, none)) fetches;
-        counts = Moves-spent calls spent (vec_len old.name) old.meter new.meter spends;
+        counts = Moves-spent calls spent old.name.limit old.meter new.meter spends;
         spent = within_named calls spent 0 old new same.room.name spends (omega (arith, none, owed));
         named = tt;
         paid = λ allowed before paid. paid_named allowed before calls spent old new paid spends same fetches.same_size
@@ -182,15 +182,15 @@ module _ {S A : Type 0} (n calls spent : ℕ) (old new : Walk S A) (step : Step)
   pub answered_step : IsSound new → stop_of old.stage ≡ None → stop_of new.stage ≡ None → stage_work new.stage < stage_work old.stage
       → records_left_in old.stage ≡ records_left_in new.stage + 1
       → SameEntry old new → passed_by step old.next ≡ old.next → current_by step old.current ≡ old.current
-      → IsStepHeld (vec_len new.name) (kind_of old.current.stream_type) step
+      → IsStepHeld (length new.name.items) (kind_of old.current.stream_type) step
       → stream_told step ≡ None
       → FetchesAtMost n old.meter.source new.meter.source → n ≤ spent + step_cost step
-      → Spends calls spent (vec_len old.name) old.meter new.meter
+      → Spends calls spent old.name.limit old.meter new.meter
       → owed_of old.meter.source.size old.current new.window new.stage + spent ≤ owed_of old.meter.source.size old.current old.window old.stage
       → calls_owed old.meter.source.size old.current new.window new.stage + calls ≤ calls_owed old.meter.source.size old.current old.window old.stage
       → Reaches (told_once step) old.meter new.meter
       → ((file : List ℕ) → old.meter.source.store.content ≡ Some file → current_of old file ≡ with_item (step_item old.meter.source.size new.name.items step) (current_of new file))
-      → Follows old.choice old.entries.items old.meter.source.size (vec_len old.name) (cursor_of old) (Ok (Some step)) (cursor_of new)
+      → Follows old.choice old.entries.items old.meter.source.size old.name.limit (cursor_of old) (Ok (Some step)) (cursor_of new)
       → Answered old (Ok (Some step)) new
   answered_step sound going on falls counted same passed stays held begins fetches within spends owed called named left follows =
       let less : work_of new < work_of old = rw (same.room.entries, same.next) (omega (arith, falls)) in
@@ -213,7 +213,7 @@ module _ {S A : Type 0} (n calls spent : ℕ) (old new : Walk S A) (step : Step)
         follows = λ _. follows;
         rests = omega (arith, less);
         fetches = FetchesAtMost-within n _ old.meter.source new.meter.source (omega (arith, within, owes, none)) fetches;
-        counts = Moves-spent calls spent (vec_len old.name) old.meter new.meter spends;
+        counts = Moves-spent calls spent old.name.limit old.meter new.meter spends;
         spent = within_named calls spent (stream_begun old.meter.source.size (stream_told step)) old new same.room.name spends (omega (arith, owes));
         named = named;
         paid = λ allowed before paid. paid_named allowed before calls spent old new paid spends same fetches.same_size owed called falls;
@@ -228,7 +228,7 @@ Moves-none n a = record { more = omega arith; more_calls = omega arith; more_nam
 
 module _ {S A : Type 0} (w : Walk S A) (sound : IsSound w) where
   same_room : SameRoom w w
-  same_room = record { header_is = refl; entries = refl; choice = refl; window = refl; name = refl }
+  same_room = record { header_is = refl; entries = refl; choice = refl; listed = refl; window = refl; name = refl }
 
   answered_again : (f : ListFault) → w.stage ≡ fault_stage f → Answered w (Err f) w
   answered_again f at =
@@ -313,6 +313,7 @@ module _ {S A : Type 0} (old mid new : Walk S A) (head : HeadRead old mid) where
     header_is = same.header_is ∙ head.same.room.header_is;
     entries = same.entries ∙ head.same.room.entries;
     choice = same.choice ∙ head.same.room.choice;
+    listed = same.listed ∙ head.same.room.listed;
     window = same.window ∙ head.same.room.window;
     name = same.name ∙ head.same.room.name;
   }
@@ -356,7 +357,7 @@ module _ {S A : Type 0} (old mid new : Walk S A) (head : HeadRead old mid) where
   answered_then result at then =
       let z = old.meter.source.size in
       let begun : stream_begun mid.meter.source.size (begun_at result) ≡ stream_begun z (begun_at result) = rw head.books.fetches.same_size refl in
-      let spent : given_spent (vec_len mid.name) result ≡ given_spent (vec_len old.name) result = rw head.same.room.name refl in
+      let spent : given_spent mid.name.limit result ≡ given_spent old.name.limit result = rw head.same.room.name refl in
       let within = unread_then result then.given then.stage in
       record {
         sound = then.sound;
@@ -374,7 +375,7 @@ module _ {S A : Type 0} (old mid new : Walk S A) (head : HeadRead old mid) where
         follows = λ _.
             let next = then.follows (listing-going mid.stage head.stage) in
             let known = rw (head.same.room.choice, head.same.room.entries, head.books.fetches.same_size, head.same.room.name) at next in
-            follows_read old.choice old.entries.items z (vec_len old.name) (cursor_of old) (cursor_of mid) result (cursor_of new)
+            follows_read old.choice old.entries.items z old.name.limit (cursor_of old) (cursor_of mid) result (cursor_of new)
             (following.headed (rw at refl) head.begins head.same.next head.same.current) known;
         rests = omega (arith, then.rests, head.falls);
         fetches = FetchesAtMost-within _ _ old.meter.source new.meter.source (omega (arith, begun, spent, within, head.owes))

@@ -33,7 +33,7 @@ module _ {S A : Type 0} (n : ℕ) (old new : Walk S A) where
       → ((file : List ℕ) → old.meter.source.store.content ≡ Some file → IsHeaded file old.current new.stage)
       → (new.stage ≡ Ended → old.next ≡ vec_len old.entries)
       → ((file : List ℕ) → IsGood old.meter.source.store file → IsNoStoreFault new.stage)
-      → IsOverAt (max old.window.room (vec_len old.name)) new.stage new.meter
+      → IsOverAt (max old.window.room old.name.limit) new.stage new.meter
       → IsSound new
   IsSound-after sound fetches same staged windowed headed ended unfailed refused = record {
     sized = rw (fetches.same_content, fetches.same_size) sound.sized;
@@ -41,6 +41,7 @@ module _ {S A : Type 0} (n : ℕ) (old new : Walk S A) where
     small = rw same.room.name sound.small;
     few = rw same.room.entries sound.few;
     whole = rw (same.room.entries, same.room.header_is) sound.whole;
+    listed = rw (same.room.listed, same.room.choice, same.room.entries, fetches.same_size) sound.listed;
     placed = rw (same.room.entries, same.next) sound.placed;
     staged = rw (fetches.same_size, same.next, same.current) staged;
     holding = rw (fetches.same_content, same.current) windowed;

@@ -1,5 +1,5 @@
 -- Entries judged one behind the other, and how a check of them ends.
-use Rattle.std.proofs.Common.{◌≡◌, ◌≤◌, ◌<◌, ◌+◌, ◌-◌, ◌++◌, ◌∷◌, [], ◌∙◌, ℕ, List, Option, Some, None, Result, Ok, Err, IfErr, arith, ap, append_assoc, append-nil, refl, subst, sym, vec_len, max}
+use Rattle.std.proofs.Common.{◌≡◌, ◌≤◌, ◌<◌, ◌+◌, ◌-◌, ◌++◌, ◌∷◌, [], ◌∙◌, ℕ, List, Option, Some, None, Result, Ok, Err, IfErr, arith, ap, append_assoc, append-nil, refl, subst, sym, max}
 use Rattle.std.proofs.lemmas.List.{length-map, map-append}
 use Rattle.std.proofs.lemmas.List.Concat.{flat_map-append}
 use Rattle.std.proofs.lemmas.List.Elements.{All-append, All-cons, All-nil}
@@ -39,7 +39,8 @@ use Rattle.mdmp_lister.specs.Walk.{IsSound, IsStaged, left_of, SameRoom, current
 use Rattle.mdmp_lister.specs.Walk.Checking.{EntriesChecked, EntryBegun, EntryJudged, FailedIn, IsStageChecked, JudgesFirst, NoneLeft, judged_cost, verdict_on}
 use Rattle.mdmp_lister.specs.Walk.Mapping.{IsMapped}
 use Rattle.mdmp_lister.specs.Walk.Owing.{HasRoom, count_told}
-use Rattle.mdmp_lister.specs.Walk.Paying.{entry_cost, owed_of, unread_bytes}
+use Rattle.mdmp_lister.specs.Walk.Paying.{owed_of, unread_bytes}
+use Rattle.mdmp_lister.specs.Listed.{entry_cost}
 use Rattle.mdmp_lister.specs.Walk.Requests.{EntrySkipped, StepTaken}
 use Rattle.mdmp_lister.proofs.Costs.{stopped-unread}
 use Rattle.mdmp_lister.proofs.Ending.{left_of-ended, left_of-fault}
@@ -109,7 +110,7 @@ module _ {S A : Type 0} where
   pub record SoFar (verdicts : List Verdict) (items : List Item) (old : Walk S A) (m : MapState) (new : Walk S A) (n : MapState) : Type 0 where
     pub each : All IsVerdict verdicts
     pub of_file : (file : List ℕ) → old.meter.source.store.content ≡ Some file
-        → FirstJudged file (vec_len old.name) (chosen_from file old.choice old.next) (chosen_from file old.choice new.next) verdicts items
+        → FirstJudged file old.name.limit (chosen_from file old.choice old.next) (chosen_from file old.choice new.next) verdicts items
     pub mapped : IsMapped new n
     pub same : SameRoom old new
     pub between : new.stage ≡ Between
@@ -117,16 +118,16 @@ module _ {S A : Type 0} where
     pub passed : new.next ≡ behind_judged verdicts old.next
     pub counts : Moves (names_judged items verdicts) (counts_of old.meter) (counts_of new.meter)
     pub names : old.meter.names + names_judged items verdicts ≤ new.meter.names
-    pub fetches : FetchesAtMost (check_cost old.meter.source.size (vec_len old.name) items verdicts) old.meter.source new.meter.source
+    pub fetches : FetchesAtMost (check_cost old.meter.source.size old.name.limit items verdicts) old.meter.source new.meter.source
     pub rests : work_of new ≤ work_of old
-    pub follow : AreNextVerdicts old.choice old.entries.items old.meter.source.size (vec_len old.name) old.next verdicts
+    pub follow : AreNextVerdicts old.choice old.entries.items old.meter.source.size old.name.limit old.next verdicts
 
   pub none_judged : (w : Walk S A) (m : MapState) → IsMapped w m → w.stage ≡ Between → SoFar [] [] w m w m
   none_judged w m old between = record {
     each = All-nil IsVerdict;
     of_file = λ file known. record { judged = []; in_order = refl; verdicts_are = refl; items_are = refl };
     mapped = old;
-    same = record { header_is = refl; entries = refl; choice = refl; window = refl; name = refl };
+    same = record { header_is = refl; entries = refl; choice = refl; listed = refl; window = refl; name = refl };
     between = between;
     ranges = ranges_none m;
     passed = refl;
@@ -152,7 +153,7 @@ module _ {S A : Type 0} where
       let size = ap (λ (v : Walk S A). v.meter.source.size) moved in
       kept w sk m old skipped.sound (record { size = size; content = ap (λ (v : Walk S A). v.meter.source.store.content) moved; choice = ap (λ (v : Walk S A). v.choice) moved })
       (skipped.room _ old.room)
-      (bounded_then w sk old.bounded skipped.paid (rw moved (record { header_is = refl; entries = refl; choice = refl; window = refl; name = refl })) size)
+      (bounded_then w sk old.bounded skipped.paid (rw moved (record { header_is = refl; entries = refl; choice = refl; listed = refl; window = refl; name = refl })) size)
 
 -- the current entry and its number
 abbrev pub entry_in : {S A : Type 0} → Walk S A → Numbered
@@ -171,9 +172,9 @@ module _ {S A : Type 0} (verdicts : List Verdict) (items : List Item) (old w ns 
       (begun.first file (so_far.fetches.same_content ∙ known))
 
   -- what is left of the entry is its body
-  body_is : (file : List ℕ) → current_of ns file ≡ entry_body file (vec_len old.name) (entry_in ns)
+  body_is : (file : List ℕ) → current_of ns file ≡ entry_body file old.name.limit (entry_in ns)
   body_is file =
-      ap (λ stage. left_of_entry file (vec_len ns.name) (ns.next - 1) ns.current stage) begun.stage
+      ap (λ stage. left_of_entry file ns.name.limit (ns.next - 1) ns.current stage) begun.stage
       ∙ ap (λ limit. entry_body file limit (entry_in ns)) (taken.answered.same.name ∙ so_far.same.name)
 
   -- which stands in the directory
@@ -192,23 +193,23 @@ module _ {S A : Type 0} (verdicts : List Verdict) (items : List Item) (old w ns 
 
   -- what was fetched of it, beside what was before
   fetched_judged : (result : Result (Option ListFault) ListFault) (judged : EntryJudged ns p result j q) (vs : List Verdict) (end : ℕ)
-      → judged_cost (vec_len old.name) result ≡ sum_by (λ v. fault_cost (vec_len old.name) v.fault) vs + end
-      → FetchesAtMost (check_cost old.meter.source.size (vec_len old.name) (items ++ stream_item (entry_in ns) ∷ judged.items) (verdicts ++ vs) + end) old.meter.source j.meter.source
+      → judged_cost old.name.limit result ≡ sum_by (λ v. fault_cost old.name.limit v.fault) vs + end
+      → FetchesAtMost (check_cost old.meter.source.size old.name.limit (items ++ stream_item (entry_in ns) ∷ judged.items) (verdicts ++ vs) + end) old.meter.source j.meter.source
   fetched_judged result judged vs end is =
       let z = old.meter.source.size in
-      let limit = vec_len old.name in
+      let limit = old.name.limit in
       let size : ns.meter.source.size ≡ z = ap (λ (m : MeterState). m.source.size) begun.meter ∙ so_far.fetches.same_size in
-      let name : vec_len ns.name ≡ limit = taken.answered.same.name ∙ so_far.same.name in
+      let name : ns.name.limit ≡ limit = taken.answered.same.name ∙ so_far.same.name in
       let js = judged.items in
       let x = stream_item (entry_in ns) in
       let first : items_cost z (x ∷ js) ≡ entry_cost z ns.current + items_cost z js = omega (arith, sum_by-cons (λ y. item_cost y + stream_begun z (summary_of y).stream) x js) in
       let unread : unread_bytes ns ≡ entry_cost z ns.current =
       ap (owed_of ns.meter.source.size ns.current ns.window) begun.stage ∙ ap (λ n. entry_cost n ns.current) size in
       let same : items_cost ns.meter.source.size js ≡ items_cost z js = ap (λ n. items_cost n js) size in
-      let cost : judged_cost (vec_len ns.name) result ≡ judged_cost limit result = ap (λ n. judged_cost n result) name in
+      let cost : judged_cost ns.name.limit result ≡ judged_cost limit result = ap (λ n. judged_cost n result) name in
       let more = sum_by-append (λ v. fault_cost limit v.fault) verdicts vs in
-      let then : FetchesAtMost (unread_bytes ns + items_cost ns.meter.source.size js + judged_cost (vec_len ns.name) result) w.meter.source j.meter.source =
-      subst (λ (m : MeterState). FetchesAtMost (unread_bytes ns + items_cost ns.meter.source.size js + judged_cost (vec_len ns.name) result) m.source j.meter.source) begun.meter judged.fetches in
+      let then : FetchesAtMost (unread_bytes ns + items_cost ns.meter.source.size js + judged_cost ns.name.limit result) w.meter.source j.meter.source =
+      subst (λ (m : MeterState). FetchesAtMost (unread_bytes ns + items_cost ns.meter.source.size js + judged_cost ns.name.limit result) m.source j.meter.source) begun.meter judged.fetches in
       FetchesAtMost-within _ (check_cost z limit (items ++ x ∷ js) (verdicts ++ vs) + end) old.meter.source j.meter.source
       (omega (arith, items_cost-append z items (x ∷ js), first, unread, same, cost, more, is))
       (fetches_then _ _ old.meter.source w.meter.source j.meter.source so_far.fetches then)
@@ -224,7 +225,7 @@ module _ {S A : Type 0} (verdicts : List Verdict) (items : List Item) (old w ns 
 
   -- it may be judged so in any file
   may_begun : (fault : Option ListFault) → EntryJudged ns p (Ok fault) j q
-      → IsNextVerdict old.choice old.entries.items old.meter.source.size (vec_len old.name) (behind_judged verdicts old.next) (record { entry = ns.next - 1; fault = fault })
+      → IsNextVerdict old.choice old.entries.items old.meter.source.size old.name.limit (behind_judged verdicts old.next) (record { entry = ns.next - 1; fault = fault })
   may_begun fault judged =
       let same : SameRoom old ns = same_room_then old w ns so_far.same taken.answered.same in
       let size : ns.meter.source.size ≡ old.meter.source.size = taken.answered.fetches.same_size ∙ so_far.fetches.same_size in
@@ -235,11 +236,11 @@ module _ {S A : Type 0} (verdicts : List Verdict) (items : List Item) (old w ns 
       record {
         entry = ns.current;
         first = chosen_begun;
-        judged = subst (λ (c : Cursor). MayBeJudged old.choice old.entries.items old.meter.source.size (vec_len old.name) c fault) here
-            (subst (λ z. MayBeJudged old.choice old.entries.items z (vec_len old.name) (cursor_of ns) fault) size
+        judged = subst (λ (c : Cursor). MayBeJudged old.choice old.entries.items old.meter.source.size old.name.limit c fault) here
+            (subst (λ z. MayBeJudged old.choice old.entries.items z old.name.limit (cursor_of ns) fault) size
             (subst (λ n. MayBeJudged old.choice old.entries.items ns.meter.source.size n (cursor_of ns) fault) same.name
-            (subst (λ (es : List Entry). MayBeJudged old.choice es ns.meter.source.size (vec_len ns.name) (cursor_of ns) fault) (ap (λ es. es.items) same.entries)
-            (subst (λ (o : Choice). MayBeJudged o ns.entries.items ns.meter.source.size (vec_len ns.name) (cursor_of ns) fault) same.choice judged.may))));
+            (subst (λ (es : List Entry). MayBeJudged old.choice es ns.meter.source.size ns.name.limit (cursor_of ns) fault) (ap (λ es. es.items) same.entries)
+            (subst (λ (o : Choice). MayBeJudged o ns.entries.items ns.meter.source.size ns.name.limit (cursor_of ns) fault) same.choice judged.may))));
       }
 
   pub more_judged : (fault : Option ListFault) (judged : EntryJudged ns p (Ok fault) j q) (sk : Walk S A) → EntrySkipped j sk
@@ -250,19 +251,19 @@ module _ {S A : Type 0} (verdicts : List Verdict) (items : List Item) (old w ns 
       let names = names_judged-more items judged.items (entry_in ns) verdicts (record { entry = ns.next - 1; fault = fault }) in
       let same : SameRoom old j = same_room_then old w j so_far.same (same_room_then w ns j taken.answered.same judged.same.room) in
       let v : Verdict = record { entry = ns.next - 1; fault = fault } in
-      let one = sum_by-cons (λ (x : Verdict). fault_cost (vec_len old.name) x.fault) v [] in
-      let fetched : FetchesAtMost (check_cost old.meter.source.size (vec_len old.name) (items ++ stream_item (entry_in ns) ∷ judged.items) (verdicts ++ v ∷ [])) old.meter.source j.meter.source =
+      let one = sum_by-cons (λ (x : Verdict). fault_cost old.name.limit x.fault) v [] in
+      let fetched : FetchesAtMost (check_cost old.meter.source.size old.name.limit (items ++ stream_item (entry_in ns) ∷ judged.items) (verdicts ++ v ∷ [])) old.meter.source j.meter.source =
       FetchesAtMost-within _ _ old.meter.source j.meter.source (omega arith) (fetched_judged (Ok fault) judged (v ∷ []) 0 (omega (arith, one))) in
       record {
         each = All-append IsVerdict verdicts (record { entry = ns.next - 1; fault = fault } ∷ []) so_far.each
             (All-cons IsVerdict (record { entry = ns.next - 1; fault = fault }) [] (rw judged.same.next at judged.at_end.1) (All-nil IsVerdict));
         of_file = λ file known.
             let left = judged.left file (known_now file known) in
-            let is : entry_body file (vec_len old.name) (entry_in ns) ≡ record { items = judged.items; fault = fault } = sym (body_is file) ∙ left in
+            let is : entry_body file old.name.limit (entry_in ns) ≡ record { items = judged.items; fault = fault } = sym (body_is file) ∙ left in
             rw (next, ← ap (λ (run : Run). run.items) is, ← ap (λ (run : Run). run.fault) is)
-            (FirstJudged-more file (vec_len old.name) _ _ (chosen_from file old.choice ns.next) verdicts items (entry_in ns) (so_far.of_file file known) (next_is file known));
+            (FirstJudged-more file old.name.limit _ _ (chosen_from file old.choice ns.next) verdicts items (entry_in ns) (so_far.of_file file known) (next_is file known));
         mapped = skipped_mapped j sk q judged.mapped skipped moved;
-        same = rw moved (record { header_is = same.header_is; entries = same.entries; choice = same.choice; window = same.window; name = same.name });
+        same = rw moved (record { header_is = same.header_is; entries = same.entries; choice = same.choice; listed = same.listed; window = same.window; name = same.name });
         between = ap (λ (v : Walk S A). v.stage) moved;
         ranges = ranges_then items (stream_item (entry_in ns) ∷ judged.items) m p q so_far.ranges judged.ranges;
         passed = next ∙ omega (arith, behind_judged-more verdicts (record { entry = ns.next - 1; fault = fault }) old.next, taken_begun);
@@ -270,7 +271,7 @@ module _ {S A : Type 0} (verdicts : List Verdict) (items : List Item) (old w ns 
         names = rw moved (omega (arith, names, so_far.names, rw begun.meter at judged.names));
         fetches = rw moved fetched;
         rests = omega (arith, so_far.rests, taken.answered.rests, judged.rests, skipped.rests);
-        follow = AreNextVerdicts-more old.choice old.entries.items old.meter.source.size (vec_len old.name) verdicts (record { entry = ns.next - 1; fault = fault }) old.next so_far.follow (may_begun fault judged);
+        follow = AreNextVerdicts-more old.choice old.entries.items old.meter.source.size old.name.limit verdicts (record { entry = ns.next - 1; fault = fault }) old.next so_far.follow (may_begun fault judged);
       }
 
   -- the store failed in the next entry
@@ -313,7 +314,7 @@ module _ {S A : Type 0} (verdicts : List Verdict) (items : List Item) (old w ns 
         current = current_kept j judged.same.next judged.same.current;
         counts = moves_then (names_judged items verdicts) (names_of_all judged.items + maybe_name f.kind) _ old.meter w.meter j.meter (omega (arith, names)) so_far.counts (rw begun.meter at judged.counts);
         names = omega (arith, names, so_far.names, rw begun.meter at judged.names);
-        fetches = rw append-nil at (fetched_judged (Err f) judged [] (bad_name_cost (vec_len old.name) f.kind) (omega arith));
+        fetches = rw append-nil at (fetched_judged (Err f) judged [] (bad_name_cost old.name.limit f.kind) (omega arith));
         failed = λ x is.
             let same : f ≡ x = cc in
             subst (λ y. FailedIn old y j) same (record {
@@ -440,18 +441,18 @@ option_map_each f g (Some file) each = ap Some (each file refl)
 
 module _ {S A K : Type 0} (sink : K → Verdict → Result (Unit {0}) Stopped → K → Type 0) (old new : Walk S A) (m n : MapState) (k l : K) where
   pub verdicts_of_file : (result : Result (Unit {0}) RunFault) (checked : EntriesChecked sink old m k result new n l) → old.next ≡ 0 → (file : List ℕ) → old.meter.source.store.content ≡ Some file
-      → AreFirstVerdicts (verdicts file old.choice (vec_len old.name)) checked.verdicts result
+      → AreFirstVerdicts (verdicts file old.choice old.name.limit) checked.verdicts result
   verdicts_of_file result checked first file known =
       let all : chosen_from file old.choice old.next ≡ chosen file old.choice = ap (λ i. chosen_from file old.choice i) first ∙ all_chosen file old.choice in
-      subst (λ xs. AreFirstVerdicts (map (verdict_on file (vec_len old.name)) xs) checked.verdicts result) all
-      (first_verdicts file (vec_len old.name) (chosen_from file old.choice old.next) checked.verdicts checked.items result (checked.of_file file known))
+      subst (λ xs. AreFirstVerdicts (map (verdict_on file old.name.limit) xs) checked.verdicts result) all
+      (first_verdicts file old.name.limit (chosen_from file old.choice old.next) checked.verdicts checked.items result (checked.of_file file known))
 
   pub items_of_file : (result : Result (Unit {0}) RunFault) (checked : EntriesChecked sink old m k result new n l) → old.next ≡ 0 → (file : List ℕ) → old.meter.source.store.content ≡ Some file
-      → ReadsFirst file (vec_len old.name) (chosen file old.choice) (length checked.verdicts) checked.items result
+      → ReadsFirst file old.name.limit (chosen file old.choice) (length checked.verdicts) checked.items result
   items_of_file result checked first file known =
       let all : chosen_from file old.choice old.next ≡ chosen file old.choice = ap (λ i. chosen_from file old.choice i) first ∙ all_chosen file old.choice in
-      subst (λ xs. ReadsFirst file (vec_len old.name) xs (length checked.verdicts) checked.items result) all
-      (first_read file (vec_len old.name) (chosen_from file old.choice old.next) checked.verdicts checked.items result (checked.of_file file known))
+      subst (λ xs. ReadsFirst file old.name.limit xs (length checked.verdicts) checked.items result) all
+      (first_read file old.name.limit (chosen_from file old.choice old.next) checked.verdicts checked.items result (checked.of_file file known))
 
   pub good_checked : (result : Result (Unit {0}) RunFault) → EntriesChecked sink old m k result new n l → (file : List ℕ) → IsGood old.meter.source.store file
       → IfErr result (λ r. (f : ListFault) → r ≡ run.At f → IsOfStore f.kind → ⊥)
@@ -465,14 +466,14 @@ module _ {S A : Type 0} (w : Walk S A) where
   stop_checked (Err run.Stopped) at = ap stop_of at
   stop_checked (Err (run.At f)) at = ap stop_of at ∙ fault_stage-stop f
 
-  over_same : (f h : ListFault) → run.At h ≡ run.At f → IsUnmade (max w.window.room (vec_len w.name)) h.kind h.offset h.size (counts_of w.meter) w.meter.source.size
-      → IsUnmade (max w.window.room (vec_len w.name)) f.kind f.offset f.size (counts_of w.meter) w.meter.source.size
+  over_same : (f h : ListFault) → run.At h ≡ run.At f → IsUnmade (max w.window.room w.name.limit) h.kind h.offset h.size (counts_of w.meter) w.meter.source.size
+      → IsUnmade (max w.window.room w.name.limit) f.kind f.offset f.size (counts_of w.meter) w.meter.source.size
   over_same f h is over =
       let same : h ≡ f = cc in
-      subst (λ (x : ListFault). IsUnmade (max w.window.room (vec_len w.name)) x.kind x.offset x.size (counts_of w.meter) w.meter.source.size) same over
+      subst (λ (x : ListFault). IsUnmade (max w.window.room w.name.limit) x.kind x.offset x.size (counts_of w.meter) w.meter.source.size) same over
 
   pub refused_checked : (result : Result (Unit {0}) RunFault) → IsStageChecked result w.stage → IsSound w
-      → IfErr result (λ r. (f : ListFault) → r ≡ run.At f → IsUnmade (max w.window.room (vec_len w.name)) f.kind f.offset f.size (counts_of w.meter) w.meter.source.size)
+      → IfErr result (λ r. (f : ListFault) → r ≡ run.At f → IsUnmade (max w.window.room w.name.limit) f.kind f.offset f.size (counts_of w.meter) w.meter.source.size)
   refused_checked (Ok done) at sound = tt
   refused_checked (Err run.Stopped) at sound = λ f is. absurd (cc)
   refused_checked (Err (run.At h)) at sound = λ f is. over_same f h is (fault_over _ h w.meter (rw at at sound.refused))
@@ -489,7 +490,7 @@ module _ {S A : Type 0} (w : Walk S A) where
 
   abbrev pub run_checked : Result (Unit {0}) RunFault → List ℕ → Run
   run_checked (Ok done) file = nothing
-  run_checked (Err run.Stopped) file = listing_from file w.choice (vec_len w.name) w.next
+  run_checked (Err run.Stopped) file = listing_from file w.choice w.name.limit w.next
   run_checked (Err (run.At f)) file = only_fault f
 
   left_of-checked : IsSound w → (result : Result (Unit {0}) RunFault) → IsStageChecked result w.stage → (file : List ℕ) → w.meter.source.store.content ≡ Some file → left_of w file ≡ run_checked result file
@@ -505,7 +506,7 @@ module _ {S A : Type 0} (w : Walk S A) where
 
   -- which is what a check leaves
   pub left_told : IsSound w → (result : Result (Unit {0}) RunFault) (v : ListerState) → IsStageChecked result w.stage
-      → v.source ≡ w.meter.source → v.choice ≡ w.choice → v.limit ≡ vec_len w.name → v.passed ≡ w.next → option_map (left_of w) w.meter.source.store.content ≡ left_checked result v
+      → v.source ≡ w.meter.source → v.choice ≡ w.choice → v.limit ≡ w.name.limit → v.passed ≡ w.next → option_map (left_of w) w.meter.source.store.content ≡ left_checked result v
   left_told sound (Ok done) v at source choice limit passed = left_by sound (Ok done) at ∙ rw source refl
   left_told sound (Err (run.At f)) v at source choice limit passed = left_by sound (Err (run.At f)) at ∙ rw source refl
   left_told sound (Err run.Stopped) v at source choice limit passed = left_by sound (Err run.Stopped) at ∙ rw (source, choice, limit, passed) refl

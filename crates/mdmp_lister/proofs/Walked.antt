@@ -31,10 +31,11 @@ use Rattle.mdmp_lister.specs.Format.Listing.{Run, entry_body, entry_of, joined, 
 use Rattle.mdmp_lister.specs.Format.Summary.{entry_begun}
 use Rattle.mdmp_lister.specs.Lister.{AnswersNext, Gives, NextLeaves, ListerState, ReadsAside, tail}
 use Rattle.mdmp_lister.specs.Meter.{BooksAside, MeterState, counts_of, IsUnmade}
-use Rattle.mdmp_lister.specs.Stage.{IsCounted, IsUnended, StaysUnchanged, records_left_in, stage_by, standing_of, stop_after, stop_of}
+use Rattle.mdmp_lister.specs.Stage.{IsCounted, IsOverAt, IsUnended, StaysUnchanged, failure_of, records_left_in, stage_by, standing_of, stop_after, stop_of}
 use Rattle.mdmp_lister.specs.Step.{CurrentAfter, IsNameHeld, step_item, stream_told}
 use Rattle.mdmp_lister.specs.Walk.{IsListing, IsPastHead, IsSound, IsStageCounted, IsStaged, left_of}
-use Rattle.mdmp_lister.specs.Walk.Paying.{IsWithinSince, entry_cost, entry_cost_by, unread_bytes}
+use Rattle.mdmp_lister.specs.Walk.Paying.{IsWithinSince, unread_bytes}
+use Rattle.mdmp_lister.specs.Listed.{entry_cost, entry_cost_by}
 use Rattle.mdmp_lister.specs.Walk.Positions.{AnsweredFrom, GivesSought, IsPositioned, IsWalked, left_in, mark_by, position_by, records_at_position, standing_in, stop_in, unread_in, work_in}
 use Rattle.mdmp_lister.specs.Walk.Requests.{Answered, EntryTaken, RecordsCounted}
 use Rattle.mdmp_lister.specs.Walker.{CountsRecords, GivesEntry, StepLeaves, WalkerState, begins, left_counted, seeks, stop_counted}
@@ -91,7 +92,7 @@ module _ {S A : Type 0} (w : Walk S A) (at : ℕ) (e : Entry) (sound : IsSound w
 
   begun_left : (file : List ℕ) → w.meter.source.store.content ≡ Some file → left_in (Sought at) w file ≡ with_item (plain x) (left_of (began w at e) file)
   begun_left file known =
-      rw (add-sub_cancel at 1, same) (sought-first file w.choice (vec_len w.name) at e (begun_entry file known))
+      rw (add-sub_cancel at 1, same) (sought-first file w.choice w.name.limit at e (begun_entry file known))
 
   begun_leaves : NextLeaves (walked_by (Sought at) w) (Ok (Some x)) (listed_by [] 0 (began w at e))
   begun_leaves =
@@ -190,7 +191,7 @@ module _ {S A : Type 0} (w n : Walk S A) where
   fault_good Begun f e = e.good
   fault_good Within f e = e.good
 
-  pub fault_refused : (p : Position) (f : ListFault) → AnsweredFrom p w (Err f) n → IsUnmade (max n.window.room (vec_len n.name)) f.kind f.offset f.size (counts_of n.meter) n.meter.source.size
+  pub fault_refused : (p : Position) (f : ListFault) → AnsweredFrom p w (Err f) n → IsUnmade (max n.window.room n.name.limit) f.kind f.offset f.size (counts_of n.meter) n.meter.source.size
   fault_refused (Sought at) f e = let never = e.answer in absurd (cc)
   fault_refused Begun f e = fault_over _ f n.meter (rw e.stage at e.sound.refused)
   fault_refused Within f e = fault_over _ f n.meter (rw e.stage at e.sound.refused)
@@ -265,7 +266,7 @@ module _ {S A : Type 0} (w n : Walk S A) (mark : MeterCounts) (was : IsWithinSin
   answered_begun (Err f) e = omega arith
 
   answered_spent : (r : Result (Option Step) ListFault) → Answered w r n → n.meter.names + 1 < 2 ^ 128
-      → n.meter.asked + mark.names * (vec_len w.name + 4) ≤ mark.asked + entry_cost w.meter.source.size w.current + n.meter.names * (vec_len w.name + 4)
+      → n.meter.asked + mark.names * (w.name.limit + 4) ≤ mark.asked + entry_cost w.meter.source.size w.current + n.meter.names * (w.name.limit + 4)
   answered_spent r e few =
       let before = was (omega (arith, few, e.counts.more_names)) in
       let now = rw e.same.name at (e.spent few) in
@@ -275,7 +276,7 @@ module _ {S A : Type 0} (w n : Walk S A) (mark : MeterCounts) (was : IsWithinSin
   sought_meter at s taken = ap (λ (m : Walk S A). m.meter) taken.is
 
   pub request_spent : (p : Position) (r : Result (Option Step) ListFault) → AnsweredFrom p w r n → n.meter.names + 1 < 2 ^ 128
-      → n.meter.asked + mark.names * (vec_len w.name + 4) ≤ mark.asked + entry_cost w.meter.source.size w.current + n.meter.names * (vec_len w.name + 4)
+      → n.meter.asked + mark.names * (w.name.limit + 4) ≤ mark.asked + entry_cost w.meter.source.size w.current + n.meter.names * (w.name.limit + 4)
   request_spent (Sought at) r e few =
       let same = sought_meter at e.step e.taken in
       let before = was (rw same at few) in
@@ -289,7 +290,7 @@ module _ {S A : Type 0} (w n : Walk S A) (mark : MeterCounts) (was : IsWithinSin
       let spent = rw e.same.name at (e.spent few) in
       let zero : stream_begun w.meter.source.size (begun_at r) ≡ 0 = rw none refl in
       let cost : entry_cost n.meter.source.size n.current ≡ entry_cost w.meter.source.size w.current = rw (e.fetches.same_size, current_going r w.current n.current none e.current) refl in
-      let room : vec_len n.name ≡ vec_len w.name = e.same.name in
+      let room : n.name.limit ≡ w.name.limit = e.same.name in
       rw room (omega (arith, before, spent, zero, cost))
 
   -- ---- the walk behind it
@@ -384,7 +385,7 @@ module _ {S A : Type 0} (w n : Walk S A) (mark : MeterCounts) (walked : IsWalked
   stop_counts (Ok count) is = let at = rw is at e.stage in listing-going n.stage at.1
   stop_counts (Err f) is = rw (rw is at e.stage) (fault_stage-stop f)
 
-  refused_counts : (r : Result ℕ ListFault) → IsStageCounted r n.stage → IfErr r (λ f. IsUnmade (max n.window.room (vec_len n.name)) f.kind f.offset f.size (counts_of n.meter) n.meter.source.size)
+  refused_counts : (r : Result ℕ ListFault) → IsStageCounted r n.stage → IfErr r (λ f. IsUnmade (max n.window.room n.name.limit) f.kind f.offset f.size (counts_of n.meter) n.meter.source.size)
   refused_counts (Ok count) at = tt
   refused_counts (Err f) at = fault_over _ f n.meter (rw at at e.sound.refused)
 
@@ -450,7 +451,7 @@ module _ {S A : Type 0} (w n : Walk S A) (mark : MeterCounts) (walked : IsWalked
     within = λ few.
         let before = walked.within (rw e.books.same_names at few) in
         let cost : entry_cost n.meter.source.size n.current ≡ entry_cost w.meter.source.size w.current = rw (e.books.fetches.same_size, e.same.current) refl in
-        let room : vec_len n.name ≡ vec_len w.name = e.same.room.name in
+        let room : n.name.limit ≡ w.name.limit = e.same.room.name in
         rw (e.books.same_names, room) (omega (arith, before, e.books.asked, e.owes, cost));
   } where
     unended-listing : (at : Stage) → IsListing at → IsUnended at
@@ -483,7 +484,7 @@ module _ {S A : Type 0} (w : Walk S A) (m : MeterState) where
 module _ {S A : Type 0} (n : ℕ) (p : Position) (mark : MeterCounts) (w new : Walk S A) (walked : IsWalked p mark w) (books : BooksAside n w.meter new.meter) (same : new ≡ record w { meter = new.meter }) where
   pub aside_walked : IsWalked p mark new
   aside_walked =
-      let room : vec_len new.name ≡ vec_len w.name = ap (λ (v : Walk S A). vec_len v.name) same in
+      let room : new.name.limit ≡ w.name.limit = ap (λ (v : Walk S A). v.name.limit) same in
       rw same (record {
         sound = rw (ap (λ (v : Walk S A). v.name) same) at (aside_sound n w new walked.sound books room);
         placed = positioned-aside w new.meter p books.fetches.same_content walked.placed;
@@ -522,10 +523,10 @@ module _ {S A : Type 0} (w n : Walk S A) where
 -- ---- an item as it was read
 
 module _ {S A : Type 0} (w n : Walk S A) (mark : MeterCounts) where
-  held_from : (p : Position) (s : Step) → AnsweredFrom p w (Ok (Some s)) n → IsNameHeld (vec_len n.name) s
+  held_from : (p : Position) (s : Step) → AnsweredFrom p w (Ok (Some s)) n → IsNameHeld (length n.name.items) s
   held_from (Sought at) s e =
       let is : e.step ≡ s = let same = e.answer in cc in
-      subst (λ (t : Step). IsNameHeld (vec_len n.name) t) is (rw e.taken.step_is tt)
+      subst (λ (t : Step). IsNameHeld (length n.name.items) t) is (rw e.taken.step_is tt)
   held_from Begun s e = e.given.held.0
   held_from Within s e = e.given.held.0
 
@@ -556,7 +557,7 @@ module _ {S A : Type 0} (w n : Walk S A) (mark : MeterCounts) where
       let x : Item = step_item z buffer s in
       let same : plain x ≡ step_item z buffer s = plain-step z buffer s in
       let begins = begins_as z buffer s x same in
-      let held : IsNameHeld (length buffer) s = rw n.name.ok.0 at (held_from p s e) in
+      let held : IsNameHeld (length buffer) s = held_from p s e in
       record {
         answer = Ok (Some x);
         told = (x, (refl, step-told z buffer s held));
@@ -579,6 +580,47 @@ module _ {S A : Type 0} (w n : Walk S A) (mark : MeterCounts) where
   step_good p (Err f) e file good = fault_good w n p f e file good
 
   pub step_refused : (p : Position) (r : Result (Option Step) ListFault) → AnsweredFrom p w r n
-      → IfErr r (λ f. IsUnmade (max n.window.room (vec_len n.name)) f.kind f.offset f.size (counts_of n.meter) n.meter.source.size)
+      → IfErr r (λ f. IsUnmade (max n.window.room n.name.limit) f.kind f.offset f.size (counts_of n.meter) n.meter.source.size)
   step_refused p (Ok given) e = tt
   step_refused p (Err f) e = fault_refused w n p f e
+
+-- ---- a budget that is lifted
+
+module _ {S A : Type 0} (w : Walk S A) where
+  -- the meter of a walk without the budget
+  abbrev unbudgeted_meter : MeterState
+  unbudgeted_meter = record w.meter { budget = None; asked = w.meter.fetched }
+
+  unfailed-over : (most : ℕ) (stage : Stage) (m : MeterState) → failure_of stage ≡ None → IsOverAt most stage m
+  unfailed-over most stage m none = rw none tt
+
+  pub lifted_walked : (p : Position) (mark : MeterCounts) → IsWalked p mark w → failure_of w.stage ≡ None → w.meter.fetched ≤ w.meter.asked → IsWalked p mark (record w { meter = unbudgeted_meter })
+  lifted_walked p mark walked unfailed within =
+      let old = walked.sound in
+      record {
+        sound = record {
+          sized = old.sized;
+          window = old.window;
+          small = old.small;
+          few = old.few;
+          whole = old.whole;
+          listed = old.listed;
+          placed = old.placed;
+          staged = old.staged;
+          holding = old.holding;
+          headed = old.headed;
+          ended = old.ended;
+          directory = old.directory;
+          header_is = old.header_is;
+          unfailed = old.unfailed;
+          refused = unfailed-over _ w.stage unbudgeted_meter unfailed;
+        };
+        placed = positioned-aside w unbudgeted_meter p refl walked.placed;
+        unchanged = walked.unchanged;
+        within = λ few. (let before = walked.within few in omega (arith, before, within));
+      }
+
+  -- all else that is seen of it stays
+  pub lifted_leaves : (p : Position) (m : MeterState) → m ≡ unbudgeted_meter
+      → walked_by p (record w { meter = m }) ≡ record (walked_by p w) { counts = record (counts_of w.meter) { budget = None; asked = w.meter.fetched } }
+  lifted_leaves p m is = ap (λ n. walked_by p (record w { meter = n })) is ∙ walked_by-aside w unbudgeted_meter p refl refl

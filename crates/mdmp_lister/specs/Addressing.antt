@@ -1,6 +1,6 @@
 -- What is read of the dumped process's memory. A cell is the byte of an address, or none where no range holds the
 -- address.
-use Rattle.std.specs.Prelude.{◌≡◌, ◌≤◌, ◌<◌, ◌+◌, ◌*◌, ◌^◌, ℕ, Bool, if◌then◌else◌, List, Option, Some, None, is_some, length, map, option_map, slice_index, unwrap_or, Result, OnOk}
+use Rattle.std.specs.Prelude.{◌≡◌, ◌≤◌, ◌<◌, ◌+◌, ◌*◌, ◌/◌, ◌^◌, ℕ, Bool, if◌then◌else◌, List, Option, Some, None, is_some, length, map, option_map, slice_index, unwrap_or, Result, OnOk}
 use Rattle.std.specs.List.{range_with_len, zip}
 use Rattle.mdmp_map.specs.declared.range.Range.{Range}
 use Rattle.mdmp_map.specs.Ranges.{AreSorted, byte_at, first_range}
@@ -49,9 +49,14 @@ pub record ReadsAddresses (ranges : List Range) (address : ℕ) (result : Result
   pub books : BooksAside (length bytes) old new
   pub caused : IsCaused (fault_of result) old.source new.source
 
+-- among n ranges so many addresses, or fewer, were looked up by halves, and of the looks that it took each was counted
+pub record HalvesAtMost (n count old new : ℕ) : Type 0 where
+  -- where they are fewer than 2^k, at most k looks for each address
+  pub most : (k : ℕ) → n < 2 ^ k → new ≤ old + k * count
+
 -- among these ranges so many addresses, or fewer, were looked up, and of the looks that it took each was counted
 pub record LooksUpAtMost (ranges : List Range) (count old new : ℕ) : Type 0 where
   -- while the ranges are sorted and fewer than 2^k, at most k looks for each address
   pub by_halves : AreSorted ranges → (k : ℕ) → length ranges < 2 ^ k → new ≤ old + k * count
-  -- else at most one look at each range for each address
-  pub one_by_one : (AreSorted ranges → ⊥) → new ≤ old + length ranges * count
+  -- else at most one look at each range for each block of 16384 addresses
+  pub by_blocks : (AreSorted ranges → ⊥) → new ≤ old + length ranges * (count / 16384 + 1)

@@ -33,13 +33,18 @@ pub record FetchesCodeView (at : Location) (room : ℕ) (read : CodeViewRead) (o
   pub fetched : AreFetched at room read.head read.rest read.size
   pub books : BooksAside (min at.size 24 + read.rest) old new
 
--- how many bytes of one are fetched; where the store fails at most the first 24 and so many as there is room for
+-- the bytes of a record of so many that are fetched at most: its first 24, and behind them as many as there is room for
+abbrev pub codeview_most : Location → ℕ → ℕ
+codeview_most at room = min at.size (24 + room)
+
+-- how many bytes of one are fetched; if the store fails, no more than those
 abbrev pub codeview_cost : Location → ℕ → Result CodeViewBytes SourceFault → ℕ
 codeview_cost at room (Ok bytes) = min at.size 24 + length bytes.rest.now
-codeview_cost at room (Err fault) = 24 + room
+codeview_cost at room (Err fault) = codeview_most at room
 
 -- the record at a location was read, its end into a buffer of so many bytes
 pub record ReadsCodeView (at : Location) (room : ℕ) (buffer : List ℕ) (result : Result CodeViewRead SourceFault) (old new : MeterState) : Type 0 where
-  pub reads : ReadsBeside (24 + room) (λ file read. codeview_read buffer read ≡ codeview_of file at room) result old new
+  pub reads : ReadsBeside (codeview_most at room) (λ file read. codeview_read buffer read ≡ codeview_of file at room) result old new
   pub held : IfOk result (λ read. read.rest ≤ room)
+  pub lent : IfOk result (λ read. read.rest ≤ length buffer)
   pub fetches : IfOk result (λ read. FetchesCodeView at room read old new)

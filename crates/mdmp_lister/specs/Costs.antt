@@ -17,7 +17,7 @@ use Rattle.mdmp_lister.specs.declared.sink.RunFault.TheVariants as run
 use Rattle.mdmp_lister.specs.declared.step.Step.{Step}
 use Rattle.mdmp_lister.specs.declared.step.Step.TheVariants as step
 use Rattle.mdmp_lister.specs.Step.{stream_told}
-use Rattle.mdmp_lister.specs.Walk.Paying.{entry_cost}
+use Rattle.mdmp_lister.specs.Listed.{entry_cost}
 use Rattle.mdmp_lister.specs.Format.Summary.{summary_of}
 
 -- ---- names

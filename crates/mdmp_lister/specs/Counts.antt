@@ -7,7 +7,7 @@ use Rattle.mdmp_lister.specs.Format.Numbers.{listed_bytes, listed_sizes}
 use Rattle.mdmp_lister.specs.Lister.{ListerState}
 use Rattle.mdmp_lister.specs.Format.Listing.{entry_count}
 use Rattle.mdmp_lister.specs.Meter.{IsBooked, IsMetered}
-use Rattle.mdmp_lister.specs.Walk.Paying.{cost_of, sizes_in}
+use Rattle.mdmp_lister.specs.Listed.{cost_of, sizes_in}
 
 -- those of any lister, by the directory that it obtained and the room that it took
 abbrev pub numbers_of : ListerState → Counts

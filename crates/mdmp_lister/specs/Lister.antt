@@ -18,6 +18,7 @@ use Rattle.mdmp_map.specs.declared.range.Range.{Range}
 use Rattle.mdmp_lister.specs.declared.kind.StreamKind.{StreamKind}
 use Rattle.mdmp_lister.specs.declared.limits.Limits.{Limits}
 use Rattle.mdmp_lister.specs.declared.shape.Shape.{Shape}
+use Rattle.mdmp_lister.specs.Format.Bounds.{held_bound}
 use Rattle.mdmp_lister.specs.Format.Classes.{IsClassed}
 use Rattle.mdmp_lister.specs.Costs.{LeavesUnread, answer_cost, begun_by, stream_begun}
 use Rattle.mdmp_lister.specs.declared.step.Step.{Step}
@@ -29,6 +30,7 @@ use Rattle.mdmp_lister.specs.Format.Item.{plain}
 use Rattle.mdmp_lister.specs.Format.Kind.{kind_of}
 use Rattle.mdmp_lister.specs.Format.Listing.{Run, nothing, only_fault, items_from, joined, listing, listing_from}
 use Rattle.mdmp_lister.specs.Format.Shape.{shape_of}
+use Rattle.mdmp_lister.specs.Memory.{is_within}
 use Rattle.mdmp_lister.specs.Meter.{IsBegunOver, IsUnmade, Moves, SpendsAside}
 use Rattle.mdmp_lister.specs.declared.meter.MeterCounts.{MeterCounts}
 use Rattle.mdmp_lister.specs.Format.Ranges.{ranges_of}
@@ -190,6 +192,10 @@ pub record HasGivenNothing (content : Option (List ℕ)) (choice : Choice) (limi
   pub unread : new.unread ≡ 0
   pub ranges : new.ranges ≡ []
 
+-- the bytes that its lists have room for: no listing changes them
+abbrev pub room_held : ListerState → ℕ
+room_held v = held_bound v.rooms.window v.limit v.rooms.entries v.rooms.ranges
+
 -- a listing that was opened over a source, and has given nothing, whether it keeps ranges or not
 pub record IsNewList (source : SourceState) (choice : Choice) (limits : Limits) (new : ListerState) : Type 0 where
   pub same_content : new.source.store.content ≡ source.store.content
@@ -198,6 +204,8 @@ pub record IsNewList (source : SourceState) (choice : Choice) (limits : Limits) 
   pub read : HasReadDirectory source new
   pub asked : IsAskedFor choice limits new
   pub given : HasGivenNothing source.store.content choice limits new
+  -- what it has room for is within the limit of memory
+  pub memory : is_within limits.memory (room_held new) ≡ true
 
 -- a lister that was opened over a source, and has given nothing
 pub record IsNewLister (source : SourceState) (choice : Choice) (limits : Limits) (new : ListerState) : Type 0 where

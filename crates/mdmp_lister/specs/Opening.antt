@@ -11,7 +11,7 @@ use Rattle.mdmp_wire.specs.Header.{header_at}
 use Rattle.mdmp_wire.specs.HeaderFault.{header_fault_of, minidump_version}
 use Rattle.mdmp_lister.specs.declared.choice.Choice.{Choice}
 use Rattle.mdmp_lister.specs.declared.fault.OpenFault.{OpenFault}
-use Rattle.mdmp_lister.specs.declared.fault.OpenFault.TheVariants.{TooShort, BadSignature, BadVersion, DirectoryOutside, TooManyRanges, Source, Budget, Memory}
+use Rattle.mdmp_lister.specs.declared.fault.OpenFault.TheVariants.{TooShort, BadSignature, BadVersion, DirectoryOutside, TooManyRanges, Source, Budget, Memory, MemoryLimit}
 use Rattle.mdmp_lister.specs.declared.fault.FetchFault.{FetchFault}
 use Rattle.mdmp_lister.specs.declared.fault.FetchFault.TheVariants as fetch
 use Rattle.mdmp_lister.specs.declared.limits.Limits.{Limits}
@@ -21,7 +21,7 @@ use Rattle.mdmp_lister.specs.StreamHead.{heads_ahead}
 use Rattle.mdmp_lister.specs.Format.Listing.{entry_count}
 use Rattle.mdmp_lister.specs.Fault.{IsCaused, IsSteady}
 use Rattle.mdmp_lister.specs.Meter.{Books, IsRefusedFetch, KeepsTo, MeterState, counts_of, is_passed}
-use Rattle.mdmp_lister.specs.Walk.Paying.{CostsFrom}
+use Rattle.mdmp_lister.specs.Listed.{CostsFrom}
 use Rattle.mdmp_lister.specs.Format.Refusal.{most_ranges, directory_refusal, opening_fault}
 
 -- ---- what an opening answers
@@ -93,19 +93,21 @@ abbrev pub IsOpeningOver : ℕ → OpenFault → MeterState → Type 0
 IsOpeningOver most (Budget offset size) m = IsRefusedFetch most offset size (counts_of m) m.source.size
 IsOpeningOver most fault m = Unit {0}
 
--- a fault of a file's header or directory, or want of memory where they have none, or bytes that were not obtained
+-- a fault of a file's header or directory, or too little memory if they have none, or bytes that were not obtained
 abbrev pub IsDirectoryRefusal : List ℕ → OpenFault → Type 0
 IsDirectoryRefusal F (Source fault) = Unit {0}
 IsDirectoryRefusal F (Budget offset size) = Unit {0}
 IsDirectoryRefusal F Memory = directory_refusal F ≡ None
+IsDirectoryRefusal F (MemoryLimit held) = directory_refusal F ≡ None
 IsDirectoryRefusal F fault = directory_refusal F ≡ Some fault
 
--- a fault that a file may be refused with: its own, or want of memory where its header and directory have none, or bytes
+-- a fault that a file may be refused with: its own, or too little memory if its header and directory have none, or bytes
 -- that were not obtained
 abbrev pub IsRefusalOf : List ℕ → Choice → OpenFault → Type 0
 IsRefusalOf F choice (Source fault) = Unit {0}
 IsRefusalOf F choice (Budget offset size) = Unit {0}
 IsRefusalOf F choice Memory = directory_refusal F ≡ None
+IsRefusalOf F choice (MemoryLimit held) = directory_refusal F ≡ None
 IsRefusalOf F choice fault = opening_fault F choice ≡ Some fault
 
 -- the header and the place of the directory were refused
@@ -157,11 +159,16 @@ abbrev pub IsBareRefusal : ℕ → OpenFault → Type 0
 IsBareRefusal size (TooManyRanges count) = ⊥
 IsBareRefusal size fault = IsOpenRefusal size fault
 
+-- nor any memory taken
+abbrev pub IsHeaderRefusal : ℕ → OpenFault → Type 0
+IsHeaderRefusal size (MemoryLimit held) = ⊥
+IsHeaderRefusal size fault = IsBareRefusal size fault
+
 -- the header of a file of `size` bytes, at least 32, is that in its first bytes, or it or the place of the directory is refused
 pub record IsHeaderIn (bytes : List ℕ) (size : ℕ) (result : Result Header OpenFault) : Type 0 where
   pub finds : (F : List ℕ) → size ≡ length F → bytes ≡ bytes_at F 0 (length bytes) → Finds F result
   pub inside : IfOk result (λ header. IsInside header.stream_directory_rva (12 * header.number_of_streams) size)
-  pub refusal : IfErr result (IsBareRefusal size)
+  pub refusal : IfErr result (IsHeaderRefusal size)
   pub long : (told : ℕ) → result ≡ Err (TooShort told) → ⊥
   pub read : unread_fault result ≡ None
   pub obtained : IsFromBytes result
@@ -171,7 +178,7 @@ pub record IsHeaderIn (bytes : List ℕ) (size : ℕ) (result : Result Header Op
 pub record FitsHeader (old : SourceState) (result : Result Header OpenFault) (new : SourceState) : Type 0 where
   pub sized : IsSizeOf old.store.content old.size
   pub inside : IfOk result (λ header. IsInside header.stream_directory_rva (12 * header.number_of_streams) old.size)
-  pub refusal : IfErr result (IsBareRefusal old.size)
+  pub refusal : IfErr result (IsHeaderRefusal old.size)
   pub short : old.size < 32 → result ≡ Err (TooShort old.size)
   pub checked : IfOk result (λ header. header_fault_of header ≡ None)
   -- a file that is too short is not touched

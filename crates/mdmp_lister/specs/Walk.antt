@@ -7,7 +7,7 @@ pub mod Positions
 pub mod Reaching
 pub mod Requests
 pub mod Telling
-use Rattle.std.specs.Prelude.{◌≡◌, ◌≤◌, ◌<◌, ◌+◌, ◌-◌, ◌*◌, ◌^◌, ℕ, List, Option, None, Some, Result, Ok, Err, IfOk, vec_capacity, vec_len, max}
+use Rattle.std.specs.Prelude.{◌≡◌, ◌≤◌, ◌<◌, ◌+◌, ◌-◌, ◌*◌, ◌^◌, ℕ, List, Option, None, Some, true, Result, Ok, Err, IfOk, vec_capacity, vec_len, max}
 use Rattle.mdmp_source.specs.Count.{raised}
 use Rattle.mdmp_source.specs.Range.{IsInside}
 use Rattle.mdmp_source.specs.Source.{SourceState, FetchesAtMost}
@@ -26,12 +26,15 @@ use Rattle.mdmp_lister.specs.declared.step.Step.{Step}
 use Rattle.mdmp_lister.specs.declared.stage.Stage.{Stage}
 use Rattle.mdmp_lister.specs.declared.stage.Stage.TheVariants.{Between, Head, Records, Bad, Failed, Ended}
 use Rattle.mdmp_lister.specs.declared.walk.Walk.{Walk}
+use Rattle.mdmp_lister.specs.Format.Bounds.{held_bound}
 use Rattle.mdmp_lister.specs.Format.Numbers.{range_count}
 use Rattle.mdmp_lister.specs.Format.Directory.{IsDirectory}
 use Rattle.mdmp_lister.specs.StreamHead.{heads_ahead}
 use Rattle.mdmp_lister.specs.Holding.{IsHeldOf, fills_of}
 use Rattle.mdmp_lister.specs.Format.Item.{range_offset}
 use Rattle.mdmp_lister.specs.Format.Listing.{Run, nothing, only_fault, with_item, joined, items_from, entry_body, listing_from}
+use Rattle.mdmp_lister.specs.Listed.{AreListed}
+use Rattle.mdmp_lister.specs.Memory.{is_within}
 use Rattle.mdmp_lister.specs.Meter.{Books, TellsBudget, store_fault_of}
 use Rattle.mdmp_lister.specs.declared.fault.FetchFault.{FetchFault}
 use Rattle.mdmp_lister.specs.Format.Refusal.{directory_refusal}
@@ -101,10 +104,11 @@ module _ {S A : Type 0} where
   pub record IsSound (w : Walk S A) : Type 0 where
     pub sized : IsSizeOf w.meter.source.store.content w.meter.source.size
     pub window : greatest_record ≤ w.window.room
-    pub small : vec_len w.name < 2 ^ 32
+    pub small : w.name.limit < 2 ^ 32
     pub few : vec_len w.entries < 2 ^ 32
     -- the whole directory was read
     pub whole : vec_len w.entries ≡ w.header.number_of_streams
+    pub listed : AreListed w.listed w.choice w.meter.source.size w.entries.items
     pub placed : w.next ≤ vec_len w.entries
     pub staged : IsStaged w.meter.source.size w.next w.current w.stage
     pub holding : IsWindowed w.meter.source.store.content w.current w.window w.stage
@@ -114,15 +118,16 @@ module _ {S A : Type 0} where
     pub header_is : (file : List ℕ) → w.meter.source.store.content ≡ Some file → w.header ≡ header_at file 0
     pub unfailed : (file : List ℕ) → IsGood w.meter.source.store file → IsNoStoreFault w.stage
     -- a fault of the budget that stays for good is of a fetch that was not made, of no more than the window or a name may have
-    pub refused : IsOverAt (max w.window.room (vec_len w.name)) w.stage w.meter
+    pub refused : IsOverAt (max w.window.room w.name.limit) w.stage w.meter
 
   -- no list is longer or shorter, and what was read of the file's head stays
   pub record SameRoom (old new : Walk S A) : Type 0 where
     pub header_is : new.header ≡ old.header
     pub entries : new.entries ≡ old.entries
     pub choice : new.choice ≡ old.choice
+    pub listed : new.listed ≡ old.listed
     pub window : new.window.room ≡ old.window.room
-    pub name : vec_len new.name ≡ vec_len old.name
+    pub name : new.name.limit ≡ old.name.limit
 
   -- nor is another entry the current one
   pub record SameEntry (old new : Walk S A) : Type 0 where
@@ -159,9 +164,11 @@ module _ {S A : Type 0} where
     pub choice_is : w.choice ≡ choice
     pub budget : w.meter.budget ≡ limits.budget
     pub window : w.window.room ≡ limits.window
-    pub name : vec_len w.name ≡ limits.name
+    pub name : w.name.limit ≡ limits.name
     pub next : w.next ≡ 0
     pub stage : w.stage ≡ Between
+    -- its lists without a map are within the limit of memory
+    pub memory : is_within limits.memory (held_bound limits.window limits.name w.header.number_of_streams 0) ≡ true
     -- no entry was begun
     pub current_is : w.current.stream_type ≡ 0
     pub sound : IsSound w
@@ -182,11 +189,11 @@ module _ {S A : Type 0} where
 
   -- what is left of the current entry
   abbrev pub current_of : Walk S A → List ℕ → Run
-  current_of w file = left_of_entry file (vec_len w.name) (w.next - 1) w.current w.stage
+  current_of w file = left_of_entry file w.name.limit (w.next - 1) w.current w.stage
 
   -- what the entries behind it give
   abbrev pub rest_of : Walk S A → List ℕ → Run
-  rest_of w file = listing_from file w.choice (vec_len w.name) w.next
+  rest_of w file = listing_from file w.choice w.name.limit w.next
 
   -- what is left
   abbrev pub left_of : Walk S A → List ℕ → Run

@@ -22,7 +22,7 @@ use Rattle.mdmp_lister.specs.Format.Listing.{Run, listing_sought, only_fault, re
 use Rattle.mdmp_lister.specs.Lister.{AnswersNext, Gives, cursor_in, IsNewList, IsSameLister, NextLeaves, ListerState, IsRefusedIn}
 use Rattle.mdmp_lister.specs.Meter.{Moves}
 use Rattle.mdmp_lister.specs.Step.{TellsAnswer}
-use Rattle.mdmp_lister.specs.Walk.Paying.{entry_cost}
+use Rattle.mdmp_lister.specs.Listed.{entry_cost}
 use Rattle.mdmp_lister.specs.Walk.Positions.{mark_by, position_by}
 
 pub record WalkerState : Type 0 where

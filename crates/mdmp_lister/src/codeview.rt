@@ -1,14 +1,16 @@
 //! What is read of the CodeView record of a module.
-ghost use Rattle.std.specs.Prelude.{◌≡◌, ◌+◌, IfOk, length, min, take};
+ghost use Rattle.std.specs.Prelude.{◌≡◌, ◌≤◌, ◌+◌, IfOk, length, min, take};
 ghost use Rattle.mdmp_source.specs.Range.{IsInside};
 ghost use Rattle.mdmp_wire.specs.CodeView.{codeview_in, codeview_of};
-ghost use Rattle.mdmp_lister.specs.CodeView.{ReadsCodeView, fetched_behind};
+ghost use Rattle.mdmp_lister.specs.CodeView.{ReadsCodeView, codeview_most, fetched_behind};
 ghost use Rattle.mdmp_lister.specs.Fetching.{ReadsBeside};
 ghost use Rattle.mdmp_lister.specs.Meter.{BooksAside};
 
 use crate::meter::Meter;
+use crate::name_buffer::NameBuffer;
 use mdmp_source::{Location, SourceFault, Store};
 use mdmp_wire::{CodeView, get_at};
+use std::alloc::Allocator;
 
 /// The bytes of a CodeView record that say what it tells, of a name as many as the limit on names.
 ///
@@ -52,17 +54,19 @@ pub(crate) struct CodeViewRead {
 /// record of the kind RSDS as many of the bytes behind them into the front of `rest` as it has and
 /// `rest` holds. The answer is how many bytes of `rest` were fetched.
 #[tactic(auto, unfolding(mdmp_wire::specs::Number::array_at))]
-fn fetch_codeview<S: Store>(
+fn fetch_codeview<S: Store, A: Allocator>(
     meter: &mut Meter<S>,
     location: Location,
     head: &mut [u8],
-    rest: &mut [u8],
+    rest: &mut NameBuffer<A>,
 ) -> Result<usize, SourceFault>
     requires head { length head.old ≡ min location.size 24 }
     requires inside { IsInside location.rva location.size meter.old.source.size }
-    ensures room { IfOk result (λ count. count ≡ fetched_behind head.new location.size (length rest.new)) }
+    ensures limit { rest.new.limit ≡ rest.old.limit }
+    ensures holds { IfOk result (λ count. count ≤ length rest.new.items) }
+    ensures room { IfOk result (λ count. count ≡ fetched_behind head.new location.size rest.new.limit) }
     ensures books { IfOk result (λ count. BooksAside (min location.size 24 + count) meter.old meter.new) }
-    ensures reads { ReadsBeside (24 + length rest.new) (λ file count. codeview_in head.new (take count rest.new) location.size ≡ codeview_of file location (length rest.new)) result meter.old meter.new }
+    ensures reads { ReadsBeside (codeview_most location rest.new.limit) (λ file count. codeview_in head.new (take count rest.new.items) location.size ≡ codeview_of file location rest.new.limit) result meter.old meter.new }
 {
     let at = u64::from(location.rva);
     meter.fetch_aside(at, head)?;
@@ -73,19 +77,20 @@ fn fetch_codeview<S: Store>(
     if kind != CodeView::RSDS {
         return Ok(0);
     }
-    let count = (location.size as usize - 24).min(rest.len());
-    meter.fetch_aside(at + 24, &mut rest[..count])?;
+    let count = (location.size as usize - 24).min(rest.limit());
+    rest.fetch_aside(meter, at + 24, count)?;
     Ok(count)
 }
 
 /// Reads a CodeView record, of its name as many bytes as the buffer holds.
-pub(crate) fn read_codeview<S: Store>(
+pub(crate) fn read_codeview<S: Store, A: Allocator>(
     meter: &mut Meter<S>,
     location: Location,
-    buffer: &mut [u8],
+    buffer: &mut NameBuffer<A>,
 ) -> Result<CodeViewRead, SourceFault>
     requires { IsInside location.rva location.size meter.old.source.size }
-    ensures { ReadsCodeView location (length buffer.new) buffer.new result meter.old meter.new }
+    ensures limit { buffer.new.limit ≡ buffer.old.limit }
+    ensures reads { ReadsCodeView location buffer.new.limit buffer.new.items result meter.old meter.new }
 {
     let mut head = [0; 24];
     let size = location.size;

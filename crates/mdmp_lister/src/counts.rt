@@ -1,6 +1,6 @@
 //! The numbers that bound a listing.
 ghost use Rattle.std.specs.Prelude.{◌≡◌, ◌≤◌, ◌<◌, ◌+◌, ◌*◌, ◌^◌, length};
-ghost use Rattle.mdmp_lister.specs.Walk.Paying.{cost_of, entry_cost};
+ghost use Rattle.mdmp_lister.specs.Listed.{cost_of, entry_cost};
 
 use crate::choice::Choice;
 use crate::kind::StreamKind;
@@ -36,7 +36,7 @@ pub struct Counts {
 }
 
 /// The bytes of an entry that are listed: all of a stream that has records and lies inside the file.
-#[tactic(auto, unfolding(crate::specs::Walk::Paying::entry_cost_by))]
+#[tactic(auto, unfolding(crate::specs::Listed::entry_cost_by))]
 fn listed_bytes_of(entry: Entry, size: u64) -> u32
     ensures { result ≡ entry_cost size entry }
 {

@@ -219,6 +219,12 @@ pub enum OpenFault {
     },
     /// The allocator refused memory.
     Memory,
+    /// The lister's lists would take more bytes than its limit of memory, so they were not made.
+    MemoryLimit {
+        /// How many they would take: for the directory, the window and a name, and also for the map if
+        /// those are within the limit.
+        held: u128,
+    },
     /// The chosen memory lists that lie inside and have no fault have more ranges than 2^28.
     TooManyRanges {
         /// How many they have, each list as often as an entry names it.

@@ -2,7 +2,7 @@
 ghost use Rattle.std.specs.Prelude.{◌≡◌, ◌≤◌, ◌<◌, ◌+◌, ◌^◌, ℕ, List, Some, length, take, IfOk};
 ghost use Rattle.mdmp_source.specs.Range.{IsInside, bytes_at};
 ghost use Rattle.mdmp_wire.specs.Number.{u32_at};
-ghost use Rattle.mdmp_lister.specs.Fetching.{Reads, ReadsName};
+ghost use Rattle.mdmp_lister.specs.Fetching.{Reads, ReadsBeside, ReadsName};
 ghost use Rattle.mdmp_lister.specs.Following.{IsSomeName};
 ghost use Rattle.mdmp_lister.specs.Meter.{Books};
 ghost use Rattle.mdmp_lister.specs.Format.Name.{name_at};
@@ -12,8 +12,10 @@ ghost use Rattle.mdmp_lister.specs.Step.{IsHeld, name_read};
 use crate::fault::{Fault, FaultKind, FetchFault, faulted};
 use crate::meter::Meter;
 use crate::name::check_units;
-use mdmp_source::{Store, inside};
+use crate::name_buffer::NameBuffer;
+use mdmp_source::{SourceFault, Store, inside};
 use mdmp_wire::{Record, get_at};
+use std::alloc::Allocator;
 
 /// The name of a record, whose units were read into the front of a buffer.
 #[derive(Clone, Copy, Debug, PartialEq, Eq)]
@@ -40,6 +42,20 @@ pub(crate) fn fetch_front<S: Store>(
     meter.fetch(at, &mut buffer[..count])
 }
 
+/// Fetches `count` bytes at `at` into the front of a buffer, aside from the listing.
+pub(crate) fn fetch_front_aside<S: Store>(
+    meter: &mut Meter<S>,
+    at: u64,
+    buffer: &mut [u8],
+    count: usize,
+) -> Result<(), SourceFault>
+    requires room { count ≤ length buffer.old }
+    requires inside { IsInside at count meter.old.source.size }
+    ensures { ReadsBeside count (λ file _. take count buffer.new ≡ bytes_at file at count) result meter.old meter.new }
+{
+    meter.fetch_aside(at, &mut buffer[..count])
+}
+
 /// The record that bytes of a file begin with.
 pub(crate) fn first_of<R: Record>(bytes: &[u8]) -> R
     requires { R.SIZE ≤ length bytes.now }
@@ -58,20 +74,21 @@ fn read_length<S: Store>(meter: &mut Meter<S>, rva: u64) -> Result<u32, FetchFau
     Ok(first_of(&bytes))
 }
 
-/// The name at `rva`, its units into the front of a buffer as long as the limit, or its fault: a
+/// The name at `rva`, its units into the front of a buffer with room for the limit, or its fault: a
 /// length outside the file, an odd one, units outside. The units of a longer name are not fetched.
 #[tactic(auto, unfolding(crate::specs::Format::Name::name_at, mdmp_wire::specs::Number::array_at))]
-pub(crate) fn read_name<S: Store>(
+pub(crate) fn read_name<S: Store, A: Allocator>(
     meter: &mut Meter<S>,
-    buffer: &mut [u8],
+    buffer: &mut NameBuffer<A>,
     rva: u64,
 ) -> Result<NameRead, Fault>
-    requires { length buffer.old < 2 ^ 32 }
+    requires { buffer.old.limit < 2 ^ 32 }
+    ensures limit { buffer.new.limit ≡ buffer.old.limit }
     ensures name { (file : List ℕ) → meter.old.source.store.content ≡ Some file
-        → Answers (name_at file rva (length buffer.new)) (name_read buffer.new) result }
-    ensures held { IfOk result (IsHeld (length buffer.new)) }
-    ensures some { IsSomeName meter.old.source.size (length buffer.new) rva result }
-    ensures reads { ReadsName (length buffer.new) rva result meter.old meter.new }
+        → Answers (name_at file rva buffer.new.limit) (name_read buffer.new.items) result }
+    ensures held { IfOk result (IsHeld (length buffer.new.items)) }
+    ensures some { IsSomeName meter.old.source.size buffer.new.limit rva result }
+    ensures reads { ReadsName buffer.new.limit rva result meter.old meter.new }
 {
     let size = meter.size();
     if rva == 0 {
@@ -83,9 +100,9 @@ pub(crate) fn read_name<S: Store>(
     }
     let length = read_length(meter, rva)?;
     check_units(rva, length, size)?;
-    if buffer.len() < length as usize {
+    if buffer.limit() < length as usize {
         return Ok(NameRead::Long(length));
     }
-    fetch_front(meter, rva + 4, buffer, length as usize)?;
+    buffer.fetch(meter, rva + 4, length as usize)?;
     Ok(NameRead::Units(length))
 }

@@ -1,5 +1,5 @@
 //! What a walk read last, and what is read beside its listing.
-ghost use Rattle.std.specs.Prelude.{◌≡◌, ◌≤◌, length, take, vec_len};
+ghost use Rattle.std.specs.Prelude.{◌≡◌, ◌≤◌, length, take};
 ghost use Rattle.mdmp_source.specs.Range.{IsInside, bytes_at};
 ghost use Rattle.mdmp_lister.specs.Fetching.{ReadsBeside};
 ghost use Rattle.mdmp_lister.specs.HeldStep.{AnswerHasItsBytes, HasItsBytes, TellsRange, answer_told, step_told};
@@ -37,7 +37,7 @@ impl<S: Store + Drop, A: Allocator + Copy> Walk<S, A> {
     #[inline(always)]
     pub(crate) fn item(&self, held: &HeldStep) -> Item<'_>
         requires whole { HasItsBytes self.now.window.held held.now }
-        requires name { IsNameHeld (vec_len self.now.name) (step_told self.now.window.held held.now) }
+        requires name { IsNameHeld (length self.now.name.items) (step_told self.now.window.held held.now) }
         ensures { IsItemOf self.now.meter.source.size self.now.name.items (step_told self.now.window.held held.now) result }
     {
         match held {
@@ -45,7 +45,7 @@ impl<S: Store + Drop, A: Allocator + Copy> Walk<S, A> {
             HeldStep::Record(record) => record_item(
                 record,
                 self.window.bytes(),
-                &self.name,
+                self.name.bytes(),
                 self.meter.size(),
             ),
         }
@@ -71,7 +71,7 @@ impl<S: Store + Drop, A: Allocator + Copy> Walk<S, A> {
 
     /// The bytes of a CodeView record that were fetched, those behind the first 24 lent.
     pub(crate) fn codeview(&self, read: CodeViewRead) -> CodeViewBytes<'_>
-        requires { read.rest ≤ vec_len self.now.name }
+        requires { read.rest ≤ length self.now.name.items }
         ensures head { result.head ≡ read.head }
         ensures rest { result.rest.now ≡ take read.rest self.now.name.items }
         ensures size { result.size ≡ read.size }
@@ -79,7 +79,7 @@ impl<S: Store + Drop, A: Allocator + Copy> Walk<S, A> {
         let CodeViewRead { head, rest, size } = read;
         CodeViewBytes {
             head,
-            rest: &self.name[..rest],
+            rest: &self.name.bytes()[..rest],
             size,
         }
     }

@@ -51,6 +51,7 @@ mod limits;
 mod lister;
 mod meter;
 mod name;
+mod name_buffer;
 mod opening;
 mod position;
 mod range_map;

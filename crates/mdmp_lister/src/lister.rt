@@ -72,7 +72,7 @@ impl<S: Store + Drop, A: Allocator + Copy> Model for Lister<S, A> {
       header = l.walk.header;
       entries = l.walk.entries.items;
       choice = l.walk.choice;
-      limit = vec_len l.walk.name;
+      limit = l.walk.name.limit;
       rooms = record { entries = vec_capacity l.walk.entries; window = l.walk.window.room; ranges = l.map.room };
       passed = l.walk.next;
       current = l.walk.current;
@@ -91,6 +91,7 @@ impl<S: Store + Drop, A: Allocator + Copy> Model for Lister<S, A> {
 impl<S: Store + Drop, A: Allocator + Copy> Lister<S, A> {
     ghost use Rattle.mdmp_lister.specs.contracts.lister.Lister.{the_row};
     ghost use Rattle.mdmp_lister.specs.Check.{CheckLeaves};
+    ghost use Rattle.mdmp_lister.specs.Memory.{IsRefusalWithin, TellsMemory, opening_fault_within};
     ghost use Rattle.mdmp_lister.specs.Sink.{RangesFollow, RunLeaves};
     ghost use Rattle.mdmp_lister.specs.Lister.{Gives, IsNewLister, IsRecordsLeft, IsRefusedIn, IsSameLister, ListerLeaves, ReadsAside, is_for_good, is_fresh, listing_behind};
 
@@ -103,6 +104,9 @@ impl<S: Store + Drop, A: Allocator + Copy> Lister<S, A> {
     /// many ranges, want of memory, that the store failed, behind which nothing more is fetched, or that
     /// a fetch would have passed the budget, which is not made. What was fetched by then is within the
     /// budget.
+    ///
+    /// If the limits have a limit of memory, it is tested before the first memory is taken, without the
+    /// map, and again before the map's is: `MemoryLimit` tells how much would be held.
     #[tactic(auto, using(crate::proofs::Paying::bounded_new))]
     pub fn open(
         alloc: A,
@@ -112,6 +116,9 @@ impl<S: Store + Drop, A: Allocator + Copy> Lister<S, A> {
     ) -> Result<Lister<S, A>, OpenRefused<S>>
         ensures opens { (file : List ℕ) → source.store.content ≡ Some file
             → MatchResult result (λ _. opening_fault file choice ≡ None) (λ refused. IsRefusalOf file choice refused.fault) }
+        ensures within { (file : List ℕ) → source.store.content ≡ Some file
+            → MatchResult result (λ _. opening_fault_within limits file choice ≡ None) (λ refused. IsRefusalWithin limits file choice refused.fault) }
+        ensures over { IfErr result (λ refused. TellsMemory limits source refused.fault refused.source) }
         ensures new { IfOk result (IsNewLister source choice limits) }
         ensures handed_back { IfErr result (λ refused. IsHandedBack choice source refused.fault refused.source) }
         ensures good { (file : List ℕ) → IsGood source.store file → IfErr result (λ refused. IsUnread refused.fault → ⊥) }
@@ -133,6 +140,10 @@ impl<S: Store + Drop, A: Allocator + Copy> Lister<S, A> {
         if count > MOST_RANGES {
             return Err(refused(OpenFault::TooManyRanges { count }, walk.meter));
         }
+        let held = limits.held(walk.header.number_of_streams, count as u64);
+        if !limits.holds(held) {
+            return Err(refused(OpenFault::MemoryLimit { held }, walk.meter));
+        }
         match AddressMap::with_room(alloc, count as usize) {
             Ok(map) => Ok(Lister { walk, map }),
             Err(AllocError) => Err(refused(OpenFault::Memory, walk.meter)),
@@ -144,6 +155,13 @@ impl<S: Store + Drop, A: Allocator + Copy> Lister<S, A> {
         ensures { result ≡ self.now.header }
     {
         self.walk.header
+    }
+
+    /// The longest name that is read, in bytes, also that of a CodeView record.
+    pub fn name_limit(&self) -> usize
+        ensures { result ≡ self.now.limit }
+    {
+        self.walk.name.limit()
     }
 
     /// The number of bytes in the file, as its source tells it. [`Lister::read_part`] reads any that
@@ -325,9 +343,10 @@ impl<S: Store + Drop, A: Allocator + Copy> Lister<S, A> {
         self.read_address_under::<Brand>(address, out, known, Blank::new(1))
     }
 
-    /// Reads what `read_address` does, and counts a step for each range that it looks at: one search
-    /// finds the addresses that stand together from one on, so there are at most as many searches as
-    /// `out` has bytes.
+    /// Reads what `read_address` does, and counts a step for each range that it looks at. While the
+    /// ranges are sorted one search by halves finds the addresses that stand together from one on, so
+    /// there are at most as many searches as `out` has bytes; else each range is looked at once for each
+    /// 16384 of them.
     #[tactic(auto, using(crate::proofs::Fetches::told_caused, crate::proofs::Fetches::good_caused))]
     pub fn read_address_counted<G: Ledger>(
         &mut self,

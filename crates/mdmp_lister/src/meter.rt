@@ -1,5 +1,5 @@
 //! A source that is read for a listing, which counts what the listing fetches.
-ghost use Rattle.std.specs.Prelude.{◌≡◌, ◌≤◌, ◌+◌, Err, OnErr, OnOk, length, min};
+ghost use Rattle.std.specs.Prelude.{◌≡◌, ◌≤◌, ◌+◌, Err, None, OnErr, OnOk, length, min};
 ghost use Rattle.mdmp_source.specs.Count.{raised};
 ghost use Rattle.mdmp_source.specs.Range.{IsInside, bytes_at};
 ghost use Rattle.mdmp_source.specs.Store.{IsOfBytes, IsSizeOf};
@@ -168,6 +168,15 @@ impl<S: Store> Meter<S> {
             calls: self.aside.calls.saturating_add(1),
         };
         self.source.fetch(at, out)
+    }
+
+    /// Lifts the budget, so that no later fetch for the listing is refused for it.
+    pub(crate) fn lift_budget(&mut self)
+        ensures lifted { self.new ≡ record self.old { budget = None; asked = self.old.fetched } }
+        ensures within { self.old.fetched ≤ self.old.asked }
+    {
+        self.budget = None;
+        self.refused = 0;
     }
 
     /// Counts a name that was reached.

@@ -16,6 +16,7 @@ use crate::held_step::{HeldRecord, HeldStep, held_name_rva};
 use crate::holding::hold;
 use crate::kind::StreamKind;
 use crate::meter::Meter;
+use crate::name_buffer::NameBuffer;
 use mdmp_source::{Store, Window};
 use std::alloc::Allocator;
 
@@ -43,7 +44,7 @@ fn hold_record<S: Store, A: Allocator>(
 pub(crate) fn read_item<S: Store, A: Allocator>(
     meter: &mut Meter<S>,
     window: &mut Window<A>,
-    buffer: &mut [u8],
+    buffer: &mut NameBuffer<A>,
     kind: StreamKind,
     entry: u32,
     index: u64,
@@ -51,18 +52,18 @@ pub(crate) fn read_item<S: Store, A: Allocator>(
     offset: u128,
 ) -> Result<HeldStep, Fault>
     requires ahead { IsAhead meter.old.source at (record_size kind) window.old }
-    requires small { length buffer.old < 2 ^ 32 }
+    requires small { buffer.old.limit < 2 ^ 32 }
     ensures item { (file : List ℕ) → meter.old.source.store.content ≡ Some file → (stream : ℕ)
         → (kind ≡ StreamKind.Memory64 → offset ≡ range_offset file stream index)
-        → Answers (item_at file (length buffer.new) entry index stream at kind) (step_item meter.old.source.size buffer.new) (read_told window.new.held result) }
+        → Answers (item_at file buffer.new.limit entry index stream at kind) (step_item meter.old.source.size buffer.new.items) (read_told window.new.held result) }
     ensures whole { IfOk result (HasItsBytes window.new.held) }
-    ensures tells { IfOk (read_told window.new.held result) (TellsRecord (length buffer.new) kind) }
-    ensures length { length buffer.new ≡ length buffer.old }
+    ensures tells { IfOk (read_told window.new.held result) (TellsRecord (length buffer.new.items) kind) }
+    ensures limit { buffer.new.limit ≡ buffer.old.limit }
     ensures comes { ComesTo at meter.old.source.store.content window.old window.new }
     ensures slides { Slides at (record_size kind) window.old result window.new }
-    ensures reads { ReadsRecord window.old.room (needed at (record_size kind) window.old) (length buffer.new) (read_told window.new.held result) meter.old meter.new }
+    ensures reads { ReadsRecord window.old.room (needed at (record_size kind) window.old) buffer.new.limit (read_told window.new.held result) meter.old meter.new }
     ensures nameless { has_names kind ≡ false → meter.new.names ≡ meter.old.names }
-    ensures some { MatchResult (read_told window.new.held result) (IsSomeRecord meter.old.source.size (length buffer.new) kind entry index offset) (IsRecordFault meter.old.source.size (length buffer.new) kind) }
+    ensures some { MatchResult (read_told window.new.held result) (IsSomeRecord meter.old.source.size buffer.new.limit kind entry index offset) (IsRecordFault meter.old.source.size buffer.new.limit kind) }
 {
     // The proof learns here that the size is that of the content.
     let _size = meter.size();

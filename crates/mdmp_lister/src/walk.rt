@@ -1,5 +1,5 @@
 //! The walk over the entries of a file, without its public face.
-ghost use Rattle.std.specs.Prelude.{◌≡◌, ◌+◌, ◌*◌, ◌^◌, ◌≤◌, ◌<◌, ◌-◌, Some, IfOk, IfErr, IfSome, MatchOption, MatchResult, length, vec_len};
+ghost use Rattle.std.specs.Prelude.{◌≡◌, ◌+◌, ◌*◌, ◌^◌, ◌≤◌, ◌<◌, ◌-◌, ℕ, List, None, Some, IfOk, IfErr, IfSome, MatchOption, MatchResult, length, vec_len};
 ghost use Rattle.mdmp_lister.specs.Format.Kind.{HasNoNames, kind_of};
 ghost use Rattle.mdmp_lister.specs.HeldStep.{AnswerHasItsBytes, HasItsBytes, answer_told, given_told, read_told, step_told};
 ghost use Rattle.mdmp_lister.specs.Meter.{IsBooked, IsMetered, KeepsTo, counts_of};
@@ -16,6 +16,7 @@ use crate::item::StreamItem;
 use crate::kind::StreamKind;
 use crate::limits::Limits;
 use crate::meter::Meter;
+use crate::name_buffer::NameBuffer;
 use crate::opening::{OpenRefused, next_chosen, read_directory, read_header};
 use crate::record_reading::read_item;
 use crate::shape::{Shape, location_fault, record_at};
@@ -38,10 +39,12 @@ pub(crate) struct Walk<S: Store + Drop, A: Allocator + Copy> {
     pub(crate) header: Header,
     pub(crate) entries: Vec<Entry, A>,
     pub(crate) choice: Choice,
+    /// The bytes of the chosen entries that are listed.
+    pub(crate) listed: u128,
     /// Through it the directory is read, and then the head and the records of each stream.
     pub(crate) window: Window<A>,
-    /// At its front the units of the last name stand. Its length is the limit of names.
-    pub(crate) name: Vec<u8, A>,
+    /// At its front the units of the last name stand. It has room for the limit of names.
+    pub(crate) name: NameBuffer<A>,
     /// The number of the first entry behind the current one.
     pub(crate) next: usize,
     pub(crate) current: Entry,
@@ -51,6 +54,7 @@ pub(crate) struct Walk<S: Store + Drop, A: Allocator + Copy> {
 impl<S: Store + Drop, A: Allocator + Copy> Walk<S, A> {
     ghost use Rattle.mdmp_lister.specs.Walk.Requests.{Answered, HeadCounted, EntrySkipped, EntryTaken, HasChanged, HeadRead, RecordsCounted, StepTaken};
     ghost use Rattle.mdmp_lister.specs.Walk.Checking.{EntryBegun, NoneLeft, RecordWasRead, RecordTaken};
+    ghost use Rattle.mdmp_lister.specs.Memory.{IsWalkRefusal, TellsWalkMemory, walk_fault};
     ghost use Rattle.mdmp_lister.specs.Walk.Telling.{numbers_of_walk};
     ghost use Rattle.mdmp_lister.specs.Walk.{CountsRanges, IsListing, IsNewWalk, IsPastHead, IsSound, IsThrough};
 
@@ -64,29 +68,37 @@ impl<S: Store + Drop, A: Allocator + Copy> Walk<S, A> {
         ensures new { IfOk result (IsNewWalk source choice limits) }
         ensures refused { IfErr result (λ refused. IsRefused source refused.fault refused.source) }
         ensures kept { IfErr result (λ refused. KeepsToBudget limits source refused.fault refused.source) }
+        ensures within { (file : List ℕ) → source.store.content ≡ Some file → MatchResult result (λ _. walk_fault limits file ≡ None) (λ refused. IsWalkRefusal limits file refused.fault) }
+        ensures over { IfErr result (λ refused. TellsWalkMemory limits source refused.fault refused.source) }
     {
         let mut meter = Meter::new(source, limits.budget);
         let header = match read_header(&mut meter) {
             Ok(header) => header,
             Err(fault) => return Err(refused(fault, meter)),
         };
+        let held = limits.held(header.number_of_streams, 0);
+        if !limits.holds(held) {
+            return Err(refused(OpenFault::MemoryLimit { held }, meter));
+        }
         let Ok(mut entries) = Vec::with_capacity(alloc, header.number_of_streams as usize) else {
             return Err(refused(OpenFault::Memory, meter));
         };
         let Ok(mut window) = Window::with_room(alloc, limits.window as usize) else {
             return Err(refused(OpenFault::Memory, meter));
         };
-        let Ok(name) = vec![in alloc; 0; limits.name as usize] else {
+        let Ok(name) = NameBuffer::with_limit(alloc, limits.name as usize) else {
             return Err(refused(OpenFault::Memory, meter));
         };
         if let Err(fault) = read_directory(&mut meter, &mut window, header, &mut entries) {
             return Err(refused(OpenFault::from(fault), meter));
         }
+        let listed = listed_bytes(&entries, &choice, meter.size());
         Ok(Walk {
             meter,
             header,
             entries,
             choice,
+            listed,
             window,
             name,
             next: 0,
@@ -344,7 +356,7 @@ impl<S: Store + Drop, A: Allocator + Copy> Walk<S, A> {
     }
 
     /// The numbers that bound what it holds beside a map with room for so many ranges, and what it has
-    /// fetched.
+    /// fetched. It sums nothing.
     pub(crate) fn counts(&self, ranges: u128) -> Counts
         requires sound { IsSound self.now }
         requires few { ranges < 2 ^ 65 }
@@ -359,9 +371,9 @@ impl<S: Store + Drop, A: Allocator + Copy> Walk<S, A> {
         Counts {
             s: entries,
             r: ranges,
-            n: listed_bytes(&self.entries, &self.choice, self.meter.size()),
+            n: self.listed,
             m: counted.names,
-            held: self.window.room() as u128 + directory + 24 * ranges + self.name.len() as u128,
+            held: self.window.room() as u128 + directory + 24 * ranges + self.name.limit() as u128,
             fetched: counted.fetched,
             calls: counted.calls,
             aside: counted.aside.bytes,

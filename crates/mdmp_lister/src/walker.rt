@@ -67,7 +67,7 @@ impl<S: Store + Drop, A: Allocator + Copy> Model for Walker<S, A> {
         header = w.walk.header;
         entries = w.walk.entries.items;
         choice = w.walk.choice;
-        limit = vec_len w.walk.name;
+        limit = w.walk.name.limit;
         rooms = record { entries = vec_capacity w.walk.entries; window = w.walk.window.room; ranges = 0 };
         passed = w.walk.next;
         current = w.walk.current;
@@ -88,15 +88,17 @@ impl<S: Store + Drop, A: Allocator + Copy> Model for Walker<S, A> {
 
 impl<S: Store + Drop, A: Allocator + Copy> Walker<S, A> {
     ghost use Rattle.mdmp_lister.specs.contracts.walker.Walker.{the_row};
+    ghost use Rattle.mdmp_lister.specs.Memory.{IsWalkRefusal, TellsWalkMemory, walk_fault};
     ghost use Rattle.mdmp_lister.specs.Lister.{Gives, IsRefusedIn, IsSameLister, ReadsAside, is_for_good, listing_behind};
-    ghost use Rattle.mdmp_lister.specs.Walker.{CountsRecords, GivesEntry, IsNewWalker, IsSought, StepLeaves, WalkerLeaves, is_begun, is_sought, records_answer};
+    ghost use Rattle.mdmp_lister.specs.Walker.{CountsRecords, GivesEntry, IsNewWalker, IsSought, StepLeaves, WalkerLeaves, is_begun, is_failed, is_sought, records_answer};
 
     /// Opens a file. Its header is read; memory is taken for the directory, the window and a name; the
     /// directory is read. No later call takes any.
     ///
     /// A refusal hands the source back: the fault of the header or of the place of the directory, want
     /// of memory, that the store failed, behind which nothing more is fetched, or that a fetch would
-    /// have passed the budget, which is not made. What was fetched by then is within the budget.
+    /// have passed the budget, which is not made. What was fetched by then is within the budget. A limit
+    /// of memory is tested before any is taken: `MemoryLimit` tells how much would be held.
     pub fn open(
         alloc: A,
         source: Source<S>,
@@ -105,6 +107,9 @@ impl<S: Store + Drop, A: Allocator + Copy> Walker<S, A> {
     ) -> Result<Walker<S, A>, OpenRefused<S>>
         ensures opens { (file : List ℕ) → source.store.content ≡ Some file
             → MatchResult result (λ _. directory_refusal file ≡ None) (λ refused. IsDirectoryRefusal file refused.fault) }
+        ensures within { (file : List ℕ) → source.store.content ≡ Some file
+            → MatchResult result (λ _. walk_fault limits file ≡ None) (λ refused. IsWalkRefusal limits file refused.fault) }
+        ensures over { IfErr result (λ refused. TellsWalkMemory limits source refused.fault refused.source) }
         ensures new { IfOk result (IsNewWalker source choice limits) }
         ensures handed_back { IfErr result (λ refused. IsHandedBackBare source refused.fault refused.source) }
         ensures good { (file : List ℕ) → IsGood source.store file → IfErr result (λ refused. IsUnread refused.fault → ⊥) }
@@ -262,6 +267,21 @@ impl<S: Store + Drop, A: Allocator + Copy> Walker<S, A> {
         match self.walk.stage {
             Stage::Failed(_) => {}
             _ => self.position = Position::Sought(number),
+        }
+    }
+
+    /// Lifts the budget: what is fetched for the listing from now on has none. After a fault of the store
+    /// or of the budget it changes nothing.
+    pub fn lift_budget(&mut self)
+        ensures lifts { is_failed self.old.list.stop ≡ false
+            → self.new ≡ record self.old { list = record self.old.list { counts = record self.old.list.counts { budget = None; asked = self.old.list.counts.fetched } } } }
+        ensures stays { IsTrue (is_failed self.old.list.stop) → self.new ≡ self.old }
+        ensures within { self.old.list.counts.fetched ≤ self.old.list.counts.asked }
+    {
+        let _counts = self.walk.meter.counts();
+        match self.walk.stage {
+            Stage::Failed(_) => {},
+            _ => self.walk.meter.lift_budget(),
         }
     }
 

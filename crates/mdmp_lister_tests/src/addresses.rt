@@ -264,6 +264,28 @@ fn read_long_range(rt: &impl Abort, alloc: Global) -> Read<4096> {
     read(rt, alloc, &file, 0x1000)
 }
 
+/// Two ranges, of which the second lies lower: ABCD about the end of a block, and wxyz at its start.
+const APART: [u32; 14] = [
+    5, 36, 44, 2, 0x4ffe, 0, 4, 80, 0x1000, 0, 4, 84, 0x44434241, 0x7a797877,
+];
+
+/// What is read of them in two blocks: the first range is cut where a block ends.
+fn read_apart() -> Read<16388> {
+    let mut out = [0; 16388];
+    let mut known = [false; 16388];
+    out[..4].copy_from_slice(b"wxyz");
+    known[..4].fill(true);
+    out[0x3ffe..0x4002].copy_from_slice(b"ABCD");
+    known[0x3ffe..0x4002].fill(true);
+    (out, known, 3)
+}
+
+#[test]
+fn unsorted_ranges_are_read_by_blocks(rt: HostRuntime) {
+    let file = file_of(&rt, rt.alloc(), 1, &APART);
+    assert_same(&rt, read(&rt, rt.alloc(), &file, 0x1000), read_apart());
+}
+
 #[test]
 fn long_range_is_one_fetch(rt: HostRuntime) {
     let whole = ([b'm'; 4096], [true; 4096], 1);

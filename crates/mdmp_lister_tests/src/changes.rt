@@ -10,13 +10,13 @@ use std::alloc::Global;
 use std::process::Abort;
 
 /// A memory list of 36 bytes that counts so many ranges, and eight bytes of memory.
-fn counting(rt: &impl Abort, alloc: Global, ranges: u32) -> Vec<u8> {
+pub fn counting(rt: &impl Abort, alloc: Global, ranges: u32) -> Vec<u8> {
     let numbers = [5, 36, 44, ranges, 0x1000, 0, 4, 80, 0x2000, 0, 4, 84, 0, 0];
     file_of(rt, alloc, 1, &numbers)
 }
 
 /// A store that has the bytes of the first file, and those of the second from this call on.
-fn faces<'a>(rt: &impl Abort, first: &'a [u8], second: &'a [u8], turn: u64) -> TwoFaces<'a> {
+pub fn faces<'a>(rt: &impl Abort, first: &'a [u8], second: &'a [u8], turn: u64) -> TwoFaces<'a> {
     assert!(rt; first.len() == second.len());
     TwoFaces::new(first, second, turn)
 }

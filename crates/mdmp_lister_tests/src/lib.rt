@@ -41,6 +41,8 @@ mod listings;
 #[cfg(test)]
 mod memory;
 #[cfg(test)]
+mod memory_limit;
+#[cfg(test)]
 mod names;
 #[cfg(test)]
 mod opening;

@@ -12,20 +12,22 @@ use std::process::Abort;
 
 /// Who opens a file.
 #[derive(Clone, Copy)]
-enum Opener {
+pub enum Opener {
     Lister,
     Walker,
 }
 
-/// What comes of a file that is opened in a heap.
+/// What comes of a store that is opened in a heap.
 #[derive(Clone, Copy)]
-struct MeteredOpening {
-    outcome: Outcome,
+pub struct MeteredOpening {
+    pub outcome: Outcome,
     /// What comes of the source that is handed back, with ample memory.
-    again: Outcome,
+    pub again: Outcome,
+    /// The bytes that were fetched before the source was handed back.
+    pub fetched: u128,
     /// How often the heap was asked for a block, and how many blocks were not given back.
-    growths: u64,
-    out: u64,
+    pub growths: u64,
+    pub out: u64,
 }
 
 /// Counts all items of a walker, at most a hundred.
@@ -77,6 +79,35 @@ fn run_by<S: Store + Drop, A: Allocator + Copy>(
     }
 }
 
+/// What comes of a store that is opened in a heap, and then of its source with ample memory and no limit.
+pub fn opened_in<S: Store + Drop>(
+    alloc: Global,
+    refusal: Refusal,
+    store: S,
+    limits: Limits,
+    opener: Opener,
+) -> MeteredOpening {
+    let heap = MeteredHeap::new(alloc, refusal);
+    let (outcome, source) = run_by(&heap, Source::new(store), limits, opener);
+    let counts = heap.counts();
+    let fetched = source.fetched();
+    let ample = Limits {
+        window: limits.window,
+        name: limits.name,
+        budget: limits.budget,
+        memory: None,
+        aside: limits.aside,
+    };
+    let (again, _) = run_by(alloc, source, ample, opener);
+    MeteredOpening {
+        outcome,
+        again,
+        fetched,
+        growths: counts.growths,
+        out: counts.out,
+    }
+}
+
 /// What comes of a file that is opened in a heap which refuses this growth alone.
 fn opened_without(
     alloc: Global,
@@ -85,17 +116,8 @@ fn opened_without(
     limits: Limits,
     opener: Opener,
 ) -> MeteredOpening {
-    let heap = MeteredHeap::new(alloc, Refusal::Only(growth));
-    let source = Source::new(MemoryStore::new(file));
-    let (outcome, source) = run_by(&heap, source, limits, opener);
-    let counts = heap.counts();
-    let (again, _) = run_by(alloc, source, limits, opener);
-    MeteredOpening {
-        outcome,
-        again,
-        growths: counts.growths,
-        out: counts.out,
-    }
+    let store = MemoryStore::new(file);
+    opened_in(alloc, Refusal::Only(growth), store, limits, opener)
 }
 
 /// Asserts what came of a file that was opened in a heap: its outcome by so many growths, that all which was

@@ -14,6 +14,8 @@ pub const LEAST: Limits = Limits {
     window: 168,
     name: 0,
     budget: None,
+    memory: None,
+    aside: None,
 };
 
 /// The least window, and the room for a name that the program has.
@@ -21,6 +23,8 @@ pub const NAMED: Limits = Limits {
     window: 168,
     name: 4096,
     budget: None,
+    memory: None,
+    aside: None,
 };
 
 /// The window and the room for a name that a caller has who says nothing.
@@ -28,6 +32,8 @@ pub const STANDARD: Limits = Limits {
     window: 65536,
     name: 4096,
     budget: None,
+    memory: None,
+    aside: None,
 };
 
 /// The least window, and names of at most eight bytes.
@@ -35,6 +41,8 @@ pub const SHORT_NAMES: Limits = Limits {
     window: 168,
     name: 8,
     budget: None,
+    memory: None,
+    aside: None,
 };
 
 /// A window of 176 bytes and names of 16, both multiples of 16 as a heap's blocks are.
@@ -42,6 +50,8 @@ pub const WHOLE_BLOCKS: Limits = Limits {
     window: 176,
     name: 16,
     budget: None,
+    memory: None,
+    aside: None,
 };
 
 /// A call of a lister or of a walker.

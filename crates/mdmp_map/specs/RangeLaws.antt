@@ -1,8 +1,9 @@
 -- What the place of an address has to do with the range that holds it.
-use Rattle.std.proofs.Common.{◌≡◌, ◌≤◌, ◌<◌, ℕ, ◌+◌, ◌-◌, ◌∙◌, min, List, [], ◌∷◌, Option, Some, None, true, false, refl, ap, sym, subst, arith, inl, inr}
+use Rattle.std.proofs.Common.{◌≡◌, ◌≤◌, ◌<◌, ℕ, ◌+◌, ◌-◌, ◌∙◌, min, List, [], ◌∷◌, ◌++◌, Option, Some, None, true, false, refl, ap, sym, subst, arith, inl, inr}
 use Rattle.std.specs.Prelude.{All, ◌&&◌, nat_lt, nat_le, if◌then◌else◌, option_map}
 use Rattle.std.proofs.lemmas.Bool.{cases_Bool, and_parts, ltb-true, leb-true}
 use Rattle.std.proofs.lemmas.Bool.Decides.{nat_tests}
+use Rattle.std.proofs.lemmas.List.Folds.{find-append}
 use Rattle.std.proofs.lemmas.List.Elements.{All-head, All-tail}
 use Rattle.mdmp_map.specs.declared.range.Range.{Range}
 use Rattle.mdmp_map.specs.declared.place.Place.{Place}
@@ -33,6 +34,14 @@ first_range_holds address r (q ∷ ranges) is = elim (cases_Bool (holds address 
   | inl here ↦ let same : q ≡ r = let e = first_range-holds address q ranges here in cc in subst (λ x. holds address x ≡ true) same here
   | inr other ↦ first_range_holds address r ranges (sym (first_range-passes address q ranges other) ∙ is)
 ]
+
+-- the first of some ranges that holds an address is the first of those and more
+pub first_range-more : (address : ℕ) (r : Range) (ranges more : List Range) → first_range ranges address ≡ Some r → first_range (ranges ++ more) address ≡ Some r
+first_range-more address r ranges more is = let all = find-append (holds address) ranges more in cc
+
+-- and where none of them does, it is the first of the others
+pub first_range-behind : (address : ℕ) (ranges more : List Range) → first_range ranges address ≡ None → first_range (ranges ++ more) address ≡ first_range more address
+first_range-behind address ranges more none = let all = find-append (holds address) ranges more in cc
 
 -- what holds of each range holds of the one that is found
 pub All-first_range : (P : Range → Type 0) (address : ℕ) (r : Range) (ranges : List Range) → All P ranges → first_range ranges address ≡ Some r → P r

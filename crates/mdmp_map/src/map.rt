@@ -1,5 +1,5 @@
 //! A map of the dumped process's memory.
-ghost use Rattle.std.specs.Prelude.{◌≡◌, ◌≤◌, ◌<◌, ◌+◌, ◌-◌, ◌^◌, ◌++◌, ◌∷◌, ◌↔◌, [], ℕ, All, IfOk, IfSome, IsTrue, Some, length, slice_index_or, vec_capacity};
+ghost use Rattle.std.specs.Prelude.{◌≡◌, ◌≤◌, ◌<◌, ◌+◌, ◌-◌, ◌^◌, ◌++◌, ◌∷◌, ◌↔◌, [], ℕ, All, IfOk, IfSome, IsTrue, Some, length, slice_get, slice_index_or, vec_capacity};
 ghost use Rattle.mdmp_map.specs.declared.range.Range.{Range};
 ghost use Rattle.mdmp_map.specs.Map.{MapState, free_of};
 ghost use Rattle.mdmp_map.specs.Finding.{HasReach, IfHeld, IsFound, LooksAt};
@@ -131,6 +131,16 @@ impl<A: Allocator> AddressMap<A> {
     {
         let ranges = CountedRanges::over(&self.ranges);
         search(&ranges, self.is_sorted, address, steps)
+    }
+
+    /// Looks at the range with this number, from 0 on in listing order, and counts the look.
+    pub fn look_at<G: Ledger>(&self, number: usize, steps: &mut Steps<G>) -> Range
+        requires { number < length self.now.ranges }
+        ensures range { slice_get self.now.ranges number ≡ Some result }
+        ensures placed { All IsPlaced self.now.ranges }
+        ensures steps { steps.new ≡ steps.old + 1 }
+    {
+        CountedRanges::over(&self.ranges).look(number, steps)
     }
 
     /// Finds what `find` does, and counts the steps of `look_up_counted`.

@@ -1,6 +1,6 @@
 -- A file of which small reads are answered from a block.
 use Rattle.std.specs.Prelude.{◌≡◌, ◌≤◌, ◌<◌, ℕ, List, [], None, Option, Result, Ok, Err, IfOk, IsOk, length}
-use Rattle.mdmp_source.specs.FileBlock.{FileBlockState, GivesHeld, Holds, IsBlockFilled}
+use Rattle.mdmp_source.specs.FileBlock.{FileBlockState, GivesHeld, Holds, IsBlockFilled, used_after}
 use Rattle.mdmp_source.specs.Files.{IsFileRead}
 use Rattle.mdmp_source.specs.declared.blocked_file.BlockedFile.{BlockedFile}
 
@@ -12,19 +12,22 @@ held_past (Err e) block = record block { bytes = [] }
 -- nothing was read yet: the block holds nothing and has room for so many bytes, and the file stands nowhere that is known
 pub record HoldsNoBlock {F A : Type 0} (room : ℕ) (f : BlockedFile F A) : Type 0 where
   pub place : f.file.place ≡ None
-  pub block : f.block ≡ record { at = 0; bytes = []; room = room }
+  pub block : f.block ≡ record { at = 0; bytes = []; room = room; reach = 0; given = 0; calls = 0 }
 
 module _ {F A E : Type 0} (position : F → Option ℕ) (left : F → Option (List ℕ)) where
   -- a read that is answered from the block, which holds the byte at its place: nothing is read
   pub record IsHeldRead (old : BlockedFile F A) (at : ℕ) (result : Result ℕ E) (out : List ℕ) (new : BlockedFile F A) : Type 0 where
     pub succeeds : IsOk result
-    pub same : new ≡ old
+    pub same_file : new.file ≡ old.file
+    pub same_block : new.block ≡ used_after result old.block
     pub given : IfOk result (λ k. GivesHeld old.block at k out)
 
-  -- a read behind which the block was read at its place, and which is answered from that
+  -- a read for which a block was read at its place, as far as the reach goes, and which is answered from that block
   pub record IsFilledRead (old : BlockedFile F A) (at : ℕ) (result : Result ℕ E) (out : List ℕ) (new : BlockedFile F A) : Type 0 where
-    pub filled : IsBlockFilled position left old.file at result old.block new.block new.file
-    pub given : IfOk result (λ k. GivesHeld new.block at k out)
+    pub block : FileBlockState
+    pub filled : IsBlockFilled position left old.file at (length out) result old.block block new.file
+    pub given : IfOk result (λ k. GivesHeld block at k out)
+    pub used : new.block ≡ used_after result block
 
   -- a read past the block
   pub record IsReadPast (old : BlockedFile F A) (at : ℕ) (result : Result ℕ E) (out : List ℕ) (new : BlockedFile F A) : Type 0 where

@@ -8,11 +8,12 @@ use crate::store::StoreFailed;
 use std::alloc::{AllocError, Allocator};
 use std::io::{Read, Seek};
 
-/// How many bytes a read of fewer asks the system for.
+/// How many bytes a block holds at most: a read of fewer is answered from it.
 pub(crate) const BLOCK: usize = 16384;
 
-/// An open file, of which a read is answered from the block that was read last, where that holds the byte at its
-/// place. Else a read of less than a block reads another one there, and a read of a block or more goes past it.
+/// An open file, of which a read is answered from the block that was read last, if that holds the byte at its
+/// place. Else a read of fewer bytes than a block holds reads a block there, as far as its reach goes (`FileBlock`),
+/// and a read of more goes past the block.
 #[derive(Drop)]
 pub(crate) struct BlockedFile<F, A: Allocator> {
     file: PlacedFile<F>,
@@ -54,7 +55,7 @@ impl<F: Read + Seek, A: Allocator> BlockedFile<F, A> {
         ensures bound { IfOk result (λ k. k ≤ length out.new) }
         ensures read { IsFilledRead F.stream_position F.remaining self.old at result out.new self.new }
     {
-        self.block.fill(&mut self.file, at)?;
+        self.block.fill(&mut self.file, at, out.len())?;
         Ok(self.block.give(at, out))
     }
 

@@ -11,12 +11,17 @@ use std::rt::Files;
 
 /// An open file of the system, whose size is taken once. No contract knows its bytes.
 ///
-/// The store holds a block of 16 KiB of the file. A call of `read_at` is answered from it, where it holds the
-/// byte at the call's place: in part, where the block ends. Else a call for less than 16 KiB reads a block at
-/// its place, and is answered from that, and a call for 16 KiB or more goes past the block. So names that
-/// stand one behind the other take one call of the system for many. A read is one call of the system, behind
-/// one seek where the file is not known to stand at its place, and fails where either does; the block holds
-/// nothing then.
+/// The store holds a block of the file, of at most 16 KiB. If the block holds the byte at the place of a call of
+/// `read_at`, the call is answered from the block, as far as that goes. Else a call for less than 16 KiB reads a
+/// block at its place, and is answered from that block; a call for 16 KiB or more goes past the block.
+///
+/// A block that is read at a new place has 512 bytes. If calls follow each other and use half of the block, the
+/// next one has twice as many bytes, up to 16 KiB; a call elsewhere begins with 512 again. If a call asks for more,
+/// the block has as many bytes as it asks for. So many names in a row take one call of the system together, and
+/// few bytes far from all others cost 512.
+///
+/// A read is one call of the system, and one seek before it if the file does not stand at the place. If either
+/// fails, the read fails and the block holds nothing.
 ///
 /// The bytes of an answer are as old as the block: of a file that changes while it is read, a call may give
 /// what was there when an earlier one read the block.

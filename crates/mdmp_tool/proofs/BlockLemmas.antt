@@ -7,7 +7,7 @@ use Rattle.mdmp_source.specs.Blocks.{MovesFront}
 use Rattle.mdmp_source.specs.BlockLaws.{Keeps-moved}
 use Rattle.mdmp_source.specs.OutputLaws.{PutsAll-nothing}
 use Rattle.mdmp_tool.specs.declared.fault.ToolFault.{ToolFault}
-use Rattle.mdmp_tool.specs.declared.fault.ToolFault.TheVariants.{Opening, List as BadList, Source, Budget, Out, Memory}
+use Rattle.mdmp_tool.specs.declared.fault.ToolFault.TheVariants.{Opening, List as BadList, Source, Budget, Out, Memory, MemoryLimit, AsideLimit}
 use Rattle.mdmp_source.specs.Store.{StoreState}
 use Rattle.mdmp_lister.specs.declared.choice.Choice.{Choice}
 use Rattle.mdmp_tool.proofs.Engining.{cause_from}
@@ -135,12 +135,16 @@ WritesText-prefix pace text a b (Ok x) put = all a.taken b.taken text put.took
 WritesText-prefix pace text a b (Err (BadList f)) ends = let put = ended pace (PutsAll a text b) ends in all a.taken b.taken text put.took
 WritesText-prefix pace text a b (Err (Opening f)) put = nothing a.taken b.taken text put.took
 WritesText-prefix pace text a b (Err Memory) put = nothing a.taken b.taken text put.took
+WritesText-prefix pace text a b (Err (MemoryLimit held)) put = nothing a.taken b.taken text put.took
 WritesText-prefix up_to_a_fault text a b (Err (Source f)) short = short.took
 WritesText-prefix past_faults text a b (Err (Source f)) short = short.took
 WritesText-prefix at_the_end text a b (Err (Source f)) short = none_of a.taken b.taken text short.took
 WritesText-prefix up_to_a_fault text a b (Err (Budget offset size)) short = short.took
 WritesText-prefix past_faults text a b (Err (Budget offset size)) short = short.took
 WritesText-prefix at_the_end text a b (Err (Budget offset size)) short = none_of a.taken b.taken text short.took
+WritesText-prefix up_to_a_fault text a b (Err (AsideLimit offset size)) short = short.took
+WritesText-prefix past_faults text a b (Err (AsideLimit offset size)) short = short.took
+WritesText-prefix at_the_end text a b (Err (AsideLimit offset size)) short = none_of a.taken b.taken text short.took
 WritesText-prefix pace text a b (Err Out) cut = cut.took
 WritesText-prefix pace text a b (Err fault) never = absurd never
 
@@ -182,11 +186,16 @@ Runs-flushed {T = T} F choice Ends pace text a b c old pending left r s none mov
   through (Err (BadList f)) done same run cut = record { says = run.says; writes = at_fault pace _ _ (put text done same) run.writes }
   through (Err (Opening f)) done same run cut = record { says = run.says; writes = put [] done same run.writes }
   through (Err Memory) done same run cut = record { says = run.says; writes = put [] done same run.writes }
+  through (Err (MemoryLimit held)) done same run cut = record { says = run.says; writes = put [] done same run.writes }
   through (Err (Source f)) done same run cut = record {
     says = run.says;
     writes = first_out a b c old pending left (early_text pace text) flush done same run.writes;
   }
   through (Err (Budget offset size)) done same run cut = record {
+    says = run.says;
+    writes = first_out a b c old pending left (early_text pace text) flush done same run.writes;
+  }
+  through (Err (AsideLimit offset size)) done same run cut = record {
     says = run.says;
     writes = first_out a b c old pending left (early_text pace text) flush done same run.writes;
   }
@@ -219,9 +228,11 @@ quiet_from pace (Ok x) left P Q done from quiet = tt
 quiet_from pace (Err Out) left P Q done from quiet = tt
 quiet_from pace (Err (Opening f)) left P Q done from quiet = from done quiet
 quiet_from pace (Err Memory) left P Q done from quiet = from done quiet
+quiet_from pace (Err (MemoryLimit held)) left P Q done from quiet = from done quiet
 quiet_from pace (Err (BadList f)) left P Q done from quiet = at_fault pace _ _ (unless_early pace P Q (from done)) quiet
 quiet_from pace (Err (Source f)) left P Q done from quiet = unless_early pace P Q (from done) quiet
 quiet_from pace (Err (Budget offset size)) left P Q done from quiet = unless_early pace P Q (from done) quiet
+quiet_from pace (Err (AsideLimit offset size)) left P Q done from quiet = unless_early pace P Q (from done) quiet
 quiet_from pace (Err fault) left P Q done from never = absurd never
 
 pub Tells-flushed : {T : Type 0} (pace : Pace) (store : StoreState) (size : ℕ) (a b c : OutState) (old pending left : List ℕ) (r s : Result T ToolFault) → old ≡ []

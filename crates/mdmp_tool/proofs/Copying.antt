@@ -1,9 +1,10 @@
 -- What a copy does, from its parts.
-use Rattle.std.proofs.Common.{◌≡◌, ◌⊎◌, ◌∙◌, ◌+◌, ◌<◌, ◌≤◌, ℕ, List, [], Option, Some, None, true, false, inl, inr, refl, ap, arith, drop, length, slice_index_or, subst, sym}
-use Rattle.std.specs.Prelude.{Result, Ok, Err, IfOk, IfSome, IsTrue}
+use Rattle.std.proofs.Common.{◌≡◌, ◌⊎◌, ◌∙◌, ◌+◌, ◌<◌, ◌≤◌, ℕ, List, [], Option, Some, None, true, false, inl, inr, refl, ap, arith, drop, length, ltb-false, slice_index_or, subst, sym}
+use Rattle.std.specs.Prelude.{◌*◌, Result, Ok, Err, IfOk, IfSome, IsTrue, nat_lt}
 use Rattle.std.proofs.lemmas.List.{drop_more}
 use Rattle.std.proofs.lemmas.Option.{none-some}
 use Rattle.std.proofs.Math.ListN.{drop_of_length-le}
+use Rattle.mdmp_source.specs.Count.{raised}
 use Rattle.mdmp_source.specs.Output.{OutState}
 use Rattle.mdmp_source.specs.Source.{SourceState, FetchesSome}
 use Rattle.mdmp_source.specs.SourceLaws.{told_later}
@@ -16,8 +17,11 @@ use Rattle.mdmp_lister.specs.declared.fault.FaultKind.TheVariants as kinds
 use Rattle.mdmp_lister.specs.declared.fault.ListFault.{ListFault}
 use Rattle.mdmp_lister.specs.declared.fault.OpenFault.{OpenFault}
 use Rattle.mdmp_lister.specs.declared.fault.OpenFault.TheVariants as opening
+use Rattle.mdmp_lister.specs.declared.limits.Limits.{Limits}
 use Rattle.mdmp_lister.specs.Fault.{IsUnobtained}
+use Rattle.mdmp_lister.specs.Format.Listing.{entry_count}
 use Rattle.mdmp_lister.specs.Format.Refusal.{directory_refusal}
+use Rattle.mdmp_lister.specs.Meter.{KeepsTo, is_passed}
 use Rattle.mdmp_dump.specs.declared.fault.ReadFault.{ReadFault}
 use Rattle.mdmp_dump.specs.declared.fault.ReadFault.TheVariants as reads
 use Rattle.mdmp_dump.specs.declared.view.ViewFault.{ViewFault}
@@ -27,14 +31,14 @@ use Rattle.mdmp_dump.specs.FileRefusal.{IsUnbudgeted, IsViewRefusal, view_refusa
 use Rattle.mdmp_dump.specs.FileView.{HasMoved, costs_in, source_fault}
 use Rattle.mdmp_dump.specs.InFile.{dump_in}
 use Rattle.mdmp_dump.specs.LaysOut.{LaysOut}
-use Rattle.mdmp_dump.specs.Opening.{HasSpentOpening}
-use Rattle.mdmp_dump.specs.Reading.{IsLastTold, IsOwn, MayBeTold, TellsOf, store_fault, store_fault_in}
+use Rattle.mdmp_dump.specs.Opening.{FetchesWithin, HasSpentOpening, IsLimited, IsShortOf, copy_bound, opening_bound}
+use Rattle.mdmp_dump.specs.Reading.{IsLastTold, IsWanting, MayBeTold, TellsOf, store_fault, store_fault_in}
 use Rattle.mdmp_dump.specs.Shape.{ViewShape}
 use Rattle.mdmp_writer.specs.Writing.{GoesOut}
 use Rattle.mdmp_tool.specs.declared.fault.ToolFault.{ToolFault}
 use Rattle.mdmp_tool.specs.declared.fault.ToolFault.TheVariants as tool
 use Rattle.mdmp_tool.specs.Causes.{HasOutCause, HasSourceCause, IsNoSourceFault, MayChange}
-use Rattle.mdmp_tool.specs.Copying.{Copies, EndsOf, IsCopy, IsCopyRefusal, IsDumpCopied, IsOfShape, IsQuietCopy, IsShapeCopied, IsToldByView, IsUnopened, first_not_copied, is_copied, refused_type}
+use Rattle.mdmp_tool.specs.Copying.{Copies, EndsOf, IsCopy, IsCopyRefusal, IsDumpCopied, IsOfShape, IsOverCopy, IsQuietCopy, IsRefusedFirst, IsShapeCopied, IsToldByView, IsUnopened, IsWithinCopy, SpendsWithin, TellsCopyBudget, TellsCopyMemory, TellsNoBudget, first_not_copied, is_copied, refused_type}
 use Rattle.mdmp_tool.specs.Telling.{opening_told, reading_told, told_by}
 
 -- ---- the first type that is not copied
@@ -68,6 +72,7 @@ reliable_copied shape before after r ends reliable = tt
 opening_good : (fault : OpenFault) → store_fault (reads.Opening fault) ≡ None → IsNoSourceFault {T = ℕ} (Err (opening_told fault))
 opening_good (opening.Source f) none = none-some f (sym none)
 opening_good opening.Memory none = tt
+opening_good (opening.MemoryLimit held) none = tt
 opening_good fault none = tt
 
 list_good : (kind : FaultKind) (fault : ListFault) → store_fault_in kind ≡ None → IsNoSourceFault {T = ℕ} (Err (told_by kind fault))
@@ -84,19 +89,20 @@ good_read fault none = tt
 opening_unopened : (fault : OpenFault) → IsUnopened (Err (opening_told fault))
 opening_unopened (opening.Source f) = tt
 opening_unopened opening.Memory = tt
+opening_unopened (opening.MemoryLimit held) = tt
 opening_unopened fault = tt
 
 list_unopened : (kind : FaultKind) (fault : ListFault) → IsUnopened (Err (told_by kind fault))
 list_unopened (kinds.Source f) fault = tt
 list_unopened kind fault = tt
 
-pub read_unopened : (size : ℕ) (fault : ReadFault) → IsViewRefusal size fault → IsUnopened (Err (reading_told fault))
-read_unopened size (reads.Opening fault) refusal = opening_unopened fault
-read_unopened size (reads.List fault) refusal = list_unopened fault.kind fault
-read_unopened size (reads.PartsTooLarge e k) refusal = absurd refusal
-read_unopened size reads.Memory refusal = tt
-read_unopened size (reads.Source fault) refusal = tt
-read_unopened size fault refusal = tt
+pub read_unopened : (budget : Option ℕ) (size : ℕ) (fault : ReadFault) → IsViewRefusal budget size fault → IsUnopened (Err (reading_told fault))
+read_unopened budget size (reads.Opening fault) refusal = opening_unopened fault
+read_unopened budget size (reads.List fault) refusal = list_unopened fault.kind fault
+read_unopened budget size (reads.PartsTooLarge e k) refusal = absurd refusal
+read_unopened budget size reads.Memory refusal = tt
+read_unopened budget size (reads.Source fault) refusal = tt
+read_unopened budget size fault refusal = tt
 
 -- nothing was fetched of a source that is as it was
 pub unspent : (source : SourceState) (choice : Choice) → HasSpentOpening choice source source
@@ -203,6 +209,20 @@ module _ (Z : Type 0) (content : Option (List ℕ)) (file_size : ℕ) (types : L
     }
     Copies-viewed (Err fault) ends out may copied = absurd ends
 
+  -- a copy needs more than its budget
+  pub Copies-over : (needed : ℕ) → (file_size < 32 → ⊥) → ((F : List ℕ) → content ≡ Some F → (view_refusal F (Types types) limit ≡ None) × (needed ≡ raised 0 (copy_bound Z F (Types types))))
+      → Copies Z content file_size types limit before (Err (tool.CopyBudget needed)) before
+  Copies-over needed long needs = record {
+    refuses = all;
+    short = λ few _. absurd (long few);
+    refusal = tt;
+    quiet = refl;
+    out_cause = refl;
+    changed = tt;
+    of_shape = record { shape = no_shape; size = tt; out = tt };
+    of_file = needs;
+  }
+
   -- nothing was written, and no type is refused
   record Answers (r : Result ℕ ToolFault) : Type 0 where
     all_copied : refused_type r ≡ None
@@ -215,7 +235,7 @@ module _ (Z : Type 0) (content : Option (List ℕ)) (file_size : ℕ) (types : L
 
   -- where the content is known, the fault is the reason, unless memory or the store was wanting
   abbrev IsTold : ReadFault → Type 0
-  IsTold fault = (F : List ℕ) → content ≡ Some F → (IsOwn fault → ⊥) → view_refusal F (Types types) limit ≡ Some fault
+  IsTold fault = (F : List ℕ) → content ≡ Some F → (IsWanting fault → ⊥) → view_refusal F (Types types) limit ≡ Some fault
 
   -- a fault of the store is told, or want of memory
   of_source : (fault : SourceFault) → MayBeTold content (Some fault) → Answers (Err (tool.Source fault))
@@ -224,56 +244,64 @@ module _ (Z : Type 0) (content : Option (List ℕ)) (file_size : ℕ) (types : L
   of_memory : ((F : List ℕ) → content ≡ Some F → directory_refusal F ≡ None) → Answers (Err tool.Memory)
   of_memory good = record { all_copied = refl; refusal = tt; quiet = refl; out_cause = refl; changed = tt; of_shape = tt; of_file = good }
 
-  opened : (fault : OpenFault) → IsTold (reads.Opening fault) → IsViewRefusal file_size (reads.Opening fault) → TellsOf content (reads.Opening fault) → Answers (Err (opening_told fault))
-  opened (opening.Source f) told refusal tells = of_source f tells.changed
-  opened opening.Memory told refusal tells = absurd refusal
-  opened (opening.Budget offset size) told refusal tells = absurd refusal
-  opened fault told refusal tells = record {
-    all_copied = refl;
-    refusal = (tt, refusal);
-    quiet = refl;
-    out_cause = refl;
-    changed = tt;
-    of_shape = tt;
-    of_file = λ F known. told F known (λ own. none-some own.0 own.1);
-  }
+  of_memory_limit : (held : ℕ) → ((F : List ℕ) → content ≡ Some F → directory_refusal F ≡ None) → Answers (Err (tool.MemoryLimit held))
+  of_memory_limit held good = record { all_copied = refl; refusal = tt; quiet = refl; out_cause = refl; changed = tt; of_shape = tt; of_file = good }
 
-  listed : (kind : FaultKind) (fault : ListFault) → fault.kind ≡ kind → IsTold (reads.List fault) → IsViewRefusal file_size (reads.List fault) → TellsOf content (reads.List fault) → Answers (Err (told_by kind fault))
-  listed (kinds.Source f) fault is told fits tells = of_source f (subst (λ (k : FaultKind). MayBeTold content (store_fault_in k)) is tells.changed)
-  listed kinds.Budget fault is told fits tells = absurd (subst IsUnbudgeted is fits.1)
-  listed kind fault is told fits tells =
-      let own : IsUnobtained fault.kind → ⊥ = subst (λ (k : FaultKind). IsUnobtained k → ⊥) (sym is) (λ x. x) in
-      record {
-        all_copied = refl;
-        refusal = (own, fits.0);
-        quiet = refl;
-        out_cause = refl;
-        changed = tt;
-        of_shape = tt;
-        of_file = λ F known. told F known (λ x. own (of_store fault.kind x.0 x.1));
-      }
+  of_budget : (offset size : ℕ) → Answers (Err (tool.Budget offset size))
+  of_budget offset size = record { all_copied = refl; refusal = tt; quiet = refl; out_cause = refl; changed = tt; of_shape = tt; of_file = λ F known. tt }
 
-  refused : (fault : ReadFault) → IsTold fault → IsViewRefusal file_size fault → TellsOf content fault → Answers (Err (reading_told fault))
-  refused (reads.Opening fault) told refusal tells = opened fault told refusal tells
-  refused (reads.List fault) told refusal tells = listed fault.kind fault refl told refusal tells
-  refused (reads.PartsTooLarge e k) told refusal tells = absurd refusal
-  refused reads.Memory told refusal tells = of_memory (tells.memory refl)
-  refused (reads.Source fault) told refusal tells = of_source fault tells.changed
-  refused fault told refusal tells = record {
-    all_copied = refl;
-    refusal = tt;
-    quiet = refl;
-    out_cause = refl;
-    changed = tt;
-    of_shape = tt;
-    of_file = λ F known. told F known (λ own. none-some own.0 own.1);
-  }
+  module _ (limits : Limits) (budget : Option ℕ) where
+    opened : (fault : OpenFault) → IsTold (reads.Opening fault) → IsViewRefusal budget file_size (reads.Opening fault) → TellsOf content (reads.Opening fault) → IsLimited limits content (reads.Opening fault) → Answers (Err (opening_told fault))
+    opened (opening.Source f) told refusal tells limited = of_source f tells.changed
+    opened opening.Memory told refusal tells limited = absurd refusal
+    opened (opening.MemoryLimit held) told refusal tells limited = of_memory_limit held (λ F known. (limited.1 F known).0)
+    opened (opening.Budget offset size) told refusal tells limited = of_budget offset size
+    opened fault told refusal tells limited = record {
+      all_copied = refl;
+      refusal = (tt, refusal);
+      quiet = refl;
+      out_cause = refl;
+      changed = tt;
+      of_shape = tt;
+      of_file = λ F known. told F known (λ own. own);
+    }
+
+    listed : (kind : FaultKind) (fault : ListFault) → fault.kind ≡ kind → IsTold (reads.List fault) → IsViewRefusal budget file_size (reads.List fault) → TellsOf content (reads.List fault) → Answers (Err (told_by kind fault))
+    listed (kinds.Source f) fault is told fits tells = of_source f (subst (λ (k : FaultKind). MayBeTold content (store_fault_in k)) is tells.changed)
+    listed kinds.Budget fault is told fits tells = absurd (subst IsUnbudgeted is fits.1)
+    listed kind fault is told fits tells =
+        let own : IsUnobtained fault.kind → ⊥ = subst (λ (k : FaultKind). IsUnobtained k → ⊥) (sym is) (λ x. x) in
+        record {
+          all_copied = refl;
+          refusal = (own, fits.0);
+          quiet = refl;
+          out_cause = refl;
+          changed = tt;
+          of_shape = tt;
+          of_file = λ F known. told F known own;
+        }
+
+    refused : (fault : ReadFault) → IsTold fault → IsViewRefusal budget file_size fault → TellsOf content fault → IsLimited limits content fault → Answers (Err (reading_told fault))
+    refused (reads.Opening fault) told refusal tells limited = opened fault told refusal tells limited
+    refused (reads.List fault) told refusal tells limited = listed fault.kind fault refl told refusal tells
+    refused (reads.PartsTooLarge e k) told refusal tells limited = absurd refusal
+    refused reads.Memory told refusal tells limited = of_memory (tells.memory refl)
+    refused (reads.Source fault) told refusal tells limited = of_source fault tells.changed
+    refused fault told refusal tells limited = record {
+      all_copied = refl;
+      refusal = tt;
+      quiet = refl;
+      out_cause = refl;
+      changed = tt;
+      of_shape = tt;
+      of_file = λ F known. told F known (λ own. own);
+    }
 
   -- the file gives no view
-  pub Copies-refused : (fault : ReadFault) → IsTold fault → IsViewRefusal file_size fault → (file_size < 32 → fault ≡ reads.Opening (opening.TooShort file_size)) → TellsOf content fault
+  pub Copies-refused : (limits : Limits) (budget : Option ℕ) (fault : ReadFault) → IsTold fault → IsViewRefusal budget file_size fault → (file_size < 32 → fault ≡ reads.Opening (opening.TooShort file_size)) → TellsOf content fault → IsLimited limits content fault
       → Copies Z content file_size types limit before (Err (reading_told fault)) before
-  Copies-refused fault told refusal short tells =
-      let answers = refused fault told refusal tells in
+  Copies-refused limits budget fault told refusal short tells limited =
+      let answers = refused limits budget fault told refusal tells limited in
       record {
         refuses = all ∙ sym answers.all_copied;
         short = λ few _. ap (λ (f : ReadFault). Err (reading_told f)) (short few);
@@ -284,3 +312,113 @@ module _ (Z : Type 0) (content : Option (List ℕ)) (file_size : ℕ) (types : L
         of_shape = record { shape = no_shape; size = answers.of_shape; out = tt };
         of_file = answers.of_file;
       }
+
+-- ---- what is told of a budget
+
+module _ (Z : Type 0) (types : List ℕ) (budget : Option ℕ) (content : Option (List ℕ)) where
+  -- none is
+  abbrev IsPlain : Result ℕ ToolFault → Type 0
+  IsPlain answer = TellsNoBudget answer × IsOverCopy budget answer × ((all opened : ℕ) → IsWithinCopy budget all opened answer)
+
+  plain : (answer : Result ℕ ToolFault) → IsPlain answer → TellsCopyBudget Z types budget content answer
+  plain answer is = record { unlimited = λ none. is.0; over = is.1; of_file = λ F known. is.2 (copy_bound Z F (Types types)) (opening_bound F (Types types) + 16 * entry_count F) }
+
+  pub budget_unread : (t : ℕ) → TellsCopyBudget Z types budget content (Err (tool.NotCopied t))
+  budget_unread t = plain (Err (tool.NotCopied t)) (tt, tt, λ all opened. tt)
+
+  module _ (size : ℕ) where
+    budget_opened : (fault : OpenFault) → IsViewRefusal budget size (reads.Opening fault) → ((F : List ℕ) → content ≡ Some F → IsShortOf budget F (Types types) (reads.Opening fault))
+        → TellsCopyBudget Z types budget content (Err (opening_told fault))
+    budget_opened (opening.Budget offset len) refusal short = record { unlimited = refusal.0; over = tt; of_file = short }
+    budget_opened (opening.Source f) refusal short = plain (Err (tool.Source f)) (tt, tt, λ all opened. tt)
+    budget_opened opening.Memory refusal short = plain (Err tool.Memory) (tt, tt, λ all opened. tt)
+    budget_opened (opening.MemoryLimit held) refusal short = plain (Err (tool.MemoryLimit held)) (tt, tt, λ all opened. tt)
+    budget_opened fault refusal short = plain (Err (tool.Opening fault)) (tt, tt, λ all opened. tt)
+
+    budget_listed : (kind : FaultKind) (fault : ListFault) → IsUnbudgeted kind → TellsCopyBudget Z types budget content (Err (told_by kind fault))
+    budget_listed (kinds.Source f) fault is = plain (Err (tool.Source f)) (tt, tt, λ all opened. tt)
+    budget_listed kinds.Budget fault is = absurd is
+    budget_listed kind fault is = plain (Err (tool.List fault)) (tt, tt, λ all opened. tt)
+
+    -- where the file gives no view
+    pub budget_refused : (fault : ReadFault) → IsViewRefusal budget size fault → ((F : List ℕ) → content ≡ Some F → IsShortOf budget F (Types types) fault) → TellsCopyBudget Z types budget content (Err (reading_told fault))
+    budget_refused (reads.Opening fault) refusal short = budget_opened fault refusal short
+    budget_refused (reads.List fault) refusal short = budget_listed fault.kind fault refusal.1
+    budget_refused (reads.PartsTooLarge e k) refusal short = absurd refusal
+    budget_refused reads.Memory refusal short = plain (Err tool.Memory) (tt, tt, λ all opened. tt)
+    budget_refused (reads.Source fault) refusal short = plain (Err (tool.Source fault)) (tt, tt, λ all opened. tt)
+    budget_refused fault refusal short = plain (Err (tool.Reading fault)) (tt, tt, λ all opened. tt)
+
+  -- where a view of it was written
+  pub budget_written : (shape : ViewShape) (before after : OutState) (r : Result ℕ ToolFault) → IsShapeCopied shape before r after → ((F : List ℕ) → content ≡ Some F → KeepsTo budget (copy_bound Z F (Types types)))
+      → TellsCopyBudget Z types budget content r
+  budget_written shape before after (Ok size) ends kept = record { unlimited = λ none. tt; over = tt; of_file = kept }
+  budget_written shape before after (Err (tool.Layout fault)) ends kept = record { unlimited = λ none. tt; over = tt; of_file = kept }
+  budget_written shape before after (Err tool.Out) ends kept = record { unlimited = λ none. tt; over = tt; of_file = kept }
+  budget_written shape before after (Err (tool.Source fault)) ends kept = plain (Err (tool.Source fault)) (tt, tt, λ all opened. tt)
+  budget_written shape before after (Err fault) ends kept = absurd ends
+
+  -- and where it needs more than the budget
+  pub budget_over : (needed : ℕ) → IsTrue (is_passed budget needed) → ((F : List ℕ) → content ≡ Some F → IsTrue (is_passed budget (copy_bound Z F (Types types)))) → TellsCopyBudget Z types budget content (Err (tool.CopyBudget needed))
+  budget_over needed passes of_file = record {
+    unlimited = λ none. let never : IsTrue false = rw none at passes in cc never;
+    over = passes;
+    of_file = of_file;
+  }
+
+-- ---- what is spent of it
+
+-- nothing was written
+pub within_refused : (budget : Option ℕ) (old new : SourceState) (answer : Result ℕ ToolFault) → FetchesWithin budget old new → SpendsWithin budget old answer new
+within_refused budget old new answer within = record { refused = λ is. within; of_file = λ F known. within }
+
+pub within_unread : (budget : Option ℕ) (source : SourceState) → FetchesWithin budget source source
+within_unread budget source most is = omega arith
+
+not_first : (shape : ViewShape) (before after : OutState) (r : Result ℕ ToolFault) → IsShapeCopied shape before r after → IsRefusedFirst r → ⊥
+not_first shape before after (Ok size) ends first = first
+not_first shape before after (Err (tool.Layout fault)) ends first = first
+not_first shape before after (Err tool.Out) ends first = first
+not_first shape before after (Err (tool.Source fault)) ends first = first
+not_first shape before after (Err fault) ends first = absurd ends
+
+-- a view was written, of a known file within the budget
+pub within_written : (budget : Option ℕ) (old new : SourceState) (shape : ViewShape) (before after : OutState) (r : Result ℕ ToolFault) → IsShapeCopied shape before r after
+    → ((F : List ℕ) → old.store.content ≡ Some F → (bound : ℕ) × (KeepsTo budget bound × (new.fetched ≤ old.fetched + bound))) → SpendsWithin budget old r new
+within_written budget old new shape before after r ends kept = record {
+  refused = λ first. absurd (not_first shape before after r ends first);
+  of_file = λ F known most is.
+      let of = kept F known in
+      let within : nat_lt most of.0 ≡ false = rw is at of.1.0 in
+      omega (arith, ltb-false most of.0 within, of.1.1);
+}
+
+-- ---- what is told of memory
+
+module _ (limits : Limits) (content : Option (List ℕ)) where
+  memory_opened : (fault : OpenFault) → IsLimited limits content (reads.Opening fault) → TellsCopyMemory limits content (Err (opening_told fault))
+  memory_opened (opening.MemoryLimit held) limited = limited
+  memory_opened (opening.Source f) limited = tt
+  memory_opened (opening.Budget offset size) limited = tt
+  memory_opened opening.Memory limited = tt
+  memory_opened fault limited = tt
+
+  memory_listed : (kind : FaultKind) (fault : ListFault) → TellsCopyMemory limits content (Err (told_by kind fault))
+  memory_listed (kinds.Source f) fault = tt
+  memory_listed kinds.Budget fault = tt
+  memory_listed kind fault = tt
+
+  pub memory_refused : (fault : ReadFault) → IsLimited limits content fault → TellsCopyMemory limits content (Err (reading_told fault))
+  memory_refused (reads.Opening fault) limited = memory_opened fault limited
+  memory_refused (reads.List fault) limited = memory_listed fault.kind fault
+  memory_refused (reads.PartsTooLarge e k) limited = tt
+  memory_refused reads.Memory limited = tt
+  memory_refused (reads.Source fault) limited = tt
+  memory_refused fault limited = tt
+
+  pub memory_written : (shape : ViewShape) (before after : OutState) (r : Result ℕ ToolFault) → IsShapeCopied shape before r after → TellsCopyMemory limits content r
+  memory_written shape before after (Ok size) ends = tt
+  memory_written shape before after (Err (tool.Layout fault)) ends = tt
+  memory_written shape before after (Err tool.Out) ends = tt
+  memory_written shape before after (Err (tool.Source fault)) ends = tt
+  memory_written shape before after (Err fault) ends = absurd ends

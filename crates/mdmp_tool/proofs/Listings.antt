@@ -7,7 +7,7 @@ use Rattle.mdmp_source.specs.OutputLaws.{PutsAll-PutsAll, PutsPrefix-last, Takes
 use Rattle.mdmp_wire.specs.declared.header.Header.{Header}
 use Rattle.mdmp_lister.specs.Format.Listing.{Run}
 use Rattle.mdmp_tool.specs.declared.fault.ToolFault.{ToolFault}
-use Rattle.mdmp_tool.specs.declared.fault.ToolFault.TheVariants.{List as BadList, Source, Budget, Out}
+use Rattle.mdmp_tool.specs.declared.fault.ToolFault.TheVariants.{List as BadList, Source, Budget, AsideLimit, Out}
 use Rattle.mdmp_tool.proofs.Engining.{cause_from}
 use Rattle.mdmp_tool.specs.Engines.{IsBehind, Leaves, WritesText, up_to_a_fault}
 use Rattle.mdmp_tool.specs.Forms.{dump_line_in}
@@ -24,6 +24,10 @@ WritesText-behind run head text before now after (Err (Source f)) ends first sho
   steady = short.steady ∙ first.steady;
 }
 WritesText-behind run head text before now after (Err (Budget offset size)) ends first short = record {
+  took = TakesPrefix-last before.taken now.taken after.taken head text first.took short.took;
+  steady = short.steady ∙ first.steady;
+}
+WritesText-behind run head text before now after (Err (AsideLimit offset size)) ends first short = record {
   took = TakesPrefix-last before.taken now.taken after.taken head text first.took short.took;
   steady = short.steady ∙ first.steady;
 }
@@ -44,6 +48,7 @@ IsBehind-touched size (Ok x) untouched behind = tt
 IsBehind-touched size (Err (BadList f)) untouched behind = behind
 IsBehind-touched size (Err (Source f)) untouched behind = tt
 IsBehind-touched size (Err (Budget offset len)) untouched behind = tt
+IsBehind-touched size (Err (AsideLimit offset len)) untouched behind = tt
 IsBehind-touched size (Err Out) untouched behind = tt
 IsBehind-touched size (Err f) untouched behind = absurd behind
 

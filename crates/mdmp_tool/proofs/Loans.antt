@@ -7,12 +7,12 @@ use Rattle.mdmp_source.specs.Store.{StoreState}
 use Rattle.mdmp_lister.specs.declared.choice.Choice.{Choice}
 use Rattle.mdmp_lister.specs.declared.limits.Limits.{Limits}
 use Rattle.mdmp_tool.specs.declared.fault.ToolFault.{ToolFault}
-use Rattle.mdmp_tool.specs.declared.fault.ToolFault.TheVariants.{Opening, List as BadList, Source, Budget, Memory, Out}
+use Rattle.mdmp_tool.specs.declared.fault.ToolFault.TheVariants.{Opening, List as BadList, Source, Budget, Memory, MemoryLimit, AsideLimit, Out}
 use Rattle.mdmp_words.specs.declared.request.Print.{Print}
 use Rattle.mdmp_words.specs.declared.request.Print.TheVariants.{Check, List as Listing, Hex}
 use Rattle.mdmp_tool.specs.Causes.{HasOutCause}
 use Rattle.mdmp_tool.specs.Commands.{HasPrinted, HasRun}
-use Rattle.mdmp_tool.specs.Engines.{IsFlushed, Pace, RefusesWithin, RunsThrough, StopsShort, Tells, WritesText, in_blocks}
+use Rattle.mdmp_tool.specs.Engines.{IsFlushed, Pace, RefusesWithin, RunsThrough, StopsShort, Tells, WritesText, in_blocks, Access, check_access, hex_access, list_access}
 use Rattle.mdmp_tool.proofs.BlockLemmas.{at_fault, quiet_from}
 
 -- ---- the loans stay
@@ -59,8 +59,10 @@ module _ (name : ℕ) (a b : OutState) where
     writes_lent text (Err (BadList f)) put = at_fault pace _ _ (puts_all text) put
     writes_lent text (Err (Opening f)) put = puts_all [] put
     writes_lent text (Err Memory) put = puts_all [] put
+    writes_lent text (Err (MemoryLimit held)) put = puts_all [] put
     writes_lent text (Err (Source f)) put = stops_short _ put
     writes_lent text (Err (Budget offset size)) put = stops_short _ put
+    writes_lent text (Err (AsideLimit offset size)) put = stops_short _ put
     writes_lent text (Err Out) put = puts_prefix text put
     writes_lent text (Err fault) never = absurd never
 
@@ -83,11 +85,11 @@ module _ (name : ℕ) (a b : OutState) where
       changed = tells.changed;
     }
 
-    run_lent : (limits : Limits) (End : Result T ToolFault → ℕ → OutState → OutState → Type 0) (Through : List ℕ → OutState → Result T ToolFault → OutState → Type 0)
+    run_lent : (access : Access) (End : Result T ToolFault → ℕ → OutState → OutState → Type 0) (Through : List ℕ → OutState → Result T ToolFault → OutState → Type 0)
         (old : SourceState) (err_before : OutState) (status : ℕ) (new : SourceState) (err_after : OutState)
         → ((file : List ℕ) (r : Result T ToolFault) → Through file (lent name a) r (lent name b) → Through file a r b)
-        → HasRun limits End Through pace old (lent name a) err_before status new (lent name b) err_after → HasRun limits End Through pace old a err_before status new b err_after
-    run_lent limits End Through old err_before status new err_after through ran = record {
+        → HasRun access End Through pace old (lent name a) err_before status new (lent name b) err_after → HasRun access End Through pace old a err_before status new b err_after
+    run_lent access End Through old err_before status new err_after through ran = record {
       answer = ran.answer;
       ends = ran.ends;
       writes = λ file known. through file ran.answer (ran.writes file known);
@@ -108,19 +110,19 @@ module _ (name last : ℕ) (start behind stop inner_old inner_new : OutState) (b
       let same : last ≡ name = cc in
       sym ended ∙ (ap (λ (n : ℕ). lent n behind) same ∙ ap (lent name) (back same))
 
-  ran_lent : {T : Type 0} (limits : Limits) (pace : Pace) (End : Result T ToolFault → ℕ → OutState → OutState → Type 0) (Through : List ℕ → OutState → Result T ToolFault → OutState → Type 0)
+  ran_lent : {T : Type 0} (access : Access) (pace : Pace) (End : Result T ToolFault → ℕ → OutState → OutState → Type 0) (Through : List ℕ → OutState → Result T ToolFault → OutState → Type 0)
       (old : SourceState) (err_before : OutState) (status : ℕ) (new : SourceState) (err_after : OutState)
       → ((file : List ℕ) (r : Result T ToolFault) → Through file (lent name start) r (lent name stop) → Through file start r stop)
-      → HasRun limits End Through pace old inner_old err_before status new inner_new err_after → HasRun limits End Through pace old start err_before status new stop err_after
-  ran_lent limits pace End Through old err_before status new err_after through ran =
+      → HasRun access End Through pace old inner_old err_before status new inner_new err_after → HasRun access End Through pace old start err_before status new stop err_after
+  ran_lent access pace End Through old err_before status new err_after through ran =
       let stops : inner_new ≡ lent name stop = came_back (cause_loans ran.answer inner_old inner_new ran.tells.out_cause) in
-      run_lent name start stop pace limits End Through old err_before status new err_after through (
-      subst (λ (x : OutState). HasRun limits End Through pace old x err_before status new (lent name stop) err_after) began
-      (subst (λ (y : OutState). HasRun limits End Through pace old inner_old err_before status new y err_after) stops ran))
+      run_lent name start stop pace access End Through old err_before status new err_after through (
+      subst (λ (x : OutState). HasRun access End Through pace old x err_before status new (lent name stop) err_after) began
+      (subst (λ (y : OutState). HasRun access End Through pace old inner_old err_before status new y err_after) stops ran))
 
   -- what was printed to it was printed to its lender
   pub printed_lent : (print : Print) (limits : Limits) (old : SourceState) (err_before : OutState) (status : ℕ) (new : SourceState) (err_after : OutState)
       → HasPrinted print limits old inner_old err_before status new inner_new err_after → HasPrinted print limits old start err_before status new stop err_after
-  printed_lent (Check form) limits old err_before status new err_after ran = ran_lent limits _ _ _ old err_before status new err_after (λ file. runs_lent name start stop _ file _ _ _) ran
-  printed_lent (Listing form pdb) limits old err_before status new err_after ran = ran_lent limits _ _ _ old err_before status new err_after (λ file. runs_lent name start stop _ file _ _ _) ran
-  printed_lent (Hex span) limits old err_before status new err_after ran = ran_lent limits _ _ _ old err_before status new err_after (λ file. runs_lent name start stop _ file _ _ _) ran
+  printed_lent (Check form) limits old err_before status new err_after ran = ran_lent (check_access limits) _ _ _ old err_before status new err_after (λ file. runs_lent name start stop _ file _ _ _) ran
+  printed_lent (Listing form pdb) limits old err_before status new err_after ran = ran_lent (list_access limits) _ _ _ old err_before status new err_after (λ file. runs_lent name start stop _ file _ _ _) ran
+  printed_lent (Hex span) limits old err_before status new err_after ran = ran_lent (hex_access span.length limits) _ _ _ old err_before status new err_after (λ file. runs_lent name start stop _ file _ _ _) ran

@@ -12,7 +12,7 @@ use Rattle.mdmp_lister.specs.Lister.{tail}
 use Rattle.mdmp_lister.specs.Format.Listing.{Run}
 use Rattle.mdmp_tool.proofs.Engining.{StopsShort-nothing}
 use Rattle.mdmp_tool.specs.declared.fault.ToolFault.{ToolFault}
-use Rattle.mdmp_tool.specs.declared.fault.ToolFault.TheVariants.{List as BadList, Source, Budget, Out}
+use Rattle.mdmp_tool.specs.declared.fault.ToolFault.TheVariants.{List as BadList, Source, Budget, AsideLimit, Out}
 use Rattle.mdmp_tool.specs.Runs.{ListsNext, ListsRun}
 use Rattle.mdmp_tool.specs.Text.{item_lines, next_lines, run_text}
 use Rattle.mdmp_words.specs.declared.request.LineForm.{LineForm}
@@ -98,6 +98,15 @@ module _ (form : LineForm) (pdb : Bool) (F : List ℕ) (limit : ℕ) where
           (TakesPrefix-behind before.taken now.taken after.taken (flat_map lines printed.given) (next_lines form pdb F limit left) (run_text form pdb F limit (tail left)) printed.text.took
           (rw same (StopsShort-nothing now (next_lines form pdb F limit left)).took));
       steady = ap (λ (o : OutState). o.failures) same ∙ printed.text.steady;
+    };
+  }
+  ListsRun-fault run left before now after (AsideLimit offset size) printed short = record {
+    ends = tt;
+    writes = record {
+      took =
+          rw (text_split run left before now printed)
+          (TakesPrefix-behind before.taken now.taken after.taken (flat_map lines printed.given) (next_lines form pdb F limit left) (run_text form pdb F limit (tail left)) printed.text.took short.took);
+      steady = short.steady ∙ printed.text.steady;
     };
   }
   ListsRun-fault run left before now after Out printed cut = record {

@@ -40,6 +40,9 @@ module _ (Z : Type 0) (F types : List ℕ) (content : Option (List ℕ)) (size l
   stands (Err (tool.Reading fault)) is = nothing is.quiet
   stands (Err (tool.Budget offset size)) is = nothing is.quiet
   stands (Err tool.Memory) is = nothing is.quiet
+  stands (Err (tool.MemoryLimit held)) is = nothing is.quiet
+  stands (Err (tool.AsideLimit offset size)) is = nothing is.quiet
+  stands (Err (tool.CopyBudget needed)) is = nothing is.quiet
   stands (Err (tool.NotCopied t)) is = nothing is.quiet
 
 pub copy_stands : (Z : Type 0) (F types file target : List ℕ) (limits : Limits) (status : ℕ) (disk : DiskChange) (before after : Outputs)

@@ -29,7 +29,7 @@ use Rattle.mdmp_lister.specs.Format.Listing.{Run, only_fault}
 use Rattle.mdmp_lister.specs.Following.{FitsFile}
 use Rattle.mdmp_lister.specs.Lister.{Gives, ListerState, NextStands}
 use Rattle.mdmp_tool.specs.declared.fault.ToolFault.{ToolFault}
-use Rattle.mdmp_tool.specs.declared.fault.ToolFault.TheVariants.{List as BadList, Source, Budget, Out}
+use Rattle.mdmp_tool.specs.declared.fault.ToolFault.TheVariants.{List as BadList, Source, Budget, AsideLimit, Out}
 use Rattle.mdmp_tool.specs.Causes.{HasSourceCause}
 use Rattle.mdmp_tool.specs.Engines.{EndsAtFault, IsBehind, Leaves, Pace, UnlessEarly, up_to_a_fault}
 use Rattle.mdmp_tool.specs.Forms.{item_line_in}
@@ -97,6 +97,12 @@ module _ (form : LineForm) (pdb : Bool) (F : List ℕ) (limit : ℕ) (left : Run
     -- the listing ends in it
     pub ListsNext-cut : (f : ToolFault) → PutsSymbols (symbols_text form F limit (symbols_of pdb x)) mid (Err f) after → ListsNext form pdb F limit left before (Err f) after
     ListsNext-cut (Source fault) same =
+        let whole : PutsAll before (item_line_in form x) after = subst (PutsAll before (item_line_in form x)) (sym same) line in
+        rw next_is (record {
+          took = TakesPrefix-front before.taken after.taken (item_line_in form x) (symbols_text form F limit (symbols_of pdb x)) whole.took;
+          steady = whole.steady;
+        })
+    ListsNext-cut (AsideLimit offset size) same =
         let whole : PutsAll before (item_line_in form x) after = subst (PutsAll before (item_line_in form x)) (sym same) line in
         rw next_is (record {
           took = TakesPrefix-front before.taken after.taken (item_line_in form x) (symbols_text form F limit (symbols_of pdb x)) whole.took;
@@ -195,6 +201,8 @@ Leaves-fault (BadList fault) old new before after left =
 Leaves-fault (Source fault) old new before after left =
     record { good = left.good; behind = tt; reads = record { cause = left.reads.cause; fetches = left.reads.fetches }; out_cause = left.out_cause }
 Leaves-fault (Budget offset size) old new before after left =
+    record { good = λ file good. tt; behind = tt; reads = record { cause = tt; fetches = left.reads.fetches }; out_cause = left.out_cause }
+Leaves-fault (AsideLimit offset size) old new before after left =
     record { good = λ file good. tt; behind = tt; reads = record { cause = tt; fetches = left.reads.fetches }; out_cause = left.out_cause }
 Leaves-fault Out old new before after left =
     record { good = λ file good. tt; behind = tt; reads = record { cause = tt; fetches = left.reads.fetches }; out_cause = left.out_cause }

@@ -10,8 +10,8 @@ use Rattle.mdmp_words.specs.declared.request.Print.TheVariants.{Check, List as L
 use Rattle.mdmp_tool.specs.Causes.{IsNoSourceFault}
 use Rattle.mdmp_tool.specs.CheckRuns.{ChecksThrough}
 use Rattle.mdmp_tool.specs.CheckText.{bad_text}
-use Rattle.mdmp_tool.specs.Copying.{Copies, SpendsCopy, first_not_copied}
-use Rattle.mdmp_tool.specs.Engines.{IsReadThrough, Pace, ReadsSource, Tells, at_the_end, in_blocks, past_faults, up_to_a_fault}
+use Rattle.mdmp_tool.specs.Copying.{Copies, SpendsCopy, SpendsWithin, TellsCopyBudget, TellsCopyMemory, first_not_copied}
+use Rattle.mdmp_tool.specs.Engines.{IsReadThrough, Pace, ReadsSource, Tells, at_the_end, in_blocks, past_faults, up_to_a_fault, Access, check_access, hex_access, list_access}
 use Rattle.mdmp_tool.specs.Faults.{fault_text, exit_status}
 use Rattle.mdmp_tool.specs.HexRuns.{HexesThrough}
 use Rattle.mdmp_tool.specs.Lines.{error_line}
@@ -36,21 +36,21 @@ IsCheckEnd (Err fault) status before after = IsEnd {T = ℕ} (Err fault) status 
 
 -- ---- commands
 
--- a command has run within these limits, of which this is the engine and this is told of its answer
-pub record HasRun {T : Type 0} (limits : Limits) (End : Result T ToolFault → ℕ → OutState → OutState → Type 0) (Through : List ℕ → OutState → Result T ToolFault → OutState → Type 0)
+-- a command has run and read its file so: this is its engine, and this is told of its answer
+pub record HasRun {T : Type 0} (access : Access) (End : Result T ToolFault → ℕ → OutState → OutState → Type 0) (Through : List ℕ → OutState → Result T ToolFault → OutState → Type 0)
     (pace : Pace) (old : SourceState) (before err_before : OutState) (status : ℕ) (new : SourceState) (after err_after : OutState) : Type 0 where
   pub answer : Result T ToolFault
   pub ends : End answer status err_before err_after
   pub writes : (file : List ℕ) → old.store.content ≡ Some file → Through file before answer after
   pub tells : Tells in_blocks pace old.store old.size before answer after
   pub reads : ReadsSource old answer new
-  pub through : IsReadThrough limits old answer new
+  pub through : IsReadThrough access old answer new
 
 -- a command that prints, over a source and through blocks, within these limits
 abbrev pub HasPrinted : Print → Limits → SourceState → OutState → OutState → ℕ → SourceState → OutState → OutState → Type 0
-HasPrinted (Check form) limits = HasRun limits IsCheckEnd (λ file. ChecksThrough form file limits.name) past_faults
-HasPrinted (Listing form pdb) limits = HasRun limits IsEnd (λ file. ListsThrough form pdb file limits.name) up_to_a_fault
-HasPrinted (Hex span) limits = HasRun limits IsEnd (λ file. HexesThrough file limits.name span.address span.length) at_the_end
+HasPrinted (Check form) limits = HasRun (check_access limits) IsCheckEnd (λ file. ChecksThrough form file limits.name) past_faults
+HasPrinted (Listing form pdb) limits = HasRun (list_access limits) IsEnd (λ file. ListsThrough form pdb file limits.name) up_to_a_fault
+HasPrinted (Hex span) limits = HasRun (hex_access span.length limits) IsEnd (λ file. HexesThrough file limits.name span.address span.length) at_the_end
 
 -- the streams of these types were copied, within these limits
 pub record HasCopied (Z : Type 0) (types : List ℕ) (limits : Limits) (old : SourceState) (before err_before : OutState) (status : ℕ) (new : SourceState) (after err_after : OutState) : Type 0 where
@@ -61,3 +61,6 @@ pub record HasCopied (Z : Type 0) (types : List ℕ) (limits : Limits) (old : So
   pub reads : ReadsSource old answer new
   pub unread : (t : ℕ) → first_not_copied types ≡ Some t → new ≡ old
   pub spends : SpendsCopy Z types limits.window old answer new
+  pub budget : TellsCopyBudget Z types limits.budget old.store.content answer
+  pub within : SpendsWithin limits.budget old answer new
+  pub memory : TellsCopyMemory limits old.store.content answer

@@ -1,11 +1,16 @@
 -- What a copy answers, and what it leaves written.
-use Rattle.std.specs.Prelude.{◌≡◌, ◌<◌, ◌≤◌, ◌+◌, ◌*◌, ◌⊎◌, ◌==◌, ◌||◌, ℕ, Bool, List, [], ◌∷◌, Option, Some, None, Result, Ok, Err, IfOk, IsFalse, nat_lt, if◌then◌else◌}
+use Rattle.std.specs.Prelude.{◌≡◌, ◌<◌, ◌≤◌, ◌+◌, ◌*◌, ◌⊎◌, ◌==◌, ◌||◌, ℕ, Bool, List, [], ◌∷◌, Option, Some, None, Result, Ok, Err, IfOk, IsFalse, IsTrue, nat_lt, if◌then◌else◌}
+use Rattle.mdmp_source.specs.Count.{raised}
 use Rattle.mdmp_source.specs.Source.{SourceState}
 use Rattle.mdmp_source.specs.Output.{HasRefused, OutState, PutsAll, PutsPrefix}
 use Rattle.mdmp_lister.specs.declared.choice.Choice.TheVariants.{Types}
 use Rattle.mdmp_lister.specs.declared.fault.OpenFault.TheVariants.{TooShort}
+use Rattle.mdmp_lister.specs.declared.fault.OpenFault.TheVariants as opening
+use Rattle.mdmp_lister.specs.declared.limits.Limits.{Limits}
 use Rattle.mdmp_lister.specs.Format.Kind.{is_known}
+use Rattle.mdmp_lister.specs.Format.Listing.{entry_count}
 use Rattle.mdmp_lister.specs.Format.Refusal.{directory_refusal}
+use Rattle.mdmp_lister.specs.Meter.{KeepsTo, is_passed}
 use Rattle.mdmp_lister.specs.Opening.{IsBareRefusal}
 use Rattle.mdmp_dump.specs.declared.dump.Dump.{Dump}
 use Rattle.mdmp_dump.specs.declared.fault.ReadFault.{ReadFault}
@@ -16,7 +21,7 @@ use Rattle.mdmp_dump.specs.EntryWalk.{WalkState}
 use Rattle.mdmp_dump.specs.FileRefusal.{view_refusal}
 use Rattle.mdmp_dump.specs.InFile.{dump_in}
 use Rattle.mdmp_dump.specs.LaysOut.{LaysOut}
-use Rattle.mdmp_dump.specs.Opening.{HasSpentOpening, opening_bound}
+use Rattle.mdmp_dump.specs.Opening.{FetchesWithin, HasSpentOpening, IsLimited, copy_bound, opening_bound}
 use Rattle.mdmp_dump.specs.Shape.{IsViewOf, ViewShape}
 use Rattle.mdmp_writer.specs.Layout.{layout_fault, shape_fault, size_answer, written_size}
 use Rattle.mdmp_writer.specs.Passes.{all_asks, all_costs}
@@ -83,12 +88,12 @@ IsRecordRefusal (reads.NameTooLong e k length) = Unit {0}
 IsRecordRefusal fault = ⊥
 
 -- a file of `size` bytes that is refused may be, and what is told of it is its own: of its opening no count of ranges, of its
--- listing no fault of the store, of a record its part or its name; and it has no budget
+-- listing no fault of the store, of a record its part or its name; and nothing is read aside
 abbrev pub IsCopyRefusal : ℕ → Result ℕ ToolFault → Type 0
 IsCopyRefusal size (Err (tool.Opening fault)) = IsOfFile fault × IsBareRefusal size fault
 IsCopyRefusal size (Err (tool.List fault)) = IsListTold size fault
 IsCopyRefusal size (Err (tool.Reading fault)) = IsRecordRefusal fault
-IsCopyRefusal size (Err (tool.Budget offset len)) = ⊥
+IsCopyRefusal size (Err (tool.AsideLimit offset len)) = ⊥
 IsCopyRefusal size answer = Unit {0}
 
 -- nothing went out where the file is refused, where its dump can't be written, without memory and where a type is not copied
@@ -111,7 +116,7 @@ pub record HasShape (before : OutState) (answer : Result ℕ ToolFault) (after :
   -- as many bytes went out as it answers, which begin with the header and the directory of that view
   pub out : IfOk answer (λ size. GoesOut shape size before after)
 
--- no view was opened
+-- nothing was written through a view
 abbrev pub IsUnopened : Result ℕ ToolFault → Type 0
 IsUnopened (Ok size) = ⊥
 IsUnopened (Err tool.Out) = ⊥
@@ -136,10 +141,55 @@ pub record HasSpent (Z : Type 0) (types : List ℕ) (window : ℕ) (old : Source
   pub costs : (file : List ℕ) → old.store.content ≡ Some file → 32 + 12 * entries + all_costs shape ≡ opening_bound file (Types types)
   pub asks : (file : List ℕ) → old.store.content ≡ Some file → IsViewOf (dump_in {Z = Z} file (Types types)) shape
 
--- where none was opened, no more than for the opening of one
+-- where nothing was written through it, no more than for the opening of one
 pub data SpendsCopy (Z : Type 0) (types : List ℕ) (window : ℕ) (old : SourceState) (answer : Result ℕ ToolFault) (new : SourceState) : Type 0 where
   unopened : IsUnopened answer → HasSpentOpening (Types types) old new → SpendsCopy Z types window old answer new
   spent : HasSpent Z types window old answer new → SpendsCopy Z types window old answer new
+
+-- ---- budgets
+
+-- no budget is told
+abbrev pub TellsNoBudget : Result ℕ ToolFault → Type 0
+TellsNoBudget (Err (tool.Budget offset size)) = ⊥
+TellsNoBudget (Err (tool.CopyBudget needed)) = ⊥
+TellsNoBudget answer = Unit {0}
+
+-- a copy is refused for its budget where it needs more
+abbrev pub IsOverCopy : Option ℕ → Result ℕ ToolFault → Type 0
+IsOverCopy budget (Err (tool.CopyBudget needed)) = IsTrue (is_passed budget needed)
+IsOverCopy budget answer = Unit {0}
+
+-- of a file whose copy may fetch so many bytes, and whose opening so many: it was copied, or begun to be, only within the
+-- budget, and refused only beyond it
+abbrev pub IsWithinCopy : Option ℕ → ℕ → ℕ → Result ℕ ToolFault → Type 0
+IsWithinCopy budget all opened (Ok size) = KeepsTo budget all
+IsWithinCopy budget all opened (Err tool.Out) = KeepsTo budget all
+IsWithinCopy budget all opened (Err (tool.Layout fault)) = KeepsTo budget all
+IsWithinCopy budget all opened (Err (tool.CopyBudget needed)) = IsTrue (is_passed budget all)
+IsWithinCopy budget all opened (Err (tool.Budget offset size)) = IsTrue (is_passed budget opened)
+IsWithinCopy budget all opened answer = Unit {0}
+
+-- what is told of a budget; the opening of a known file is refused for it only if it has no room for that, and for 16 bytes
+-- more for each entry
+pub record TellsCopyBudget (Z : Type 0) (types : List ℕ) (budget : Option ℕ) (content : Option (List ℕ)) (answer : Result ℕ ToolFault) : Type 0 where
+  pub unlimited : budget ≡ None → TellsNoBudget answer
+  pub over : IsOverCopy budget answer
+  pub of_file : (file : List ℕ) → content ≡ Some file → IsWithinCopy budget (copy_bound Z file (Types types)) (opening_bound file (Types types) + 16 * entry_count file) answer
+
+-- the limit of memory is told only where a copy would hold more
+abbrev pub TellsCopyMemory : Limits → Option (List ℕ) → Result ℕ ToolFault → Type 0
+TellsCopyMemory limits content (Err (tool.MemoryLimit held)) = IsLimited limits content (reads.Opening (opening.MemoryLimit held))
+TellsCopyMemory limits content answer = Unit {0}
+
+-- nothing was written, and no fault of the store told
+abbrev pub IsRefusedFirst : Result ℕ ToolFault → Type 0
+IsRefusedFirst (Err (tool.Source fault)) = ⊥
+IsRefusedFirst answer = IsUnopened answer
+
+-- what was fetched is within the budget: where nothing was written, whatever the file, and of a known file in all
+pub record SpendsWithin (budget : Option ℕ) (old : SourceState) (answer : Result ℕ ToolFault) (new : SourceState) : Type 0 where
+  pub refused : IsRefusedFirst answer → FetchesWithin budget old new
+  pub of_file : (file : List ℕ) → old.store.content ≡ Some file → FetchesWithin budget old new
 
 -- ---- of a file that is known
 
@@ -152,7 +202,8 @@ module _ (Z : Type 0) where
 
   -- what an answer says of F: its dump was copied, all of it or up to a refusal of the output; or it can't be written; or there
   -- is no view of F, for the first reason. Behind a fault of the store nothing went out, or a first part of the dump. Memory
-  -- was wanting only where the header and the place of the directory are good.
+  -- was wanting, or would pass its limit, only where the header and the place of the directory are good. A copy that needs more
+  -- than its budget tells how much it needs.
   abbrev pub EndsOf : List ℕ → List ℕ → ℕ → OutState → Result ℕ ToolFault → OutState → Type 0
   EndsOf F types limit before (Ok size) after = IsCopy F types limit before (Ok size) after
   EndsOf F types limit before (Err tool.Out) after = IsCopy F types limit before (Err tool.Out) after
@@ -161,8 +212,12 @@ module _ (Z : Type 0) where
   EndsOf F types limit before (Err (tool.Opening fault)) after = view_refusal F (Types types) limit ≡ Some (reads.Opening fault)
   EndsOf F types limit before (Err (tool.List fault)) after = view_refusal F (Types types) limit ≡ Some (reads.List fault)
   EndsOf F types limit before (Err (tool.Reading fault)) after = view_refusal F (Types types) limit ≡ Some fault
-  EndsOf F types limit before (Err (tool.Budget offset size)) after = ⊥
+  EndsOf F types limit before (Err (tool.Budget offset size)) after = Unit {0}
   EndsOf F types limit before (Err tool.Memory) after = directory_refusal F ≡ None
+  EndsOf F types limit before (Err (tool.MemoryLimit held)) after = directory_refusal F ≡ None
+  EndsOf F types limit before (Err (tool.AsideLimit offset size)) after = ⊥
+  EndsOf F types limit before (Err (tool.CopyBudget needed)) after =
+      (view_refusal F (Types types) limit ≡ None) × (needed ≡ raised 0 (copy_bound Z F (Types types)))
   EndsOf F types limit before (Err (tool.NotCopied t)) after = Unit {0}
 
   -- a copy of the streams of these types out of a store of `file_size` bytes, whose content may be known

@@ -1,5 +1,5 @@
 -- What every command over a listing promises, whatever it prints.
-use Rattle.std.specs.Prelude.{◌≡◌, ◌<◌, ◌≤◌, ◌+◌, ◌*◌, ◌⊎◌, ◌++◌, ℕ, List, [], Option, Some, None, Result, Ok, Err}
+use Rattle.std.specs.Prelude.{◌≡◌, ◌<◌, ◌≤◌, ◌+◌, ◌*◌, ◌⊎◌, ◌++◌, ℕ, List, [], Option, Some, None, Result, Ok, Err, true}
 use Rattle.mdmp_source.specs.Output.{HasRefused, OutState, PutsAll, PutsPrefix, TakesPrefix, refused_once}
 use Rattle.mdmp_source.specs.Source.{SourceState, FetchesAtMost, FetchesSome}
 use Rattle.mdmp_source.specs.Store.{StoreState, IsGood}
@@ -8,13 +8,15 @@ use Rattle.mdmp_lister.specs.declared.fault.OpenFault.{OpenFault}
 use Rattle.mdmp_lister.specs.declared.fault.OpenFault.TheVariants.{TooShort}
 use Rattle.mdmp_lister.specs.declared.limits.Limits.{Limits}
 use Rattle.mdmp_lister.specs.Counts.{AreHeld, AreSpent, numbers_of}
-use Rattle.mdmp_lister.specs.Format.Listing.{listing}
-use Rattle.mdmp_lister.specs.Lister.{ListerState}
+use Rattle.mdmp_lister.specs.declared.choice.Choice.TheVariants.{All}
+use Rattle.mdmp_lister.specs.Format.Listing.{listing, memory_lists}
+use Rattle.mdmp_lister.specs.Memory.{is_within}
+use Rattle.mdmp_lister.specs.Lister.{ListerState, room_held}
 use Rattle.mdmp_wire.specs.Header.{header_at}
 use Rattle.mdmp_lister.specs.Format.Refusal.{directory_refusal, opening_fault}
 use Rattle.mdmp_tool.specs.declared.fault.ToolFault.{ToolFault}
-use Rattle.mdmp_tool.specs.declared.fault.ToolFault.TheVariants.{Opening, List as BadList, Source, Budget, Out, Memory}
-use Rattle.mdmp_tool.specs.Causes.{HasBudgetCause, HasOpeningBudget, HasOutCause, HasSourceCause, IsListTold, IsNoSourceFault, IsRefusal, MayChange}
+use Rattle.mdmp_tool.specs.declared.fault.ToolFault.TheVariants.{Opening, List as BadList, Source, Budget, Out, Memory, MemoryLimit, AsideLimit}
+use Rattle.mdmp_tool.specs.Causes.{HasBudgetCause, HasOpeningBudget, HasOutCause, HasSourceCause, IsListTold, HasMemoryCause, IsNoSourceFault, IsRefusal, IsWithinMemory, KeepsAside, MayChange}
 
 -- ---- what is written, by the class of the answer
 
@@ -52,8 +54,10 @@ WritesText pace text before (Ok x) after = PutsAll before text after
 WritesText pace text before (Err (BadList fault)) after = EndsAtFault pace (PutsAll before text after)
 WritesText pace text before (Err (Opening fault)) after = PutsAll before [] after
 WritesText pace text before (Err Memory) after = PutsAll before [] after
+WritesText pace text before (Err (MemoryLimit held)) after = PutsAll before [] after
 WritesText pace text before (Err (Source fault)) after = StopsShort before (early_text pace text) after
 WritesText pace text before (Err (Budget offset size)) after = StopsShort before (early_text pace text) after
+WritesText pace text before (Err (AsideLimit offset size)) after = StopsShort before (early_text pace text) after
 WritesText pace text before (Err Out) after = PutsPrefix before text after
 WritesText pace text before (Err fault) after = ⊥
 
@@ -67,6 +71,8 @@ pub record IsOpened (choice : Choice) (lister : ListerState) : Type 0 where
   pub ranges : lister.ranges ≡ []
   pub header_is : (file : List ℕ) → lister.source.store.content ≡ Some file → lister.header ≡ header_at file 0
   pub left : (file : List ℕ) → lister.source.store.content ≡ Some file → lister.left ≡ Some (listing file choice lister.limit)
+  -- nothing was read aside
+  pub aside : lister.counts.aside.bytes ≡ 0
 
 -- ---- what an answer says of the file
 
@@ -75,6 +81,7 @@ pub record IsOpened (choice : Choice) (lister : ListerState) : Type 0 where
 abbrev pub Says : {T : Type 0} → List ℕ → Choice → (Result T ToolFault → Type 0) → Result T ToolFault → Type 0
 Says F choice Ends (Err (Opening fault)) = opening_fault F choice ≡ Some fault
 Says F choice Ends (Err Memory) = directory_refusal F ≡ None
+Says F choice Ends (Err (MemoryLimit held)) = directory_refusal F ≡ None
 Says F choice Ends (Err (Source fault)) = Unit {0}
 Says F choice Ends (Err (Budget offset size)) = Unit {0}
 Says F choice Ends answer = (opening_fault F choice ≡ None) × Ends answer
@@ -149,9 +156,11 @@ IsQuiet pace (Ok x) untouched = Unit {0}
 IsQuiet pace (Err Out) untouched = Unit {0}
 IsQuiet pace (Err (Opening fault)) untouched = untouched
 IsQuiet pace (Err Memory) untouched = untouched
+IsQuiet pace (Err (MemoryLimit held)) untouched = untouched
 IsQuiet pace (Err (BadList fault)) untouched = EndsAtFault pace (UnlessEarly pace untouched)
 IsQuiet pace (Err (Source fault)) untouched = UnlessEarly pace untouched
 IsQuiet pace (Err (Budget offset size)) untouched = UnlessEarly pace untouched
+IsQuiet pace (Err (AsideLimit offset size)) untouched = UnlessEarly pace untouched
 IsQuiet pace (Err fault) untouched = ⊥
 
 -- what every command answers over a store of this size, and how it leaves its output
@@ -180,15 +189,37 @@ pub record IsSameRun (old new : ListerState) : Type 0 where
   pub start : new.counts.start ≡ old.counts.start
   pub budget : new.counts.budget ≡ old.counts.budget
 
--- a file was listed through the window that was asked for, with names up to that limit and within that budget: what such a
+-- how a command reads a file: within which limits and of which streams, how many bytes it holds beside its lister, and how many of
+-- CodeView records it may read, if there is such a limit
+pub record Access : Type 0 where
+  pub limits : Limits
+  pub choice : Choice
+  pub held : ℕ
+  pub aside : Option ℕ
+
+-- that of `check`, of `list`, and of `hex`, which holds two bytes for each address
+abbrev pub check_access : Limits → Access
+check_access limits = record { limits = limits; choice = All; held = 0; aside = None }
+
+abbrev pub list_access : Limits → Access
+list_access limits = record { limits = limits; choice = All; held = 0; aside = limits.aside }
+
+abbrev pub hex_access : ℕ → Limits → Access
+hex_access length limits = record { limits = limits; choice = memory_lists; held = 2 * length; aside = None }
+
+-- a file was listed through the window that was asked for, with names up to that limit and within the other limits: what such a
 -- lister holds, and all that its source counted since it was opened, is within the bounds that its numbers tell, beside what
 -- it read aside
-pub record HasListed {T : Type 0} (limits : Limits) (old : SourceState) (answer : Result T ToolFault) (new : SourceState) : Type 0 where
+pub record HasListed {T : Type 0} (access : Access) (old : SourceState) (answer : Result T ToolFault) (new : SourceState) : Type 0 where
   pub lister : ListerState
-  pub window : lister.rooms.window ≡ limits.window
-  pub limit : lister.limit ≡ limits.name
-  pub budget : lister.counts.budget ≡ limits.budget
+  pub window : lister.rooms.window ≡ access.limits.window
+  pub limit : lister.limit ≡ access.limits.name
+  pub budget : lister.counts.budget ≡ access.limits.budget
   pub over : HasBudgetCause answer lister
+  pub aside_kept : KeepsAside access.aside answer lister
+  -- what it has room for, and what the command holds beside it, is within the limit of memory, which it does not end by
+  pub memory : is_within access.limits.memory (room_held lister + access.held) ≡ true
+  pub within : IsWithinMemory answer
   pub source : lister.source ≡ new
   pub start : lister.counts.start ≡ record { bytes = old.fetched; calls = old.calls }
   pub held : AreHeld lister (numbers_of lister)
@@ -198,12 +229,14 @@ pub record HasListed {T : Type 0} (limits : Limits) (old : SourceState) (answer 
 abbrev pub IsEarly : {T : Type 0} → Result T ToolFault → Type 0
 IsEarly (Ok x) = ⊥
 IsEarly (Err (BadList fault)) = ⊥
+IsEarly (Err (AsideLimit offset size)) = ⊥
 IsEarly answer = Unit {0}
 
 -- or it was refused, and so many entries of its directory were asked for
-pub data IsReadThrough {T : Type 0} (limits : Limits) (old : SourceState) (answer : Result T ToolFault) (new : SourceState) : Type 0 where
-  listed : HasListed limits old answer new → IsReadThrough limits old answer new
-  refused : (asked : ℕ) → IsEarly answer → HasOpeningBudget limits old answer new → FetchesAtMost (32 + 28 * asked) old new → 12 * asked ≤ old.size → IsReadThrough limits old answer new
+pub data IsReadThrough {T : Type 0} (access : Access) (old : SourceState) (answer : Result T ToolFault) (new : SourceState) : Type 0 where
+  listed : HasListed access old answer new → IsReadThrough access old answer new
+  refused : (asked : ℕ) → IsEarly answer → HasOpeningBudget access.limits old answer new → HasMemoryCause access.limits access.choice access.held old answer
+      → FetchesAtMost (32 + 28 * asked) old new → 12 * asked ≤ old.size → IsReadThrough access old answer new
 
 -- what ends the part of a command behind the opening, over a file of `size` bytes: no fault of the opening, and of the listing
 -- only the file's own, if its pace lets one end it; where nothing was written the output is untouched, which is ⊥ where some
@@ -215,6 +248,7 @@ IsBehind pace size (Err Memory) untouched = untouched
 IsBehind pace size (Err (BadList fault)) untouched = IsListTold size fault × EndsAtFault pace (UnlessEarly pace untouched)
 IsBehind pace size (Err (Source fault)) untouched = UnlessEarly pace untouched
 IsBehind pace size (Err (Budget offset len)) untouched = UnlessEarly pace untouched
+IsBehind pace size (Err (AsideLimit offset len)) untouched = UnlessEarly pace untouched
 IsBehind pace size (Err fault) untouched = ⊥
 
 -- and how that part leaves its source and its output

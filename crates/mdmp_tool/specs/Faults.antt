@@ -30,10 +30,12 @@ own_status (tool.Source fault) = 3
 own_status (tool.Budget offset size) = 3
 own_status (tool.Out) = 3
 own_status (tool.Memory) = 3
+own_status (tool.MemoryLimit held) = 3
+own_status (tool.AsideLimit offset size) = 3
+own_status (tool.CopyBudget needed) = 3
 own_status (tool.NotCopied t) = 2
 
--- the exit status: 1 where the file is at fault, 2 where a type is not copied, 3 where its store, the output, memory or the
--- budget is
+-- the exit status: 1 if the file is at fault, 2 if a type is not copied, 3 if its store, the output, memory or a limit is
 abbrev pub exit_status : ToolFault → ℕ
 exit_status fault = own_status (fault_as_told fault)
 
@@ -53,6 +55,15 @@ budget_text offset size = concat (codes "fetch budget reached: offset " ∷ deci
 abbrev pub memory_text : List ℕ
 memory_text = codes "out of memory"
 
+abbrev pub memory_limit_text : ℕ → List ℕ
+memory_limit_text held = concat (codes "memory limit reached: " ∷ decimal held ∷ [])
+
+abbrev pub aside_limit_text : ℕ → ℕ → List ℕ
+aside_limit_text offset size = concat (codes "aside limit reached: offset " ∷ decimal offset ∷ codes " size " ∷ decimal size ∷ [])
+
+abbrev pub copy_budget_text : ℕ → List ℕ
+copy_budget_text needed = concat (codes "copy needs " ∷ decimal needed ∷ codes " bytes" ∷ [])
+
 abbrev pub version_text : ℕ → List ℕ
 version_text low = concat (codes "bad version 0x" ∷ hex 4 low ∷ [])
 
@@ -68,6 +79,7 @@ opening_text (opening.DirectoryOutside offset size) =
 opening_text (opening.Source fault) = source_text fault
 opening_text (opening.Budget offset size) = budget_text offset size
 opening_text (opening.Memory) = memory_text
+opening_text (opening.MemoryLimit held) = memory_limit_text held
 opening_text (opening.TooManyRanges count) = too_many_ranges_text count
 
 -- what a kind of fault is called; a fault of the store or the budget has a text of its own
@@ -137,6 +149,9 @@ own_text (tool.Source fault) = source_text fault
 own_text (tool.Out) = output_text
 own_text (tool.Budget offset size) = budget_text offset size
 own_text (tool.Memory) = memory_text
+own_text (tool.MemoryLimit held) = memory_limit_text held
+own_text (tool.AsideLimit offset size) = aside_limit_text offset size
+own_text (tool.CopyBudget needed) = copy_budget_text needed
 own_text (tool.NotCopied t) = not_copied_text t
 
 abbrev pub fault_text : ToolFault → List ℕ

@@ -6,7 +6,7 @@ use Rattle.mdmp_lister.specs.declared.choice.Choice.TheVariants.{All}
 use Rattle.mdmp_lister.specs.Format.Listing.{Run, listing, nothing, only_fault}
 use Rattle.mdmp_lister.specs.Lister.{ListerState, tail}
 use Rattle.mdmp_tool.specs.declared.fault.ToolFault.{ToolFault}
-use Rattle.mdmp_tool.specs.declared.fault.ToolFault.TheVariants.{List as BadList, Source, Budget, Out}
+use Rattle.mdmp_tool.specs.declared.fault.ToolFault.TheVariants.{List as BadList, Source, Budget, AsideLimit, Out}
 use Rattle.mdmp_wire.specs.declared.header.Header.{Header}
 use Rattle.mdmp_tool.specs.Engines.{Runs, RunsThrough, StopsShort, WritesText, up_to_a_fault}
 use Rattle.mdmp_tool.specs.Forms.{dump_line_in}
@@ -19,6 +19,7 @@ ListEnds run (Ok x) = run.fault ≡ None
 ListEnds run (Err (BadList fault)) = run.fault ≡ Some fault
 ListEnds run (Err (Source fault)) = Unit {0}
 ListEnds run (Err (Budget offset size)) = Unit {0}
+ListEnds run (Err (AsideLimit offset size)) = Unit {0}
 ListEnds run (Err Out) = Unit {0}
 ListEnds run (Err fault) = ⊥
 
@@ -33,10 +34,11 @@ pub record ListsFile (form : LineForm) (pdb : Bool) (F : List ℕ) (limit : ℕ)
   pub ends : ListEnds run answer
   pub writes : WritesText up_to_a_fault (dump_line_in form h ++ run_text form pdb F limit run) before answer after
 
--- the line of a CodeView record was printed; or its bytes were not obtained, and nothing was; or the output refused in it
+-- the line of a CodeView record was printed; or its bytes were not read, and nothing was; or the output refused in it
 abbrev pub PutsSymbols : List ℕ → OutState → Result (Unit {0}) ToolFault → OutState → Type 0
 PutsSymbols text before (Ok x) after = PutsAll before text after
 PutsSymbols text before (Err (Source fault)) after = after ≡ before
+PutsSymbols text before (Err (AsideLimit offset size)) after = after ≡ before
 PutsSymbols text before (Err Out) after = PutsPrefix before text after
 PutsSymbols text before (Err fault) after = ⊥
 
@@ -48,6 +50,7 @@ ListsNext form pdb F limit left before (Ok false) after = (left ≡ nothing) × 
 ListsNext form pdb F limit left before (Err (BadList fault)) after = (left ≡ only_fault fault) × (after ≡ before)
 ListsNext form pdb F limit left before (Err (Source fault)) after = StopsShort before (next_lines form pdb F limit left) after
 ListsNext form pdb F limit left before (Err (Budget offset size)) after = after ≡ before
+ListsNext form pdb F limit left before (Err (AsideLimit offset size)) after = StopsShort before (next_lines form pdb F limit left) after
 ListsNext form pdb F limit left before (Err Out) after = PutsPrefix before (next_lines form pdb F limit left) after
 ListsNext form pdb F limit left before (Err fault) after = ⊥
 

@@ -1,4 +1,6 @@
 -- Faults, as a command tells them.
+use Rattle.std.specs.Prelude.{ℕ}
+use Rattle.mdmp_source.specs.Count.{raised}
 use Rattle.mdmp_dump.specs.declared.fault.ReadFault.{ReadFault}
 use Rattle.mdmp_dump.specs.declared.fault.ReadFault.TheVariants as reading
 use Rattle.mdmp_lister.specs.declared.fault.FaultKind.{FaultKind}
@@ -10,12 +12,18 @@ use Rattle.mdmp_tool.specs.declared.fault.ToolFault.{ToolFault}
 use Rattle.mdmp_tool.specs.declared.fault.ToolFault.TheVariants as tool
 use Rattle.mdmp_writer.specs.declared.fault.LayoutFault.TheVariants.{TooLarge}
 
--- a fault of the store, the budget's and want of memory are told as such, every other one as the file's
+-- a fault of the store and a limit that was reached are told as such, and so is that memory ran out; every other one as the file's
 abbrev pub opening_told : OpenFault → ToolFault
 opening_told (opening.Source fault) = tool.Source fault
 opening_told (opening.Budget offset size) = tool.Budget offset size
 opening_told (opening.Memory) = tool.Memory
+opening_told (opening.MemoryLimit held) = tool.MemoryLimit held
 opening_told fault = tool.Opening fault
+
+-- the same of a command that holds so many bytes beside its lister
+abbrev pub opening_beside : ℕ → OpenFault → ToolFault
+opening_beside beside (opening.MemoryLimit held) = tool.MemoryLimit (raised held beside)
+opening_beside beside fault = opening_told fault
 
 abbrev pub told_by : FaultKind → ListFault → ToolFault
 told_by (kinds.Source fault) f = tool.Source fault

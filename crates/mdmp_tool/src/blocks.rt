@@ -2,7 +2,7 @@
 ghost use Rattle.std.specs.Prelude.{◌≡◌, ◌≤◌, ◌<◌, ◌+◌, ℕ, List, Some, []};
 ghost use Rattle.mdmp_map.specs.Ranges.{address_end};
 ghost use Rattle.mdmp_tool.specs.CheckRuns.{ChecksThrough};
-ghost use Rattle.mdmp_tool.specs.Engines.{IsFlushed, IsReadThrough, ReadsSource, Tells, at_the_end, in_blocks, past_faults, up_to_a_fault};
+ghost use Rattle.mdmp_tool.specs.Engines.{IsFlushed, IsReadThrough, ReadsSource, Tells, at_the_end, check_access, hex_access, in_blocks, list_access, past_faults, up_to_a_fault};
 ghost use Rattle.mdmp_tool.specs.HexRuns.{HexesThrough};
 ghost use Rattle.mdmp_words.specs.NumberWords.{length_limit};
 ghost use Rattle.mdmp_tool.specs.Runs.{ListsThrough};
@@ -31,7 +31,7 @@ pub fn check_in_blocks<S: Store + Drop, A: Allocator + Copy, O: Out, B: Allocato
     ensures flushed { IsFlushed result.answer blocks.new.pending }
     ensures tells { Tells in_blocks past_faults source.store source.size blocks.old.inner result.answer blocks.new.inner }
     ensures reads { ReadsSource source result.answer result.source }
-    ensures through { IsReadThrough limits source result.answer result.source }
+    ensures through { IsReadThrough (check_access limits) source result.answer result.source }
 {
     run_in_blocks(CheckEngine { form }, alloc, source, limits, blocks)
 }
@@ -52,9 +52,16 @@ pub fn list_in_blocks<S: Store + Drop, A: Allocator + Copy, O: Out, B: Allocator
     ensures flushed { IsFlushed result.answer blocks.new.pending }
     ensures tells { Tells in_blocks up_to_a_fault source.store source.size blocks.old.inner result.answer blocks.new.inner }
     ensures reads { ReadsSource source result.answer result.source }
-    ensures through { IsReadThrough limits source result.answer result.source }
+    ensures through { IsReadThrough (list_access limits) source result.answer result.source }
 {
-    run_in_blocks(ListEngine { form, pdb }, alloc, source, limits, blocks)
+    let aside = limits.aside;
+    run_in_blocks(
+        ListEngine { form, pdb, aside },
+        alloc,
+        source,
+        limits,
+        blocks,
+    )
 }
 
 /// Does what `hex_source` does, by few writes: the lines reach the inner output in blocks, and what
@@ -76,7 +83,7 @@ pub fn hex_in_blocks<S: Store + Drop, A: Allocator + Copy, O: Out, B: Allocator>
     ensures flushed { IsFlushed result.answer blocks.new.pending }
     ensures tells { Tells in_blocks at_the_end source.store source.size blocks.old.inner result.answer blocks.new.inner }
     ensures reads { ReadsSource source result.answer result.source }
-    ensures through { IsReadThrough limits source result.answer result.source }
+    ensures through { IsReadThrough (hex_access length limits) source result.answer result.source }
 {
     run_in_blocks(HexEngine { address, length }, alloc, source, limits, blocks)
 }

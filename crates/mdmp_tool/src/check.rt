@@ -1,11 +1,11 @@
 //! The command `check`.
-ghost use Rattle.std.specs.Prelude.{◌≡◌, ℕ, List, Some};
+ghost use Rattle.std.specs.Prelude.{◌≡◌, ℕ, List, None, Some};
 ghost use Rattle.mdmp_lister.specs.declared.choice.Choice.TheVariants.{All};
 ghost use Rattle.mdmp_lister.specs.Format.Listing.{verdicts};
 ghost use Rattle.mdmp_tool.specs.CheckRuns.{CheckEnds, Checks};
 ghost use Rattle.mdmp_tool.specs.CheckText.{verdict_lines};
-ghost use Rattle.mdmp_tool.specs.Causes.{HasBudgetCause, MayReachBudget};
-ghost use Rattle.mdmp_tool.specs.Engines.{IsOpened, IsSameRun, IsReadThrough, Leaves, ReadsSource, Tells, WritesText, directly, past_faults};
+ghost use Rattle.mdmp_tool.specs.Causes.{HasBudgetCause, KeepsAside, MayReachAside, MayReachBudget, MayReachMemory};
+ghost use Rattle.mdmp_tool.specs.Engines.{IsOpened, IsSameRun, IsReadThrough, Leaves, ReadsSource, Tells, WritesText, directly, past_faults, check_access};
 
 use crate::engine::{Engine, RunAnswered, run, run_source};
 use crate::fault::{ToolFault, told_list};
@@ -31,6 +31,8 @@ pub fn run_check<S: Store + Drop, A: Allocator + Copy, O: Out>(
     ensures checks { (file : List ℕ) → (S.state store).content ≡ Some file → Checks form file limits.name (O.state out.old) result (O.state out.new) }
     ensures tells { Tells directly past_faults (S.state store) (S.state store).size (O.state out.old) result (O.state out.new) }
     ensures budget { MayReachBudget limits (S.state store).size result }
+    ensures memory { MayReachMemory limits result }
+    ensures aside { MayReachAside None limits (S.state store).size result }
 {
     run(CheckEngine { form }, alloc, store, limits, out)
 }
@@ -46,7 +48,7 @@ pub fn check_source<S: Store + Drop, A: Allocator + Copy, O: Out>(
     ensures checks { (file : List ℕ) → source.store.content ≡ Some file → Checks form file limits.name (O.state out.old) result.answer (O.state out.new) }
     ensures tells { Tells directly past_faults source.store source.size (O.state out.old) result.answer (O.state out.new) }
     ensures reads { ReadsSource source result.answer result.source }
-    ensures through { IsReadThrough limits source result.answer result.source }
+    ensures through { IsReadThrough (check_access limits) source result.answer result.source }
 {
     run_source(CheckEngine { form }, alloc, source, limits, out)
 }
@@ -73,12 +75,20 @@ impl Engine for CheckEngine {
 
     ghost can_put = { λ _. Unit {0} };
 
+    ghost aside = { λ _. None };
+
+    ghost held = { λ _. 0 };
+
     ghost Ends = { λ _ file limit. CheckEnds file limit };
 
     ghost text = { λ e file limit. verdict_lines e.form (verdicts file All limit) };
 
     fn chosen(&self) -> Choice {
         Choice::All
+    }
+
+    fn beside(&self) -> u64 {
+        0
     }
 
     fn put<S: Store + Drop, A: Allocator + Copy, O: Out>(
@@ -111,6 +121,7 @@ fn check_listed<S: Store + Drop, A: Allocator + Copy, O: Out>(
     ensures leaves { Leaves past_faults (O.state lines.new.out.now ≡ O.state lines.old.out.now) lister.old.source (O.state lines.old.out.now) result lister.new.source (O.state lines.new.out.now) }
     ensures same { IsSameRun lister.old lister.new }
     ensures over { HasBudgetCause result lister.new }
+    ensures aside { KeepsAside None result lister.new }
 {
     // The prover needs that a directory has fewer than 2^32 entries: so the count is never at its greatest.
     let _entries = lister.header().number_of_streams;

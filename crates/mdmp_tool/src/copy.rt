@@ -8,13 +8,15 @@ ghost use Rattle.mdmp_dump.specs.declared.fault.ReadFault.TheVariants.{Opening};
 ghost use Rattle.mdmp_dump.specs.FileRefusal.{IsViewRefusal, view_refusal};
 ghost use Rattle.mdmp_dump.specs.InFile.{dump_in};
 ghost use Rattle.mdmp_dump.specs.LaysOut.{LaysOut};
-ghost use Rattle.mdmp_dump.specs.Opening.{HasSpentOpening, IsNewView, entries_in, held_by, opened_by, opening_bound};
-ghost use Rattle.mdmp_dump.specs.Reading.{Fetches, IsOwn, TellsOf};
+ghost use Rattle.mdmp_source.specs.Count.{raised};
+ghost use Rattle.mdmp_lister.specs.Meter.{is_passed};
+ghost use Rattle.mdmp_dump.specs.Opening.{FetchesWithin, HasSpentOpening, IsLimited, IsNewView, IsShortOf, copy_bound, entries_in, fetched_by, held_by, needed_by, opened_by, opening_bound};
+ghost use Rattle.mdmp_dump.specs.Reading.{Fetches, IsWanting, TellsOf};
 ghost use Rattle.mdmp_dump.specs.Shape.{IsViewOf};
 ghost use Rattle.mdmp_writer.specs.Passes.{all_asks, all_costs};
 ghost use Rattle.mdmp_writer.specs.Writing.{GoesOut};
 ghost use Rattle.mdmp_tool.specs.Causes.{IsNoSourceFault};
-ghost use Rattle.mdmp_tool.specs.Copying.{Copies, IsDumpCopied, IsShapeCopied, IsToldByView, SpendsCopy, first_not_copied, is_copied};
+ghost use Rattle.mdmp_tool.specs.Copying.{Copies, IsDumpCopied, IsShapeCopied, IsToldByView, SpendsCopy, SpendsWithin, TellsCopyBudget, TellsCopyMemory, first_not_copied, is_copied};
 ghost use Rattle.mdmp_tool.specs.Engines.{ReadsSource};
 
 use crate::engine::RunAnswered;
@@ -55,7 +57,10 @@ pub(crate) fn first_not_copied(types: &[u32]) -> Option<u32>
 /// is how many bytes the copy has.
 ///
 /// A type whose streams are not copied is refused before the store is touched. Where the file gives no
-/// dump, or one that can't be written, and where memory is wanting, nothing is written. After a fault of
+/// dump, or one that can't be written, and where memory is wanting, nothing is written. If the limits have a
+/// budget, opening the file keeps to it, and a copy that may fetch more is refused before its first byte. If
+/// they have a limit of memory, what a copy holds keeps to it: twice the window, and 24 bytes for each entry
+/// of the directory. After a fault of
 /// the output, or of the store while parts are read, a first part of the copy went out. The bytes of a
 /// stream whose records are not known are written as they are: offsets in them are not moved.
 pub fn run_copy<S: Store + Drop, A: Allocator + Copy, O: Out>(
@@ -67,6 +72,8 @@ pub fn run_copy<S: Store + Drop, A: Allocator + Copy, O: Out>(
 ) -> Result<u64, ToolFault>
     ensures copies { Copies A (S.state store).content (S.state store).size types limits.name (O.state out.old) result (O.state out.new) }
     ensures good { (file : List ℕ) → IsGood (S.state store) file → IsNoSourceFault result }
+    ensures budget { TellsCopyBudget A types limits.budget (S.state store).content result }
+    ensures memory { TellsCopyMemory limits (S.state store).content result }
 {
     if let Some(stream_type) = first_not_copied(types.types()) {
         return Err(ToolFault::NotCopied(stream_type));
@@ -88,6 +95,9 @@ pub fn copy_source<S: Store + Drop, A: Allocator + Copy, O: Out>(
     ensures reads { ReadsSource source result.answer result.source }
     ensures unread { (t : ℕ) → first_not_copied types ≡ Some t → result.source ≡ source }
     ensures spends { SpendsCopy A types limits.window source result.answer result.source }
+    ensures budget { TellsCopyBudget A types limits.budget source.store.content result.answer }
+    ensures within { SpendsWithin limits.budget source result.answer result.source }
+    ensures memory { TellsCopyMemory limits source.store.content result.answer }
 {
     if let Some(stream_type) = first_not_copied(types.types()) {
         return RunAnswered {
@@ -101,14 +111,34 @@ pub fn copy_source<S: Store + Drop, A: Allocator + Copy, O: Out>(
                 mut view,
                 mut buffer,
             },
-        ) => RunAnswered {
-            answer: write_copy(&mut view, out, &mut buffer),
-            source: view.into_source(),
+        ) => {
+            let needed = view.needed();
+            if is_over(limits.budget, needed) {
+                return RunAnswered {
+                    answer: Err(ToolFault::CopyBudget { needed }),
+                    source: view.into_source(),
+                };
+            }
+            RunAnswered {
+                answer: write_copy(&mut view, out, &mut buffer),
+                source: view.into_source(),
+            }
         },
         Err(ViewRefused { fault, source }) => RunAnswered {
             answer: Err(told_reading(fault)),
             source,
         },
+    }
+}
+
+/// Whether a copy that may fetch so many bytes could pass a budget.
+fn is_over(budget: Option<u64>, needed: u128) -> bool
+    ensures value { result ≡ is_passed budget needed }
+    ensures bound { (all : ℕ) → needed ≡ raised 0 all → result ≡ is_passed budget all }
+{
+    match budget {
+        Some(most) => needed > u128::from(most),
+        None => false,
     }
 }
 
@@ -128,17 +158,22 @@ fn open_copy<S: Store + Drop, A: Allocator + Copy>(
     ensures views { (file : List ℕ) → source.store.content ≡ Some file → IfOk result (λ copying.
         LaysOut file (Types types) (dump_in {Z = A} file (Types types)) × IsViewOf (dump_in {Z = A} file (Types types)) (⟦<FileView<S, A> as DumpView>⟧.shape copying.view)) }
     ensures refuses { (file : List ℕ) → source.store.content ≡ Some file
-        → MatchResult result (λ _. view_refusal file (Types types) limits.name ≡ None) (λ refused. (IsOwn refused.fault → ⊥) → view_refusal file (Types types) limits.name ≡ Some refused.fault) }
+        → MatchResult result (λ _. view_refusal file (Types types) limits.name ≡ None) (λ refused. (IsWanting refused.fault → ⊥) → view_refusal file (Types types) limits.name ≡ Some refused.fault) }
     ensures cause { IfErr result (λ refused. Fetches {T = Unit {0}} (Err refused.fault) source refused.source) }
-    ensures refusal { IfErr result (λ refused. IsViewRefusal source.size refused.fault) }
+    ensures refusal { IfErr result (λ refused. IsViewRefusal limits.budget source.size refused.fault) }
     ensures short { source.size < 32 → MatchResult result (λ _. ⊥) (λ refused. refused.fault ≡ Opening (TooShort source.size)) }
-    ensures new { IfOk result (λ copying. IsNewView source limits.window (Types types) copying.view) }
+    ensures new { IfOk result (λ copying. IsNewView source limits.window limits.memory (Types types) copying.view) }
     ensures reliable { (file : List ℕ) → IsGood source.store file → IfOk result (λ copying. IsTrue (⟦<FileView<S, A> as DumpView>⟧.shape copying.view).is_reliable) }
     ensures buffer { IfOk result (λ copying. length copying.buffer.items ≡ limits.window) }
     ensures cost { (file : List ℕ) → source.store.content ≡ Some file → IfOk result (λ copying. opened_by copying.view ≡ opening_bound file (Types types)) }
     ensures spends { IfErr result (λ refused. HasSpentOpening (Types types) source refused.source) }
     ensures held { IfOk result (λ copying. held_by copying.view + length copying.buffer.items ≡ 2 * limits.window + 24 * entries_in copying.view) }
+    ensures needs { (file : List ℕ) → source.store.content ≡ Some file → IfOk result (λ copying. needed_by copying.view ≡ raised 0 (copy_bound A file (Types types))) }
+    ensures kept { (most : ℕ) → limits.budget ≡ Some most → IfOk result (λ copying. fetched_by copying.view ≤ most) }
+    ensures within { IfErr result (λ refused. FetchesWithin limits.budget source refused.source) }
+    ensures over { (file : List ℕ) → source.store.content ≡ Some file → IfErr result (λ refused. IsShortOf limits.budget file (Types types) refused.fault) }
     ensures tells { IfErr result (λ refused. TellsOf source.store.content refused.fault) }
+    ensures limited { IfErr result (λ refused. IsLimited limits source.store.content refused.fault) }
 {
     let choice = Choice::Types(types);
     let view = match FileView::open_source(alloc, source, limits, choice) {

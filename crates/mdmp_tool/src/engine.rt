@@ -2,11 +2,12 @@
 ghost use Rattle.std.specs.Prelude.{◌≡◌, ◌<◌, ℕ, List, [], Some, Err};
 ghost use Rattle.mdmp_source.specs.Blocks.{MovesFront};
 ghost use Rattle.mdmp_lister.specs.Format.Refusal.{opening_fault};
-ghost use Rattle.mdmp_tool.specs.Causes.{MayReachBudget};
+ghost use Rattle.mdmp_tool.specs.Causes.{MayReachAside, MayReachBudget, MayReachMemory};
+ghost use Rattle.mdmp_tool.specs.Telling.{opening_beside};
 ghost use Rattle.mdmp_tool.specs.Engines.{EndsFlushed, IsFlushed, IsReadThrough, ReadsSource, Runs, RunsThrough, Tells, directly, in_blocks, unless_refused};
 
 use crate::fault::{ToolFault, told_opening};
-use mdmp_lister::{Choice, Limits, Lister};
+use mdmp_lister::{Choice, Limits, Lister, OpenFault};
 use mdmp_source::{BlockOut, Out, OutFailed, Source, Store};
 use std::alloc::Allocator;
 
@@ -21,10 +22,10 @@ pub struct RunAnswered<T: Copy, S: Store + Drop> {
 
 /// A command over the listing of a file.
 pub(crate) trait Engine: Copy {
-    ghost use Rattle.std.specs.Prelude.{◌≡◌, ℕ, List, Some, Result};
+    ghost use Rattle.std.specs.Prelude.{◌≡◌, ℕ, List, Option, Some, Result};
     ghost use Rattle.mdmp_lister.specs.declared.choice.Choice.{Choice};
     ghost use Rattle.mdmp_tool.specs.declared.fault.ToolFault.{ToolFault};
-    ghost use Rattle.mdmp_tool.specs.Causes.{HasBudgetCause};
+    ghost use Rattle.mdmp_tool.specs.Causes.{HasBudgetCause, IsWithinMemory, KeepsAside};
     ghost use Rattle.mdmp_tool.specs.Engines.{IsOpened, IsSameRun, Leaves, Pace, WritesText};
 
     /// What it answers where all was printed.
@@ -42,12 +43,22 @@ pub(crate) trait Engine: Copy {
     // What may end it over a file that can be opened, with names up to a limit.
     ghost Ends: { Self → List ℕ → ℕ → Result Self.Answer ToolFault → Type 0 };
 
+    // The most bytes of CodeView records that it may read, if there is such a limit. What it reads of memory does not count.
+    ghost aside: { Self → Option ℕ };
+
+    // How many bytes it holds beside its lister.
+    ghost held: { Self → ℕ };
+
     // All that it prints of such a file.
     ghost text: { Self → List ℕ → ℕ → List ℕ };
 
     /// The streams that are listed.
     fn chosen(&self) -> Choice
         ensures { result ≡ choice };
+
+    /// How many bytes it holds beside its lister.
+    fn beside(&self) -> u64
+        ensures { result ≡ held self.now };
 
     /// Prints what there is to print of a file that was opened.
     fn put<S: Store + Drop, A: Allocator + Copy, O: Out>(
@@ -63,7 +74,9 @@ pub(crate) trait Engine: Copy {
             → WritesText pace (text self.now file lister.old.limit) (O.state out.old) result (O.state out.new) }
         ensures leaves { Leaves pace (O.state out.new ≡ O.state out.old) lister.old.source (O.state out.old) result lister.new.source (O.state out.new) }
         ensures same { IsSameRun lister.old lister.new }
-        ensures over { HasBudgetCause result lister.new };
+        ensures over { HasBudgetCause result lister.new }
+        ensures aside { KeepsAside (aside self.now) result lister.new }
+        ensures within { IsWithinMemory result };
 }
 
 /// Runs a command over a store.
@@ -80,6 +93,8 @@ pub(crate) fn run<E: Engine, S: Store + Drop, A: Allocator + Copy, O: Out>(
         (O.state out.old) result (O.state out.new) }
     ensures tells { Tells directly E.pace (S.state store) (S.state store).size (O.state out.old) result (O.state out.new) }
     ensures budget { MayReachBudget limits (S.state store).size result }
+    ensures memory { MayReachMemory limits result }
+    ensures aside { MayReachAside (E.aside engine) limits (S.state store).size result }
 {
     let RunAnswered { answer, source: _ } = run_source(
         engine,
@@ -107,13 +122,21 @@ pub(crate) fn run_source<E: Engine, S: Store + Drop, A: Allocator + Copy, O: Out
         (O.state out.old) result.answer (O.state out.new) }
     ensures tells { Tells directly E.pace source.store source.size (O.state out.old) result.answer (O.state out.new) }
     ensures reads { ReadsSource source result.answer result.source }
-    ensures through { IsReadThrough limits source result.answer result.source }
+    ensures through { IsReadThrough (record { limits = limits; choice = E.choice; held = E.held engine; aside = E.aside engine }) source result.answer result.source }
 {
-    let mut lister = match Lister::open(alloc, source, limits, engine.chosen()) {
+    let beside = engine.beside();
+    // The proof learns here that the size has 64 bits.
+    let _size = source.size();
+    let mut lister = match Lister::open(
+        alloc,
+        source,
+        limits.leave_memory(beside),
+        engine.chosen(),
+    ) {
         Ok(lister) => lister,
         Err(refused) => {
             return RunAnswered {
-                answer: Err(told_opening(refused.fault)),
+                answer: Err(refused_beside(refused.fault, beside)),
                 source: refused.source,
             };
         }
@@ -124,6 +147,18 @@ pub(crate) fn run_source<E: Engine, S: Store + Drop, A: Allocator + Copy, O: Out
     RunAnswered {
         answer,
         source: lister.into_source(),
+    }
+}
+
+/// A fault of the opening, as a command tells it that holds so many bytes beside its lister.
+fn refused_beside(fault: OpenFault, beside: u64) -> ToolFault
+    ensures { result ≡ opening_beside beside fault }
+{
+    match fault {
+        OpenFault::MemoryLimit { held } => ToolFault::MemoryLimit {
+            held: held.saturating_add(u128::from(beside)),
+        },
+        fault => told_opening(fault),
     }
 }
 
@@ -143,7 +178,7 @@ pub(crate) fn run_in_blocks<E: Engine, S: Store + Drop, A: Allocator + Copy, O: 
     ensures flushed { IsFlushed result.answer blocks.new.pending }
     ensures tells { Tells in_blocks E.pace source.store source.size blocks.old.inner result.answer blocks.new.inner }
     ensures reads { ReadsSource source result.answer result.source }
-    ensures through { IsReadThrough limits source result.answer result.source }
+    ensures through { IsReadThrough (record { limits = limits; choice = E.choice; held = E.held engine; aside = E.aside engine }) source result.answer result.source }
 {
     let answered = run_source(engine, alloc, source, limits, blocks);
     flushed(answered, blocks)

@@ -32,6 +32,23 @@ pub enum ToolFault {
     },
     /// There was no memory for what the command holds.
     Memory,
+    /// The command would hold more bytes than its limit of memory, so it took none.
+    MemoryLimit {
+        /// How many it would hold.
+        held: u128,
+    },
+    /// With this CodeView record more bytes than the limit would have been read aside, so it was not read.
+    AsideLimit {
+        /// Its offset from the start of the file.
+        offset: u64,
+        /// How many bytes of it would have been read.
+        size: u64,
+    },
+    /// A copy may fetch more bytes than its budget, so nothing was written.
+    CopyBudget {
+        /// How many bytes it may fetch.
+        needed: u128,
+    },
     /// Streams of this type are not copied.
     NotCopied(u32),
 }
@@ -47,6 +64,9 @@ pub fn status(fault: &ToolFault) -> u8
             1,
         ToolFault::NotCopied(_) => 2,
         ToolFault::Source(_) | ToolFault::Budget { .. } | ToolFault::Out | ToolFault::Memory => 3,
+        ToolFault::MemoryLimit { .. }
+        | ToolFault::AsideLimit { .. }
+        | ToolFault::CopyBudget { .. } => 3,
     }
 }
 
@@ -70,6 +90,7 @@ pub(crate) fn told_opening(fault: OpenFault) -> ToolFault
         OpenFault::Source(fault) => ToolFault::Source(fault),
         OpenFault::Budget { offset, size } => ToolFault::Budget { offset, size },
         OpenFault::Memory => ToolFault::Memory,
+        OpenFault::MemoryLimit { held } => ToolFault::MemoryLimit { held },
         fault => ToolFault::Opening(fault),
     }
 }

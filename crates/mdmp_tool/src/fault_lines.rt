@@ -3,7 +3,7 @@ ghost use Rattle.std.specs.Prelude.{◌≡◌};
 ghost use Rattle.mdmp_source.specs.Output.{Puts};
 ghost use Rattle.mdmp_tool.specs.Lines.{error_line};
 ghost use Rattle.mdmp_tool.specs.Pieces.{text_of};
-ghost use Rattle.mdmp_tool.specs.Faults.{source_text, budget_text, output_text, memory_text, version_text, too_many_ranges_text, opening_text, list_fault_text, layout_text, part_text, long_name_text, reading_text, not_copied_text, fault_text};
+ghost use Rattle.mdmp_tool.specs.Faults.{source_text, budget_text, output_text, memory_text, memory_limit_text, aside_limit_text, copy_budget_text, version_text, too_many_ranges_text, opening_text, list_fault_text, layout_text, part_text, long_name_text, reading_text, not_copied_text, fault_text};
 
 use crate::fault::{ToolFault, fault_as_told};
 use crate::line::put_error_line;
@@ -28,6 +28,9 @@ pub fn fault_line<O: Out>(fault: &ToolFault, out: &mut O) -> Result<(), OutFaile
         ToolFault::Budget { offset, size } => put_budget_fault(offset, size, out),
         ToolFault::Out => put_output_fault(out),
         ToolFault::Memory => put_memory_fault(out),
+        ToolFault::MemoryLimit { held } => put_memory_limit(held, out),
+        ToolFault::AsideLimit { offset, size } => put_aside_limit(offset, size, out),
+        ToolFault::CopyBudget { needed } => put_copy_budget(needed, out),
         ToolFault::NotCopied(stream_type) => put_not_copied(stream_type, out),
     }
 }
@@ -77,6 +80,45 @@ fn put_memory_fault<O: Out>(out: &mut O) -> Result<(), OutFailed>
     put_error_line(out, &[Piece::Text("out of memory")])
 }
 
+fn put_memory_limit<O: Out>(held: u128, out: &mut O) -> Result<(), OutFailed>
+    ensures { Puts result (O.state out.old) (error_line (memory_limit_text held)) (O.state out.new) }
+{
+    put_error_line(
+        out,
+        &[
+            Piece::Text("memory limit reached: "),
+            Piece::WideDecimal(held),
+        ],
+    )
+}
+
+fn put_aside_limit<O: Out>(offset: u64, size: u64, out: &mut O) -> Result<(), OutFailed>
+    ensures { Puts result (O.state out.old) (error_line (aside_limit_text offset size)) (O.state out.new) }
+{
+    put_error_line(
+        out,
+        &[
+            Piece::Text("aside limit reached: offset "),
+            Piece::Decimal(offset),
+            Piece::Text(" size "),
+            Piece::Decimal(size),
+        ],
+    )
+}
+
+fn put_copy_budget<O: Out>(needed: u128, out: &mut O) -> Result<(), OutFailed>
+    ensures { Puts result (O.state out.old) (error_line (copy_budget_text needed)) (O.state out.new) }
+{
+    put_error_line(
+        out,
+        &[
+            Piece::Text("copy needs "),
+            Piece::WideDecimal(needed),
+            Piece::Text(" bytes"),
+        ],
+    )
+}
+
 fn put_bad_version<O: Out>(low: u16, out: &mut O) -> Result<(), OutFailed>
     ensures { Puts result (O.state out.old) (error_line (version_text low)) (O.state out.new) }
 {
@@ -124,6 +166,7 @@ fn put_opening_fault<O: Out>(fault: &OpenFault, out: &mut O) -> Result<(), OutFa
         OpenFault::Source(fault) => put_source_fault(fault, out),
         OpenFault::Budget { offset, size } => put_budget_fault(*offset, *size, out),
         OpenFault::Memory => put_memory_fault(out),
+        OpenFault::MemoryLimit { held } => put_memory_limit(*held, out),
         OpenFault::TooManyRanges { count } => put_too_many_ranges(*count, out),
     }
 }

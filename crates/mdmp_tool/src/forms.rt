@@ -15,12 +15,8 @@ use mdmp_source::{Out, OutFailed};
 use mdmp_wire::{CodeView, Header};
 use mdmp_words::LineForm;
 
-/// Prints the line of a dump's header.
-pub(crate) fn put_dump<O: Out>(
-    form: LineForm,
-    header: &Header,
-    out: &mut O,
-) -> Result<(), OutFailed>
+/// Prints the line of a dump's header, in this form.
+pub fn put_dump<O: Out>(form: LineForm, header: &Header, out: &mut O) -> Result<(), OutFailed>
     ensures { Puts result (O.state out.old) (dump_line_in form header.now) (O.state out.new) }
 {
     match form {

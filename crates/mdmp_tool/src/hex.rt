@@ -2,8 +2,8 @@
 ghost use Rattle.std.specs.Prelude.{◌≡◌, ◌≤◌, ◌<◌, ◌+◌, ℕ, List, [], Some, None, length};
 ghost use Rattle.mdmp_map.specs.Ranges.{address_end};
 ghost use Rattle.mdmp_lister.specs.Format.Listing.{Run};
-ghost use Rattle.mdmp_tool.specs.Causes.{HasBudgetCause, MayReachBudget};
-ghost use Rattle.mdmp_tool.specs.Engines.{IsSameRun, IsReadThrough, Leaves, ReadsSource, Tells, at_the_end, directly};
+ghost use Rattle.mdmp_tool.specs.Causes.{HasBudgetCause, KeepsAside, MayReachAside, MayReachBudget, MayReachMemory};
+ghost use Rattle.mdmp_tool.specs.Engines.{IsSameRun, IsReadThrough, Leaves, ReadsSource, Tells, at_the_end, directly, hex_access};
 ghost use Rattle.mdmp_tool.specs.HexRuns.{Hexes, HexesMemory, HexesRun};
 ghost use Rattle.mdmp_words.specs.NumberWords.{length_limit};
 
@@ -33,6 +33,8 @@ pub fn run_hex<S: Store + Drop, A: Allocator + Copy, O: Out>(
     ensures hexes { (file : List ℕ) → (S.state store).content ≡ Some file → Hexes file limits.name address length (O.state out.old) result (O.state out.new) }
     ensures tells { Tells directly at_the_end (S.state store) (S.state store).size (O.state out.old) result (O.state out.new) }
     ensures budget { MayReachBudget limits (S.state store).size result }
+    ensures memory { MayReachMemory limits result }
+    ensures aside { MayReachAside None limits (S.state store).size result }
 {
     run(HexEngine { address, length }, alloc, store, limits, out)
 }
@@ -51,7 +53,7 @@ pub fn hex_source<S: Store + Drop, A: Allocator + Copy, O: Out>(
     ensures hexes { (file : List ℕ) → source.store.content ≡ Some file → Hexes file limits.name address length (O.state out.old) result.answer (O.state out.new) }
     ensures tells { Tells directly at_the_end source.store source.size (O.state out.old) result.answer (O.state out.new) }
     ensures reads { ReadsSource source result.answer result.source }
-    ensures through { IsReadThrough limits source result.answer result.source }
+    ensures through { IsReadThrough (hex_access length limits) source result.answer result.source }
 {
     run_source(HexEngine { address, length }, alloc, source, limits, out)
 }
@@ -64,7 +66,7 @@ pub(crate) struct HexEngine {
 }
 
 impl Engine for HexEngine {
-    ghost use Rattle.std.specs.Prelude.{◌≤◌, ◌+◌};
+    ghost use Rattle.std.specs.Prelude.{◌≤◌, ◌+◌, ◌*◌};
     ghost use Rattle.mdmp_map.specs.Ranges.{address_end};
     ghost use Rattle.mdmp_lister.specs.Format.Listing.{listing, memory_lists};
     ghost use Rattle.mdmp_tool.specs.Engines.{at_the_end};
@@ -78,12 +80,20 @@ impl Engine for HexEngine {
 
     ghost can_put = { λ hex. hex.address + hex.length ≤ address_end };
 
+    ghost aside = { λ _. None };
+
+    ghost held = { λ hex. 2 * hex.length };
+
     ghost Ends = { λ _ file limit. HexEnds (listing file memory_lists limit) };
 
     ghost text = { λ hex file limit. run_hex_text file (listing file memory_lists limit) hex.address hex.length };
 
     fn chosen(&self) -> Choice {
         Choice::memory_lists()
+    }
+
+    fn beside(&self) -> u64 {
+        2 * u64::from(self.length)
     }
 
     fn put<S: Store + Drop, A: Allocator + Copy, O: Out>(
@@ -112,6 +122,7 @@ fn hex_listed<S: Store + Drop, A: Allocator + Copy, O: Out>(
     ensures leaves { Leaves at_the_end (O.state out.new ≡ O.state out.old) lister.old.source (O.state out.old) result lister.new.source (O.state out.new) }
     ensures same { IsSameRun lister.old lister.new }
     ensures over { HasBudgetCause result lister.new }
+    ensures aside { KeepsAside None result lister.new }
 {
     match lister.list_ranges() {
         Ok(()) => {}
@@ -141,6 +152,7 @@ fn put_memory<S: Store + Drop, A: Allocator + Copy, O: Out>(
     ensures leaves { Leaves at_the_end (O.state out.new ≡ O.state out.old) lister.old.source (O.state out.old) result lister.new.source (O.state out.new) }
     ensures same { IsSameRun lister.old lister.new }
     ensures over { HasBudgetCause result lister.new }
+    ensures aside { KeepsAside None result lister.new }
 {
     match lister.read_address(address, bytes, known) {
         Ok(()) => {}

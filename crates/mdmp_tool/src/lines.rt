@@ -8,7 +8,7 @@ use mdmp_source::{Out, OutFailed};
 use mdmp_wire::Header;
 
 /// Prints the line of a dump's header.
-pub fn put_dump_line<O: Out>(header: &Header, out: &mut O) -> Result<(), OutFailed>
+pub(crate) fn put_dump_line<O: Out>(header: &Header, out: &mut O) -> Result<(), OutFailed>
     ensures { Puts result (O.state out.old) (dump_line header.now) (O.state out.new) }
 {
     put_pieces(

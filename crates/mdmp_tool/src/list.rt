@@ -1,9 +1,10 @@
 //! The command `list`.
-ghost use Rattle.std.specs.Prelude.{◌≡◌, ℕ, List, None, Some, Ok, true, IfSome};
+ghost use Rattle.std.specs.Prelude.{◌≡◌, ◌+◌, ℕ, List, MatchOption, None, Some, Ok, false, true, IfSome};
 ghost use Rattle.mdmp_source.specs.Range.{IsInside};
 ghost use Rattle.mdmp_lister.specs.Format.Listing.{Run};
-ghost use Rattle.mdmp_tool.specs.Causes.{HasBudgetCause, MayReachBudget};
-ghost use Rattle.mdmp_tool.specs.Engines.{IsSameRun, IsReadThrough, Leaves, ReadsSource, Tells, directly, up_to_a_fault};
+ghost use Rattle.mdmp_lister.specs.Memory.{is_within};
+ghost use Rattle.mdmp_tool.specs.Causes.{HasBudgetCause, KeepsAside, MayReachAside, MayReachBudget, MayReachMemory, symbols_cost};
+ghost use Rattle.mdmp_tool.specs.Engines.{IsSameRun, IsReadThrough, Leaves, ReadsSource, Tells, directly, up_to_a_fault, list_access};
 ghost use Rattle.mdmp_tool.specs.Runs.{IsBehindNext, Lists, ListsFile, ListsNext, ListsRun, PutsSymbols};
 ghost use Rattle.mdmp_tool.specs.Text.{symbols_of, symbols_text};
 
@@ -35,8 +36,11 @@ pub fn run_list<S: Store + Drop, A: Allocator + Copy, O: Out>(
     ensures lists { (file : List ℕ) → (S.state store).content ≡ Some file → Lists form pdb file limits.name (O.state out.old) result (O.state out.new) }
     ensures tells { Tells directly up_to_a_fault (S.state store) (S.state store).size (O.state out.old) result (O.state out.new) }
     ensures budget { MayReachBudget limits (S.state store).size result }
+    ensures memory { MayReachMemory limits result }
+    ensures aside { MayReachAside limits.aside limits (S.state store).size result }
 {
-    run(ListEngine { form, pdb }, alloc, store, limits, out)
+    let aside = limits.aside;
+    run(ListEngine { form, pdb, aside }, alloc, store, limits, out)
 }
 
 /// Does what `run_list` does, and hands the source back, whose counts tell the cause of its faults.
@@ -51,9 +55,10 @@ pub fn list_source<S: Store + Drop, A: Allocator + Copy, O: Out>(
     ensures lists { (file : List ℕ) → source.store.content ≡ Some file → Lists form pdb file limits.name (O.state out.old) result.answer (O.state out.new) }
     ensures tells { Tells directly up_to_a_fault source.store source.size (O.state out.old) result.answer (O.state out.new) }
     ensures reads { ReadsSource source result.answer result.source }
-    ensures through { IsReadThrough limits source result.answer result.source }
+    ensures through { IsReadThrough (list_access limits) source result.answer result.source }
 {
-    run_source(ListEngine { form, pdb }, alloc, source, limits, out)
+    let aside = limits.aside;
+    run_source(ListEngine { form, pdb, aside }, alloc, source, limits, out)
 }
 
 /// The engine of `list`, which prints each item as it is read.
@@ -63,6 +68,8 @@ pub(crate) struct ListEngine {
     pub form: LineForm,
     /// Whether CodeView records are told.
     pub pdb: bool,
+    /// The most bytes of them that may be read, if there is such a limit.
+    pub aside: Option<u64>,
 }
 
 impl Engine for ListEngine {
@@ -83,12 +90,20 @@ impl Engine for ListEngine {
 
     ghost can_put = { λ _. Unit {0} };
 
+    ghost aside = { λ e. e.aside };
+
+    ghost held = { λ _. 0 };
+
     ghost Ends = { λ _ file limit. ListEnds (listing file All limit) };
 
     ghost text = { λ e file limit. dump_line_in e.form (header_at file 0) ++ run_text e.form e.pdb file limit (listing file All limit) };
 
     fn chosen(&self) -> Choice {
         Choice::All
+    }
+
+    fn beside(&self) -> u64 {
+        0
     }
 
     fn put<S: Store + Drop, A: Allocator + Copy, O: Out>(
@@ -98,7 +113,7 @@ impl Engine for ListEngine {
         out: &mut O,
     ) -> Result<(), ToolFault> {
         let _ = alloc;
-        put_listing(lister, self.form, self.pdb, out)
+        put_listing(lister, self.form, self.pdb, self.aside, out)
     }
 }
 
@@ -107,19 +122,22 @@ fn put_listing<S: Store + Drop, A: Allocator + Copy, O: Out>(
     lister: &mut Lister<S, A>,
     form: LineForm,
     pdb: bool,
+    aside: Option<u64>,
     out: &mut O,
 ) -> Result<(), ToolFault>
-    requires { lister.old.stop ≡ None }
+    requires going { lister.old.stop ≡ None }
+    requires kept { is_within aside lister.old.counts.aside.bytes ≡ true }
     ensures lists { (file : List ℕ) → lister.old.source.store.content ≡ Some file → (left : Run) → lister.old.left ≡ Some left
         → ListsFile form pdb file lister.old.limit lister.old.header left (O.state out.old) result (O.state out.new) }
     ensures leaves { Leaves up_to_a_fault (O.state out.new ≡ O.state out.old) lister.old.source (O.state out.old) result lister.new.source (O.state out.new) }
     ensures same { IsSameRun lister.old lister.new }
     ensures over { HasBudgetCause result lister.new }
+    ensures aside { KeepsAside aside result lister.new }
 {
     if let Err(OutFailed) = put_dump(form, &lister.header(), out) {
         return Err(ToolFault::Out);
     }
-    list_items(lister, form, pdb, out)
+    list_items(lister, form, pdb, aside, out)
 }
 
 /// Prints the lines of the items that are left.
@@ -127,16 +145,19 @@ fn list_items<S: Store + Drop, A: Allocator + Copy, O: Out>(
     lister: &mut Lister<S, A>,
     form: LineForm,
     pdb: bool,
+    aside: Option<u64>,
     out: &mut O,
 ) -> Result<(), ToolFault>
-    requires { lister.old.stop ≡ None }
+    requires going { lister.old.stop ≡ None }
+    requires kept { is_within aside lister.old.counts.aside.bytes ≡ true }
     ensures lists { (file : List ℕ) → lister.old.source.store.content ≡ Some file → (left : Run) → lister.old.left ≡ Some left
         → ListsRun form pdb file lister.old.limit left (O.state out.old) result (O.state out.new) }
     ensures leaves { Leaves up_to_a_fault ⊥ lister.old.source (O.state out.old) result lister.new.source (O.state out.new) }
     ensures same { IsSameRun lister.old lister.new }
     ensures over { HasBudgetCause result lister.new }
+    ensures aside { KeepsAside aside result lister.new }
 {
-    while list_next(lister, form, pdb, out)? {}
+    while list_next(lister, form, pdb, aside, out)? {}
     Ok(())
 }
 
@@ -149,6 +170,7 @@ pub fn list_next<S: Store + Drop, A: Allocator + Copy, O: Out>(
     lister: &mut Lister<S, A>,
     form: LineForm,
     pdb: bool,
+    aside: Option<u64>,
     out: &mut O,
 ) -> Result<bool, ToolFault>
     requires { lister.old.stop ≡ None }
@@ -158,6 +180,7 @@ pub fn list_next<S: Store + Drop, A: Allocator + Copy, O: Out>(
     ensures leaves { Leaves up_to_a_fault ⊥ lister.old.source (O.state out.old) result lister.new.source (O.state out.new) }
     ensures same { IsSameRun lister.old lister.new }
     ensures over { HasBudgetCause result lister.new }
+    ensures aside { is_within aside lister.old.counts.aside.bytes ≡ true → KeepsAside aside result lister.new }
 {
     let symbols = match lister.next() {
         Ok(None) => return Ok(false),
@@ -167,7 +190,7 @@ pub fn list_next<S: Store + Drop, A: Allocator + Copy, O: Out>(
         },
         Err(fault) => return Err(told_list(fault)),
     };
-    put_symbols(lister, form, symbols, out)?;
+    put_symbols(lister, form, symbols, aside, out)?;
     Ok(true)
 }
 
@@ -205,6 +228,7 @@ fn put_symbols<S: Store + Drop, A: Allocator + Copy, O: Out>(
     lister: &mut Lister<S, A>,
     form: LineForm,
     symbols: Option<ModuleSymbols>,
+    aside: Option<u64>,
     out: &mut O,
 ) -> Result<(), ToolFault>
     requires { IfSome symbols (λ of. IsInside of.location.rva of.location.size lister.old.source.size) }
@@ -214,10 +238,17 @@ fn put_symbols<S: Store + Drop, A: Allocator + Copy, O: Out>(
     ensures leaves { Leaves up_to_a_fault ⊥ lister.old.source (O.state out.old) result lister.new.source (O.state out.new) }
     ensures same { IsSameRun lister.old lister.new }
     ensures over { HasBudgetCause result lister.new }
+    ensures aside { is_within aside lister.old.counts.aside.bytes ≡ true → KeepsAside aside result lister.new }
 {
     let Some(ModuleSymbols { place, location }) = symbols else {
         return Ok(());
     };
+    if let Some(size) = over_aside(lister, location.size, aside) {
+        return Err(ToolFault::AsideLimit {
+            offset: u64::from(location.rva),
+            size,
+        });
+    }
     match lister.codeview(location) {
         Ok(bytes) => match put_pdb(form, place, &bytes.read(), out) {
             Ok(()) => Ok(()),
@@ -225,4 +256,23 @@ fn put_symbols<S: Store + Drop, A: Allocator + Copy, O: Out>(
         },
         Err(fault) => Err(ToolFault::Source(fault)),
     }
+}
+
+/// How many bytes of a CodeView record of so many would be read, if with them more than the limit would have been read aside.
+fn over_aside<S: Store + Drop, A: Allocator + Copy>(
+    lister: &Lister<S, A>,
+    size: u32,
+    aside: Option<u64>,
+) -> Option<u64>
+    ensures { MatchOption result
+        (is_within aside (lister.now.counts.aside.bytes + symbols_cost lister.now.limit size) ≡ true)
+        (λ cost. (cost ≡ symbols_cost lister.now.limit size) × (is_within aside (lister.now.counts.aside.bytes + cost) ≡ false)) }
+{
+    let most = aside?;
+    let cost = u64::from(size).min((lister.name_limit() as u64).saturating_add(24));
+    let read = lister.counts().aside;
+    if read.saturating_add(u128::from(cost)) > u128::from(most) {
+        return Some(cost);
+    }
+    None
 }

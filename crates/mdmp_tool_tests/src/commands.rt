@@ -9,7 +9,7 @@ use mdmp_source::{BlockOut, Out, PatchyOut, Source, Store, write_all};
 use mdmp_test_support::Room;
 use mdmp_tool::{
     Limits, LineForm, OpenFault, RunAnswered, ToolFault, check_in_blocks, check_source,
-    copy_source, hex_in_blocks, hex_source, list_in_blocks, list_next, list_source, put_dump_line,
+    copy_source, hex_in_blocks, hex_source, list_in_blocks, list_next, list_source, put_dump,
     run_check, run_copy, run_hex, run_list,
 };
 use std::alloc::{Allocator, Global};
@@ -332,6 +332,7 @@ fn opening_fault(fault: OpenFault) -> ToolFault {
     match fault {
         OpenFault::Source(fault) => ToolFault::Source(fault),
         OpenFault::Memory => ToolFault::Memory,
+        OpenFault::MemoryLimit { held } => ToolFault::MemoryLimit { held },
         fault => ToolFault::Opening(fault),
     }
 }
@@ -344,17 +345,18 @@ fn put_bar(is_barred: bool, out: &mut PatchyOut<Global>) -> bool {
 /// What a list answers of which each item that is left is printed by a call of its own.
 fn answer_by_items<S: Store + Drop, A: Allocator + Copy>(
     lister: &mut Lister<S, A>,
-    pdb: bool,
-    is_barred: bool,
+    run: &CommandRun<'_>,
     out: &mut PatchyOut<Global>,
 ) -> Result<u64, ToolFault>
     requires { lister.old.stop ≡ None }
 {
+    let pdb = matches!(run.task, Task::Symbols);
+    let is_barred = matches!(run.way, CallWay::BarredItems);
     loop {
         if !put_bar(is_barred, out) {
             return Err(ToolFault::Out);
         }
-        match list_next(lister, LineForm::Text, pdb, out) {
+        match list_next(lister, LineForm::Text, pdb, run.limits.aside, out) {
             Ok(true) => {}
             Ok(false) => return Ok(0),
             Err(fault) => return Err(fault),
@@ -369,8 +371,6 @@ fn answer_by_header<S: Store + Drop, A: Allocator + Copy>(
     run: &CommandRun<'_>,
     out: &mut PatchyOut<Global>,
 ) -> Result<u64, ToolFault> {
-    let pdb = matches!(run.task, Task::Symbols);
-    let is_barred = matches!(run.way, CallWay::BarredItems);
     let mut lister = match Lister::open(heap, source, run.limits, Choice::All) {
         Ok(lister) => lister,
         Err(refused) => return Err(opening_fault(refused.fault)),
@@ -378,7 +378,7 @@ fn answer_by_header<S: Store + Drop, A: Allocator + Copy>(
     if !is_header_put(&lister, out) {
         return Err(ToolFault::Out);
     }
-    answer_by_items(&mut lister, pdb, is_barred, out)
+    answer_by_items(&mut lister, run, out)
 }
 
 /// Prints the line of the header, and tells whether the output took it.
@@ -386,7 +386,7 @@ fn is_header_put<S: Store + Drop, A: Allocator + Copy>(
     lister: &Lister<S, A>,
     out: &mut PatchyOut<Global>,
 ) -> bool {
-    put_dump_line(&lister.header(), out).is_ok()
+    put_dump(LineForm::Text, &lister.header(), out).is_ok()
 }
 
 fn end_of_answer(answer: Result<u64, ToolFault>) -> End {

@@ -341,6 +341,8 @@ fn copy_in_heap(rt: &impl Abort, alloc: Global, file: &[u8], heap_size: usize) -
             window: 176,
             name: 0,
             budget: None,
+            memory: None,
+            aside: None,
         },
         room: Room {
             all: 16384,
@@ -378,7 +380,7 @@ fn memory_of_a_copy_is_two_windows_and_24_bytes_an_entry(rt: HostRuntime) {
 }
 
 /// A file of 1,100 entries that name one comment of 4,000,000 bytes.
-fn crowded_file(alloc: Global) -> Result<Vec<u8>, AllocError> {
+pub fn crowded_file(alloc: Global) -> Result<Vec<u8>, AllocError> {
     let mut file = file_of_numbers(alloc, 1100, &[])?;
     for _ in 0..1100 {
         file.extend_from_slice(&entry(10, 4_000_000, 13232))?;

@@ -13,6 +13,8 @@ mod commands;
 #[cfg(test)]
 mod copy;
 #[cfg(test)]
+mod copy_limits;
+#[cfg(test)]
 mod failing_outputs;
 #[cfg(test)]
 mod failing_stores;
@@ -28,6 +30,8 @@ mod hex_lines;
 mod hex_stores;
 #[cfg(test)]
 mod item_lines;
+#[cfg(test)]
+mod limited;
 #[cfg(test)]
 mod list;
 #[cfg(test)]

@@ -2,9 +2,9 @@
 use crate::commands::{CallWay, CommandRun, Task};
 use crate::failing_outputs::{COPY_WAYS, EACH_WAY, WITHOUT_ITEMS};
 use crate::files::{File, bytes_of};
-use crate::runs::{FOUR, RunOutcome, in_way, least_run, run_over, with_room};
+use crate::runs::{FOUR, RunOutcome, assert_wrote, in_way, least_run, run_over, with_room};
 use crate::same::{assert_same_at, assert_that};
-use mdmp_source::MemoryStore;
+use mdmp_source::{MemoryStore, PatchyStore, Store, TwoFaces};
 use mdmp_test_support::{CODEVIEW_RECORD, FOR_LONG_TEXT, HeapCounts, MeteredHeap, Refusal, SIX};
 use mdmp_tool::ToolFault;
 use std::alloc::Global;
@@ -12,22 +12,78 @@ use std::process::Abort;
 
 /// What comes of a command in a heap that refuses the growth with this number, and no other; and what was
 /// asked of the heap.
-fn run_without(
+fn run_without<S: Store + Drop>(
+    rt: &impl Abort,
+    alloc: Global,
+    store: S,
+    run: &CommandRun<'_>,
+    growth: u64,
+) -> (RunOutcome, HeapCounts) {
+    let heap = MeteredHeap::new(alloc, Refusal::Only(growth));
+    let outcome = run_over(rt, alloc, &heap, store, run);
+    (outcome, heap.counts())
+}
+
+/// How a command has to end: what it answers, what it wrote, and by how many growths, of which none is kept.
+type HeapEnd<'a> = (Result<u64, ToolFault>, &'a [u8], u64);
+
+/// Asserts how a command ends over a store if this growth is refused.
+fn assert_without<S: Store + Drop>(
+    rt: &impl Abort,
+    alloc: Global,
+    store: S,
+    run: &CommandRun<'_>,
+    growth: u64,
+    wanted: HeapEnd<'_>,
+) {
+    let (answer, written, growths) = wanted;
+    let (outcome, counts) = run_without(rt, alloc, store, run, growth);
+    let at = (run.way, growth);
+    assert_wrote(rt, &at, &outcome, answer, written);
+    assert_same_at(rt, &at, (counts.growths, counts.out), (growths, 0));
+}
+
+/// Asserts it over each store: in memory, by a byte a call, and one whose content is not known.
+fn assert_over_each_store(
     rt: &impl Abort,
     alloc: Global,
     bytes: &[u8],
     run: &CommandRun<'_>,
     growth: u64,
-) -> (RunOutcome, HeapCounts) {
-    let heap = MeteredHeap::new(alloc, Refusal::Only(growth));
-    let outcome = run_over(rt, alloc, &heap, MemoryStore::new(bytes), run);
-    (outcome, heap.counts())
+    wanted: HeapEnd<'_>,
+) {
+    assert_without(rt, alloc, MemoryStore::new(bytes), run, growth, wanted);
+    let slow = PatchyStore::new(bytes, &[1], None);
+    assert_without(rt, alloc, slow, run, growth, wanted);
+    let unknown = TwoFaces::new(bytes, bytes, u64::MAX);
+    assert_without(rt, alloc, unknown, run, growth, wanted);
+}
+
+/// Asserts how a command ends over each store by so many growths, and that each of these may be refused before
+/// anything is written.
+pub fn assert_ends_in_heap(
+    rt: &impl Abort,
+    alloc: Global,
+    bytes: &[u8],
+    run: &CommandRun<'_>,
+    wanted: HeapEnd<'_>,
+) {
+    let (_, _, growths) = wanted;
+    for growth in 0..growths {
+        let refused = (
+            Err(ToolFault::Memory),
+            b"".as_slice(),
+            growth.saturating_add(1),
+        );
+        assert_over_each_store(rt, alloc, bytes, run, growth, refused);
+    }
+    assert_over_each_store(rt, alloc, bytes, run, growths, wanted);
 }
 
 /// Asserts that this growth may be refused: it is told, nothing is written, no block is asked for behind it,
 /// and all that was taken is given back.
 fn assert_refused(rt: &impl Abort, alloc: Global, bytes: &[u8], run: &CommandRun<'_>, growth: u64) {
-    let (outcome, counts) = run_without(rt, alloc, bytes, run, growth);
+    let (outcome, counts) = run_without(rt, alloc, MemoryStore::new(bytes), run, growth);
     let at = (run.way, growth);
     assert_same_at(rt, &at, outcome.end.answer, Err(ToolFault::Memory));
     assert_same_at(rt, &at, outcome.bytes.len(), 0);
@@ -48,7 +104,7 @@ fn assert_succeeds(
     growths: u64,
     answer: Result<u64, ToolFault>,
 ) {
-    let (outcome, counts) = run_without(rt, alloc, bytes, run, growths);
+    let (outcome, counts) = run_without(rt, alloc, MemoryStore::new(bytes), run, growths);
     let at = (run.way, growths);
     assert_same_at(rt, &at, outcome.end.answer, answer);
     assert_that(rt, outcome.bytes.len() > 0);

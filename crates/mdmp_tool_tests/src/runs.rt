@@ -21,6 +21,8 @@ pub const DEFAULT: Limits = Limits {
     window: 65536,
     name: 4096,
     budget: None,
+    memory: None,
+    aside: None,
 };
 
 /// The fault of the file `FAULTY`.

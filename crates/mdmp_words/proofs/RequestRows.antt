@@ -4,15 +4,24 @@ use Rattle.clap.specs.Words.{Text}
 use Rattle.clap.specs.declared.error.kind.ErrorKind.TheVariants.{DisplayHelp, DisplayVersion, InvalidSubcommand, MissingRequiredArgument, MissingSubcommand, UnknownArgument}
 use Rattle.clap.proofs.OnLiterals.{clap_on_literals}
 use Rattle.mdmp_words.specs.declared.request.LineForm.TheVariants as forms
+use Rattle.mdmp_words.specs.OptionWords.{Sizes}
 use Rattle.mdmp_words.specs.Requests.{Plain, PlainCommand, check, copy, faults, hex, list, request_named}
 
--- a command over the file of this name, with these limits
-abbrev within : Text → ℕ → ℕ → ℕ → PlainCommand → Option Plain
-within file window name budget command = Some (record { file = file; sizes = record { window = window; name = name; budget = Some budget }; command = command })
+-- the limits without an option
+abbrev usual : Sizes
+usual = record { window = 65536; name = 4096; budget = Some 18446744073709551615; memory = None; aside = None }
 
--- and the usual budget
+-- the limits of an untrusted file
+abbrev untrusted : Sizes
+untrusted = record { window = 65536; name = 4096; budget = Some 67108864; memory = Some 67108864; aside = Some 67108864 }
+
+-- a command over the file of this name, with these limits
+abbrev within : Text → Sizes → PlainCommand → Option Plain
+within file sizes command = Some (record { file = file; sizes = sizes; command = command })
+
+-- and the usual ones, but for the window and the name
 abbrev over : Text → ℕ → ℕ → PlainCommand → Option Plain
-over file window name command = within file window name 18446744073709551615 command
+over file window name command = within file (record usual { window = window; name = name }) command
 
 -- ---- requests
 
@@ -35,14 +44,39 @@ list_pdb-request : request_named (codes "list" ∷ codes "a.dmp" ∷ codes "--pd
 unfolding clap_on_literals request_named
 list_pdb-request = refl
 
-budget-request : request_named (codes "list" ∷ codes "a.dmp" ∷ codes "--budget" ∷ codes "43" ∷ []) ≡ within (codes "a.dmp") 65536 4096 43 (list forms.Text false)
+budget-request : request_named (codes "list" ∷ codes "a.dmp" ∷ codes "--budget" ∷ codes "43" ∷ []) ≡ within (codes "a.dmp") (record usual { budget = Some 43 }) (list forms.Text false)
 unfolding clap_on_literals request_named
 budget-request = refl
 
--- a copy has none
-copy_budget-faults : faults (codes "copy" ∷ codes "--budget" ∷ codes "43" ∷ codes "a" ∷ codes "b" ∷ codes "3" ∷ []) ≡ UnknownArgument ∷ []
+copy_budget-request : request_named (codes "copy" ∷ codes "--budget" ∷ codes "43" ∷ codes "a" ∷ codes "b" ∷ codes "3" ∷ [])
+    ≡ within (codes "a") (record usual { budget = Some 43 }) (copy (codes "b") (3 ∷ []))
+unfolding clap_on_literals request_named
+copy_budget-request = refl
+
+memory-request : request_named (codes "check" ∷ codes "a.dmp" ∷ codes "--memory" ∷ codes "0" ∷ [])
+    ≡ within (codes "a.dmp") (record usual { memory = Some 0 }) (check forms.Text)
+unfolding clap_on_literals request_named
+memory-request = refl
+
+aside-request : request_named (codes "list" ∷ codes "--aside=7" ∷ codes "a.dmp" ∷ [])
+    ≡ within (codes "a.dmp") (record usual { aside = Some 7 }) (list forms.Text false)
+unfolding clap_on_literals request_named
+aside-request = refl
+
+-- `check` reads no CodeView record
+check_aside-faults : faults (codes "check" ∷ codes "a.dmp" ∷ codes "--aside" ∷ codes "7" ∷ []) ≡ UnknownArgument ∷ []
 unfolding clap_on_literals faults
-copy_budget-faults = refl
+check_aside-faults = refl
+
+untrusted-request : request_named (codes "list" ∷ codes "a.dmp" ∷ codes "--untrusted" ∷ []) ≡ within (codes "a.dmp") untrusted (list forms.Text false)
+unfolding clap_on_literals request_named
+untrusted-request = refl
+
+-- an option wins over `--untrusted`, also with a greater number
+untrusted_memory-request : request_named (codes "list" ∷ codes "--untrusted" ∷ codes "a.dmp" ∷ codes "--memory" ∷ codes "67108865" ∷ [])
+    ≡ within (codes "a.dmp") (record untrusted { memory = Some 67108865 }) (list forms.Text false)
+unfolding clap_on_literals request_named
+untrusted_memory-request = refl
 
 list_json-request : request_named (codes "list" ∷ codes "--json" ∷ codes "a.dmp" ∷ codes "--pdb" ∷ []) ≡ over (codes "a.dmp") 65536 4096 (list forms.Json true)
 unfolding clap_on_literals request_named

@@ -1,8 +1,9 @@
--- What the words of `hex` and the types of `copy` name, computed by the definitions.
-use Rattle.std.proofs.Common.{◌≡◌, ℕ, [], Option, Some, None, refl}
+-- What the words of `hex`, the limits and the types of `copy` name, computed by the definitions.
+use Rattle.std.proofs.Common.{◌≡◌, ℕ, [], Option, Some, None, true, false, refl}
 use Rattle.std.specs.Prelude.{codes}
 use Rattle.mdmp_words.specs.declared.number_words.Span.{Span}
 use Rattle.mdmp_words.specs.NumberWords.{address_named, length_named, span_named}
+use Rattle.mdmp_words.specs.OptionWords.{most_named}
 use Rattle.mdmp_words.specs.TypeNames.{type_named}
 
 abbrev span : ℕ → ℕ → Option Span
@@ -64,6 +65,26 @@ last-span = refl
 -- and does not wrap
 past_last-span : span_named (codes "0xFFFFFFFFFFFFFFF8") (codes "9") ≡ None
 past_last-span = refl
+
+most-limit : most_named false (Some (codes "18446744073709551615")) ≡ Some (Some 18446744073709551615)
+most-limit = refl
+
+past_most-limit : most_named false (Some (codes "18446744073709551616")) ≡ None
+past_most-limit = refl
+
+-- a word that names no number is refused, also for an untrusted file
+letter-limit : most_named true (Some (codes "x")) ≡ None
+letter-limit = refl
+
+-- zero is a limit
+zero-limit : most_named true (Some (codes "0")) ≡ Some (Some 0)
+zero-limit = refl
+
+no_word-limit : most_named false None ≡ Some None
+no_word-limit = refl
+
+untrusted-limit : most_named true None ≡ Some (Some 67108864)
+untrusted-limit = refl
 
 by_records-type : type_named (codes "memory64") ≡ Some 9
 by_records-type = refl

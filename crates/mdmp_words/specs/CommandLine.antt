@@ -27,33 +27,30 @@ flag name = record (new_rule name) { long = Some name; action = Some SetTrue }
 
 -- ---- commands
 
--- a command with the options that limit how a file is read
+-- the options of every command: what it may cost is limited, by numbers or for an untrusted file
+abbrev pub limit_options : List Rule
+limit_options =
+    number_option (codes "window") ∷ number_option (codes "name") ∷ number_option (codes "budget") ∷ number_option (codes "memory") ∷ flag (codes "untrusted") ∷ []
+
+-- a command with the options that limit what it may cost
 abbrev pub limited : App → App
-limited made = with_rule (with_rule made (number_option (codes "window"))) (number_option (codes "name"))
+limited made = fold with_rule made limit_options
 
--- and with the one that limits how much of it is read
-abbrev pub budgeted : App → App
-budgeted made = with_rule made (number_option (codes "budget"))
-
--- a command of this name with these words and options, and with those that limit how a file is read
+-- a command of this name with these words and options, and with those that limit what it may cost
 abbrev pub command : Text → List Rule → Shape
 command name rules = (limited (fold with_rule (new_app name) rules)).top
 
--- the same of one that prints, whose fetches are limited too
-abbrev pub printing_command : Text → List Rule → Shape
-printing_command name rules = (budgeted (limited (fold with_rule (new_app name) rules))).top
-
 -- `check FILE [--json]`
 abbrev pub check_command : Shape
-check_command = printing_command (codes "check") (word (codes "FILE") ∷ flag (codes "json") ∷ [])
+check_command = command (codes "check") (word (codes "FILE") ∷ flag (codes "json") ∷ [])
 
--- `list FILE [--pdb] [--json]`
+-- `list FILE [--pdb] [--json] [--aside N]`
 abbrev pub list_command : Shape
-list_command = printing_command (codes "list") (word (codes "FILE") ∷ flag (codes "pdb") ∷ flag (codes "json") ∷ [])
+list_command = command (codes "list") (word (codes "FILE") ∷ flag (codes "pdb") ∷ flag (codes "json") ∷ number_option (codes "aside") ∷ [])
 
 -- `hex FILE ADDRESS LENGTH`
 abbrev pub hex_command : Shape
-hex_command = printing_command (codes "hex") (word (codes "FILE") ∷ word (codes "ADDRESS") ∷ word (codes "LENGTH") ∷ [])
+hex_command = command (codes "hex") (word (codes "FILE") ∷ word (codes "ADDRESS") ∷ word (codes "LENGTH") ∷ [])
 
 -- `copy IN OUT TYPE..`
 abbrev pub copy_command : Shape

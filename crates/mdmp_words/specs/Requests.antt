@@ -9,7 +9,7 @@ use Rattle.clap.specs.declared.error.kind.ErrorKind.TheVariants.{DisplayHelp, Di
 use Rattle.mdmp_map.specs.Ranges.{address_end}
 use Rattle.mdmp_words.specs.CommandLine.{commands}
 use Rattle.mdmp_words.specs.NumberWords.{length_limit, span_named}
-use Rattle.mdmp_words.specs.OptionWords.{Sizes, limits_named, sizes_in_limits, types_named}
+use Rattle.mdmp_words.specs.OptionWords.{LimitTexts, Sizes, limits_named, sizes_in_limits, types_named}
 use Rattle.mdmp_words.specs.declared.number_words.Span.{Span}
 use Rattle.mdmp_words.specs.declared.request.Asked.{Asked}
 use Rattle.mdmp_words.specs.declared.request.Asked.TheVariants.{Run, Help, Refused, Bad, Memory}
@@ -54,16 +54,27 @@ plain_request request = record {
 
 -- ---- what the words of a command ask for
 
+-- the flag under this id is set
+abbrev pub is_set : List Row → Text → Bool
+is_set rows id = option_map_or (λ flag. bytes_eq flag (codes "true")) (first_of id rows) false
+
+-- the words of the options that limit the command
+abbrev pub limit_texts : List Row → LimitTexts
+limit_texts rows = record {
+  window = first_of (codes "window") rows;
+  name = first_of (codes "name") rows;
+  budget = first_of (codes "budget") rows;
+  memory = first_of (codes "memory") rows;
+  aside = first_of (codes "aside") rows;
+  untrusted = is_set rows (codes "untrusted");
+}
+
 -- a command over the file whose name stands under this id
 abbrev pub named_over : List Row → Text → PlainCommand → Option Plain
 named_over rows id command =
     option_and_then
     (λ sizes. option_map (λ file. record { file = file; sizes = sizes; command = command }) (first_of id rows))
-    (limits_named (first_of (codes "window") rows) (first_of (codes "name") rows) (first_of (codes "budget") rows))
-
--- the flag under this id is set
-abbrev pub is_set : List Row → Text → Bool
-is_set rows id = option_map_or (λ flag. bytes_eq flag (codes "true")) (first_of id rows) false
+    (limits_named (limit_texts rows))
 
 -- lines are objects of JSON where the flag is set
 abbrev pub form_named : List Row → LineForm

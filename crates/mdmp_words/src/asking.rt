@@ -2,11 +2,12 @@
 ghost use Rattle.std.specs.Prelude.{◌≡◌, [], IfSome, map, option_map};
 ghost use Rattle.clap.specs.Words.{all_of, first_of, found_of, rows_of, subcommand_rows_of};
 ghost use Rattle.clap.specs.Values.{kind_of};
-ghost use Rattle.mdmp_words.specs.Requests.{AsksFor, AsksIn, AsksNothing, IsTextOf, IsValid, IsCommandWithin, check_named, copy_named, form_named, hex_named, is_set, list_named, named_over, plain_request, plain_command, request_by};
+ghost use Rattle.mdmp_words.specs.OptionWords.{texts_of};
+ghost use Rattle.mdmp_words.specs.Requests.{AsksFor, AsksIn, AsksNothing, IsTextOf, IsValid, IsCommandWithin, check_named, copy_named, form_named, hex_named, is_set, limit_texts, list_named, named_over, plain_request, plain_command, request_by};
 
 use crate::command_line::command_line;
 use crate::number_words::span_of;
-use crate::option_words::{limits_of, types_of};
+use crate::option_words::{LimitWords, limits_of, types_of};
 use crate::request::{Asked, Command, LineForm, Print, Request};
 use clap::error::ErrorKind;
 use clap::{ArgMatches, Error};
@@ -135,17 +136,27 @@ fn request_over<'a>(matches: &ArgMatches<'a>, id: &str, command: Command<'a>) ->
         ≡ named_over (rows_of (found_of matches.now)) id.now (plain_command command.entry) }
     ensures same { IfSome result (λ request. request.command ≡ command.entry) }
 {
-    let limits = limits_of(
-        word_of(matches, "window"),
-        word_of(matches, "name"),
-        word_of(matches, "budget"),
-    )?;
+    let limits = limits_of(limit_words(matches))?;
     let file = word_of(matches, id)?;
     Some(Request {
         file,
         limits,
         command,
     })
+}
+
+/// The words of the options that limit the command. `--aside` is an option of `list` alone.
+fn limit_words<'a>(matches: &ArgMatches<'a>) -> LimitWords<'a>
+    ensures { texts_of result ≡ limit_texts (rows_of (found_of matches.now)) }
+{
+    LimitWords {
+        window: word_of(matches, "window"),
+        name: word_of(matches, "name"),
+        budget: word_of(matches, "budget"),
+        memory: word_of(matches, "memory"),
+        aside: word_of(matches, "aside"),
+        untrusted: is_set(matches, "untrusted"),
+    }
 }
 
 /// Whether the flag under this id is set.

@@ -1,7 +1,7 @@
 //! The commands and their words, as `clap` reads them. It takes its memory from `Global` alone.
 ghost use Rattle.std.specs.Prelude.{◌≡◌, IfOk, false};
 ghost use Rattle.clap.specs.Words.{App, Rule, Shape, app_of, new_app, rule_of, shape_of, with_rule, with_subcommand};
-ghost use Rattle.mdmp_words.specs.CommandLine.{IsCommand, budgeted, check_command, commands, copy_command, flag, has_globals, hex_command, limited, list_command, number_option, program, word, words};
+ghost use Rattle.mdmp_words.specs.CommandLine.{IsCommand, check_command, commands, copy_command, flag, has_globals, hex_command, limited, list_command, number_option, program, word, words};
 
 use crate::help;
 use clap::{Arg, ArgAction, Command};
@@ -66,7 +66,7 @@ fn check_command<'a>(alloc: Global) -> Result<Command<'a>, AllocError>
     let made = described(alloc, "check", help::CHECK_ABOUT, help::CHECK_AFTER);
     let made = with_arg(Ok(made), word(alloc, "FILE", help::FILE));
     let made = with_arg(made, flag(alloc, "json", help::JSON));
-    with_budget(alloc, made)
+    with_limits(alloc, made)
 }
 
 fn list_command<'a>(alloc: Global) -> Result<Command<'a>, AllocError>
@@ -77,7 +77,8 @@ fn list_command<'a>(alloc: Global) -> Result<Command<'a>, AllocError>
     let made = with_arg(Ok(made), word(alloc, "FILE", help::FILE));
     let made = with_arg(made, flag(alloc, "pdb", help::PDB));
     let made = with_arg(made, flag(alloc, "json", help::JSON));
-    with_budget(alloc, made)
+    let made = with_arg(made, number_option(alloc, "aside", help::ASIDE));
+    with_limits(alloc, made)
 }
 
 fn hex_command<'a>(alloc: Global) -> Result<Command<'a>, AllocError>
@@ -88,7 +89,7 @@ fn hex_command<'a>(alloc: Global) -> Result<Command<'a>, AllocError>
     let made = with_arg(Ok(made), word(alloc, "FILE", help::FILE));
     let made = with_arg(made, word(alloc, "ADDRESS", help::ADDRESS));
     let made = with_arg(made, word(alloc, "LENGTH", help::LENGTH));
-    with_budget(alloc, made)
+    with_limits(alloc, made)
 }
 
 fn copy_command<'a>(alloc: Global) -> Result<Command<'a>, AllocError>
@@ -134,7 +135,7 @@ fn flag<'a>(alloc: Global, name: &'a str, help: &'a str) -> Arg<'a>
         .help(help)
 }
 
-/// A command with the options that limit how a file is read.
+/// A command with the options that limit what it may cost.
 fn with_limits<'a>(
     alloc: Global,
     command: Result<Command<'a>, AllocError>,
@@ -142,18 +143,10 @@ fn with_limits<'a>(
     ensures { (app : App) → IfOk command.entry (IsCommand app) → IfOk result (IsCommand (limited app)) }
 {
     let made = with_arg(command, number_option(alloc, "window", help::WINDOW));
-    with_arg(made, number_option(alloc, "name", help::NAME))
-}
-
-/// The same with the option that limits how much of a file is read.
-fn with_budget<'a>(
-    alloc: Global,
-    command: Result<Command<'a>, AllocError>,
-) -> Result<Command<'a>, AllocError>
-    ensures { (app : App) → IfOk command.entry (IsCommand app) → IfOk result (IsCommand (budgeted (limited app))) }
-{
-    let made = with_limits(alloc, command);
-    with_arg(made, number_option(alloc, "budget", help::BUDGET))
+    let made = with_arg(made, number_option(alloc, "name", help::NAME));
+    let made = with_arg(made, number_option(alloc, "budget", help::BUDGET));
+    let made = with_arg(made, number_option(alloc, "memory", help::MEMORY));
+    with_arg(made, flag(alloc, "untrusted", help::UNTRUSTED))
 }
 
 /// An option that takes a number.

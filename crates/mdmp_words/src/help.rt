@@ -17,8 +17,8 @@ Exit status:
   0  all went well
   1  the file is at fault; for 'check', any of its entries is
   2  the command line is wrong, or a type is not copied
-  3  the store, the output or memory failed, the fetch budget was reached, or
-     a file could not be opened or made
+  3  the store, the output or memory failed, a limit was reached, or a file
+     could not be opened or made
 
 Examples:
   mdmp list crash.dmp
@@ -107,7 +107,19 @@ pub(crate) const NAME: &str = "Read names of at most N bytes, up to 1073741824 [
 
 /// What `--budget` sets.
 pub(crate) const BUDGET: &str =
-    "Fetch at most N bytes of the file for its listing, up to 18446744073709551615 (the default)";
+    "Read at most N bytes of the file, up to 18446744073709551615 (the default)";
+
+/// What `--memory` sets.
+pub(crate) const MEMORY: &str =
+    "Use at most N bytes of memory for what is read [default: no limit]";
+
+/// What `--aside` sets.
+pub(crate) const ASIDE: &str =
+    "Read at most N bytes of CodeView records for --pdb [default: no limit]";
+
+/// What `--untrusted` sets.
+pub(crate) const UNTRUSTED: &str =
+    "For strangers' files: --budget, --memory and list's --aside default to 67108864";
 
 /// What `--pdb` adds.
 pub(crate) const PDB: &str = "Tell of each module also its symbol file (PDB), where it names one";

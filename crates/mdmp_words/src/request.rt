@@ -7,7 +7,7 @@ use mdmp_lister::{Limits, TypeSet};
 pub struct Request<'a> {
     /// The name of the file that is read.
     pub file: &'a str,
-    /// The window through which it is read, and the longest name that is read.
+    /// The limits within which it is read.
     pub limits: Limits,
     /// What is done with the file.
     pub command: Command<'a>,

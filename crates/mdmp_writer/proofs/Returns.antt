@@ -25,20 +25,21 @@ listed_not (kinds.Source fault) none unbudgeted own = cc none
 listed_not kinds.Budget none unbudgeted own = unbudgeted
 listed_not kind none unbudgeted own = own
 
-opened_not : (fault : OpenFault) → store_fault (reads.Opening fault) ≡ None → IsWithoutBudget (reads.Opening fault) → IsWanting (reads.Opening fault) → ⊥
-opened_not (opening.Source fault) none unbudgeted own = cc none
-opened_not (opening.Budget offset size) none unbudgeted own = unbudgeted
-opened_not fault none unbudgeted own = own
+opened_not : (fault : OpenFault) → (not_read (reads.Opening fault) ≡ backs.Memory → ⊥) → store_fault (reads.Opening fault) ≡ None → IsWithoutBudget (reads.Opening fault) → IsWanting (reads.Opening fault) → ⊥
+opened_not (opening.Source fault) other none unbudgeted own = cc none
+opened_not (opening.Budget offset size) other none unbudgeted own = unbudgeted
+opened_not (opening.MemoryLimit held) other none unbudgeted own = other refl
+opened_not fault other none unbudgeted own = own
 
-not_wanting : (fault : ReadFault) → (fault ≡ reads.Memory → ⊥) → store_fault fault ≡ None → IsWithoutBudget fault → IsWanting fault → ⊥
+not_wanting : (fault : ReadFault) → (not_read fault ≡ backs.Memory → ⊥) → store_fault fault ≡ None → IsWithoutBudget fault → IsWanting fault → ⊥
 not_wanting reads.Memory other none unbudgeted own = other refl
 not_wanting (reads.Source fault) other none unbudgeted own = cc none
 not_wanting (reads.List fault) other none unbudgeted own = listed_not fault.kind none unbudgeted own
-not_wanting (reads.Opening fault) other none unbudgeted own = opened_not fault none unbudgeted own
+not_wanting (reads.Opening fault) other none unbudgeted own = opened_not fault other none unbudgeted own
 not_wanting fault other none unbudgeted own = own
 
 module _ {Z : Type 0} (d : Dump Z) (budget : Option ℕ) (names parts : ℕ) (writable : layout_fault d ≡ None) (reads_within : IsWithinLimits names parts d → read_refusal (written d) All names parts ≡ None) where
-  refused : (fault : ReadFault) → (fault ≡ reads.Memory → ⊥) → ((IsWanting fault → ⊥) → read_refusal (written d) All names parts ≡ Some fault) → store_fault fault ≡ None
+  refused : (fault : ReadFault) → (not_read fault ≡ backs.Memory → ⊥) → ((IsWanting fault → ⊥) → read_refusal (written d) All names parts ≡ Some fault) → store_fault fault ≡ None
       → (budget ≡ None → IsWithoutBudget fault) → ComesBack d budget names parts (Err (backs.Read fault))
   refused fault other settles none without = (
     writable,
@@ -53,6 +54,7 @@ module _ {Z : Type 0} (d : Dump Z) (budget : Option ℕ) (names parts : ℕ) (wr
   pub not_back : (fault : ReadFault) → ((IsWanting fault → ⊥) → read_refusal (written d) All names parts ≡ Some fault) → store_fault fault ≡ None
       → (budget ≡ None → IsWithoutBudget fault) → ComesBack d budget names parts (Err (not_read fault))
   not_back reads.Memory = λ settles none without. writable
+  not_back (reads.Opening (opening.MemoryLimit held)) = λ settles none without. writable
   not_back (reads.Opening fault) = refused (reads.Opening fault) (λ same. cc same)
   not_back (reads.List fault) = refused (reads.List fault) (λ same. cc same)
   not_back (reads.PartOutside e k part offset size) = refused (reads.PartOutside e k part offset size) (λ same. cc same)

@@ -1,6 +1,7 @@
 -- A dump that is written into memory, and read back.
 use Rattle.std.specs.Prelude.{◌≡◌, ℕ, Option, Some, None, Result, Ok, Err}
 use Rattle.mdmp_lister.specs.declared.choice.Choice.TheVariants.{All}
+use Rattle.mdmp_lister.specs.declared.fault.OpenFault.TheVariants as opening
 use Rattle.mdmp_dump.specs.declared.dump.Dump.{Dump}
 use Rattle.mdmp_dump.specs.declared.fault.ReadFault.{ReadFault}
 use Rattle.mdmp_dump.specs.declared.fault.ReadFault.TheVariants as reads
@@ -14,9 +15,10 @@ use Rattle.mdmp_writer.specs.declared.round_trip.ToMemoryFault.TheVariants as fa
 use Rattle.mdmp_writer.specs.Layout.{layout_fault}
 use Rattle.mdmp_writer.specs.Written.{written}
 
--- want of memory is told as such
+-- want of memory is told as such, and so is the limit of memory
 abbrev pub not_read : ReadFault → RoundTripFault
 not_read reads.Memory = backs.Memory
+not_read (reads.Opening (opening.MemoryLimit held)) = backs.Memory
 not_read fault = backs.Read fault
 
 module _ {Z : Type 0} where

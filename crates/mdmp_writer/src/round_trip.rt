@@ -9,7 +9,7 @@ use crate::fault::{LayoutFault, WriteFault};
 use crate::laws::what_is_written_is_laid_out;
 use crate::layout::written_size;
 use mdmp_dump::{Dump, ReadFault, a_dump_within_limits_is_read, read_dump};
-use mdmp_lister::{Choice, Limits};
+use mdmp_lister::{Choice, Limits, OpenFault};
 use mdmp_source::{MemoryStore, Source, WriteOut};
 use std::alloc::Allocator;
 
@@ -30,7 +30,7 @@ pub enum RoundTripFault {
     /// What was written is not read with these limits: a name or the parts are past them, the memory
     /// lists have more than 2^28 ranges, or the budget was reached.
     Read(ReadFault),
-    /// Memory was wanting.
+    /// Memory was wanting, or reading would take more than the limit of memory.
     Memory,
 }
 
@@ -91,7 +91,8 @@ fn not_read(fault: ReadFault) -> RoundTripFault
     ensures { result ≡ not_read fault }
 {
     match fault {
-        ReadFault::Memory => RoundTripFault::Memory,
+        ReadFault::Memory | ReadFault::Opening(OpenFault::MemoryLimit { .. }) =>
+            RoundTripFault::Memory,
         fault => RoundTripFault::Read(fault),
     }
 }

@@ -2,7 +2,7 @@
 
 The exit status is the command's: 0 good, 1 the file is at fault, and its page tells of all that stands before that, 2
 the words of the command line are, 3 no memory, no room for the page, something that is missing, a file that can't be
-opened or made, or a budget that is reached, behind which the page has a first part. A day's bad files are counted, and
+opened or made, or a limit that is reached, behind which the page has a first part. A day's bad files are counted, and
 are no fault of its own.
 """
 
@@ -62,7 +62,7 @@ def page(arguments: argparse.Namespace) -> tuple[str, int]:
         if os.path.exists(arguments.out) and os.path.samefile(arguments.file, arguments.out):
             raise Trouble("the page would take the place of the dump", 2)
         size = os.stat(arguments.file).st_size
-        with _dump.open(arguments.file, budget=arguments.budget) as dump:
+        with _dump.open(arguments.file, limits=reading.page_limits(arguments.budget)) as dump:
             made, read = making.page_of(dump, os.path.basename(arguments.file), size, arguments.rows)
     except (OSError, ValueError):
         raise Trouble(f"cannot open {arguments.file}", 3) from None
@@ -134,7 +134,7 @@ def parser() -> argparse.ArgumentParser:
         "--budget",
         type=number,
         default=reading.BUDGET,
-        help="the most bytes of the file that are fetched for one of its lists",
+        help="the most bytes of the file that are read for one of its lists",
     )
     one.set_defaults(run=page)
     many = commands.add_parser(
@@ -156,7 +156,7 @@ def parser() -> argparse.ArgumentParser:
         "--budget",
         type=number,
         default=reading.BUDGET,
-        help="the most bytes of a file that are fetched for one of its lists",
+        help="the most bytes of a file that are read for one of its lists",
     )
     many.set_defaults(run=day)
     return words

@@ -10,10 +10,10 @@ from dataclasses import dataclass, field
 from typing import Callable, Hashable, Iterator, NamedTuple, Optional
 
 from .. import _dump
-from .._fault import Fault
-from .._records import SymbolKind
+from .._fault import Fault, OutputLimit
+from .._records import Module, SymbolKind
 from . import tables
-from .reading import BUDGET, Reading
+from .reading import BUDGET, Reading, page_limits
 
 ENDINGS = (".dmp", ".mdmp")
 # So many bad files are listed, the first by their names.
@@ -81,31 +81,39 @@ class Counted:
 
 
 def _words_of(fault: Fault) -> str:
+    if isinstance(fault, OutputLimit):
+        return "output limit"
     return fault.kind.name.lower().replace("_", " ")
 
 
+def _build_of(module: Module) -> tuple[Build, int]:
+    """The build of a module, and its first address."""
+    symbols = module.symbols
+    identity = tables.debug_id(symbols) if symbols and symbols.kind == SymbolKind.RSDS else ""
+    return Build(module.name, str(module.file_version), identity), module.base_of_image
+
+
 def _count_one(counted: Counted, path: str, budget: int) -> None:
-    with _dump.open(path, budget=budget) as dump:
+    with _dump.open(path, limits=page_limits(budget)) as dump:
         reading = Reading(dump, 0, 0, of_crashes=True)
         fault = reading.fault or next(
             (reading.verdict(at) for at in range(reading.verdict_count) if reading.is_bad(at)), None
         )
         if reading.is_too_long:
-            counted.judge(path, "budget", "the directory is longer than the budget")
+            counted.judge(path, "limits", "the directory is longer than the limits allow")
         else:
             counted.judge(path, _words_of(fault) if fault else "good", str(fault) if fault else "")
         counted.without += len(reading.exceptions) == 0
+        builds: dict[int, tuple[Build, int]] = {}
         for row in reading.exceptions.raw():
-            found = reading.where(row.exception_address)
-            if found is None:
+            at = reading.holder(row.exception_address)
+            if at is None:
                 crash, build = Crash(row.exception_code, None, None), Build(None, "", "")
             else:
-                module, offset = found
-                identity = (
-                    tables.debug_id(module.symbols) if module.symbols and module.symbols.kind == SymbolKind.RSDS else ""
-                )
-                crash = Crash(row.exception_code, module.name, offset)
-                build = Build(module.name, str(module.file_version), identity)
+                if at not in builds:
+                    builds[at] = _build_of(reading.modules.record(at))
+                build, base = builds[at]
+                crash = Crash(row.exception_code, build.module, row.exception_address - base)
             counted.crashes[crash] += 1
             counted.builds[build] += 1
             counted.example(crash, path)

@@ -5,7 +5,6 @@ from __future__ import annotations
 import datetime
 from typing import Any, NamedTuple
 
-from .._records import FaultKind
 from . import names, tables, text
 from .reading import Reading
 
@@ -24,16 +23,16 @@ class Fact(NamedTuple):
 
 def module_at(reading: Reading, address: int) -> str:
     """The module that holds an address and how far behind its base that is, in words."""
-    found = reading.where(address)
-    if found is None:
+    at = reading.holder(address)
+    if at is None:
         return "no module holds it"
-    module, offset = found
-    return f"{text.name(module.name)} + {offset:#x}"
+    module = reading.modules.record(at)
+    return f"{text.name(module.name)} + {address - module.base_of_image:#x}"
 
 
 def _thread(reading: Reading, thread_id: int) -> str:
     name = reading._thread_name(thread_id)
-    listed = any(row.thread_id == thread_id for row in reading.threads.raw())
+    listed = thread_id in reading.thread_ids
     named = f"{thread_id} {text.shortened(name)}" if name else str(thread_id)
     return named if listed else f"{named}, which the list of threads does not have"
 
@@ -105,16 +104,16 @@ def about(reading: Reading) -> list[Fact]:
 
 
 def verdict(reading: Reading) -> tuple[str, str]:
-    """In a sentence what the whole file is, and whether that is good or bad, or too long for the budget."""
+    """In a sentence what the whole file is, and whether that is good or bad, or too long for the limits."""
     if reading.is_too_long and reading.header:
         listed = text.of(reading.header.number_of_streams, "entry", "entries")
         return (
-            f"The directory has {listed}, more than the budget of a page has room for: nothing of them is read.",
+            f"The directory has {listed}, more than the limits of a page allow: nothing of them is read.",
             "long",
         )
-    if reading.fault and reading.fault.kind == FaultKind.BUDGET:
+    if reading.reached:
         return (
-            f"The file has more than the budget of a page has room for, and a first part is shown: {reading.fault}.",
+            f"The file has more than the limits of a page allow, and a first part is shown: {reading.reached}.",
             "long",
         )
     if reading.fault:

@@ -13,7 +13,7 @@ from typing import Any, Callable, Hashable
 from .. import _dump
 from . import bars, making, names, tables, text
 from .counting import Build, Counted, Crash
-from .reading import BUDGET
+from .reading import BUDGET, page_limits
 from .tables import Column
 
 _NUMBER = "number"
@@ -187,7 +187,7 @@ def make_page(path: str, page: str, most: int, budget: int) -> str:
 
     try:
         size = os.stat(path).st_size
-        with _dump.open(path, budget=budget) as dump:
+        with _dump.open(path, limits=page_limits(budget)) as dump:
             made, _ = making.page_of(dump, os.path.basename(path), size, most)
         write(page, made)
     except (OSError, ValueError, MemoryError, Trouble):

@@ -71,7 +71,7 @@ def rendered(template: str, columns: dict[str, list[str]], values: dict[str, Any
 def page_of(dump: Dump, name: str, size: int, most: int) -> tuple[str, Reading]:
     """The page of a dump whose file has this name and size, with at most so many rows a table, and what was read."""
     reading = Reading(dump, size, most)
-    spans = list(places.in_file(reading))
+    spans = sorted(places.in_file(reading))  # what is sorted is quick to sort again
     listed = list(tables.all_tables(reading)) if reading.header and not reading.is_too_long else []
     verdicts, over = tables.verdicts(reading), pictures.over_table(reading, spans)
     sentence, quality = crash.verdict(reading)

@@ -6,10 +6,11 @@ from typing import Any, Iterator, NamedTuple
 
 from .._records import Extent, NameState
 from . import names, text
-from .reading import Reading
+from .reading import Listing, Reading
 
-# Of each kind no more is drawn than so many.
-DRAWN = 300_000
+# So many rows are drawn, of all lists together.
+DRAWN = 100_000
+_END = 1 << 64  # of addresses
 
 
 class Span(NamedTuple):
@@ -51,14 +52,49 @@ ADDRESS_KINDS = {
 }
 
 
-def _part(place: Any, kind: str, which: int) -> Iterator[Span]:
-    if place.extent in (Extent.INSIDE, Extent.OUTSIDE):
-        yield Span(place.rva, place.rva + place.size, kind, which)
+# Plain numbers, which are compared many times.
+_THERE, _INSIDE, _NO_NAME = frozenset(map(int, (Extent.INSIDE, Extent.OUTSIDE))), int(Extent.INSIDE), int(NameState.NONE)
 
 
-def _name(place: Any) -> Iterator[Span]:
-    if place.state != NameState.NONE:
-        yield Span(place.rva, place.rva + 4 + place.size, "name", place.rva)
+def _lists(reading: Reading) -> dict[str, Listing]:
+    """The lists whose rows are drawn, with their words."""
+    return {
+        "entries": reading.streams,
+        "threads": reading.threads,
+        "modules": reading.modules,
+        "unloaded modules": reading.unloaded,
+        "exceptions": reading.exceptions,
+        "systems": reading.systems,
+        "names of threads": reading.thread_names,
+        "ranges": reading.ranges,
+    }
+
+
+def most_drawn(reading: Reading) -> int:
+    """How many rows of a list are drawn at most: so many that DRAWN rows are, and that no list is cut for a longer one."""
+    left = DRAWN
+    counts = sorted(map(len, _lists(reading).values()))
+    for at, count in enumerate(counts):
+        share = left // (len(counts) - at)
+        if count > share:
+            return share
+        left -= count
+    return DRAWN
+
+
+def _parts(listing: Listing, part: str, kind: str, most: int) -> Iterator[Span]:
+    """The parts of this name of the first records."""
+    members = listing.members(f"{part}.size", f"{part}.rva", f"{part}.extent", most=most)
+    for which, (size, rva, extent) in enumerate(members):
+        if extent in _THERE:
+            yield Span(rva, rva + size, kind, which)
+
+
+def _names(listing: Listing, name: str, most: int) -> Iterator[Span]:
+    """The names of the first records."""
+    for rva, size, state in listing.members(f"{name}.rva", f"{name}.size", f"{name}.state", most=most):
+        if state != _NO_NAME:
+            yield Span(rva, rva + 4 + size, "name", rva)
 
 
 def in_file(reading: Reading) -> Iterator[Span]:
@@ -70,60 +106,50 @@ def in_file(reading: Reading) -> Iterator[Span]:
     if header.number_of_streams:
         at = header.stream_directory_rva
         yield Span(at, at + 12 * header.number_of_streams, "directory", 0)
-    for row in reading.streams.raw(DRAWN):
-        if row.stream_type and row.size:
-            yield Span(row.rva, row.rva + row.size, "stream", row.entry)
-    for at, row in enumerate(reading.threads.raw(DRAWN)):
-        yield from _part(row.stack, "stack", at)
-        yield from _part(row.context, "context", at)
-    for row in reading.exceptions.raw(DRAWN):
-        yield from _part(row.context, "context", -1)
-    for at, row in enumerate(reading.modules.raw(DRAWN)):
-        yield from _name(row.name)
-        yield from _part(row.codeview, "codeview", at)
-        yield from _part(row.misc, "misc", at)
-    for row in reading.unloaded.raw(DRAWN):
-        yield from _name(row.name)
-    for row in reading.systems.raw(DRAWN):
-        yield from _name(row.csd_version)
-    for row in reading.thread_names.raw(DRAWN):
-        yield from _name(row.name)
-    for at, row in enumerate(reading.ranges.raw(DRAWN)):
-        if row.extent in (Extent.INSIDE, Extent.OUTSIDE) and row.size:
-            offset = row.offset | row.offset_high << 64
-            yield Span(offset, offset + row.size, "range", at)
+    most = most_drawn(reading)
+    for entry, stream_type, size, rva in reading.streams.members("entry", "stream_type", "size", "rva", most=most):
+        if stream_type and size:
+            yield Span(rva, rva + size, "stream", entry)
+    yield from _parts(reading.threads, "stack", "stack", most)
+    yield from _parts(reading.threads, "context", "context", most)
+    for span in _parts(reading.exceptions, "context", "context", most):
+        yield span._replace(which=-1)
+    yield from _names(reading.modules, "name", most)
+    yield from _parts(reading.modules, "codeview", "codeview", most)
+    yield from _parts(reading.modules, "misc", "misc", most)
+    yield from _names(reading.unloaded, "name", most)
+    yield from _names(reading.systems, "csd_version", most)
+    yield from _names(reading.thread_names, "name", most)
+    ranges = reading.ranges.members("size", "offset", "offset_high", "extent", most=most)
+    for at, (size, lower, upper, extent) in enumerate(ranges):
+        if extent in _THERE and size:
+            offset = lower | upper << 64
+            yield Span(offset, offset + size, "range", at)
 
 
-def _addresses(start: int, size: int, kind: str, which: int) -> Span:
-    return Span(start, min(start + size, 1 << 64), kind, which)
+def _addresses(rows: Iterator[tuple[int, ...]], kind: str) -> Iterator[Span]:
+    """The addresses of the first records, of each its first address and how many there are."""
+    for which, (first, count) in enumerate(rows):
+        yield Span(first, min(first + count, _END), kind, which)
 
 
 def in_memory(reading: Reading) -> Iterator[Span]:
     """What lies at which addresses, which end at 2^64 - 1 and do not wrap."""
-    for at, row in enumerate(reading.modules.raw(DRAWN)):
-        yield _addresses(row.base_of_image, row.size_of_image, "module", at)
-    for at, row in enumerate(reading.unloaded.raw(DRAWN)):
-        yield _addresses(row.base_of_image, row.size_of_image, "unloaded", at)
-    for at, row in enumerate(reading.threads.raw(DRAWN)):
-        yield _addresses(row.stack_start, row.stack.size, "stack", at)
-    for at, row in enumerate(reading.ranges.raw(DRAWN)):
-        if row.extent == Extent.INSIDE:
-            yield _addresses(row.start, row.size, "range", at)
+    most = most_drawn(reading)
+    image = ("base_of_image", "size_of_image")
+    yield from _addresses(reading.modules.members(*image, most=most), "module")
+    yield from _addresses(reading.unloaded.members(*image, most=most), "unloaded")
+    yield from _addresses(reading.threads.members("stack_start", "stack.size", most=most), "stack")
+    for at, (start, size, extent) in enumerate(reading.ranges.members("start", "size", "extent", most=most)):
+        if extent == _INSIDE:
+            yield Span(start, min(start + size, _END), "range", at)
 
 
 def not_drawn(reading: Reading) -> str:
     """Of which lists only the first records are drawn, in a sentence."""
-    lists = {
-        "entries": reading.streams,
-        "threads": reading.threads,
-        "modules": reading.modules,
-        "unloaded modules": reading.unloaded,
-        "exceptions": reading.exceptions,
-        "names of threads": reading.thread_names,
-        "ranges": reading.ranges,
-    }
-    told = [f"{text.grouped(len(listing))} {name}" for name, listing in lists.items() if len(listing) > DRAWN]
-    return f" Of {', '.join(told)} the first {text.grouped(DRAWN)} are drawn." if told else ""
+    most = most_drawn(reading)
+    told = [f"{text.grouped(len(rows))} {name}" for name, rows in _lists(reading).items() if len(rows) > most]
+    return f" Of {', '.join(told)} the first {text.grouped(most)} are drawn." if told else ""
 
 
 def label_in_file(reading: Reading, span: Span) -> str:
@@ -159,7 +185,7 @@ def label_in_memory(reading: Reading, span: Span) -> str:
 
 def next_raw(listing: Any, at: int) -> Any:
     """The raw record at a place of a listing."""
-    return listing._items[at]
+    return listing.items[at]
 
 
 def _name_text(reading: Reading, span: Span) -> str:
@@ -210,13 +236,20 @@ def gaps(spans: list[Span], end: int) -> list[tuple[int, int]]:
 def pairs(spans: list[Span], most: int) -> Iterator[tuple[Span, Span]]:
     """The first pairs of spans that lie over one another, but those at exactly one place."""
     active: list[Span] = []
+    others: list[Span] = []
     given = 0
+    place = (-1, -1)
     for span in sorted(spans):
-        active = [other for other in active if other.end > span.start][-64:]
-        for other in active:
-            if (other.start, other.end) != (span.start, span.end):
-                yield other, span
-                given += 1
-                if given >= most:
-                    return
-        active.append(span)
+        if place != (span.start, span.end):
+            place = (span.start, span.end)
+            active = others = [other for other in active if other.end > span.start][-64:]
+        else:  # thousands may lie at one place, and soon they are all that is active
+            active = active[-64:]
+            if others:
+                others = [other for other in active if (other.start, other.end) != place]
+        for other in others:
+            yield other, span
+            given += 1
+            if given >= most:
+                return
+        active = [*active, span]

@@ -2,13 +2,20 @@
 
 from __future__ import annotations
 
-from ctypes import byref
+import struct
+from ctypes import Structure, byref, sizeof
+from dataclasses import replace
+from functools import cached_property, lru_cache
+from itertools import islice
 from typing import Any, Iterator
 
 from .. import _structures
-from .._dump import Dump, _some_records
-from .._fault import Fault, expect_good, fault_of
-from .._library import library
+from .._calls import some_records
+from .._dump import Dump
+from .._fault import Fault, LimitReached, expect_good, fault_of, output_limit
+from .._images import Images
+from .._library import Filled, array_of, library
+from .._limits import UNTRUSTED, Limits
 from .._records import (
     ExceptionRecord,
     FaultKind,
@@ -23,23 +30,46 @@ from .._records import (
     UnloadedModule,
 )
 
-# The most bytes of the file that are fetched for one list: the lists of 200,000 modules need half of it.
-BUDGET = 64 << 20
+# The most bytes of the file that are read for one list: the lists of 200,000 modules need half of it.
+BUDGET = _structures.UNTRUSTED
+
+
+def page_limits(budget: int) -> Limits:
+    """The limits of strangers, with this budget."""
+    return replace(UNTRUSTED, budget=budget)
+
+
+@lru_cache(maxsize=None)
+def _unpacker(raw: type[Structure], names: tuple[str, ...]) -> struct.Struct:
+    """Gives these members of a plain structure, in the order in which they are in it."""
+    form, given = "=", 0
+    for name in names:
+        kind: Any = raw
+        at = 0
+        for part in name.split("."):
+            at += getattr(kind, part).offset
+            kind = dict(kind._fields_)[part]
+        form += f"{at - given}x{'I' if sizeof(kind) == 4 else 'Q'}"
+        given = at + sizeof(kind)
+    return struct.Struct(f"{form}{sizeof(raw) - given}x")
 
 
 class Listing:
-    """The records of one kind. They stay as the library gives them: `raw` goes over them, and `record` makes one."""
+    """The records of one kind. They stay as the library gives them, the first `count` of `items`: `raw` and `members` go over
+    them, and `record` makes one."""
 
     def __init__(self, reading: Reading, call: Any, record: Any, *limits: Any) -> None:
         self._reading, self._record = reading, record
         self.fault: Fault | None = None
-        self.count = 0
+        self._raw = getattr(_structures, record.__name__)
+        self.items, self.count = array_of(self._raw, 0)(), 0
+        reading.lists.append(self)
         if reading.is_too_long:
             return
-        filled = reading.dump._fill(call, getattr(_structures, record.__name__), _some_records, *limits)
-        self._items, self.count = filled.items, filled.given
+        filled = reading.fill(call, self._raw, *limits)
+        self.items, self.count = filled.items, filled.given
         try:
-            expect_good(filled.status, filled.fault)
+            reading.expect_whole(filled)
         except Fault as fault:
             self.fault = fault
 
@@ -49,11 +79,17 @@ class Listing:
     def raw(self, most: int | None = None) -> Iterator[Any]:
         """The first records, all of them where no number is given."""
         for at in range(self.count if most is None else min(most, self.count)):
-            yield self._items[at]
+            yield self.items[at]
+
+    def members(self, *names: str, most: int | None = None) -> Iterator[tuple[int, ...]]:
+        """These members of the first records, all of them where no number is given, for far less time than `raw` takes. They
+        are named in the order in which the structure has them, and a member of a member is `stack.size`."""
+        count = self.count if most is None else min(most, self.count)
+        return islice(_unpacker(self._raw, names).iter_unpack(self.items), count)
 
     def record(self, at: int) -> Any:
         """The record at a place of the list, with its names."""
-        return self._record._of(self._items[at], self._reading)
+        return self._record._of(self.items[at], self._reading)
 
     def records(self, most: int) -> Iterator[Any]:
         """The first records, with their names."""
@@ -65,8 +101,12 @@ class Reading:
     """A dump that is read for a page."""
 
     def __init__(self, dump: Dump, size: int, most: int, of_crashes: bool = False) -> None:
-        """`size` is the file's, `most` how many rows a table shows. Of crashes only what tells of them is read."""
+        """`size` is the file's, `most` how many rows a table shows. Of crashes only what tells of them is read. All lists
+        together keep no more than `output` of the dump's limits has room for; an index of the modules, if an address is
+        looked for, takes at most 64 bytes for each beside that."""
         self.dump, self.size, self.most = dump, size, most
+        self._room = dump.limits.output
+        self.lists: list[Listing] = []
         self.header: Header | None = None
         self.fault: Fault | None = None
         self.is_too_long = False
@@ -75,12 +115,11 @@ class Reading:
             self.header = dump.header
         except Fault as fault:
             self.fault = fault
-        budget = dump._limits.budget
-        if self.header and budget and 32 + 12 * self.header.number_of_streams > budget:
-            # nothing is listed of a directory that passes the budget, and the library has none to list it by itself
-            self.is_too_long = True
-        limits = byref(dump._limits)
+        # Nothing is listed of a directory that passes a limit, and the call that gives its entries has no limits.
+        self.is_too_long = self.header is not None and self._passes(self.header.number_of_streams)
+        limits = byref(dump._plain)
         self.modules = Listing(self, library.mdmp_modules_, Module, limits)
+        self._images: Images | None = None
         self.exceptions = Listing(self, library.mdmp_exceptions_, ExceptionRecord, limits)
         self._verdicts: Any = ()
         self.verdict_count = self.bad_count = 0
@@ -97,26 +136,60 @@ class Reading:
         self.ranges = Listing(self, library.mdmp_ranges_, Range, limits)
         self._name_threads()
 
+    def _passes(self, entries: int) -> bool:
+        """Whether a directory of so many entries is more than the limits allow to read or to hold."""
+        limits = self.dump.limits
+        held = limits.window + limits.name + 12 * entries
+        is_long = limits.budget is not None and 32 + 12 * entries > limits.budget
+        return is_long or (limits.memory is not None and held > limits.memory)
+
+    def fill(self, call: Any, item: Any, *arguments: Any) -> Filled:
+        """What a call gives, as far as there is room for it."""
+        most = None if self._room is None else self._room // sizeof(item)
+        filled = self.dump._fill(call, item, some_records, *arguments, most=most)
+        if self._room is not None:
+            self._room -= filled.given * sizeof(item)
+        return filled
+
+    def expect_whole(self, filled: Filled) -> None:
+        """Raises what ends a list, unless all of it is given."""
+        if filled.is_cut:
+            raise output_limit(self.dump.limits.output or 0, None)
+        expect_good(filled.status, filled.fault)
+
     def _read_verdicts(self, limits: Any) -> None:
-        filled = self.dump._fill(library.mdmp_verdicts_, _structures.Fault, _some_records, limits)
+        filled = self.fill(library.mdmp_verdicts_, _structures.Fault, limits)
         self._verdicts, self.verdict_count = filled.items, filled.given
         if filled.fault.kind == FaultKind.BAD_ENTRIES:
             self.bad_count = filled.fault.size
-            return
+            if not filled.is_cut:
+                return
         try:
-            expect_good(filled.status, filled.fault)
+            self.expect_whole(filled)
         except Fault as fault:
             self.fault = self.fault or fault
             self.bad_count = sum(1 for at in range(self.verdict_count) if self._verdicts[at].kind)
 
+    @property
+    def reached(self) -> LimitReached | None:
+        """The first limit that was reached, if one was."""
+        faults = [self.fault, *(listing.fault for listing in self.lists)]
+        return next((fault for fault in faults if isinstance(fault, LimitReached)), None)
+
     def _name_threads(self) -> None:
         """The first name of each thread that is shown or crashed, and of no other."""
         wanted = {row.thread_id for listing in (self.threads, self.exceptions) for row in listing.raw(self.most)}
-        for at, row in enumerate(self.thread_names.raw()):
-            if len(self._names) == len(wanted):
-                return
-            if row.thread_id in wanted and row.thread_id not in self._names:
-                self._names[row.thread_id] = self.thread_names.record(at).name
+        for at, (thread_id,) in enumerate(self.thread_names.members("thread_id")):
+            if thread_id in wanted:
+                self._names[thread_id] = self.thread_names.record(at).name
+                wanted.remove(thread_id)
+                if not wanted:
+                    return
+
+    @cached_property
+    def thread_ids(self) -> set[int]:
+        """The threads that the file lists."""
+        return {thread_id for (thread_id,) in self.threads.members("thread_id")}
 
     def verdict(self, entry: int) -> Fault | None:
         """The first fault of an entry, if it has one."""
@@ -127,12 +200,11 @@ class Reading:
         """Whether an entry has a fault."""
         return bool(self._verdicts[entry].kind)
 
-    def where(self, address: int) -> tuple[Module, int] | None:
-        """The first module that holds an address, and how far behind its base."""
-        for at, row in enumerate(self.modules.raw()):
-            if 0 <= address - row.base_of_image < row.size_of_image:
-                return self.modules.record(at), address - row.base_of_image
-        return None
+    def holder(self, address: int) -> int | None:
+        """The place in `modules` of the first module that holds an address."""
+        if self._images is None:
+            self._images = Images(self.modules.items, len(self.modules))
+        return self._images.first(address)
 
     # ---- what a record is made with
 

@@ -22,11 +22,13 @@ class _Group:
 def _distinct(spans: list[Span]) -> list[_Group]:
     """The spans in order, those at exactly one place gathered."""
     groups: list[_Group] = []
+    start = end = -1
     for span in sorted(spans):
-        if groups and (groups[-1].start, groups[-1].end) == (span.start, span.end):
+        if span[0] == start and span[1] == end:
             groups[-1].count += 1
         else:
             groups.append(_Group(span))
+            start, end = span[:2]
     return groups
 
 

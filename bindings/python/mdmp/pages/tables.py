@@ -2,7 +2,6 @@
 
 from __future__ import annotations
 
-from collections import Counter
 from dataclasses import dataclass, field
 from typing import Iterator, NamedTuple
 
@@ -192,17 +191,20 @@ def unloaded(reading: Reading) -> Table:
 
 def protections(reading: Reading) -> Table:
     """Memory by what may be done with it."""
-    counts: Counter[tuple[int, int, int]] = Counter()
-    sizes: Counter[tuple[int, int, int]] = Counter()
-    for row in reading.regions.raw():
-        key = (row.state, row.protect, row.memory_type)
-        counts[key] += 1
-        sizes[key] += row.region_size
+    found: dict[tuple[int, int, int], list[int]] = {}  # of each kind its bytes, and how many regions
+    for size, state, protect, kind in reading.regions.members("region_size", "state", "protect", "memory_type"):
+        key = (state, protect, kind)
+        counted = found.get(key)
+        if counted is None:
+            found[key] = [size, 1]
+        else:
+            counted[0] += size
+            counted[1] += 1
     rows = []
-    for key, size in sorted(sizes.items(), key=lambda item: (-item[1], item[0]))[: reading.most]:
+    for key, (size, count) in sorted(found.items(), key=lambda item: (-item[1][0], item[0]))[: reading.most]:
         state, protect, kind = key
         words = [names.state(state), names.protection(protect), names.memory_type(kind)]
-        rows.append(Row([*words, text.grouped(counts[key]), text.grouped(size)]))
+        rows.append(Row([*words, text.grouped(count), text.grouped(size)]))
     columns = [
         Column("State"),
         Column("Protection"),
@@ -219,7 +221,7 @@ def protections(reading: Reading) -> Table:
         "The file lists no regions of memory.",
         "kinds",
     )
-    table.count = len(sizes)
+    table.count = len(found)
     return table
 
 
@@ -261,7 +263,8 @@ def ranges(reading: Reading) -> Table:
             words,
         ]
         rows.append(Row(cells, "bad" if row.extent == Extent.OUTSIDE else ""))
-    held = sum(row.size for row in reading.ranges.raw() if row.extent == Extent.INSIDE)
+    inside = int(Extent.INSIDE)
+    held = sum(size for size, extent in reading.ranges.members("size", "extent") if extent == inside)
     columns = [
         Column("Number", NUMBER),
         Column("Entry", NUMBER),

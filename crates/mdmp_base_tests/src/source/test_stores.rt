@@ -76,27 +76,27 @@ fn file_store_reads_a_file(rt: HostRuntime) {
     assert_file_reads(&rt, "six_bytes", 0, 6, &SIX_BYTES);
 }
 
-/// How many bytes of a file a call for fewer reads. Calls are answered from them while they are held.
-const BLOCK: usize = 16_384;
-
-/// Reads of a file of six bytes behind zeros, of which two stand in the first block.
+/// Reads of a file of six bytes behind zeros, of which two stand in the first block, which has 512 bytes.
 const ACROSS_BLOCKS: [ReadRow; 10] = [
     (0, 4, [0; 4]),
-    (16_380, 4, *b"\0\0ab"),
-    (16_382, 2, *b"ab\0\0"),
-    (16_383, 1, *b"b\0\0\0"),
-    (16_384, 4, *b"cdef"),
-    (16_387, 1, *b"f\0\0\0"),
-    (16_388, 0, [0; 4]),
-    (16_383, 4, *b"bcde"),
-    (16_382, 4, *b"abcd"),
-    (16_400, 0, [0; 4]),
+    (508, 4, *b"\0\0ab"),
+    (510, 2, *b"ab\0\0"),
+    (511, 1, *b"b\0\0\0"),
+    (512, 4, *b"cdef"),
+    (515, 1, *b"f\0\0\0"),
+    (516, 0, [0; 4]),
+    (511, 4, *b"bcde"),
+    (510, 4, *b"abcd"),
+    (528, 0, [0; 4]),
 ];
 
 #[test]
 fn file_store_reads_across_blocks(rt: HostRuntime) {
-    assert_file_reads(&rt, "across_blocks", 16_382, 16_388, &ACROSS_BLOCKS);
+    assert_file_reads(&rt, "across_blocks", 510, 516, &ACROSS_BLOCKS);
 }
+
+/// How many bytes a block holds at most. Calls for fewer are answered from a block.
+const BLOCK: usize = 16_384;
 
 /// What one call with room for a block answers: how many it gave, and the last four of the room.
 fn block_at<S: Store>(store: &mut S, at: u64) -> Result<(usize, [u8; 4]), StoreFailed> {
@@ -145,8 +145,10 @@ fn file_store_reads_a_block_past_the_one_held(rt: HostRuntime) {
 fn file_store_answers_a_block_from_the_one_held(rt: HostRuntime) {
     let rows = [
         RoomRow::Four(2, 4, [0; 4]),
-        RoomRow::Block(2, BLOCK, *b"abcd"),
-        RoomRow::Block(6, BLOCK - 4, [0; 4]),
+        RoomRow::Block(2, 512, [0; 4]),
+        RoomRow::Block(6, 508, [0; 4]),
+        RoomRow::Block(514, 15_874, [0; 4]),
+        RoomRow::Four(16_384, 4, *b"cdef"),
         RoomRow::Block(16_386, 2, [0; 4]),
     ];
     assert_rooms(&rt, "of_the_block", &rows);

@@ -4,7 +4,7 @@ use crate::files::{CRASH_FILE, SYSTEM_FILE, Sample, file_of};
 use crate::same::assert_same;
 use linked_list_allocator::LocalHeap;
 use mdmp_dump::{MemoryRange, ReadFault, Stream, Thread};
-use mdmp_lister::Limits;
+use mdmp_lister::{Limits, OpenFault};
 use mdmp_test_support::{MODULE, OVERLAPPING};
 use std::alloc::Global;
 use std::mem::size_of;
@@ -15,6 +15,8 @@ const LIMITS: Limits = Limits {
     window: 176,
     name: 32,
     budget: None,
+    memory: None,
+    aside: None,
 };
 
 /// Why a file is not read in a heap of so many bytes, and how much of the heap is used behind it.
@@ -115,4 +117,21 @@ fn list_of_records_takes_no_more_room_than_its_records(rt: HostRuntime) {
         Sample::Numbers(1, &OVERLAPPING),
         ranges_size(),
     );
+}
+
+/// Asserts why a file of two ranges is not read, where the lists of its lister have at most so many bytes.
+fn assert_read_within(rt: &impl Abort, alloc: Global, most: u64, held: Option<u128>) {
+    let file = file_of(rt, alloc, Sample::Numbers(1, &OVERLAPPING));
+    let fault = held.map(|held| ReadFault::Opening(OpenFault::MemoryLimit { held }));
+    let found = fault_of(alloc, &file, LIMITS.limit_memory(most), 14);
+    assert_same(rt, found, fault);
+}
+
+#[test]
+fn file_is_read_at_its_limit_of_memory(rt: HostRuntime) {
+    // The window, a name, an entry and two ranges; without the ranges 220.
+    assert_read_within(&rt, rt.alloc(), 268, None);
+    assert_read_within(&rt, rt.alloc(), 267, Some(268));
+    assert_read_within(&rt, rt.alloc(), 220, Some(268));
+    assert_read_within(&rt, rt.alloc(), 219, Some(220));
 }

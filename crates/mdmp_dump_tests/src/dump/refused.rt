@@ -102,6 +102,8 @@ fn long_name_gives_no_dump(rt: HostRuntime) {
             window: 168,
             name: 8,
             budget: None,
+            memory: None,
+            aside: None,
         },
         parts: 0,
     };

@@ -16,6 +16,8 @@ const LIMITS: Limits = Limits {
     window: 176,
     name: 4096,
     budget: None,
+    memory: None,
+    aside: None,
 };
 
 /// What comes of opening a view of the thread and the exception in a heap: why it is not opened, what was

@@ -13,6 +13,8 @@ const EIGHT: Limits = Limits {
     window: 168,
     name: 8,
     budget: None,
+    memory: None,
+    aside: None,
 };
 
 /// What comes of writing a file of unloaded modules.

@@ -16,6 +16,8 @@ const EXACT: Limits = Limits {
     window: 168,
     name: 28,
     budget: None,
+    memory: None,
+    aside: None,
 };
 
 /// Too little for it.
@@ -23,6 +25,8 @@ const SHORT: Limits = Limits {
     window: 168,
     name: 27,
     budget: None,
+    memory: None,
+    aside: None,
 };
 
 /// Asserts that a dump has these bytes in memory.
@@ -145,4 +149,14 @@ fn want_of_memory_for_the_bytes_is_told(rt: HostRuntime) {
     // What is read takes less beside the dump than its bytes do.
     let wanting = (Err(ToMemoryFault::Memory), Some(RoundTripFault::Memory));
     assert_same(&rt, least_outcome(&rt, rt.alloc(), &file), Some(wanting));
+}
+
+#[test]
+fn dump_is_read_back_at_its_limit_of_memory(rt: HostRuntime) {
+    // A window of 168 bytes, 12 of an entry, and a name of 28.
+    let system = value_of(&rt, rt.alloc(), SYSTEM_READING);
+    assert_read_back(&rt, rt.alloc(), system, EXACT.limit_memory(208), 0);
+    let system = value_of(&rt, rt.alloc(), SYSTEM_READING);
+    let less = EXACT.limit_memory(207);
+    assert_not_read_back(&rt, rt.alloc(), system, less, 0, RoundTripFault::Memory);
 }

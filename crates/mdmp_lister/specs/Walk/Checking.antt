@@ -1,5 +1,5 @@
 -- What a check reads of a walk, entry by entry.
-use Rattle.std.specs.Prelude.{◌≡◌, ◌≤◌, ◌<◌, ◌+◌, ◌-◌, ℕ, List, [], ◌∷◌, ◌++◌, map, Bool, true, false, Option, None, Some, Result, Ok, Err, All, IfErr, IfOk, slice_get, vec_len}
+use Rattle.std.specs.Prelude.{◌≡◌, ◌≤◌, ◌<◌, ◌+◌, ◌-◌, ℕ, List, [], ◌∷◌, ◌++◌, map, Bool, true, false, Option, None, Some, Result, Ok, Err, All, IfErr, IfOk, slice_get}
 use Rattle.mdmp_source.specs.Source.{FetchesAtMost}
 use Rattle.mdmp_source.specs.Store.{IsGood}
 use Rattle.mdmp_map.specs.Map.{MapState}
@@ -133,7 +133,7 @@ module _ {S A : Type 0} where
     pub names : old.meter.names + names_of_all items ≤ new.meter.names
     pub cost : HasCost (unread_bytes old) old.meter.source items (unread_bytes new) new.meter.source
     pub rests : work_of new ≤ work_of old
-    pub may : MayCome old.choice old.entries.items old.meter.source.size (vec_len old.name) (cursor_of old) items (cursor_of new)
+    pub may : MayCome old.choice old.entries.items old.meter.source.size old.name.limit (cursor_of old) items (cursor_of new)
 
   -- a fault was met, and nothing was read
   pub record FaultRead (old : Walk S A) (m : MapState) (f : ListFault) (new : Walk S A) (n : MapState) : Type 0 where
@@ -176,11 +176,11 @@ module _ {S A : Type 0} where
     pub left : (file : List ℕ) → old.meter.source.store.content ≡ Some file → IsJudged (current_of old file) items result
     pub counts : Moves (names_of_all items + most_names result) (counts_of old.meter) (counts_of new.meter)
     pub names : old.meter.names + (names_of_all items + least_names result) ≤ new.meter.names
-    pub fetches : FetchesAtMost (unread_bytes old + items_cost old.meter.source.size items + judged_cost (vec_len old.name) result) old.meter.source new.meter.source
+    pub fetches : FetchesAtMost (unread_bytes old + items_cost old.meter.source.size items + judged_cost old.name.limit result) old.meter.source new.meter.source
     pub at_end : JudgeEnds old result new
     pub rests : work_of new ≤ work_of old
     -- so it may be judged, whatever the file holds
-    pub may : IfOk result (MayBeJudged old.choice old.entries.items old.meter.source.size (vec_len old.name) (cursor_of old))
+    pub may : IfOk result (MayBeJudged old.choice old.entries.items old.meter.source.size old.name.limit (cursor_of old))
 
   -- the entries behind the current one were judged, and the sink was handed the verdicts on them
   pub record EntriesChecked {K : Type 0} (step : K → Verdict → Result (Unit {0}) Stopped → K → Type 0) (old : Walk S A) (m : MapState) (k : K)
@@ -190,7 +190,7 @@ module _ {S A : Type 0} where
     pub handed : Handed step k verdicts result l
     pub each : All IsVerdict verdicts
     pub of_file : (file : List ℕ) → old.meter.source.store.content ≡ Some file
-        → JudgesFirst file (vec_len old.name) (chosen_from file old.choice old.next) verdicts items result
+        → JudgesFirst file old.name.limit (chosen_from file old.choice old.next) verdicts items result
     pub mapped : IsMapped new n
     pub same : SameRoom old new
     pub ranges : n ≡ record m { ranges = m.ranges ++ ranges_of items }
@@ -199,8 +199,8 @@ module _ {S A : Type 0} where
     pub current : IfErr result (λ _. slice_get old.entries.items (new.next - 1) ≡ Some new.current)
     pub counts : Moves (names_judged items verdicts + names_at_end result) (counts_of old.meter) (counts_of new.meter)
     pub names : old.meter.names + names_judged items verdicts ≤ new.meter.names
-    pub fetches : FetchesAtMost (check_cost old.meter.source.size (vec_len old.name) items verdicts + end_cost (vec_len old.name) result) old.meter.source new.meter.source
+    pub fetches : FetchesAtMost (check_cost old.meter.source.size old.name.limit items verdicts + end_cost old.name.limit result) old.meter.source new.meter.source
     pub failed : IfErr result (λ r. (f : ListFault) → r ≡ run.At f → FailedIn old f new)
     pub rests : work_of new ≤ work_of old
-    pub follow : AreNextVerdicts old.choice old.entries.items old.meter.source.size (vec_len old.name) old.next verdicts
-    pub ends : EndsBehind old.choice old.entries.items old.meter.source.size (vec_len old.name) (behind_judged verdicts old.next) result
+    pub follow : AreNextVerdicts old.choice old.entries.items old.meter.source.size old.name.limit old.next verdicts
+    pub ends : EndsBehind old.choice old.entries.items old.meter.source.size old.name.limit (behind_judged verdicts old.next) result

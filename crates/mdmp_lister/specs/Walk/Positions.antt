@@ -12,7 +12,8 @@ use Rattle.mdmp_lister.specs.Following.{Standing, through}
 use Rattle.mdmp_lister.specs.Format.Listing.{Run, listing_sought, records_told}
 use Rattle.mdmp_lister.specs.Stage.{IsCounted, IsUnended, StaysUnchanged, failure_of, records_left_in, standing_of, stop_of}
 use Rattle.mdmp_lister.specs.Walk.{IsSound, left_of, work_of}
-use Rattle.mdmp_lister.specs.Walk.Paying.{IsWithinSince, entry_cost, unread_bytes}
+use Rattle.mdmp_lister.specs.Walk.Paying.{IsWithinSince, unread_bytes}
+use Rattle.mdmp_lister.specs.Listed.{entry_cost}
 use Rattle.mdmp_lister.specs.Walk.Requests.{Answered, EntryTaken}
 
 -- ---- what a walker sees: of an entry that is sought nothing was read
@@ -44,7 +45,7 @@ mark_by None counts mark = mark
 
 module _ {S A : Type 0} where
   abbrev pub left_in : Position → Walk S A → List ℕ → Run
-  left_in (Sought at) w file = listing_sought file w.choice (vec_len w.name) at
+  left_in (Sought at) w file = listing_sought file w.choice w.name.limit at
   left_in _ w file = left_of w file
 
   abbrev pub unread_in : Position → Walk S A → ℕ

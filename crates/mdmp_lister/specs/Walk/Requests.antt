@@ -1,5 +1,5 @@
 -- What a request for the next item leaves of a walk.
-use Rattle.std.specs.Prelude.{◌≡◌, ◌≤◌, ◌<◌, ◌+◌, ◌-◌, ℕ, List, Option, Some, None, Result, Ok, Err, IfOk, IfErr, IfSome, IsOk, IsTrue, false, get_or, vec_len, max}
+use Rattle.std.specs.Prelude.{◌≡◌, ◌≤◌, ◌<◌, ◌+◌, ◌-◌, ℕ, List, Option, Some, None, Result, Ok, Err, IfOk, IfErr, IfSome, IsOk, IsTrue, false, get_or, length, max}
 use Rattle.mdmp_source.specs.Source.{FetchesAtMost}
 use Rattle.mdmp_source.specs.Store.{IsGood}
 use Rattle.mdmp_source.specs.declared.fault.SourceFault.{SourceFault}
@@ -32,7 +32,7 @@ module _ {S A : Type 0} where
   -- a step that was given
   pub record StepGiven (old : Walk S A) (step : Step) (new : Walk S A) : Type 0 where
     -- its name stands in the walk's buffer, and it is a record of the entry's kind
-    pub held : IsStepHeld (vec_len new.name) (kind_of new.current.stream_type) step
+    pub held : IsStepHeld (length new.name.items) (kind_of new.current.stream_type) step
     -- where it begins an entry, the stream of that entry is left to be read
     pub begins : IsUnreadBy old.meter.source.size (stream_told step) (unread_bytes old) (unread_bytes new)
     pub head : IfSome (stream_told step) (λ _. new.stage ≡ Head)
@@ -44,7 +44,7 @@ module _ {S A : Type 0} where
     pub told : IsToldIn old.current fault old.meter.source new.meter.source
     pub number : fault.entry + 1 ≡ old.next
     pub named : ReachesAtFault fault.kind old.meter new.meter
-    pub over : IsUnmade (max old.window.room (vec_len old.name)) fault.kind fault.offset fault.size (counts_of new.meter) new.meter.source.size
+    pub over : IsUnmade (max old.window.room old.name.limit) fault.kind fault.offset fault.size (counts_of new.meter) new.meter.source.size
 
   -- a request for the next item was answered so, and left the walk so
   pub record Answered (old : Walk S A) (result : Result (Option Step) ListFault) (new : Walk S A) : Type 0 where
@@ -60,10 +60,10 @@ module _ {S A : Type 0} where
     pub current : CurrentAfter result old.current new.current
     pub records : TakesRecord (records_left_in old.stage) result (records_left_in new.stage)
     -- what may be answered next, whatever the file holds
-    pub follows : stop_of old.stage ≡ None → Follows old.choice old.entries.items old.meter.source.size (vec_len old.name) (cursor_of old) result (cursor_of new)
+    pub follows : stop_of old.stage ≡ None → Follows old.choice old.entries.items old.meter.source.size old.name.limit (cursor_of old) result (cursor_of new)
     pub rests : work_of new ≤ work_of old
     -- what came off the unread bytes of the current entry's stream was fetched, and the name of the step
-    pub fetches : FetchesAtMost (unread_bytes old + stream_begun old.meter.source.size (begun_at result) + given_spent (vec_len old.name) result - unread_bytes new)
+    pub fetches : FetchesAtMost (unread_bytes old + stream_begun old.meter.source.size (begun_at result) + given_spent old.name.limit result - unread_bytes new)
         old.meter.source new.meter.source
     pub counts : Moves 1 (counts_of old.meter) (counts_of new.meter)
     pub named : IfOk result (λ given. Reaches (given_once given) old.meter new.meter)
@@ -129,7 +129,7 @@ module _ {S A : Type 0} where
     pub rests : work_of new ≤ work_of old
     -- how far the entry was given then, whatever the file holds, or a fault that may come next
     pub begins : IfOk result (λ _. standing_of old.stage ≡ begun → IsBegun old.meter.source.size old.current (Ok (standing_of new.stage)))
-    pub follows : IfErr result (λ f. stop_of old.stage ≡ None → Follows old.choice old.entries.items old.meter.source.size (vec_len old.name) (cursor_of old) (Err f) (cursor_of new))
+    pub follows : IfErr result (λ f. stop_of old.stage ≡ None → Follows old.choice old.entries.items old.meter.source.size old.name.limit (cursor_of old) (Err f) (cursor_of new))
 
   -- a request was answered so, and as much room is left as the ranges that may still be given need
   pub record StepTaken (old : Walk S A) (result : Result (Option Step) ListFault) (new : Walk S A) : Type 0 where
@@ -153,5 +153,5 @@ module _ {S A : Type 0} where
   -- a CodeView record was read, and but for what was counted and the bytes of the buffer of names the walk stays
   pub record CodeViewFetched (at : Location) (old : Walk S A) (result : Result CodeViewRead SourceFault) (new : Walk S A) : Type 0 where
     pub same : new ≡ record old { meter = new.meter; name = new.name }
-    pub room : vec_len new.name ≡ vec_len old.name
-    pub read : ReadsCodeView at (vec_len old.name) new.name.items result old.meter new.meter
+    pub room : new.name.limit ≡ old.name.limit
+    pub read : ReadsCodeView at old.name.limit new.name.items result old.meter new.meter

@@ -18,8 +18,8 @@ returns-clause-gives c = λ types_fit.
     let none = ap (λ (o : OutState). o.taken) c.new-bytes.ensures ∙ ap Some c.new-2.ensures.items in
     let wrote = sym c.into_inner-bytes.ensures ∙ ap Some (sym c.deref.ensures.value) in
     let good = c.run_copy-answer.ensures.good file record { known = known; reliable = c.new-3.ensures.same_reliable } in
-    let told = IsCopyTold-of Global file _ types c.in-Some-new.types c.args.limits.now.name c.in-Some.limits.name _ _ _ bytes answer c.copy_answer.result known (ap length whole)
-    c.in-Some-new.ensures.value c.in-Some.ensures.2 none wrote good c.copy_answer.ensures c.run_copy-answer.ensures.copies in
-    let valid : AreLimits c.args.limits.now = c.in-Some.ensures.0 in
-    Ends-given (IsCopyTold Global file types c.args.limits.now.name) (AreLimits c.args.limits.now) ⊥ bad_limits c.copy_answer.result bytes c.give_or_want.result c.give_or_want.new.size
+    let told = IsCopyTold-of Global file _ types c.in-Some-new.types c.args.limits.now c.in-Some.limits _ _ _ bytes answer c.copy_answer.result known (ap length whole)
+    c.in-Some-new.ensures.value c.in-Some.ensures none wrote good c.copy_answer.ensures c.run_copy-answer.ensures.copies c.run_copy-answer.ensures.budget c.run_copy-answer.ensures.memory in
+    let valid : AreLimits c.args.limits.now = c.in-Some.ensures.valid in
+    Ends-given (IsCopyTold Global file types c.args.limits.now) (AreLimits c.args.limits.now) (λ _. ⊥) bad_limits c.copy_answer.result bytes c.give_or_want.result c.give_or_want.new.size
     c.give_or_want.new.fault c.args.out.now c.give_or_want.new.out valid (inr (inl told)) c.give_or_want.ensures

@@ -6,10 +6,9 @@ use Rattle.mdmp_lister.proofs.Fetches.{IsGood-later}
 use Rattle.mdmp_lister.specs.Lister.{tail}
 use Rattle.mdmp_tool.proofs.Printing.{next_told, next_within}
 use Rattle.mdmp_tool.specs.Text.{next_lines}
-use Rattle.mdmp_words.specs.declared.request.LineForm.TheVariants.{Text}
 use Rattle.mdmp_tool.proofs.SameRuns.{run_then}
-use Rattle.mdmp_c.proofs.Listed.{HasGiven-next, PutsRun-end, PutsRun-fault, lines_taken}
-use Rattle.mdmp_c.proofs.Stopping.{next_over}
+use Rattle.mdmp_c.proofs.Listed.{HasGiven-next, PutsRun-end, PutsRun-ended, lines_taken}
+use Rattle.mdmp_c.proofs.Stopping.{next_aside, next_over}
 use Rattle.mdmp_c.proofs.list_part.put_items.Goals as goal
 
 pub returns-in-Ok-false : goal.returns-in-Ok-false
@@ -17,17 +16,19 @@ returns-in-Ok-false g c = λ file good run known skip room before part.
     let so_far = c.loop-lines.invariant in
     let given = so_far.part file good run known skip room before part in
     let content = so_far.source.fetches.same_content ∙ good.known in
-    let next = next_told Text c.args.pdb file _ _ given.0 _ c.in-Ok-false.field-0 false _ so_far.run.limit c.in-Ok-false.field-0-test (c.in-Ok-false.ensures.lists file content given.0 given.1.0) in
-    PutsRun-end c.args.pdb file c.args.lister.now.limit c.args.lister.now.counts.budget run given.0 before skip room _ _ _ _ _ _ given.1.1 next
+    let next = next_told c.args.form c.args.pdb file _ _ given.0 _ c.in-Ok-false.field-0 false _ so_far.run.limit c.in-Ok-false.field-0-test (c.in-Ok-false.ensures.lists file content given.0 given.1.0) in
+    PutsRun-end c.args.form c.args.pdb file c.args.lister.now.limit c.args.lister.now.counts.budget c.args.aside run given.0 before skip room _ _ _ _ _ _ given.1.1 next
 
 pub returns-in-Err : goal.returns-in-Err
 returns-in-Err g c = λ file good run known skip room before part.
     let so_far = c.loop-lines.invariant in
     let given = so_far.part file good run known skip room before part in
     let now : IsGood c.loop-lines.lister.source.store file = IsGood-later file _ _ _ so_far.source.fetches good in
-    let next = next_within Text c.args.pdb file _ _ given.0 _ (Err c.in-Err.fault) _ so_far.run.limit (c.in-Err.ensures.lists file now.known given.0 given.1.0) in
-    PutsRun-fault c.args.pdb file c.args.lister.now.limit c.args.lister.now.counts.budget run given.0 before skip room _ _ _ _ _ _ c.in-Err.fault given.1.1 next (c.in-Err.ensures.leaves.good file now)
+    let next = next_within c.args.form c.args.pdb file _ _ given.0 _ (Err c.in-Err.fault) _ so_far.run.limit (c.in-Err.ensures.lists file now.known given.0 given.1.0) in
+    PutsRun-ended c.args.form c.args.pdb file c.args.lister.now.limit c.args.lister.now.counts.budget c.args.aside run given.0 before _ skip room _ _ _ _ _ _ _ _ _ _ c.in-Err.fault _ given.1.1 next
+    (ap (λ (o : OutState). o.taken) c.new-lines.ensures ∙ ap Some c.clear.ensures.items) (sym c.into_inner.ensures) (c.end_items.ensures skip room) (c.in-Err.ensures.leaves.good file now)
     (next_over c.args.lister.now.counts.budget c.in-Err.fault c.list_next.new.lister (c.in-Err.ensures.same.budget ∙ so_far.run.budget) c.in-Err.ensures.over)
+    (next_aside c.args.aside c.in-Err.fault c.list_next.new.lister (c.in-Err.ensures.aside so_far.aside).over)
 
 pub loop-lines-preserved : goal.loop-lines-preserved
 loop-lines-preserved g c =
@@ -38,14 +39,15 @@ loop-lines-preserved g c =
       going = rest.going;
       source = record { count = so_far.source.count + of.leaves.reads.fetches.count; fetches = fetches_then _ _ _ _ _ so_far.source.fetches of.leaves.reads.fetches.fetches };
       run = run_then _ _ _ so_far.run of.same;
+      aside = (of.aside so_far.aside).kept;
       part = λ file good run known skip room before part.
           let given = so_far.part file good run known skip room before part in
           let content = so_far.source.fetches.same_content ∙ good.known in
-          let next = next_told Text c.args.pdb file _ _ given.0 _ c.in-Ok-true.field-0 true _ so_far.run.limit c.in-Ok-true.field-0-test (of.lists file content given.0 given.1.0) in
-          let line : c.deref.result.now ≡ next_lines Text c.args.pdb file c.args.lister.now.limit given.0 =
-          lines_taken _ _ c.deref.result.now c.clear.new.self.items (next_lines Text c.args.pdb file c.args.lister.now.limit given.0)
+          let next = next_told c.args.form c.args.pdb file _ _ given.0 _ c.in-Ok-true.field-0 true _ so_far.run.limit c.in-Ok-true.field-0-test (of.lists file content given.0 given.1.0) in
+          let line : c.deref.result.now ≡ next_lines c.args.form c.args.pdb file c.args.lister.now.limit given.0 =
+          lines_taken _ _ c.deref.result.now c.clear.new.self.items (next_lines c.args.form c.args.pdb file c.args.lister.now.limit given.0)
           (ap (λ (o : OutState). o.taken) c.new-lines.ensures) c.clear.ensures.items next.1 (sym c.into_inner-line.ensures ∙ ap Some (sym c.deref.ensures.value)) in (
             tail given.0,
-            (rw given.1.0 at rest.left, HasGiven-next c.args.pdb file c.args.lister.now.limit run given.0 before c.deref.result.now skip room _ _ _ _ _ _ _ _ given.1.1 line (c.in_default.ensures skip room)),
+            (rw given.1.0 at rest.left, HasGiven-next c.args.form c.args.pdb file c.args.lister.now.limit run given.0 before c.deref.result.now skip room _ _ _ _ _ _ _ _ given.1.1 line (c.in_default.ensures skip room)),
           );
     }

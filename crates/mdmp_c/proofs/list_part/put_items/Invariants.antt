@@ -1,4 +1,5 @@
-use Rattle.std.proofs.Common.{◌≡◌, ℕ, List, Some, None}
+use Rattle.std.proofs.Common.{◌≡◌, ℕ, List, Some, None, true}
+use Rattle.mdmp_lister.specs.Memory.{is_within}
 use Rattle.mdmp_source.specs.Source.{FetchesSome}
 use Rattle.mdmp_source.specs.Store.{IsGood}
 use Rattle.mdmp_lister.specs.Format.Listing.{Run}
@@ -13,10 +14,11 @@ invariant-loop-lines g l = record {
   going : l.lister.stop ≡ None;
   source : FetchesSome l.initial.lister.source l.lister.source;
   run : IsSameRun l.initial.lister l.lister;
+  aside : is_within l.aside l.lister.counts.aside.bytes ≡ true;
   part : (file : List ℕ) → IsGood l.initial.lister.source.store file → (run : Run) → l.initial.lister.left ≡ Some run → (skip room : ℕ) (before : List ℕ)
       → IsPartOf skip room before l.initial.part.skip l.initial.part.room l.initial.part.size l.initial.part.kept.items
       → (left : Run) × ((l.lister.left ≡ Some left)
-      × HasGiven l.pdb file l.initial.lister.limit run before skip room left l.part.skip l.part.room l.part.size l.part.kept.items);
+      × HasGiven l.form l.pdb file l.initial.lister.limit run before skip room left l.part.skip l.part.room l.part.size l.part.kept.items);
 }
 
 abbrev pub decreases-loop-lines : goal.decreases-loop-lines

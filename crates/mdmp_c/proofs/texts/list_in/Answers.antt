@@ -1,29 +1,8 @@
-use Rattle.std.proofs.Common.{◌∙◌, ℕ, Some, ap, sym, subst}
-use Rattle.mdmp_source.specs.Output.{OutState}
-use Rattle.mdmp_c.specs.declared.fault.PlainFault.{PlainFault}
-use Rattle.mdmp_c.specs.Giving.{bad_limits}
-use Rattle.mdmp_c.specs.Limits.{AreLimits, HasBudget}
-use Rattle.mdmp_c.specs.Texts.{IsList}
-use Rattle.mdmp_c.specs.ToolFault.{list_answer}
-use Rattle.mdmp_c.proofs.Stopping.{run_over}
-use Rattle.mdmp_c.proofs.Told.{Ends-given, IsList-told, MayTell}
+use Rattle.mdmp_c.specs.Limits.{AreLimits, ReachesLimit}
+use Rattle.mdmp_c.proofs.Listed.{Ends-whole}
 use Rattle.mdmp_c.proofs.texts.list_in.Goals as goal
 
 pub returns : goal.returns
 returns c =
-    let file = c.args.file.now in
-    let text = c.deref.result.now in
-    let answer = c.run_list-answer.result in
-    let known = c.new-2.ensures.same_content in
-    let none = ap (λ (o : OutState). o.taken) c.new-text.ensures ∙ ap Some c.new.ensures.items in
-    let is = sym c.into_inner-text.ensures ∙ ap Some (sym c.deref.ensures.value) in
-    let read = c.run_list-answer.ensures.tells.good file record { known = known; reliable = c.new-2.ensures.same_reliable } in
-    let runs = c.run_list-answer.ensures.lists file known in
-    let can_stop = HasBudget c.args.limits.now in
-    let can = run_over c.args.limits.now c.in-Some.limits _ answer c.in-Some.ensures.3 c.run_list-answer.ensures.budget in
-    let told = IsList-told c.args.form c.args.pdb file c.in-Some.limits.name can_stop _ _ text answer none is read can runs in
-    let named = subst (λ (n : ℕ). MayTell (IsList c.args.form c.args.pdb file n) can_stop (list_answer answer) text) c.in-Some.ensures.2 told in
-    let valid : AreLimits c.args.limits.now = c.in-Some.ensures.0 in
-    Ends-given (IsList c.args.form c.args.pdb file c.args.limits.now.name) (AreLimits c.args.limits.now) can_stop bad_limits c.list_answer.result text c.give_or_want.result c.give_or_want.new.size c.give_or_want.new.fault
-    c.args.out.now c.give_or_want.new.out valid
-    (subst (λ (f : PlainFault). MayTell (IsList c.args.form c.args.pdb file c.args.limits.now.name) can_stop f text) (sym c.list_answer.ensures) named) c.give_or_want.ensures
+    Ends-whole c.args.form c.args.pdb c.args.file.now c.args.limits.now.name (AreLimits c.args.limits.now) (ReachesLimit c.args.limits.now) c.give_list.result c.give_list.new.size
+    c.give_list.new.fault c.args.out.now c.give_list.new.out c.give_list.ensures

@@ -1,4 +1,4 @@
-use Rattle.std.proofs.Common.{refl, sym}
+use Rattle.std.proofs.Common.{refl}
 use Rattle.mdmp_dump.proofs.body.rows_size.Goals as goal
 
 pub returns-in-Some-clause-value : goal.returns-in-Some-clause-value

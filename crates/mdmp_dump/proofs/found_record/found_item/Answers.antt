@@ -1,4 +1,4 @@
-use Rattle.std.proofs.Common.{◌≡◌, ℕ, arith, subst}
+use Rattle.std.proofs.Common.{ℕ, arith, subst}
 use Rattle.mdmp_dump.specs.FoundRecord.{AreIn}
 use Rattle.mdmp_dump.proofs.Taking.{refused_by}
 use Rattle.mdmp_dump.proofs.Rooms.{seen_inside}

@@ -1,4 +1,4 @@
-use Rattle.std.proofs.Common.{◌≡◌, refl}
+use Rattle.std.proofs.Common.{refl}
 use Rattle.mdmp_dump.proofs.Taking.{refused_by}
 use Rattle.mdmp_dump.proofs.Founding.{module_codeview, module_found, module_misc, module_name}
 use Rattle.mdmp_dump.proofs.Rooms.{module_room_most}

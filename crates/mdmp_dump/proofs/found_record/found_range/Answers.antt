@@ -1,4 +1,4 @@
-use Rattle.std.proofs.Common.{◌≡◌, ◌∙◌, refl}
+use Rattle.std.proofs.Common.{◌∙◌, refl}
 use Rattle.mdmp_dump.proofs.Taking.{refused_by}
 use Rattle.mdmp_dump.proofs.Founding.{memory64_found, memory_found, range_fits, range_refused}
 use Rattle.mdmp_dump.proofs.Rooms.{far_room_most, part_room_most}

@@ -1,4 +1,4 @@
-use Rattle.std.proofs.Common.{◌≡◌, refl}
+use Rattle.std.proofs.Common.{refl}
 use Rattle.mdmp_dump.proofs.Taking.{refused_by}
 use Rattle.mdmp_dump.proofs.Founding.{thread_context, thread_found, thread_stack}
 use Rattle.mdmp_dump.proofs.Rooms.{thread_room_most}

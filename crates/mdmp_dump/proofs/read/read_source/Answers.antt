@@ -6,7 +6,7 @@ use Rattle.mdmp_dump.specs.Left.{run_of}
 use Rattle.mdmp_dump.specs.Reading.{owed, read_within, refusal_of}
 use Rattle.mdmp_dump.specs.Refusal.{read_refusal}
 use Rattle.mdmp_dump.proofs.Opened.{opened-head, opened_behind, opening-fetches, opening-settles, tells_none, tells_of, wants_behind}
-use Rattle.mdmp_dump.proofs.ReadWithin.{fetches-within, refusal-without, settles-within, without}
+use Rattle.mdmp_dump.proofs.ReadWithin.{fetches-within, limited-within, opening-limited, refusal-without, settles-within, without}
 use Rattle.mdmp_dump.proofs.Taking.{fetches_err, fetches_ok}
 use Rattle.mdmp_dump.proofs.read.read_source.Goals as goal
 
@@ -78,6 +78,14 @@ returns-in-Err-read_streams-clause-tells g c =
     rw c.told_within.ensures (tells_of {T = Unit {0}} (read_within c.args.limits.budget c.in-Err-read_streams.fault) c.args.source c.read_streams.new.reader.lister.source
     (fetches-within c.args.limits.budget c.in-Err-read_streams.fault c.args.source c.read_streams.new.reader.lister.source (fetches_err c.args.source c.in-Ok.lister.source c.read_streams.new.reader.lister.source (record { count = _; fetches = c.in-Ok.ensures.new.fetches }) c.in-Err-read_streams.fault c.in-Err-read_streams.ensures.fetches))
     (λ is file known. opened_behind file c.args.choice (c.in-Ok.ensures.opens file known)))
+
+pub returns-in-Err-clause-limited : goal.returns-in-Err-clause-limited
+returns-in-Err-clause-limited g c =
+    rw c.refusal.ensures (opening-limited c.args.limits c.args.choice c.args.source c.in-Err.refused.fault c.in-Err.refused.source c.in-Err.ensures.over c.in-Err.ensures.within)
+
+pub returns-in-Err-read_streams-clause-limited : goal.returns-in-Err-read_streams-clause-limited
+returns-in-Err-read_streams-clause-limited g c =
+    rw c.told_within.ensures (limited-within c.args.limits c.args.choice c.args.source.store.content c.args.limits.budget c.in-Err-read_streams.fault)
 
 pub returns-in-Err-clause-unbudgeted : goal.returns-in-Err-clause-unbudgeted
 returns-in-Err-clause-unbudgeted g c = λ none.

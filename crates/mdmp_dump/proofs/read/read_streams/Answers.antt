@@ -1,4 +1,4 @@
-use Rattle.std.proofs.Common.{◌≡◌, Err, Ok, refl}
+use Rattle.std.proofs.Common.{Err, Ok, refl}
 use Rattle.mdmp_dump.proofs.Walked.{all_read, awaited_going, fewer_left, more_read, more_refused, never_none, none_read, none_refused, none_refused_behind}
 use Rattle.mdmp_dump.proofs.Taking.{FetchesSome_then, Fetches_as, Fetches_memory, fetches_err, refused_by}
 use Rattle.mdmp_dump.proofs.read.read_streams.Goals as goal

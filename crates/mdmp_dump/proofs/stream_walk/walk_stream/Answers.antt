@@ -1,72 +1,79 @@
-use Rattle.std.proofs.Common.{◌≡◌, ◌*◌, arith, subst, sym}
+use Rattle.std.proofs.Common.{◌≡◌, ◌+◌, ◌*◌, ◌∙◌, ap, arith, inr, subst, sym, Ok, Err}
+use Rattle.mdmp_wire.specs.declared.entry.Entry.{Entry}
+use Rattle.mdmp_lister.specs.Meter.{KeepsTo}
+use Rattle.mdmp_dump.specs.declared.found_record.PartAt.{PartAt}
 use Rattle.mdmp_dump.specs.declared.stream_walk.Walked.{Walked}
-use Rattle.mdmp_dump.specs.EntryWalk.{Pays, chosen_entry, listed, name_cost}
-use Rattle.mdmp_dump.specs.FileView.{kind_at}
+use Rattle.mdmp_dump.specs.EntryWalk.{Begins, Pays, WalkState, chosen_entry, listed, name_cost, pass_cost, raw_part}
+use Rattle.mdmp_dump.specs.FileView.{PaysUpTo, kind_at}
+use Rattle.mdmp_dump.specs.Placed.{size_in}
+use Rattle.mdmp_dump.specs.Reading.{Fetches}
 use Rattle.mdmp_dump.specs.Shape.{GivesNone}
-use Rattle.mdmp_dump.proofs.Taking.{Fetches_as, Fetches_only}
-use Rattle.mdmp_dump.proofs.WalkedOver.{unbegun_paid, walking_begins, walking_ends, walking_fetches, walking_goes, walking_paid, walking_refused, walking_unbegun}
+use Rattle.mdmp_dump.proofs.Budgets.{budget_told, walk_opens}
+use Rattle.mdmp_dump.proofs.Taking.{FetchesSome_none, Fetches_as, Fetches_only}
+use Rattle.mdmp_dump.proofs.WalkedOver.{budget_fetches, budget_refuses, untouched_paid, walking_begins, walking_ends, walking_fetches, walking_goes, walking_keeps, walking_paid, walking_refused, walking_unbegun}
 use Rattle.mdmp_dump.proofs.stream_walk.walk_stream.Goals as goal
 
+pub begin-requires : goal.begin-requires
+begin-requires g c = rw c.entry-entry.ensures.same c.requires.within
+
 pub loop-index-init : goal.loop-index-init
-loop-index-init g c = walking_begins g.row.A.Denot c.args.limit c.args.walk.now c.args.stream c.in-Ok.count c.begin.new.self c.in-Ok.ensures
+loop-index-init g c =
+    let begins = subst (λ (v : WalkState). Begins v c.args.stream (Ok c.in-Ok-begin.count) c.begin.new.self) c.entry-entry.ensures.same c.in-Ok-begin.ensures in
+    let part = ap (λ (p : PartAt). size_in p.size) (c.raw_part.ensures ∙ ap raw_part c.entry-entry.ensures.value) in
+    walking_begins g.row.A.Denot c.args.limit c.args.walk.now c.args.stream c.in-Ok-begin.count c.begin.new.self c.from-asks.result (c.from-asks.ensures ∙ c.size.ensures ∙ part) (omega (arith, c.from-asks.ensures, c.size.type_inv)) begins
 
 pub loop-index-preserved : goal.loop-index-preserved
 loop-index-preserved g c =
-    walking_goes g.row.A.Denot c.args.limit c.args.walk.now c.args.stream c.in-Ok.count c.loop-index.walk c.loop-index.index c.loop-index.room c.loop-index.invariant c.next_record.new.self c.in-Ok-next_record.found c.fields.result c.met_room-room.result
-    c.in-Ok-next_record.ensures c.loop-index-test.true c.fields.ensures c.met_room-room.ensures
+    walking_goes g.row.A.Denot c.args.limit c.args.walk.now c.args.stream c.in-Ok-begin.count c.loop-index.walk c.loop-index.index c.loop-index.room c.loop-index.asks c.loop-index.invariant c.next_record.new.self c.in-Ok-next_record.found c.fields-fields.result c.met_room-room.result
+    c.part_bytes-asks.result c.in-Ok-next_record.ensures c.loop-index-test.true c.fields-fields.ensures c.met_room-room.ensures c.part_bytes-asks.ensures.value c.part_bytes-asks.ensures.bound
+
+-- ---- a budget that has no room for the stream
 
 pub returns-in-Err-clause-pays : goal.returns-in-Err-clause-pays
-returns-in-Err-clause-pays g c = unbegun_paid g.row.A.Denot c.args.limit c.args.walk.now c.args.stream c.in-Err.fault c.begin.new.self c.in-Err.ensures
+returns-in-Err-clause-pays g c = subst (λ (v : WalkState). PaysUpTo c.args.stream c.args.walk.now v) (sym c.entry-entry.ensures.same) (untouched_paid g.row.A.Denot c.args.limit c.args.walk.now c.args.stream)
 
 pub returns-in-Err-clause-told : goal.returns-in-Err-clause-told
-returns-in-Err-clause-told g c = let told = c.in-Err.ensures.told in rw told.1.0 told.1.1
+returns-in-Err-clause-told g c = budget_told c.args.spending.budget (c.args.spending.spent + pass_cost c.entry-entry.result 0) _ _ c.in-Err.fault c.in-Err.ensures.told c.in-Err.ensures.kept
 
 pub returns-in-Err-clause-of_file : goal.returns-in-Err-clause-of_file
-returns-in-Err-clause-of_file g c = walking_unbegun g.row.A.Denot c.args.limit c.args.walk.now c.args.stream c.in-Err.fault c.begin.new.self c.in-Err.ensures
-
-pub returns-in-Err-next_record-clause-pays : goal.returns-in-Err-next_record-clause-pays
-returns-in-Err-next_record-clause-pays g c = walking_paid g.row.A.Denot c.args.limit c.args.walk.now c.args.stream c.in-Ok.count c.loop-index.walk c.loop-index.index c.loop-index.room c.loop-index.invariant c.next_record.new.self c.in-Err-next_record.fault c.in-Err-next_record.ensures c.loop-index-test.true
-
-pub returns-in-Err-next_record-clause-of_file : goal.returns-in-Err-next_record-clause-of_file
-returns-in-Err-next_record-clause-of_file g c = walking_refused g.row.A.Denot c.args.limit c.args.walk.now c.args.stream c.in-Ok.count c.loop-index.walk c.loop-index.index c.loop-index.room c.loop-index.invariant c.next_record.new.self c.in-Err-next_record.fault c.in-Err-next_record.ensures
-
-pub returns-in-Err-next_record-clause-fetches : goal.returns-in-Err-next_record-clause-fetches
-returns-in-Err-next_record-clause-fetches g c = walking_fetches g.row.A.Denot c.args.limit c.args.walk.now c.args.stream c.in-Ok.count c.loop-index.walk c.loop-index.index c.loop-index.room c.loop-index.invariant c.next_record.new.self {T = Walked} c.in-Err-next_record.fault c.in-Err-next_record.ensures
-
-pub returns-clause-pays : goal.returns-clause-pays
-returns-clause-pays g c =
-    let all : c.loop-index.index ≡ c.in-Ok.count = omega (arith, c.loop-index-test.false, c.loop-index.auto.index-end) in
-    let w = c.args.walk.now in
-    let e = (chosen_entry w c.args.stream).entry in
-    subst (λ n. Pays (listed e) (n * name_cost e.stream_type) w c.loop-index.walk) all c.loop-index.invariant.pays
-
-pub returns-clause-of_file : goal.returns-clause-of_file
-returns-clause-of_file g c =
-    let all : c.loop-index.index ≡ c.in-Ok.count = omega (arith, c.loop-index-test.false, c.loop-index.auto.index-end) in
-    walking_ends g.row.A.Denot c.args.limit c.args.walk.now c.args.stream c.in-Ok.count c.loop-index.walk c.loop-index.index c.loop-index.room c.loop-index.invariant all
-
-pub returns-clause-bare : goal.returns-clause-bare
-returns-clause-bare g c =
-    let all : c.loop-index.index ≡ c.in-Ok.count = omega (arith, c.loop-index-test.false, c.loop-index.auto.index-end) in
-    λ none. c.loop-index.invariant.bare (subst (λ n. GivesNone (kind_at c.args.walk.now c.args.stream) n) (sym all) none)
-
-pub begin-requires : goal.begin-requires
-begin-requires g c = c.requires.within
-
-pub returns-in-Err-clause-goes : goal.returns-in-Err-clause-goes
-returns-in-Err-clause-goes g c = tt
-
-pub returns-in-Err-clause-counts : goal.returns-in-Err-clause-counts
-returns-in-Err-clause-counts g c = tt
-
-pub returns-in-Err-clause-bare : goal.returns-in-Err-clause-bare
-returns-in-Err-clause-bare g c = tt
+returns-in-Err-clause-of_file g c = λ F known. budget_refuses g.row.A.Denot c.args.limit c.args.walk.now c.args.stream c.in-Err.fault _ _ c.in-Err.ensures.told F
 
 pub returns-in-Err-clause-fetches : goal.returns-in-Err-clause-fetches
-returns-in-Err-clause-fetches g c = Fetches_as c.in-Err.fault c.args.walk.now.source c.begin.new.self.source (c.in-Err.ensures.fetches c.requires.going)
+returns-in-Err-clause-fetches g c =
+    subst (λ (v : WalkState). Fetches {T = Walked} (Err c.in-Err.fault) c.args.walk.now.source v.source) (sym c.entry-entry.ensures.same)
+    (budget_fetches g.row.A.Denot c.args.limit c.args.walk.now c.args.stream {T = Walked} c.in-Err.fault _ _ c.args.walk.now c.in-Err.ensures.told c.requires.long (FetchesSome_none c.args.walk.now.source))
 
-pub next_record-requires : goal.next_record-requires
-next_record-requires g c = omega (arith, c.loop-index-test.true, c.loop-index.invariant.left)
+-- ---- a stream that is not begun
+
+pub returns-in-Err-begin-clause-of_file : goal.returns-in-Err-begin-clause-of_file
+returns-in-Err-begin-clause-of_file g c =
+    let begins = subst (λ (v : WalkState). Begins v c.args.stream (Err c.in-Err-begin.fault) c.begin.new.self) c.entry-entry.ensures.same c.in-Err-begin.ensures in
+    walking_unbegun g.row.A.Denot c.args.limit c.args.walk.now c.args.stream c.in-Err-begin.fault c.begin.new.self begins
+
+pub returns-in-Err-begin-clause-fetches : goal.returns-in-Err-begin-clause-fetches
+returns-in-Err-begin-clause-fetches g c =
+    let begins = subst (λ (v : WalkState). Begins v c.args.stream (Err c.in-Err-begin.fault) c.begin.new.self) c.entry-entry.ensures.same c.in-Err-begin.ensures in
+    Fetches_as c.in-Err-begin.fault c.args.walk.now.source c.begin.new.self.source (begins.fetches c.requires.going)
+
+-- ---- a record that is refused
+
+pub returns-in-Err-next_record-clause-pays : goal.returns-in-Err-next_record-clause-pays
+returns-in-Err-next_record-clause-pays g c = walking_paid g.row.A.Denot c.args.limit c.args.walk.now c.args.stream c.in-Ok-begin.count c.loop-index.walk c.loop-index.index c.loop-index.room c.loop-index.asks c.loop-index.invariant c.next_record.new.self c.in-Err-next_record.fault c.in-Err-next_record.ensures c.loop-index-test.true
+
+pub returns-in-Err-next_record-clause-of_file : goal.returns-in-Err-next_record-clause-of_file
+returns-in-Err-next_record-clause-of_file g c = walking_refused g.row.A.Denot c.args.limit c.args.walk.now c.args.stream c.in-Ok-begin.count c.loop-index.walk c.loop-index.index c.loop-index.room c.loop-index.asks c.loop-index.invariant c.next_record.new.self c.in-Err-next_record.fault c.in-Err-next_record.ensures
+
+pub returns-in-Err-next_record-clause-fetches : goal.returns-in-Err-next_record-clause-fetches
+returns-in-Err-next_record-clause-fetches g c = walking_fetches g.row.A.Denot c.args.limit c.args.walk.now c.args.stream c.in-Ok-begin.count c.loop-index.walk c.loop-index.index c.loop-index.room c.loop-index.asks c.loop-index.invariant c.next_record.new.self {T = Walked} c.in-Err-next_record.fault c.in-Err-next_record.ensures
+
+pub returns-in-Err-next_record-clause-kept : goal.returns-in-Err-next_record-clause-kept
+returns-in-Err-next_record-clause-kept g c =
+    let kept = subst (λ (e : Entry). KeepsTo c.args.spending.budget (c.args.spending.spent + pass_cost e c.in-Ok-begin.count)) c.entry-entry.ensures.value c.in-Ok-keep_to_budget.ensures.kept in
+    inr (walking_keeps g.row.A.Denot c.args.limit c.args.walk.now c.args.stream c.in-Ok-begin.count c.loop-index.walk c.loop-index.index c.loop-index.room c.loop-index.asks c.loop-index.invariant c.next_record.new.self c.args.spending.budget c.args.spending.spent
+    c.in-Err-next_record.fault c.in-Err-next_record.ensures c.loop-index-test.true kept)
+
+pub returns-in-Err-next_record-clause-told : goal.returns-in-Err-next_record-clause-told
+returns-in-Err-next_record-clause-told g c = walk_opens c.args.spending.budget c.in-Err-next_record.fault c.in-Err-next_record.ensures.told
 
 pub returns-in-Err-next_record-clause-goes : goal.returns-in-Err-next_record-clause-goes
 returns-in-Err-next_record-clause-goes g c = tt
@@ -77,11 +84,30 @@ returns-in-Err-next_record-clause-counts g c = tt
 pub returns-in-Err-next_record-clause-bare : goal.returns-in-Err-next_record-clause-bare
 returns-in-Err-next_record-clause-bare g c = tt
 
-pub returns-in-Err-next_record-clause-told : goal.returns-in-Err-next_record-clause-told
-returns-in-Err-next_record-clause-told g c = c.in-Err-next_record.ensures.told
+pub next_record-requires : goal.next_record-requires
+next_record-requires g c = omega (arith, c.loop-index-test.true, c.loop-index.invariant.left)
 
 pub loop-index-smaller : goal.loop-index-smaller
 loop-index-smaller g c = omega (arith, c.loop-index-test.true)
+
+-- ---- all of them
+
+pub returns-clause-pays : goal.returns-clause-pays
+returns-clause-pays g c =
+    let all : c.loop-index.index ≡ c.in-Ok-begin.count = omega (arith, c.loop-index-test.false, c.loop-index.auto.index-end) in
+    let w = c.args.walk.now in
+    let e = (chosen_entry w c.args.stream).entry in
+    subst (λ n. Pays (listed e) (n * name_cost e.stream_type) w c.loop-index.walk) all c.loop-index.invariant.pays
+
+pub returns-clause-of_file : goal.returns-clause-of_file
+returns-clause-of_file g c =
+    let all : c.loop-index.index ≡ c.in-Ok-begin.count = omega (arith, c.loop-index-test.false, c.loop-index.auto.index-end) in
+    walking_ends g.row.A.Denot c.args.limit c.args.walk.now c.args.stream c.in-Ok-begin.count c.loop-index.walk c.loop-index.index c.loop-index.room c.loop-index.asks c.cost_of.result c.loop-index.invariant all
+
+pub returns-clause-bare : goal.returns-clause-bare
+returns-clause-bare g c =
+    let all : c.loop-index.index ≡ c.in-Ok-begin.count = omega (arith, c.loop-index-test.false, c.loop-index.auto.index-end) in
+    λ none. c.loop-index.invariant.bare (subst (λ n. GivesNone (kind_at c.args.walk.now c.args.stream) n) (sym all) none)
 
 pub returns-clause-goes : goal.returns-clause-goes
 returns-clause-goes g c = c.loop-index.invariant.going

@@ -5,8 +5,8 @@ use Rattle.mdmp_lister.specs.CodeView.{fetched_behind}
 use Rattle.mdmp_lister.proofs.CodeViews.{fetched_within, front-kept, front-past}
 use Rattle.mdmp_lister.proofs.codeview.read_codeview.Goals as goal
 
-pub returns : goal.returns
-returns g c =
+pub returns-clause-reads : goal.returns-clause-reads
+returns-clause-reads g c =
     let read = c.in_ok-rest.ensures in
     let size = c.args.location.size in
     let front = c.fetch_codeview.new.head in
@@ -16,18 +16,19 @@ returns g c =
     record {
       reads = record {
         of_file = λ file known.
-            ap (λ (head : List ℕ). codeview_in head (take c.in_ok-rest.rest c.fetch_codeview.new.rest) size) kept ∙ read.reads.of_file file known;
+            ap (λ (head : List ℕ). codeview_in head (take c.in_ok-rest.rest c.fetch_codeview.new.rest.items) size) kept ∙ read.reads.of_file file known;
         books = read.reads.books;
         caused = read.reads.caused;
       };
-      held = subst (λ n. n ≤ length c.fetch_codeview.new.rest) (sym read.room) (fetched_within front size (length c.fetch_codeview.new.rest));
+      held = subst (λ n. n ≤ c.fetch_codeview.new.rest.limit) (sym read.room) (fetched_within front size c.fetch_codeview.new.rest.limit);
+      lent = read.holds;
       fetches = record {
         fetched = record {
           size_is = refl;
           zeros =
               let left : 24 - c.min-fetched.result ≡ 24 - size = omega (arith, c.min-fetched.ensures) in
               front-past front past (min size 24) fetched ∙ drop-replicate c.min-fetched.result 24 0 ∙ ap (λ n. replicate n 0) left;
-          rest_is = read.room ∙ ap (λ (head : List ℕ). fetched_behind head size (length c.fetch_codeview.new.rest)) (sym kept);
+          rest_is = read.room ∙ ap (λ (head : List ℕ). fetched_behind head size c.fetch_codeview.new.rest.limit) (sym kept);
         };
         books = read.books;
       };

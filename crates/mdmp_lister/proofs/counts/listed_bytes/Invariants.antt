@@ -1,5 +1,5 @@
 use Rattle.std.proofs.Common.{◌≡◌, ◌≤◌, ◌+◌, ◌*◌, ◌^◌, drop}
-use Rattle.mdmp_lister.specs.Walk.Paying.{cost_of}
+use Rattle.mdmp_lister.specs.Listed.{cost_of}
 use Rattle.mdmp_lister.proofs.counts.listed_bytes.Given as goal
 
 -- the bytes of the first entries were counted

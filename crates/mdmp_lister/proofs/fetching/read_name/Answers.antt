@@ -1,4 +1,4 @@
-use Rattle.std.proofs.Common.{◌≡◌, ◌≤◌, ◌+◌, None, Err, arith, length, refl, rules}
+use Rattle.std.proofs.Common.{◌≡◌, ◌≤◌, ◌+◌, None, Err, arith, refl, rules}
 use Rattle.mdmp_lister.specs.declared.fetching.NameRead.TheVariants.{Long, Units}
 use Rattle.mdmp_lister.specs.Fault.{fault_of_fetch}
 use Rattle.mdmp_lister.specs.Meter.{store_fault_of}
@@ -13,11 +13,11 @@ returns-in_err-check_units-clause-reads g c =
     let bad = c.in_err-check_units in
     let read = c.in_ok-length.ensures in
     let is : c.from_residual-in_err-check_units.result ≡ Err bad.field-0.0 = search rules in
-    rw is (name_bad (length c.args.buffer.now) c.args.rva c.args.meter.now c.reach_name.new.self c.read_length.new.meter c.reach_name.ensures c.if-rva-eq0.false 1 4 read.books (omega arith) (omega arith)
+    rw is (name_bad c.args.buffer.now.limit c.args.rva c.args.meter.now c.reach_name.new.self c.read_length.new.meter c.reach_name.ensures c.if-rva-eq0.false 1 4 read.books (omega arith) (omega arith)
     (omega arith) read.caused _ _ c.in_ok-length.length bad.field-0.0 (rw c.check_units.ensures at bad.was))
 
 pub returns-then-rva-eq0-clause-some : goal.returns-then-rva-eq0-clause-some
-returns-then-rva-eq0-clause-some g c = some_none c.args.meter.now.source.size (length c.args.buffer.now) c.args.rva c.if-rva-eq0.true
+returns-then-rva-eq0-clause-some g c = some_none c.args.meter.now.source.size c.args.buffer.now.limit c.args.rva c.if-rva-eq0.true
 
 pub returns-then-not-inside-clause-some : goal.returns-then-not-inside-clause-some
 returns-then-not-inside-clause-some g c = some_outside _ _ c.args.rva c.faulted.result c.if-rva-eq0.false (search rules) c.faulted.ensures
@@ -30,11 +30,11 @@ returns-in_err-check_units-clause-some g c =
     let bad = c.in_err-check_units in
     some_bad _ _ c.args.rva c.in_ok-length.length c.check_units.result bad.field-0.0 c.from_residual-in_err-check_units.result c.if-rva-eq0.false (search rules) (search rules) bad.was (search rules)
 
-pub returns-then-buffer-length-clause-some : goal.returns-then-buffer-length-clause-some
-returns-then-buffer-length-clause-some g c = some_long _ _ c.args.rva c.in_ok-length.length c.if-rva-eq0.false (search rules) (search rules) (omega arith)
+pub returns-then-limit-length-clause-some : goal.returns-then-limit-length-clause-some
+returns-then-limit-length-clause-some g c = some_long _ _ c.args.rva c.in_ok-length.length c.if-rva-eq0.false (search rules) (search rules) (omega arith)
 
-pub returns-in_err-fetch_front-clause-some : goal.returns-in_err-fetch_front-clause-some
-returns-in_err-fetch_front-clause-some g c = some_failed _ _ c.args.rva c.from_residual-in_err-fetch_front.result (search rules) (search rules)
+pub returns-in_err-fetch-clause-some : goal.returns-in_err-fetch-clause-some
+returns-in_err-fetch-clause-some g c = some_failed _ _ c.args.rva c.from_residual-in_err-fetch.result (search rules) (search rules)
 
 pub returns-clause-some : goal.returns-clause-some
 returns-clause-some g c = some_units _ _ c.args.rva c.in_ok-length.length c.if-rva-eq0.false (search rules) (search rules) (omega arith)
@@ -44,35 +44,35 @@ returns-in_err-length-clause-reads g c =
     let fault = c.in_err-length.field-0.0 in
     let read = c.in_err-length.ensures in
     let is : c.from_residual.result ≡ Err (fault_of_fetch fault) = search rules in
-    rw is (name_unread (length c.args.buffer.now) c.args.rva c.args.meter.now c.reach_name.new.self c.read_length.new.meter c.reach_name.ensures c.if-rva-eq0.false 1 4 read.books (omega arith) (omega arith)
+    rw is (name_unread c.args.buffer.now.limit c.args.rva c.args.meter.now c.reach_name.new.self c.read_length.new.meter c.reach_name.ensures c.if-rva-eq0.false 1 4 read.books (omega arith) (omega arith)
     4 fault (omega arith) read.refused read.caused)
 
-pub returns-then-buffer-length-clause-reads : goal.returns-then-buffer-length-clause-reads
-returns-then-buffer-length-clause-reads g c =
+pub returns-then-limit-length-clause-reads : goal.returns-then-limit-length-clause-reads
+returns-then-limit-length-clause-reads g c =
     let read = c.in_ok-length.ensures in
-    name_obtained (length c.args.buffer.now) c.args.rva c.args.meter.now c.reach_name.new.self c.read_length.new.meter c.reach_name.ensures c.if-rva-eq0.false 1 4 read.books (omega arith) (omega arith)
+    name_obtained c.args.buffer.now.limit c.args.rva c.args.meter.now c.reach_name.new.self c.read_length.new.meter c.reach_name.ensures c.if-rva-eq0.false 1 4 read.books (omega arith) (omega arith)
     (Long c.in_ok-length.length) (omega arith) refl read.caused
 
-pub returns-in_err-fetch_front-clause-reads : goal.returns-in_err-fetch_front-clause-reads
-returns-in_err-fetch_front-clause-reads g c =
+pub returns-in_err-fetch-clause-reads : goal.returns-in_err-fetch-clause-reads
+returns-in_err-fetch-clause-reads g c =
     let bytes = c.in_ok-length.length in
-    let fault = c.in_err-fetch_front.field-0.0 in
+    let fault = c.in_err-fetch.field-0.0 in
     let first = c.in_ok-length.ensures in
-    let then = c.in_err-fetch_front.ensures in
-    let few : bytes ≤ length c.fetch_front.new.buffer = omega (arith, c.if-buffer-length.false, c.fetch_front.auto.buffer) in
-    let is : c.from_residual-in_err-fetch_front.result ≡ Err (fault_of_fetch fault) = search rules in
-    rw is (name_unread (length c.fetch_front.new.buffer) c.args.rva c.args.meter.now c.reach_name.new.self c.fetch_front.new.meter c.reach_name.ensures c.if-rva-eq0.false 2 (4 + bytes)
-    (Books-then 1 1 2 4 bytes (4 + bytes) c.reach_name.new.self c.read_length.new.meter c.fetch_front.new.meter (omega arith) (omega arith) first.books then.books) (omega arith) (omega (arith, few))
+    let then = c.in_err-fetch.ensures.reads in
+    let few : bytes ≤ c.fetch.new.self.limit = omega (arith, c.if-limit-length.false, c.limit.ensures, c.fetch.ensures.limit) in
+    let is : c.from_residual-in_err-fetch.result ≡ Err (fault_of_fetch fault) = search rules in
+    rw is (name_unread c.fetch.new.self.limit c.args.rva c.args.meter.now c.reach_name.new.self c.fetch.new.meter c.reach_name.ensures c.if-rva-eq0.false 2 (4 + bytes)
+    (Books-then 1 1 2 4 bytes (4 + bytes) c.reach_name.new.self c.read_length.new.meter c.fetch.new.meter (omega arith) (omega arith) first.books then.books) (omega arith) (omega (arith, few))
     bytes fault (omega (arith, few)) then.refused
-    (IsCaused_later (store_fault_of {T = Unit {0}} (Err fault)) 4 c.reach_name.new.self.source c.read_length.new.meter.source c.fetch_front.new.meter.source first.books.fetches first.caused then.caused))
+    (IsCaused_later (store_fault_of {T = Unit {0}} (Err fault)) 4 c.reach_name.new.self.source c.read_length.new.meter.source c.fetch.new.meter.source first.books.fetches first.caused then.caused))
 
 pub returns-clause-reads : goal.returns-clause-reads
 returns-clause-reads g c =
     let bytes = c.in_ok-length.length in
     let first = c.in_ok-length.ensures in
-    let then = c.in_ok-fetch_front.ensures in
-    let few : bytes ≤ length c.fetch_front.new.buffer = omega (arith, c.if-buffer-length.false, c.fetch_front.auto.buffer) in
-    name_obtained (length c.fetch_front.new.buffer) c.args.rva c.args.meter.now c.reach_name.new.self c.fetch_front.new.meter c.reach_name.ensures c.if-rva-eq0.false 2 (4 + bytes)
-    (Books-then 1 1 2 4 bytes (4 + bytes) c.reach_name.new.self c.read_length.new.meter c.fetch_front.new.meter (omega arith) (omega arith) first.books then.books) (omega arith) (omega (arith, few))
+    let then = c.in_ok-fetch.ensures.reads in
+    let few : bytes ≤ c.fetch.new.self.limit = omega (arith, c.if-limit-length.false, c.limit.ensures, c.fetch.ensures.limit) in
+    name_obtained c.fetch.new.self.limit c.args.rva c.args.meter.now c.reach_name.new.self c.fetch.new.meter c.reach_name.ensures c.if-rva-eq0.false 2 (4 + bytes)
+    (Books-then 1 1 2 4 bytes (4 + bytes) c.reach_name.new.self c.read_length.new.meter c.fetch.new.meter (omega arith) (omega arith) first.books then.books) (omega arith) (omega (arith, few))
     (Units bytes) (omega arith) refl
-    (IsCaused_later None 4 c.reach_name.new.self.source c.read_length.new.meter.source c.fetch_front.new.meter.source first.books.fetches first.caused then.caused)
+    (IsCaused_later None 4 c.reach_name.new.self.source c.read_length.new.meter.source c.fetch.new.meter.source first.books.fetches first.caused then.caused)

@@ -2,7 +2,7 @@ use Rattle.std.proofs.Common.{◌≡◌, ◌-◌, ◌≤◌, ◌<◌, ℕ, List,
 use Rattle.mdmp_lister.specs.Format.Directory.{IsDirectory}
 use Rattle.mdmp_wire.specs.declared.entry.Entry.{Entry}
 use Rattle.mdmp_lister.specs.Format.Listing.{chosen_from, is_chosen}
-use Rattle.mdmp_lister.specs.Walk.Paying.{cost_by}
+use Rattle.mdmp_lister.specs.Listed.{cost_by}
 use Rattle.mdmp_lister.proofs.opening.next_chosen.Given as goal
 
 -- the entries passed are not chosen

@@ -1,4 +1,4 @@
-use Rattle.std.proofs.Common.{◌≡◌, ◌∙◌, ◌+◌, ℕ, List, ap, sym, subst, arith}
+use Rattle.std.proofs.Common.{◌≡◌, ◌∙◌, ◌+◌, ℕ, List, ap, sym, subst, arith, None, refl}
 use Rattle.std.specs.Prelude.{Result}
 use Rattle.mdmp_wire.specs.declared.header.Header.{Header}
 use Rattle.mdmp_lister.specs.declared.choice.Choice.TheVariants.{All}
@@ -11,7 +11,7 @@ use Rattle.mdmp_tool.specs.CheckText.{bad_count, verdict_lines}
 use Rattle.mdmp_tool.specs.CheckRuns.{CheckEnds}
 use Rattle.mdmp_tool.specs.Engines.{Leaves, WritesText, past_faults}
 use Rattle.mdmp_tool.proofs.Checking.{PutsPrefix-first, StopsShort-first, bad-taken, bad_entries, lines-stopped, lines-taken, name-stopped, name-taken, told-cause, told-source}
-use Rattle.mdmp_tool.proofs.SameRuns.{over_listing, run_list, run_none}
+use Rattle.mdmp_tool.proofs.SameRuns.{over_listing, run_list, run_none, aside_listing}
 use Rattle.mdmp_tool.proofs.check.check_listed.Goals as goal
 
 pub returns-in-Ok-clause-same_output : goal.returns-in-Ok-clause-same_output
@@ -112,3 +112,6 @@ returns-in-Err-Stopped-clause-same g c = run_list _ _ _ (run_none _) c.in-Err-St
 
 pub returns-in-Err-At-clause-over : goal.returns-in-Err-At-clause-over
 returns-in-Err-At-clause-over g c = rw c.told_list.ensures (over_listing ℕ c.in-Err-At.fault c.check_into.new.self (c.in-Err-At.ensures.refused c.in-Err-At.fault c.in-Err-At.field-0-is))
+
+pub returns-in-Err-At-clause-aside : goal.returns-in-Err-At-clause-aside
+returns-in-Err-At-clause-aside g c = rw c.told_list.ensures (aside_listing ℕ None c.in-Err-At.fault c.check_into.new.self refl)

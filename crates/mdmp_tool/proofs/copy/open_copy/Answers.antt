@@ -22,6 +22,9 @@ returns-in_default-clause-tells g c = record {
   changed = tt;
 }
 
+pub returns-in_default-clause-within : goal.returns-in_default-clause-within
+returns-in_default-clause-within g c = λ most is. omega (arith, c.into_source.ensures.booked, c.in-Ok.ensures.kept most is, c.in-Ok.ensures.new.start)
+
 pub returns-in-Err : goal.returns-in-Err
 returns-in-Err g c =
     let of = c.in-Err.ensures in
@@ -37,8 +40,19 @@ returns-in-Err g c =
       buffer = tt;
       cost = λ file known. tt;
       held = tt;
+      needs = λ file known. tt;
+      kept = λ most is. tt;
+      within = of.within;
+      over = of.over;
       tells = of.tells;
+      limited = of.limited;
     }
+
+pub returns-clause-needs : goal.returns-clause-needs
+returns-clause-needs g c = c.in-Ok.ensures.needs
+
+pub returns-clause-kept : goal.returns-clause-kept
+returns-clause-kept g c = c.in-Ok.ensures.kept
 
 pub returns-clause-views : goal.returns-clause-views
 returns-clause-views g c = c.in-Ok.ensures.views

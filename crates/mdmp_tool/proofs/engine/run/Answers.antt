@@ -1,4 +1,4 @@
-use Rattle.mdmp_tool.proofs.SameRuns.{may_reach}
+use Rattle.mdmp_tool.proofs.SameRuns.{may_reach, may_reach_aside, may_reach_memory}
 use Rattle.mdmp_tool.proofs.engine.run.Goals as goal
 
 pub returns-clause-runs : goal.returns-clause-runs
@@ -7,4 +7,12 @@ returns-clause-runs g c = λ file known. c.run_source-answer.ensures.runs file (
 pub returns-clause-budget : goal.returns-clause-budget
 returns-clause-budget g c =
     let of = c.run_source-answer.ensures in
-    rw (c.new.ensures.size, c.new.ensures.store) at (may_reach c.args.limits c.new.result _ _ of.reads.fetches.fetches.same_size of.through)
+    rw (c.new.ensures.size, c.new.ensures.store) at (may_reach _ c.new.result _ _ of.reads.fetches.fetches.same_size of.through)
+
+pub returns-clause-aside : goal.returns-clause-aside
+returns-clause-aside g c =
+    let of = c.run_source-answer.ensures in
+    rw (c.new.ensures.size, c.new.ensures.store) at (may_reach_aside _ c.new.result _ _ of.reads.fetches.fetches.same_size of.through)
+
+pub returns-clause-memory : goal.returns-clause-memory
+returns-clause-memory g c = may_reach_memory _ c.new.result _ _ c.run_source-answer.ensures.through

@@ -23,4 +23,4 @@ pub returns-clause-through : goal.returns-clause-through
 returns-clause-through g c =
     let run = c.run_source-answered in
     rw c.flushed.ensures.source
-    (through_flushed c.args.limits c.args.source run.result.source run.result.answer c.flushed.result.answer run.new.out.inner c.flushed.new.blocks.inner c.flushed.ensures.ends run.ensures.through)
+    (through_flushed _ c.args.source run.result.source run.result.answer c.flushed.result.answer run.new.out.inner c.flushed.new.blocks.inner c.flushed.ensures.ends run.ensures.through)

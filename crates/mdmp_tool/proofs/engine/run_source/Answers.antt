@@ -4,11 +4,13 @@ use Rattle.mdmp_tool.proofs.Engining.{IsQuiet-behind, IsRefusal-behind, Runs-ope
 use Rattle.mdmp_lister.specs.Format.Refusal.{opening_fault}
 use Rattle.mdmp_lister.specs.Counts.{AreHeld, AreSpent}
 use Rattle.mdmp_lister.specs.declared.counts.Counts.{Counts}
+use Rattle.mdmp_lister.specs.declared.limits.Limits.{Limits}
 use Rattle.mdmp_lister.specs.Lister.{Rooms}
-use Rattle.mdmp_tool.specs.Causes.{MayChange}
-use Rattle.mdmp_tool.specs.Engines.{IsBehind, IsReadThrough, Runs, Tells, directly, unless_refused}
+use Rattle.mdmp_tool.specs.Causes.{HasMemoryCause, MayChange}
+use Rattle.mdmp_tool.specs.Telling.{opening_beside}
+use Rattle.mdmp_tool.specs.Engines.{Access, IsBehind, IsReadThrough, Runs, Tells, directly, unless_refused}
 use Rattle.mdmp_tool.specs.declared.fault.ToolFault.{ToolFault}
-use Rattle.mdmp_tool.proofs.SameRuns.{early_opening, over_opening}
+use Rattle.mdmp_tool.proofs.SameRuns.{early_opening, kept_leaving, memory_opening, over_opening, run_within}
 use Rattle.mdmp_tool.proofs.engine.run_source.Goals as goal
 
 pub returns-in-Err-clause-runs : goal.returns-in-Err-clause-runs
@@ -16,23 +18,24 @@ returns-in-Err-clause-runs g c = λ file known.
     let before = g.O.Out.state c.args.out.now in
     let ends = g.E.Engine.Ends c.args.engine file c.args.limits.name in
     let text = unless_refused (opening_fault file g.E.Engine.choice) (g.E.Engine.text c.args.engine file c.args.limits.name) in
-    subst (λ (f : ToolFault). Runs file g.E.Engine.choice ends g.E.Engine.pace text before (Err f) before) (sym c.told_opening.ensures)
-    (Runs-unopened file g.E.Engine.choice ends g.E.Engine.pace text before c.in-Err.refused.fault (rw c.chosen.ensures at (c.in-Err.ensures.opens file known)))
+    subst (λ (f : ToolFault). Runs file g.E.Engine.choice ends g.E.Engine.pace text before (Err f) before) (sym c.refused_beside.ensures)
+    (Runs-unopened file g.E.Engine.choice ends g.E.Engine.pace text before c.beside-beside.result c.in-Err.refused.fault (rw c.chosen.ensures at (c.in-Err.ensures.opens file known)))
 
 pub returns-in-Err-clause-tells : goal.returns-in-Err-clause-tells
 returns-in-Err-clause-tells g c =
     let of = c.in-Err.ensures in
     let before = g.O.Out.state c.args.out.now in
-    subst (λ (f : ToolFault). Tells {T = g.row.E-Answer.Denot} directly g.E.Engine.pace c.args.source.store c.args.source.size before (Err f) before) (sym c.told_opening.ensures)
-    (Tells-unopened g.row.E-Answer.Denot g.E.Engine.pace before c.in-Err.refused.fault c.args.source c.in-Err.refused.source of.good of.refusal of.short of.cause)
+    subst (λ (f : ToolFault). Tells {T = g.row.E-Answer.Denot} directly g.E.Engine.pace c.args.source.store c.args.source.size before (Err f) before) (sym c.refused_beside.ensures)
+    (Tells-unopened g.row.E-Answer.Denot g.E.Engine.pace before c.beside-beside.result c.in-Err.refused.fault c.args.source c.in-Err.refused.source of.good of.refusal of.short of.cause)
 
 pub returns-clause-runs : goal.returns-clause-runs
 returns-clause-runs g c = λ file known.
     let new = c.in-Ok.ensures.new in
     let put = c.put-answer.ensures in
     let now = new.fetches.same_content ∙ known in
+    let limit = new.list.asked.limit_is ∙ ap (λ (l : Limits). l.name) c.leave_memory.ensures in
     Runs-opened file g.E.Engine.choice (g.E.Engine.Ends c.args.engine file c.args.limits.name) g.E.Engine.pace (g.E.Engine.text c.args.engine file c.args.limits.name) _ _ (g.O.Out.state c.args.out.now) c.put-answer.result (g.O.Out.state c.put-answer.new.out)
-    (rw c.chosen.ensures at (c.in-Ok.ensures.opens file known)) put.leaves.behind (rw new.list.asked.limit_is at (put.ends file now)) (rw new.list.asked.limit_is at (put.writes file now))
+    (rw c.chosen.ensures at (c.in-Ok.ensures.opens file known)) put.leaves.behind (rw limit at (put.ends file now)) (rw limit at (put.writes file now))
 
 pub returns-clause-tells : goal.returns-clause-tells
 returns-clause-tells g c =
@@ -64,21 +67,29 @@ returns-clause-reads g c =
 pub returns-in-Err-clause-through : goal.returns-in-Err-clause-through
 returns-in-Err-clause-through g c =
     let back = c.in-Err.ensures.handed_back in
-    subst (λ (f : ToolFault). IsReadThrough {T = g.row.E-Answer.Denot} c.args.limits c.args.source (Err f) c.in-Err.refused.source) (sym c.told_opening.ensures)
-    (IsReadThrough.refused back.asked (early_opening g.row.E-Answer.Denot c.in-Err.refused.fault)
-    (over_opening g.row.E-Answer.Denot c.args.limits c.args.source c.in-Err.refused.fault c.in-Err.refused.source c.in-Err.ensures.kept) back.bound back.inside)
+    let beside = c.beside-beside.result in
+    let access : Access = record { limits = c.args.limits; choice = g.E.Engine.choice; held = g.E.Engine.held c.args.engine; aside = g.E.Engine.aside c.args.engine } in
+    let memory = memory_opening g.row.E-Answer.Denot c.args.limits g.E.Engine.choice beside c.args.source c.in-Err.refused.fault c.in-Err.refused.source (search rules) (search rules)
+    (rw c.leave_memory.ensures at c.in-Err.ensures.over) (λ file known. rw (c.leave_memory.ensures, c.chosen.ensures) at (c.in-Err.ensures.within file known)) in
+    subst (λ (f : ToolFault). IsReadThrough {T = g.row.E-Answer.Denot} access c.args.source (Err f) c.in-Err.refused.source) (sym c.refused_beside.ensures)
+    (IsReadThrough.refused back.asked (early_opening g.row.E-Answer.Denot beside c.in-Err.refused.fault)
+    (over_opening g.row.E-Answer.Denot beside c.args.limits c.args.source c.in-Err.refused.fault c.in-Err.refused.source (kept_leaving beside c.args.limits c.args.source c.in-Err.refused.fault c.in-Err.refused.source (rw c.leave_memory.ensures at c.in-Err.ensures.kept))) (subst (λ (n : ℕ). HasMemoryCause {T = g.row.E-Answer.Denot} c.args.limits g.E.Engine.choice n c.args.source (Err (opening_beside beside c.in-Err.refused.fault))) c.beside-beside.ensures memory) back.bound back.inside)
 
 pub returns-clause-through : goal.returns-clause-through
 returns-clause-through g c =
     let new = c.in-Ok.ensures.new.list in
     let same = c.put-answer.ensures.same in
     let counts = c.counts-counts.ensures in
+    let under = c.leave_memory.ensures in
     rw c.into_source.ensures.value (IsReadThrough.listed (record {
       lister = c.put-answer.new.lister;
-      window = ap (λ (r : Rooms). r.window) same.rooms ∙ new.asked.window_room;
-      limit = same.limit ∙ new.asked.limit_is;
-      budget = same.budget ∙ new.counts.budget_is;
+      window = ap (λ (r : Rooms). r.window) same.rooms ∙ new.asked.window_room ∙ ap (λ (l : Limits). l.window) under;
+      limit = same.limit ∙ new.asked.limit_is ∙ ap (λ (l : Limits). l.name) under;
+      budget = same.budget ∙ new.counts.budget_is ∙ ap (λ (l : Limits). l.budget) under;
       over = c.put-answer.ensures.over;
+      aside_kept = c.put-answer.ensures.aside;
+      memory = rw (← c.beside-beside.ensures) (run_within c.args.limits c.leave_memory.result c.beside-beside.result _ c.put-answer.new.lister under same new.asked.window_room new.memory);
+      within = c.put-answer.ensures.within;
       source = refl;
       start = same.start ∙ new.counts.start;
       held = subst (λ (n : Counts). AreHeld c.put-answer.new.lister n) counts.value counts.held;

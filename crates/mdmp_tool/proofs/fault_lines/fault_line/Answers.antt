@@ -31,3 +31,12 @@ returns-in-Memory g c = subst (λ (f : ToolFault). Puts c.put_memory_fault.resul
 
 pub returns-in-NotCopied : goal.returns-in-NotCopied
 returns-in-NotCopied g c = subst (λ (f : ToolFault). Puts c.put_not_copied.result (g.O.Out.state c.args.out.now) (error_line (own_text f)) (g.O.Out.state c.put_not_copied.new.out)) (sym c.in-NotCopied.is ∙ c.fault_as_told.ensures) c.put_not_copied.ensures
+
+pub returns-in-MemoryLimit : goal.returns-in-MemoryLimit
+returns-in-MemoryLimit g c = subst (λ (f : ToolFault). Puts c.put_memory_limit.result (g.O.Out.state c.args.out.now) (error_line (own_text f)) (g.O.Out.state c.put_memory_limit.new.out)) (sym c.in-MemoryLimit.is ∙ c.fault_as_told.ensures) c.put_memory_limit.ensures
+
+pub returns-in-AsideLimit : goal.returns-in-AsideLimit
+returns-in-AsideLimit g c = subst (λ (f : ToolFault). Puts c.put_aside_limit.result (g.O.Out.state c.args.out.now) (error_line (own_text f)) (g.O.Out.state c.put_aside_limit.new.out)) (sym c.in-AsideLimit.is ∙ c.fault_as_told.ensures) c.put_aside_limit.ensures
+
+pub returns-in-CopyBudget : goal.returns-in-CopyBudget
+returns-in-CopyBudget g c = subst (λ (f : ToolFault). Puts c.put_copy_budget.result (g.O.Out.state c.args.out.now) (error_line (own_text f)) (g.O.Out.state c.put_copy_budget.new.out)) (sym c.in-CopyBudget.is ∙ c.fault_as_told.ensures) c.put_copy_budget.ensures

@@ -23,3 +23,6 @@ returns-in-Memory g c = rw c.in-Memory.is c.put_memory_fault.ensures
 
 pub returns-in-TooManyRanges : goal.returns-in-TooManyRanges
 returns-in-TooManyRanges g c = rw c.in-TooManyRanges.is c.put_too_many_ranges.ensures
+
+pub returns-in-MemoryLimit : goal.returns-in-MemoryLimit
+returns-in-MemoryLimit g c = rw c.in-MemoryLimit.is c.put_memory_limit.ensures

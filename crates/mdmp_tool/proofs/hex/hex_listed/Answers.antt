@@ -1,9 +1,9 @@
-use Rattle.std.proofs.Common.{rules, ◌≡◌, ◌∙◌, ◌+◌, ℕ, length, arith, refl, subst}
+use Rattle.std.proofs.Common.{rules, ◌≡◌, ◌∙◌, ◌+◌, ℕ, length, arith, refl, subst, None}
 use Rattle.mdmp_source.specs.SourceLaws.{fetches_then}
 use Rattle.mdmp_lister.specs.FaultLaws.{ranges_fit}
 use Rattle.mdmp_tool.specs.Engines.{IsBehind, at_the_end}
 use Rattle.mdmp_tool.proofs.Hexing.{HexesRun-printed}
-use Rattle.mdmp_tool.proofs.SameRuns.{over_listing, run_list, run_none, run_then}
+use Rattle.mdmp_tool.proofs.SameRuns.{over_listing, run_list, run_none, run_then, aside_listing}
 use Rattle.mdmp_tool.proofs.Symbols.{Leaves-listed}
 use Rattle.mdmp_tool.proofs.hex.hex_listed.Goals as goal
 
@@ -49,3 +49,6 @@ returns-in_default-vec-clause-same g c = run_list _ _ _ (run_none _) c.list_rang
 
 pub returns-in_default-clause-same : goal.returns-in_default-clause-same
 returns-in_default-clause-same g c = run_list _ _ _ (run_none _) c.list_ranges.ensures.same
+
+pub returns-in-Err-clause-aside : goal.returns-in-Err-clause-aside
+returns-in-Err-clause-aside g c = rw c.told_list.ensures (aside_listing (Unit {0}) None c.in-Err.fault c.list_ranges.new.self refl)

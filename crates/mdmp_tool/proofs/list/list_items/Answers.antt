@@ -1,9 +1,9 @@
-use Rattle.std.proofs.Common.{◌∙◌, ◌+◌, Ok, Err, true, false, ap}
+use Rattle.std.proofs.Common.{◌∙◌, ◌+◌, Ok, Err, true, false, ap, Bool}
 use Rattle.mdmp_source.specs.SourceLaws.{fetches_then}
 use Rattle.mdmp_lister.specs.Lister.{tail}
 use Rattle.mdmp_tool.proofs.Printing.{HasPrinted-next, ListsRun-end, ListsRun-fault, next_told, next_within}
 use Rattle.mdmp_tool.proofs.Symbols.{Leaves-fault, Leaves-later, refused_by}
-use Rattle.mdmp_tool.proofs.SameRuns.{run_then}
+use Rattle.mdmp_tool.proofs.SameRuns.{run_then, aside_fault}
 use Rattle.mdmp_tool.proofs.list.list_items.Goals as goal
 
 pub returns-in_err-list_next-clause-lists : goal.returns-in_err-list_next-clause-lists
@@ -32,6 +32,7 @@ loop-preserved g c =
       source = record { count = so_far.source.count + of.leaves.reads.fetches.count; fetches = fetches_then _ _ _ _ _ so_far.source.fetches of.leaves.reads.fetches.fetches };
       run = run_then _ _ _ so_far.run of.same;
       steady = of.leaves.out_cause ∙ so_far.steady;
+      aside = (of.aside so_far.aside).kept;
       printed = λ file content run known.
           let printed = so_far.printed file content run known in
           let next = next_told c.args.form c.args.pdb file _ _ printed.0 _ _ true _ so_far.run.limit c.if-branch.true (of.lists file (so_far.source.fetches.same_content ∙ content) printed.0 printed.1.0) in (
@@ -57,3 +58,12 @@ returns-clause-leaves g c =
       reads = record { cause = tt; fetches = record { count = so_far.source.count + left.reads.fetches.count; fetches = fetches_then _ _ _ _ _ so_far.source.fetches left.reads.fetches.fetches } };
       out_cause = left.out_cause ∙ so_far.steady;
     }
+
+pub returns-in_err-list_next-clause-aside : goal.returns-in_err-list_next-clause-aside
+returns-in_err-list_next-clause-aside g c =
+    let f = c.in_err-list_next.field-0.0 in
+    let is = refused_by c.from_residual.result f c.from_residual.ensures.1 in
+    rw is (aside_fault Bool (Unit {0}) c.args.aside f _ (c.in_err-list_next.ensures.aside c.loop.invariant.aside))
+
+pub returns-clause-aside : goal.returns-clause-aside
+returns-clause-aside g c = record { kept = (c.in_ok-list_next.ensures.aside c.loop.invariant.aside).kept; over = tt }

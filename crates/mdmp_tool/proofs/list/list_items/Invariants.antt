@@ -1,4 +1,5 @@
-use Rattle.std.proofs.Common.{◌≡◌, ℕ, List, Some, None}
+use Rattle.std.proofs.Common.{◌≡◌, ℕ, List, Some, None, true}
+use Rattle.mdmp_lister.specs.Memory.{is_within}
 use Rattle.mdmp_source.specs.Source.{FetchesSome}
 use Rattle.mdmp_lister.specs.Format.Listing.{Run}
 use Rattle.mdmp_tool.specs.Engines.{IsSameRun}
@@ -12,6 +13,7 @@ invariant-loop g l = record {
   source : FetchesSome l.initial.lister.source l.lister.source;
   run : IsSameRun l.initial.lister l.lister;
   steady : (g.O.Out.state l.out).failures ≡ (g.O.Out.state l.initial.out).failures;
+  aside : is_within l.aside l.lister.counts.aside.bytes ≡ true;
   printed : (file : List ℕ) → l.initial.lister.source.store.content ≡ Some file → (run : Run) → l.initial.lister.left ≡ Some run
       → (left : Run) × ((l.lister.left ≡ Some left)
       × HasPrinted l.form l.pdb file l.initial.lister.limit run (g.O.Out.state l.initial.out) left (g.O.Out.state l.out));

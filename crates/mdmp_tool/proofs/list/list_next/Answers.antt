@@ -6,7 +6,7 @@ use Rattle.mdmp_lister.specs.Format.Item.{plain}
 use Rattle.mdmp_tool.specs.Engines.{up_to_a_fault}
 use Rattle.mdmp_tool.specs.Runs.{PutsSymbols}
 use Rattle.mdmp_tool.proofs.Symbols.{IsBehindNext-aside, Leaves-cut, Leaves-done, Leaves-fault, Leaves-later, Leaves-listed, ListsNext-cut, ListsNext-fault, ListsNext-line, ListsNext-symbols, end-more, fault-more, refused_by, symbols-inside, symbols_text-is}
-use Rattle.mdmp_tool.proofs.SameRuns.{over_fault, over_listing, run_list, run_none, run_then}
+use Rattle.mdmp_tool.proofs.SameRuns.{over_fault, over_listing, run_list, run_none, run_then, aside_fault, aside_listing, aside_same}
 use Rattle.mdmp_tool.proofs.list.list_next.Goals as goal
 
 pub returns-in-Err-put_item-clause-lists : goal.returns-in-Err-put_item-clause-lists
@@ -124,3 +124,23 @@ returns-in-Err-clause-rest g c = fault-more _
 
 pub returns-in-Err-clause-same : goal.returns-in-Err-clause-same
 returns-in-Err-clause-same g c = run_list _ _ _ (run_none _) c.next.follows.holds-at-none.list.same
+
+pub returns-in-Ok-None-clause-aside : goal.returns-in-Ok-None-clause-aside
+returns-in-Ok-None-clause-aside g c = λ kept. record { kept = aside_same c.args.aside _ _ c.next.follows.holds-at-none.list.same kept; over = tt }
+
+pub returns-in-Err-put_item-clause-aside : goal.returns-in-Err-put_item-clause-aside
+returns-in-Err-put_item-clause-aside g c = λ kept. record { kept = aside_same c.args.aside _ _ c.next.follows.holds-at-none.list.same kept; over = tt }
+
+pub returns-in_err-put_symbols-clause-aside : goal.returns-in_err-put_symbols-clause-aside
+returns-in_err-put_symbols-clause-aside g c = λ kept.
+    let f = c.in_err-put_symbols.field-0.0 in
+    let is = refused_by c.from_residual.result f c.from_residual.ensures.1 in
+    rw is (aside_fault (Unit {0}) Bool c.args.aside f _ (c.in_err-put_symbols.ensures.aside (aside_same c.args.aside _ _ c.next.follows.holds-at-none.list.same kept)))
+
+pub returns-clause-aside : goal.returns-clause-aside
+returns-clause-aside g c = λ kept.
+    record { kept = (c.in_ok-put_symbols.ensures.aside (aside_same c.args.aside _ _ c.next.follows.holds-at-none.list.same kept)).kept; over = tt }
+
+pub returns-in-Err-clause-aside : goal.returns-in-Err-clause-aside
+returns-in-Err-clause-aside g c = λ kept.
+    rw c.told_list.ensures (aside_listing Bool c.args.aside c.in-Err.fault _ (aside_same c.args.aside _ _ c.next.follows.holds-at-none.list.same kept))

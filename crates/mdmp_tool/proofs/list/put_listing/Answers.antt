@@ -26,3 +26,6 @@ returns-clause-lists g c = λ file content left known.
 pub returns-clause-leaves : goal.returns-clause-leaves
 returns-clause-leaves g c =
     Leaves-behind _ _ (g.O.Out.state c.args.out.now) (g.O.Out.state c.put_dump.new.out) (g.O.Out.state c.list_items.new.out) c.list_items.result _ c.in_default.ensures.steady c.list_items.ensures.leaves
+
+pub returns-clause-aside : goal.returns-clause-aside
+returns-clause-aside g c = c.list_items.ensures.aside

@@ -1,5 +1,5 @@
 use Rattle.mdmp_tool.proofs.Symbols.{Leaves-cut, Leaves-done}
-use Rattle.mdmp_tool.proofs.SameRuns.{run_aside}
+use Rattle.mdmp_tool.proofs.SameRuns.{aside_read, record_read, run_aside}
 use Rattle.mdmp_tool.proofs.list.put_symbols.Goals as goal
 
 pub returns-in-Ok-put_pdb-clause-stays : goal.returns-in-Ok-put_pdb-clause-stays
@@ -25,3 +25,12 @@ returns-in-Err-clause-stays g c = c.codeview.follows.holds-at-none.same
 
 pub returns-in-Err-clause-same : goal.returns-in-Err-clause-same
 returns-in-Err-clause-same g c = run_aside _ _ _ _ c.codeview.follows.holds-at-none
+
+pub returns-in-Ok-put_pdb-clause-aside : goal.returns-in-Ok-put_pdb-clause-aside
+returns-in-Ok-put_pdb-clause-aside g c = λ kept. record { kept = aside_read _ _ _ _ _ c.in_default-over_aside.ensures (record_read _ _ _ c.codeview.ensures.fetched) c.codeview.follows.holds-at-none.aside.aside; over = tt }
+
+pub returns-in-Err-put_pdb-clause-aside : goal.returns-in-Err-put_pdb-clause-aside
+returns-in-Err-put_pdb-clause-aside g c = λ kept. record { kept = aside_read _ _ _ _ _ c.in_default-over_aside.ensures (record_read _ _ _ c.codeview.ensures.fetched) c.codeview.follows.holds-at-none.aside.aside; over = tt }
+
+pub returns-in-Err-clause-aside : goal.returns-in-Err-clause-aside
+returns-in-Err-clause-aside g c = λ kept. record { kept = aside_read _ _ _ _ _ c.in_default-over_aside.ensures (record_read _ _ _ c.codeview.ensures.fetched) c.codeview.follows.holds-at-none.aside.aside; over = tt }

@@ -10,7 +10,7 @@ returns-clause-shape c =
     let made1 = c.with_arg-made.ensures _ (word (codes "FILE")) made0 c.word.ensures.rule c.word.ensures.local in
     let made2 = c.with_arg-made-2.ensures _ (word (codes "ADDRESS")) made1 c.word-2.ensures.rule c.word-2.ensures.local in
     let made3 = c.with_arg-made-3.ensures _ (word (codes "LENGTH")) made2 c.word-3.ensures.rule c.word-3.ensures.local in
-    IfOk-weaker c.with_budget.result _ _ (λ made is. ap (λ (a : App). a.top) is.app_is) (c.with_budget.ensures _ made3)
+    IfOk-weaker c.with_limits.result _ _ (λ made is. ap (λ (a : App). a.top) is.app_is) (c.with_limits.ensures _ made3)
 
 pub returns-clause-local : goal.returns-clause-local
 returns-clause-local c =
@@ -18,4 +18,4 @@ returns-clause-local c =
     let made1 = c.with_arg-made.ensures _ (word (codes "FILE")) made0 c.word.ensures.rule c.word.ensures.local in
     let made2 = c.with_arg-made-2.ensures _ (word (codes "ADDRESS")) made1 c.word-2.ensures.rule c.word-2.ensures.local in
     let made3 = c.with_arg-made-3.ensures _ (word (codes "LENGTH")) made2 c.word-3.ensures.rule c.word-3.ensures.local in
-    IfOk-weaker c.with_budget.result _ _ (λ made is. is.local) (c.with_budget.ensures _ made3)
+    IfOk-weaker c.with_limits.result _ _ (λ made is. is.local) (c.with_limits.ensures _ made3)

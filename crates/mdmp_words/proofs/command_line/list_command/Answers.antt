@@ -1,7 +1,7 @@
 use Rattle.std.proofs.Common.{ap, codes}
 use Rattle.std.proofs.lemmas.Result.{IfOk-weaker}
 use Rattle.clap.specs.Words.{App}
-use Rattle.mdmp_words.specs.CommandLine.{flag, word}
+use Rattle.mdmp_words.specs.CommandLine.{flag, number_option, word}
 use Rattle.mdmp_words.proofs.command_line.list_command.Goals as goal
 
 pub returns-clause-shape : goal.returns-clause-shape
@@ -10,7 +10,8 @@ returns-clause-shape c =
     let made1 = c.with_arg-made.ensures _ (word (codes "FILE")) made0 c.word.ensures.rule c.word.ensures.local in
     let made2 = c.with_arg-made-2.ensures _ (flag (codes "pdb")) made1 c.flag.ensures.rule c.flag.ensures.local in
     let made3 = c.with_arg-made-3.ensures _ (flag (codes "json")) made2 c.flag-2.ensures.rule c.flag-2.ensures.local in
-    IfOk-weaker c.with_budget.result _ _ (λ made is. ap (λ (a : App). a.top) is.app_is) (c.with_budget.ensures _ made3)
+    let made4 = c.with_arg-made-4.ensures _ (number_option (codes "aside")) made3 c.number_option.ensures.rule c.number_option.ensures.local in
+    IfOk-weaker c.with_limits.result _ _ (λ made is. ap (λ (a : App). a.top) is.app_is) (c.with_limits.ensures _ made4)
 
 pub returns-clause-local : goal.returns-clause-local
 returns-clause-local c =
@@ -18,4 +19,5 @@ returns-clause-local c =
     let made1 = c.with_arg-made.ensures _ (word (codes "FILE")) made0 c.word.ensures.rule c.word.ensures.local in
     let made2 = c.with_arg-made-2.ensures _ (flag (codes "pdb")) made1 c.flag.ensures.rule c.flag.ensures.local in
     let made3 = c.with_arg-made-3.ensures _ (flag (codes "json")) made2 c.flag-2.ensures.rule c.flag-2.ensures.local in
-    IfOk-weaker c.with_budget.result _ _ (λ made is. is.local) (c.with_budget.ensures _ made3)
+    let made4 = c.with_arg-made-4.ensures _ (number_option (codes "aside")) made3 c.number_option.ensures.rule c.number_option.ensures.local in
+    IfOk-weaker c.with_limits.result _ _ (λ made is. is.local) (c.with_limits.ensures _ made4)

@@ -1,43 +1,87 @@
-use Rattle.std.proofs.Common.{◌∙◌, ap, refl}
-use Rattle.mdmp_dump.proofs.EntryWalks.{opened}
+use Rattle.std.proofs.Common.{◌≡◌, ◌∙◌, ℕ, Option, None, true, ap, arith, subst, sym}
+use Rattle.mdmp_lister.specs.Memory.{is_within}
+use Rattle.mdmp_lister.specs.Format.Kind.{kind_of}
+use Rattle.mdmp_lister.specs.Meter.{KeepsTo}
 use Rattle.mdmp_lister.proofs.Refusals.{open_refusal}
+use Rattle.mdmp_dump.specs.EntryWalk.{IsOpenedWalk}
+use Rattle.mdmp_dump.specs.Opening.{FetchesWithin, IsShortOf, copy_fault, copy_held}
 use Rattle.mdmp_dump.specs.Reading.{refusal_of}
-use Rattle.mdmp_dump.proofs.Opened.{directory-settles, opening-fetches, tells_none, tells_of, wants_bare}
+use Rattle.mdmp_dump.specs.Walking.{lists_memory64, state_of}
+use Rattle.mdmp_dump.proofs.EntryWalks.{lifted_fetched, lifted_header, lifted_opened, lifted_stands, walker_within}
+use Rattle.mdmp_dump.proofs.Opened.{copied_bare, copied_good, copied_none, copied_open, copied_refusal, copied_unread, copy_within, directory-settles, kept_fetches, limited, opening-fetches, opening_short, tells_none, tells_of, wants_bare}
 use Rattle.mdmp_dump.proofs.OpenedViews.{head_spent}
 use Rattle.mdmp_dump.proofs.Refusals.{bare_refusal}
 use Rattle.mdmp_dump.proofs.entry_walk.EntryWalk.open.Goals as goal
 
+pub invariant_of-result : goal.invariant_of-result
+invariant_of-result g c =
+    lifted_stands c.args.source c.args.choice c.nameless.result c.in-Ok.walker c.lift_budget.new.self c.in-Ok.ensures.new c.nameless.ensures.name c.lift_budget.ensures.lifts c.lift_budget.ensures.within
+    (lists_memory64 (kind_of 0))
+
 pub returns-in-Ok-clause-opened : goal.returns-in-Ok-clause-opened
-returns-in-Ok-clause-opened g c = opened c.args.source c.args.choice _ c.in-Ok.walker c.in-Ok.ensures.new refl
+returns-in-Ok-clause-opened g c =
+    subst (λ (window : ℕ). IsOpenedWalk c.args.source window c.args.choice (state_of c.lift_budget.new.self)) c.nameless.ensures.window
+    (lifted_opened c.args.source c.args.choice c.nameless.result c.in-Ok.walker c.lift_budget.new.self c.in-Ok.ensures.new c.nameless.ensures.name c.lift_budget.ensures.lifts c.lift_budget.ensures.within)
+
+pub returns-in-Ok-clause-kept : goal.returns-in-Ok-clause-kept
+returns-in-Ok-clause-kept g c =
+    let fetched = lifted_fetched c.args.source c.args.choice c.nameless.result c.in-Ok.walker c.lift_budget.new.self c.in-Ok.ensures.new c.nameless.ensures.name c.lift_budget.ensures.lifts c.lift_budget.ensures.within in
+    let budget = c.in-Ok.ensures.new.list.counts.budget_is ∙ c.nameless.ensures.budget in
+    subst (KeepsTo c.args.limits.budget) (sym fetched) (subst (λ (b : Option ℕ). KeepsTo b c.in-Ok.walker.list.counts.fetched) budget (rw c.counts-counts.ensures.value at c.counts-counts.ensures.held.kept.kept))
 
 pub returns-in-Err-clause-refusal : goal.returns-in-Err-clause-refusal
 returns-in-Err-clause-refusal g c =
-    let never = tells_none _ c.args.source c.in-Err.refused.fault c.in-Err.refused.source refl c.in-Err.ensures.kept in
-    rw c.refusal.ensures (bare_refusal c.args.source.size c.in-Err.refused.fault never c.in-Err.ensures.refusal)
+    let fault = c.in-Err.refused.fault in
+    let never = λ (none : c.args.limits.budget ≡ None). copied_none fault (tells_none c.nameless.result c.args.source fault c.in-Err.refused.source (c.nameless.ensures.budget ∙ none) c.in-Err.ensures.kept) in
+    rw c.copy_refusal.ensures (bare_refusal c.args.limits.budget c.args.source.size (copy_fault fault) never (copied_bare c.args.source.size fault c.in-Err.ensures.refusal))
 
 pub returns-in-Err-clause-of_file : goal.returns-in-Err-clause-of_file
 returns-in-Err-clause-of_file g c = λ file known names.
-    let never = tells_none _ c.args.source c.in-Err.refused.fault c.in-Err.refused.source refl c.in-Err.ensures.kept in
-    rw c.refusal.ensures (directory-settles file c.args.choice names c.in-Err.refused.fault never (c.in-Err.ensures.opens file known))
+    rw c.copy_refusal.ensures (directory-settles file c.args.choice names c.in-Err.refused.fault (c.in-Err.ensures.opens file known))
 
 pub returns-in-Err-clause-spends : goal.returns-in-Err-clause-spends
 returns-in-Err-clause-spends g c = head_spent c.args.source c.in-Err.refused.source c.args.choice c.in-Err.refused.fault c.in-Err.ensures.handed_back
+
+pub returns-in-Err-clause-within : goal.returns-in-Err-clause-within
+returns-in-Err-clause-within g c =
+    subst (λ (budget : Option ℕ). FetchesWithin budget c.args.source c.in-Err.refused.source) c.nameless.ensures.budget
+    (kept_fetches c.nameless.result c.args.source c.in-Err.refused.fault c.in-Err.refused.source c.in-Err.ensures.kept)
+
+pub returns-in-Err-clause-over : goal.returns-in-Err-clause-over
+returns-in-Err-clause-over g c = λ file known.
+    rw c.copy_refusal.ensures
+    (subst (λ (budget : Option ℕ). IsShortOf budget file c.args.choice (refusal_of (copy_fault c.in-Err.refused.fault))) c.nameless.ensures.budget
+    (opening_short c.nameless.result c.args.source c.in-Err.refused.fault c.in-Err.refused.source c.in-Err.ensures.kept file c.args.choice known))
+
+pub returns-in-Err-clause-limited : goal.returns-in-Err-clause-limited
+returns-in-Err-clause-limited g c =
+    rw c.copy_refusal.ensures
+    (limited c.args.limits c.nameless.result c.nameless.ensures c.args.source c.in-Err.refused.fault c.in-Err.refused.source (omega (arith, c.size-size.ensures.value, c.size-size.type_inv)) c.in-Err.ensures.over c.in-Err.ensures.opens
+    c.in-Err.ensures.within)
+
+pub returns-in-Ok-clause-memory : goal.returns-in-Ok-clause-memory
+returns-in-Ok-clause-memory g c =
+    let new = c.in-Ok.ensures.new in
+    let same = lifted_header c.args.source c.args.choice c.nameless.result c.in-Ok.walker c.lift_budget.new.self new c.nameless.ensures.name c.lift_budget.ensures.lifts c.lift_budget.ensures.within in
+    subst (λ (n : ℕ). is_within c.args.limits.memory (copy_held c.args.limits.window n) ≡ true) same (copy_within c.args.limits c.nameless.result c.nameless.ensures c.in-Ok.walker.list.header.number_of_streams (walker_within c.args.source c.args.choice c.nameless.result c.in-Ok.walker new))
 
 pub returns-in-Err-clause-tells : goal.returns-in-Err-clause-tells
 returns-in-Err-clause-tells g c =
     let fault = c.in-Err.refused.fault in
     let of = c.in-Err.ensures in
-    rw c.refusal.ensures
-    (tells_of (refusal_of fault) c.args.source c.in-Err.refused.source
-    (opening-fetches {T = Unit {0}} _ fault c.args.source c.in-Err.refused.source of.handed_back.fetches of.cause of.good (open_refusal c.args.source.size fault of.refusal))
-    (λ is file known. wants_bare file fault (of.opens file known) is))
+    rw c.copy_refusal.ensures
+    (tells_of (refusal_of (copy_fault fault)) c.args.source c.in-Err.refused.source
+    (opening-fetches {T = Unit {0}} _ (copy_fault fault) c.args.source c.in-Err.refused.source of.handed_back.fetches (copied_unread fault c.args.source c.in-Err.refused.source of.cause)
+    (λ file good. copied_good fault (of.good file good)) (copied_open c.args.source.size fault (open_refusal c.args.source.size fault of.refusal)))
+    (λ is file known. wants_bare file (copy_fault fault) (copied_refusal file fault (of.opens file known)) is))
 
 pub returns-in-Err-clause-cause : goal.returns-in-Err-clause-cause
 returns-in-Err-clause-cause g c =
     let fault = c.in-Err.refused.fault in
     let of = c.in-Err.ensures in
-    rw c.refusal.ensures
-    (opening-fetches {T = Unit {0}} _ fault c.args.source c.in-Err.refused.source of.handed_back.fetches of.cause of.good (open_refusal c.args.source.size fault of.refusal))
+    rw c.copy_refusal.ensures
+    (opening-fetches {T = Unit {0}} _ (copy_fault fault) c.args.source c.in-Err.refused.source of.handed_back.fetches (copied_unread fault c.args.source c.in-Err.refused.source of.cause)
+    (λ file good. copied_good fault (of.good file good)) (copied_open c.args.source.size fault (open_refusal c.args.source.size fault of.refusal)))
 
 pub returns-in-Err-clause-short : goal.returns-in-Err-clause-short
-returns-in-Err-clause-short g c = λ few. c.refusal.ensures ∙ ap refusal_of (c.in-Err.ensures.short few)
+returns-in-Err-clause-short g c = λ few. c.copy_refusal.ensures ∙ ap (λ fault. refusal_of (copy_fault fault)) (c.in-Err.ensures.short few)

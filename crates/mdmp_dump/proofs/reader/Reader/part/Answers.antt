@@ -1,4 +1,3 @@
-use Rattle.std.proofs.Common.{◌≡◌}
 use Rattle.mdmp_dump.specs.declared.part.Part.TheVariants as parts
 use Rattle.mdmp_dump.proofs.Budget.{bytes-part}
 use Rattle.mdmp_dump.proofs.Taking.{Takes_as, Takes_fault_as, refused_by}

@@ -1,4 +1,4 @@
-use Rattle.std.proofs.Common.{ap, arith, refl}
+use Rattle.std.proofs.Common.{arith, refl}
 use Rattle.mdmp_dump.proofs.Values.{value_begun}
 use Rattle.mdmp_dump.proofs.value_view.ValueViewDumpView.rewind.Goals as goal
 

@@ -1,4 +1,4 @@
-use Rattle.std.proofs.Common.{◌≡◌, ◌+◌, ◌∙◌, Err, ap, arith, length, min, refl, rules, subst, sym, vec_len}
+use Rattle.std.proofs.Common.{◌≡◌, ◌+◌, ◌∙◌, Err, ap, length, min, refl, rules, subst, sym}
 use Rattle.std.proofs.lemmas.List.{length-take-le}
 use Rattle.mdmp_lister.specs.Meter.{BooksAside}
 use Rattle.mdmp_lister.proofs.CodeViews.{lent_fetched, lent_told}
@@ -42,7 +42,7 @@ returns g c =
     let read = c.in_ok-read.read in
     let bytes = c.codeview.result in
     let of = c.codeview.ensures in
-    let long : length bytes.rest.now ≡ read.rest = ap length of.rest ∙ length-take-le read.rest n.name.items (omega (arith, e.read.held, e.room, n.name.ok.0)) in
+    let long : length bytes.rest.now ≡ read.rest = ap length of.rest ∙ length-take-le read.rest n.name.items e.read.lent in
     let books = subst (λ count. BooksAside (min c.args.location.size 24 + count) w.meter n.meter) (sym long) e.read.fetches.books in
     rw (← c.self.view_is) (
       (
@@ -58,7 +58,7 @@ returns g c =
       ),
       record {
         value = λ file known. lent_told bytes read of.head of.size n.name.items of.rest ∙ e.read.reads.of_file file known;
-        fetched = lent_fetched bytes read of.head of.size c.args.location (vec_len w.name) long e.read.fetches.fetched;
+        fetched = lent_fetched bytes read of.head of.size c.args.location w.name.limit long e.read.fetches.fetched;
         reads = tt;
         good = λ file good. refl;
       },

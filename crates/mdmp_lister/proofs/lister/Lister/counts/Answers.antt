@@ -1,5 +1,5 @@
 use Rattle.std.proofs.Common.{◌≡◌, ◌≤◌, ◌+◌, ◌*◌, ◌^◌, arith, length, refl}
-use Rattle.mdmp_lister.specs.Walk.Paying.{cost_of}
+use Rattle.mdmp_lister.specs.Listed.{cost_of}
 use Rattle.mdmp_lister.proofs.Numbers.{counts_held, counts_of_file, counts_spent}
 use Rattle.mdmp_lister.proofs.lister.Lister.counts.Goals as goal
 

@@ -1,4 +1,4 @@
-use Rattle.std.proofs.Common.{◌≡◌, ◌∙◌, ◌≤◌, ℕ, List, None, Ok, Err, ap, arith, inr, refl, rules, subst}
+use Rattle.std.proofs.Common.{◌≡◌, ◌∙◌, ◌≤◌, ℕ, List, None, Ok, Err, ap, arith, inr, refl, rules, subst, vec_capacity}
 use Rattle.std.proofs.lemmas.Bool.{le-ltb, lt-ltb}
 use Rattle.mdmp_source.specs.Source.{FetchesAtMost}
 use Rattle.mdmp_source.specs.SourceLaws.{fetches_then}
@@ -32,6 +32,11 @@ returns-then-count-gt-MOST_RANGES-clause-kept g c =
     let refused = c.refused-then-count-gt-MOST_RANGES.ensures in
     rw refused.made (KeepsToBudget-counted c.args.source c.args.choice c.args.limits c.in-Ok.walk c.count_ranges.new.self c.count_ranges.result c.in-Ok.ensures.new c.count_ranges.ensures refused.booked refused.kept _ tt)
 
+pub returns-then-not-holds-clause-kept : goal.returns-then-not-holds-clause-kept
+returns-then-not-holds-clause-kept g c =
+    let refused = c.refused-then-not-holds.ensures in
+    rw refused.made (KeepsToBudget-counted c.args.source c.args.choice c.args.limits c.in-Ok.walk c.count_ranges.new.self c.count_ranges.result c.in-Ok.ensures.new c.count_ranges.ensures refused.booked refused.kept _ tt)
+
 pub returns-in-Err-with_room-clause-kept : goal.returns-in-Err-with_room-clause-kept
 returns-in-Err-with_room-clause-kept g c =
     let refused = c.refused-in-Err-with_room.ensures in
@@ -40,6 +45,11 @@ returns-in-Err-with_room-clause-kept g c =
 pub returns-then-count-gt-MOST_RANGES-clause-handed_back : goal.returns-then-count-gt-MOST_RANGES-clause-handed_back
 returns-then-count-gt-MOST_RANGES-clause-handed_back g c =
     rw c.refused-then-count-gt-MOST_RANGES.ensures.made
+    (IsHandedBack-counted c.args.source c.args.choice c.args.limits c.in-Ok.walk c.count_ranges.new.self c.count_ranges.result _ c.in-Ok.ensures.new c.count_ranges.ensures (λ of. of))
+
+pub returns-then-not-holds-clause-handed_back : goal.returns-then-not-holds-clause-handed_back
+returns-then-not-holds-clause-handed_back g c =
+    rw c.refused-then-not-holds.ensures.made
     (IsHandedBack-counted c.args.source c.args.choice c.args.limits c.in-Ok.walk c.count_ranges.new.self c.count_ranges.result _ c.in-Ok.ensures.new c.count_ranges.ensures (λ of. of))
 
 pub returns-in-Err-with_room-clause-handed_back : goal.returns-in-Err-with_room-clause-handed_back
@@ -91,6 +101,12 @@ returns-in-Ok-with_room-clause-new g c =
           count = omega (arith, counts.sound.whole, c.count_ranges.new.self.entries.ok.0);
         };
         asked = record { choice_is = room.choice ∙ new.choice_is; limit_is = room.name ∙ new.name; window_room = room.window ∙ new.window; entry_room = rw (room.entries, room.header_is) new.reads.room };
+        memory =
+            let n = c.count_ranges.new.self in
+            let window : n.window.room ≡ c.args.limits.window = room.window ∙ new.window in
+            let name : n.name.limit ≡ c.args.limits.name = room.name ∙ new.name in
+            let entries : vec_capacity n.entries ≡ n.header.number_of_streams = rw (room.entries, room.header_is) new.reads.room in
+            rw (window, name, entries, free) (search rules);
         given = record {
           left = rw (room.choice, new.choice_is) (search rules);
           stop = rw (counts.stage, new.stage) refl;

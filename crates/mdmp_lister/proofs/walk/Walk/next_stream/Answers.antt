@@ -1,4 +1,4 @@
-use Rattle.std.proofs.Common.{◌≡◌, ◌≤◌, ◌∙◌, [], None, Ok, length, arith, ap, refl, rules, vec_len}
+use Rattle.std.proofs.Common.{◌≡◌, ◌≤◌, ◌∙◌, [], None, Ok, length, arith, ap, refl, rules}
 use Rattle.std.specs.Prelude.{map}
 use Rattle.mdmp_lister.specs.Format.Listing.{all_joined, chosen_from, entry_count, entry_listing, nothing}
 use Rattle.mdmp_lister.specs.Following.{goes_on}
@@ -27,8 +27,8 @@ returns-in_default g c =
               listing = λ file known.
                   let directory = c.requires.sound.directory file known in
                   let none : chosen_from file w.choice w.next ≡ [] = c.in_default.ensures.first file (rw c.deref.ensures.value directory) in
-                  let given : rest_of w file ≡ nothing = ap (λ xs. all_joined (map (entry_listing file (vec_len w.name)) xs)) none in
-                  (through-left w file c.requires.through ∙ given, listing_from-end file w.choice (vec_len w.name) c.len-self.result (omega (arith, past, directory.count)));
+                  let given : rest_of w file ≡ nothing = ap (λ xs. all_joined (map (entry_listing file w.name.limit) xs)) none in
+                  (through-left w file c.requires.through ∙ given, listing_from-end file w.choice w.name.limit c.len-self.result (omega (arith, past, directory.count)));
               given = tt;
               met = λ _. tt;
               stage = refl;
@@ -37,7 +37,7 @@ returns-in_default g c =
               records = through-none w.stage c.requires.through;
               follows = λ _.
                   let none = rw c.deref.ensures.value at c.in_default.ensures.stands in
-                  goes_on (goes_through w.choice w.entries.items w.meter.source.size (vec_len w.name) (cursor_of w) w.stage (Ok None) _ c.requires.through (none, refl));
+                  goes_on (goes_through w.choice w.entries.items w.meter.source.size w.name.limit (cursor_of w) w.stage (Ok None) _ c.requires.through (none, refl));
               rests = omega (arith, c.len-self.ensures);
               fetches = FetchesAtMost-within 0 _ w.meter.source w.meter.source (omega arith) (FetchesAtMost-none w.meter.source);
               counts = Moves-none 1 w.meter;

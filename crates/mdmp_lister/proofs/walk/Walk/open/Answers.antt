@@ -32,10 +32,10 @@ returns-in_default-with_room-clause-kept g c =
     let refused = c.refused-in_default-with_room.ensures in
     rw refused.made (header-kept limits c.args.source c.new-meter.result c.read_header.new.meter c.new-meter.ensures c.in-Ok.ensures.books refused.booked refused.kept _ tt)
 
-pub returns-in_default-vec-clause-kept : goal.returns-in_default-vec-clause-kept
-returns-in_default-vec-clause-kept g c =
+pub returns-in_default-with_limit-clause-kept : goal.returns-in_default-with_limit-clause-kept
+returns-in_default-with_limit-clause-kept g c =
     let limits = c.args.limits in
-    let refused = c.refused-in_default-vec.ensures in
+    let refused = c.refused-in_default-with_limit.ensures in
     rw refused.made (header-kept limits c.args.source c.new-meter.result c.read_header.new.meter c.new-meter.ensures c.in-Ok.ensures.books refused.booked refused.kept _ tt)
 
 pub returns-in_default-clause-refused : goal.returns-in_default-clause-refused
@@ -48,10 +48,10 @@ returns-in_default-with_room-clause-refused g c =
     let of = c.in-Ok.ensures in
     rw c.refused-in_default-with_room.ensures.made (rw c.new-meter.ensures at (IsRefused-memory _ c.read_header.new.meter c.in-Ok.header of.fits of.finds of.books of.caused))
 
-pub returns-in_default-vec-clause-refused : goal.returns-in_default-vec-clause-refused
-returns-in_default-vec-clause-refused g c =
+pub returns-in_default-with_limit-clause-refused : goal.returns-in_default-with_limit-clause-refused
+returns-in_default-with_limit-clause-refused g c =
     let of = c.in-Ok.ensures in
-    rw c.refused-in_default-vec.ensures.made (rw c.new-meter.ensures at (IsRefused-memory _ c.read_header.new.meter c.in-Ok.header of.fits of.finds of.books of.caused))
+    rw c.refused-in_default-with_limit.ensures.made (rw c.new-meter.ensures at (IsRefused-memory _ c.read_header.new.meter c.in-Ok.header of.fits of.finds of.books of.caused))
 
 pub returns-in-Err-read_directory-clause-refused : goal.returns-in-Err-read_directory-clause-refused
 returns-in-Err-read_directory-clause-refused g c =
@@ -120,6 +120,7 @@ returns-clause-new g c =
       name = search rules;
       next = refl;
       stage = refl;
+      memory = search rules;
       current_is = refl;
       sound = record {
         sized = rw (all.fetches.same_content, all.fetches.same_size) of.fits.sized;
@@ -127,6 +128,7 @@ returns-clause-new g c =
         small = search rules;
         few = search rules;
         whole = read.count;
+        listed = record { value = search rules; small = search rules };
         placed = omega arith;
         staged = tt;
         holding = tt;

@@ -1,6 +1,5 @@
-use Rattle.std.proofs.Common.{◌≡◌, ◌+◌, ap, arith, ◌∙◌, length, refl, rules, vec_len}
+use Rattle.std.proofs.Common.{◌≡◌, ◌+◌, ap, arith, refl, rules}
 use Rattle.mdmp_lister.specs.declared.stage.Stage.TheVariants.{Records}
-use Rattle.mdmp_lister.proofs.Bodies.{take-lent}
 use Rattle.mdmp_lister.proofs.Changing.{taken_fault}
 use Rattle.mdmp_lister.proofs.EntrySteps.{answered_record, answered_record_fault, given_record, nameless_reading}
 use Rattle.mdmp_lister.proofs.Fetches.{unchanged_caused}
@@ -19,13 +18,13 @@ returns-in-Ok-clause-read g c =
     let of = c.in-Ok.ensures in
     let stage : c.pass_record.new.self ≡ Records a.kind a.shape (a.index + 1) (a.offset + c.bytes_behind-size.result) = rw c.requires.stage at c.pass_record.ensures in
     let size = rw c.bytes.ensures at c.bytes_behind-size.ensures in
-    let room : length c.read_item.new.buffer ≡ vec_len w.name = of.length ∙ c.deref_mut.ensures.len in (
+    let room : c.read_item.new.buffer.limit ≡ w.name.limit = of.limit in (
       record {
         answered =
             answered_record w _ a.kind a.shape a.index a.offset c.record_at-at.result c.requires.stage c.requires.left c.requires.sound (search rules) c.record_at-at.ensures.place
-            _ (step_told c.read_item.new.window.held c.in-Ok.held) _ stage (ap (λ n. a.offset + n) size) (omega (arith, c.bytes_behind-size.type_inv)) (rw room at of.reads) (rw room at of.tells)
+            _ (step_told c.read_item.new.window.held c.in-Ok.held) _ stage (ap (λ n. a.offset + n) size) (omega (arith, c.bytes_behind-size.type_inv)) (rw room at of.reads) of.tells
             of.comes (omega (arith, of.slides.bytes)) (of.slides.calls greatest_record (most_record a.kind) c.requires.sound.window)
-            (λ file known here. rw (take-lent (vec_len w.name) c.read_item.new.buffer _ room) (rw room at (of.item file known w.current.location.rva here)))
+            (λ file known here. rw room at (of.item file known w.current.location.rva here))
             (rw room at of.some);
         room = search rules;
         unchanged = λ stays. rw stage tt;
@@ -33,7 +32,7 @@ returns-in-Ok-clause-read g c =
       },
       given_record w _ a.kind a.shape a.index a.offset c.record_at-at.result c.requires.stage c.requires.left c.requires.sound (search rules) c.record_at-at.ensures.place
           (step_told c.read_item.new.window.held c.in-Ok.held) _ stage
-          (λ file known here. rw (take-lent (vec_len w.name) c.read_item.new.buffer _ room) (rw room at (of.item file known w.current.location.rva here))),
+          (λ file known here. rw room at (of.item file known w.current.location.rva here)),
     )
 
 pub returns-in-Err-clause-read : goal.returns-in-Err-clause-read
@@ -41,7 +40,7 @@ returns-in-Err-clause-read g c =
     let w = c.args.self.now in
     let a = c.args in
     let of = c.in-Err.ensures in
-    let room : length c.read_item.new.buffer ≡ vec_len w.name = of.length ∙ c.deref_mut.ensures.len in
+    let room : c.read_item.new.buffer.limit ≡ w.name.limit = of.limit in
     rw (c.stop_at.ensures.1, c.stop_at.ensures.0)
     (taken_fault w _ c.of_entry.result
     (answered_record_fault w _ a.kind a.shape a.index a.offset c.record_at-at.result c.requires.stage c.requires.left c.requires.sound (search rules) c.record_at-at.ensures.place

@@ -1,0 +1,129 @@
+"""Calls of the library over the bytes of a file, within limits."""
+
+from __future__ import annotations
+
+from ctypes import byref, c_uint8
+from typing import Any, Callable, TypeVar
+from uuid import UUID
+
+from . import _structures
+from ._buffer import Bytes, Lent, bytes_at
+from ._fault import expect_good, output_limit
+from ._library import Filled, fill, library
+from ._limits import Limits
+from ._output import Counting, row_size
+from ._parts import SymbolFile
+from ._records import Extent, NameState, SymbolKind
+
+_T = TypeVar("_T")
+
+
+# Guesses of how many items a file of some size has: powers of two, so that there are few types of arrays.
+def some_records(size: int) -> int:
+    return 1 << min(size // 24, 8191).bit_length()
+
+
+def some_text(size: int) -> int:
+    return 1 << min(max(size * 2, 1 << 15), 1 << 20).bit_length()
+
+
+def some_name(_: int) -> int:
+    return 512
+
+
+class Calls:
+    """The bytes of a file, the limits of each call over them, and what is kept of the answers."""
+
+    def __init__(self, data: Bytes, limits: Limits) -> None:
+        self._data: Bytes | None = data
+        self._limits, self._plain = limits, limits._plain()
+        self._kept: dict[str, Any] = {}
+
+    @property
+    def limits(self) -> Limits:
+        """The limits of this dump."""
+        return self._limits
+
+    def _lent(self) -> Lent:
+        if self._data is None:
+            raise ValueError("the dump was closed")
+        return Lent(self._data)
+
+    def _most(self, size: int) -> int | None:
+        """How many items of this size `output` has room for, if that is limited."""
+        return None if self._limits.output is None else self._limits.output // size
+
+    def _fill(
+        self, call: Any, item: Any, guess: Callable[[int], int], *arguments: Any, most: int | None = None
+    ) -> Filled:
+        """What a call gives, up to the most items. The guess is how many items a file of some size has."""
+        with self._lent() as (file, size):
+            return fill(lambda *out: call(file, size, *arguments, *out), item, guess(size), most)
+
+    def _expect_whole(self, filled: Filled, partial: Any) -> None:
+        """Raises what ends what was given, unless all is given and good."""
+        if filled.is_cut:
+            raise output_limit(self._limits.output or 0, partial)
+        expect_good(filled.status, filled.fault, partial)
+
+    def _expect_room(self, kept: int, given: list[Any]) -> None:
+        """Raises OutputLimit if so many bytes are more than a property may keep, of whose rows these are given."""
+        if self._limits.output is not None and kept > self._limits.output:
+            raise output_limit(self._limits.output, tuple(given))
+
+    def _keep(self, name: str, make: Callable[[], _T]) -> _T:
+        """What was made of this name before, or else is made now."""
+        self._lent()
+        if name not in self._kept:
+            self._kept[name] = make()
+        made: _T = self._kept[name]
+        return made
+
+    def _rows(self, call: Any, record: Any, has_limits: bool = True) -> Any:
+        """The records of one kind."""
+
+        def make() -> tuple[Any, ...]:
+            raw, size, names = getattr(_structures, record.__name__), row_size(record), Counting(self)
+            limits = [byref(self._plain)] if has_limits else []
+            filled = self._fill(call, raw, some_records, *limits, most=self._most(size))
+            given: list[Any] = []
+            for at in range(filled.given):
+                row = record._of(filled.items[at], names)
+                self._expect_room((at + 1) * size + names.bytes, given)
+                given.append(row)
+            self._expect_whole(filled, tuple(given))
+            return tuple(given)
+
+        return self._keep(record.__name__, make)
+
+    def _text(self, call: Any, *arguments: Any) -> str:
+        filled = self._fill(call, c_uint8, some_text, byref(self._plain), *arguments, most=self._limits.output)
+        text = filled.text()
+        self._expect_whole(filled, text)
+        return text
+
+    def _name_at(self, place: _structures.NamePlace) -> str | None:
+        """The name at a place, or None if there is none, or a longer one than the limit."""
+        if place.state != NameState.GIVEN:
+            return None
+        filled = self._fill(library.mdmp_name_, c_uint8, some_name, place.rva, self._limits.name)
+        expect_good(filled.status, filled.fault)
+        return filled.bytes().decode("utf-8")
+
+    def _symbols_at(self, place: _structures.Place) -> SymbolFile | None:
+        """What the CodeView record at a place tells, or None if the file has none."""
+        if place.extent != Extent.INSIDE:
+            return None
+        raw, fault = _structures.SymbolFile(), _structures.Fault()
+        with self._lent() as (file, size):
+            status = library.mdmp_symbols_(file, size, byref(self._plain), byref(place), byref(raw), byref(fault))
+            expect_good(status, fault)
+            name = bytes_at(file + raw.name_offset, raw.name_size)
+        kind = SymbolKind(raw.kind)
+        guid = UUID(bytes=bytes(raw.guid)) if kind == SymbolKind.RSDS else None
+        signature = bytes(raw.signature) if kind == SymbolKind.OTHER else b""
+        return SymbolFile(kind, guid, raw.age, name, raw.name_ended == 1, signature)
+
+    def _thread_name(self, thread_id: int) -> str | None:
+        """The first name that the file has for a thread, where it has one."""
+        raise NotImplementedError

@@ -1,0 +1,6 @@
+pub mod Cutting
+pub mod Found
+pub mod Holding
+pub mod Indexing
+pub mod BySlots
+pub mod Taken

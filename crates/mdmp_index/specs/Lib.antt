@@ -1,0 +1,5 @@
+pub mod Cells
+pub mod Index
+pub mod IndexLaws
+pub mod Reading
+pub mod Slots

@@ -1,0 +1,20 @@
+use Rattle.std.proofs.Common.{◌≡◌, ◌≤◌, ◌-◌, List, None, length}
+use Rattle.mdmp_map.specs.declared.range.Range.{Range}
+use Rattle.mdmp_lister.specs.Fault.{IsCaused}
+use Rattle.mdmp_lister.specs.Painting.{AreCells, AreCellsTo, ArePainted, BooksNewly}
+use Rattle.mdmp_lister.proofs.addressing.read_range.Given as goal
+
+-- up to a place the range was read
+abbrev pub invariant-runs : goal.invariant-runs
+invariant-runs g l = record {
+  within : l.from ≤ length l.out;
+  painted : ArePainted l.paint l.known;
+  start : l.paint.start ≡ l.initial.paint.start;
+  cells : (seen : List Range) → AreCells l.initial.meter.source.store.content seen l.initial.paint.start l.initial.out l.initial.known
+      → AreCellsTo l.from l.initial.meter.source.store.content seen l.range l.initial.paint.start l.out l.known;
+  books : BooksNewly l.initial.known l.known l.initial.meter l.meter;
+  caused : IsCaused None l.initial.meter.source l.meter.source;
+}
+
+abbrev pub decreases-runs : goal.decreases-runs
+decreases-runs g l = length l.out - l.from

@@ -1,0 +1,69 @@
+use Rattle.std.proofs.Common.{◌≡◌, ◌+◌, ◌-◌, ◌∙◌, ℕ, None, arith, drop, inr, length, rules, subst, sym, take}
+use Rattle.std.specs.Prelude.{All}
+use borrow.Rule.Slice.PartMut.{put_mid}
+use Rattle.std.proofs.lemmas.List.{length-drop, length-take-le}
+use Rattle.std.proofs.lemmas.Option.{IfSome_then}
+use Rattle.mdmp_source.specs.SourceLaws.{fetches_then}
+use Rattle.mdmp_map.specs.Ranges.{IsWithin}
+use Rattle.mdmp_lister.specs.Addressing.{IsStretch}
+use Rattle.mdmp_lister.specs.Meter.{BooksAside}
+use Rattle.mdmp_lister.specs.AddressLaws.{ReadsCells_next, ReadsCells_stretch}
+use Rattle.mdmp_lister.proofs.Fetches.{IsCaused_later}
+use Rattle.mdmp_lister.proofs.Looks.{looks_up_more, looks_up_then}
+use Rattle.mdmp_lister.proofs.addressing.read_stretches.Goals as goal
+
+pub read_stretch-requires-clause-inside : goal.read_stretch-requires-clause-inside
+read_stretch-requires-clause-inside g c =
+    let count : ℕ = c.loop-done.done + c.stretch_at-stretch.result.count - c.loop-done.done in
+    let part = drop c.loop-done.done c.loop-done.out in
+    let shorter : length (take count part) ≡ count =
+    length-take-le count part (omega (arith, c.stretch_at-stretch.ensures.most, length-drop c.loop-done.done c.loop-done.out)) in
+    IfSome_then c.stretch_at-stretch.result.offset
+    (c.stretch_at-stretch.ensures.within c.loop-done.meter.source.size
+    (subst (λ n. All (IsWithin n) c.args.map.now.ranges) (sym c.loop-done.invariant.books.fetches.same_size) c.requires.inside))
+    (λ at inside. inr (omega (arith, inside, shorter)))
+
+pub loop-done-preserved : goal.loop-done-preserved
+loop-done-preserved g c =
+    let before = c.loop-done.invariant in
+    let done : ℕ = c.loop-done.done in
+    let end : ℕ = done + c.stretch_at-stretch.result.count in
+    let count : ℕ = end - done in
+    let part = drop done c.loop-done.out in
+    let shorter : length (take count part) ≡ count = length-take-le count part (omega (arith, c.stretch_at-stretch.ensures.most, length-drop done c.loop-done.out)) in
+    let same : length c.read_stretch.new.out ≡ c.stretch_at-stretch.result.count = omega (arith, shorter, c.read_stretch.auto.out) in
+    let other = drop done c.loop-done.known in
+    let shorter_too : length (take count other) ≡ count =
+    length-take-le count other (omega (arith, c.stretch_at-stretch.ensures.most, c.requires.same, c.loop-done.auto, length-drop done c.loop-done.known)) in
+    let also : length c.read_stretch.new.known ≡ c.stretch_at-stretch.result.count = omega (arith, shorter_too, c.read_stretch.auto.known) in
+    let stretch : IsStretch c.args.map.now.ranges (c.args.address + done) c.stretch_at-stretch.result.offset (length c.read_stretch.new.out) =
+    subst (λ n. IsStretch c.args.map.now.ranges (c.args.address + done) c.stretch_at-stretch.result.offset n) (sym same)
+    (subst (λ a. IsStretch c.args.map.now.ranges (a + done) c.stretch_at-stretch.result.offset c.stretch_at-stretch.result.count) c.from.ensures c.stretch_at-stretch.ensures.stretch) in
+    let booked : BooksAside c.stretch_at-stretch.result.count c.loop-done.meter c.read_stretch.new.meter =
+    subst (λ n. BooksAside n c.loop-done.meter c.read_stretch.new.meter) same c.in_ok-read_stretch.ensures.reads.books in
+    record {
+      within = omega (arith, c.stretch_at-stretch.ensures.most, c.loop-done.auto);
+      read = ReadsCells_next c.args.meter.now.source.store.content c.args.map.now.ranges c.args.address done end c.loop-done.out c.read_stretch.new.out
+          c.loop-done.known c.read_stretch.new.known (omega arith) (omega arith) (omega (arith, same)) (omega (arith, same, also)) before.read
+          (ReadsCells_stretch c.args.meter.now.source.store.content c.args.map.now.ranges (c.args.address + done) c.stretch_at-stretch.result.offset c.read_stretch.new.out
+          c.read_stretch.new.known stretch c.in_ok-read_stretch.ensures.known c.in_ok-read_stretch.ensures.zeros
+          (λ F is. c.in_ok-read_stretch.ensures.reads.of_file F (before.books.fetches.same_content ∙ is)));
+      books = record {
+        fetches = fetches_then done c.stretch_at-stretch.result.count c.args.meter.now.source c.loop-done.meter.source c.read_stretch.new.meter.source before.books.fetches
+            booked.fetches;
+        spends = search rules;
+      };
+      caused = IsCaused_later None done c.args.meter.now.source c.loop-done.meter.source c.read_stretch.new.meter.source before.books.fetches before.caused
+          c.in_ok-read_stretch.ensures.reads.caused;
+      looks = looks_up_more (length c.args.map.now.ranges) (done + 1) end c.args.steps.now c.stretch_at-stretch.new.steps (omega (arith, c.stretch_at-stretch.ensures.some))
+          (looks_up_then (length c.args.map.now.ranges) done 1 c.args.steps.now c.loop-done.steps c.stretch_at-stretch.new.steps before.looks c.stretch_at-stretch.ensures.looks);
+    }
+
+pub returns-in_err-read_stretch-clause-looks : goal.returns-in_err-read_stretch-clause-looks
+returns-in_err-read_stretch-clause-looks g c =
+    let done : ℕ = c.loop-done.done in
+    let count : ℕ = done + c.stretch_at-stretch.result.count - done in
+    let same : length (put_mid done count c.loop-done.out c.read_stretch.new.out) ≡ length c.loop-done.out =
+    search rules in
+    looks_up_more (length c.args.map.now.ranges) (done + 1) _ c.args.steps.now c.stretch_at-stretch.new.steps (omega (arith, same, c.loop-done-test.true))
+    (looks_up_then (length c.args.map.now.ranges) done 1 c.args.steps.now c.loop-done.steps c.stretch_at-stretch.new.steps c.loop-done.invariant.looks c.stretch_at-stretch.ensures.looks)

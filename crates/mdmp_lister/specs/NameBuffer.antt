@@ -1,0 +1,8 @@
+-- What a contract sees of the buffer for a name.
+use Rattle.std.specs.Prelude.{ℕ, List}
+
+pub record NameBufferState : Type 0 where
+  -- as many bytes as the longest had that was read
+  pub items : List ℕ
+  -- it has room for so many
+  pub limit : ℕ

@@ -1,0 +1,34 @@
+use Rattle.std.proofs.Common.{◌≡◌, ◌≤◌, ◌+◌, ◌-◌, ◌∙◌, [], ap, sym, subst, arith, length, take, vec_len, refl, Ok}
+use Rattle.std.proofs.lemmas.List.{take-take}
+use Rattle.std.specs.Vec.{with_items}
+use Rattle.mdmp_source.specs.FileBlock.{IsReach}
+use Rattle.mdmp_source.proofs.Held.{written_behind}
+use borrow.Rule.Slice.PartMut.{put_mid}
+use Rattle.mdmp_source.proofs.file_block.FileBlock.fill.Goals as goal
+
+pub returns : goal.returns
+returns g c =
+    let k = c.in_ok-self-inside.field-0 in
+    let bytes = c.read_at.new.out in
+    let reach = c.reach_at-reach.result in
+    let buffer = c.self.inside.buffer in
+    let fits : reach ≤ vec_len buffer = subst (λ b. reach ≤ b.room) (sym c.self.view_is) c.reach_at-reach.ensures.fits in
+    let room : 0 + reach ≤ vec_len buffer = omega (arith, fits) in
+    let written = written_behind buffer c.deref_mut.result.now bytes [] 0 reach (reach - 0)
+    c.deref_mut.ensures.value (omega arith) c.read_at.auto.out refl room in
+    let few : k ≤ length bytes = c.in_ok-self-inside.ensures.bound in
+    let items = (with_items buffer (put_mid 0 (reach - 0) c.deref_mut.result.now bytes)).items in
+    let within : k ≤ 0 + reach = omega (arith, few, written.all) in
+    let front : take k items ≡ take k bytes = sym (take-take k (0 + reach) items within) ∙ ap (λ xs. take k xs) written.more in
+    record {
+      answer = Ok k;
+      bytes = bytes;
+      reach = subst (λ n. IsReach c.args.self.now c.args.at c.args.wanted n) (sym written.all) c.reach_at-reach.ensures.reach;
+      read = c.in_ok-self-inside.ensures.read;
+      at_place = refl;
+      holds = front;
+      same_room = ap (λ b. b.room) c.self.view_is;
+      asked = sym written.all;
+      fresh = (refl, refl);
+      fails = (λ x. x, λ x. x);
+    }
