@@ -1,6 +1,6 @@
 # Builds and installs the program, its manual, what shells complete, the library, and the Python package.
 #
-#   make              proves and builds the program and the library, or takes what is built of the same files
+#   make              proves and builds the program and the library, if a file of theirs is newer than what is built
 #   make install      puts them below PREFIX (/usr/local), libraries into LIBDIR (lib below it), the package into PYTHONDIR (where
 #                     python3 looks below PREFIX), all in DESTDIR if there is one
 #   make uninstall    removes what that put there
@@ -14,19 +14,33 @@ LIBDIR ?= $(PREFIX)/lib
 PYTHONDIR ?= $(shell python3 -c 'import site, sysconfig; print(next((it for it in site.getsitepackages() if it.startswith("$(PREFIX)/lib/")), sysconfig.get_path("purelib", "posix_prefix", vars={"base": "$(PREFIX)"})))')
 VERSION = $(shell sed -n 's/^version = "\(.*\)"$$/\1/p' bindings/interface.toml)
 PROGRAM = crates/mdmp/out/mdmp
+ARCHIVE = crates/mdmp_c/out/libmdmp_c.a
+# The crates of both, and what their proofs read. A folder is newer if a file went.
+PRODUCT = $(shell sed -n '/^. The product/,/^$$/s|^\([a-z_]*\).*:.*|crates/\1|p' crates.txt)
+PROVED = crates.txt HANDLES $(shell find $(PRODUCT) \( -name out -o -name must-fail \) -prune -o \( -type d -o -name '*.rt' -o -name '*.antt' \) -print)
 TO = $(DESTDIR)$(PREFIX)
 PAGE = share/man/man1/mdmp.1
 CALLS = share/man/man3/mdmp.3
 BASH = share/bash-completion/completions/mdmp
 ZSH_PLACE = share/zsh/site-functions/_mdmp
 FISH = share/fish/vendor_completions.d/mdmp.fish
-LIBRARIES = libmdmp.a libmdmp.so libmdmp.so.0 pkgconfig/mdmp.pc
+LIBRARIES = libmdmp.a libmdmp.so $(shell cat bindings/soname) pkgconfig/mdmp.pc
 
-.PHONY: all install uninstall dist deb
+.PHONY: all install uninstall dist deb lost
 
-all:
+all: crates/mdmp/out/made crates/mdmp_c/out/made
+
+# `rt` needs no file of these names: they are as new as what was built.
+crates/mdmp/out/made: $(PROVED) $(if $(wildcard $(PROGRAM)),,lost)
 	cd crates/mdmp && rt run -- --version
+	touch $@
+
+# This takes what the other left of the crates that both stand on.
+crates/mdmp_c/out/made: $(PROVED) $(if $(wildcard $(ARCHIVE)),,lost) | crates/mdmp/out/made
 	cd crates/mdmp_c && rt lib
+	touch $@
+
+lost:
 
 $(PROGRAM):
 	@echo "there is no $(PROGRAM): run make first" >&2; exit 1
