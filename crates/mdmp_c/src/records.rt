@@ -46,7 +46,8 @@ pub extern "C" fn mdmp_modules_(
     give_rows(alloc, file, limits, only(4), out, count, fault)
 }
 
-/// Gives the exceptions of a file, `ExceptionStream`: most have one at most: as many as `out` has room for, and in `count` how many there are, up to the first fault.
+/// Gives the exceptions of a file, `ExceptionStream`: as many as `out` has room for, and in `count` how many there are, up to the first error.
+/// Most files have one or none.
 #[unsafe(no_mangle)]
 pub extern "C" fn mdmp_exceptions_(
     alloc: Global,
@@ -61,7 +62,8 @@ pub extern "C" fn mdmp_exceptions_(
     give_rows(alloc, file, limits, only(6), out, count, fault)
 }
 
-/// Gives the systems of a file, `SystemInfoStream`: most have one at most: as many as `out` has room for, and in `count` how many there are, up to the first fault.
+/// Gives the systems of a file, `SystemInfoStream`: as many as `out` has room for, and in `count` how many there are, up to the first error.
+/// Most files have one or none.
 #[unsafe(no_mangle)]
 pub extern "C" fn mdmp_systems_(
     alloc: Global,

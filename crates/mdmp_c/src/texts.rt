@@ -29,7 +29,7 @@ pub extern "C" fn mdmp_check_(
     check_in(alloc, file, limits, LineForm::Text, out, size, fault)
 }
 
-/// The same as objects of JSON (RFC 8259), one a line, in UTF-8: docs/FORMAT.md, 'Lines as objects'.
+/// The same as JSON objects (RFC 8259), one a line, in UTF-8: docs/reference/lines.md.
 #[unsafe(no_mangle)]
 pub extern "C" fn mdmp_check_json_(
     alloc: Global,
@@ -61,7 +61,7 @@ pub extern "C" fn mdmp_list_(
     list_in(alloc, file, limits, LineForm::Text, pdb, out, size, fault)
 }
 
-/// The same as objects of JSON (RFC 8259), one a line, in UTF-8: docs/FORMAT.md, 'Lines as objects'.
+/// The same as JSON objects (RFC 8259), one a line, in UTF-8: docs/reference/lines.md.
 #[unsafe(no_mangle)]
 pub extern "C" fn mdmp_list_json_(
     alloc: Global,

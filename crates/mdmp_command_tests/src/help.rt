@@ -121,8 +121,8 @@ fn parted<'a>(rt: &impl Abort, text: &'a str, by: &str) -> (&'a str, &'a str) {
 
 /// What the help of `copy` says behind the types.
 const BEHIND_TYPES: [&str; 2] = [
-    "Locations inside a user's stream are not\nmoved",
-    "After a fault OUT is left\nas far as it was written.",
+    "Locations inside a user's stream are not\nchanged",
+    "After an error OUT stays,\nempty or partly written.",
 ];
 
 /// Asserts that the help of `copy` names the types that are copied.
@@ -135,7 +135,7 @@ fn assert_help_of_copy(rt: &impl Abort, alloc: Global, text: &str) {
     let (listed, behind) = parted(rt, types, "\n\n");
     assert_types(rt, alloc, listed);
     assert_parts(rt, behind, &BEHIND_TYPES);
-    assert_parts(rt, text, &["there must be none of its name"]);
+    assert_parts(rt, text, &["it must not exist"]);
 }
 
 /// The help of `copy`.

@@ -23,8 +23,7 @@ use std::rt::Files;
 /// How many bytes of output are gathered before they are written.
 const BLOCK: usize = 65536;
 
-/// Runs the command that the words behind the program's name ask for, over the files of the system: see
-/// [`run_on_disk`].
+/// Runs the command that the words after the program's name ask for, over the files of the system: see [`run_on_disk`].
 pub fn run_words<R: Files + AllocGlobal, A: Allocator + Copy, O: Out, E: Out>(
     rt: &R,
     alloc: A,
@@ -37,15 +36,16 @@ pub fn run_words<R: Files + AllocGlobal, A: Allocator + Copy, O: Out, E: Out>(
     run_on_disk(rt, &mut SystemDisk::new(rt), alloc, words, out, err)
 }
 
-/// Runs the command that the words behind the program's name ask for: `check FILE [--json]`,
-/// `list FILE [--pdb] [--json]`, `hex FILE ADDRESS LENGTH` or `copy IN OUT TYPE...`, each with
-/// `--window N` and `--name N`. All words are judged before a file is opened. `copy` makes OUT, which must not be there;
-/// after a fault OUT is left as far as it was written. No other file is changed.
+/// Runs the command that the words after the program's name ask for: `check FILE [--json]`,
+/// `list FILE [--pdb] [--json] [--aside N]`, `hex FILE ADDRESS LENGTH` or `copy IN OUT TYPE...`. Each takes
+/// `--window N`, `--name N`, `--budget N`, `--memory N` and `--untrusted`. All words are judged before a file is
+/// opened. `copy` creates OUT, which must not exist; after an error OUT stays, empty or partly written. No other
+/// file changes.
 ///
-/// It writes the lines, or the help that was asked for, to `out`, and the line of a fault to `err`, and
-/// answers the exit status: 0 where all went well; 1 where the file is at fault, for `check` where an
-/// entry is; 2 where the words are, or a type is not copied; 3 where the store, the output or memory
-/// is, or a file can't be opened or made. Where `err` refuses, the answer is the same.
+/// It writes the lines, or the help that was asked for, to `out`, and the line of an error to `err`. It returns
+/// the exit status: 0 on success; 1 for an error in the file, for `check` in any entry; 2 for a bad command line,
+/// or a type that is not copied; 3 for an I/O error, if memory runs out, if a limit is reached, or if a file
+/// can't be opened or created. If `err` refuses, the status is the same.
 pub fn run_on_disk<R: AllocGlobal, D: Disk, A: Allocator + Copy, O: Out, E: Out>(
     rt: &R,
     disk: &mut D,

@@ -5,35 +5,35 @@ pub(crate) const VERSION: &str = "0.1.0";
 
 /// What the program is, and what it does not do.
 pub(crate) const ABOUT: &str = "\
-Reads minidumps of Windows, whoever wrote them: lists them, checks them, prints
-memory of the dumped process, and copies streams into a new file. It does not
-walk stacks, read symbols or disassemble, and it never writes into its input.";
+Reads Windows minidumps: lists them, checks them, prints memory of the dumped
+process, and copies streams into a new file. It does not walk stacks, read
+symbols or disassemble, and it never writes to its input.";
 
-/// What stands under the list of commands.
+/// What follows the list of commands.
 pub(crate) const AFTER: &str = "\
-'mdmp COMMAND --help' tells more of a command.
+'mdmp COMMAND --help' prints the help of a command.
 
 Exit status:
-  0  all went well
-  1  the file is at fault; for 'check', any of its entries is
-  2  the command line is wrong, or a type is not copied
-  3  the store, the output or memory failed, a limit was reached, or a file
-     could not be opened or made
+  0  success
+  1  an error in the file; for 'check', in any of its entries
+  2  a bad command line, or a type that is not copied
+  3  an I/O error, out of memory, a limit was reached, or a file could not be
+     opened or created
 
 Examples:
   mdmp list crash.dmp
   mdmp hex crash.dmp 0x7ffe0000 64";
 
 /// What `check` does, in a line.
-pub(crate) const CHECK_ABOUT: &str = "Tells of each entry of the directory whether it is good";
+pub(crate) const CHECK_ABOUT: &str = "Checks each entry of the directory";
 
 /// What `check` prints.
 pub(crate) const CHECK_AFTER: &str = "\
-Prints a line for each entry of the directory, 'entry 0: ok' or the first fault
-of what the entry names, and goes on behind a fault of the file. The exit
-status is 1 where any entry is bad; how many are is told on standard error.
-With '--json' each line is an object, for programs; what goes to standard error
-stays as it is.
+Prints a line for each entry of the directory: 'entry 0: ok', or the first error
+of the stream that the entry names. It goes on after an error in the file. If
+any entry is bad, the exit status is 1, and standard error has the number of bad
+entries. It does not look at what records point to. With '--json' each line is
+an object, for programs; messages on standard error stay text.
 
 Examples:
   mdmp check crash.dmp
@@ -45,10 +45,10 @@ pub(crate) const LIST_ABOUT: &str =
 
 /// What `list` prints.
 pub(crate) const LIST_AFTER: &str = "\
-Prints a line for the header, one for each entry of the directory, and behind
-it one for each record of its stream, where records of its type are known. It
-ends at the first fault of the file; the lines before it stand. With '--json'
-each line is an object, for programs; faults stay as they are.
+Prints a line for the header and for each entry of the directory. After the line
+of an entry, it prints a line for each record of the stream, if the records of
+its type are known. It ends at the first error in the file. With '--json' each
+line is an object, for programs; messages on standard error stay text.
 
 Examples:
   mdmp list --pdb crash.dmp
@@ -59,9 +59,9 @@ pub(crate) const HEX_ABOUT: &str = "Prints memory of the dumped process in hexad
 
 /// What `hex` prints.
 pub(crate) const HEX_AFTER: &str = "\
-Prints lines of up to 16 bytes, each with the address of its first, and '??' for
-a byte that the memory lists of the file do not hold. It prints nothing where
-one of these lists has a fault.
+Prints lines of up to 16 bytes, each with the address of its first byte. A byte
+that is not in the memory lists of the file is '??'. If one of these lists has
+an error, nothing is printed.
 
 Example:
   mdmp hex crash.dmp 0x7ffe0000 64";
@@ -69,7 +69,7 @@ Example:
 /// What `copy` does, in a line.
 pub(crate) const COPY_ABOUT: &str = "Copies the streams of some types into a new file";
 
-/// What `copy` copies, and what is left of it after a fault.
+/// What `copy` copies, and what is left of OUT after an error.
 pub(crate) const COPY_AFTER: &str = "\
 Types that are copied, by their numbers or names:
   0             UnusedStream
@@ -87,20 +87,20 @@ Types that are copied, by their numbers or names:
   24            threadnames, ThreadNamesStream
   65536 and on  streams of users
 
-Streams keep their order. Names and other parts are written behind their stream,
-and the records name their new places. Locations inside a user's stream are not
-moved: they still name places of IN. Prints nothing. After a fault OUT is left
-as far as it was written.
+Streams keep their order. The names and other parts of a stream follow it, and
+its records have their new locations. Locations inside a user's stream are not
+changed: they still point into IN. Nothing is printed. After an error OUT stays,
+empty or partly written.
 
 Example:
   mdmp copy crash.dmp small.dmp threads modules system";
 
 /// What FILE is.
-pub(crate) const FILE: &str = "The minidump that is read";
+pub(crate) const FILE: &str = "The minidump to read";
 
 /// What `--window` sets.
 pub(crate) const WINDOW: &str =
-    "Fetch the file by at most N bytes, 168 to 1073741824 [default: 65536]";
+    "Read at a time at most N bytes, 168 to 1073741824 [default: 65536]";
 
 /// What `--name` sets.
 pub(crate) const NAME: &str = "Read names of at most N bytes, up to 1073741824 [default: 4096]";
@@ -110,8 +110,7 @@ pub(crate) const BUDGET: &str =
     "Read at most N bytes of the file, up to 18446744073709551615 (the default)";
 
 /// What `--memory` sets.
-pub(crate) const MEMORY: &str =
-    "Use at most N bytes of memory for what is read [default: no limit]";
+pub(crate) const MEMORY: &str = "Use at most N bytes of memory for the dump [default: no limit]";
 
 /// What `--aside` sets.
 pub(crate) const ASIDE: &str =
@@ -122,7 +121,7 @@ pub(crate) const UNTRUSTED: &str =
     "For strangers' files: --budget, --memory and list's --aside default to 67108864";
 
 /// What `--pdb` adds.
-pub(crate) const PDB: &str = "Tell of each module also its symbol file (PDB), where it names one";
+pub(crate) const PDB: &str = "Print a line for the symbol file (PDB) of each module that names one";
 
 /// What `--json` changes.
 pub(crate) const JSON: &str = "Print each line as an object of JSON (RFC 8259), in UTF-8";
@@ -136,10 +135,10 @@ pub(crate) const LENGTH: &str =
     "How many bytes, in decimal: up to 1048576, and none past the last address, 2^64 - 1";
 
 /// What IN is.
-pub(crate) const IN: &str = "The minidump that is read";
+pub(crate) const IN: &str = "The minidump to read";
 
 /// What OUT is.
-pub(crate) const OUT: &str = "The file that is written; there must be none of its name";
+pub(crate) const OUT: &str = "The file to create; it must not exist";
 
 /// What each TYPE is.
-pub(crate) const TYPE: &str = "The types of the streams that are copied, 1 to 16 numbers or names";
+pub(crate) const TYPE: &str = "The types of the streams to copy, 1 to 16 numbers or names";

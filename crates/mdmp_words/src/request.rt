@@ -16,9 +16,9 @@ pub struct Request<'a> {
 /// How lines are printed.
 #[derive(Clone, Copy)]
 pub enum LineForm {
-    /// As words, to be read.
+    /// As words, for people.
     Text,
-    /// As an object of JSON each (RFC 8259), for programs: docs/FORMAT.md, 'Lines as objects'.
+    /// As one JSON object each (RFC 8259), for programs: docs/reference/lines.md.
     Json,
 }
 
