@@ -65,13 +65,14 @@ pub use crate::texts::{mdmp_check_, mdmp_check_json_, mdmp_list_, mdmp_list_json
 pub use crate::verdicts::mdmp_verdicts_;
 pub use mdmp_index::IndexSlot;
 
-/// The number of these calls' form: it rises where a structure or the meaning of a call changes.
+/// The number of the C interface, which the header has as `MDMP_ABI`. Until the first release it stays, even if a call
+/// changes.
 pub const ABI: u32 = 2;
 
-/// The version of the library, 0.1.0: its three numbers, a byte each, the greatest first.
+/// The version of the library, 0.1.0: major, minor and patch, a byte each.
 pub const VERSION: u32 = 0x000100;
 
-/// Answers [`ABI`], which a caller compares with the header's.
+/// Returns [`ABI`], which a caller compares with that of its header.
 #[unsafe(no_mangle)]
 pub extern "C" fn mdmp_abi() -> u32
     ensures { result ≡ 2 }
