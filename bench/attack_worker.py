@@ -18,9 +18,9 @@ from ctypes import POINTER, Array, Structure, byref, c_bool, c_uint8, c_uint32, 
 from typing import Any, Callable
 
 import mdmp
-from mdmp import _structures
+from mdmp import _calls, _structures
 from mdmp._buffer import Lent
-from mdmp._library import library
+from mdmp._library import Filled, fill, library
 
 ROOM = 64 << 20  # bytes of the buffer that a call gets; of it only what is written to takes memory
 LENGTH = 64 << 10  # addresses of memory that are asked for
@@ -198,17 +198,35 @@ def length(given: Any) -> int:
     return 0
 
 
+class Written:
+    """Counts the bytes that the library makes for the package. A text that is longer than the first buffer is made twice."""
+
+    def __init__(self) -> None:
+        self.bytes = 0
+
+    def fill(self, call: Callable[..., int], item: Any, room: int, most: int | None = None) -> Filled:
+        def counted(items: Any, room: int, count: Any, fault: Any) -> int:
+            status = call(items, room, count, fault)
+            self.bytes += count._obj.value * sizeof(item)
+            return status
+
+        return fill(counted, item, room, most)
+
+
 def in_python(call: str, path: str, is_strangers: bool, name: int, address: int) -> tuple[str, int, int]:
-    """How an answer of the package ends, and how many bytes it has; none are the caller's."""
+    """How an answer of the package ends, and how many bytes it has or the library made for it; none are the caller's."""
+    written = Written()
+    setattr(_calls, "fill", written.fill)
     with opened(path, is_strangers, name) as dump:
         try:
-            return "0", length(properties(dump, address)[call]()), 0
+            ends, given = "0", properties(dump, address)[call]()
         except mdmp.OutputLimit as fault:
-            return "output limit", length(fault.partial), 0
+            ends, given = "output limit", fault.partial
         except mdmp.Fault as fault:
-            return fault.kind.name.lower().replace("_", " "), length(fault.partial), 0
+            ends, given = fault.kind.name.lower().replace("_", " "), fault.partial
         except Exception as error:
-            return type(error).__name__, length(getattr(error, "partial", None)), 0
+            ends, given = type(error).__name__, getattr(error, "partial", None)
+    return ends, max(length(given), written.bytes), 0
 
 
 def in_c(call: str, path: str, is_strangers: bool, name: int, address: int) -> tuple[str, int, int]:
