@@ -1,48 +1,52 @@
-/* mdmp: reads Windows minidump files, for C and C++ and what calls C.
+/* mdmp: reads Windows minidump files, for C, C++ and languages that call C.
  *
- * Every call reads a file that stands wholly in memory (read it or map it), for as long as the call takes.
- * There are no handles, no callbacks and no state: what a call answers depends only on its arguments, unless memory
- * runs out or a limit is reached.
+ * Each call reads a file that is wholly in memory, read or mapped, for as long as the call takes. There are no handles,
+ * no callbacks and no state. What a call returns depends only on its arguments, unless memory runs out or a limit is
+ * reached.
  *
- * Limits. For a file from a stranger, pass MDMP_LIMITS_UNTRUSTED. MDMP_NO_LIMIT in the place of a limit is no limit,
- * and 0 is no byte. A structure of zeros is refused with MDMP_FAULT_BAD_LIMITS, since its window is below 168.
+ * Limits. For a file from a stranger, pass MDMP_LIMITS_UNTRUSTED. For `budget`, `memory` and `aside`, MDMP_NO_LIMIT is no
+ * limit, and 0 is no byte. A structure of zeros is rejected with MDMP_FAULT_BAD_LIMITS, since its window is below 168.
  *
- * Ownership. All that is written to is the caller's, and need not be set before. What a call takes by malloc
- * it has given back when it returns, on every path. No pointer into the library or the file comes back: a name
- * or a part is told as a place in the file, which the caller has. The file is never written to.
+ * Memory. A call writes only to memory of the caller, which needs no value before. What a call allocates by malloc, it
+ * frees before it returns, on every path. No pointer into the library or the file comes back: names and parts are offsets
+ * and sizes in the file. No call writes to the file.
  *
- * Threads. Any number may call at once, also over one file. Do not call from a signal handler, nor in a
- * forked child of a program with threads before it runs another program: both are what malloc asks.
+ * Threads. Any number of threads may call at once, also over one file. Do not call from a signal handler. In a forked
+ * child of a program with threads, do not call before it runs another program. malloc requires both.
  *
- * Errors. A call answers an mdmp_status. What stands in the caller's memory behind each:
+ * Errors. A call returns an mdmp_status. `out` is the memory for the result, with a capacity of `room` elements. If a call
+ * returns nothing, `out` is unchanged, and `size` or `count` is 0.
  *
- *   MDMP_OK            all of it. `size` or `count` says how much; `fault` is MDMP_FAULT_NONE.
- *   MDMP_FAULT         the file is at fault, and `fault` says what and where. Given is all up to the fault
- *                      (a check and its verdicts go on behind it; mdmp_copy, mdmp_memory and mdmp_header give
- *                      nothing, and mdmp_symbols zeros); of a file that can't be opened nothing, and `size` or
- *                      `count` is 0.
- *   MDMP_BAD_ARGUMENT  limits, types or lengths are wrong, and `fault` says which. The buffer is as it was
- *                      (mdmp_symbols gives zeros), and `size` or `count` is 0.
- *   MDMP_NO_MEMORY     malloc or realloc answered NULL. The buffer is as it was, and `size` or `count` is 0.
- *   MDMP_BUFFER_TOO_SHORT     the buffer holds as much as it has room for. `size` or `count` says how much there
- *                      is, and `fault` what is wrong with the file, as if there had been room.
- *   MDMP_LIMIT         a limit of mdmp_limits was reached, and the kind of the fault says which:
- *                      MDMP_FAULT_BUDGET        the next read would pass `budget`, and was not made.
- *                      MDMP_FAULT_ASIDE_LIMIT   the next CodeView record would pass `aside`, and was not read.
- *                      MDMP_FAULT_MEMORY_LIMIT  the lists of the call would pass `memory`, and were not made.
- *                      MDMP_FAULT_COPY_BUDGET   the copy would pass `budget`, and was not begun.
- *                      After the first two, all that precedes is given, and `size` or `count` says how much
- *                      (mdmp_memory and mdmp_copy give nothing; a check and its verdicts end there). After the
- *                      last two, and if the file was not opened yet, the buffer is as it was, and `size` or
- *                      `count` is 0.
+ *   MDMP_OK                Success: `out` has everything, and `size` or `count` says how much that is.
+ *                          `fault` is MDMP_FAULT_NONE.
+ *   MDMP_FAULT             The file has an error, and `fault` says which and where. `out` has what precedes the error.
+ *                          mdmp_check, mdmp_check_json and mdmp_verdicts go on after an error, and return everything.
+ *                          mdmp_copy, mdmp_memory, mdmp_header and mdmp_name return nothing.
+ *                          mdmp_symbols returns zeros.
+ *                          If the file cannot be opened, a call returns nothing.
+ *   MDMP_BAD_ARGUMENT      Limits, types or lengths are wrong, and `fault` says which. The call returns nothing;
+ *                          mdmp_symbols returns zeros.
+ *   MDMP_NO_MEMORY         malloc or realloc returned NULL. The call returns nothing.
+ *   MDMP_BUFFER_TOO_SHORT  There are more than `room` elements, and `out` has the first ones. `size` or `count` says how
+ *                          many there are. `fault` is what a large enough `out` would give.
+ *                          mdmp_index and mdmp_index_modules leave `out` unchanged.
+ *   MDMP_LIMIT             A limit of mdmp_limits is reached, and the kind of `fault` says which:
+ *                          MDMP_FAULT_BUDGET        The next read would pass `budget`, and is not made.
+ *                          MDMP_FAULT_ASIDE_LIMIT   The next CodeView record would pass `aside`, and is not read.
+ *                          MDMP_FAULT_MEMORY_LIMIT  The next lists would pass `memory`, and are not allocated.
+ *                          MDMP_FAULT_COPY_BUDGET   The copy would pass `budget`, and is not started.
+ *                          After the first two, `out` has what precedes the limit, and `size` or `count` says how much.
+ *                          A check and its results end there; mdmp_memory and mdmp_copy return nothing.
+ *                          After the last two, and if the file is not open yet, the call returns nothing.
  *
- * So a caller guesses a size, and calls at most twice; a room of 0 asks for the size alone.
+ * So two calls are enough: the first with a guess of `room`, or with 0, and the second with the number that the first
+ * returned.
  *
- * Pointers. None is NULL, but beside a length of 0: there a pointer is not looked at. What is written to is
- * disjoint from all else, and aligned as its type. Nothing checks this.
+ * Pointers. A pointer may be NULL only if its length is 0: then the call does not use it. Memory that a call writes to
+ * must not overlap any other argument, and must be aligned for its type. The library checks none of this.
  *
- * Numbers. Structures have fixed-width fields and no padding; `reserved` is 0. Offsets and sizes are in
- * bytes, offsets from the start of the file. A field that minidumpapiset.h has is named beside its own.
+ * Numbers. Structures have fixed-width fields and no padding; `reserved` is 0. Offsets and sizes are in bytes, and offsets
+ * are from the start of the file. The comment of a field has the name that minidumpapiset.h gives to the field.
  */
 
 /* Made by bindings/generate from bindings/interface.toml. */
@@ -57,30 +61,30 @@
 extern "C" {
 #endif
 
-/* What mdmp_abi() answers of the library that belongs to this header. */
+/* What mdmp_abi() returns for the library of this header. */
 #define MDMP_ABI 2
 
-/* This header's version, as mdmp_version() answers it: major << 16 | minor << 8 | patch. */
+/* The version of this header, as mdmp_version() returns it: major << 16 | minor << 8 | patch. */
 #define MDMP_VERSION 0x000100
 
-/* What a call answers. 0 to 3 are exit statuses of the command too, and for 5 the command exits with 3. */
+/* What a call returns. 0 to 3 are also exit statuses of the command; for 5, the command exits with 3. */
 typedef enum mdmp_status {
-    MDMP_OK = 0,               /* good */
-    MDMP_FAULT = 1,            /* the file is at fault */
-    MDMP_BAD_ARGUMENT = 2,     /* an argument is: limits, types of streams, lengths */
+    MDMP_OK = 0,               /* success */
+    MDMP_FAULT = 1,            /* the file has an error */
+    MDMP_BAD_ARGUMENT = 2,     /* an argument is wrong: limits, types of streams, lengths */
     MDMP_NO_MEMORY = 3,        /* out of memory */
-    MDMP_BUFFER_TOO_SHORT = 4, /* the buffer was too short */
-    MDMP_LIMIT = 5             /* a limit was reached: the kind of the fault says which */
+    MDMP_BUFFER_TOO_SHORT = 4, /* the buffer is too short */
+    MDMP_LIMIT = 5             /* a limit is reached, and the kind of `fault` says which */
 } mdmp_status;
 
-/* What is wrong. Beside each stand the numbers of mdmp_fault that it uses. */
+/* Which error it is. The comment of each kind names the fields of mdmp_fault that the kind uses. */
 typedef enum mdmp_fault_kind {
-    MDMP_FAULT_NONE = 0,                 /* nothing */
-    MDMP_FAULT_FILE_TOO_SHORT = 1,       /* the file can't be opened: it has size bytes */
-    MDMP_FAULT_BAD_SIGNATURE = 2,        /* it does not begin with MDMP */
-    MDMP_FAULT_BAD_VERSION = 3,          /* size: the low 16 bits of its version */
-    MDMP_FAULT_DIRECTORY_OUTSIDE = 4,    /* offset and size of the directory, which is not inside the file */
-    MDMP_FAULT_TOO_MANY_RANGES = 5,      /* size (high: its upper 64 bits): how many ranges of memory */
+    MDMP_FAULT_NONE = 0,                 /* no error */
+    MDMP_FAULT_FILE_TOO_SHORT = 1,       /* size: the bytes of the file, which are fewer than 32 */
+    MDMP_FAULT_BAD_SIGNATURE = 2,        /* the file does not begin with MDMP */
+    MDMP_FAULT_BAD_VERSION = 3,          /* size: the low 16 bits of Version, which are not 0xa793 */
+    MDMP_FAULT_DIRECTORY_OUTSIDE = 4,    /* offset, size: the directory, which is not inside the file */
+    MDMP_FAULT_TOO_MANY_RANGES = 5,      /* size (high: its upper 64 bits): the number of memory ranges, over 2^28 */
     MDMP_FAULT_STREAM_OUTSIDE = 16,      /* entry, offset, size: the stream is not inside the file */
     MDMP_FAULT_SHORT_STREAM = 17,        /* entry, offset, size: the stream is shorter than its head or its record */
     MDMP_FAULT_BAD_HEADER_SIZE = 18,     /* entry, offset, size: SizeOfHeader */
@@ -89,24 +93,24 @@ typedef enum mdmp_fault_kind {
     MDMP_FAULT_NAME_LENGTH_OUTSIDE = 21, /* entry, index, offset, size (4): a name's length is not inside the file */
     MDMP_FAULT_NAME_ODD = 22,            /* entry, index, offset, size: a name's length is odd */
     MDMP_FAULT_NAME_OUTSIDE = 23,        /* entry, index, offset, size: a name is not inside the file */
-    MDMP_FAULT_PART_OUTSIDE = 32,        /* entry, index, part, offset (high: its upper 64 bits), size */
+    MDMP_FAULT_PART_OUTSIDE = 32,        /* entry, index, part, offset (high: its upper 64 bits), size: outside the file */
     MDMP_FAULT_NAME_TOO_LONG = 33,       /* entry, index, size: a name's length, which is over the limit */
-    MDMP_FAULT_RAW_KNOWN_TYPE = 48,      /* no call over a file answers this */
-    MDMP_FAULT_COPY_TOO_LARGE = 49,      /* the copy would be longer than the format can say */
-    MDMP_FAULT_BAD_ENTRIES = 64,         /* size: how many entries of the directory have a fault */
+    MDMP_FAULT_RAW_KNOWN_TYPE = 48,      /* no call returns this */
+    MDMP_FAULT_COPY_TOO_LARGE = 49,      /* the copy would be longer than the format allows */
+    MDMP_FAULT_BAD_ENTRIES = 64,         /* size: the number of directory entries that have an error */
     MDMP_FAULT_NOT_COPIED = 65,          /* size: a type of stream that is not copied */
-    MDMP_FAULT_NO_MEMORY = 66,           /* out of memory: malloc or realloc answered NULL */
+    MDMP_FAULT_NO_MEMORY = 66,           /* out of memory: malloc or realloc returned NULL */
     MDMP_FAULT_BAD_LIMITS = 67,          /* a limit is out of its bounds */
-    MDMP_FAULT_BAD_TYPES = 68,           /* the types to be copied are none, or over 16 */
-    MDMP_FAULT_STORE = 69,               /* no call over a file in memory answers this */
-    MDMP_FAULT_LENGTHS_DIFFER = 70,      /* two buffers that must have one length differ */
-    MDMP_FAULT_BUDGET = 71,              /* offset, size: bytes that were not read, as they would pass the budget */
-    MDMP_FAULT_MEMORY_LIMIT = 72,        /* size (high: its upper 64 bits): how many bytes the lists would take */
-    MDMP_FAULT_ASIDE_LIMIT = 73,         /* offset, size: a CodeView record that was not read, as it would pass the limit */
-    MDMP_FAULT_COPY_BUDGET = 74          /* size (high: its upper 64 bits): how many bytes the copy needs */
+    MDMP_FAULT_BAD_TYPES = 68,           /* there are no types to copy, or more than 16 */
+    MDMP_FAULT_STORE = 69,               /* no call returns this */
+    MDMP_FAULT_LENGTHS_DIFFER = 70,      /* two lengths that must be equal differ */
+    MDMP_FAULT_BUDGET = 71,              /* offset, size: bytes that were not read, as they would pass `budget` */
+    MDMP_FAULT_MEMORY_LIMIT = 72,        /* size (high: its upper 64 bits): the bytes that the lists would take */
+    MDMP_FAULT_ASIDE_LIMIT = 73,         /* offset, size: a CodeView record that was not read, as it would pass `aside` */
+    MDMP_FAULT_COPY_BUDGET = 74          /* size (high: its upper 64 bits): the bytes that the copy needs */
 } mdmp_fault_kind;
 
-/* Which part of a record a fault is of. */
+/* Which part of a record has the error. */
 typedef enum mdmp_part {
     MDMP_PART_STACK = 1,    /* the stack of a thread */
     MDMP_PART_CONTEXT = 2,  /* the registers of a thread or an exception */
@@ -115,19 +119,19 @@ typedef enum mdmp_part {
     MDMP_PART_MEMORY = 5    /* the bytes of a range of memory */
 } mdmp_part;
 
-/* What stands where a place says that something does. */
+/* What is at the place that a record names. */
 typedef enum mdmp_extent {
     MDMP_EXTENT_EMPTY = 0,  /* no bytes */
     MDMP_EXTENT_ABSENT = 1, /* bytes that the producer did not keep */
     MDMP_EXTENT_INSIDE = 2, /* bytes of the file */
-    MDMP_EXTENT_OUTSIDE = 3 /* bytes of which one lies behind the file's end */
+    MDMP_EXTENT_OUTSIDE = 3 /* bytes that are not all inside the file */
 } mdmp_extent;
 
 /* Whether a record has a name. */
 typedef enum mdmp_name_state {
-    MDMP_NAME_NONE = 0,  /* there is none */
+    MDMP_NAME_NONE = 0,  /* no name */
     MDMP_NAME_GIVEN = 1, /* a name within the limit */
-    MDMP_NAME_LONG = 2   /* a name that is longer than the limit */
+    MDMP_NAME_LONG = 2   /* a name longer than the limit */
 } mdmp_name_state;
 
 /* Which kind of CodeView record a module has. */
@@ -137,60 +141,60 @@ typedef enum mdmp_symbol_kind {
     MDMP_SYMBOLS_SHORT = 2  /* a record that is too short for its kind */
 } mdmp_symbol_kind;
 
-/* How much a call reads and holds. For a file from a stranger, use MDMP_LIMITS_UNTRUSTED;
- * MDMP_LIMITS_DEFAULT has no limit on budget, memory and aside. There MDMP_NO_LIMIT is no limit, and 0 is
- * no byte. Each call counts from 0. */
+/* How much a call reads, and how much memory it uses. For a file from a stranger, use
+ * MDMP_LIMITS_UNTRUSTED. MDMP_LIMITS_DEFAULT does not limit `budget`, `memory` and `aside`. In these
+ * three, MDMP_NO_LIMIT is no limit, and 0 is no byte. Each call counts from 0. */
 typedef struct mdmp_limits {
-    uint32_t window; /* bytes of the file's records that are held at a time: 168 to 2^30 */
-    uint32_t name;   /* bytes of the longest name that is read: at most 2^30 */
-    uint64_t budget; /* the most bytes of the file that are read to list or copy it; what is read twice counts twice */
+    uint32_t window; /* the size of the buffer for records, in bytes: 168 to 2^30 */
+    uint32_t name;   /* the longest name that is read, in bytes: at most 2^30 */
+    uint64_t budget; /* the most bytes that are read to list or copy the file; bytes that are read twice count twice */
     uint64_t memory; /* the most bytes that the lists of a call take: window, directory, ranges of memory, name */
-    uint64_t aside;  /* the most bytes of CodeView records that a list with `pdb` reads; they are not in budget */
+    uint64_t aside;  /* the most bytes of CodeView records that a list with `pdb` reads; `budget` does not count them */
 } mdmp_limits;
 
-/* What is wrong, and where. A number that the kind says nothing of is 0. */
+/* An error, and where it is. A number that the comment of the kind does not name is 0. */
 typedef struct mdmp_fault {
-    uint32_t kind;        /* mdmp_fault_kind: what is wrong */
-    uint32_t entry;       /* the entry of the directory, from 0 */
-    uint64_t index;       /* the record's place in its stream, from 0, where has_index is 1 */
+    uint32_t kind;        /* mdmp_fault_kind: which error it is */
+    uint32_t entry;       /* the number of the directory entry, from 0 */
+    uint64_t index;       /* the number of the record in its stream, from 0, if has_index is 1 */
     uint64_t offset;      /* an offset from the start of the file */
-    uint64_t size;        /* bytes, or the number that the kind says */
-    uint64_t high;        /* the upper 64 bits of the one number that may be so great */
-    uint32_t part;        /* mdmp_part: which part of the record, 0 where the fault is of none */
-    uint32_t has_index;   /* 1 where the fault is of one record, 0 where it is of a whole entry */
+    uint64_t size;        /* a number of bytes, or what the comment of the kind says */
+    uint64_t high;        /* the upper 64 bits of offset or size, if the comment of the kind says so */
+    uint32_t part;        /* mdmp_part: which part of the record has the error; 0 if the error is not in a part */
+    uint32_t has_index;   /* 1 if the error is in one record, else 0 */
     uint32_t reserved[4]; /* 0 */
 } mdmp_fault;
 
-/* Where a part of a record stands: MINIDUMP_LOCATION_DESCRIPTOR, and what is there. */
+/* The place of a part of a record: MINIDUMP_LOCATION_DESCRIPTOR, and what is there. */
 typedef struct mdmp_place {
     uint32_t size;     /* DataSize, in bytes */
     uint32_t rva;      /* Rva, an offset from the start of the file */
-    uint32_t extent;   /* mdmp_extent: what stands there */
+    uint32_t extent;   /* mdmp_extent: what is there */
     uint32_t reserved; /* 0 */
 } mdmp_place;
 
-/* Where a name stands, a MINIDUMP_STRING: mdmp_name gives its text. */
+/* The place of a name, a MINIDUMP_STRING: mdmp_name returns its text. */
 typedef struct mdmp_name_place {
-    uint64_t rva;   /* where its Length stands, an offset from the start of the file; 0 for no name */
-    uint32_t size;  /* bytes of its UTF-16 units, which stand 4 bytes behind that */
-    uint32_t state; /* mdmp_name_state: whether there is one */
+    uint64_t rva;   /* the offset of its Length from the start of the file; 0 for no name */
+    uint32_t size;  /* bytes of its UTF-16 units, which follow the 4 bytes of Length */
+    uint32_t state; /* mdmp_name_state: whether there is a name */
 } mdmp_name_place;
 
 /* The header: MINIDUMP_HEADER. */
 typedef struct mdmp_header_record {
     uint64_t flags;                /* Flags */
     uint32_t signature;            /* Signature */
-    uint32_t version;              /* Version: 0xa793 in the lower half, the producer's own in the upper */
+    uint32_t version;              /* Version: the low 16 bits are 0xa793, the high 16 bits are the producer's own */
     uint32_t number_of_streams;    /* NumberOfStreams */
     uint32_t stream_directory_rva; /* StreamDirectoryRva, an offset from the start of the file */
-    uint32_t checksum;             /* CheckSum, which nothing checks */
+    uint32_t checksum;             /* CheckSum, which is not checked */
     uint32_t time_date_stamp;      /* TimeDateStamp, in seconds since 1970 */
     uint32_t reserved[2];          /* 0 */
 } mdmp_header_record;
 
 /* An entry of the directory: MINIDUMP_DIRECTORY. */
 typedef struct mdmp_stream {
-    uint32_t entry;       /* its place in the directory, from 0 */
+    uint32_t entry;       /* the number of the entry in the directory, from 0 */
     uint32_t stream_type; /* StreamType */
     uint32_t size;        /* Location.DataSize, in bytes */
     uint32_t rva;         /* Location.Rva, an offset from the start of the file */
@@ -199,10 +203,10 @@ typedef struct mdmp_stream {
 
 /* A thread: MINIDUMP_THREAD. */
 typedef struct mdmp_thread {
-    uint64_t index;          /* the record's place in its stream, from 0 */
+    uint64_t index;          /* the number of the record in its stream, from 0 */
     uint64_t teb;            /* Teb, an address of the dumped process */
     uint64_t stack_start;    /* Stack.StartOfMemoryRange, an address of the dumped process */
-    uint32_t entry;          /* the entry of the directory, from 0 */
+    uint32_t entry;          /* the number of the directory entry, from 0 */
     uint32_t thread_id;      /* ThreadId */
     uint32_t suspend_count;  /* SuspendCount */
     uint32_t priority_class; /* PriorityClass */
@@ -214,42 +218,42 @@ typedef struct mdmp_thread {
 
 /* A module: MINIDUMP_MODULE. */
 typedef struct mdmp_module {
-    uint64_t index;              /* the record's place in its stream, from 0 */
+    uint64_t index;              /* the number of the record in its stream, from 0 */
     uint64_t base_of_image;      /* BaseOfImage, an address of the dumped process */
-    uint32_t entry;              /* the entry of the directory, from 0 */
+    uint32_t entry;              /* the number of the directory entry, from 0 */
     uint32_t size_of_image;      /* SizeOfImage, in bytes */
     uint32_t checksum;           /* CheckSum */
     uint32_t time_date_stamp;    /* TimeDateStamp, in seconds since 1970 */
-    uint32_t file_version_ms;    /* VersionInfo.dwFileVersionMS: the first two of the version's four numbers */
-    uint32_t file_version_ls;    /* VersionInfo.dwFileVersionLS: the last two */
+    uint32_t file_version_ms;    /* VersionInfo.dwFileVersionMS: the first two of the four numbers of the version */
+    uint32_t file_version_ls;    /* VersionInfo.dwFileVersionLS: the last two numbers */
     uint32_t product_version_ms; /* VersionInfo.dwProductVersionMS */
     uint32_t product_version_ls; /* VersionInfo.dwProductVersionLS */
     mdmp_name_place name;        /* the name at ModuleNameRva */
-    mdmp_place codeview;         /* CvRecord: mdmp_symbols tells what stands there */
+    mdmp_place codeview;         /* CvRecord: mdmp_symbols reads the record that is there */
     mdmp_place misc;             /* MiscRecord */
     uint32_t reserved[2];        /* 0 */
 } mdmp_module;
 
 /* An exception: MINIDUMP_EXCEPTION_STREAM. */
 typedef struct mdmp_exception {
-    uint64_t index;             /* the record's place in its stream: 0 */
+    uint64_t index;             /* the number of the record in its stream: 0 */
     uint64_t exception_record;  /* ExceptionRecord, an address of the dumped process */
     uint64_t exception_address; /* ExceptionAddress, an address of the dumped process */
     uint64_t information[15];   /* ExceptionInformation */
-    uint32_t entry;             /* the entry of the directory, from 0 */
+    uint32_t entry;             /* the number of the directory entry, from 0 */
     uint32_t thread_id;         /* ThreadId */
     uint32_t exception_code;    /* ExceptionCode */
     uint32_t exception_flags;   /* ExceptionFlags */
-    uint32_t number_parameters; /* NumberParameters: how many of information count; it may be over 15 */
+    uint32_t number_parameters; /* NumberParameters: how many elements of information are used; may be over 15 */
     mdmp_place context;         /* ThreadContext, the registers */
     uint32_t reserved[3];       /* 0 */
 } mdmp_exception;
 
 /* The system: MINIDUMP_SYSTEM_INFO. */
 typedef struct mdmp_system {
-    uint64_t index;                  /* the record's place in its stream: 0 */
-    mdmp_name_place csd_version;     /* the name at CSDVersionRva, of the service pack */
-    uint32_t entry;                  /* the entry of the directory, from 0 */
+    uint64_t index;                  /* the number of the record in its stream: 0 */
+    mdmp_name_place csd_version;     /* the name at CSDVersionRva: the service pack */
+    uint32_t entry;                  /* the number of the directory entry, from 0 */
     uint32_t processor_architecture; /* ProcessorArchitecture: 0 is x86, 9 is x64, 12 is ARM64 */
     uint32_t processor_level;        /* ProcessorLevel */
     uint32_t processor_revision;     /* ProcessorRevision */
@@ -264,11 +268,11 @@ typedef struct mdmp_system {
     uint32_t reserved[3];            /* 0 */
 } mdmp_system;
 
-/* A module that was unloaded: MINIDUMP_UNLOADED_MODULE. */
+/* An unloaded module: MINIDUMP_UNLOADED_MODULE. */
 typedef struct mdmp_unloaded_module {
-    uint64_t index;           /* the record's place in its stream, from 0 */
+    uint64_t index;           /* the number of the record in its stream, from 0 */
     uint64_t base_of_image;   /* BaseOfImage, an address of the dumped process */
-    uint32_t entry;           /* the entry of the directory, from 0 */
+    uint32_t entry;           /* the number of the directory entry, from 0 */
     uint32_t size_of_image;   /* SizeOfImage, in bytes */
     uint32_t checksum;        /* CheckSum */
     uint32_t time_date_stamp; /* TimeDateStamp, in seconds since 1970 */
@@ -278,11 +282,11 @@ typedef struct mdmp_unloaded_module {
 
 /* A region of memory: MINIDUMP_MEMORY_INFO. */
 typedef struct mdmp_region {
-    uint64_t index;              /* the record's place in its stream, from 0 */
+    uint64_t index;              /* the number of the record in its stream, from 0 */
     uint64_t base_address;       /* BaseAddress, an address of the dumped process */
     uint64_t allocation_base;    /* AllocationBase, an address of the dumped process */
     uint64_t region_size;        /* RegionSize, in bytes */
-    uint32_t entry;              /* the entry of the directory, from 0 */
+    uint32_t entry;              /* the number of the directory entry, from 0 */
     uint32_t allocation_protect; /* AllocationProtect */
     uint32_t state;              /* State */
     uint32_t protect;            /* Protect */
@@ -292,8 +296,8 @@ typedef struct mdmp_region {
 
 /* The name of a thread: MINIDUMP_THREAD_NAME. */
 typedef struct mdmp_thread_name {
-    uint64_t index;       /* the record's place in its stream, from 0 */
-    uint32_t entry;       /* the entry of the directory, from 0 */
+    uint64_t index;       /* the number of the record in its stream, from 0 */
+    uint32_t entry;       /* the number of the directory entry, from 0 */
     uint32_t thread_id;   /* ThreadId */
     mdmp_name_place name; /* the name at RvaOfThreadName, an offset of 64 bits */
     uint32_t reserved[2]; /* 0 */
@@ -301,53 +305,54 @@ typedef struct mdmp_thread_name {
 
 /* A range of memory: MINIDUMP_MEMORY_DESCRIPTOR or MINIDUMP_MEMORY_DESCRIPTOR64. */
 typedef struct mdmp_range {
-    uint64_t index;       /* the record's place in its stream, from 0 */
+    uint64_t index;       /* the number of the record in its stream, from 0 */
     uint64_t start;       /* StartOfMemoryRange, an address of the dumped process */
     uint64_t size;        /* DataSize, in bytes */
-    uint64_t offset;      /* where its bytes stand, an offset from the start of the file: the lower 64 bits */
-    uint64_t offset_high; /* the upper 64 bits of that, 0 where the bytes lie inside the file */
-    uint32_t entry;       /* the entry of the directory, from 0 */
-    uint32_t extent;      /* mdmp_extent: what its bytes are in the file */
+    uint64_t offset;      /* the offset of its bytes from the start of the file: the lower 64 bits */
+    uint64_t offset_high; /* the upper 64 bits of offset; 0 if the bytes are inside the file */
+    uint32_t entry;       /* the number of the directory entry, from 0 */
+    uint32_t extent;      /* mdmp_extent: whether its bytes are in the file */
     uint32_t reserved[2]; /* 0 */
 } mdmp_range;
 
-/* A slot of an index: addresses that follow each other, all of which have one row as the first that holds
- * them. */
+/* A slot of an index: consecutive addresses for which the same row is the first that has them. */
 typedef struct mdmp_slot {
-    uint64_t start;  /* the first of them, an address of the dumped process */
-    uint64_t length; /* how many there are */
-    uint64_t offset; /* where its byte stands, an offset from the start of the file; of modules, of the image */
+    uint64_t start;  /* the first address, of the dumped process */
+    uint64_t length; /* how many addresses there are */
+    uint64_t offset; /* the offset of the byte at start, from the start of the file or of the module's image */
     uint64_t owner;  /* the number of the row, from 0 */
 } mdmp_slot;
 
-/* What the CodeView record of a module tells. */
+/* The CodeView record of a module. */
 typedef struct mdmp_symbol_file {
-    uint64_t name_offset; /* of RSDS: where the file's name stands, an offset from the start of the dump */
-    uint32_t kind;        /* mdmp_symbol_kind: which kind of record it is; what follows is 0 where the kind has none */
-    uint32_t age;         /* of RSDS: how often the symbol file was written */
-    uint32_t name_size;   /* of RSDS: bytes of its name, of no known encoding, at most `name` of the limits */
-    uint32_t name_ended;  /* of RSDS: 1 if a zero byte ends the name, 0 if the record or the limit does */
-    uint8_t guid[16];     /* of RSDS: its identity, in the order in which it is printed */
-    uint8_t signature[4]; /* of another kind: its first four bytes */
+    uint64_t name_offset; /* RSDS: the offset of the symbol file's name from the start of the dump */
+    uint32_t kind;        /* mdmp_symbol_kind: which kind of record it is; a field that this kind does not have is 0 */
+    uint32_t age;         /* RSDS: how often the symbol file was written since it got its identity */
+    uint32_t name_size;   /* RSDS: bytes of the name, in no known encoding; at most `name` of the limits */
+    uint32_t name_ended;  /* RSDS: 1 if a zero byte ends the name, 0 if the record or the limit ends it */
+    uint8_t guid[16];     /* RSDS: the identity of the symbol file, in the order in which it is printed */
+    uint8_t signature[4]; /* another kind: the first four bytes of the record */
     uint32_t reserved[3]; /* 0 */
 } mdmp_symbol_file;
 
-/* In the place of a limit: there is none. */
+/* As a limit: no limit. */
 #define MDMP_NO_LIMIT UINT64_MAX
 
 /* The window and the longest name of the command, and no other limit. */
 #define MDMP_LIMITS_DEFAULT { 65536, 4096, MDMP_NO_LIMIT, MDMP_NO_LIMIT, MDMP_NO_LIMIT }
 
-/* The same window and longest name, and limits for a file from a stranger. */
+/* This window and this longest name, and limits for a file from a stranger. */
 #define MDMP_LIMITS_UNTRUSTED { 65536, 4096, 67108864, 67108864, 67108864 }
 
-/* MDMP_ABI of the library: it rises where a structure or the meaning of a call changes. */
+/* Returns MDMP_ABI of the library. If it is not MDMP_ABI of the header, do not use the library. Until the
+ * first release the number stays, even if a structure or the meaning of a call changes: compile with the
+ * header of the library. */
 uint32_t mdmp_abi(void);
 
-/* The library's version, major << 16 | minor << 8 | patch, as MDMP_VERSION. */
+/* Returns the version of the library, as MDMP_VERSION has it: major << 16 | minor << 8 | patch. */
 uint32_t mdmp_version(void);
 
-/* What the library exports. These take no NULL, not even beside a length of 0: call those below. */
+/* What the library exports. These take no NULL, not even with a length of 0: call the functions below. */
 uint32_t mdmp_header_(const uint8_t *file, size_t file_size, mdmp_header_record *out, mdmp_fault *fault);
 uint32_t mdmp_streams_(const uint8_t *file, size_t file_size, mdmp_stream *out, size_t room, uint64_t *count,
     mdmp_fault *fault);
@@ -398,17 +403,16 @@ uint32_t mdmp_symbols_(const uint8_t *file, size_t file_size, const mdmp_limits 
     const mdmp_place *place, mdmp_symbol_file *out, mdmp_fault *fault);
 uint32_t mdmp_fault_text_(const mdmp_fault *fault, uint8_t *out, size_t room, uint64_t *size);
 
-/* The header of a file. Its checksum is not checked, nor what its entries name. Takes no memory. A
- * directory that is not inside the file is MDMP_FAULT. Behind a status that is not MDMP_OK `out` is as it
- * was. */
+/* Returns the header of a file whose directory is inside the file; else the status is MDMP_FAULT. The
+ * checksum and the streams are not checked. If the status is not MDMP_OK, `out` is unchanged. Allocates
+ * nothing. */
 static inline uint32_t mdmp_header(const uint8_t *file, size_t file_size, mdmp_header_record *out,
     mdmp_fault *fault) {
     static uint8_t no_file;
     return mdmp_header_(file_size != 0 ? file : &no_file, file_size, out, fault);
 }
 
-/* The entries of the directory as they stand there, whether or not what they name is good. Takes no
- * memory. */
+/* Returns the entries of the directory, and does not check the streams that they name. Allocates nothing. */
 static inline uint32_t mdmp_streams(const uint8_t *file, size_t file_size, mdmp_stream *out, size_t room,
     uint64_t *count, mdmp_fault *fault) {
     static uint8_t no_file;
@@ -417,8 +421,9 @@ static inline uint32_t mdmp_streams(const uint8_t *file, size_t file_size, mdmp_
         fault);
 }
 
-/* The text that `mdmp check` prints: a line for each entry of the directory, that it is good, or its first
- * fault. MDMP_FAULT with MDMP_FAULT_BAD_ENTRIES, and the whole text, where an entry is bad. */
+/* Returns the text of `mdmp check`: a line for each entry of the directory, which says that the entry is
+ * good, or its first error. If an entry is bad, the status is MDMP_FAULT, `fault` is
+ * MDMP_FAULT_BAD_ENTRIES, and `out` has the whole text. */
 static inline uint32_t mdmp_check(const uint8_t *file, size_t file_size, const mdmp_limits *limits,
     uint8_t *out, size_t room, uint64_t *size, mdmp_fault *fault) {
     static uint8_t no_file;
@@ -427,8 +432,8 @@ static inline uint32_t mdmp_check(const uint8_t *file, size_t file_size, const m
         size, fault);
 }
 
-/* What mdmp_check tells as JSON Lines, the text of `mdmp check --json`: an object for each entry, each
- * ended by a line feed, in UTF-8. */
+/* Returns the text of `mdmp check --json`, in UTF-8: a JSON object for each entry. A line feed ends each
+ * object. Status and `fault` are those of mdmp_check. */
 static inline uint32_t mdmp_check_json(const uint8_t *file, size_t file_size, const mdmp_limits *limits,
     uint8_t *out, size_t room, uint64_t *size, mdmp_fault *fault) {
     static uint8_t no_file;
@@ -437,9 +442,9 @@ static inline uint32_t mdmp_check_json(const uint8_t *file, size_t file_size, co
         room, size, fault);
 }
 
-/* What mdmp_check tells, as numbers: a fault for each entry of the directory, in its order, whose kind is
- * MDMP_FAULT_NONE and whose `entry` is the entry's number where it is good. Status and `fault` are those
- * of mdmp_check, and all verdicts are given where an entry is bad. */
+/* Returns the result of checking each entry of the directory, in the order of the directory: the first
+ * error of the entry. If the entry is good, the kind is MDMP_FAULT_NONE, and `entry` is the number of the
+ * entry. Status and `fault` are those of mdmp_check. If an entry is bad, all results are returned. */
 static inline uint32_t mdmp_verdicts(const uint8_t *file, size_t file_size, const mdmp_limits *limits,
     mdmp_fault *out, size_t room, uint64_t *count, mdmp_fault *fault) {
     static uint8_t no_file;
@@ -448,10 +453,10 @@ static inline uint32_t mdmp_verdicts(const uint8_t *file, size_t file_size, cons
         room, count, fault);
 }
 
-/* The text that `mdmp list` prints, up to the first fault: a line for the header, one for each entry and
- * one for each record. With `pdb` that of `mdmp list --pdb`: what a CodeView record tells is one more
- * line, and `aside` limits how many bytes of these records are read. If a list ends there, the line of the
- * record's module is given. */
+/* Returns the text of `mdmp list` up to the first error: a line for the header, for each entry and for
+ * each record. With `pdb` it is the text of `mdmp list --pdb`: a module whose CodeView record is inside
+ * the file has a second line. `aside` limits the bytes of these records that are read. If `aside` ends the
+ * list, the first line of that module is returned. */
 static inline uint32_t mdmp_list(const uint8_t *file, size_t file_size, const mdmp_limits *limits, bool pdb,
     uint8_t *out, size_t room, uint64_t *size, mdmp_fault *fault) {
     static uint8_t no_file;
@@ -460,8 +465,8 @@ static inline uint32_t mdmp_list(const uint8_t *file, size_t file_size, const md
         room, size, fault);
 }
 
-/* What mdmp_list tells as JSON Lines, the text of `mdmp list --json`: an object in the place of each line,
- * each ended by a line feed, in UTF-8. */
+/* Returns the text of `mdmp list --json` or `mdmp list --json --pdb`, in UTF-8: a JSON object in the place
+ * of each line of mdmp_list. A line feed ends each object. */
 static inline uint32_t mdmp_list_json(const uint8_t *file, size_t file_size, const mdmp_limits *limits,
     bool pdb, uint8_t *out, size_t room, uint64_t *size, mdmp_fault *fault) {
     static uint8_t no_file;
@@ -470,10 +475,10 @@ static inline uint32_t mdmp_list_json(const uint8_t *file, size_t file_size, con
         room != 0 ? out : &no_out, room, size, fault);
 }
 
-/* What stands behind the first `skip` bytes of the text of mdmp_list; `size` is how long that is, and
- * status and `fault` are those of the whole. It holds what it gives and the lines of one record, not the
- * text. Behind MDMP_BUFFER_TOO_SHORT more stands there: call again with skip + room. Each call lists the
- * file anew. */
+/* Returns what follows the first `skip` bytes of the text of mdmp_list. `size` is how long that is. Status
+ * and `fault` are those of the whole list. If the status is MDMP_BUFFER_TOO_SHORT, more follows: call
+ * again with `skip + room`. The call has at most `room` bytes of the text in memory, and the lines of one
+ * record. Each call lists the file again. */
 static inline uint32_t mdmp_list_part(const uint8_t *file, size_t file_size, const mdmp_limits *limits,
     bool pdb, uint64_t skip, uint8_t *out, size_t room, uint64_t *size, mdmp_fault *fault) {
     static uint8_t no_file;
@@ -482,9 +487,10 @@ static inline uint32_t mdmp_list_part(const uint8_t *file, size_t file_size, con
         room != 0 ? out : &no_out, room, size, fault);
 }
 
-/* The bytes of a new file with the streams of 1 to 16 types and all that their records name, as `mdmp
- * copy` writes it. Nothing is given of a file with a fault. If the whole copy would read more than
- * `budget`, it is not begun: MDMP_FAULT_COPY_BUDGET says how many bytes it needs. */
+/* Returns the bytes of a new file, as `mdmp copy` writes it: the streams of 1 to 16 types, and all that
+ * their records name. If one of these streams, names or parts has an error, the call returns nothing. If
+ * the copy would read more than `budget`, it is not started: MDMP_FAULT_COPY_BUDGET says how many bytes it
+ * needs. */
 static inline uint32_t mdmp_copy(const uint8_t *file, size_t file_size, const mdmp_limits *limits,
     const uint32_t *types, size_t types_count, uint8_t *out, size_t room, uint64_t *size, mdmp_fault *fault) {
     static uint8_t no_file;
@@ -494,8 +500,8 @@ static inline uint32_t mdmp_copy(const uint8_t *file, size_t file_size, const md
         types_count != 0 ? types : &no_types, types_count, room != 0 ? out : &no_out, room, size, fault);
 }
 
-/* The threads: ThreadListStream. The records of one kind, in the order of a listing of their streams
- * alone, up to its first fault. */
+/* The threads: ThreadListStream. Returns the records of all these streams, in the order of the directory,
+ * up to their first error. The call ignores errors of other streams. */
 static inline uint32_t mdmp_threads(const uint8_t *file, size_t file_size, const mdmp_limits *limits,
     mdmp_thread *out, size_t room, uint64_t *count, mdmp_fault *fault) {
     static uint8_t no_file;
@@ -504,8 +510,8 @@ static inline uint32_t mdmp_threads(const uint8_t *file, size_t file_size, const
         count, fault);
 }
 
-/* The modules: ModuleListStream. The records of one kind, in the order of a listing of their streams
- * alone, up to its first fault. */
+/* The modules: ModuleListStream. Returns the records of all these streams, in the order of the directory,
+ * up to their first error. The call ignores errors of other streams. */
 static inline uint32_t mdmp_modules(const uint8_t *file, size_t file_size, const mdmp_limits *limits,
     mdmp_module *out, size_t room, uint64_t *count, mdmp_fault *fault) {
     static uint8_t no_file;
@@ -514,8 +520,8 @@ static inline uint32_t mdmp_modules(const uint8_t *file, size_t file_size, const
         count, fault);
 }
 
-/* The exceptions: ExceptionStream. Most files have one at most. The records of one kind, in the order of a
- * listing of their streams alone, up to its first fault. */
+/* The exceptions: ExceptionStream. Most files have at most one. Returns the records of all these streams,
+ * in the order of the directory, up to their first error. The call ignores errors of other streams. */
 static inline uint32_t mdmp_exceptions(const uint8_t *file, size_t file_size, const mdmp_limits *limits,
     mdmp_exception *out, size_t room, uint64_t *count, mdmp_fault *fault) {
     static uint8_t no_file;
@@ -524,8 +530,8 @@ static inline uint32_t mdmp_exceptions(const uint8_t *file, size_t file_size, co
         room, count, fault);
 }
 
-/* The system: SystemInfoStream. Most files have one at most. The records of one kind, in the order of a
- * listing of their streams alone, up to its first fault. */
+/* The system: SystemInfoStream. Most files have at most one. Returns the records of all these streams, in
+ * the order of the directory, up to their first error. The call ignores errors of other streams. */
 static inline uint32_t mdmp_systems(const uint8_t *file, size_t file_size, const mdmp_limits *limits,
     mdmp_system *out, size_t room, uint64_t *count, mdmp_fault *fault) {
     static uint8_t no_file;
@@ -534,8 +540,8 @@ static inline uint32_t mdmp_systems(const uint8_t *file, size_t file_size, const
         count, fault);
 }
 
-/* The modules that were unloaded: UnloadedModuleListStream. The records of one kind, in the order of a
- * listing of their streams alone, up to its first fault. */
+/* The unloaded modules: UnloadedModuleListStream. Returns the records of all these streams, in the order
+ * of the directory, up to their first error. The call ignores errors of other streams. */
 static inline uint32_t mdmp_unloaded(const uint8_t *file, size_t file_size, const mdmp_limits *limits,
     mdmp_unloaded_module *out, size_t room, uint64_t *count, mdmp_fault *fault) {
     static uint8_t no_file;
@@ -544,8 +550,8 @@ static inline uint32_t mdmp_unloaded(const uint8_t *file, size_t file_size, cons
         room, count, fault);
 }
 
-/* The regions of memory: MemoryInfoListStream. The records of one kind, in the order of a listing of their
- * streams alone, up to its first fault. */
+/* The regions of memory: MemoryInfoListStream. Returns the records of all these streams, in the order of
+ * the directory, up to their first error. The call ignores errors of other streams. */
 static inline uint32_t mdmp_regions(const uint8_t *file, size_t file_size, const mdmp_limits *limits,
     mdmp_region *out, size_t room, uint64_t *count, mdmp_fault *fault) {
     static uint8_t no_file;
@@ -554,8 +560,8 @@ static inline uint32_t mdmp_regions(const uint8_t *file, size_t file_size, const
         count, fault);
 }
 
-/* The names of threads: ThreadNamesStream. The records of one kind, in the order of a listing of their
- * streams alone, up to its first fault. */
+/* The names of threads: ThreadNamesStream. Returns the records of all these streams, in the order of the
+ * directory, up to their first error. The call ignores errors of other streams. */
 static inline uint32_t mdmp_thread_names(const uint8_t *file, size_t file_size, const mdmp_limits *limits,
     mdmp_thread_name *out, size_t room, uint64_t *count, mdmp_fault *fault) {
     static uint8_t no_file;
@@ -564,8 +570,9 @@ static inline uint32_t mdmp_thread_names(const uint8_t *file, size_t file_size, 
         room, count, fault);
 }
 
-/* The ranges of memory whose bytes a file may have: MemoryListStream and Memory64ListStream. The records
- * of one kind, in the order of a listing of their streams alone, up to its first fault. */
+/* The ranges of memory whose bytes a file may have: MemoryListStream and Memory64ListStream. Returns the
+ * records of all these streams, in the order of the directory, up to their first error. The call ignores
+ * errors of other streams. */
 static inline uint32_t mdmp_ranges(const uint8_t *file, size_t file_size, const mdmp_limits *limits,
     mdmp_range *out, size_t room, uint64_t *count, mdmp_fault *fault) {
     static uint8_t no_file;
@@ -574,10 +581,10 @@ static inline uint32_t mdmp_ranges(const uint8_t *file, size_t file_size, const 
         count, fault);
 }
 
-/* Memory of the dumped process from an address on: out[i] is the byte at address + i where known[i] is
- * true; else both are 0. `room` and `known_size` are the same. No address wraps: behind 2^64 - 1 nothing
- * is known. If a memory list has a fault, or a limit was reached, both buffers are as they were. `budget`
- * does not count the bytes that are given. */
+/* Returns memory of the dumped process from `address` on. If known[i] is true, out[i] is the byte at
+ * address + i; else both are 0. `room` and `known_size` must be equal. Addresses do not wrap: after 2^64 -
+ * 1 nothing is known. If a memory list has an error, or a limit is reached, both buffers are unchanged.
+ * `budget` does not count the bytes that are returned. */
 static inline uint32_t mdmp_memory(const uint8_t *file, size_t file_size, const mdmp_limits *limits,
     uint64_t address, uint8_t *out, size_t room, bool *known, size_t known_size, mdmp_fault *fault) {
     static uint8_t no_file;
@@ -587,9 +594,9 @@ static inline uint32_t mdmp_memory(const uint8_t *file, size_t file_size, const 
         room != 0 ? out : &no_out, room, known_size != 0 ? known : &no_known, known_size, fault);
 }
 
-/* The same by ranges that mdmp_ranges gave and the caller keeps: no list is read again, and no memory
- * taken. Ranges that are not MDMP_EXTENT_INSIDE, or do not lie inside the file whatever they say, are
- * passed over. */
+/* Returns memory as mdmp_memory does, by ranges that mdmp_ranges returned and the caller keeps. The call
+ * reads no list again, and allocates nothing. It skips ranges that are not MDMP_EXTENT_INSIDE. It also
+ * skips ranges whose bytes are not inside the file, whatever `extent` says. */
 static inline uint32_t mdmp_read(const uint8_t *file, size_t file_size, const mdmp_range *ranges,
     size_t ranges_count, uint64_t address, uint8_t *out, size_t room, bool *known, size_t known_size,
     mdmp_fault *fault) {
@@ -602,10 +609,11 @@ static inline uint32_t mdmp_read(const uint8_t *file, size_t file_size, const md
         known_size, fault);
 }
 
-/* An index of ranges that mdmp_ranges gave, for callers that read often: sorted slots that do not overlap.
- * A slot belongs to the first range that holds its addresses. Ranges that mdmp_read passes over are passed
- * over. Two slots for each range are enough room. With less, MDMP_BUFFER_TOO_SHORT: `count` is that
- * number, and `out` is as it was. Takes no memory, and time in proportion to r log r for r ranges. */
+/* Returns an index of ranges that mdmp_ranges returned, for callers that read often: sorted slots that do
+ * not overlap. A slot belongs to the first range that has its addresses. The index leaves out the ranges
+ * that mdmp_read skips. Two slots for each range are enough. If `room` is less, the status is
+ * MDMP_BUFFER_TOO_SHORT, `count` is that number, and `out` is unchanged. Allocates nothing. For r ranges,
+ * the time is in proportion to r log r. */
 static inline uint32_t mdmp_index(const uint8_t *file, size_t file_size, const mdmp_range *ranges,
     size_t ranges_count, mdmp_slot *out, size_t room, uint64_t *count, mdmp_fault *fault) {
     static uint8_t no_file;
@@ -615,7 +623,8 @@ static inline uint32_t mdmp_index(const uint8_t *file, size_t file_size, const m
         ranges_count, room != 0 ? out : &no_out, room, count, fault);
 }
 
-/* The same of the images of modules that mdmp_modules gave: base_of_image and size_of_image. */
+/* Returns an index of the images of modules that mdmp_modules returned, by base_of_image and
+ * size_of_image. Slots, status and time are as for mdmp_index. */
 static inline uint32_t mdmp_index_modules(const mdmp_module *modules, size_t modules_count, mdmp_slot *out,
     size_t room, uint64_t *count, mdmp_fault *fault) {
     static mdmp_module no_modules;
@@ -624,9 +633,9 @@ static inline uint32_t mdmp_index_modules(const mdmp_module *modules, size_t mod
         room != 0 ? out : &no_out, room, count, fault);
 }
 
-/* What mdmp_read gives, by an index that mdmp_index made of the same ranges and the same file. Its time
- * grows with the bytes and with the slots that they are in, and not with the ranges. Slots that are no
- * index give bytes of the file, or none. Takes no memory. */
+/* Returns what mdmp_read returns, by an index that mdmp_index made of the same ranges and the same file.
+ * It takes one binary search, and time in proportion to the bytes and to the slots that they are in. If
+ * `slots` is not an index, the call returns bytes of the file, or none. Allocates nothing. */
 static inline uint32_t mdmp_read_index(const uint8_t *file, size_t file_size, const mdmp_slot *slots,
     size_t slots_count, uint64_t address, uint8_t *out, size_t room, bool *known, size_t known_size,
     mdmp_fault *fault) {
@@ -639,16 +648,17 @@ static inline uint32_t mdmp_read_index(const uint8_t *file, size_t file_size, co
         known_size, fault);
 }
 
-/* The owner of an address in an index: the number of the first row that holds it, or 2^64 - 1 if none
- * does. It answers MDMP_OK. */
+/* Returns the owner of an address, by an index: the number of the first row that has the address. If no
+ * row has the address, the number is 2^64 - 1. The status is always MDMP_OK. */
 static inline uint32_t mdmp_where(const mdmp_slot *slots, size_t slots_count, uint64_t address,
     uint64_t *owner) {
     static mdmp_slot no_slots;
     return mdmp_where_(slots_count != 0 ? slots : &no_slots, slots_count, address, owner);
 }
 
-/* The name at `rva`, of at most `limit` bytes of units, as UTF-8 with no zero behind it: a surrogate
- * without its other half becomes U+FFFD. An rva of 0 is no name, and the text is empty. */
+/* Returns the name at `rva` as UTF-8, without a zero byte at its end. If its UTF-16 units have more than
+ * `limit` bytes, the status is MDMP_FAULT. A surrogate without its other half becomes U+FFFD. If `rva` is
+ * 0 there is no name, and the text is empty. */
 static inline uint32_t mdmp_name(const uint8_t *file, size_t file_size, uint64_t rva, uint32_t limit,
     uint8_t *out, size_t room, uint64_t *size, mdmp_fault *fault) {
     static uint8_t no_file;
@@ -657,26 +667,26 @@ static inline uint32_t mdmp_name(const uint8_t *file, size_t file_size, uint64_t
         room, size, fault);
 }
 
-/* What the CodeView record at a place tells, as the `codeview` of a module. Its extent is not looked at: a
- * place that is empty or not inside the file is MDMP_FAULT. If the status is not MDMP_OK, `out` is all
- * zero. At most `limits->name` bytes of the name are read: if none of them is zero, `name_size` counts
- * them and `name_ended` is 0. Takes no memory. */
+/* Returns the CodeView record at `place`, which is the `codeview` of a module. The call does not use the
+ * extent of the place: if the place is empty or not inside the file, the status is MDMP_FAULT. If the
+ * status is not MDMP_OK, `out` is all zero. The call reads at most `limits->name` bytes of the name. If
+ * none of these is zero, `name_size` is their number, and `name_ended` is 0. Allocates nothing. */
 static inline uint32_t mdmp_symbols(const uint8_t *file, size_t file_size, const mdmp_limits *limits,
     const mdmp_place *place, mdmp_symbol_file *out, mdmp_fault *fault) {
     static uint8_t no_file;
     return mdmp_symbols_(file_size != 0 ? file : &no_file, file_size, limits, place, out, fault);
 }
 
-/* The command's words of a fault, without `mdmp: ` and a line's end; empty for MDMP_FAULT_NONE. Of a fault
- * of mdmp_name and mdmp_symbols, which know no entry, they say entry 0; from MDMP_FAULT_BAD_LIMITS to
- * MDMP_FAULT_LENGTHS_DIFFER they are the library's own. MDMP_BAD_ARGUMENT and a size of 0 for a kind or a
- * part that this library does not know. */
+/* Returns the message of the command for an error, without `mdmp: ` and without a line feed. For
+ * MDMP_FAULT_NONE the text is empty. mdmp_name and mdmp_symbols know no entry: the message of their errors
+ * says entry 0. From MDMP_FAULT_BAD_LIMITS to MDMP_FAULT_LENGTHS_DIFFER, the message is the library's own.
+ * If the library does not know the kind or the part, the status is MDMP_BAD_ARGUMENT, and `size` is 0. */
 static inline uint32_t mdmp_fault_text(const mdmp_fault *fault, uint8_t *out, size_t room, uint64_t *size) {
     static uint8_t no_out;
     return mdmp_fault_text_(fault, room != 0 ? out : &no_out, room, size);
 }
 
-/* The layout that the library has: no padding, nothing moved. */
+/* The layout of the library: no padding, and each field at its offset. */
 #ifdef __cplusplus
 #define MDMP_ASSERT_(condition, words) static_assert(condition, words)
 #else

@@ -80,10 +80,10 @@ def limits_text(interface: Interface) -> str:
     sizes = f"{interface.limits['window']}, {interface.limits['name']}"
     none, most = ["MDMP_NO_LIMIT"] * 3, [str(interface.limits["untrusted"])] * 3
     return (
-        "/* In the place of a limit: there is none. */\n#define MDMP_NO_LIMIT UINT64_MAX\n\n"
+        "/* As a limit: no limit. */\n#define MDMP_NO_LIMIT UINT64_MAX\n\n"
         "/* The window and the longest name of the command, and no other limit. */\n"
         f"#define MDMP_LIMITS_DEFAULT {{ {sizes}, {', '.join(none)} }}\n\n"
-        "/* The same window and longest name, and limits for a file from a stranger. */\n"
+        "/* This window and this longest name, and limits for a file from a stranger. */\n"
         f"#define MDMP_LIMITS_UNTRUSTED {{ {sizes}, {', '.join(most)} }}"
     )
 
@@ -97,17 +97,17 @@ def header_text(interface: Interface) -> str:
         "/* Made by bindings/generate from bindings/interface.toml. */\n#ifndef MDMP_H\n#define MDMP_H",
         "#include <stdbool.h>\n#include <stddef.h>\n#include <stdint.h>",
         '#ifdef __cplusplus\nextern "C" {\n#endif',
-        f"/* What mdmp_abi() answers of the library that belongs to this header. */\n#define MDMP_ABI {interface.abi}",
-        "/* This header's version, as mdmp_version() answers it: major << 16 | minor << 8 | patch. */\n"
+        f"/* What mdmp_abi() returns for the library of this header. */\n#define MDMP_ABI {interface.abi}",
+        "/* The version of this header, as mdmp_version() returns it: major << 16 | minor << 8 | patch. */\n"
         f"#define MDMP_VERSION 0x{interface.version_number:06x}",
         *[enum_text(enum) for enum in interface.enums.values()],
         *[structure_text(structure) for structure in interface.structures.values()],
         limits_text(interface),
         *[f"{comment(call.doc)}\n{declaration(call, call.name, ';')}" for call in plain],
-        "/* What the library exports. These take no NULL, not even beside a length of 0: call those below. */\n"
+        "/* What the library exports. These take no NULL, not even with a length of 0: call the functions below. */\n"
         + "\n".join(declaration(call, call.symbol, ";") for call in others),
         *[inline_text(call) for call in others],
-        "/* The layout that the library has: no padding, nothing moved. */\n"
+        "/* The layout of the library: no padding, and each field at its offset. */\n"
         "#ifdef __cplusplus\n"
         "#define MDMP_ASSERT_(condition, words) static_assert(condition, words)\n"
         "#else\n"

@@ -65,11 +65,11 @@ def structures_text(interface: Interface) -> str:
         f"UNTRUSTED = {interface.limits['untrusted']}  # each limit of MDMP_LIMITS_UNTRUSTED\n"
         "NO_LIMIT = (1 << 64) - 1\n\n\n"
         + "\n\n\n".join(structure_text(interface, structure) for structure in structures)
-        + "\n\n\n# Of each structure its size, and where each field stands.\n"
+        + "\n\n\n# For each structure its size, and the offset of each field.\n"
         + "LAYOUT: dict[type[Structure], tuple[int, dict[str, int]]] = {\n"
         + "\n".join(layout_text(structure) for structure in structures)
         + "\n}\n\n\ndef declare(library: CDLL) -> None:\n"
-        + '    """Gives each call of a library the types of its arguments and its answer."""\n'
+        + '    """Sets the types of the arguments and the result of each call of a library."""\n'
         + "\n".join(declare_text(interface, call) for call in interface.calls)
         + "\n"
     )
@@ -99,9 +99,9 @@ def members(interface: Interface, structure: Structure) -> list[tuple[str, str, 
         if field.is_reserved or name.endswith("_high"):
             continue
         if field.base == "mdmp_name_place":
-            doc = field.doc + "; None where there is none, or a longer one than the limit"
+            doc = field.doc + "; None if there is none within the limit"
             made.append((name, "str | None", f"read._name_at({raw})", doc))
-            made.append((f"{name}_place", "NamePlace", f"NamePlace._of({raw}, read)", "where that stands"))
+            made.append((f"{name}_place", "NamePlace", f"NamePlace._of({raw}, read)", "the place of the name"))
         elif field.base in interface.structures:
             face = interface.structures[field.base].face
             made.append((name, face, f"{face}._of({raw}, read)", field.doc))

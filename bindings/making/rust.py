@@ -82,23 +82,22 @@ def ffi_text(interface: Interface) -> str:
     return (
         f"//! The plain structures of mdmp.h, and its calls over slices. {MADE}\n\n"
         "use std::mem::{offset_of, size_of};\n\n"
-        "/// What `mdmp_abi` answers of the library that belongs to this crate.\n"
+        "/// What `mdmp_abi` returns for the library of this crate.\n"
         f"pub const ABI: u32 = {interface.abi};\n\n"
         "/// The window and the longest name of `MDMP_LIMITS_DEFAULT`.\n"
         f"pub const WINDOW: u32 = {interface.limits['window']};\n"
         f"pub const NAME: u32 = {interface.limits['name']};\n"
         "/// Each limit of `MDMP_LIMITS_UNTRUSTED`.\n"
         f"pub const UNTRUSTED: u64 = {interface.limits['untrusted']:_};\n"
-        "/// In the place of a limit: there is none.\n"
+        "/// As a limit: no limit.\n"
         "pub const NO_LIMIT: u64 = u64::MAX;\n\n"
         + "\n\n".join(structure_text(interface, structure) for structure in structures)
-        + "\n\n// The layout that the library has: no padding, nothing moved.\nconst _: () = {\n"
+        + "\n\n// The layout of the library: no padding, and each field at its offset.\nconst _: () = {\n"
         + "\n".join(asserts_text(structure) for structure in structures)
         + "\n};\n\n"
-        "/// What the library exports. All that each asks of a caller is that its pointers are of live\n"
-        "/// values, aligned and not NULL, that a length is that of its pointer, and that what is written to\n"
-        "/// is disjoint from all else. Slices and references are so, also empty ones. Of what they hold\n"
-        "/// nothing is asked.\n"
+        "/// What the library exports. The pointers of a call must be of live values, aligned and not NULL. A\n"
+        "/// length must be that of its pointer. What is written to must not overlap anything else. Slices and\n"
+        "/// references are so, also empty ones. Their content may be anything.\n"
         'mod symbols {\n    use super::*;\n\n    extern "C" {\n'
         + "\n".join(extern_text(interface, call) for call in interface.calls)
         + "\n    }\n}\n\n"

@@ -1,4 +1,7 @@
-//! Links the archive `libmdmp.a`, which stands in the folder that `MDMP_LIB_DIR` names, or else where the linker looks.
+//! Links the archive `libmdmp.a`, which is in the folder that `MDMP_LIB_DIR` names.
+//!
+//! If `MDMP_LIB_DIR` is not set, rustc needs `-L FOLDER` (in `RUSTFLAGS`): it does not look for a static library in the
+//! folders of the system.
 fn main() {
     println!("cargo:rerun-if-env-changed=MDMP_LIB_DIR");
     if let Ok(folder) = std::env::var("MDMP_LIB_DIR") {

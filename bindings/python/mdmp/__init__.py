@@ -12,10 +12,10 @@
 0x7fcaa775e000 libc.so.6
 0x7fcaa7956000 ld-linux-x86-64.so.2
 
-`open` maps a file, and `Dump` takes its bytes. A file that is at fault raises `Fault`, whose `partial` holds what stood
-before the fault. A dump begins with the limits for files from strangers, `Limits.untrusted()`: if one is reached,
-`LimitReached` is raised, and `limits=None` lifts them all. Wrong limits or types raise ValueError, and if memory runs out
-MemoryError is raised. `python -m mdmp FILE` prints what `mdmp list FILE` does.
+`open` maps a file, and `Dump` takes its bytes. An error in the file raises `Fault`, and its `partial` has what precedes
+the error. A dump begins with the limits for files from strangers, `Limits.untrusted()`. If a limit is reached,
+`LimitReached` is raised; `limits=None` lifts all limits. Wrong limits or types raise ValueError. If memory runs out,
+MemoryError is raised. `python -m mdmp FILE` prints the output of `mdmp list --untrusted FILE`.
 """
 
 from ._buffer import Bytes

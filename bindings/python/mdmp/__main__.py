@@ -1,10 +1,14 @@
-"""Prints what `mdmp list FILE` prints, or `mdmp check FILE`: python -m mdmp FILE [--pdb | --check]
+"""Prints the output of `mdmp list FILE`, or of `mdmp check FILE`: python -m mdmp FILE [--pdb | --check]
 
-With a first word `page` or `day` it makes a page to look at instead (docs/PAGES.md); a file of such a name is `./page`.
+If the first word is `page` or `day`, it makes an HTML page instead (docs/pages.md). A file of such a name is `./page`.
 
-The file has the limits of strangers (`mdmp list --untrusted`), but for a budget that is given. The exit status is the
-command's: 0 good, 1 the file is at fault, 2 the words of the command line are, 3 no memory, no room for the output, a limit
-that is reached, or a file that can't be opened.
+The limits are those of `mdmp list --untrusted`; --window, --name and --budget set others. With --check, the output is at
+most 64 MiB. The exit status is the command's:
+
+0  success
+1  an error in the file
+2  bad command line
+3  out of memory, output error, a limit is reached, or a file that cannot be opened
 """
 
 from __future__ import annotations
@@ -31,7 +35,7 @@ def run(arguments: argparse.Namespace) -> None:
 
 
 def status_of(arguments: argparse.Namespace) -> int:
-    """Prints, tells what is wrong, and gives the exit status."""
+    """Prints the output and the error, and returns the exit status."""
     try:
         try:
             run(arguments)
@@ -48,7 +52,7 @@ def status_of(arguments: argparse.Namespace) -> int:
         is_input = error.filename is not None
         told, status = f"cannot open {arguments.file}" if is_input else "output failed", 3
         if not is_input:
-            # What is still to be written can't be, and Python would try once more as it ends.
+            # The rest of the output cannot be written, and Python would try again when it ends.
             os.dup2(os.open(os.devnull, os.O_WRONLY), sys.stdout.fileno())
     print(f"mdmp: {told}", file=sys.stderr)
     return status
@@ -59,15 +63,15 @@ def main() -> int:
         from mdmp.pages import command
 
         return command.main()
-    words = argparse.ArgumentParser(prog="python -m mdmp", description="Prints what a minidump file has.")
+    words = argparse.ArgumentParser(prog="python -m mdmp", description="Lists or checks a minidump file.")
     words.add_argument("file", metavar="FILE")
     which = words.add_mutually_exclusive_group()
-    which.add_argument("--check", action="store_true", help="tell of each entry whether it is good")
-    which.add_argument("--pdb", action="store_true", help="tell the symbol file of each module too")
+    which.add_argument("--check", action="store_true", help="print the result of checking each entry")
+    which.add_argument("--pdb", action="store_true", help="print the symbol file of each module too")
     most = mdmp.Limits.untrusted()
-    words.add_argument("--window", type=int, default=most.window, help="by how many bytes the file is read")
+    words.add_argument("--window", type=int, default=most.window, help="the size of the buffer for records, in bytes")
     words.add_argument("--name", type=int, default=most.name, help="the longest name that is read, in bytes")
-    words.add_argument("--budget", type=int, default=most.budget, help="the most bytes of the file that are read to list it")
+    words.add_argument("--budget", type=int, default=most.budget, help="the most bytes that are read to list the file")
     return status_of(words.parse_args())
 
 

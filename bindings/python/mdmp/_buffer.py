@@ -1,8 +1,8 @@
 """The bytes of a file, lent to the library without a copy; and copies of bytes at an address.
 
-`ctypes` gives the address of a buffer only where it may be written to, which a read-only mapping is not. Python's own
-call for it, PyObject_GetBuffer, gives that of any buffer, and keeps the buffer in its place until PyBuffer_Release:
-meanwhile a mapping can't be closed and a bytearray can't change its length, whatever other threads do.
+`ctypes` gives the address of a buffer only if the buffer may be written to, and a read-only mapping may not. Python's
+own PyObject_GetBuffer gives the address of any buffer, and keeps the buffer in its place until PyBuffer_Release. Until
+then no thread can close a mapping or change the length of a bytearray.
 """
 
 from __future__ import annotations
@@ -38,7 +38,7 @@ _get.argtypes, _get.restype = [py_object, c_void_p, c_int], c_int
 _release.argtypes, _release.restype = [c_void_p], None
 _SIMPLE = 0
 _nothing = c_uint8()
-# Its own object for the function, so that no other package's types of arguments meet these.
+# A function object of its own: the types of arguments of other packages do not meet these.
 _copied = pythonapi["PyBytes_FromStringAndSize"]
 _copied.argtypes, _copied.restype = [c_void_p, c_ssize_t], py_object
 
@@ -60,7 +60,7 @@ class Lent:
 
     def __enter__(self) -> tuple[int, int]:
         self._view = _PyBuffer()
-        # Raises BufferError of what does not lie in one piece, and ValueError of a mapping that was closed.
+        # Raises BufferError if the buffer is not in one piece, and ValueError if it is a closed mapping.
         _get(self._data, byref(self._view), _SIMPLE)
         # Some empty buffers have no address, and the library takes no NULL.
         return self._view.buf or addressof(_nothing), int(self._view.len)

@@ -18,7 +18,7 @@ from ._records import Extent, NameState, SymbolKind
 _T = TypeVar("_T")
 
 
-# Guesses of how many items a file of some size has: powers of two, so that there are few types of arrays.
+# Guesses of how many items a file of a size has: powers of two, so that there are few types of arrays.
 def some_records(size: int) -> int:
     return 1 << min(size // 24, 8191).bit_length()
 
@@ -32,7 +32,7 @@ def some_name(_: int) -> int:
 
 
 class Calls:
-    """The bytes of a file, the limits of each call over them, and what is kept of the answers."""
+    """The bytes of a file, the limits of each call over them, and what earlier calls returned."""
 
     def __init__(self, data: Bytes, limits: Limits) -> None:
         self._data: Bytes | None = data
@@ -50,29 +50,29 @@ class Calls:
         return Lent(self._data)
 
     def _most(self, size: int) -> int | None:
-        """How many items of this size `output` has room for, if that is limited."""
+        """How many items of this size `output` allows, or None if it is no limit."""
         return None if self._limits.output is None else self._limits.output // size
 
     def _fill(
         self, call: Any, item: Any, guess: Callable[[int], int], *arguments: Any, most: int | None = None
     ) -> Filled:
-        """What a call gives, up to the most items. The guess is how many items a file of some size has."""
+        """What a call returns, up to the most items. `guess` is how many items a file of a size has."""
         with self._lent() as (file, size):
             return fill(lambda *out: call(file, size, *arguments, *out), item, guess(size), most)
 
     def _expect_whole(self, filled: Filled, partial: Any) -> None:
-        """Raises what ends what was given, unless all is given and good."""
+        """Raises the error that ended the call, unless the call returned everything."""
         if filled.is_cut:
             raise output_limit(self._limits.output or 0, partial)
         expect_good(filled.status, filled.fault, partial)
 
     def _expect_room(self, kept: int, given: list[Any]) -> None:
-        """Raises OutputLimit if so many bytes are more than a property may keep, of whose rows these are given."""
+        """Raises OutputLimit with the rows so far, if `kept` bytes are more than a property may keep."""
         if self._limits.output is not None and kept > self._limits.output:
             raise output_limit(self._limits.output, tuple(given))
 
     def _keep(self, name: str, make: Callable[[], _T]) -> _T:
-        """What was made of this name before, or else is made now."""
+        """The value of this name, which is made once."""
         self._lent()
         if name not in self._kept:
             self._kept[name] = make()
@@ -103,7 +103,7 @@ class Calls:
         return text
 
     def _name_at(self, place: _structures.NamePlace) -> str | None:
-        """The name at a place, or None if there is none, or a longer one than the limit."""
+        """The name at a place, or None if there is none within the limit."""
         if place.state != NameState.GIVEN:
             return None
         filled = self._fill(library.mdmp_name_, c_uint8, some_name, place.rva, self._limits.name)
@@ -111,7 +111,7 @@ class Calls:
         return filled.bytes().decode("utf-8")
 
     def _symbols_at(self, place: _structures.Place) -> SymbolFile | None:
-        """What the CodeView record at a place tells, or None if the file has none."""
+        """The CodeView record at a place, or None if it is not inside the file."""
         if place.extent != Extent.INSIDE:
             return None
         raw, fault = _structures.SymbolFile(), _structures.Fault()
@@ -125,5 +125,5 @@ class Calls:
         return SymbolFile(kind, guid, raw.age, name, raw.name_ended == 1, signature)
 
     def _thread_name(self, thread_id: int) -> str | None:
-        """The first name that the file has for a thread, where it has one."""
+        """The first name that the file has for a thread, or None."""
         raise NotImplementedError

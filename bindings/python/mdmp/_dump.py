@@ -38,7 +38,7 @@ _BYTES = POINTER(c_uint8)
 
 
 class Where(NamedTuple):
-    """Where an address lies: in which module, and how many bytes behind its base."""
+    """The place of an address: a module, and the offset from the base of the module."""
 
     module: Module
     offset: int
@@ -48,12 +48,12 @@ class Where(NamedTuple):
 
 
 class Dump(Calls):
-    """A minidump over the bytes of a file: `bytes`, or whatever else lies in one piece. They are not copied, and must
-    not change meanwhile.
+    """A minidump over the bytes of a file: `bytes`, or another buffer in one piece. The bytes are not copied, and must
+    not change.
 
-    `limits` say how much is read and kept: if nothing is said `Limits.untrusted()`, and None is no limit at all. `window`,
-    `name` and `budget` set these numbers of `limits`. A call that reaches a limit raises `LimitReached`.
-    What a dump gives are values of their own, which outlive it. Any number of threads may use one dump.
+    `limits` limits what is read and kept. If it is left out, it is `Limits.untrusted()`; None is no limit at all.
+    `window`, `name` and `budget` replace these numbers of `limits`. A call that reaches a limit raises `LimitReached`.
+    Records and texts remain valid after `close`; `memory` does not. Any number of threads may use one dump.
 
     >>> import mdmp
     >>> with mdmp.open("llvm-all-kinds.dmp") as dump:
@@ -77,8 +77,8 @@ class Dump(Calls):
         self._mapping: mmap.mmap | None = None
 
     def close(self) -> None:
-        """Gives the file back: whatever is asked of the dump from now on is a ValueError. Raises BufferError, and
-        closes nothing, while another thread reads the file that `open` mapped."""
+        """Closes the dump: each later use raises ValueError. If another thread reads the file that `open` mapped,
+        BufferError is raised, and nothing is closed."""
         if self._mapping is not None:
             self._mapping.close()
         self._data = None
@@ -93,7 +93,7 @@ class Dump(Calls):
     # ---- what a dump has
 
     def _thread_name(self, thread_id: int) -> str | None:
-        """The first name that the file has for a thread, before a fault of its names, or None."""
+        """The first name that the file has for a thread, before an error in the names, or None."""
 
         def make() -> dict[int, str | None]:
             try:
@@ -119,14 +119,14 @@ class Dump(Calls):
 
     @property
     def streams(self) -> tuple[Stream, ...]:
-        """The entries of the directory as they stand there, whether or not what they name is good."""
+        """The entries of the directory. The streams that they name are not checked."""
 
         rows: tuple[Stream, ...] = self._rows(library.mdmp_streams_, Stream, has_limits=False)
         return rows
 
     @property
     def verdicts(self) -> tuple[Fault | None, ...]:
-        """Of each entry of the directory its first fault, or None where it is good.
+        """The result of checking each entry of the directory: its first error, or None if the entry is good.
 
         >>> import mdmp
         >>> import pathlib
@@ -157,13 +157,13 @@ class Dump(Calls):
 
     @property
     def threads(self) -> tuple[Thread, ...]:
-        """The threads, each with its name. A fault of the names is told by `thread_names` alone."""
+        """The threads, each with its name. Only `thread_names` raises an error in the names."""
         rows: tuple[Thread, ...] = self._rows(library.mdmp_threads_, Thread)
         return rows
 
     @property
     def modules(self) -> tuple[Module, ...]:
-        """The modules, each with its name and what it tells of its symbol file.
+        """The modules, each with its name and its symbol file.
 
         >>> import mdmp
         >>> with mdmp.open("llvm-all-kinds.dmp") as dump:
@@ -176,19 +176,19 @@ class Dump(Calls):
 
     @property
     def unloaded(self) -> tuple[UnloadedModule, ...]:
-        """The modules that were unloaded."""
+        """The unloaded modules."""
         rows: tuple[UnloadedModule, ...] = self._rows(library.mdmp_unloaded_, UnloadedModule)
         return rows
 
     @property
     def exceptions(self) -> tuple[ExceptionRecord, ...]:
-        """The exceptions: in most dumps of a crash there is one."""
+        """The exceptions. Most dumps of a crash have one."""
         rows: tuple[ExceptionRecord, ...] = self._rows(library.mdmp_exceptions_, ExceptionRecord)
         return rows
 
     @property
     def systems(self) -> tuple[System, ...]:
-        """The systems: most dumps have one."""
+        """The systems. Most dumps have one."""
         rows: tuple[System, ...] = self._rows(library.mdmp_systems_, System)
         return rows
 
@@ -205,7 +205,7 @@ class Dump(Calls):
 
     @property
     def thread_names(self) -> tuple[ThreadName, ...]:
-        """The names of threads, each with its thread's id. A thread has its own in `name`.
+        """The names of threads, each with the id of its thread. A thread has its own name in `name`.
 
         >>> import mdmp
         >>> with mdmp.open("crashpad-one.dmp") as dump:
@@ -223,7 +223,7 @@ class Dump(Calls):
 
     @property
     def memory(self) -> Memory:
-        """Memory of the dumped process, by address. If its ranges are too many for `output`, nothing of it is given."""
+        """Memory of the dumped process, by address. If `output` is reached, `partial` of the `OutputLimit` is None."""
 
         def make() -> Memory:
             kept = 2 * sizeof(_structures.Slot)  # of a range, in the index
@@ -236,7 +236,7 @@ class Dump(Calls):
         return self._keep("memory", make)
 
     def where(self, address: int) -> Where | None:
-        """The first module that holds an address, and how far behind its base; None where no module does.
+        """The first module that has an address, and the offset from its base; None if no module has the address.
 
         >>> import mdmp
         >>> with mdmp.open("crashpad-one.dmp") as dump:
@@ -267,7 +267,7 @@ class Dump(Calls):
     # ---- texts, and copies
 
     def check(self) -> str:
-        """The text of `mdmp check`: a line for each entry. Fault where an entry is bad, whose `partial` is the text.
+        """The text of `mdmp check`: a line for each entry. If an entry is bad, `partial` of the `Fault` is the text.
 
         >>> import mdmp
         >>> with mdmp.open("llvm-x86.dmp") as dump:
@@ -279,11 +279,11 @@ class Dump(Calls):
         return self._text(library.mdmp_check_)
 
     def list(self, *, pdb: bool = False) -> str:
-        """The text of `mdmp list`, or `mdmp list --pdb`. Behind a fault its `partial` is the text before it."""
+        """The text of `mdmp list`, or with `pdb` of `mdmp list --pdb`. `partial` of a `Fault` is the text before it."""
         return self._text(library.mdmp_list_, pdb)
 
     def check_json(self) -> str:
-        """The text of `mdmp check --json`: an object for each entry, one a line. Fault as `check` has it.
+        """The text of `mdmp check --json`: an object for each entry, one a line. If an entry is bad, see `check`.
 
         >>> import json, mdmp
         >>> with mdmp.open("llvm-x86.dmp") as dump:
@@ -293,18 +293,18 @@ class Dump(Calls):
         return self._text(library.mdmp_check_json_)
 
     def list_json(self, *, pdb: bool = False) -> str:
-        """The text of `mdmp list --json`, or `mdmp list --json --pdb`: an object in the place of each line.
+        """The text of `mdmp list --json`, or with `pdb` of `mdmp list --json --pdb`: an object in place of each line.
 
-        A line feed ends each object, and stands nowhere else, but U+2028 may stand in a name: part the text by
-        `split("\\n")` rather than `splitlines()`. Behind a fault its `partial` is the text before it.
+        A line feed ends each object, and is nowhere else. A name may have U+2028: use `split("\\n")` rather than
+        `splitlines()`. `partial` of a `Fault` is the text before it.
         """
         return self._text(library.mdmp_list_json_, pdb)
 
     def write_list(self, stream: IO[str], *, pdb: bool = False) -> None:
-        """Writes the text of `list`, however long it is. The file is listed once for each 64 MiB of the text, and so mostly
-        once; no more than such a part of the text is in memory at a time."""
+        """Writes the text of `list`, of any length. The file is listed once for each 64 MiB of the text, mostly once. At
+        most 64 MiB of the text are in memory. If there is an error, the text before it is written."""
         skip = 0
-        # Memory that takes no room until it is written to.
+        # This memory takes no space until it is written to.
         with self._lent() as (file, size), mmap.mmap(-1, _PART, flags=mmap.MAP_PRIVATE) as part:
             left, fault = c_uint64(), _structures.Fault()
             status = int(Status.BUFFER_TOO_SHORT)
@@ -320,7 +320,7 @@ class Dump(Calls):
         expect_good(status, fault)
 
     def copy(self, *types: int) -> bytes:
-        """The bytes of a new file with the streams of 1 to 16 types, and all that their records name.
+        """The bytes of a new file: the streams of 1 to 16 types, and all that their records name.
 
         >>> import mdmp
         >>> with mdmp.open("crashpad-one.dmp") as dump:
@@ -331,8 +331,8 @@ class Dump(Calls):
         return self._copied(types, self._plain).bytes()
 
     def write_copy(self, path: str | os.PathLike[str], *types: int, limits: Limits | None = None) -> None:
-        """Writes what `copy` gives into a new file, with no limits but those that are given here. The path must not exist
-        yet: FileExistsError if it does. If the dump has a fault no file is made."""
+        """Writes what `copy` returns to a new file. If no `limits` are given, only `window` and `name` of the dump limit
+        the copy. If the file exists, FileExistsError is raised. If the copy raises an error, no file is made."""
         lifted = limits or Limits(self._limits.window, self._limits.name)
         filled = self._copied(types, lifted._plain())
         with io.open(path, "xb", buffering=0) as stream:
@@ -355,7 +355,7 @@ def open(
     name: int | Left = Left.OUT,
     budget: int | None | Left = Left.OUT,
 ) -> Dump:
-    """A dump over a file, which is mapped: for reading alone, and without a copy. The limits are those of `Dump`.
+    """A dump over a file, which is mapped and not copied. The limits are those of `Dump`.
 
     >>> import mdmp
     >>> with mdmp.open("crashpad-one.dmp") as dump:

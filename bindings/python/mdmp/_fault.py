@@ -1,4 +1,4 @@
-"""What is wrong with a file."""
+"""Errors in a file, as exceptions."""
 
 from __future__ import annotations
 
@@ -10,7 +10,7 @@ from ._records import FaultKind, Part, Status
 
 
 class Fault(Exception):
-    """What is wrong with a file, in the command's words, and as numbers. If a limit was reached, it is a `LimitReached`.
+    """An error in a file: the message of the command, and numbers. If a limit is reached, it is a `LimitReached`.
 
     >>> import mdmp
     >>> try:
@@ -21,23 +21,23 @@ class Fault(Exception):
     """
 
     kind: FaultKind
-    """What is wrong."""
+    """Which error it is."""
     entry: int | None
-    """The entry of the directory, from 0, where the fault is of one."""
+    """The number of the directory entry, from 0; None if the error is not in an entry."""
     index: int | None
-    """The record's place in its stream, from 0, where the fault is of one record."""
+    """The number of the record in its stream, from 0; None if the error is not in one record."""
     offset: int
-    """An offset from the start of the file, where the kind has one."""
+    """An offset from the start of the file; 0 if the kind has none."""
     size: int
-    """Bytes, or the number that the kind says."""
+    """A number of bytes, or what the kind says."""
     part: Part | None
-    """Which part of the record, where the fault is of one."""
+    """Which part of the record has the error; None if the error is not in a part."""
     partial: Any
-    """What stood before the fault: the records, or the text."""
+    """What precedes the error: the records, or the text."""
 
     def __init__(self, text: str, kind: FaultKind, entry: int | None = None, index: int | None = None, offset: int = 0,
                  size: int = 0, part: Part | None = None, partial: Any = None) -> None:
-        # All of them are the exception's arguments, so that it can be pickled and sent to another process.
+        # All are arguments of the exception, so that it can be pickled and sent to another process.
         super().__init__(text, kind, entry, index, offset, size, part, partial)
         self.kind, self.entry, self.index = kind, entry, index
         self.offset, self.size, self.part, self.partial = offset, size, part, partial
@@ -50,20 +50,20 @@ class Fault(Exception):
 
 
 class LimitReached(Fault):
-    """A limit of the dump was reached (`Limits`), and `partial` holds what was given before it. `kind` says which limit:
+    """A limit of the dump is reached (`Limits`), and `partial` has what precedes it. `kind` says which limit:
 
-    BUDGET        the bytes at `offset`, `size` of them, would pass `budget`, and were not read
+    BUDGET        the `size` bytes at `offset` would pass `budget`, and were not read
     MEMORY_LIMIT  the lists would take `size` bytes, which is over `memory`
     ASIDE_LIMIT   the CodeView record at `offset`, of which `size` bytes are read, would pass `aside`
     COPY_BUDGET   the copy needs `size` bytes, which is over `budget`
 
-    `OutputLimit` is the one of `output`.
+    If `output` is reached, it is an `OutputLimit`.
     """
 
 
 class OutputLimit(LimitReached):
-    """The next row of a property, or the next line of a text, would pass `output` of the dump's limits. `partial` holds
-    the rows or the lines before it, `size` is that limit, and `kind` is `FaultKind.NONE`: the library has no such fault.
+    """The next row of a property, or the next line of a text, would pass `output` of the dump's limits. `partial` has
+    the rows or the lines before it, and `size` is the limit. `kind` is `FaultKind.NONE`: the library has no such error.
 
     >>> import mdmp
     >>> try:
@@ -85,7 +85,7 @@ def output_limit(most: int, partial: Any) -> OutputLimit:
 
 
 def fault_of(raw: _structures.Fault, partial: Any = None) -> Fault:
-    """The exception of a plain fault."""
+    """The exception for a plain fault."""
     kind = FaultKind(raw.kind)
     is_of_entry = FaultKind.STREAM_OUTSIDE <= kind <= FaultKind.NAME_TOO_LONG
     made = LimitReached if kind in _LIMITS else Fault
@@ -102,7 +102,7 @@ def fault_of(raw: _structures.Fault, partial: Any = None) -> Fault:
 
 
 def expect_good(status: int, raw: _structures.Fault, partial: Any = None) -> None:
-    """Raises what a status tells, unless it is good."""
+    """Raises the exception for a status, unless the status is OK."""
     if status == Status.OK:
         return
     if status == Status.NO_MEMORY:

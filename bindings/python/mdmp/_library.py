@@ -13,7 +13,7 @@ from ._records import Status
 
 
 def _load() -> CDLL:
-    """The library that MDMP_LIBRARY names, or the one beside this file, or the system's."""
+    """The library that MDMP_LIBRARY names, or the one in this folder, or the system's."""
     named = os.environ.get("MDMP_LIBRARY")
     soname = _structures.SONAME
     beside = os.path.join(os.path.dirname(os.path.abspath(__file__)), soname)
@@ -34,13 +34,13 @@ library = _load()
 
 @lru_cache(maxsize=256)
 def array_of(item: Any, room: int) -> type[Array[Any]]:
-    """The type of an array, which takes longer to make than most calls do."""
+    """The type of an array. To make one takes longer than most calls."""
     made: type[Array[Any]] = item * max(room, 1)
     return made
 
 
 class Filled(NamedTuple):
-    """What a call answered, and the buffer that it filled. `is_cut` if there are more items than were to be given."""
+    """What a call returned, and the buffer that it filled. `is_cut`: there are more items than the most."""
 
     status: Status
     items: Array[Any]
@@ -49,11 +49,11 @@ class Filled(NamedTuple):
     is_cut: bool = False
 
     def bytes(self) -> bytes:
-        """The bytes that were given."""
+        """The bytes that the call returned."""
         return bytes_at(self.items, self.given)
 
     def text(self) -> str:
-        """The text that was given: of one that is cut its whole lines."""
+        """The text that the call returned; if it is cut, only its whole lines."""
         data = memoryview(self.items)[: self.given]
         if not self.is_cut:
             return str(data, "utf-8")
@@ -62,8 +62,8 @@ class Filled(NamedTuple):
 
 
 def fill(call: Callable[..., int], item: Any, room: int, most: int | None = None) -> Filled:
-    """Calls with a buffer for so many items. If that is too short, calls with one as long as it asks for, but for no more
-    than the most items."""
+    """Calls with a buffer for `room` items. If that is too short, calls again with one of the length that the call asks
+    for, up to the most items."""
     while True:
         room = room if most is None else min(room, most)
         items, count, fault = array_of(item, room)(), c_uint64(), _structures.Fault()
@@ -76,7 +76,7 @@ def fill(call: Callable[..., int], item: Any, room: int, most: int | None = None
 
 
 def fault_text(fault: _structures.Fault) -> str:
-    """The command's words of a fault."""
+    """The message of the command for an error."""
 
     def call(out: Any, room: int, size: Any, _: Any) -> int:
         return int(library.mdmp_fault_text_(byref(fault), out, room, size))

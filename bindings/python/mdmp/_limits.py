@@ -1,4 +1,4 @@
-"""How much a dump reads, holds and keeps."""
+"""How much of a file a dump reads, and how much memory it uses."""
 
 from __future__ import annotations
 
@@ -10,13 +10,13 @@ from . import _structures
 
 
 class Left(Enum):
-    """Stands for an argument that a caller left out, if None has a meaning of its own."""
+    """The value of an argument that a caller leaves out, if None has a meaning of its own."""
 
     OUT = "left out"
 
 
 def number(name: str, given: int, bits: int) -> int:
-    """A number for a u32 or a u64 of the library. ctypes would drop what is above its bits."""
+    """A number for a u32 or a u64 of the library: ctypes would drop its higher bits."""
     if not 0 <= given < 1 << bits:
         raise ValueError(f"{name} is not between 0 and {(1 << bits) - 1}")
     return given
@@ -24,8 +24,8 @@ def number(name: str, given: int, bits: int) -> int:
 
 @dataclass(frozen=True, slots=True)
 class Limits:
-    """How much of a file a dump reads, and how much memory it takes. None is no limit, and 0 is no byte. A dump that is
-    opened without a word of limits has those of `untrusted`.
+    """How much of a file a dump reads, and how much memory it uses. None is no limit, and 0 is no byte. If no limits are
+    given, a dump has those of `untrusted`.
 
     >>> import mdmp
     >>> mdmp.Limits.untrusted().budget
@@ -38,19 +38,19 @@ class Limits:
     """
 
     window: int = _structures.WINDOW
-    """By how many bytes the file's records are read: 168 to 2^30."""
+    """The size of the buffer for records, in bytes: 168 to 2^30."""
     name: int = _structures.NAME
     """The longest name that is read, in bytes: at most 2^30."""
     budget: int | None = None
-    """The most bytes of the file that one listing reads, or one copy. Each table, each text and the memory's ranges are a
-    listing of their own, which is made again if its first guess of a size was too small."""
+    """The most bytes of the file that one listing or one copy reads. Each table, each text and `memory` is a listing of
+    its own. If its first buffer is too short, the listing is made again, and counts from 0 again."""
     memory: int | None = None
-    """The most bytes that the lists of one listing or copy take: the window, the directory, the ranges of memory, a name."""
+    """The most bytes that the lists of one listing or copy take: window, directory, ranges of memory, name."""
     aside: int | None = None
-    """The most bytes of CodeView records that one text with `pdb` reads. They do not count in `budget`."""
+    """The most bytes of CodeView records that one text with `pdb` reads. `budget` does not count them."""
     output: int | None = None
-    """The most bytes that one property keeps: of the objects of its rows, as `sys.getsizeof` tells them. Also the most
-    bytes of one text that is given; `write_list`, which keeps none, has no such limit."""
+    """The most bytes of the rows that one property keeps, as `sys.getsizeof` counts them with their names. Also the most
+    bytes of one text. It does not limit `write_list` and copies."""
 
     def __post_init__(self) -> None:
         number("window", self.window, 32)
@@ -62,7 +62,7 @@ class Limits:
 
     @classmethod
     def untrusted(cls) -> Limits:
-        """The limits for files from strangers: `budget`, `memory`, `aside` and `output` are 64 MiB each."""
+        """The limits for files from strangers: 64 MiB each for `budget`, `memory`, `aside` and `output`."""
         most = _structures.UNTRUSTED
         return cls(budget=most, memory=most, aside=most, output=most)
 
@@ -75,6 +75,6 @@ UNTRUSTED: Final = Limits.untrusted()
 
 
 def limits_of(limits: Limits | None, **given: Any) -> Limits:
-    """These limits, or none at all if there are none, with the numbers that a caller did not leave out."""
+    """These limits, or no limit if they are None, with the numbers that a caller did not leave out."""
     numbers = {name: given for name, given in given.items() if given is not Left.OUT}
     return replace(Limits() if limits is None else limits, **numbers)

@@ -20,13 +20,13 @@ class Cells(NamedTuple):
     """Bytes of consecutive addresses."""
 
     data: bytes
-    """The bytes; 0 where they are not known."""
+    """The bytes; a byte that is not known is 0."""
     known: tuple[bool, ...]
-    """Whether the file has each of them."""
+    """For each byte, whether the file has it."""
 
 
 class Memory:
-    """Memory of the dumped process, by address. `dump.memory` reads the file's lists once, and keeps an index of them.
+    """Memory of the dumped process, by address. `dump.memory` reads the memory lists once, and keeps an index.
 
     >>> import mdmp
     >>> with mdmp.open("crashpad-one.dmp") as dump:
@@ -70,7 +70,7 @@ class Memory:
     def __getitem__(self, key: slice) -> bytes: ...
 
     def __getitem__(self, key: int | slice) -> int | bytes:
-        """The byte at an address, or the bytes of a slice; KeyError with the first address that the file lacks."""
+        """The byte at an address, or the bytes of a slice. KeyError has the first address that the file lacks."""
         if isinstance(key, int):
             return self[key : key + 1][0]
         if key.start is None or key.stop is None or key.step not in (None, 1):

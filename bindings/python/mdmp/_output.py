@@ -1,4 +1,4 @@
-"""How many bytes the rows take that a property keeps."""
+"""How many bytes the rows of a property take."""
 
 from __future__ import annotations
 
@@ -13,11 +13,11 @@ from ._parts import Reader, SymbolFile
 from ._records import SymbolKind
 
 _PLACE_IN_A_TUPLE = 8
-_BIG = (1 << 32) - 1  # takes as much as any number of 32 bits
+_BIG = (1 << 32) - 1  # takes as many bytes as any number of 32 bits
 
 
 def size_of(value: Any) -> int:
-    """How many bytes a value takes with all that it holds. Members of enums and None are there in any case."""
+    """How many bytes a value takes with its parts. Members of enums and None are there in any case."""
     if value is None or isinstance(value, Enum):
         return 0
     names = getattr(type(value), "__slots__", ())
@@ -45,7 +45,7 @@ class _NoNames:
 
 @lru_cache(maxsize=None)
 def row_size(record: Any) -> int:
-    """How many bytes a row takes at most, without its names: that of a structure whose bytes are all 255."""
+    """The most bytes that a row takes without its names: those for a structure whose bytes are all 255."""
     raw = getattr(_structures, record.__name__)
     greatest = raw.from_buffer_copy(b"\xff" * _structures.LAYOUT[raw][0])
     return _PLACE_IN_A_TUPLE + size_of(record._of(greatest, _NoNames()))

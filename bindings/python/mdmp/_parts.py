@@ -1,4 +1,4 @@
-"""What records are made with: names, symbol files and versions."""
+"""Parts of records: names, symbol files and versions."""
 
 from __future__ import annotations
 
@@ -13,7 +13,7 @@ if TYPE_CHECKING:
 
 
 class Numbers(IntEnum):
-    """Numbers with names. A later library may answer one that has no name here."""
+    """Numbers with names. A later library may return a number that has no name here."""
 
     @classmethod
     def _missing_(cls, value: object) -> Numbers | None:
@@ -37,36 +37,36 @@ class Version(NamedTuple):
 
 
 def version(upper: int, lower: int) -> Version:
-    """The version of two numbers of 32 bits."""
+    """The version in two numbers of 32 bits."""
     return Version(upper >> 16, upper & 0xFFFF, lower >> 16, lower & 0xFFFF)
 
 
 @dataclass(frozen=True, slots=True)
 class SymbolFile:
-    """What the CodeView record of a module tells of its symbol file."""
+    """The CodeView record of a module, which names its symbol file."""
 
     kind: SymbolKind
-    """Which kind of record it is. The members below are empty where the kind has none."""
+    """Which kind of record it is. A member that this kind does not have is None, 0, False or empty."""
     guid: UUID | None
-    """Of RSDS: the symbol file's identity."""
+    """RSDS: the identity of the symbol file."""
     age: int
-    """Of RSDS: how often the symbol file was written."""
+    """RSDS: how often the symbol file was written since it got its identity."""
     name: bytes
-    """Of RSDS: its name, in no known encoding: at most as many bytes as the longest name of the dump's limits."""
+    """RSDS: the name, in no known encoding. It has at most as many bytes as `name` of the dump's limits."""
     name_ended: bool
-    """Of RSDS: whether a zero byte ends the name, and neither the record nor that limit."""
+    """RSDS: True if a zero byte ends the name, False if the record or the limit ends it."""
     signature: bytes
-    """Of another kind: its first four bytes."""
+    """Another kind: the first four bytes of the record."""
 
 
 class Reader(Protocol):
-    """Reads what a record names elsewhere in its file."""
+    """Reads what a record names."""
 
     def _name_at(self, place: _structures.NamePlace) -> str | None:
-        """A name, where there is one within the limit."""
+        """A name, or None if there is none within the limit."""
 
     def _symbols_at(self, place: _structures.Place) -> SymbolFile | None:
-        """What a CodeView record tells, where the file has one."""
+        """A CodeView record, or None if it is not inside the file."""
 
     def _thread_name(self, thread_id: int) -> str | None:
-        """The first name that the file has for a thread, where it has one."""
+        """The first name that the file has for a thread, or None."""

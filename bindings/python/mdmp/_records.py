@@ -30,14 +30,14 @@ __all__ = [
 
 
 class Status(Numbers):
-    """What a call answers. 0 to 3 are exit statuses of the command too, and for 5 the command exits with 3.
+    """What a call returns. 0 to 3 are also exit statuses of the command; for 5, the command exits with 3.
 
-    OK                good
-    FAULT             the file is at fault
-    BAD_ARGUMENT      an argument is: limits, types of streams, lengths
+    OK                success
+    FAULT             the file has an error
+    BAD_ARGUMENT      an argument is wrong: limits, types of streams, lengths
     NO_MEMORY         out of memory
-    BUFFER_TOO_SHORT  the buffer was too short
-    LIMIT             a limit was reached: the kind of the fault says which
+    BUFFER_TOO_SHORT  the buffer is too short
+    LIMIT             a limit is reached, and the kind of `fault` says which
     """
 
     OK = 0
@@ -49,14 +49,14 @@ class Status(Numbers):
 
 
 class FaultKind(Numbers):
-    """What is wrong. Beside each stand the numbers of mdmp_fault that it uses.
+    """Which error it is. The comment of each kind names the fields of mdmp_fault that the kind uses.
 
-    NONE                 nothing
-    FILE_TOO_SHORT       the file can't be opened: it has size bytes
-    BAD_SIGNATURE        it does not begin with MDMP
-    BAD_VERSION          size: the low 16 bits of its version
-    DIRECTORY_OUTSIDE    offset and size of the directory, which is not inside the file
-    TOO_MANY_RANGES      size (high: its upper 64 bits): how many ranges of memory
+    NONE                 no error
+    FILE_TOO_SHORT       size: the bytes of the file, which are fewer than 32
+    BAD_SIGNATURE        the file does not begin with MDMP
+    BAD_VERSION          size: the low 16 bits of Version, which are not 0xa793
+    DIRECTORY_OUTSIDE    offset, size: the directory, which is not inside the file
+    TOO_MANY_RANGES      size (high: its upper 64 bits): the number of memory ranges, over 2^28
     STREAM_OUTSIDE       entry, offset, size: the stream is not inside the file
     SHORT_STREAM         entry, offset, size: the stream is shorter than its head or its record
     BAD_HEADER_SIZE      entry, offset, size: SizeOfHeader
@@ -65,21 +65,21 @@ class FaultKind(Numbers):
     NAME_LENGTH_OUTSIDE  entry, index, offset, size (4): a name's length is not inside the file
     NAME_ODD             entry, index, offset, size: a name's length is odd
     NAME_OUTSIDE         entry, index, offset, size: a name is not inside the file
-    PART_OUTSIDE         entry, index, part, offset (high: its upper 64 bits), size
+    PART_OUTSIDE         entry, index, part, offset (high: its upper 64 bits), size: outside the file
     NAME_TOO_LONG        entry, index, size: a name's length, which is over the limit
-    RAW_KNOWN_TYPE       no call over a file answers this
-    COPY_TOO_LARGE       the copy would be longer than the format can say
-    BAD_ENTRIES          size: how many entries of the directory have a fault
+    RAW_KNOWN_TYPE       no call returns this
+    COPY_TOO_LARGE       the copy would be longer than the format allows
+    BAD_ENTRIES          size: the number of directory entries that have an error
     NOT_COPIED           size: a type of stream that is not copied
-    NO_MEMORY            out of memory: malloc or realloc answered NULL
+    NO_MEMORY            out of memory: malloc or realloc returned NULL
     BAD_LIMITS           a limit is out of its bounds
-    BAD_TYPES            the types to be copied are none, or over 16
-    STORE                no call over a file in memory answers this
-    LENGTHS_DIFFER       two buffers that must have one length differ
-    BUDGET               offset, size: bytes that were not read, as they would pass the budget
-    MEMORY_LIMIT         size (high: its upper 64 bits): how many bytes the lists would take
-    ASIDE_LIMIT          offset, size: a CodeView record that was not read, as it would pass the limit
-    COPY_BUDGET          size (high: its upper 64 bits): how many bytes the copy needs
+    BAD_TYPES            there are no types to copy, or more than 16
+    STORE                no call returns this
+    LENGTHS_DIFFER       two lengths that must be equal differ
+    BUDGET               offset, size: bytes that were not read, as they would pass `budget`
+    MEMORY_LIMIT         size (high: its upper 64 bits): the bytes that the lists would take
+    ASIDE_LIMIT          offset, size: a CodeView record that was not read, as it would pass `aside`
+    COPY_BUDGET          size (high: its upper 64 bits): the bytes that the copy needs
     """
 
     NONE = 0
@@ -114,7 +114,7 @@ class FaultKind(Numbers):
 
 
 class Part(Numbers):
-    """Which part of a record a fault is of.
+    """Which part of a record has the error.
 
     STACK     the stack of a thread
     CONTEXT   the registers of a thread or an exception
@@ -131,12 +131,12 @@ class Part(Numbers):
 
 
 class Extent(Numbers):
-    """What stands where a place says that something does.
+    """What is at the place that a record names.
 
     EMPTY    no bytes
     ABSENT   bytes that the producer did not keep
     INSIDE   bytes of the file
-    OUTSIDE  bytes of which one lies behind the file's end
+    OUTSIDE  bytes that are not all inside the file
     """
 
     EMPTY = 0
@@ -148,9 +148,9 @@ class Extent(Numbers):
 class NameState(Numbers):
     """Whether a record has a name.
 
-    NONE   there is none
+    NONE   no name
     GIVEN  a name within the limit
-    LONG   a name that is longer than the limit
+    LONG   a name longer than the limit
     """
 
     NONE = 0
@@ -173,11 +173,11 @@ class SymbolKind(Numbers):
 
 @dataclass(frozen=True, slots=True)
 class Place:
-    """Where a part of a record stands: MINIDUMP_LOCATION_DESCRIPTOR, and what is there.
+    """The place of a part of a record: MINIDUMP_LOCATION_DESCRIPTOR, and what is there.
 
     size    DataSize, in bytes
     rva     Rva, an offset from the start of the file
-    extent  what stands there
+    extent  what is there
     """
 
     size: int
@@ -191,11 +191,11 @@ class Place:
 
 @dataclass(frozen=True, slots=True)
 class NamePlace:
-    """Where a name stands, a MINIDUMP_STRING: mdmp_name gives its text.
+    """The place of a name, a MINIDUMP_STRING: mdmp_name returns its text.
 
-    rva    where its Length stands, an offset from the start of the file; 0 for no name
-    size   bytes of its UTF-16 units, which stand 4 bytes behind that
-    state  whether there is one
+    rva    the offset of its Length from the start of the file; 0 for no name
+    size   bytes of its UTF-16 units, which follow the 4 bytes of Length
+    state  whether there is a name
     """
 
     rva: int
@@ -213,10 +213,10 @@ class Header:
 
     flags                 Flags
     signature             Signature
-    version               Version: 0xa793 in the lower half, the producer's own in the upper
+    version               Version: the low 16 bits are 0xa793, the high 16 bits are the producer's own
     number_of_streams     NumberOfStreams
     stream_directory_rva  StreamDirectoryRva, an offset from the start of the file
-    checksum              CheckSum, which nothing checks
+    checksum              CheckSum, which is not checked
     time_date_stamp       TimeDateStamp, in seconds since 1970
     """
 
@@ -238,7 +238,7 @@ class Header:
 class Stream:
     """An entry of the directory: MINIDUMP_DIRECTORY.
 
-    entry        its place in the directory, from 0
+    entry        the number of the entry in the directory, from 0
     stream_type  StreamType
     size         Location.DataSize, in bytes
     rva          Location.Rva, an offset from the start of the file
@@ -258,17 +258,17 @@ class Stream:
 class Thread:
     """A thread: MINIDUMP_THREAD.
 
-    index           the record's place in its stream, from 0
+    index           the number of the record in its stream, from 0
     teb             Teb, an address of the dumped process
     stack_start     Stack.StartOfMemoryRange, an address of the dumped process
-    entry           the entry of the directory, from 0
+    entry           the number of the directory entry, from 0
     thread_id       ThreadId
     suspend_count   SuspendCount
     priority_class  PriorityClass
     priority        Priority
     stack           Stack.Memory
     context         ThreadContext, the registers
-    name            the first name that the file has for it, or None
+    name            the first name of the thread in the file, or None
     """
 
     index: int
@@ -294,23 +294,23 @@ class Thread:
 class Module:
     """A module: MINIDUMP_MODULE.
 
-    index               the record's place in its stream, from 0
+    index               the number of the record in its stream, from 0
     base_of_image       BaseOfImage, an address of the dumped process
-    entry               the entry of the directory, from 0
+    entry               the number of the directory entry, from 0
     size_of_image       SizeOfImage, in bytes
     checksum            CheckSum
     time_date_stamp     TimeDateStamp, in seconds since 1970
-    file_version_ms     VersionInfo.dwFileVersionMS: the first two of the version's four numbers
-    file_version_ls     VersionInfo.dwFileVersionLS: the last two
+    file_version_ms     VersionInfo.dwFileVersionMS: the first two of the four numbers of the version
+    file_version_ls     VersionInfo.dwFileVersionLS: the last two numbers
     product_version_ms  VersionInfo.dwProductVersionMS
     product_version_ls  VersionInfo.dwProductVersionLS
-    name                the name at ModuleNameRva; None where there is none, or a longer one than the limit
-    name_place          where that stands
-    codeview            CvRecord: mdmp_symbols tells what stands there
+    name                the name at ModuleNameRva; None if there is none within the limit
+    name_place          the place of the name
+    codeview            CvRecord: mdmp_symbols reads the record that is there
     misc                MiscRecord
     file_version        four numbers
     product_version     four numbers
-    symbols             what its CodeView record tells, if it has one
+    symbols             its CodeView record, or None if that is not inside the file
     """
 
     index: int
@@ -345,15 +345,15 @@ class Module:
 class ExceptionRecord:
     """An exception: MINIDUMP_EXCEPTION_STREAM.
 
-    index              the record's place in its stream: 0
+    index              the number of the record in its stream: 0
     exception_record   ExceptionRecord, an address of the dumped process
     exception_address  ExceptionAddress, an address of the dumped process
     information        ExceptionInformation
-    entry              the entry of the directory, from 0
+    entry              the number of the directory entry, from 0
     thread_id          ThreadId
     exception_code     ExceptionCode
     exception_flags    ExceptionFlags
-    number_parameters  NumberParameters: how many of information count; it may be over 15
+    number_parameters  NumberParameters: how many elements of information are used; may be over 15
     context            ThreadContext, the registers
     """
 
@@ -379,10 +379,10 @@ class ExceptionRecord:
 class System:
     """The system: MINIDUMP_SYSTEM_INFO.
 
-    index                   the record's place in its stream: 0
-    csd_version             the name at CSDVersionRva, of the service pack; None where there is none, or a longer one than the limit
-    csd_version_place       where that stands
-    entry                   the entry of the directory, from 0
+    index                   the number of the record in its stream: 0
+    csd_version             the name at CSDVersionRva: the service pack; None if there is none within the limit
+    csd_version_place       the place of the name
+    entry                   the number of the directory entry, from 0
     processor_architecture  ProcessorArchitecture: 0 is x86, 9 is x64, 12 is ARM64
     processor_level         ProcessorLevel
     processor_revision      ProcessorRevision
@@ -422,16 +422,16 @@ class System:
 
 @dataclass(frozen=True, slots=True)
 class UnloadedModule:
-    """A module that was unloaded: MINIDUMP_UNLOADED_MODULE.
+    """An unloaded module: MINIDUMP_UNLOADED_MODULE.
 
-    index            the record's place in its stream, from 0
+    index            the number of the record in its stream, from 0
     base_of_image    BaseOfImage, an address of the dumped process
-    entry            the entry of the directory, from 0
+    entry            the number of the directory entry, from 0
     size_of_image    SizeOfImage, in bytes
     checksum         CheckSum
     time_date_stamp  TimeDateStamp, in seconds since 1970
-    name             the name at ModuleNameRva; None where there is none, or a longer one than the limit
-    name_place       where that stands
+    name             the name at ModuleNameRva; None if there is none within the limit
+    name_place       the place of the name
     """
 
     index: int
@@ -453,11 +453,11 @@ class UnloadedModule:
 class Region:
     """A region of memory: MINIDUMP_MEMORY_INFO.
 
-    index               the record's place in its stream, from 0
+    index               the number of the record in its stream, from 0
     base_address        BaseAddress, an address of the dumped process
     allocation_base     AllocationBase, an address of the dumped process
     region_size         RegionSize, in bytes
-    entry               the entry of the directory, from 0
+    entry               the number of the directory entry, from 0
     allocation_protect  AllocationProtect
     state               State
     protect             Protect
@@ -484,11 +484,11 @@ class Region:
 class ThreadName:
     """The name of a thread: MINIDUMP_THREAD_NAME.
 
-    index       the record's place in its stream, from 0
-    entry       the entry of the directory, from 0
+    index       the number of the record in its stream, from 0
+    entry       the number of the directory entry, from 0
     thread_id   ThreadId
-    name        the name at RvaOfThreadName, an offset of 64 bits; None where there is none, or a longer one than the limit
-    name_place  where that stands
+    name        the name at RvaOfThreadName, an offset of 64 bits; None if there is none within the limit
+    name_place  the place of the name
     """
 
     index: int
@@ -507,12 +507,12 @@ class ThreadName:
 class Range:
     """A range of memory: MINIDUMP_MEMORY_DESCRIPTOR or MINIDUMP_MEMORY_DESCRIPTOR64.
 
-    index   the record's place in its stream, from 0
+    index   the number of the record in its stream, from 0
     start   StartOfMemoryRange, an address of the dumped process
     size    DataSize, in bytes
-    offset  where its bytes stand, an offset from the start of the file
-    entry   the entry of the directory, from 0
-    extent  what its bytes are in the file
+    offset  the offset of its bytes from the start of the file
+    entry   the number of the directory entry, from 0
+    extent  whether its bytes are in the file
     """
 
     index: int

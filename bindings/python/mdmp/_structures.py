@@ -407,7 +407,7 @@ class SymbolFile(Structure):
     ]
 
 
-# Of each structure its size, and where each field stands.
+# For each structure its size, and the offset of each field.
 LAYOUT: dict[type[Structure], tuple[int, dict[str, int]]] = {
     Limits: (
         32,
@@ -492,7 +492,7 @@ LAYOUT: dict[type[Structure], tuple[int, dict[str, int]]] = {
 
 
 def declare(library: CDLL) -> None:
-    """Gives each call of a library the types of its arguments and its answer."""
+    """Sets the types of the arguments and the result of each call of a library."""
     library.mdmp_abi.argtypes = []
     library.mdmp_abi.restype = c_uint32
     library.mdmp_version.argtypes = []

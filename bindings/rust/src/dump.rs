@@ -23,35 +23,35 @@ pub struct Dump<'a> {
     plain: ffi::Limits,
 }
 
-/// Whether an entry of the directory is good.
+/// The result of checking an entry of the directory.
 #[derive(Clone, Copy, Debug, PartialEq, Eq)]
 #[non_exhaustive]
 pub struct Verdict {
-    /// Its place in the directory, from 0.
+    /// The number of the entry in the directory, from 0.
     pub entry: u32,
-    /// Its first fault, or none where it is good.
+    /// The first error of the entry, or `None` if the entry is good.
     pub fault: Option<Fault>,
 }
 
-/// What the CodeView record of a module tells of its symbol file.
+/// The CodeView record of a module, which names its symbol file.
 #[derive(Clone, Copy, Debug, PartialEq, Eq)]
 #[non_exhaustive]
 pub struct SymbolFile<'a> {
-    /// Which kind of record it is. The fields below are empty where the kind has none.
+    /// Which kind of record it is. A field that this kind does not have is 0, `false` or empty.
     pub kind: SymbolKind,
-    /// Of RSDS: the symbol file's identity, in the order in which it is printed.
+    /// RSDS: the identity of the symbol file, in the order in which it is printed.
     pub guid: [u8; 16],
-    /// Of RSDS: how often the symbol file was written.
+    /// RSDS: how often the symbol file was written since it got its identity.
     pub age: u32,
-    /// Of RSDS: its name, in no known encoding: at most as many bytes as the longest name of the dump's limits.
+    /// RSDS: the name, in no known encoding. It has at most as many bytes as `name` of the dump's limits.
     pub name: &'a [u8],
-    /// Of RSDS: whether a zero byte ends the name, and neither the record nor that limit.
+    /// RSDS: `true` if a zero byte ends the name, `false` if the record or the limit ends it.
     pub name_ended: bool,
-    /// Of another kind: its first four bytes.
+    /// Another kind: the first four bytes of the record.
     pub signature: [u8; 4],
 }
 
-/// What a call that fills a buffer answered. If there are more items than there is room for, `cut` is that `output`.
+/// What a call returned that fills a buffer. If there are more items than `output` allows, `cut` is that limit.
 struct Filled<T> {
     status: u32,
     items: Vec<T>,
@@ -69,7 +69,7 @@ impl<T> Filled<T> {
 }
 
 impl Filled<u8> {
-    /// The text that was given: of one that is cut its whole lines. The texts of the library and its names are UTF-8.
+    /// The text; if it is cut, only its whole lines. The texts of the library and its names are UTF-8.
     fn text(mut self) -> Result<String, Error<String>> {
         if self.cut.is_some() {
             let lines = self.items.iter().rposition(|byte| *byte == b'\n');
@@ -79,8 +79,8 @@ impl Filled<u8> {
     }
 }
 
-/// Calls with a buffer for so many items. If that is too short, calls with one as long as it asks for, but for no more items
-/// than `output` of the limits has room for.
+/// Calls with a buffer for so many items. If the buffer is too short, calls again with one of the length that the call
+/// asks for, up to the items that `output` of the limits allows.
 fn fill<T: Copy + Default>(
     room: usize,
     limits: &Limits,
@@ -125,17 +125,17 @@ macro_rules! tables {
 tables! {
     /// The threads.
     threads: mdmp_threads gives Thread;
-    /// The modules: [`Dump::name`] gives a name's text, and [`Dump::symbols`] what its CodeView record tells.
+    /// The modules: [`Dump::name`] returns the text of a name, and [`Dump::symbols`] the CodeView record.
     modules: mdmp_modules gives Module;
-    /// The modules that were unloaded.
+    /// The unloaded modules.
     unloaded: mdmp_unloaded gives UnloadedModule;
-    /// The exceptions: in most dumps of a crash there is one.
+    /// The exceptions. Most dumps of a crash have one.
     exceptions: mdmp_exceptions gives ExceptionRecord;
-    /// The systems: most dumps have one.
+    /// The systems. Most dumps have one.
     systems: mdmp_systems gives System;
     /// The regions of memory.
     regions: mdmp_regions gives Region;
-    /// The names of threads: [`Dump::name`] gives a name's text.
+    /// The names of threads: [`Dump::name`] returns the text of a name.
     thread_names: mdmp_thread_names gives ThreadName;
     /// The ranges of memory whose bytes the file may have.
     ranges: mdmp_ranges gives Range;
@@ -152,7 +152,7 @@ impl<'a> Dump<'a> {
         }
     }
 
-    /// The same dump with these limits: `Limits::none()` lifts all.
+    /// The dump with these limits: `Limits::none()` lifts all.
     pub fn with_limits(mut self, limits: Limits) -> Self {
         self.limits = limits;
         self.plain = limits.plain();
@@ -164,7 +164,7 @@ impl<'a> Dump<'a> {
         self.limits
     }
 
-    /// The same dump with another `window` of its limits.
+    /// The dump with another `window` in its limits.
     pub fn with_window(self, window: u32) -> Self {
         self.with_limits(Limits {
             window,
@@ -172,7 +172,7 @@ impl<'a> Dump<'a> {
         })
     }
 
-    /// The same dump with another `name` of its limits, the longest name in bytes.
+    /// The dump with another `name` in its limits: the longest name, in bytes.
     pub fn with_longest_name(self, name: u32) -> Self {
         self.with_limits(Limits {
             name,
@@ -180,7 +180,7 @@ impl<'a> Dump<'a> {
         })
     }
 
-    /// The same dump with another `budget` of its limits. 0 is no byte.
+    /// The dump with another `budget` in its limits. 0 is no byte.
     pub fn with_budget(self, bytes: u64) -> Self {
         self.with_limits(Limits {
             budget: Some(bytes),
@@ -188,12 +188,12 @@ impl<'a> Dump<'a> {
         })
     }
 
-    /// How many records of a kind the file may well have: they are seldom shorter than 24 bytes.
+    /// A guess of how many records of a kind the file has: most have at least 24 bytes.
     fn room(&self) -> usize {
         (self.file.len() / 24).clamp(16, 8192)
     }
 
-    /// How many bytes a text of the file may well have.
+    /// A guess of how many bytes a text of the file has.
     fn text_room(&self) -> usize {
         (2 * self.file.len()).clamp(1 << 14, 1 << 20)
     }
@@ -205,7 +205,7 @@ impl<'a> Dump<'a> {
         ended(status, fault, ()).map(|()| out.into())
     }
 
-    /// The entries of the directory as they stand there, whether or not what they name is good.
+    /// The entries of the directory. The streams that they name are not checked.
     pub fn streams(&self) -> Result<Vec<Stream>, Error> {
         fill(
             self.room(),
@@ -216,7 +216,8 @@ impl<'a> Dump<'a> {
         .map_err(Error::without_partial)
     }
 
-    /// Whether each entry of the directory is good. An error only if the file can't be opened, or a limit was reached.
+    /// The result of checking each entry of the directory. It is an error only if the file cannot be opened, a limit is
+    /// wrong or reached, or memory runs out.
     pub fn verdicts(&self) -> Result<Vec<Verdict>, Error<Vec<Verdict>>> {
         let filled = fill(self.room(), &self.limits, |out, count, fault| {
             ffi::mdmp_verdicts(self.file, &self.plain, out, count, fault)
@@ -232,7 +233,7 @@ impl<'a> Dump<'a> {
         }
     }
 
-    /// The text of `mdmp check`: a line for each entry. An error where an entry is bad, with the whole text.
+    /// The text of `mdmp check`: a line for each entry. If an entry is bad, an [`Error::Fault`] has the whole text.
     pub fn check(&self) -> Result<String, Error<String>> {
         fill(self.text_room(), &self.limits, |out, size, fault| {
             ffi::mdmp_check(self.file, &self.plain, out, size, fault)
@@ -240,8 +241,8 @@ impl<'a> Dump<'a> {
         .text()
     }
 
-    /// The text of `mdmp check --json`: an object of JSON for each entry, one a line. An error where an entry is bad, with
-    /// the whole text.
+    /// The text of `mdmp check --json`: a JSON object for each entry, one a line. If an entry is bad, an
+    /// [`Error::Fault`] has the whole text.
     pub fn check_json(&self) -> Result<String, Error<String>> {
         fill(self.text_room(), &self.limits, |out, size, fault| {
             ffi::mdmp_check_json(self.file, &self.plain, out, size, fault)
@@ -249,12 +250,12 @@ impl<'a> Dump<'a> {
         .text()
     }
 
-    /// The text of `mdmp list`.
+    /// The text of `mdmp list`. An error has the lines before it.
     pub fn list(&self) -> Result<String, Error<String>> {
         self.listed(false)
     }
 
-    /// The text of `mdmp list --pdb`: what each CodeView record tells is one more line.
+    /// The text of `mdmp list --pdb`, which has one more line for each CodeView record inside the file.
     pub fn list_with_symbols(&self) -> Result<String, Error<String>> {
         self.listed(true)
     }
@@ -266,12 +267,12 @@ impl<'a> Dump<'a> {
         .text()
     }
 
-    /// The text of `mdmp list --json`: an object of JSON in the place of each line.
+    /// The text of `mdmp list --json`: a JSON object in the place of each line.
     pub fn list_json(&self) -> Result<String, Error<String>> {
         self.listed_json(false)
     }
 
-    /// The text of `mdmp list --json --pdb`: what each CodeView record tells is one more object.
+    /// The text of `mdmp list --json --pdb`, which has one more object for each CodeView record inside the file.
     pub fn list_json_with_symbols(&self) -> Result<String, Error<String>> {
         self.listed_json(true)
     }
@@ -283,9 +284,9 @@ impl<'a> Dump<'a> {
         .text()
     }
 
-    /// Writes the text of `mdmp list`, however long it is. The file is listed once for each 64 MiB of the text, and so mostly once; no more
-    /// than such a part of the text is in memory at a time. A fault is told behind what stands before it, as an
-    /// [`Error`] in the `io::Error`.
+    /// Writes the text of `mdmp list`, of any length. The file is listed once for each 64 MiB of the text, mostly once.
+    /// At most 64 MiB of the text are in memory. If there is an error, the text before it is written, and the
+    /// `io::Error` has the [`Error`].
     pub fn write_list(&self, out: &mut impl io::Write) -> io::Result<()> {
         let mut part = vec![0; PART];
         let mut skip = 0;
@@ -309,7 +310,7 @@ impl<'a> Dump<'a> {
         }
     }
 
-    /// The bytes of a new file with the streams of 1 to 16 types, and all that their records name.
+    /// The bytes of a new file: the streams of 1 to 16 types, and all that their records name.
     pub fn copy(&self, types: &[u32]) -> Result<Vec<u8>, Error> {
         fill(self.text_room(), &Limits::none(), |out, size, fault| {
             ffi::mdmp_copy(self.file, &self.plain, types, out, size, fault)
@@ -327,7 +328,7 @@ impl<'a> Dump<'a> {
         .map_err(Error::without_partial)
     }
 
-    /// The text of a name, where there is one within the limit.
+    /// The text of a name, or `None` if there is none within the limit.
     pub fn name(&self, place: &NamePlace) -> Result<Option<String>, Error> {
         if place.state != NameState::Given {
             return Ok(None);
@@ -340,7 +341,7 @@ impl<'a> Dump<'a> {
         .map_err(Error::without_partial)
     }
 
-    /// What the CodeView record at a place tells, where the file has one: the `codeview` of a module.
+    /// The CodeView record at a place, the `codeview` of a module. `None` if the record is not inside the file.
     pub fn symbols(&self, place: &Place) -> Result<Option<SymbolFile<'a>>, Error> {
         if place.extent != Extent::Inside {
             return Ok(None);

@@ -1,28 +1,28 @@
-//! Why a call gave nothing, or not all.
+//! Why a call returned nothing, or not everything.
 
 use crate::fault::Fault;
 use crate::ffi;
 use crate::records::Status;
 use std::fmt;
 
-/// Why a call gave nothing, or not all. `T` is what stood before the fault.
+/// Why a call returned nothing, or not everything. `T` is what precedes the error.
 #[non_exhaustive]
 pub enum Error<T = ()> {
-    /// The file is at fault; what stood before the fault was given.
+    /// An error in the file, and what precedes it.
     Fault(Fault, T),
-    /// A limit was reached, and the fault's kind says which: `Budget`, `MemoryLimit`, `AsideLimit` or `CopyBudget`. What
-    /// stood before it was given.
+    /// A limit is reached, and what precedes it. The kind says which limit: `Budget`, `MemoryLimit`, `AsideLimit` or
+    /// `CopyBudget`.
     Limit(Fault, T),
-    /// The next row or line would pass this `output` of the limits. The rows or lines before it were given.
+    /// The next row or line would pass this `output` of the limits, and the rows or lines before it.
     OutputLimit(u64, T),
-    /// An argument is: limits, or types of streams.
+    /// An argument is wrong: limits, or types of streams.
     BadArgument(Fault),
-    /// There was no memory.
+    /// The library is out of memory.
     NoMemory,
 }
 
 impl<T> Error<T> {
-    /// The fault, where there is one.
+    /// The numbers of the error, or `None` for `OutputLimit` and `NoMemory`.
     pub fn fault(&self) -> Option<&Fault> {
         match self {
             Error::Fault(fault, _) | Error::Limit(fault, _) | Error::BadArgument(fault) => {
@@ -32,7 +32,7 @@ impl<T> Error<T> {
         }
     }
 
-    /// What stood before the fault.
+    /// What precedes the error, or `None` for `BadArgument` and `NoMemory`.
     pub fn into_partial(self) -> Option<T> {
         match self {
             Error::Fault(_, partial)
@@ -42,7 +42,7 @@ impl<T> Error<T> {
         }
     }
 
-    /// The same error without what stood before the fault.
+    /// The error without what precedes it.
     pub fn without_partial(self) -> Error {
         match self {
             Error::Fault(fault, _) => Error::Fault(fault, ()),
@@ -68,7 +68,7 @@ impl<T> fmt::Display for Error<T> {
 }
 
 impl<T> fmt::Debug for Error<T> {
-    // What stood before the fault may be long, and is left out.
+    // What precedes the error may be long, and is left out.
     fn fmt(&self, f: &mut fmt::Formatter<'_>) -> fmt::Result {
         match self {
             Error::Fault(fault, _) => write!(f, "Fault({fault:?}, ..)"),
@@ -82,7 +82,7 @@ impl<T> fmt::Debug for Error<T> {
 
 impl<T> std::error::Error for Error<T> {}
 
-/// What a call answered, as a result. Of want of memory the library gives nothing.
+/// What a call returned, as a result. If the library is out of memory, it returns nothing.
 pub(crate) fn ended<T>(status: u32, fault: ffi::Fault, given: T) -> Result<T, Error<T>> {
     match Status::from(status) {
         Status::Ok => Ok(given),

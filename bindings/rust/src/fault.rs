@@ -1,10 +1,10 @@
-//! What is wrong with a file.
+//! Errors in a file.
 
 use crate::ffi;
 use crate::records::{FaultKind, Part};
 use std::fmt;
 
-/// What is wrong, and where. Its text is the command's.
+/// An error in a file, and where it is. It prints the message of the command.
 ///
 /// ```
 /// let error = mdmp::Dump::new(b"MDMP").header().unwrap_err();
@@ -16,27 +16,27 @@ use std::fmt;
 pub struct Fault(pub(crate) ffi::Fault);
 
 impl Fault {
-    /// What is wrong.
+    /// Which error it is.
     pub fn kind(&self) -> FaultKind {
         self.0.kind.into()
     }
 
-    /// The entry of the directory, from 0, where the fault is of one.
+    /// The number of the directory entry, from 0, or `None` if the error is not in an entry.
     pub fn entry(&self) -> Option<u32> {
         (16..=33).contains(&self.0.kind).then_some(self.0.entry)
     }
 
-    /// The record's place in its stream, from 0, where the fault is of one record.
+    /// The number of the record in its stream, from 0, or `None` if the error is not in one record.
     pub fn index(&self) -> Option<u64> {
         (self.0.has_index == 1).then_some(self.0.index)
     }
 
-    /// An offset from the start of the file, where the kind has one.
+    /// An offset from the start of the file, or 0 if the kind has none.
     pub fn offset(&self) -> u128 {
         self.wide(&[FaultKind::PartOutside], self.0.offset)
     }
 
-    /// Bytes, or the number that the kind says.
+    /// A number of bytes, or what the kind says.
     pub fn size(&self) -> u128 {
         let wide = [
             FaultKind::TooManyRanges,
@@ -46,12 +46,12 @@ impl Fault {
         self.wide(&wide, self.0.size)
     }
 
-    /// Which part of the record, where the fault is of one.
+    /// Which part of the record has the error, or `None` if the error is not in a part.
     pub fn part(&self) -> Option<Part> {
         (self.0.part != 0).then(|| self.0.part.into())
     }
 
-    /// A number whose upper half is told if the fault is of one of these kinds.
+    /// A number that has an upper half if the error is of one of these kinds.
     fn wide(&self, kinds: &[FaultKind], lower: u64) -> u128 {
         let upper = if kinds.contains(&self.kind()) {
             self.0.high

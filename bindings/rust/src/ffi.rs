@@ -2,7 +2,7 @@
 
 use std::mem::{offset_of, size_of};
 
-/// What `mdmp_abi` answers of the library that belongs to this crate.
+/// What `mdmp_abi` returns for the library of this crate.
 pub const ABI: u32 = 2;
 
 /// The window and the longest name of `MDMP_LIMITS_DEFAULT`.
@@ -10,7 +10,7 @@ pub const WINDOW: u32 = 65536;
 pub const NAME: u32 = 4096;
 /// Each limit of `MDMP_LIMITS_UNTRUSTED`.
 pub const UNTRUSTED: u64 = 67_108_864;
-/// In the place of a limit: there is none.
+/// As a limit: no limit.
 pub const NO_LIMIT: u64 = u64::MAX;
 
 /// `mdmp_limits`
@@ -237,7 +237,7 @@ pub struct SymbolFile {
     pub reserved: [u32; 3],
 }
 
-// The layout that the library has: no padding, nothing moved.
+// The layout of the library: no padding, and each field at its offset.
 const _: () = {
     assert!(size_of::<Limits>() == 32);
     assert!(offset_of!(Limits, window) == 0);
@@ -385,10 +385,9 @@ const _: () = {
     assert!(offset_of!(SymbolFile, reserved) == 44);
 };
 
-/// What the library exports. All that each asks of a caller is that its pointers are of live
-/// values, aligned and not NULL, that a length is that of its pointer, and that what is written to
-/// is disjoint from all else. Slices and references are so, also empty ones. Of what they hold
-/// nothing is asked.
+/// What the library exports. The pointers of a call must be of live values, aligned and not NULL. A
+/// length must be that of its pointer. What is written to must not overlap anything else. Slices and
+/// references are so, also empty ones. Their content may be anything.
 mod symbols {
     use super::*;
 

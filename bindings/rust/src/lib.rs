@@ -1,8 +1,8 @@
 //! Windows minidump files, read by a proved library.
 //!
-//! A [`Dump`] stands over the bytes of a file, which are read or mapped by whoever has them. What it gives are values of
-//! their own. A file that is at fault is an [`Error::Fault`], which holds what stood before the fault. A dump begins with
-//! the limits for files from strangers, [`Limits::untrusted`]: a call that reaches one is an [`Error::Limit`] or an
+//! A [`Dump`] borrows the bytes of a file, which the program has read or mapped. Records own their values. An error in
+//! the file is an [`Error::Fault`], which has what precedes the error. A dump begins with the limits for files from
+//! strangers, [`Limits::untrusted`]. If a call reaches a limit, it returns an [`Error::Limit`] or an
 //! [`Error::OutputLimit`].
 //!
 //! ```
@@ -21,7 +21,7 @@
 //! # }
 //! ```
 //!
-//! The library answers by the file's bytes alone, and shares nothing: a `Dump` may be used by any number of threads.
+//! The library has no state: any number of threads may use a `Dump`.
 #![deny(unsafe_code, unsafe_op_in_unsafe_fn)]
 #![warn(missing_docs)]
 
@@ -29,7 +29,7 @@ mod dump;
 mod error;
 mod fault;
 #[allow(unsafe_code, dead_code)]
-// unsafe here alone; each call of the header is declared, used or not
+// unsafe is only here; each call of the header is declared, used or not
 mod ffi;
 mod limits;
 mod memory;

@@ -1,8 +1,8 @@
-//! How much a dump reads, and how much is given at a time.
+//! How much of a file a dump reads, and how much memory it uses.
 
 use crate::ffi;
 
-/// How much of a file a dump reads, and how much memory it takes. `None` is no limit, and 0 is no byte.
+/// How much of a file a dump reads, and how much memory it uses. `None` is no limit, and 0 is no byte.
 ///
 /// [`Dump::new`](crate::Dump::new) begins with [`Limits::untrusted`], which is also the default.
 ///
@@ -17,25 +17,25 @@ use crate::ffi;
 /// ```
 #[derive(Clone, Copy, Debug, PartialEq, Eq)]
 pub struct Limits {
-    /// By how many bytes the file's records are read: 168 to 2^30.
+    /// The size of the buffer for records, in bytes: 168 to 2^30.
     pub window: u32,
     /// The longest name that is read, in bytes: at most 2^30.
     pub name: u32,
-    /// The most bytes of the file that one listing reads, or one copy. Each call is a listing of its own, which is made
-    /// again if its first guess of a size was too small.
+    /// The most bytes of the file that one listing or one copy reads. Each call is a listing of its own. If its first
+    /// buffer is too short, the listing is made again, and counts from 0 again.
     pub budget: Option<u64>,
-    /// The most bytes that the lists of one listing or copy take: the window, the directory, the ranges of memory and a
-    /// name.
+    /// The most bytes that the lists of one listing or copy take: window, directory, ranges of memory, name.
     pub memory: Option<u64>,
-    /// The most bytes of CodeView records that one text with symbols reads. They do not count in `budget`.
+    /// The most bytes of CodeView records that one text with symbols reads. `budget` does not count them.
     pub aside: Option<u64>,
-    /// The most bytes of the rows that one call gives, each as long as its structure in mdmp.h, and of one text.
-    /// [`Dump::write_list`](crate::Dump::write_list), which keeps no text, has no such limit.
+    /// The most bytes of the rows of one call, by the sizes of the structures in mdmp.h, and the most bytes of one text.
+    /// It does not limit [`Dump::write_list`](crate::Dump::write_list), [`Dump::copy`](crate::Dump::copy) and
+    /// [`Dump::name`](crate::Dump::name).
     pub output: Option<u64>,
 }
 
 impl Limits {
-    /// The limits for files from strangers: `budget`, `memory`, `aside` and `output` are 64 MiB each.
+    /// The limits for files from strangers: 64 MiB each for `budget`, `memory`, `aside` and `output`.
     pub fn untrusted() -> Self {
         let most = Some(ffi::UNTRUSTED);
         Limits {
@@ -71,7 +71,7 @@ impl Limits {
         }
     }
 
-    /// For how many items of a size there is room, if that is limited.
+    /// How many items of a size `output` allows, or `None` if it is no limit.
     pub(crate) fn room_for(&self, item: usize) -> Option<usize> {
         self.output
             .map(|most| usize::try_from(most).unwrap_or(usize::MAX) / item)

@@ -2,7 +2,7 @@
 
 use crate::ffi;
 
-/// Memory of the dumped process, by address. The file's lists were read once, and an index of them is kept.
+/// Memory of the dumped process, by address. It has an index of the memory lists, which were read once.
 #[derive(Clone)]
 pub struct Memory<'a> {
     file: &'a [u8],
@@ -24,25 +24,25 @@ impl<'a> Memory<'a> {
         }
     }
 
-    /// Reads memory from an address on: where `known[i]` becomes true, `out[i]` is the byte at `address + i`; elsewhere
-    /// it is 0.
+    /// Reads memory from an address on. If `known[i]` becomes true, `out[i]` is the byte at `address + i`; else `out[i]`
+    /// is 0.
     ///
     /// # Panics
-    /// Where `out` and `known` differ in length.
+    /// If `out` and `known` differ in length.
     pub fn read(&self, address: u64, out: &mut [u8], known: &mut [bool]) {
         let mut fault = ffi::Fault::default();
         let status = ffi::mdmp_read_index(self.file, &self.slots, address, out, known, &mut fault);
         assert_eq!(status, 0, "out and known have one length");
     }
 
-    /// So many bytes from an address on, or none where the file lacks one of them.
+    /// The `size` bytes from an address on, or `None` if the file lacks any of them.
     pub fn bytes(&self, address: u64, size: usize) -> Option<Vec<u8>> {
         let (mut out, mut known) = (vec![0; size], vec![false; size]);
         self.read(address, &mut out, &mut known);
         known.iter().all(|known| *known).then_some(out)
     }
 
-    /// The byte at an address, where the file has it.
+    /// The byte at an address, or `None` if the file lacks it.
     pub fn byte(&self, address: u64) -> Option<u8> {
         let (mut out, mut known) = ([0], [false]);
         self.read(address, &mut out, &mut known);

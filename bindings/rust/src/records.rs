@@ -2,21 +2,21 @@
 
 use crate::ffi;
 
-/// What a call answers. 0 to 3 are exit statuses of the command too, and for 5 the command exits with 3.
+/// What a call returns. 0 to 3 are also exit statuses of the command; for 5, the command exits with 3.
 #[derive(Clone, Copy, Debug, PartialEq, Eq, Hash)]
 #[non_exhaustive]
 pub enum Status {
-    /// Good.
+    /// Success.
     Ok,
-    /// The file is at fault.
+    /// The file has an error.
     Fault,
-    /// An argument is: limits, types of streams, lengths.
+    /// An argument is wrong: limits, types of streams, lengths.
     BadArgument,
     /// Out of memory.
     NoMemory,
-    /// The buffer was too short.
+    /// The buffer is too short.
     BufferTooShort,
-    /// A limit was reached: the kind of the fault says which.
+    /// A limit is reached, and the kind of `fault` says which.
     Limit,
     /// A number that this crate has no name for.
     Unknown(u32),
@@ -36,21 +36,21 @@ impl From<u32> for Status {
     }
 }
 
-/// What is wrong. Beside each stand the numbers of mdmp_fault that it uses.
+/// Which error it is. The comment of each kind names the fields of mdmp_fault that the kind uses.
 #[derive(Clone, Copy, Debug, PartialEq, Eq, Hash)]
 #[non_exhaustive]
 pub enum FaultKind {
-    /// Nothing.
+    /// No error.
     None,
-    /// The file can't be opened: it has size bytes.
+    /// Size: the bytes of the file, which are fewer than 32.
     FileTooShort,
-    /// It does not begin with MDMP.
+    /// The file does not begin with MDMP.
     BadSignature,
-    /// Size: the low 16 bits of its version.
+    /// Size: the low 16 bits of Version, which are not 0xa793.
     BadVersion,
-    /// Offset and size of the directory, which is not inside the file.
+    /// Offset, size: the directory, which is not inside the file.
     DirectoryOutside,
-    /// Size (high: its upper 64 bits): how many ranges of memory.
+    /// Size (high: its upper 64 bits): the number of memory ranges, over 2^28.
     TooManyRanges,
     /// Entry, offset, size: the stream is not inside the file.
     StreamOutside,
@@ -68,35 +68,35 @@ pub enum FaultKind {
     NameOdd,
     /// Entry, index, offset, size: a name is not inside the file.
     NameOutside,
-    /// Entry, index, part, offset (high: its upper 64 bits), size.
+    /// Entry, index, part, offset (high: its upper 64 bits), size: outside the file.
     PartOutside,
     /// Entry, index, size: a name's length, which is over the limit.
     NameTooLong,
-    /// No call over a file answers this.
+    /// No call returns this.
     RawKnownType,
-    /// The copy would be longer than the format can say.
+    /// The copy would be longer than the format allows.
     CopyTooLarge,
-    /// Size: how many entries of the directory have a fault.
+    /// Size: the number of directory entries that have an error.
     BadEntries,
     /// Size: a type of stream that is not copied.
     NotCopied,
-    /// Out of memory: malloc or realloc answered NULL.
+    /// Out of memory: malloc or realloc returned NULL.
     NoMemory,
     /// A limit is out of its bounds.
     BadLimits,
-    /// The types to be copied are none, or over 16.
+    /// There are no types to copy, or more than 16.
     BadTypes,
-    /// No call over a file in memory answers this.
+    /// No call returns this.
     Store,
-    /// Two buffers that must have one length differ.
+    /// Two lengths that must be equal differ.
     LengthsDiffer,
-    /// Offset, size: bytes that were not read, as they would pass the budget.
+    /// Offset, size: bytes that were not read, as they would pass `budget`.
     Budget,
-    /// Size (high: its upper 64 bits): how many bytes the lists would take.
+    /// Size (high: its upper 64 bits): the bytes that the lists would take.
     MemoryLimit,
-    /// Offset, size: a CodeView record that was not read, as it would pass the limit.
+    /// Offset, size: a CodeView record that was not read, as it would pass `aside`.
     AsideLimit,
-    /// Size (high: its upper 64 bits): how many bytes the copy needs.
+    /// Size (high: its upper 64 bits): the bytes that the copy needs.
     CopyBudget,
     /// A number that this crate has no name for.
     Unknown(u32),
@@ -139,7 +139,7 @@ impl From<u32> for FaultKind {
     }
 }
 
-/// Which part of a record a fault is of.
+/// Which part of a record has the error.
 #[derive(Clone, Copy, Debug, PartialEq, Eq, Hash)]
 #[non_exhaustive]
 pub enum Part {
@@ -170,7 +170,7 @@ impl From<u32> for Part {
     }
 }
 
-/// What stands where a place says that something does.
+/// What is at the place that a record names.
 #[derive(Clone, Copy, Debug, PartialEq, Eq, Hash)]
 #[non_exhaustive]
 pub enum Extent {
@@ -180,7 +180,7 @@ pub enum Extent {
     Absent,
     /// Bytes of the file.
     Inside,
-    /// Bytes of which one lies behind the file's end.
+    /// Bytes that are not all inside the file.
     Outside,
     /// A number that this crate has no name for.
     Unknown(u32),
@@ -202,11 +202,11 @@ impl From<u32> for Extent {
 #[derive(Clone, Copy, Debug, PartialEq, Eq, Hash)]
 #[non_exhaustive]
 pub enum NameState {
-    /// There is none.
+    /// No name.
     None,
     /// A name within the limit.
     Given,
-    /// A name that is longer than the limit.
+    /// A name longer than the limit.
     Long,
     /// A number that this crate has no name for.
     Unknown(u32),
@@ -248,7 +248,7 @@ impl From<u32> for SymbolKind {
     }
 }
 
-/// Where a part of a record stands: MINIDUMP_LOCATION_DESCRIPTOR, and what is there.
+/// The place of a part of a record: MINIDUMP_LOCATION_DESCRIPTOR, and what is there.
 #[derive(Clone, Copy, Debug, PartialEq, Eq)]
 #[non_exhaustive]
 pub struct Place {
@@ -256,7 +256,7 @@ pub struct Place {
     pub size: u32,
     /// Rva, an offset from the start of the file.
     pub rva: u32,
-    /// What stands there.
+    /// What is there.
     pub extent: Extent,
 }
 
@@ -270,15 +270,15 @@ impl From<ffi::Place> for Place {
     }
 }
 
-/// Where a name stands, a MINIDUMP_STRING: mdmp_name gives its text.
+/// The place of a name, a MINIDUMP_STRING: mdmp_name returns its text.
 #[derive(Clone, Copy, Debug, PartialEq, Eq)]
 #[non_exhaustive]
 pub struct NamePlace {
-    /// Where its Length stands, an offset from the start of the file; 0 for no name.
+    /// The offset of its Length from the start of the file; 0 for no name.
     pub rva: u64,
-    /// Bytes of its UTF-16 units, which stand 4 bytes behind that.
+    /// Bytes of its UTF-16 units, which follow the 4 bytes of Length.
     pub size: u32,
-    /// Whether there is one.
+    /// Whether there is a name.
     pub state: NameState,
 }
 
@@ -300,13 +300,13 @@ pub struct Header {
     pub flags: u64,
     /// Signature.
     pub signature: u32,
-    /// Version: 0xa793 in the lower half, the producer's own in the upper.
+    /// Version: the low 16 bits are 0xa793, the high 16 bits are the producer's own.
     pub version: u32,
     /// NumberOfStreams.
     pub number_of_streams: u32,
     /// StreamDirectoryRva, an offset from the start of the file.
     pub stream_directory_rva: u32,
-    /// CheckSum, which nothing checks.
+    /// CheckSum, which is not checked.
     pub checksum: u32,
     /// TimeDateStamp, in seconds since 1970.
     pub time_date_stamp: u32,
@@ -330,7 +330,7 @@ impl From<ffi::Header> for Header {
 #[derive(Clone, Copy, Debug, PartialEq, Eq)]
 #[non_exhaustive]
 pub struct Stream {
-    /// Its place in the directory, from 0.
+    /// The number of the entry in the directory, from 0.
     pub entry: u32,
     /// StreamType.
     pub stream_type: u32,
@@ -355,13 +355,13 @@ impl From<ffi::Stream> for Stream {
 #[derive(Clone, Copy, Debug, PartialEq, Eq)]
 #[non_exhaustive]
 pub struct Thread {
-    /// The record's place in its stream, from 0.
+    /// The number of the record in its stream, from 0.
     pub index: u64,
     /// Teb, an address of the dumped process.
     pub teb: u64,
     /// Stack.StartOfMemoryRange, an address of the dumped process.
     pub stack_start: u64,
-    /// The entry of the directory, from 0.
+    /// The number of the directory entry, from 0.
     pub entry: u32,
     /// ThreadId.
     pub thread_id: u32,
@@ -398,11 +398,11 @@ impl From<ffi::Thread> for Thread {
 #[derive(Clone, Copy, Debug, PartialEq, Eq)]
 #[non_exhaustive]
 pub struct Module {
-    /// The record's place in its stream, from 0.
+    /// The number of the record in its stream, from 0.
     pub index: u64,
     /// BaseOfImage, an address of the dumped process.
     pub base_of_image: u64,
-    /// The entry of the directory, from 0.
+    /// The number of the directory entry, from 0.
     pub entry: u32,
     /// SizeOfImage, in bytes.
     pub size_of_image: u32,
@@ -410,9 +410,9 @@ pub struct Module {
     pub checksum: u32,
     /// TimeDateStamp, in seconds since 1970.
     pub time_date_stamp: u32,
-    /// VersionInfo.dwFileVersionMS: the first two of the version's four numbers.
+    /// VersionInfo.dwFileVersionMS: the first two of the four numbers of the version.
     pub file_version_ms: u32,
-    /// VersionInfo.dwFileVersionLS: the last two.
+    /// VersionInfo.dwFileVersionLS: the last two numbers.
     pub file_version_ls: u32,
     /// VersionInfo.dwProductVersionMS.
     pub product_version_ms: u32,
@@ -420,7 +420,7 @@ pub struct Module {
     pub product_version_ls: u32,
     /// The name at ModuleNameRva.
     pub name: NamePlace,
-    /// CvRecord: `mdmp_symbols` tells what stands there.
+    /// CvRecord: `mdmp_symbols` reads the record that is there.
     pub codeview: Place,
     /// MiscRecord.
     pub misc: Place,
@@ -450,7 +450,7 @@ impl From<ffi::Module> for Module {
 #[derive(Clone, Copy, Debug, PartialEq, Eq)]
 #[non_exhaustive]
 pub struct ExceptionRecord {
-    /// The record's place in its stream: 0.
+    /// The number of the record in its stream: 0.
     pub index: u64,
     /// ExceptionRecord, an address of the dumped process.
     pub exception_record: u64,
@@ -458,7 +458,7 @@ pub struct ExceptionRecord {
     pub exception_address: u64,
     /// ExceptionInformation.
     pub information: [u64; 15],
-    /// The entry of the directory, from 0.
+    /// The number of the directory entry, from 0.
     pub entry: u32,
     /// ThreadId.
     pub thread_id: u32,
@@ -466,7 +466,7 @@ pub struct ExceptionRecord {
     pub exception_code: u32,
     /// ExceptionFlags.
     pub exception_flags: u32,
-    /// NumberParameters: how many of information count; it may be over 15.
+    /// NumberParameters: how many elements of information are used; may be over 15.
     pub number_parameters: u32,
     /// ThreadContext, the registers.
     pub context: Place,
@@ -493,11 +493,11 @@ impl From<ffi::ExceptionRecord> for ExceptionRecord {
 #[derive(Clone, Copy, Debug, PartialEq, Eq)]
 #[non_exhaustive]
 pub struct System {
-    /// The record's place in its stream: 0.
+    /// The number of the record in its stream: 0.
     pub index: u64,
-    /// The name at CSDVersionRva, of the service pack.
+    /// The name at CSDVersionRva: the service pack.
     pub csd_version: NamePlace,
-    /// The entry of the directory, from 0.
+    /// The number of the directory entry, from 0.
     pub entry: u32,
     /// ProcessorArchitecture: 0 is x86, 9 is x64, 12 is ARM64.
     pub processor_architecture: u32,
@@ -544,15 +544,15 @@ impl From<ffi::System> for System {
     }
 }
 
-/// A module that was unloaded: MINIDUMP_UNLOADED_MODULE.
+/// An unloaded module: MINIDUMP_UNLOADED_MODULE.
 #[derive(Clone, Copy, Debug, PartialEq, Eq)]
 #[non_exhaustive]
 pub struct UnloadedModule {
-    /// The record's place in its stream, from 0.
+    /// The number of the record in its stream, from 0.
     pub index: u64,
     /// BaseOfImage, an address of the dumped process.
     pub base_of_image: u64,
-    /// The entry of the directory, from 0.
+    /// The number of the directory entry, from 0.
     pub entry: u32,
     /// SizeOfImage, in bytes.
     pub size_of_image: u32,
@@ -582,7 +582,7 @@ impl From<ffi::UnloadedModule> for UnloadedModule {
 #[derive(Clone, Copy, Debug, PartialEq, Eq)]
 #[non_exhaustive]
 pub struct Region {
-    /// The record's place in its stream, from 0.
+    /// The number of the record in its stream, from 0.
     pub index: u64,
     /// BaseAddress, an address of the dumped process.
     pub base_address: u64,
@@ -590,7 +590,7 @@ pub struct Region {
     pub allocation_base: u64,
     /// RegionSize, in bytes.
     pub region_size: u64,
-    /// The entry of the directory, from 0.
+    /// The number of the directory entry, from 0.
     pub entry: u32,
     /// AllocationProtect.
     pub allocation_protect: u32,
@@ -622,9 +622,9 @@ impl From<ffi::Region> for Region {
 #[derive(Clone, Copy, Debug, PartialEq, Eq)]
 #[non_exhaustive]
 pub struct ThreadName {
-    /// The record's place in its stream, from 0.
+    /// The number of the record in its stream, from 0.
     pub index: u64,
-    /// The entry of the directory, from 0.
+    /// The number of the directory entry, from 0.
     pub entry: u32,
     /// ThreadId.
     pub thread_id: u32,
@@ -647,17 +647,17 @@ impl From<ffi::ThreadName> for ThreadName {
 #[derive(Clone, Copy, Debug, PartialEq, Eq)]
 #[non_exhaustive]
 pub struct Range {
-    /// The record's place in its stream, from 0.
+    /// The number of the record in its stream, from 0.
     pub index: u64,
     /// StartOfMemoryRange, an address of the dumped process.
     pub start: u64,
     /// DataSize, in bytes.
     pub size: u64,
-    /// Where its bytes stand, an offset from the start of the file.
+    /// The offset of its bytes from the start of the file.
     pub offset: u128,
-    /// The entry of the directory, from 0.
+    /// The number of the directory entry, from 0.
     pub entry: u32,
-    /// What its bytes are in the file.
+    /// Whether its bytes are in the file.
     pub extent: Extent,
 }
 

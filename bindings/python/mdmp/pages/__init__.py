@@ -1,1 +1,1 @@
-"""Pages to look at: one dump, and many (docs/PAGES.md). `python -m mdmp page` and `python -m mdmp day` make them."""
+"""HTML pages of one dump and of many (docs/pages.md). `python -m mdmp page` and `python -m mdmp day` make them."""

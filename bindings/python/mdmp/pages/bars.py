@@ -11,7 +11,7 @@ _DIGIT = 6.65
 
 
 def draw(key: str, title: str, counts: list[tuple[str, int]], total: int) -> str:
-    """The bars of the largest counts, which come first, each with its words above it."""
+    """The bars of the first counts, which are the largest. Each bar has its words above it."""
     shown = counts[:_SHOWN]
     if not shown:
         return ""

@@ -1,9 +1,14 @@
 """The command lines for pages: python -m mdmp page FILE -o FILE.html, and python -m mdmp day FOLDER -o FILE.html
 
-The exit status is the command's: 0 good, 1 the file is at fault, and its page tells of all that stands before that, 2
-the words of the command line are, 3 no memory, no room for the page, something that is missing, a file that can't be
-opened or made, or a limit that is reached, behind which the page has a first part. A day's bad files are counted, and
-are no fault of its own.
+The exit status is the command's:
+
+0  success
+1  an error in the file; the page shows what precedes it
+2  bad command line
+3  out of memory, a package is missing, a file cannot be opened or written, or a limit is reached; after a limit, the
+   page shows a first part
+
+`day` counts bad files, and its status is 0.
 """
 
 from __future__ import annotations
@@ -20,7 +25,7 @@ from . import day as day_page
 
 
 class Trouble(Exception):
-    """What is wrong, in a line, and the exit status."""
+    """A message, and the exit status."""
 
     def __init__(self, line: str, status: int) -> None:
         super().__init__(line)
@@ -28,7 +33,7 @@ class Trouble(Exception):
 
 
 def number(words: str) -> int:
-    """A number of the command line, which is not 0."""
+    """A number of the command line, above 0."""
     if not words.isascii() or not words.isdigit() or int(words) == 0:
         raise argparse.ArgumentTypeError(f"{words} is no number above 0")
     return int(words)
@@ -56,7 +61,7 @@ def write(path: str, page: str) -> None:
 
 
 def page(arguments: argparse.Namespace) -> tuple[str, int]:
-    """Makes the page of a dump. Tells what is wrong with the dump, and the exit status."""
+    """Makes the page of a dump. Returns what is wrong with the dump, and the exit status."""
     making.check()
     try:
         if os.path.exists(arguments.out) and os.path.samefile(arguments.file, arguments.out):
@@ -73,7 +78,7 @@ def page(arguments: argparse.Namespace) -> tuple[str, int]:
 
 
 class Progress:
-    """A bar on a terminal, where tqdm is there, and nothing elsewhere."""
+    """A bar on a terminal if tqdm is installed, else nothing."""
 
     def __init__(self, what: str, total: Callable[[], int]) -> None:
         self._bar: Any = None
@@ -87,7 +92,7 @@ class Progress:
         self._bar = tqdm(total=total(), desc=what, unit="dump", leave=False)
 
     def told(self, count: int) -> None:
-        """So many more are done."""
+        """Adds so many to those that are done."""
         if self._bar is not None:
             self._bar.update(count)
 
@@ -121,49 +126,53 @@ def day(arguments: argparse.Namespace) -> tuple[str, int]:
 
 
 def parser() -> argparse.ArgumentParser:
-    """The words of both commands."""
-    words = argparse.ArgumentParser(prog="python -m mdmp", description="Makes pages to look at.")
+    """The command lines of both commands."""
+    words = argparse.ArgumentParser(prog="python -m mdmp", description="Makes HTML pages of dumps.")
     commands = words.add_subparsers(dest="command", required=True)
     one = commands.add_parser(
-        "page", help="makes a page of a dump", description="Makes a page of a dump: one file, which needs no other."
+        "page", help="makes a page of a dump", description="Makes an HTML page of a dump, in one file."
     )
     one.add_argument("file", metavar="FILE", help="the dump")
     one.add_argument("-o", "--out", required=True, metavar="FILE.html", help="the page")
-    one.add_argument("--rows", type=number, default=500, help="how many rows a table shows (500)")
+    one.add_argument("--rows", type=number, default=500, help="the most rows that a table shows (500)")
     one.add_argument(
         "--budget",
         type=number,
         default=reading.BUDGET,
-        help="the most bytes of the file that are read for one of its lists",
+        help="the most bytes that are read for each list of the file",
     )
     one.set_defaults(run=page)
     many = commands.add_parser(
         "day",
         help="makes a page of many dumps",
-        description="Makes a page of the dumps of a folder and those below it.",
+        description="Makes an HTML page of all dumps in a folder and in the folders below it.",
     )
-    many.add_argument("folder", metavar="FOLDER", help="where the dumps are: *.dmp and *.mdmp")
+    many.add_argument("folder", metavar="FOLDER", help="the folder of the dumps: *.dmp and *.mdmp")
     many.add_argument("-o", "--out", required=True, metavar="FILE.html", help="the page")
     many.add_argument(
         "--workers",
         type=number,
         default=len(os.sched_getaffinity(0)),
-        help="how many processes read dumps (as many as cores)",
+        help="the number of processes that read dumps (as many as cores)",
     )
-    many.add_argument("--pages", metavar="FOLDER", help="make a page of a dump of each group there too, and link to it")
-    many.add_argument("--rows", type=number, default=500, help="how many rows a table shows (500)")
+    many.add_argument(
+        "--pages",
+        metavar="FOLDER",
+        help="also write a page of each dump that the page names to this folder, and link to it",
+    )
+    many.add_argument("--rows", type=number, default=500, help="the most rows that a table shows (500)")
     many.add_argument(
         "--budget",
         type=number,
         default=reading.BUDGET,
-        help="the most bytes of a file that are read for one of its lists",
+        help="the most bytes that are read for each list of a file",
     )
     many.set_defaults(run=day)
     return words
 
 
 def main() -> int:
-    """Does what the command line says, and gives the exit status."""
+    """Does what the command line says, and returns the exit status."""
     arguments = parser().parse_args()
     told, status = "", 0
     try:

@@ -1,4 +1,4 @@
-"""Counts the crashes of many dumps, in processes that share them out. Memory grows with the groups, not the dumps."""
+"""Counts the crashes of many dumps, in several processes. Memory grows with the groups, not with the dumps."""
 
 from __future__ import annotations
 
@@ -16,13 +16,13 @@ from . import tables
 from .reading import BUDGET, Reading, page_limits
 
 ENDINGS = (".dmp", ".mdmp")
-# So many bad files are listed, the first by their names.
+# The most bad files that are listed: the first by name.
 LISTED = 500
 _CHUNK = 50
 
 
 class Crash(NamedTuple):
-    """What crashes are counted by: the code, and the module and offset that hold the address, where one does."""
+    """The key of a crash: the code, and the module and offset of the address, if a module has it."""
 
     code: int
     module: Optional[str]
@@ -30,7 +30,7 @@ class Crash(NamedTuple):
 
 
 class Build(NamedTuple):
-    """What builds are counted by: the module that holds the address of a crash, its version and its debug id."""
+    """The key of a build: the module that has the address of a crash, its version and its debug id."""
 
     module: Optional[str]
     version: str
@@ -39,7 +39,7 @@ class Build(NamedTuple):
 
 @dataclass
 class Counted:
-    """What was counted of some dumps. `first` has the dump of each group whose path is the first."""
+    """The counts of some dumps. `first` has the dump of each group that comes first by path."""
 
     dumps: int = 0
     without: int = 0
@@ -55,11 +55,11 @@ class Counted:
         return self.dumps - self.verdicts["good"]
 
     def example(self, group: Hashable, path: str) -> None:
-        """A dump of a group."""
+        """Adds a dump of a group."""
         self.first[group] = min(path, self.first.get(group, path))
 
     def judge(self, path: str, verdict: str, words: str = "") -> None:
-        """The verdict on a dump, and what is wrong with it."""
+        """Adds the result of checking a dump, and what is wrong with it."""
         self.dumps += 1
         self.verdicts[verdict] += 1
         self.example(verdict, path)
@@ -67,7 +67,7 @@ class Counted:
             self.bad[path] = words
 
     def add(self, other: Counted) -> None:
-        """What was counted of other dumps."""
+        """Adds the counts of other dumps."""
         self.dumps += other.dumps
         self.without += other.without
         self.crashes.update(other.crashes)
@@ -122,7 +122,7 @@ def _count_one(counted: Counted, path: str, budget: int) -> None:
 
 
 def count(paths: list[str], budget: int = BUDGET) -> Counted:
-    """What a process counts of some dumps. A file that can't be read is counted as bad."""
+    """The counts of some dumps, made in one process. A file that cannot be read counts as bad."""
     counted = Counted()
     for path in paths:
         one = Counted()
@@ -139,13 +139,13 @@ def count(paths: list[str], budget: int = BUDGET) -> Counted:
 
 
 def dumps_in(folder: str) -> Iterator[str]:
-    """The dumps of a folder and those below it. Nothing but plain files is opened."""
+    """The dumps in a folder and in the folders below it. Only plain files are opened."""
     waiting = [folder]
     while waiting:
         try:
             entries = os.scandir(waiting.pop())
         except OSError:
-            continue  # it was removed, or it may not be looked into
+            continue  # the folder was removed, or may not be read
         for entry in entries:
             try:
                 is_folder = entry.is_dir(follow_symlinks=False)
@@ -170,7 +170,7 @@ def _chunks(paths: Iterator[str]) -> Iterator[list[str]]:
 
 
 class _Crew:
-    """Processes that count. One that dies takes its files with it: these are counted again, each by its own process."""
+    """Processes that count. If one dies, its files are counted again, each in a process of its own."""
 
     def __init__(self, workers: int, budget: int, told: Callable[[int], None]) -> None:
         self._workers, self._budget, self._told = workers, budget, told
@@ -228,7 +228,7 @@ class _Crew:
 
 
 def count_all(folder: str, workers: int, budget: int = BUDGET, told: Callable[[int], None] = lambda _: None) -> Counted:
-    """What is counted of all dumps of a folder, by so many processes. `told` hears how many were counted more."""
+    """The counts of all dumps of a folder, by `workers` processes. `told` gets the number of each further count."""
     crew = _Crew(workers, budget, told)
     for chunk in _chunks(dumps_in(folder)):
         crew.give(chunk)

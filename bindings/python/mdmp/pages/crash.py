@@ -1,4 +1,4 @@
-"""What a dump tells of its crash, of its system and of itself, in terms and words."""
+"""Facts about the crash, the system and the file of a dump, in words."""
 
 from __future__ import annotations
 
@@ -9,20 +9,20 @@ from . import names, tables, text
 from .reading import Reading
 
 _SHOWN = 20
-# How memory was reached, by the first parameter of an access violation and of an error as a page is read.
+# How memory was accessed, by the first parameter of an access violation or of an error in reading a page.
 _REACHED = {0: "reading", 1: "writing", 8: "executing"}
 _OF_MEMORY = (0xC0000005, 0xC0000006)
 
 
 class Fact(NamedTuple):
-    """A term and what the dump tells of it."""
+    """A term, and what the dump says about it."""
 
     term: str
     words: str
 
 
 def module_at(reading: Reading, address: int) -> str:
-    """The module that holds an address and how far behind its base that is, in words."""
+    """The module that has an address, and the offset from its base, in words."""
     at = reading.holder(address)
     if at is None:
         return "no module holds it"
@@ -38,7 +38,7 @@ def _thread(reading: Reading, thread_id: int) -> str:
 
 
 def _reason(row: Any) -> list[Fact]:
-    """The parameters, and what those of an access to memory say."""
+    """The parameters, and the access to memory that they name."""
     given = row.information[: row.number_parameters]
     facts = []
     if row.exception_code in _OF_MEMORY and len(given) >= 2:
@@ -51,7 +51,7 @@ def _reason(row: Any) -> list[Fact]:
 
 
 def crashes(reading: Reading) -> list[list[Fact]]:
-    """The facts of each exception: in most dumps of a crash there is one."""
+    """The facts of each exception. Most dumps of a crash have one."""
     out = []
     platform = next((row.platform_id for row in reading.systems.raw(1)), None)
     for row in reading.exceptions.records(_SHOWN):
@@ -104,7 +104,7 @@ def about(reading: Reading) -> list[Fact]:
 
 
 def verdict(reading: Reading) -> tuple[str, str]:
-    """In a sentence what the whole file is, and whether that is good or bad, or too long for the limits."""
+    """The result of checking the file, in a sentence, and whether the file is good, bad or too long for the limits."""
     if reading.is_too_long and reading.header:
         listed = text.of(reading.header.number_of_streams, "entry", "entries")
         return (

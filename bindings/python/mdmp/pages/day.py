@@ -1,4 +1,4 @@
-"""Makes a page of many dumps: by what they crashed, and which are bad."""
+"""Makes a page of many dumps: their crashes in groups, and the bad files."""
 
 from __future__ import annotations
 
@@ -21,7 +21,7 @@ _NUMBER = "number"
 
 @dataclass
 class Example:
-    """A dump of a group: its path below the folder, and where its page is, if there is one."""
+    """A dump of a group: its path below the folder, and the link to its page, if there is one."""
 
     path: str
     link: str = ""
@@ -41,7 +41,7 @@ class Group:
 
 
 class Day:
-    """The page of what was counted in a folder."""
+    """The page of the counts of a folder."""
 
     def __init__(self, counted: Counted, folder: str, most: int) -> None:
         self.counted, self.folder, self.most = counted, folder, most
@@ -182,7 +182,7 @@ class Day:
 
 
 def make_page(path: str, page: str, most: int, budget: int) -> str:
-    """Makes the page of a dump of the day, and gives its path, or nothing where there is none."""
+    """Makes the page of a dump of the day, and returns its path, or an empty string if there is none."""
     from .command import Trouble, write
 
     try:
@@ -198,7 +198,7 @@ def make_page(path: str, page: str, most: int, budget: int) -> str:
 def make_pages(
     day: Day, folder: str, out: str, workers: int, budget: int = BUDGET, told: Callable[[int], None] = lambda _: None
 ) -> None:
-    """Makes the pages of the dumps that the day's page names, and has it link to them."""
+    """Makes the pages of the dumps that the day's page names, and links to them."""
     os.makedirs(folder, exist_ok=True)
     beside = os.path.dirname(os.path.abspath(out))
     with ProcessPoolExecutor(workers) as pool:
@@ -212,7 +212,7 @@ def make_pages(
             try:
                 running.append((path, pool.submit(make_page, path, page, day.most, budget)))
             except BrokenProcessPool:
-                break  # a process died: what is left has no page
+                break  # a process died: the rest gets no pages
         for path, future in running:
             try:
                 page = future.result()

@@ -1,7 +1,7 @@
-"""Draws what lies where, from the first place at the top to the last at the bottom, as SVG.
+"""Draws things at their places, from the first place at the top to the last at the bottom, as SVG.
 
-Each piece between two borders has a height by the logarithm of its length, so that 24 bytes are in sight beside 5 GB.
-What is of one sort stands in one column; beside it stand the names.
+The height of a piece between two borders goes by the logarithm of its length, so 24 bytes can be seen next to 5 GB.
+Things of one sort are in one column. The names are to the right of the columns.
 """
 
 from __future__ import annotations
@@ -20,16 +20,16 @@ _TOP = 22
 _LINE = 13.5
 _LONGEST = 1100
 _COLUMN = 36
-_DIGIT = 6.05  # of the font of one width that the style gives to labels
-_NARROW = 5.45  # and to the places
-_SHORTEST = 14  # so many letters of a name have room before what stands behind it
-_GAPS = 6  # so many stretches of nothing are told of
+_DIGIT = 6.05  # width of a letter of the font of labels
+_NARROW = 5.45  # and of the font of places
+_SHORTEST = 14  # the least letters of a name that are shown if more text follows it
+_GAPS = 6  # the most gaps that are labelled
 
 
 @dataclass
 class Ladder:
-    """What is drawn. `over` are the stretches with more than one thing, in so many of the columns, `gaps` those with
-    none, `marks` lines at a place, and `strip` is the size of what is shown to scale above."""
+    """What is drawn. `over` are the stretches with more than one thing, drawn over `over_columns` columns. `gaps` are
+    the stretches with nothing, and `marks` lines at a place. `strip` is the size of what is shown to scale above."""
 
     key: str
     title: str
@@ -59,7 +59,7 @@ def _size(stretch: tuple[int, int]) -> int:
 
 
 def escaped(words: str) -> str:
-    """Text as it stands in SVG."""
+    """Text, escaped for SVG."""
     return html.escape(words, quote=True)
 
 
@@ -68,7 +68,7 @@ def _number(value: float) -> str:
 
 
 def rectangle(left: float, top: float, width: float, height: float, sort: str, words: str = "") -> str:
-    """A rectangle, with the words that are shown where a pointer rests on it."""
+    """A rectangle, with the words that are shown when a pointer rests on it."""
     place = f'x="{_number(left)}" y="{_number(top)}"'
     shape = f'<rect {place} width="{_number(max(width, 0.8))}" height="{_number(max(height, 0.8))}" class="{sort}"'
     return f"{shape}><title>{escaped(words)}</title></rect>" if words else f"{shape}/>"
@@ -80,13 +80,13 @@ def line(x1: float, y1: float, x2: float, y2: float, sort: str) -> str:
 
 
 def words_at(x: float, y: float, words: str, sort: str, tail: str = "") -> str:
-    """Text at a place, with a part behind it that stands back."""
+    """Text at a place, followed by a faint part."""
     behind = f' <tspan class="faint">{escaped(tail)}</tspan>' if tail else ""
     return f'<text x="{_number(x)}" y="{_number(y)}" class="{sort}">{escaped(words)}{behind}</text>'
 
 
 def heights(borders: list[int], is_held: Callable[[int, int], bool], least: float) -> list[float]:
-    """The place of each border on the picture, by the logarithms of what is between them."""
+    """The place of each border on the picture, by the logarithms of the lengths between them."""
     steps = []
     for start, end in zip(borders, borders[1:]):
         size = math.log10(1 + end - start)
@@ -101,7 +101,7 @@ def heights(borders: list[int], is_held: Callable[[int, int], bool], least: floa
 
 
 def spread(wanted: list[float], distance: float, end: float) -> list[float]:
-    """Places as near to the wanted ones, which are in order, as a distance between them lets them be."""
+    """Places that are as near to the wanted ones, which are in order, as the distance between places allows."""
     places: list[float] = []
     for place in wanted:
         places.append(max(place, places[-1] + distance) if places else place)
@@ -113,7 +113,7 @@ def spread(wanted: list[float], distance: float, end: float) -> list[float]:
 
 
 def side_by_side(found: list[Run]) -> list[tuple[Run, int, int]]:
-    """The runs of a column, each with its place among those that lie over one another, and how many these need."""
+    """The runs of a column, each with its place among the runs that it overlaps, and how many places these need."""
     out: list[tuple[Run, int, int]] = []
     cluster: list[tuple[Run, int]] = []
     ends: list[int] = []
@@ -128,7 +128,7 @@ def side_by_side(found: list[Run]) -> list[tuple[Run, int, int]]:
 
 
 class _Drawing:
-    """A picture as it is made: shapes, lines to names, and names."""
+    """A picture in the making: shapes, lines to names, and names."""
 
     def __init__(self, ladder: Ladder) -> None:
         self.ladder = ladder
@@ -150,20 +150,20 @@ class _Drawing:
         self.labels: list[_Label] = []
 
     def is_held(self, start: int, end: int) -> bool:
-        """Whether something lies between two borders that follow each other."""
+        """Whether there is a thing between two consecutive borders."""
         return any(run.start <= start and end <= run.end for run in self.ladder.runs)
 
     def told(self, words: str, start: int, end: int) -> str:
-        """What lies from a place to another, in words."""
+        """What is from one place to another, in words."""
         place = self.ladder.place
         return f"{words}: {place(start)} to {place(end)}, {text.in_units(end - start)}"
 
     def label(self, start: float, size: float, words: str, tail: str, sort: str, right: float) -> None:
-        """Words for what begins at a height and has a size, and ends to the right at a width."""
+        """Adds words for a thing that begins at a height, has a size, and ends at `right`."""
         self.labels.append(_Label(start + min(size / 2, 9), words, tail, sort, right))
 
     def empty(self) -> None:
-        """Draws where nothing lies, and tells of the largest such stretches."""
+        """Draws the gaps, and labels the largest."""
         for start, end in zip(self.borders, self.borders[1:]):
             if not self.is_held(start, end):
                 size = self.at[end] - self.at[start]
@@ -185,7 +185,7 @@ class _Drawing:
             self.label(start, size, run.label, ladder.tail(run), "label", left + width)
 
     def over(self) -> None:
-        """Draws where more than one thing lies."""
+        """Draws the stretches with more than one thing."""
         for start, end in self.ladder.over:
             size = self.at[end] - self.at[start]
             width = _COLUMN * self.ladder.over_columns + 1
@@ -208,7 +208,7 @@ class _Drawing:
             self.label(height, 0, words, "", "label strong", self.right + 4)
 
     def axis(self) -> list[str]:
-        """The places of the borders, as many as have room."""
+        """The places of the borders, as many as fit."""
         shown, last = [], -_LINE
         for border in self.borders:
             if self.at[border] - last >= 10.5:
@@ -239,7 +239,7 @@ class _Drawing:
 
 
 def draw(ladder: Ladder) -> str:
-    """The picture, or nothing where there is nothing to draw."""
+    """The picture, or an empty string if there is nothing to draw."""
     if not ladder.runs:
         return ""
     drawing = _Drawing(ladder)
@@ -270,14 +270,14 @@ def _strip(ladder: Ladder) -> list[str]:
 
 
 def _hatch(key: str) -> str:
-    """What fills the places where more than one thing lies."""
+    """The pattern of stretches with more than one thing."""
     shape = 'width="6" height="6" patternUnits="userSpaceOnUse" patternTransform="rotate(45)"'
     inside = '<rect width="6" height="6" class="hatch-ground"/><rect width="2.2" height="6" class="hatch-line"/>'
     return f'<defs><pattern id="{key}-hatch" {shape}>{inside}</pattern></defs>\n'
 
 
 def framed(key: str, title: str, about: str, height: float, sort: str, inside: str) -> str:
-    """A picture with its title and what it tells in words, for those who don't see it."""
+    """A picture with its title and its content in words, for people who do not see it."""
     names = f'role="img" aria-labelledby="{key}-title {key}-about"'
     return (
         f'<svg viewBox="0 0 {WIDTH} {_number(height)}" {names} class="picture {sort}">\n'

@@ -37,7 +37,7 @@ def _environment() -> Any:
 
 
 def check() -> None:
-    """Raises NoJinja where pages can't be made."""
+    """Raises NoJinja if pages cannot be made."""
     _environment()
 
 
@@ -46,7 +46,7 @@ def _hash(part: str) -> str:
 
 
 def _narrow(columns: dict[str, list[str]]) -> str:
-    """The style that names each cell of a table where a screen is too narrow for its columns."""
+    """The style that names each cell of a table if a screen is too narrow for the columns."""
     rules = []
     for key, titles in columns.items():
         for at, title in enumerate(titles, 1):
@@ -55,7 +55,7 @@ def _narrow(columns: dict[str, list[str]]) -> str:
 
 
 def rendered(template: str, columns: dict[str, list[str]], values: dict[str, Any]) -> str:
-    """A page of a template. Its style and script are in it, and the browser is told to take no others."""
+    """A page of a template. Its style and script are in it, and its policy lets the browser load no others."""
     environment = _environment()
     style = (_TEMPLATES / "style.css").read_text("utf-8") + _narrow(columns)
     script = (_TEMPLATES / "sort.js").read_text("utf-8")
@@ -69,15 +69,15 @@ def rendered(template: str, columns: dict[str, list[str]], values: dict[str, Any
 
 
 def page_of(dump: Dump, name: str, size: int, most: int) -> tuple[str, Reading]:
-    """The page of a dump whose file has this name and size, with at most so many rows a table, and what was read."""
+    """The page of a dump whose file has this name and size, with at most `most` rows a table, and what was read."""
     reading = Reading(dump, size, most)
-    spans = sorted(places.in_file(reading))  # what is sorted is quick to sort again
+    spans = sorted(places.in_file(reading))  # sorted spans are quick to sort again
     listed = list(tables.all_tables(reading)) if reading.header and not reading.is_too_long else []
     verdicts, over = tables.verdicts(reading), pictures.over_table(reading, spans)
     sentence, quality = crash.verdict(reading)
     for table in listed:
         if reading.fault and table.fault == str(reading.fault):
-            table.fault = ""  # it is told of the whole file
+            table.fault = ""  # the page shows it for the whole file
     columns = {table.key: [column.title for column in table.columns] for table in [verdicts, over, *listed]}
     values = {
         "name": text.shortened(name),

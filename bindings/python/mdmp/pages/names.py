@@ -115,7 +115,7 @@ EXCEPTION_CODES = {
 # PROCESSOR_ARCHITECTURE_ of winnt.h
 ARCHITECTURES = {0: "x86", 5: "ARM", 6: "IA-64", 9: "x64", 12: "ARM64"}
 
-# PlatformId: VER_PLATFORM_WIN32_NT of winnt.h, and the numbers that Breakpad and Crashpad take
+# PlatformId: VER_PLATFORM_WIN32_NT of winnt.h, and the numbers that Breakpad and Crashpad use
 PLATFORMS = {2: "Windows", 0x8101: "macOS", 0x8102: "iOS", 0x8201: "Linux", 0x8203: "Android"}
 # Signals of Linux, which are the codes of exceptions there
 _OF_SIGNALS = (0x8201, 0x8203)
@@ -139,33 +139,33 @@ _MEMORY_TYPES = {0x20000: "MEM_PRIVATE", 0x40000: "MEM_MAPPED", 0x1000000: "MEM_
 
 
 def stream_type(number: int) -> str:
-    """The name of a type of stream, or its number where the header has none."""
+    """The name of a type of stream, or its number if minidumpapiset.h has no name for it."""
     return STREAM_TYPES.get(number, f"{number:#x}")
 
 
 def exception_code(number: int, platform: int | None = None) -> str:
-    """The name of an exception's code behind its number, where winnt.h has one, or of a signal of the platform."""
+    """The number of an exception's code, and its name if winnt.h has one or it is a signal of the platform."""
     name = (_SIGNALS if platform in _OF_SIGNALS else EXCEPTION_CODES).get(number)
     return f"{number:#010x} {name}" if name else f"{number:#010x}"
 
 
 def _bits(number: int, names: dict[int, str]) -> str:
-    """The names of the bits of a number, and what is left of it as a number."""
+    """The names of the bits of a number, and the other bits as a number."""
     told = [name for bit, name in names.items() if number & bit]
     left = number & ~sum(names)
     return " | ".join(told + ([f"{left:#x}"] if left or not told else []))
 
 
 def protection(number: int) -> str:
-    """What may be done with memory. A free or reserved region has none."""
+    """The protection of memory. A free or reserved region has none."""
     return _bits(number, _PROTECTIONS) if number else "none"
 
 
 def state(number: int) -> str:
-    """Whether memory is there."""
+    """The state of memory."""
     return _bits(number, _STATES)
 
 
 def memory_type(number: int) -> str:
-    """What memory is of."""
+    """The type of memory."""
     return _bits(number, _MEMORY_TYPES) if number else "none"

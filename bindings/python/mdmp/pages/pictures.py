@@ -1,4 +1,4 @@
-"""The two pictures of a page, and the table of what lies over what."""
+"""The two pictures of a page, and the table of overlaps."""
 
 from __future__ import annotations
 
@@ -10,14 +10,14 @@ from .places import ADDRESS_KINDS, FILE_KINDS, Run, Span
 from .reading import Reading
 from .runs import Kinds, joined, runs
 
-# So many things are drawn, and so many stretches over one another: names beside them have room.
+# The most things and the most overlaps that are drawn: there is space for their names.
 _MOST = 44
 _MOST_OVER = 10
 _IN_KEY = {"ranges": "ranges whose bytes the file has"}
 
 
 class Picture(NamedTuple):
-    """A picture, its words, and of each kind that is in it the words of the key."""
+    """A picture, its words, and the words of the key for each kind in the picture."""
 
     svg: str
     about: str
@@ -50,7 +50,7 @@ def _over_words(over: list[tuple[int, int]]) -> str:
 
 
 def of_file(reading: Reading, spans: list[Span]) -> Picture:
-    """The file from its first byte to its last, and what its numbers say of bytes behind that."""
+    """The file from its first byte to its last, and what its numbers say about bytes after the end."""
     over, gaps = places.over_another(spans), places.gaps(spans, reading.size)
     found = runs(spans, _MOST, FILE_KINDS, lambda span: places.label_in_file(reading, span))
     size = sum(end - start for start, end in gaps)
@@ -81,7 +81,7 @@ def of_file(reading: Reading, spans: list[Span]) -> Picture:
 def of_memory(reading: Reading) -> Picture:
     """The memory of the process: modules, stacks, and the ranges whose bytes the file has."""
     spans = list(places.in_memory(reading))
-    # ranges hold stacks, and may hold bytes of modules: only modules are not to lie over one another
+    # ranges contain stacks, and may contain bytes of modules: only modules should not overlap
     over = places.over_another([span for span in spans if span.kind == "module"])
     found = runs(spans, _MOST, ADDRESS_KINDS, lambda span: places.label_in_memory(reading, span))
     marks = [(row.exception_address, "address of the exception", "crash") for row in reading.exceptions.raw(3)]
@@ -104,7 +104,7 @@ def of_memory(reading: Reading) -> Picture:
 
 
 def over_table(reading: Reading, spans: list[Span]) -> tables.Table:
-    """What lies over what in the file."""
+    """The overlaps in the file."""
     found = list(places.pairs(spans, reading.most + 1))
     label: Callable[[Span], str] = lambda span: places.label_in_file(reading, span)
     rows = []

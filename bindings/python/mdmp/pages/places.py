@@ -1,4 +1,4 @@
-"""What lies where: in the file, and in the memory of the dumped process."""
+"""The things in the file and in the memory of the dumped process, and their places."""
 
 from __future__ import annotations
 
@@ -8,13 +8,13 @@ from .._records import Extent, NameState
 from . import names, text
 from .reading import Listing, Reading
 
-# So many rows are drawn, of all lists together.
+# The most rows that are drawn, of all lists together.
 DRAWN = 100_000
 _END = 1 << 64  # of addresses
 
 
 class Span(NamedTuple):
-    """Bytes from a start to an end, what kind of thing lies there, and which one of that kind."""
+    """Bytes from a start to an end, the kind of thing that is there, and its number among that kind."""
 
     start: int
     end: int
@@ -23,7 +23,7 @@ class Span(NamedTuple):
 
 
 class Run(NamedTuple):
-    """Spans of one kind that are drawn as one, and what stands beside them."""
+    """Spans of one kind that are drawn as one, and their label."""
 
     start: int
     end: int
@@ -32,7 +32,7 @@ class Run(NamedTuple):
     label: str
 
 
-# The kinds of what lies in the file, each with the column in which it is drawn and its words.
+# The kinds of things in the file, each with the column in which it is drawn and its words.
 FILE_KINDS = {
     "header": (0, "header", "headers"),
     "directory": (0, "directory", "directories"),
@@ -71,7 +71,7 @@ def _lists(reading: Reading) -> dict[str, Listing]:
 
 
 def most_drawn(reading: Reading) -> int:
-    """How many rows of a list are drawn at most: so many that DRAWN rows are, and that no list is cut for a longer one."""
+    """The most rows of a list that are drawn. Together they are at most DRAWN, and the longest lists are cut first."""
     left = DRAWN
     counts = sorted(map(len, _lists(reading).values()))
     for at, count in enumerate(counts):
@@ -98,7 +98,7 @@ def _names(listing: Listing, name: str, most: int) -> Iterator[Span]:
 
 
 def in_file(reading: Reading) -> Iterator[Span]:
-    """What the file's own numbers say lies where, also behind its end."""
+    """The things in the file and their places by the file's own numbers, also after its end."""
     header = reading.header
     if header is None:
         return
@@ -128,13 +128,13 @@ def in_file(reading: Reading) -> Iterator[Span]:
 
 
 def _addresses(rows: Iterator[tuple[int, ...]], kind: str) -> Iterator[Span]:
-    """The addresses of the first records, of each its first address and how many there are."""
+    """The addresses of the first records: for each its first address and how many there are."""
     for which, (first, count) in enumerate(rows):
         yield Span(first, min(first + count, _END), kind, which)
 
 
 def in_memory(reading: Reading) -> Iterator[Span]:
-    """What lies at which addresses, which end at 2^64 - 1 and do not wrap."""
+    """The things in memory and their addresses, which end at 2^64 - 1 and do not wrap."""
     most = most_drawn(reading)
     image = ("base_of_image", "size_of_image")
     yield from _addresses(reading.modules.members(*image, most=most), "module")
@@ -146,7 +146,7 @@ def in_memory(reading: Reading) -> Iterator[Span]:
 
 
 def not_drawn(reading: Reading) -> str:
-    """Of which lists only the first records are drawn, in a sentence."""
+    """A sentence that names the lists of which only the first records are drawn."""
     most = most_drawn(reading)
     told = [f"{text.grouped(len(rows))} {name}" for name, rows in _lists(reading).items() if len(rows) > most]
     return f" Of {', '.join(told)} the first {text.grouped(most)} are drawn." if told else ""
@@ -171,7 +171,7 @@ def label_in_file(reading: Reading, span: Span) -> str:
 
 
 def label_in_memory(reading: Reading, span: Span) -> str:
-    """What lies at some addresses."""
+    """What a span of memory is."""
     if span.kind in ("module", "unloaded"):
         listing = reading.modules if span.kind == "module" else reading.unloaded
         name = listing.record(span.which).name
@@ -196,11 +196,11 @@ def _name_text(reading: Reading, span: Span) -> str:
     return "too long" if name is None else text.visible(text.last_part(name)[:200])
 
 
-# ---- what lies over what
+# ---- overlaps
 
 
 def over_another(spans: list[Span]) -> list[tuple[int, int]]:
-    """Where more than one thing lies, things at exactly one place counted as one: stretches in order."""
+    """The stretches that more than one thing has, in order. Things at exactly one place count as one."""
     events: list[tuple[int, int]] = []
     for start, end in {(span.start, span.end) for span in spans if span.end > span.start}:
         events += [(start, 1), (end, -1)]
@@ -220,7 +220,7 @@ def over_another(spans: list[Span]) -> list[tuple[int, int]]:
 
 
 def gaps(spans: list[Span], end: int) -> list[tuple[int, int]]:
-    """The stretches of the file of which nothing is said."""
+    """The stretches of the file that no thing has."""
     found, reached = [], 0
     for span in sorted(spans):
         if span.start >= end:
@@ -234,7 +234,7 @@ def gaps(spans: list[Span], end: int) -> list[tuple[int, int]]:
 
 
 def pairs(spans: list[Span], most: int) -> Iterator[tuple[Span, Span]]:
-    """The first pairs of spans that lie over one another, but those at exactly one place."""
+    """The first pairs of spans that overlap, without those at exactly one place."""
     active: list[Span] = []
     others: list[Span] = []
     given = 0
@@ -243,7 +243,7 @@ def pairs(spans: list[Span], most: int) -> Iterator[tuple[Span, Span]]:
         if place != (span.start, span.end):
             place = (span.start, span.end)
             active = others = [other for other in active if other.end > span.start][-64:]
-        else:  # thousands may lie at one place, and soon they are all that is active
+        else:  # thousands may be at one place, and soon all active spans are there
             active = active[-64:]
             if others:
                 others = [other for other in active if (other.start, other.end) != place]

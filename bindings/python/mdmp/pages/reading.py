@@ -1,4 +1,4 @@
-"""What a dump has, as far as it can be read: each list up to its fault, and no more of it made than is shown."""
+"""Reads a dump for a page: each list up to its first error. Only the records that are shown are made."""
 
 from __future__ import annotations
 
@@ -30,12 +30,12 @@ from .._records import (
     UnloadedModule,
 )
 
-# The most bytes of the file that are read for one list: the lists of 200,000 modules need half of it.
+# The most bytes of the file that are read for one list. The lists of 200,000 modules need half of them.
 BUDGET = _structures.UNTRUSTED
 
 
 def page_limits(budget: int) -> Limits:
-    """The limits of strangers, with this budget."""
+    """The limits for files from strangers, with this `budget`."""
     return replace(UNTRUSTED, budget=budget)
 
 
@@ -55,7 +55,7 @@ def _unpacker(raw: type[Structure], names: tuple[str, ...]) -> struct.Struct:
 
 
 class Listing:
-    """The records of one kind. They stay as the library gives them, the first `count` of `items`: `raw` and `members` go over
+    """The records of one kind, as the library returned them: the first `count` of `items`. `raw` and `members` go over
     them, and `record` makes one."""
 
     def __init__(self, reading: Reading, call: Any, record: Any, *limits: Any) -> None:
@@ -77,13 +77,13 @@ class Listing:
         return self.count
 
     def raw(self, most: int | None = None) -> Iterator[Any]:
-        """The first records, all of them where no number is given."""
+        """The first records, or all if no number is given."""
         for at in range(self.count if most is None else min(most, self.count)):
             yield self.items[at]
 
     def members(self, *names: str, most: int | None = None) -> Iterator[tuple[int, ...]]:
-        """These members of the first records, all of them where no number is given, for far less time than `raw` takes. They
-        are named in the order in which the structure has them, and a member of a member is `stack.size`."""
+        """These members of the first records, or of all if no number is given, in far less time than by `raw`. The names
+        come in the order of the structure. A member of a member is written `stack.size`."""
         count = self.count if most is None else min(most, self.count)
         return islice(_unpacker(self._raw, names).iter_unpack(self.items), count)
 
@@ -101,9 +101,9 @@ class Reading:
     """A dump that is read for a page."""
 
     def __init__(self, dump: Dump, size: int, most: int, of_crashes: bool = False) -> None:
-        """`size` is the file's, `most` how many rows a table shows. Of crashes only what tells of them is read. All lists
-        together keep no more than `output` of the dump's limits has room for; an index of the modules, if an address is
-        looked for, takes at most 64 bytes for each beside that."""
+        """`size` is the size of the file, and `most` the most rows that a table shows. If `of_crashes`, only modules,
+        exceptions and the results of checking are read. All lists together keep at most as many bytes as `output` of
+        the dump's limits. If an address is looked for, an index takes at most 64 bytes more for each module."""
         self.dump, self.size, self.most = dump, size, most
         self._room = dump.limits.output
         self.lists: list[Listing] = []
@@ -115,7 +115,7 @@ class Reading:
             self.header = dump.header
         except Fault as fault:
             self.fault = fault
-        # Nothing is listed of a directory that passes a limit, and the call that gives its entries has no limits.
+        # If the directory passes a limit, nothing is listed: the call that returns its entries has no limits.
         self.is_too_long = self.header is not None and self._passes(self.header.number_of_streams)
         limits = byref(dump._plain)
         self.modules = Listing(self, library.mdmp_modules_, Module, limits)
@@ -137,14 +137,14 @@ class Reading:
         self._name_threads()
 
     def _passes(self, entries: int) -> bool:
-        """Whether a directory of so many entries is more than the limits allow to read or to hold."""
+        """Whether a directory of so many entries passes the limit on reading or on memory."""
         limits = self.dump.limits
         held = limits.window + limits.name + 12 * entries
         is_long = limits.budget is not None and 32 + 12 * entries > limits.budget
         return is_long or (limits.memory is not None and held > limits.memory)
 
     def fill(self, call: Any, item: Any, *arguments: Any) -> Filled:
-        """What a call gives, as far as there is room for it."""
+        """What a call returns, as far as `output` allows."""
         most = None if self._room is None else self._room // sizeof(item)
         filled = self.dump._fill(call, item, some_records, *arguments, most=most)
         if self._room is not None:
@@ -152,7 +152,7 @@ class Reading:
         return filled
 
     def expect_whole(self, filled: Filled) -> None:
-        """Raises what ends a list, unless all of it is given."""
+        """Raises the error that ended a list, unless the list is whole."""
         if filled.is_cut:
             raise output_limit(self.dump.limits.output or 0, None)
         expect_good(filled.status, filled.fault)
@@ -172,7 +172,7 @@ class Reading:
 
     @property
     def reached(self) -> LimitReached | None:
-        """The first limit that was reached, if one was."""
+        """The error of the first limit that was reached, or None."""
         faults = [self.fault, *(listing.fault for listing in self.lists)]
         return next((fault for fault in faults if isinstance(fault, LimitReached)), None)
 
@@ -192,21 +192,21 @@ class Reading:
         return {thread_id for (thread_id,) in self.threads.members("thread_id")}
 
     def verdict(self, entry: int) -> Fault | None:
-        """The first fault of an entry, if it has one."""
+        """The first error of an entry, or None."""
         raw = self._verdicts[entry]
         return fault_of(raw) if raw.kind else None
 
     def is_bad(self, entry: int) -> bool:
-        """Whether an entry has a fault."""
+        """Whether an entry has an error."""
         return bool(self._verdicts[entry].kind)
 
     def holder(self, address: int) -> int | None:
-        """The place in `modules` of the first module that holds an address."""
+        """The number in `modules` of the first module that has an address."""
         if self._images is None:
             self._images = Images(self.modules.items, len(self.modules))
         return self._images.first(address)
 
-    # ---- what a record is made with
+    # ---- for making records
 
     def _name_at(self, place: Any) -> str | None:
         return self.dump._name_at(place)

@@ -20,7 +20,7 @@ class _Group:
 
 
 def _distinct(spans: list[Span]) -> list[_Group]:
-    """The spans in order, those at exactly one place gathered."""
+    """The spans in order. Spans at exactly one place are one group."""
     groups: list[_Group] = []
     start = end = -1
     for span in sorted(spans):
@@ -33,7 +33,7 @@ def _distinct(spans: list[Span]) -> list[_Group]:
 
 
 def _nearer(groups: list[_Group], distance: int) -> list[_Group]:
-    """The groups, with those joined that are no farther apart."""
+    """The groups; those that are at most `distance` apart are joined."""
     joined: list[_Group] = []
     for group in groups:
         if joined and group.start <= joined[-1].end + distance:
@@ -46,8 +46,8 @@ def _nearer(groups: list[_Group], distance: int) -> list[_Group]:
 
 
 def runs(spans: list[Span], most: int, kinds: Kinds, label: Callable[[Span], str]) -> list[Run]:
-    """The spans as at most so many runs, or one for each kind. The kind that has the most is joined first: what
-    touches, and then what is ever farther apart."""
+    """The spans as at most `most` runs, or as one run for each kind. The kind that has the most is joined first: spans
+    that touch, and then spans that are ever farther apart."""
     of_kind: dict[str, list[Span]] = {kind: [] for kind in kinds}
     for span in spans:
         if span.end > span.start:
@@ -71,7 +71,7 @@ def runs(spans: list[Span], most: int, kinds: Kinds, label: Callable[[Span], str
 
 
 def joined(stretches: list[tuple[int, int]], most: int) -> list[tuple[int, int]]:
-    """Stretches in order, of which the nearest are joined until they are at most so many."""
+    """Stretches in order. The nearest are joined until at most `most` are left."""
     distance = 0
     while len(stretches) > most:
         nearer: list[tuple[int, int]] = []

@@ -1,4 +1,4 @@
-"""The tables of a page, each of its first rows and with how many it leaves out."""
+"""The tables of a page. Each has its first rows, and says how many it leaves out."""
 
 from __future__ import annotations
 
@@ -13,19 +13,19 @@ from .reading import Listing, Reading
 
 
 def left_out(left: int, count: int, what: str) -> str:
-    """How many rows a table has no room for, in a sentence."""
+    """How many rows a table leaves out, in a sentence."""
     return f"Left out of this table: {text.grouped(left)} of {text.grouped(count)} {what}." if left > 0 else ""
 
 
 class Column(NamedTuple):
-    """A column: its heading, and whether its cells are numbers, addresses, words, or words that stand in one line."""
+    """A column: its heading, and whether its cells are numbers, addresses, words, or words on one line."""
 
     title: str
     kind: str = "words"
 
 
 class Row(NamedTuple):
-    """The cells of a row, and whether it stands out: "bad", "crash" or nothing."""
+    """The cells of a row, and its mark: "bad", "crash" or none."""
 
     cells: list[str]
     mark: str = ""
@@ -33,7 +33,7 @@ class Row(NamedTuple):
 
 @dataclass
 class Table:
-    """A table. `count` is how many rows there would be, `fault` what ends the list, `note` what is to be said of it."""
+    """A table. `count` is how many rows there would be, `fault` the error that ends the list, `note` a remark."""
 
     key: str
     title: str
@@ -47,7 +47,7 @@ class Table:
 
     @property
     def left_out(self) -> str:
-        """How much of it is not shown."""
+        """How many rows are not shown, in a sentence."""
         return left_out(self.count - len(self.rows), self.count, self.what)
 
 
@@ -55,12 +55,12 @@ NUMBER, ADDRESS, WORDS = "number", "address", "words"
 
 
 def told(fault: Fault | None) -> str:
-    """A fault in the command's words."""
+    """The message of the command for an error."""
     return str(fault) if fault else ""
 
 
 def place(found: Place) -> str:
-    """Where a part stands, as the command prints it."""
+    """The place of a part, as the command prints it."""
     if found.extent == Extent.EMPTY:
         return "empty"
     if found.extent == Extent.ABSENT:
@@ -69,7 +69,7 @@ def place(found: Place) -> str:
 
 
 def debug_id(symbols: SymbolFile | None) -> str:
-    """What a symbol store is asked for, or which kind of record stands there."""
+    """The id that a symbol store is asked for, or the kind of the record."""
     if symbols is None:
         return "none"
     if symbols.kind == SymbolKind.RSDS and symbols.guid is not None:
@@ -78,7 +78,7 @@ def debug_id(symbols: SymbolFile | None) -> str:
 
 
 def verdicts(reading: Reading) -> Table:
-    """Each entry of the directory, with what is wrong with it. Of a long directory the bad entries come first."""
+    """Each entry of the directory, with its first error. If the table leaves entries out, bad ones go last."""
     count = min(reading.verdict_count, len(reading.streams))
     shown = [at for at in range(count) if reading.is_bad(at)] if count > reading.most else []
     shown = shown[: reading.most]
@@ -190,8 +190,8 @@ def unloaded(reading: Reading) -> Table:
 
 
 def protections(reading: Reading) -> Table:
-    """Memory by what may be done with it."""
-    found: dict[tuple[int, int, int], list[int]] = {}  # of each kind its bytes, and how many regions
+    """Memory by state, protection and type."""
+    found: dict[tuple[int, int, int], list[int]] = {}  # for each kind its bytes, and how many regions
     for size, state, protect, kind in reading.regions.members("region_size", "state", "protect", "memory_type"):
         key = (state, protect, kind)
         counted = found.get(key)
@@ -294,7 +294,7 @@ def _table(
 
 
 def all_tables(reading: Reading) -> Iterator[Table]:
-    """The tables behind the crash, in their order."""
+    """The tables after the crash, in their order."""
     for make in (threads, modules, unloaded, protections, regions, ranges):
         table = make(reading)
         if table.rows or table.fault or make is not unloaded:

@@ -9,8 +9,8 @@ LONGEST = 160
 
 
 def visible(text: str) -> str:
-    """A name of the file with each character escaped that can't be seen or changes the order of others, and with no
-    heap of marks over one letter: what stands here is what is in the file."""
+    """A name of the file. Characters that cannot be seen or that change the order of others are escaped. So are the
+    marks of a letter from the third on."""
     out, marks = [], 0
     for character in text:
         marks = marks + 1 if unicodedata.combining(character) else 0
@@ -20,7 +20,7 @@ def visible(text: str) -> str:
 
 
 def shortened(text: str, most: int = LONGEST) -> str:
-    """A name that is not longer than so many characters: of a long one its first and its last."""
+    """A name; if it is longer than `most` characters, its first and its last ones."""
     shown = visible(text)
     if len(shown) <= most:
         return shown
@@ -34,7 +34,7 @@ def name(text: str | None, most: int = LONGEST) -> str:
 
 
 def grouped(number: int) -> str:
-    """A number of any size, its digits in groups."""
+    """A number of any size, with its digits in groups."""
     return f"{number:,}"
 
 
@@ -49,13 +49,13 @@ def _larger(size: int) -> str:
 
 
 def in_units(size: int) -> str:
-    """A size in bytes, and of a large one how many of a larger unit that is."""
+    """A size in bytes; a large size also in a larger unit."""
     told = of(size, "byte")
     return told if size < 10240 else f"{told} ({_larger(size)})"
 
 
 def about(size: int) -> str:
-    """A size in few letters: of a large one only how many of a larger unit it is."""
+    """A size in few letters; a large size only in a larger unit."""
     return of(size, "byte") if size < 1 << 20 else _larger(size)
 
 
@@ -65,7 +65,7 @@ def address(number: int) -> str:
 
 
 def last_part(path: str) -> str:
-    """What stands behind the last slash or backslash of a path."""
+    """What follows the last slash or backslash of a path."""
     return path.replace("\\", "/").rstrip("/").rsplit("/", 1)[-1] or path
 
 
@@ -74,7 +74,7 @@ def _wide(character: str) -> int:
 
 
 def fitting(text: str, room: int) -> str:
-    """The first part of a text that has room in so many columns of a font of one width."""
+    """The first part of a text that fits into `room` columns of a font of one width."""
     columns = 0
     for at, character in enumerate(text):
         columns += _wide(character)
