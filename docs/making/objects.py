@@ -168,7 +168,7 @@ def part_forms(scope: Scope, member: tuple[Any, ...]) -> list[list[Key]]:
 
 
 def named(words: str, schema: dict[str, Any], source: str, name: str) -> list[Key]:
-    """A text, and behind it whether it is not what was read."""
+    """A text, and whether the text is not what was read."""
     return [Key(name, words, schema, source), replace(LOSSY, goes_with=name)]
 
 
