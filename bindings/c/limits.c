@@ -231,13 +231,13 @@ static void test_symbols(void) {
 static void test_refused_symbols(void) {
     static const mdmp_symbol_file ZEROS;
     const mdmp_place place = {24, 0, MDMP_EXTENT_INSIDE, 0}, outside = {1, sizeof SYSTEM, MDMP_EXTENT_INSIDE, 0};
-    static const mdmp_limits NOTHING;
+    static const mdmp_limits BAD[] = {{0, 0, 0, 0, 0}, {65536, (1u << 30) + 1, 0, 0, 0}};
     mdmp_limits limits = LIMITS;
     mdmp_symbol_file symbols;
     const mdmp_place *const places[] = {&place, &outside};
-    for (size_t i = 0; i < 2; i++) {
+    for (size_t i = 0; i < 4; i++) {
         memset(&symbols, 0xaa, sizeof symbols);
-        ASSERT(mdmp_symbols(FILE_OF(SYSTEM), &NOTHING, places[i], &symbols, &fault) == MDMP_BAD_ARGUMENT);
+        ASSERT(mdmp_symbols(FILE_OF(SYSTEM), &BAD[i / 2], places[i % 2], &symbols, &fault) == MDMP_BAD_ARGUMENT);
         ASSERT(fault.kind == MDMP_FAULT_BAD_LIMITS && memcmp(&symbols, &ZEROS, sizeof symbols) == 0);
     }
     memset(&symbols, 0xaa, sizeof symbols);

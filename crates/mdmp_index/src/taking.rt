@@ -39,7 +39,7 @@ fn end_of<R: Ranges>(ranges: &R, number: usize, cells: &[IndexSlot]) -> usize
     }
 }
 
-/// TakesCells those of the cells from `low` on, up to `high`, that are not taken. What it passes gets shorter to
+/// Takes those of the cells from `low` on, up to `high`, that are not taken. What it passes gets shorter to
 /// pass.
 fn take_between(cells: &mut [IndexSlot], low: usize, high: usize, owner: u64)
     requires low { low ≤ length cells.old }
@@ -55,7 +55,7 @@ fn take_between(cells: &mut [IndexSlot], low: usize, high: usize, owner: u64)
     }
 }
 
-/// TakesCells a cell if it is not taken. Returns the number of a later cell; all cells up to that one are taken then.
+/// Takes a cell if it is not taken. Returns the number of a later cell; all cells up to that one are taken then.
 fn take_one(cells: &mut [IndexSlot], cell: usize, high: usize, owner: u64) -> usize
     requires within { cell < length cells.old }
     ensures behind { result ≡ max (next_at cells.old cell) (cell + 1) }
