@@ -9,6 +9,10 @@ abbrev pub held_past : {E : Type 0} → Result ℕ E → FileBlockState → File
 held_past (Ok k) block = block
 held_past (Err e) block = record block { bytes = [] }
 
+-- the open file
+abbrev pub file_of : {F A : Type 0} → BlockedFile F A → F
+file_of f = f.file.file
+
 -- nothing was read yet: the block holds nothing and has room for so many bytes, and the file stands nowhere that is known
 pub record HoldsNoBlock {F A : Type 0} (room : ℕ) (f : BlockedFile F A) : Type 0 where
   pub place : f.file.place ≡ None

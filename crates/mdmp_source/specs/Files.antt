@@ -1,8 +1,14 @@
 -- What a read at a place asks of a file. Of a file of the system neither the position nor the bytes are known, of other
 -- readers both may be: what is proved for every reader holds the code to its seek and its read.
 use Rattle.std.specs.Prelude.{◌≡◌, ◌≢◌, ◌<◌, ◌+◌, ◌^◌, ℕ, List, None, Option, Some, Result, Ok, Err, IfOk, IfSome, length, take, nat_lt, if◌then◌else◌}
+use Rattle.std.specs.Fs.{metadata_len}
+use Rattle.std.specs.declared.fs.attrs.Metadata.{Metadata}
 use Rattle.std.specs.Io.KnownBytes.{Consumes, IsAtEnd, ReadConsumes}
 use Rattle.mdmp_source.specs.declared.placed_file.PlacedFile.{PlacedFile}
+
+-- the size is the length that the metadata of the file tells; `may_have` says which metadata that may be
+abbrev pub HasFileSize : {F : Type 0} → (F → Metadata → Type 0) → F → ℕ → Type 0
+HasFileSize may_have file size = (metadata : Metadata) × may_have file metadata × (size ≡ metadata_len metadata)
 
 -- a file that was sought to this place: the position is that, where positions are known
 abbrev pub IsFileSought : Option ℕ → Option ℕ → ℕ → Type 0

@@ -4,10 +4,33 @@ ghost use Rattle.std.specs.Prelude.{◌≡◌, ◌≤◌, length, IfOk};
 use crate::blocked_file::{BLOCK, BlockedFile};
 use crate::store::{Store, StoreFailed, Tally};
 use std::alloc::{Alloc, Allocator, Global};
-use std::fs;
 use std::fs::{Metadata, OpenFile};
 use std::io::{Read, Seek};
 use std::rt::Files;
+use std::{fs, io};
+
+/// An open file that tells its metadata, as every [`OpenFile`] does.
+// No contract of std says which metadata a file has. As a bound of its own this trait has one that does: so what is
+// proved for each such file holds the code to the metadata that it told.
+pub(crate) trait Described {
+    ghost use Rattle.std.specs.declared.fs.attrs.Metadata.{Metadata};
+
+    /// Whether a file may have this metadata.
+    ghost may_have: { Self → Metadata → Type 0 };
+
+    /// The file's metadata.
+    fn described(&self) -> io::Result<Metadata>
+        ensures { IfOk result (may_have self.now) };
+}
+
+impl<F: OpenFile> Described for F {
+    // of a file of std any may be its
+    ghost may_have = { λ _ _. Unit {0} };
+
+    fn described(&self) -> io::Result<Metadata> {
+        self.metadata()
+    }
+}
 
 /// An open file of the system, whose size is taken once. No contract knows its bytes.
 ///
@@ -34,20 +57,22 @@ pub struct FileStore<F, A: Allocator = Global> {
     tally: Tally,
 }
 
-impl<F: Read + Seek + OpenFile + Drop, A: Allocator> FileStore<F, A> {
+impl<F: Read + Seek + Described + Drop, A: Allocator> FileStore<F, A> {
     ghost use Rattle.std.specs.Prelude.{◌≡◌, IfOk, None, false};
     ghost use Rattle.std.specs.Fs.{metadata_len};
-    ghost use Rattle.mdmp_source.specs.BlockedFile.{HoldsNoBlock};
+    ghost use Rattle.mdmp_source.specs.BlockedFile.{HoldsNoBlock, file_of};
+    ghost use Rattle.mdmp_source.specs.Files.{HasFileSize};
     ghost use Rattle.mdmp_source.specs.Store.{IsNew};
 
     /// Opens the file at `path` for reading, and takes the memory of the block, which is all that the store
     /// ever takes. Every refusal of the system is `StoreFailed`, and so is want of memory.
     pub fn open<R: Files<File = F> + Alloc<A = A>>(rt: &R, path: &str) -> Result<Self, StoreFailed>
         ensures new { IfOk result (λ store. IsNew (⟦<FileStore<F, A> as Store>⟧.state store) None false) }
+        ensures size { IfOk result (λ store. HasFileSize F.may_have (file_of store.file) (⟦<FileStore<F, A> as Store>⟧.state store).size) }
         ensures unread { IfOk result (λ store. HoldsNoBlock BLOCK store.file) }
     {
         let file = fs::open(rt, path).map_err(|_| StoreFailed)?;
-        let metadata = file.metadata().map_err(|_| StoreFailed)?;
+        let metadata = file.described().map_err(|_| StoreFailed)?;
         let file = BlockedFile::new(rt.alloc(), file).map_err(|_| StoreFailed)?;
         Ok(FileStore::of_size(file, &metadata))
     }
