@@ -25,7 +25,6 @@ use std::marker::Model;
 pub struct Window<A: Allocator> {
     /// As many bytes as were ever wanted at once: a short file touches little of a great window.
     buffer: Vec<u8, A>,
-    room: usize,
     /// Where in the buffer the bytes held begin.
     first: usize,
     /// How many bytes are held.
@@ -40,12 +39,11 @@ impl<A: Allocator> Model for Window<A> {
     ghost view = { λ w. record {
       place = w.place;
       end = w.end;
-      room = w.room;
+      room = vec_capacity w.buffer;
       held = take w.len (drop w.first w.buffer.items);
     } };
 
-    ghost invariant = { λ w. (w.first + w.len ≤ vec_len w.buffer) × (w.place + w.len ≤ w.end)
-        × (vec_len w.buffer ≤ w.room) × (w.room ≤ vec_capacity w.buffer) };
+    ghost invariant = { λ w. (w.first + w.len ≤ vec_len w.buffer) × (w.place + w.len ≤ w.end) };
 }
 
 impl<A: Allocator> Window<A> {
@@ -56,7 +54,6 @@ impl<A: Allocator> Window<A> {
     {
         Ok(Window {
             buffer: Vec::with_capacity(alloc, room)?,
-            room,
             first: 0,
             len: 0,
             place: 0,
@@ -91,12 +88,12 @@ impl<A: Allocator> Window<A> {
         self.end
     }
 
-    /// How many bytes can be held.
+    /// How many bytes can be held: the capacity of the buffer.
     pub fn room(&self) -> usize
         ensures value { result ≡ self.now.room }
         ensures fits { length self.now.held ≤ result }
     {
-        self.room
+        self.buffer.capacity()
     }
 
     /// The bytes held, which are those of the file from the place on.
@@ -112,7 +109,7 @@ impl<A: Allocator> Window<A> {
         ensures { result ≡ next_len_of self.now }
     {
         let left = self.end - self.place - self.len as u64;
-        (self.room - self.len).min(left as usize)
+        (self.room() - self.len).min(left as usize)
     }
 
     /// Drops the first `count` bytes that are held, and moves the place behind them.
@@ -172,13 +169,14 @@ fn move_to_front<A: Allocator>(buffer: &mut Vec<u8, A>, first: usize, len: usize
 }
 
 /// Has the buffer hold at least that many bytes, for which it has memory.
+// `Vec::resize` says that the capacity does not shrink, and not that it stays.
 fn lengthen<A: Allocator>(buffer: &mut Vec<u8, A>, len: usize)
     requires { len ≤ vec_capacity buffer.old }
     ensures kept { (n : ℕ) → n ≤ vec_len buffer.old → take n buffer.new.items ≡ take n buffer.old.items }
     ensures len { vec_len buffer.new ≡ max (vec_len buffer.old) len }
-    ensures capacity { vec_capacity buffer.old ≤ vec_capacity buffer.new }
+    ensures capacity { vec_capacity buffer.new ≡ vec_capacity buffer.old }
 {
-    if buffer.len() < len {
-        buffer.resize(len, 0).unwrap();
+    while buffer.len() < len {
+        buffer.push_reserved(0);
     }
 }

@@ -1,4 +1,4 @@
-use Rattle.std.proofs.Common.{◌+◌, ◌-◌, ◌≤◌, ◌∙◌, ap, sym, subst, arith, take, drop, vec_len}
+use Rattle.std.proofs.Common.{◌+◌, ◌-◌, ◌≤◌, ◌∙◌, ap, sym, subst, arith, take, drop, vec_len, vec_capacity}
 use Rattle.std.specs.Prelude.{OnErr, Result, Ok, Err}
 use Rattle.std.specs.Vec.{with_items}
 use Rattle.mdmp_source.specs.Window.{IsFilled, WindowState, next_len_of}
@@ -24,8 +24,9 @@ returns-in_err-fetch-clause-err g c =
     let fits : w.len + count ≤ vec_len long.new.buffer = omega (arith, long.ensures.len) in
     let written = written_behind long.new.buffer c.deref_mut.result.now c.fetch.new.out held w.len count n
     c.deref_mut.ensures.value (omega arith) c.fetch.auto.out kept fits in
+    let room = long.ensures.capacity ∙ moved.ensures.capacity in
     on_err c.from_residual.result
-    (is_kept w.place w.end w.room w.len count held c.fetch.new.out _ written ∙ c.self.view_is)
+    (is_kept w.place w.end (vec_capacity long.new.buffer) w.len count held c.fetch.new.out _ written ∙ ap (λ n. window_of w.place w.end n held) room ∙ c.self.view_is)
 
 pub returns-clause-filled : goal.returns-clause-filled
 returns-clause-filled g c =
@@ -42,6 +43,8 @@ returns-clause-filled g c =
     let fits : w.len + count ≤ vec_len long.new.buffer = omega (arith, long.ensures.len) in
     let written = written_behind long.new.buffer c.deref_mut.result.now c.fetch.new.out held w.len count n
     c.deref_mut.ensures.value (omega arith) c.fetch.auto.out kept fits in
-    let filled = is_filled content w.place w.end w.room w.len count held c.fetch.new.out _ written held_len next c.in_ok-fetch.ensures.bytes in
+    let room = long.ensures.capacity ∙ moved.ensures.capacity in
+    let filled = is_filled content w.place w.end (vec_capacity w.buffer) w.len count held c.fetch.new.out _ written held_len next c.in_ok-fetch.ensures.bytes in
     let items = (with_items long.new.buffer (put_mid w.len n c.deref_mut.result.now c.fetch.new.out)).items in
-    subst (λ (old : WindowState). IsFilled content old (window_of w.place w.end w.room (take (w.len + count) items))) c.self.view_is filled
+    subst (λ (old : WindowState). IsFilled content old (window_of w.place w.end (vec_capacity long.new.buffer) (take (w.len + count) items))) c.self.view_is
+    (subst (λ n. IsFilled content (window_of w.place w.end (vec_capacity w.buffer) held) (window_of w.place w.end n (take (w.len + count) items))) (sym room) filled)
