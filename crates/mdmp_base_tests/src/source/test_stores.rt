@@ -1,8 +1,8 @@
-//! Stores over files of the system, of which no contract knows size or bytes, and the store that
-//! changes while it is read.
+//! Calls of a store over a file in memory, over files of the system, of which no contract knows size or bytes, and
+//! of the store that changes while it is read.
 use super::{file_store, remove};
 use crate::same::{assert_same, assert_same_at};
-use mdmp_source::{Store, StoreFailed, TwoFaces};
+use mdmp_source::{MemoryStore, Store, StoreFailed, TwoFaces};
 use std::alloc::AllocGlobal;
 use std::fs::File;
 use std::io::{Seek, SeekFrom, Write};
@@ -74,6 +74,11 @@ const SIX_BYTES: [ReadRow; 9] = [
 #[test]
 fn file_store_reads_a_file(rt: HostRuntime) {
     assert_file_reads(&rt, "six_bytes", 0, 6, &SIX_BYTES);
+}
+
+#[test]
+fn memory_store_gives_all_that_is_there(rt: HostRuntime) {
+    assert_reads(&rt, &mut MemoryStore::new(b"abcdef"), &SIX_BYTES);
 }
 
 /// Reads of a file of six bytes behind zeros, of which two stand in the first block, which has 512 bytes.
