@@ -1,18 +1,17 @@
 //! A lister and a walker over a store that changes while it is read.
-use crate::files::file_of;
 use crate::given::{range, stream};
 use crate::opening::{fault, open_and_close};
 use crate::script::{Call, LEAST, counts, ends, fails, gives, has_room, play};
 use crate::walking::assert_walks;
 use mdmp_lister::{Choice, FaultKind};
 use mdmp_source::{Extent, Source, SourceFault, TwoFaces};
+use mdmp_test_support::{ABCD_RANGE, WXYZ_RANGE, memory_file};
 use std::alloc::Global;
 use std::process::Abort;
 
-/// A memory list of 36 bytes that counts so many ranges, and eight bytes of memory.
+/// A memory list that counts so many ranges, and has two, which overlap: `ABCD` at 0x1000, and `wxyz` at 0x1002.
 pub fn counting(rt: &impl Abort, alloc: Global, ranges: u32) -> Vec<u8> {
-    let numbers = [5, 36, 44, ranges, 0x1000, 0, 4, 80, 0x2000, 0, 4, 84, 0, 0];
-    file_of(rt, alloc, 1, &numbers)
+    memory_file(alloc, ranges, ABCD_RANGE, WXYZ_RANGE).expect(rt, "memory for a file")
 }
 
 /// A store that has the bytes of the first file, and those of the second from this call on.
@@ -75,7 +74,7 @@ fn walker_has_no_room_to_keep_and_tells_no_change(rt: HostRuntime) {
         gives(stream(0, 5, 36, 44)),
         counts(2),
         gives(range(0, 0x1000, 4, Extent::Inside, 80)),
-        gives(range(1, 0x2000, 4, Extent::Inside, 84)),
+        gives(range(1, 0x1002, 4, Extent::Inside, 84)),
         ends(),
     ];
     assert_walks_changed(&rt, rt.alloc(), &script);
