@@ -1,5 +1,5 @@
 //! What a lister holds and fetches, beside its bounds.
-use crate::files::{FOUR, file_of, padded, repeated};
+use crate::files::{FOUR, file_of, named_by_a_thousand, padded};
 use crate::opening::{counts_of, fetched_by, list_all, opened, patchy};
 use crate::same::{assert_same, assert_same_at};
 use crate::script::{LEAST, NAMED, SHORT_NAMES, STANDARD, WHOLE_BLOCKS};
@@ -69,15 +69,7 @@ fn assert_bound(
     assert_same(rt, bound_of(alloc, &file, limits), Some(expected));
 }
 
-/// A file with a list of 100 threads that 1000 entries name.
-pub fn named_by_a_thousand(rt: &impl Abort, alloc: Global) -> Vec<u8> {
-    let mut numbers = repeated(rt, alloc, [3, 4804, 12032], 1000);
-    numbers.push(100).expect(rt, "memory");
-    numbers.resize(4201, 0).expect(rt, "memory");
-    file_of(rt, alloc, 1000, &numbers)
-}
-
-/// Its bound.
+/// The bound of a list that a thousand entries name.
 fn bound_of_thousand(rt: &impl Abort, alloc: Global) -> Option<Bound> {
     bound_of(alloc, &named_by_a_thousand(rt, alloc), LEAST)
 }

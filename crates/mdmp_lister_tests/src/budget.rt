@@ -1,5 +1,5 @@
 //! Listings that may fetch so many bytes and no more.
-use crate::bounds::named_by_a_thousand;
+use crate::files::named_by_a_thousand;
 use crate::given::stream;
 use crate::opening::{Outcome, all, fault, open_and_close, run_over};
 use crate::same::{assert_same, assert_same_at, assert_that};

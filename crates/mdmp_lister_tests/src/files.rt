@@ -1,5 +1,5 @@
 //! Files of numbers, and their first bytes.
-use mdmp_test_support::{UNLOADED, file_of_numbers};
+use mdmp_test_support::{UNLOADED, file_of_numbers, thousand_entries_file};
 use std::alloc::Global;
 use std::process::Abort;
 
@@ -41,6 +41,11 @@ pub fn crowded(rt: &impl Abort, alloc: Global, ranges: u16) -> Vec<u8> {
     numbers.push(u32::from(ranges)).expect(rt, "memory");
     numbers.resize(len, 0).expect(rt, "memory");
     file_of(rt, alloc, 16384, &numbers)
+}
+
+/// A file of 16,836 bytes with a list of 100 threads that 1000 entries name.
+pub fn named_by_a_thousand(rt: &impl Abort, alloc: Global) -> Vec<u8> {
+    thousand_entries_file(alloc).expect(rt, "memory for a file")
 }
 
 /// These numbers of an entry, so many times.

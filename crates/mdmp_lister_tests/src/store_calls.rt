@@ -1,6 +1,6 @@
 //! Stores that give one byte a call, each of whose calls fails in turn: what a lister and a walker gave by
 //! then, and what they answer.
-use crate::files::{file_of, padded};
+use crate::files::{file_of, named_by_a_thousand, padded};
 use crate::given::{module, range, stream};
 use crate::opening::{open_and_close, patchy, store_fault};
 use crate::same::{assert_same, assert_same_at};
@@ -301,17 +301,21 @@ fn each_call_over_a_list_longer_than_the_window_may_fail(rt: HostRuntime) {
     assert_modules(&rt, rt.alloc());
 }
 
-/// Asserts that a store is handed back that gives of a directory of a thousand entries a byte, three, and none.
-fn assert_handed_back(rt: &impl Abort, alloc: Global, reading: Reading) {
-    let bytes = file_of(rt, alloc, 1000, &[0; 3000]);
-    let store = patchy(rt, &bytes, &[1, 3, 0], None);
+/// Asserts that a store of these bytes, as many as `size`, is handed back that gives a byte, three, and none.
+fn assert_handed_back(rt: &impl Abort, alloc: Global, reading: Reading, bytes: &[u8], size: u64) {
+    let store = patchy(rt, bytes, &[1, 3, 0], None);
     let short = OpenFault::Source(SourceFault::ShortRead { at: 4 });
     let refusal = refusal_of(alloc, reading, store);
-    assert_same(rt, refusal, (Some(short), 12_032));
+    assert_same(rt, refusal, (Some(short), size));
 }
 
 #[test]
 fn store_that_gives_nothing_is_handed_back(rt: HostRuntime) {
-    assert_handed_back(&rt, rt.alloc(), Reading::Next);
-    assert_handed_back(&rt, rt.alloc(), Reading::Walk);
+    // A directory of a thousand entries, which are unused, or name one list of threads.
+    let unused = file_of(&rt, rt.alloc(), 1000, &[0; 3000]);
+    let threads = named_by_a_thousand(&rt, rt.alloc());
+    for reading in [Reading::Next, Reading::Walk] {
+        assert_handed_back(&rt, rt.alloc(), reading, &unused, 12_032);
+        assert_handed_back(&rt, rt.alloc(), reading, &threads, 16_836);
+    }
 }

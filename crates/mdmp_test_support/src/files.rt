@@ -51,3 +51,15 @@ fn put_number(bytes: &mut Vec<u8>, number: u32) -> Result<(), AllocError> {
 pub fn faulty_file(alloc: Global) -> Result<Vec<u8>, AllocError> {
     file_of_numbers(alloc, 3, &FAULTY)
 }
+
+/// A file of 16,836 bytes with a list of 100 threads that each of its 1,000 entries names.
+pub fn thousand_entries_file(alloc: Global) -> Result<Vec<u8>, AllocError> {
+    let mut bytes = Vec::new(alloc);
+    bytes.extend_from_slice(&header_of(1000, 32))?;
+    for _ in 0..1000u32 {
+        bytes.extend_from_slice(&entry(3, 4804, 12_032))?;
+    }
+    put_number(&mut bytes, 100)?;
+    bytes.resize(16_836, 0)?;
+    Ok(bytes)
+}

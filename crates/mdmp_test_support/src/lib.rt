@@ -13,7 +13,9 @@ mod outputs;
 mod small_files;
 mod texts;
 
-pub use crate::files::{entry, faulty_file, file_of_numbers, file_of_parts, header_of};
+pub use crate::files::{
+    entry, faulty_file, file_of_numbers, file_of_parts, header_of, thousand_entries_file,
+};
 pub use crate::memory_files::{
     ABCD_RANGE, FourByteRange, ListedRange, NO_RANGE, WXYZ_RANGE, endless_ranges_file, large_file,
     last_file, memory_file, short_threads_file, two_ranges_file,
