@@ -92,7 +92,7 @@ module _ (source : SourceState) (choice : Choice) (limits : Limits) (new lifted 
 -- ---- bytes beside it
 
 -- what is counted aside is nothing to it
-module _ (old : WalkerState) (source : SourceState) (counts : MeterCounts) (n : ℕ) (fetches : FetchesAtMost n old.list.source source) (spends : SpendsAside n old.list.counts counts) (place : EntryPlace) (far : Bool) (is : IsStanding old place far) where
+module _ (old : WalkerState) (source : SourceState) (counts : MeterCounts) {calls : ℕ} (n : ℕ) (fetches : FetchesAtMost n old.list.source source) (spends : SpendsAside calls n old.list.counts counts) (place : EntryPlace) (far : Bool) (is : IsStanding old place far) where
   abbrev aside_state : WalkerState
   aside_state = record old { list = record old.list { source = source; counts = counts } }
 
@@ -110,7 +110,7 @@ module _ (old : WalkerState) (source : SourceState) (counts : MeterCounts) (n : 
   stands_aside : IsStanding aside_state place far
   stands_aside = record { kept = kept_aside; stands = record { number = is.stands.number; behind = is.stands.behind }; told = is.told }
 
-pub stands_beside : {T : Type 0} (old new : WalkerState) (n : ℕ) (result : Result T SourceFault) (place : EntryPlace) (far : Bool) → ReadsAside n result old.list new.list → new ≡ record old { list = new.list }
+pub stands_beside : {T : Type 0} {calls : ℕ} (old new : WalkerState) (n : ℕ) (result : Result T SourceFault) (place : EntryPlace) (far : Bool) → ReadsAside calls n result old.list new.list → new ≡ record old { list = new.list }
     → IsStanding old place far → IsStanding new place far
 stands_beside old new n result place far reads same is =
     let all : new ≡ aside_state old new.list.source new.list.counts n reads.fetches reads.aside place far is = same ∙ ap (λ (l : ListerState). record old { list = l }) reads.same in

@@ -29,7 +29,7 @@ state_aside old new is limit left unread =
 
 module _ {S A : Type 0} where
   -- but for what was counted and the bytes of the buffer of names it stays
-  pub aside_sound : (n : ℕ) (w new : Walk S A) → IsSound w → BooksAside n w.meter new.meter → new.name.limit ≡ w.name.limit → IsSound (record w { meter = new.meter; name = new.name })
+  pub aside_sound : {calls : ℕ} (n : ℕ) (w new : Walk S A) → IsSound w → BooksAside calls n w.meter new.meter → new.name.limit ≡ w.name.limit → IsSound (record w { meter = new.meter; name = new.name })
   aside_sound n w new old books room =
       let content = books.fetches.same_content in
       let size = books.fetches.same_size in
@@ -51,7 +51,7 @@ module _ {S A : Type 0} where
         refused = rw room (over_at_kept _ w.stage w.meter new.meter books.spends.same_budget books.spends.same_fetched books.spends.same_asked size old.refused);
       }
 
-  pub aside_mapped : (n : ℕ) (w new : Walk S A) (map : MapState) → IsMapped w map → BooksAside n w.meter new.meter → new.name.limit ≡ w.name.limit → IsMapped (record w { meter = new.meter; name = new.name }) map
+  pub aside_mapped : {calls : ℕ} (n : ℕ) (w new : Walk S A) (map : MapState) → IsMapped w map → BooksAside calls n w.meter new.meter → new.name.limit ≡ w.name.limit → IsMapped (record w { meter = new.meter; name = new.name }) map
   aside_mapped n w new map old books room =
       let content = books.fetches.same_content in
       let size = books.fetches.same_size in

@@ -12,12 +12,15 @@ use Rattle.mdmp_lister.specs.CodeView.{AreFetched, codeview_read, codeview_told,
 use Rattle.mdmp_lister.specs.Meter.{MeterState, BooksAside}
 use Rattle.mdmp_lister.proofs.Fetches.{FetchesAtMost-within}
 
-pub BooksAside-then : (m n k : ℕ) (a b c : MeterState) → m + n ≤ k → BooksAside m a b → BooksAside n b c → BooksAside k a c
+pub BooksAside-then : (m n k : ℕ) (a b c : MeterState) → m + n ≤ k → BooksAside 1 m a b → BooksAside 1 n b c → BooksAside 2 k a c
 BooksAside-then m n k a b c le first then = record {
   fetches = FetchesAtMost-within (m + n) k a.source c.source le (fetches_then m n a.source b.source c.source first.fetches then.fetches);
+  source_calls = omega (arith, first.source_calls, then.source_calls);
   spends = record {
     aside = omega (arith, le, first.spends.aside, then.spends.aside);
     more = omega (arith, first.spends.more, then.spends.more);
+    aside_calls = omega (arith, first.spends.aside_calls, then.spends.aside_calls);
+    more_aside_calls = omega (arith, first.spends.more_aside_calls, then.spends.more_aside_calls);
     same_fetched = then.spends.same_fetched ∙ first.spends.same_fetched;
     same_calls = then.spends.same_calls ∙ first.spends.same_calls;
     same_names = then.spends.same_names ∙ first.spends.same_names;

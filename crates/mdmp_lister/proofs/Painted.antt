@@ -271,10 +271,12 @@ run_inside s r from size run is within =
 
 -- ---- what is booked
 
-pub spends_then : (m n : ℕ) (a b c : MeterCounts) → SpendsAside m a b → SpendsAside n b c → SpendsAside (m + n) a c
+pub spends_then : (m n : ℕ) (a b c : MeterCounts) → SpendsAside m m a b → SpendsAside n n b c → SpendsAside (m + n) (m + n) a c
 spends_then m n a b c first next = record {
   aside = omega (arith, first.aside, next.aside);
   more = omega (arith, first.more, next.more);
+  aside_calls = omega (arith, first.aside_calls, next.aside_calls);
+  more_aside_calls = omega (arith, first.more_aside_calls, next.more_aside_calls);
   same_fetched = next.same_fetched ∙ first.same_fetched;
   same_calls = next.same_calls ∙ first.same_calls;
   same_names = next.same_names ∙ first.same_names;
@@ -283,18 +285,22 @@ spends_then m n a b c first next = record {
   same_asked = next.same_asked ∙ first.same_asked;
 }
 
-pub books_then : (m n : ℕ) (a b c : MeterState) → BooksAside m a b → BooksAside n b c → BooksAside (m + n) a c
+pub books_then : (m n : ℕ) (a b c : MeterState) → BooksAside m m a b → BooksAside n n b c → BooksAside (m + n) (m + n) a c
 books_then m n a b c first next = record {
   fetches = fetches_then m n a.source b.source c.source first.fetches next.fetches;
+  source_calls = omega (arith, first.source_calls, next.source_calls);
   spends = spends_then m n (counts_of a) (counts_of b) (counts_of c) first.spends next.spends;
 }
 
-pub books_within : (m n : ℕ) (a b : MeterState) → m ≤ n → BooksAside m a b → BooksAside n a b
-books_within m n a b le books = record {
+pub books_within : (l k m n : ℕ) (a b : MeterState) → l ≤ k → m ≤ n → BooksAside l m a b → BooksAside k n a b
+books_within l k m n a b few le books = record {
   fetches = FetchesAtMost-within m n a.source b.source le books.fetches;
+  source_calls = omega (arith, few, books.source_calls);
   spends = record {
     aside = omega (arith, le, books.spends.aside);
     more = books.spends.more;
+    aside_calls = omega (arith, few, books.spends.aside_calls);
+    more_aside_calls = books.spends.more_aside_calls;
     same_fetched = books.spends.same_fetched;
     same_calls = books.spends.same_calls;
     same_names = books.spends.same_names;
@@ -304,7 +310,7 @@ books_within m n a b le books = record {
   };
 }
 
-pub newly_then : (n : ℕ) (known also then_known : List Bool) (a b c : MeterState) → BooksNewly known also a b → count_known then_known ≡ count_known also + n → BooksAside n b c
+pub newly_then : (n : ℕ) (known also then_known : List Bool) (a b c : MeterState) → BooksNewly known also a b → count_known then_known ≡ count_known also + n → BooksAside n n b c
     → BooksNewly known then_known a c
 newly_then n known also then_known a b c first more books = record {
   count = first.count + n;
@@ -313,19 +319,19 @@ newly_then n known also then_known a b c first more books = record {
 }
 
 -- over several ranges
-pub counted_then : (known also : List Bool) (a b c : MeterState) → BooksAside (count_known known) a b → BooksNewly known also b c → BooksAside (count_known also) a c
+pub counted_then : (known also : List Bool) (a b c : MeterState) → BooksAside (count_known known) (count_known known) a b → BooksNewly known also b c → BooksAside (count_known also) (count_known also) a c
 counted_then known also a b c first next =
-    subst (λ n. BooksAside n a c) (sym next.newly) (books_then (count_known known) next.count a b c first next.books)
+    subst (λ n. BooksAside n n a c) (sym next.newly) (books_then (count_known known) next.count a b c first next.books)
 
 -- ---- a block
 
 -- it was read, by ranges of which these are all
 pub block_read : (ranges : List Range) (address : ℕ) (bytes : List ℕ) (known : List Bool) (a b : MeterState) → length known ≡ length bytes
-    → AreCells a.source.store.content ranges address bytes known → BooksAside (count_known known) a b → IsCaused None a.source b.source
+    → AreCells a.source.store.content ranges address bytes known → BooksAside (count_known known) (count_known known) a b → IsCaused None a.source b.source
     → ReadsAddresses ranges address (Ok tt) bytes known a b
 block_read ranges address bytes known a b same are books caused = record {
   cells = cells_read a.source.store.content ranges address bytes known same are;
-  books = books_within (count_known known) (length bytes) a b (omega (arith, count-le known, same)) books;
+  books = let le : count_known known ≤ length bytes = omega (arith, count-le known, same) in books_within (count_known known) (length bytes) (count_known known) (length bytes) a b le le books;
   caused = caused;
 }
 

@@ -481,7 +481,7 @@ module _ {S A : Type 0} (w : Walk S A) (m : MeterState) where
   positioned-aside Begun content placed = (placed.0, λ file known. placed.1 file (sym content ∙ known))
   positioned-aside Within content placed = placed
 
-module _ {S A : Type 0} (n : ℕ) (p : Position) (mark : MeterCounts) (w new : Walk S A) (walked : IsWalked p mark w) (books : BooksAside n w.meter new.meter) (same : new ≡ record w { meter = new.meter }) where
+module _ {S A : Type 0} {calls : ℕ} (n : ℕ) (p : Position) (mark : MeterCounts) (w new : Walk S A) (walked : IsWalked p mark w) (books : BooksAside calls n w.meter new.meter) (same : new ≡ record w { meter = new.meter }) where
   pub aside_walked : IsWalked p mark new
   aside_walked =
       let room : new.name.limit ≡ w.name.limit = ap (λ (v : Walk S A). v.name.limit) same in
@@ -492,11 +492,12 @@ module _ {S A : Type 0} (n : ℕ) (p : Position) (mark : MeterCounts) (w new : W
         within = rw (books.fetches.same_size, books.spends.same_asked, books.spends.same_names) walked.within;
       })
 
-  pub aside_leaves : {T : Type 0} (r : Result T SourceFault) → IsCaused (fault_of r) w.meter.source new.meter.source → ReadsAside n r (walked_by p w) (walked_by p new)
+  pub aside_leaves : {T : Type 0} (r : Result T SourceFault) → IsCaused (fault_of r) w.meter.source new.meter.source → ReadsAside calls n r (walked_by p w) (walked_by p new)
   aside_leaves r caused = record {
     same = ap (walked_by p) same ∙ walked_by-aside w new.meter p books.fetches.same_size books.fetches.same_content;
     aside = books.spends;
     fetches = books.fetches;
+    source_calls = books.source_calls;
     told = told_caused w.meter.source new.meter.source r caused;
     good = λ file good. good_caused w.meter.source new.meter.source r file caused good;
   }

@@ -43,10 +43,10 @@ pub record ReadsCells (content : Option (List ℕ)) (ranges : List Range) (addre
   -- one that is known is the file's, where its content is known
   pub of_file : (F : List ℕ) → content ≡ Some F → cells bytes known ≡ cells_at F ranges address (length bytes)
 
--- the memory from this address on was read with this answer, aside from the listing, by fetches of at most so many bytes
+-- the memory from this address on was read with this answer, aside from the listing, by fetches of at least one byte and of at most so many together
 pub record ReadsAddresses (ranges : List Range) (address : ℕ) (result : Result (Unit {0}) SourceFault) (bytes : List ℕ) (known : List Bool) (old new : MeterState) : Type 0 where
   pub cells : OnOk result (ReadsCells old.source.store.content ranges address bytes known)
-  pub books : BooksAside (length bytes) old new
+  pub books : BooksAside (length bytes) (length bytes) old new
   pub caused : IsCaused (fault_of result) old.source new.source
 
 -- among n ranges so many addresses, or fewer, were looked up by halves, and of the looks that it took each was counted

@@ -31,7 +31,7 @@ pub record AreFetched (at : Location) (room : ℕ) (head : List ℕ) (rest size 
 -- those bytes were fetched, whatever they are, and nothing else
 pub record FetchesCodeView (at : Location) (room : ℕ) (read : CodeViewRead) (old new : MeterState) : Type 0 where
   pub fetched : AreFetched at room read.head read.rest read.size
-  pub books : BooksAside (min at.size 24 + read.rest) old new
+  pub books : BooksAside 2 (min at.size 24 + read.rest) old new
 
 -- the bytes of a record of so many that are fetched at most: its first 24, and behind them as many as there is room for
 abbrev pub codeview_most : Location → ℕ → ℕ
@@ -44,7 +44,7 @@ codeview_cost at room (Err fault) = codeview_most at room
 
 -- the record at a location was read, its end into a buffer of so many bytes
 pub record ReadsCodeView (at : Location) (room : ℕ) (buffer : List ℕ) (result : Result CodeViewRead SourceFault) (old new : MeterState) : Type 0 where
-  pub reads : ReadsBeside (codeview_most at room) (λ file read. codeview_read buffer read ≡ codeview_of file at room) result old new
+  pub reads : ReadsBeside 2 (codeview_most at room) (λ file read. codeview_read buffer read ≡ codeview_of file at room) result old new
   pub held : IfOk result (λ read. read.rest ≤ room)
   pub lent : IfOk result (λ read. read.rest ≤ length buffer)
   pub fetches : IfOk result (λ read. FetchesCodeView at room read old new)

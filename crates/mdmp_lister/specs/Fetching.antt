@@ -34,10 +34,10 @@ pub record Reads {T : Type 0} (most : ℕ) (Booked : MeterState → MeterState �
   pub caused : IsCaused (store_fault_of result) old.source new.source
   pub refused : TellsBudget most result new
 
--- the same beside the listing, of at most n bytes, which no budget limits
-pub record ReadsBeside {T : Type 0} (n : ℕ) (Is : List ℕ → T → Type 0) (result : Result T SourceFault) (old new : MeterState) : Type 0 where
+-- the same beside the listing, in at most so many calls, of at most n bytes, which no budget limits
+pub record ReadsBeside {T : Type 0} (calls n : ℕ) (Is : List ℕ → T → Type 0) (result : Result T SourceFault) (old new : MeterState) : Type 0 where
   pub of_file : (file : List ℕ) → old.source.store.content ≡ Some file → IfOk result (Is file)
-  pub books : BooksAside n old new
+  pub books : BooksAside calls n old new
   pub caused : IsCaused (fault_of result) old.source new.source
 
 -- what the head of a stream says, of so many bytes and of this kind

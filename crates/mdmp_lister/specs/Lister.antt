@@ -281,12 +281,13 @@ pub record ListerLeaves (old : ListerState) (result : Result (Option Item) ListF
   pub ranges : new.ranges ≡ old.ranges ++ ranges_answered result
   pub few_names : new.counts.names + 1 < 2 ^ 128
 
--- what a call leaves that fetches at most n bytes aside from the listing, with this answer: a fault is told in this call,
--- and over a good store there is none
-pub record ReadsAside {T : Type 0} (n : ℕ) (result : Result T SourceFault) (old new : ListerState) : Type 0 where
+-- what a call leaves that fetches at most n bytes aside from the listing, in at most so many calls of the source's `fetch`,
+-- with this answer: a fault is told in this call, and over a good store there is none
+pub record ReadsAside {T : Type 0} (calls n : ℕ) (result : Result T SourceFault) (old new : ListerState) : Type 0 where
   -- but for counts of what was fetched all stays, so each later request answers what it would have
   pub same : new ≡ record old { source = new.source; counts = new.counts }
-  pub aside : SpendsAside n old.counts new.counts
+  pub aside : SpendsAside calls n old.counts new.counts
   pub fetches : FetchesAtMost n old.source new.source
+  pub source_calls : new.source.calls ≤ raised old.source.calls calls
   pub told : IfErr result (λ fault. IsTold fault old.source new.source)
   pub good : (file : List ℕ) → IsGood old.source.store file → IsOk result

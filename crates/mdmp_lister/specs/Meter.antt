@@ -144,10 +144,12 @@ pub record IsBegunOver (source : SourceState) (budget : Option ℕ) (new : Meter
   pub aside : new.aside ≡ record { bytes = 0; calls = 0 }
   pub start : new.start ≡ record { bytes = source.fetched; calls = source.calls }
 
--- some fetches aside, of at most n bytes
-pub record SpendsAside (n : ℕ) (old new : MeterCounts) : Type 0 where
+-- some fetches aside, in at most so many calls, of at most n bytes
+pub record SpendsAside (calls n : ℕ) (old new : MeterCounts) : Type 0 where
   pub aside : new.aside.bytes ≤ old.aside.bytes + n
   pub more : old.aside.bytes ≤ new.aside.bytes
+  pub aside_calls : new.aside.calls ≤ old.aside.calls + calls
+  pub more_aside_calls : old.aside.calls ≤ new.aside.calls
   pub same_fetched : new.fetched ≡ old.fetched
   pub same_calls : new.calls ≡ old.calls
   pub same_names : new.names ≡ old.names
@@ -156,6 +158,7 @@ pub record SpendsAside (n : ℕ) (old new : MeterCounts) : Type 0 where
   pub same_asked : new.asked ≡ old.asked
 
 -- the same of the source that they are fetched from
-pub record BooksAside (n : ℕ) (old new : MeterState) : Type 0 where
+pub record BooksAside (calls n : ℕ) (old new : MeterState) : Type 0 where
   pub fetches : FetchesAtMost n old.source new.source
-  pub spends : SpendsAside n (counts_of old) (counts_of new)
+  pub source_calls : new.source.calls ≤ raised old.source.calls calls
+  pub spends : SpendsAside calls n (counts_of old) (counts_of new)

@@ -35,8 +35,8 @@ abbrev pub count_known : List Bool → ℕ
 count_known [] = 0
 count_known (b ∷ known) = (if b then 1 else 0) + count_known known
 
--- as many bytes were fetched aside as are newly known
+-- as many bytes were fetched aside as are newly known, at least one in each call
 pub record BooksNewly (old new : List Bool) (before after : MeterState) : Type 0 where
   pub count : ℕ
   pub newly : count_known new ≡ count_known old + count
-  pub books : BooksAside count before after
+  pub books : BooksAside count count before after

@@ -72,7 +72,7 @@ fn read_stretch<S: Store>(
     requires inside { IfSome offset (λ at. IsInside at (length out.old) meter.old.source.size) }
     ensures known { IfOk result (λ _. known.new ≡ replicate (length out.new) (is_some offset)) }
     ensures zeros { offset ≡ None → out.new ≡ replicate (length out.new) 0 }
-    ensures reads { ReadsBeside (length out.new) (λ file _. IfSome offset (λ at. out.new ≡ bytes_at file at (length out.new))) result meter.old meter.new }
+    ensures reads { ReadsBeside 1 (length out.new) (λ file _. IfSome offset (λ at. out.new ≡ bytes_at file at (length out.new))) result meter.old meter.new }
 {
     known.fill(offset.is_some());
     match offset {
@@ -103,7 +103,7 @@ fn read_run<S: Store>(
     ensures bytes { (F : List ℕ) → meter.old.source.store.content ≡ Some F → OnOk result ((k : ℕ) → run.first ≤ k → k < run.end → slice_index out.new k ≡ slice_index F (run.offset + (k - run.first))) }
     ensures bytes_below { (k : ℕ) → k < run.first → slice_index out.new k ≡ slice_index out.old k }
     ensures bytes_behind { (k : ℕ) → run.end ≤ k → slice_index out.new k ≡ slice_index out.old k }
-    ensures books { BooksAside (run.end - run.first) meter.old meter.new }
+    ensures books { BooksAside 1 (run.end - run.first) meter.old meter.new }
     ensures caused { IsCaused (fault_of result) meter.old.source meter.new.source }
 {
     known[run.first..run.end].fill(true);

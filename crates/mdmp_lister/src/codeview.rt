@@ -65,8 +65,8 @@ fn fetch_codeview<S: Store, A: Allocator>(
     ensures limit { rest.new.limit ≡ rest.old.limit }
     ensures holds { IfOk result (λ count. count ≤ length rest.new.items) }
     ensures room { IfOk result (λ count. count ≡ fetched_behind head.new location.size rest.new.limit) }
-    ensures books { IfOk result (λ count. BooksAside (min location.size 24 + count) meter.old meter.new) }
-    ensures reads { ReadsBeside (codeview_most location rest.new.limit) (λ file count. codeview_in head.new (take count rest.new.items) location.size ≡ codeview_of file location rest.new.limit) result meter.old meter.new }
+    ensures books { IfOk result (λ count. BooksAside 2 (min location.size 24 + count) meter.old meter.new) }
+    ensures reads { ReadsBeside 2 (codeview_most location rest.new.limit) (λ file count. codeview_in head.new (take count rest.new.items) location.size ≡ codeview_of file location rest.new.limit) result meter.old meter.new }
 {
     let at = u64::from(location.rva);
     meter.fetch_aside(at, head)?;

@@ -51,7 +51,7 @@ pub(crate) fn fetch_front_aside<S: Store>(
 ) -> Result<(), SourceFault>
     requires room { count ≤ length buffer.old }
     requires inside { IsInside at count meter.old.source.size }
-    ensures { ReadsBeside count (λ file _. take count buffer.new ≡ bytes_at file at count) result meter.old meter.new }
+    ensures { ReadsBeside 1 count (λ file _. take count buffer.new ≡ bytes_at file at count) result meter.old meter.new }
 {
     meter.fetch_aside(at, &mut buffer[..count])
 }

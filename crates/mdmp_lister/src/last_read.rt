@@ -88,7 +88,7 @@ impl<S: Store + Drop, A: Allocator + Copy> Walk<S, A> {
     pub(crate) fn read_part(&mut self, at: u64, out: &mut [u8]) -> Result<(), SourceFault>
         requires { IsInside at (length out.old) self.old.meter.source.size }
         ensures same { self.new ≡ record self.old { meter = self.new.meter } }
-        ensures reads { ReadsBeside (length out.new) (λ file _. out.new ≡ bytes_at file at (length out.new)) result self.old.meter self.new.meter }
+        ensures reads { ReadsBeside 1 (length out.new) (λ file _. out.new ≡ bytes_at file at (length out.new)) result self.old.meter self.new.meter }
     {
         self.meter.fetch_aside(at, out)
     }

@@ -338,7 +338,7 @@ impl<S: Store + Drop, A: Allocator + Copy> Lister<S, A> {
     ) -> Result<(), SourceFault>
         requires { length out.old ≡ length known.old }
         ensures cells { OnOk result (ReadsCells self.old.source.store.content self.old.ranges address out.new known.new) }
-        ensures reads { ReadsAside (length out.new) result self.old self.new }
+        ensures reads { ReadsAside (length out.new) (length out.new) result self.old self.new }
     {
         self.read_address_under::<Brand>(address, out, known, Blank::new(1))
     }
@@ -357,7 +357,7 @@ impl<S: Store + Drop, A: Allocator + Copy> Lister<S, A> {
     ) -> Result<(), SourceFault>
         requires { length out.old ≡ length known.old }
         ensures cells { OnOk result (ReadsCells self.old.source.store.content self.old.ranges address out.new known.new) }
-        ensures reads { ReadsAside (length out.new) result self.old self.new }
+        ensures reads { ReadsAside (length out.new) (length out.new) result self.old self.new }
         ensures looks { LooksUpAtMost self.old.ranges (length out.new) steps.old steps.new }
     {
         read_addresses(&mut self.walk.meter, &self.map, address, out, known, steps)
@@ -376,7 +376,7 @@ impl<S: Store + Drop, A: Allocator + Copy> Lister<S, A> {
         requires parts { blank.parts ≡ G.parts }
         requires some { 0 < blank.parts }
         ensures cells { OnOk result (ReadsCells self.old.source.store.content self.old.ranges address out.new known.new) }
-        ensures reads { ReadsAside (length out.new) result self.old self.new }
+        ensures reads { ReadsAside (length out.new) (length out.new) result self.old self.new }
     {
         self.read_address_counted(address, out, known, &mut Steps::<G>::new(blank))
     }
@@ -388,7 +388,7 @@ impl<S: Store + Drop, A: Allocator + Copy> Lister<S, A> {
     pub fn read_part(&mut self, at: u64, out: &mut [u8]) -> Result<(), SourceFault>
         requires { IsInside at (length out.old) self.old.source.size }
         ensures bytes { (file : List ℕ) → self.old.source.store.content ≡ Some file → OnOk result (out.new ≡ bytes_at file at (length out.new)) }
-        ensures reads { ReadsAside (length out.new) result self.old self.new }
+        ensures reads { ReadsAside 1 (length out.new) result self.old self.new }
     {
         self.walk.read_part(at, out)
     }
@@ -401,7 +401,7 @@ impl<S: Store + Drop, A: Allocator + Copy> Lister<S, A> {
         requires { IsInside location.rva location.size self.old.source.size }
         ensures value { (file : List ℕ) → self.old.source.store.content ≡ Some file → IfOk result (λ bytes. codeview_told bytes ≡ codeview_of file location self.old.limit) }
         ensures fetched { IfOk result (λ bytes. AreFetched location self.old.limit bytes.head (length bytes.rest.now) bytes.size) }
-        ensures* reads { sem 𝓛 (Rests (the_row S.row A.row S.Store A.Allocator) self.entry (ReadsAside (codeview_cost location self.old.limit result) result self.old)) }
+        ensures* reads { sem 𝓛 (Rests (the_row S.row A.row S.Store A.Allocator) self.entry (ReadsAside 2 (codeview_cost location self.old.limit result) result self.old)) }
         ensures good { (file : List ℕ) → IsGood self.old.source.store file → IsOk result }
     {
         let read = self.walk.fetch_codeview(location)?;

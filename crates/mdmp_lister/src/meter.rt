@@ -161,7 +161,7 @@ impl<S: Store> Meter<S> {
     /// Fetches what is not of the listing.
     pub(crate) fn fetch_aside(&mut self, at: u64, out: &mut [u8]) -> Result<(), SourceFault>
         requires { IsInside at (length out.old) self.old.source.size }
-        ensures { ReadsBeside (length out.new) (λ file _. out.new ≡ bytes_at file at (length out.new)) result self.old self.new }
+        ensures { ReadsBeside 1 (length out.new) (λ file _. out.new ≡ bytes_at file at (length out.new)) result self.old self.new }
     {
         self.aside = Amount {
             bytes: self.aside.bytes.saturating_add(out.len() as u128),

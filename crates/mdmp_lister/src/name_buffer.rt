@@ -86,7 +86,7 @@ impl<A: Allocator> NameBuffer<A> {
         requires inside { IsInside at count meter.old.source.size }
         ensures limit { self.new.limit ≡ self.old.limit }
         ensures holds { count ≤ length self.new.items }
-        ensures reads { ReadsBeside count (λ file _. take count self.new.items ≡ bytes_at file at count) result meter.old meter.new }
+        ensures reads { ReadsBeside 1 count (λ file _. take count self.new.items ≡ bytes_at file at count) result meter.old meter.new }
     {
         lengthen(&mut self.bytes, count);
         fetch_front_aside(meter, at, &mut self.bytes, count)

@@ -291,7 +291,7 @@ impl<S: Store + Drop, A: Allocator + Copy> Walker<S, A> {
     pub fn read_part(&mut self, at: u64, out: &mut [u8]) -> Result<(), SourceFault>
         requires { IsInside at (length out.old) self.old.list.source.size }
         ensures bytes { (file : List ℕ) → self.old.list.source.store.content ≡ Some file → OnOk result (out.new ≡ bytes_at file at (length out.new)) }
-        ensures reads { ReadsAside (length out.new) result self.old.list self.new.list }
+        ensures reads { ReadsAside 1 (length out.new) result self.old.list self.new.list }
         ensures same { self.new ≡ record self.old { list = self.new.list } }
     {
         self.walk.read_part(at, out)

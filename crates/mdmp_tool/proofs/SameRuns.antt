@@ -41,7 +41,7 @@ run_then u v w p q = record { rooms = q.rooms ∙ p.rooms; limit = q.limit ∙ p
 pub run_list : (u v w : ListerState) → IsSameRun u v → IsSameLister v w → IsSameRun u w
 run_list u v w p q = record { rooms = q.rooms ∙ p.rooms; limit = q.limit ∙ p.limit; start = q.start ∙ p.start; budget = q.budget ∙ p.budget }
 
-pub run_aside : {T : Type 0} (n : ℕ) (result : Result T SourceFault) (v w : ListerState) → ReadsAside n result v w → IsSameRun v w
+pub run_aside : {T : Type 0} {calls : ℕ} (n : ℕ) (result : Result T SourceFault) (v w : ListerState) → ReadsAside calls n result v w → IsSameRun v w
 run_aside n result v w q = record {
   rooms = ap (λ (x : ListerState). x.rooms) q.same;
   limit = ap (λ (x : ListerState). x.limit) q.same;

@@ -39,7 +39,8 @@ returns-in_err-read_range-clause-reads g c =
     omega (arith, c.loop-number.auto.out, c.loop-number.auto.known, c.requires.same, c.read_range.auto.out, c.read_range.auto.known) in
     rw is (record {
       cells = tt;
-      books = books_within (count_known c.read_range.new.known) (length c.read_range.new.out) c.args.meter.now c.read_range.new.meter (omega (arith, count-le c.read_range.new.known, same))
+      books = books_within (count_known c.read_range.new.known) (length c.read_range.new.out) (count_known c.read_range.new.known) (length c.read_range.new.out) c.args.meter.now c.read_range.new.meter
+          (omega (arith, count-le c.read_range.new.known, same)) (omega (arith, count-le c.read_range.new.known, same))
           (counted_then c.loop-number.known c.read_range.new.known c.args.meter.now c.loop-number.meter c.read_range.new.meter before.books c.read_range.ensures.books);
       caused = IsCaused_later (Some fault) (count_known c.loop-number.known) c.args.meter.now.source c.loop-number.meter.source c.read_range.new.meter.source before.books.fetches before.caused
           c.in_err-read_range.ensures.caused;

@@ -10,7 +10,7 @@ invariant-loop-number g l = record {
   painted : ArePainted l.paint l.known;
   start : l.paint.start ≡ l.address;
   cells : AreCells l.initial.meter.source.store.content (take l.number l.map.ranges) l.address l.out l.known;
-  books : BooksAside (count_known l.known) l.initial.meter l.meter;
+  books : BooksAside (count_known l.known) (count_known l.known) l.initial.meter l.meter;
   caused : IsCaused None l.initial.meter.source l.meter.source;
   looks : l.steps ≡ l.initial.steps + l.number;
 }

@@ -24,8 +24,8 @@ loop-done-preserved g c =
     let shorter_too : length (take count other) ≡ count =
     length-take-le count other (omega (arith, c.min.ensures, c.requires.same, c.loop-done.auto, length-drop done c.loop-done.known)) in
     let also : length c.read_block.new.known ≡ size = omega (arith, shorter_too, c.read_block.auto.known) in
-    let booked : BooksAside size c.loop-done.meter c.read_block.new.meter =
-    subst (λ n. BooksAside n c.loop-done.meter c.read_block.new.meter) same c.in_ok-read_block.ensures.reads.books in
+    let booked : BooksAside size size c.loop-done.meter c.read_block.new.meter =
+    subst (λ n. BooksAside n n c.loop-done.meter c.read_block.new.meter) same c.in_ok-read_block.ensures.reads.books in
     let read : ReadsCells content ranges (c.args.address + done) c.read_block.new.out c.read_block.new.known =
     subst (λ x. ReadsCells x ranges (c.args.address + done) c.read_block.new.out c.read_block.new.known) before.books.fetches.same_content
     (subst (λ a. ReadsCells c.loop-done.meter.source.store.content ranges (a + done) c.read_block.new.out c.read_block.new.known) c.from.ensures c.in_ok-read_block.ensures.reads.cells) in

@@ -2,7 +2,7 @@ use Rattle.std.proofs.Common.{◌≡◌, ◌+◌, ◌-◌, ◌∙◌, ◌∷◌,
 use Rattle.mdmp_map.specs.Ranges.{IsWithin}
 use Rattle.mdmp_lister.specs.Painting.{AreCells, AreCellsTo}
 use Rattle.mdmp_lister.proofs.Fetches.{IsCaused_later}
-use Rattle.mdmp_lister.proofs.Painted.{cells_from, cells_run, cells_to, newly_then, painted_run, run_inside}
+use Rattle.mdmp_lister.proofs.Painted.{books_within, cells_from, cells_run, cells_to, newly_then, painted_run, run_inside}
 use Rattle.mdmp_lister.proofs.addressing.read_range.Goals as goal
 
 pub read_run-requires-clause-inside : goal.read_run-requires-clause-inside
@@ -13,7 +13,8 @@ read_run-requires-clause-inside g c =
 pub returns-in_err-read_run-clause-books : goal.returns-in_err-read_run-clause-books
 returns-in_err-read_run-clause-books g c =
     newly_then (c.in-Some.run'.end - c.in-Some.run'.first) c.args.known.now c.runs.known c.read_run.new.known c.args.meter.now c.runs.meter c.read_run.new.meter
-    c.runs.invariant.books c.read_run.ensures.counted c.read_run.ensures.books
+    c.runs.invariant.books c.read_run.ensures.counted
+    (books_within 1 (c.in-Some.run'.end - c.in-Some.run'.first) _ _ c.runs.meter c.read_run.new.meter (omega (arith, c.in-Some.ensures.run.some)) (omega arith) c.read_run.ensures.books)
 
 pub runs-preserved : goal.runs-preserved
 runs-preserved g c =
@@ -40,7 +41,8 @@ runs-preserved g c =
             bytes_behind = read.bytes_behind;
           })
           (subst (λ a. AreCellsTo c.runs.from content seen range a c.runs.out c.runs.known) (sym before.start) (before.cells seen are)));
-      books = newly_then (run.end - run.first) c.args.known.now c.runs.known c.read_run.new.known c.args.meter.now c.runs.meter c.read_run.new.meter before.books read.counted read.books;
+      books = newly_then (run.end - run.first) c.args.known.now c.runs.known c.read_run.new.known c.args.meter.now c.runs.meter c.read_run.new.meter before.books read.counted
+          (books_within 1 (run.end - run.first) _ _ c.runs.meter c.read_run.new.meter (omega (arith, c.in-Some.ensures.run.some)) (omega arith) read.books);
       caused = IsCaused_later None before.books.count c.args.meter.now.source c.runs.meter.source c.read_run.new.meter.source before.books.books.fetches before.caused read.caused;
     }
 

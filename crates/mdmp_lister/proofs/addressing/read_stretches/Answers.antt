@@ -3,13 +3,13 @@ use Rattle.std.specs.Prelude.{All}
 use borrow.Rule.Slice.PartMut.{put_mid}
 use Rattle.std.proofs.lemmas.List.{length-drop, length-take-le}
 use Rattle.std.proofs.lemmas.Option.{IfSome_then}
-use Rattle.mdmp_source.specs.SourceLaws.{fetches_then}
 use Rattle.mdmp_map.specs.Ranges.{IsWithin}
 use Rattle.mdmp_lister.specs.Addressing.{IsStretch}
 use Rattle.mdmp_lister.specs.Meter.{BooksAside}
 use Rattle.mdmp_lister.specs.AddressLaws.{ReadsCells_next, ReadsCells_stretch}
 use Rattle.mdmp_lister.proofs.Fetches.{IsCaused_later}
 use Rattle.mdmp_lister.proofs.Looks.{looks_up_more, looks_up_then}
+use Rattle.mdmp_lister.proofs.Painted.{books_then, books_within}
 use Rattle.mdmp_lister.proofs.addressing.read_stretches.Goals as goal
 
 pub read_stretch-requires-clause-inside : goal.read_stretch-requires-clause-inside
@@ -39,8 +39,9 @@ loop-done-preserved g c =
     let stretch : IsStretch c.args.map.now.ranges (c.args.address + done) c.stretch_at-stretch.result.offset (length c.read_stretch.new.out) =
     subst (λ n. IsStretch c.args.map.now.ranges (c.args.address + done) c.stretch_at-stretch.result.offset n) (sym same)
     (subst (λ a. IsStretch c.args.map.now.ranges (a + done) c.stretch_at-stretch.result.offset c.stretch_at-stretch.result.count) c.from.ensures c.stretch_at-stretch.ensures.stretch) in
-    let booked : BooksAside c.stretch_at-stretch.result.count c.loop-done.meter c.read_stretch.new.meter =
-    subst (λ n. BooksAside n c.loop-done.meter c.read_stretch.new.meter) same c.in_ok-read_stretch.ensures.reads.books in
+    let booked : BooksAside c.stretch_at-stretch.result.count c.stretch_at-stretch.result.count c.loop-done.meter c.read_stretch.new.meter =
+    books_within 1 c.stretch_at-stretch.result.count (length c.read_stretch.new.out) c.stretch_at-stretch.result.count c.loop-done.meter c.read_stretch.new.meter
+    (omega (arith, c.stretch_at-stretch.ensures.some)) (omega (arith, same)) c.in_ok-read_stretch.ensures.reads.books in
     record {
       within = omega (arith, c.stretch_at-stretch.ensures.most, c.loop-done.auto);
       read = ReadsCells_next c.args.meter.now.source.store.content c.args.map.now.ranges c.args.address done end c.loop-done.out c.read_stretch.new.out
@@ -48,11 +49,7 @@ loop-done-preserved g c =
           (ReadsCells_stretch c.args.meter.now.source.store.content c.args.map.now.ranges (c.args.address + done) c.stretch_at-stretch.result.offset c.read_stretch.new.out
           c.read_stretch.new.known stretch c.in_ok-read_stretch.ensures.known c.in_ok-read_stretch.ensures.zeros
           (λ F is. c.in_ok-read_stretch.ensures.reads.of_file F (before.books.fetches.same_content ∙ is)));
-      books = record {
-        fetches = fetches_then done c.stretch_at-stretch.result.count c.args.meter.now.source c.loop-done.meter.source c.read_stretch.new.meter.source before.books.fetches
-            booked.fetches;
-        spends = search rules;
-      };
+      books = books_then done c.stretch_at-stretch.result.count c.args.meter.now c.loop-done.meter c.read_stretch.new.meter before.books booked;
       caused = IsCaused_later None done c.args.meter.now.source c.loop-done.meter.source c.read_stretch.new.meter.source before.books.fetches before.caused
           c.in_ok-read_stretch.ensures.reads.caused;
       looks = looks_up_more (length c.args.map.now.ranges) (done + 1) end c.args.steps.now c.stretch_at-stretch.new.steps (omega (arith, c.stretch_at-stretch.ensures.some))

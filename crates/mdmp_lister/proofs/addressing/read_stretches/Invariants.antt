@@ -9,7 +9,7 @@ abbrev pub invariant-loop-done : goal.invariant-loop-done
 invariant-loop-done g l = record {
   within : l.done ≤ length l.initial.out;
   read : ReadsCells l.initial.meter.source.store.content l.map.ranges l.address (take l.done l.out) (take l.done l.known);
-  books : BooksAside l.done l.initial.meter l.meter;
+  books : BooksAside l.done l.done l.initial.meter l.meter;
   caused : IsCaused None l.initial.meter.source l.meter.source;
   looks : HalvesAtMost (length l.map.ranges) l.done l.initial.steps l.steps;
 }

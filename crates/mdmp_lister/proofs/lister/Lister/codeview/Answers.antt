@@ -22,6 +22,7 @@ returns-in_err-read g c =
           same = state_aside (viewed c.self.view_is) _ (rw e.same refl) e.room (codeview_left c.args.location w n _ e) (codeview_unread c.args.location w n _ e);
           aside = books.spends;
           fetches = books.fetches;
+          source_calls = books.source_calls;
           told = e.read.reads.caused.told;
           good = λ file good. good_caused {T = Unit {0}} w.meter.source n.meter.source (Err f) file e.read.reads.caused good;
         },
@@ -43,7 +44,7 @@ returns g c =
     let bytes = c.codeview.result in
     let of = c.codeview.ensures in
     let long : length bytes.rest.now ≡ read.rest = ap length of.rest ∙ length-take-le read.rest n.name.items e.read.lent in
-    let books = subst (λ count. BooksAside (min c.args.location.size 24 + count) w.meter n.meter) (sym long) e.read.fetches.books in
+    let books = subst (λ count. BooksAside 2 (min c.args.location.size 24 + count) w.meter n.meter) (sym long) e.read.fetches.books in
     rw (← c.self.view_is) (
       (
         refl,
@@ -52,6 +53,7 @@ returns g c =
           same = state_aside (viewed c.self.view_is) _ (rw e.same refl) e.room (codeview_left c.args.location w n _ e) (codeview_unread c.args.location w n _ e);
           aside = books.spends;
           fetches = books.fetches;
+          source_calls = books.source_calls;
           told = tt;
           good = λ file good. refl;
         },
