@@ -57,7 +57,7 @@ module _ {S A : Type 0} (w : Walk S A) (at : ℕ) (e : Entry) where
           rests = omega (arith, ok, next.within);
           fetches = FetchesAtMost-within 0 _ w.meter.source w.meter.source (omega arith) (FetchesAtMost-none w.meter.source);
           counts = Moves-none 1 w.meter;
-          spent = λ few. omega arith;
+          spent = λ few. (omega arith, omega arith);
           named = omega arith;
           paid = λ allowed before paid.
               let costs = rw (read e) at (next.costs (λ d. d) w.meter.source.size e) in

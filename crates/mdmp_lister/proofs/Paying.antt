@@ -86,10 +86,12 @@ module _ {S A : Type 0} (allowed : Amount) (before calls spent : ℕ) (old new :
 
 module _ {S A : Type 0} (calls spent begun : ℕ) (old new : Walk S A) where
   pub within_named : new.name.limit ≡ old.name.limit → Spends calls spent old.name.limit old.meter new.meter → unread_bytes new + spent ≤ unread_bytes old + begun
-      → IsWithinSince old.meter.asked old.meter.names (unread_bytes old + begun) new
+      → IsWithinSince old.meter.asked old.meter.fetched old.meter.names (unread_bytes old + begun) new
   within_named room spends owes = λ few.
-      let pays = spends.paid (omega (arith, few, spends.more_names)) in
-      rw room (omega (arith, pays, owes))
+      let before : old.meter.names + 1 < 2 ^ 128 = omega (arith, few, spends.more_names) in
+      let pays = spends.paid before in
+      let fetched = spends.paid_fetched before in
+      (rw room (omega (arith, pays, owes)), rw room (omega (arith, fetched, owes)))
 
 -- ---- entries
 

@@ -46,6 +46,7 @@ module _ (limit rva : ℕ) (old mid new : MeterState) (reached : mid ≡ record 
         let more = add-mul old.names 1 (limit + 4) in
         record {
           paid = λ small. let up : new.names ≡ old.names + 1 = omega (arith, b.same_names, small) in rw (up, more) (omega (arith, b.asked, within));
+          paid_fetched = λ small. let up : new.names ≡ old.names + 1 = omega (arith, b.same_names, small) in rw (up, more) (omega (arith, b.most, within));
           paid_calls = λ small. omega (arith, b.same_names, small, b.most_calls, few);
           more = b.more;
           more_calls = b.more_calls;
@@ -157,6 +158,7 @@ module _ {T : Type 0} (room spent limit : ℕ) (Is : List ℕ → T → Type 0) 
     spends_named : (name : Result NameRead Fault) → Books (min 1 spent) spent old mid → ReadsName limit rva name mid new → Spends (min 1 spent) spent limit old new
     spends_named name books read = record {
       paid = λ few. let named = rw books.same_names at read.spends.paid in omega (arith, books.asked, named few);
+      paid_fetched = λ few. let named = rw books.same_names at read.spends.paid_fetched in omega (arith, books.most, named few);
       paid_calls = λ few. let named = rw books.same_names at read.spends.paid_calls in omega (arith, books.most_calls, named few);
       more = omega (arith, books.more, read.spends.more);
       more_calls = omega (arith, books.more_calls, read.spends.more_calls);

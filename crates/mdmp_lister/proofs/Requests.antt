@@ -122,6 +122,7 @@ Moves-spent calls n limit old new spends = record {
 pub Spends-booked : (calls n limit : ℕ) (old new : MeterState) → Books calls n old new → Spends calls n limit old new
 Spends-booked calls n limit old new books = record {
   paid = λ small. rw books.same_names (omega (arith, books.asked));
+  paid_fetched = λ small. rw books.same_names (omega (arith, books.most));
   paid_calls = λ small. rw books.same_names (omega (arith, books.most_calls));
   more = books.more;
   more_calls = books.more_calls;
@@ -247,7 +248,7 @@ module _ {S A : Type 0} (w : Walk S A) (sound : IsSound w) where
         rests = omega arith;
         fetches = FetchesAtMost-within 0 _ w.meter.source w.meter.source (omega arith) (FetchesAtMost-none w.meter.source);
         counts = Moves-none 1 w.meter;
-        spent = λ few. omega arith;
+        spent = λ few. (omega arith, omega arith);
         named = tt;
         paid = λ allowed before paid. paid;
         repeats = λ stop same. (refl, sym stopped ∙ same);
@@ -277,7 +278,7 @@ module _ {S A : Type 0} (w : Walk S A) (sound : IsSound w) where
         rests = omega arith;
         fetches = FetchesAtMost-within 0 _ w.meter.source w.meter.source (omega arith) (FetchesAtMost-none w.meter.source);
         counts = Moves-none 1 w.meter;
-        spent = λ few. omega arith;
+        spent = λ few. (omega arith, omega arith);
         named = omega arith;
         paid = λ allowed before paid. paid;
         repeats = λ stop same. (refl, sym stopped ∙ same);
@@ -381,7 +382,9 @@ module _ {S A : Type 0} (old mid new : Walk S A) (head : HeadRead old mid) where
         fetches = FetchesAtMost-within _ _ old.meter.source new.meter.source (omega (arith, begun, spent, within, head.owes))
             (fetches_then _ _ old.meter.source mid.meter.source new.meter.source head.books.fetches then.fetches);
         counts = Moves-booked 1 _ 1 old.meter mid.meter new.meter head.books then.counts;
-        spent = λ few. let behind = rw head.books.same_names at (then.spent few) in omega (arith, behind, begun, head.books.asked, head.owes);
+        spent = λ few.
+            let behind = rw head.books.same_names at (then.spent few) in
+            (omega (arith, behind.0, begun, head.books.asked, head.owes), omega (arith, behind.1, begun, head.books.most, head.owes));
         named = named_then result then.named;
         paid = λ allowed before paid. then.paid allowed before (head.paid allowed before paid);
         repeats = λ stop stopped. let going : stop_of old.stage ≡ None = rw at refl in absurd (cc);

@@ -259,7 +259,7 @@ current_going (Ok (Some s)) old new none now = now ∙ ap (λ o. entry_begun o o
 current_going (Ok None) old new none now = now
 current_going (Err f) old new none now = now
 
-module _ {S A : Type 0} (w n : Walk S A) (mark : MeterCounts) (was : IsWithinSince mark.asked mark.names (entry_cost w.meter.source.size w.current) w) where
+module _ {S A : Type 0} (w n : Walk S A) (mark : MeterCounts) (was : IsWithinSince mark.asked mark.fetched mark.names (entry_cost w.meter.source.size w.current) w) where
   answered_begun : (r : Result (Option Step) ListFault) → Answered w r n → stream_begun w.meter.source.size (begun_at r) ≤ unread_bytes n
   answered_begun (Ok (Some s)) e = begun-unread w.meter.source.size (unread_bytes w) (unread_bytes n) (stream_told s) e.given.begins
   answered_begun (Ok None) e = omega arith
@@ -270,7 +270,14 @@ module _ {S A : Type 0} (w n : Walk S A) (mark : MeterCounts) (was : IsWithinSin
   answered_spent r e few =
       let before = was (omega (arith, few, e.counts.more_names)) in
       let now = rw e.same.name at (e.spent few) in
-      omega (arith, before, now, answered_begun r e)
+      omega (arith, before.0, now.0, answered_begun r e)
+
+  answered_fetched : (r : Result (Option Step) ListFault) → Answered w r n → n.meter.names + 1 < 2 ^ 128
+      → n.meter.fetched + mark.names * (w.name.limit + 4) ≤ mark.fetched + entry_cost w.meter.source.size w.current + n.meter.names * (w.name.limit + 4)
+  answered_fetched r e few =
+      let before = was (omega (arith, few, e.counts.more_names)) in
+      let now = rw e.same.name at (e.spent few) in
+      omega (arith, before.1, now.1, answered_begun r e)
 
   sought_meter : (at : ℕ) (s : Step) → EntryTaken at w s n → n.meter ≡ w.meter
   sought_meter at s taken = ap (λ (m : Walk S A). m.meter) taken.is
@@ -280,18 +287,27 @@ module _ {S A : Type 0} (w n : Walk S A) (mark : MeterCounts) (was : IsWithinSin
   request_spent (Sought at) r e few =
       let same = sought_meter at e.step e.taken in
       let before = was (rw same at few) in
-      rw same (omega (arith, before))
+      rw same (omega (arith, before.0))
   request_spent Begun r e few = answered_spent r e few
   request_spent Within r e few = answered_spent r e few
 
-  within_going : (r : Result (Option Step) ListFault) → Answered w r n → begun_at r ≡ None → IsWithinSince mark.asked mark.names (entry_cost n.meter.source.size n.current) n
+  pub request_fetched : (p : Position) (r : Result (Option Step) ListFault) → AnsweredFrom p w r n → n.meter.names + 1 < 2 ^ 128
+      → n.meter.fetched + mark.names * (w.name.limit + 4) ≤ mark.fetched + entry_cost w.meter.source.size w.current + n.meter.names * (w.name.limit + 4)
+  request_fetched (Sought at) r e few =
+      let same = sought_meter at e.step e.taken in
+      let before = was (rw same at few) in
+      rw same (omega (arith, before.1))
+  request_fetched Begun r e few = answered_fetched r e few
+  request_fetched Within r e few = answered_fetched r e few
+
+  within_going : (r : Result (Option Step) ListFault) → Answered w r n → begun_at r ≡ None → IsWithinSince mark.asked mark.fetched mark.names (entry_cost n.meter.source.size n.current) n
   within_going r e none few =
       let before = was (omega (arith, few, e.counts.more_names)) in
       let spent = rw e.same.name at (e.spent few) in
       let zero : stream_begun w.meter.source.size (begun_at r) ≡ 0 = rw none refl in
       let cost : entry_cost n.meter.source.size n.current ≡ entry_cost w.meter.source.size w.current = rw (e.fetches.same_size, current_going r w.current n.current none e.current) refl in
       let room : n.name.limit ≡ w.name.limit = e.same.name in
-      rw room (omega (arith, before, spent, zero, cost))
+      rw room (omega (arith, before.0, spent.0, zero, cost), omega (arith, before.1, spent.1, zero, cost))
 
   -- ---- the walk behind it
 
@@ -310,7 +326,7 @@ module _ {S A : Type 0} (w n : Walk S A) (mark : MeterCounts) (was : IsWithinSin
           sound = e.sound;
           placed = (rw head tt, λ file known. rw head tt);
           unchanged = stays;
-          within = λ few. omega (arith, begins, cost);
+          within = λ few. (omega (arith, begins, cost), omega (arith, begins, cost));
         }
 
   walked_sought : (at : ℕ) (s : Step) → EntryTaken at w s n → IsWalked Begun (counts_of n.meter) n
@@ -321,7 +337,7 @@ module _ {S A : Type 0} (w n : Walk S A) (mark : MeterCounts) (was : IsWithinSin
         sound = taken.sound;
         placed = (rw head tt, λ file known. rw head tt);
         unchanged = rw head tt;
-        within = λ few. omega (arith, unread);
+        within = λ few. (omega (arith, unread), omega (arith, unread));
       }
 
   pub request_walked : (p : Position) (r : Result (Option Step) ListFault) → AnsweredFrom p w r n → StaysUnchanged n.stage → IsWalked (position_by (begun_at r)) (mark_by (begun_at r) (counts_of n.meter) mark) n
@@ -421,7 +437,10 @@ module _ {S A : Type 0} (w n : Walk S A) (mark : MeterCounts) (walked : IsWalked
     };
     spent = λ few.
         let before = walked.within (rw e.books.same_names at few) in
-        rw e.books.same_names (omega (arith, before, e.books.asked, e.owes));
+        rw e.books.same_names (omega (arith, before.0, e.books.asked, e.owes));
+    fetched = λ few.
+        let before = walked.within (rw e.books.same_names at few) in
+        rw e.books.same_names (omega (arith, before.1, e.books.most, e.owes));
     told = e.met;
     good = e.good;
     unchanged = count-unchanged r n.stage e.stage (e.unchanged walked.unchanged);
@@ -452,7 +471,7 @@ module _ {S A : Type 0} (w n : Walk S A) (mark : MeterCounts) (walked : IsWalked
         let before = walked.within (rw e.books.same_names at few) in
         let cost : entry_cost n.meter.source.size n.current ≡ entry_cost w.meter.source.size w.current = rw (e.books.fetches.same_size, e.same.current) refl in
         let room : n.name.limit ≡ w.name.limit = e.same.room.name in
-        rw (e.books.same_names, room) (omega (arith, before, e.books.asked, e.owes, cost));
+        rw (e.books.same_names, room) (omega (arith, before.0, e.books.asked, e.owes, cost), omega (arith, before.1, e.books.most, e.owes, cost));
   } where
     unended-listing : (at : Stage) → IsListing at → IsUnended at
     unended-listing stage.Between is = tt
@@ -489,7 +508,7 @@ module _ {S A : Type 0} {calls : ℕ} (n : ℕ) (p : Position) (mark : MeterCoun
         sound = rw (ap (λ (v : Walk S A). v.name) same) at (aside_sound n w new walked.sound books room);
         placed = positioned-aside w new.meter p books.fetches.same_content walked.placed;
         unchanged = walked.unchanged;
-        within = rw (books.fetches.same_size, books.spends.same_asked, books.spends.same_names) walked.within;
+        within = rw (books.fetches.same_size, books.spends.same_asked, books.spends.same_fetched, books.spends.same_names) walked.within;
       })
 
   pub aside_leaves : {T : Type 0} (r : Result T SourceFault) → IsCaused (fault_of r) w.meter.source new.meter.source → ReadsAside calls n r (walked_by p w) (walked_by p new)
@@ -541,14 +560,14 @@ module _ {S A : Type 0} (w n : Walk S A) (mark : MeterCounts) where
   step_leaves p (Ok None) walked e unchanged nameless = record {
     answer = Ok None;
     told = refl;
-    leaves = record { list = none_leaves w n p e; position = refl; mark = refl; spent = request_spent w n mark walked.within p (Ok None) e; unchanged = tt; nameless = nameless; follows = none_follows w n p e; begins = tt };
+    leaves = record { list = none_leaves w n p e; position = refl; mark = refl; spent = request_spent w n mark walked.within p (Ok None) e; fetched = request_fetched w n mark walked.within p (Ok None) e; unchanged = tt; nameless = nameless; follows = none_follows w n p e; begins = tt };
     gives = none_gives w n p e;
     sought = λ number is. none_unsought w n p e number is;
   }
   step_leaves p (Err f) walked e unchanged nameless = record {
     answer = Err f;
     told = refl;
-    leaves = record { list = fault_leaves w n p f e; position = refl; mark = refl; spent = request_spent w n mark walked.within p (Err f) e; unchanged = unchanged; nameless = nameless; follows = fault_follows w n p f e; begins = tt };
+    leaves = record { list = fault_leaves w n p f e; position = refl; mark = refl; spent = request_spent w n mark walked.within p (Err f) e; fetched = request_fetched w n mark walked.within p (Err f) e; unchanged = unchanged; nameless = nameless; follows = fault_follows w n p f e; begins = tt };
     gives = fault_gives w n p f e;
     sought = λ number is. fault_unsought w n p f e number is;
   }
@@ -567,6 +586,7 @@ module _ {S A : Type 0} (w n : Walk S A) (mark : MeterCounts) where
           position = rw begins refl;
           mark = rw begins refl;
           spent = request_spent w n mark walked.within p (Ok (Some s)) e;
+          fetched = request_fetched w n mark walked.within p (Ok (Some s)) e;
           unchanged = tt;
           nameless = nameless;
           follows = λ going unsought. subst (λ (v : ListerState). AnswersNext (walked_by p w) (Ok (Some x)) v) (sym (walked_by-behind (stream_told s) n)) (item_follows w n p s x same e going unsought);
@@ -618,7 +638,7 @@ module _ {S A : Type 0} (w : Walk S A) where
         };
         placed = positioned-aside w unbudgeted_meter p refl walked.placed;
         unchanged = walked.unchanged;
-        within = λ few. (let before = walked.within few in omega (arith, before, within));
+        within = λ few. (let before = walked.within few in (omega (arith, before.0, within), before.1));
       }
 
   -- all else that is seen of it stays

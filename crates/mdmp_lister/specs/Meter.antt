@@ -106,6 +106,7 @@ pub record Books (calls n : ℕ) (old new : MeterState) : Type 0 where
   pub fetches : FetchesAtMost n old.source new.source
   pub source_calls : new.source.calls ≤ raised old.source.calls calls
   pub asked : new.asked ≤ old.asked + n
+  pub most : new.fetched ≤ old.fetched + n
   pub more : old.fetched ≤ new.fetched
   pub more_calls : old.calls ≤ new.calls
   pub most_calls : new.calls ≤ old.calls + calls
@@ -118,6 +119,7 @@ pub record Books (calls n : ℕ) (old new : MeterState) : Type 0 where
 -- more in 2 more calls
 pub record Spends (calls n limit : ℕ) (old new : MeterState) : Type 0 where
   pub paid : old.names + 1 < 2 ^ 128 → new.asked + old.names * (limit + 4) ≤ old.asked + n + new.names * (limit + 4)
+  pub paid_fetched : old.names + 1 < 2 ^ 128 → new.fetched + old.names * (limit + 4) ≤ old.fetched + n + new.names * (limit + 4)
   pub paid_calls : old.names + 1 < 2 ^ 128 → new.calls + old.names * 2 ≤ old.calls + calls + new.names * 2
   pub more : old.fetched ≤ new.fetched
   pub more_calls : old.calls ≤ new.calls

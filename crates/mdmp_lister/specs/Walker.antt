@@ -73,12 +73,18 @@ abbrev pub IsSpentSince : WalkerState → MeterCounts → Type 0
 IsSpentSince old counts = counts.names + 1 < 2 ^ 128
     → counts.asked + old.mark.names * (old.list.limit + 4) ≤ old.mark.asked + entry_cost old.list.source.size old.list.current + counts.names * (old.list.limit + 4)
 
+-- and they have fetched no more than that, with a budget and without one
+abbrev pub IsFetchedSince : WalkerState → MeterCounts → Type 0
+IsFetchedSince old counts = counts.names + 1 < 2 ^ 128
+    → counts.fetched + old.mark.names * (old.list.limit + 4) ≤ old.mark.fetched + entry_cost old.list.source.size old.list.current + counts.names * (old.list.limit + 4)
+
 -- what a request for the next item leaves
 pub record WalkerLeaves (old : WalkerState) (result : Result (Option Item) ListFault) (new : WalkerState) : Type 0 where
   pub list : NextLeaves old.list result new.list
   pub position : new.position ≡ position_by (begun_by result)
   pub mark : new.mark ≡ mark_by (begun_by result) new.list.counts old.mark
   pub spent : IsSpentSince old new.list.counts
+  pub fetched : IsFetchedSince old new.list.counts
   -- it keeps no ranges, so it never tells that the store has changed
   pub unchanged : IfErr result (λ f. TellsNoChange f.kind)
   -- no name is reached in an entry whose records have none
@@ -150,6 +156,7 @@ pub record CountsRecords (old : WalkerState) (result : Result ℕ ListFault) (ne
   -- no name was reached
   pub counts : Moves 0 old.list.counts new.list.counts
   pub spent : IsSpentSince old new.list.counts
+  pub fetched : IsFetchedSince old new.list.counts
   pub told : old.list.stop ≡ None → IfErr result (λ f. IsToldIn old.list.current f old.list.source new.list.source × (f.entry + 1 ≡ old.list.passed))
   pub good : (file : List ℕ) → IsGood old.list.source.store file → IfErr result (λ f. IsOfStore f.kind → ⊥)
   pub refused : IfErr result (λ f. IsRefusedIn f new.list)

@@ -50,11 +50,14 @@ pub record IsPaid {S A : Type 0} (allowed : Amount) (before : ℕ) (w : Walk S A
       + before * 2 ≤ allowed.calls + w.meter.names * 2
   pub names : w.meter.names + work_of w < 2 ^ 66
 
--- so many bytes were allowed since so many were asked for and so many names reached: what was asked for since then and may
--- still be fetched of the current entry is within them, with a name and its length for each name, unless their count is at its greatest
-abbrev pub IsWithinSince : {S A : Type 0} → (asked names allowed : ℕ) → Walk S A → Type 0
-IsWithinSince asked names allowed w =
-    w.meter.names + 1 < 2 ^ 128 → w.meter.asked + unread_bytes w + names * (w.name.limit + 4) ≤ asked + allowed + w.meter.names * (w.name.limit + 4)
+-- so many bytes were allowed since so many were asked for, so many fetched and so many names reached: what was asked for since
+-- then and may still be fetched of the current entry is within them, and so is what was fetched, with a name and its length for
+-- each name, unless their count is at its greatest
+abbrev pub IsWithinSince : {S A : Type 0} → (asked fetched names allowed : ℕ) → Walk S A → Type 0
+IsWithinSince asked fetched names allowed w =
+    w.meter.names + 1 < 2 ^ 128
+    → (w.meter.asked + unread_bytes w + names * (w.name.limit + 4) ≤ asked + allowed + w.meter.names * (w.name.limit + 4))
+    × (w.meter.fetched + unread_bytes w + names * (w.name.limit + 4) ≤ fetched + allowed + w.meter.names * (w.name.limit + 4))
 
 -- what is allowed, by the entries of the directory: the header, they, the heads that are fetched twice, and the streams
 abbrev pub allowed_of : {S A : Type 0} → Walk S A → Amount

@@ -63,13 +63,13 @@ module _ {S A : Type 0} where
       → IsCounted (records_told file (record { number = w.next - 1; entry = w.current })) w.stage)
   IsPositioned Within w = Unit {0}
 
-  -- since the Stream item that was given last no more was asked for than its stream has, and names
+  -- since the Stream item that was given last no more was asked for or fetched than its stream has, and names
   pub record IsWalked (position : Position) (mark : MeterCounts) (w : Walk S A) : Type 0 where
     pub sound : IsSound w
     pub placed : IsPositioned position w
     -- no fault that stays for good tells that the store has changed
     pub unchanged : StaysUnchanged w.stage
-    pub within : IsWithinSince mark.asked mark.names (entry_cost w.meter.source.size w.current) w
+    pub within : IsWithinSince mark.asked mark.fetched mark.names (entry_cost w.meter.source.size w.current) w
 
   -- the Stream item of the entry that was sought was given
   pub record GivesSought (at : ℕ) (old : Walk S A) (result : Result (Option Step) ListFault) (new : Walk S A) : Type 0 where

@@ -68,7 +68,7 @@ module _ {S A : Type 0} where
     pub counts : Moves 1 (counts_of old.meter) (counts_of new.meter)
     pub named : IfOk result (λ given. Reaches (given_once given) old.meter new.meter)
     -- and so it was counted, with a name and its length where one was reached
-    pub spent : IsWithinSince old.meter.asked old.meter.names (unread_bytes old + stream_begun old.meter.source.size (begun_at result)) new
+    pub spent : IsWithinSince old.meter.asked old.meter.fetched old.meter.names (unread_bytes old + stream_begun old.meter.source.size (begun_at result)) new
     pub paid : (allowed : Amount) (before : ℕ) → IsPaid allowed before old → IsPaid allowed before new
     -- an answer that is given again changes nothing
     pub repeats : (stop : Option ListFault) → stop_of old.stage ≡ Some stop → (new ≡ old) × (stop_after result ≡ Some stop)

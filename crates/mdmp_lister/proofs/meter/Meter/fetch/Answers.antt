@@ -27,6 +27,7 @@ returns-then-is_passed-clause-reads g c =
         fetches = FetchesAtMost-within 0 _ source source (omega arith) (FetchesAtMost-none source);
         source_calls = omega arith;
         asked = omega arith;
+        most = omega arith;
         more = omega arith;
         more_calls = omega arith;
         most_calls = omega arith;

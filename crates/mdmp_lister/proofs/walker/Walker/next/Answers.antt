@@ -6,7 +6,7 @@ use Rattle.mdmp_lister.specs.HeldStep.{step_told}
 use Rattle.mdmp_lister.specs.Step.{stream_told}
 use Rattle.mdmp_lister.specs.Walk.Positions.{AnsweredFrom, mark_by, position_by}
 use Rattle.mdmp_lister.proofs.Summary.{begins_as}
-use Rattle.mdmp_lister.proofs.Walked.{begun_behind, fault_follows, fault_gives, fault_good, fault_leaves, fault_unsought, given_sought, item_follows, item_gives, item_leaves, none_follows, none_gives, none_leaves, none_unsought, request_spent, stop_again, walked_by, walked_by-behind}
+use Rattle.mdmp_lister.proofs.Walked.{begun_behind, fault_follows, fault_gives, fault_good, fault_leaves, fault_unsought, given_sought, item_follows, item_gives, item_leaves, none_follows, none_gives, none_leaves, none_unsought, request_fetched, request_spent, stop_again, walked_by, walked_by-behind}
 use Rattle.mdmp_lister.proofs.walker.Walker.next.Goals as goal
 
 pub returns-in-Ok-None : goal.returns-in-Ok-None
@@ -23,7 +23,7 @@ returns-in-Ok-None g c =
       (
         refl,
         λ _. tt,
-        record { list = none_leaves w n p e; position = refl; mark = refl; spent = request_spent w n c.self.inside.mark c.self.invariant.within p (Ok None) e; unchanged = tt; nameless = of.nameless; follows = none_follows w n p e; begins = tt },
+        record { list = none_leaves w n p e; position = refl; mark = refl; spent = request_spent w n c.self.inside.mark c.self.invariant.within p (Ok None) e; fetched = request_fetched w n c.self.inside.mark c.self.invariant.within p (Ok None) e; unchanged = tt; nameless = of.nameless; follows = none_follows w n p e; begins = tt },
       ),
       record { gives = none_gives w n p e; leaves = tt; sought = λ number is. none_unsought w n p e number is; repeats = λ stop same. stop_again w n p (Ok None) e stop same; good = λ _ _. tt },
     )
@@ -53,6 +53,7 @@ returns-in-Ok-Some g c =
           position = rw begins refl;
           mark = rw begins refl;
           spent = request_spent w n c.self.inside.mark c.self.invariant.within p (Ok (Some s)) e;
+          fetched = request_fetched w n c.self.inside.mark c.self.invariant.within p (Ok (Some s)) e;
           unchanged = tt;
           nameless = of.nameless;
           follows = λ going unsought. subst (λ (v : ListerState). AnswersNext (walked_by p w) (Ok (Some x)) v) (sym (walked_by-behind (stream_told s) n)) (item_follows w n p s x told e going unsought);
@@ -73,7 +74,7 @@ returns-in-Err g c =
       (
         refl,
         λ _. tt,
-        record { list = fault_leaves w n p f of.answered; position = refl; mark = refl; spent = request_spent w n c.self.inside.mark c.self.invariant.within p (Err f) of.answered; unchanged = of.unchanged; nameless = of.nameless; follows = fault_follows w n p f of.answered; begins = tt },
+        record { list = fault_leaves w n p f of.answered; position = refl; mark = refl; spent = request_spent w n c.self.inside.mark c.self.invariant.within p (Err f) of.answered; fetched = request_fetched w n c.self.inside.mark c.self.invariant.within p (Err f) of.answered; unchanged = of.unchanged; nameless = of.nameless; follows = fault_follows w n p f of.answered; begins = tt },
       ),
       record { gives = fault_gives w n p f of.answered; leaves = tt; sought = λ number is. fault_unsought w n p f of.answered number is; repeats = λ stop same. stop_again w n p (Err f) of.answered stop same; good = fault_good w n p f of.answered },
     )
