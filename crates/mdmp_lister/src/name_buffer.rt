@@ -12,20 +12,17 @@ use std::marker::Model;
 /// taken once, and what no name has needed of it is never touched.
 #[derive(Drop)]
 pub(crate) struct NameBuffer<A: Allocator> {
-    /// As many bytes as the longest had that was read.
+    /// As many bytes as the longest had that was read. It has room for the limit, and no more.
     bytes: Vec<u8, A>,
-    limit: usize,
 }
 
 impl<A: Allocator> Model for NameBuffer<A> {
-    ghost use Rattle.std.specs.Prelude.{◌≤◌, vec_capacity, vec_len};
+    ghost use Rattle.std.specs.Prelude.{vec_capacity};
     ghost use Rattle.mdmp_lister.specs.NameBuffer.{NameBufferState};
 
     ghost Value = { NameBufferState };
 
-    ghost view = { λ b. record { items = b.bytes.items; limit = b.limit } };
-
-    ghost invariant = { λ b. (vec_len b.bytes ≤ b.limit) × (b.limit ≤ vec_capacity b.bytes) };
+    ghost view = { λ b. record { items = b.bytes.items; limit = vec_capacity b.bytes } };
 }
 
 impl<A: Allocator> NameBuffer<A> {
@@ -40,7 +37,6 @@ impl<A: Allocator> NameBuffer<A> {
     {
         Ok(NameBuffer {
             bytes: Vec::with_capacity(alloc, limit)?,
-            limit,
         })
     }
 
@@ -48,7 +44,7 @@ impl<A: Allocator> NameBuffer<A> {
     pub(crate) fn limit(&self) -> usize
         ensures { result ≡ self.now.limit }
     {
-        self.limit
+        self.bytes.capacity()
     }
 
     /// What was read last, at the front, and behind it the end of what was read before, if that was longer.
@@ -97,9 +93,9 @@ impl<A: Allocator> NameBuffer<A> {
 fn lengthen<A: Allocator>(buffer: &mut Vec<u8, A>, len: usize)
     requires { len ≤ vec_capacity buffer.old }
     ensures len { vec_len buffer.new ≡ max (vec_len buffer.old) len }
-    ensures capacity { vec_capacity buffer.old ≤ vec_capacity buffer.new }
+    ensures capacity { vec_capacity buffer.new ≡ vec_capacity buffer.old }
 {
-    if buffer.len() < len {
-        buffer.resize(len, 0).unwrap();
+    'bytes: while buffer.len() < len {
+        buffer.push_reserved(0);
     }
 }
