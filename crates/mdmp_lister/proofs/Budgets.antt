@@ -1,6 +1,7 @@
 -- Faults of the budget: what they tell stays so, and is of no more than a walk may fetch.
 use Rattle.std.proofs.Common.{◌≡◌, ◌≤◌, ◌+◌, ◌*◌, ◌∙◌, ap, ℕ, List, Option, Some, None, Result, Ok, Err, arith, refl, subst}
 use Rattle.std.specs.Prelude.{IfSome, IfErr, max}
+use Rattle.mdmp_source.specs.Count.{raised}
 use Rattle.mdmp_source.specs.Source.{SourceState}
 use Rattle.mdmp_wire.specs.declared.header.Header.{Header}
 use Rattle.mdmp_lister.specs.declared.fault.OpenFault.{OpenFault}
@@ -8,7 +9,7 @@ use Rattle.mdmp_lister.specs.declared.fault.OpenFault.TheVariants as opening
 use Rattle.mdmp_lister.specs.declared.limits.Limits.{Limits}
 use Rattle.mdmp_lister.specs.declared.meter.Amount.{Amount}
 use Rattle.mdmp_lister.specs.Format.Listing.{entry_count}
-use Rattle.mdmp_lister.specs.Opening.{IsFromBytes, IsOpeningOver, KeepsToBudget, TellsOver, refusal_of_fetch}
+use Rattle.mdmp_lister.specs.Opening.{IsFromBytes, IsOpeningOver, KeepsToBudget, TellsOver, TriesHeader, refusal_of_fetch}
 use Rattle.mdmp_lister.specs.declared.fault.FaultKind.{FaultKind}
 use Rattle.mdmp_lister.specs.declared.fault.FaultKind.TheVariants as kind
 use Rattle.mdmp_lister.specs.declared.fault.FetchFault.{FetchFault}
@@ -16,7 +17,7 @@ use Rattle.mdmp_lister.specs.declared.fault.FetchFault.TheVariants as fetch
 use Rattle.mdmp_lister.specs.declared.fault.ListFault.{ListFault}
 use Rattle.mdmp_lister.specs.declared.meter.MeterCounts.{MeterCounts}
 use Rattle.mdmp_lister.specs.Fault.{fault_of_fetch}
-use Rattle.mdmp_lister.specs.Meter.{Books, IsBooked, IsFetchOver, IsUnmade, IsRefusedFetch, KeepsTo, MeterState, TellsBudget, counts_of}
+use Rattle.mdmp_lister.specs.Meter.{Books, IsBooked, IsFetchOver, IsUnmade, IsRefusedFetch, KeepsTo, MeterState, TellsBudget, TriesFetch, counts_of}
 use Rattle.mdmp_lister.specs.Stage.{IsOverAt, failure_of, fault_stage, stage_by}
 use Rattle.mdmp_lister.specs.declared.stage.Stage.{Stage}
 
@@ -135,6 +136,19 @@ refusal_over n _ m obtained = tt
 pub over_obtained : (n : ℕ) (r : Result Header OpenFault) (m : MeterState) → IsFromBytes r → IfErr r (λ fault. IsOpeningOver n fault m)
 over_obtained n (Ok header) m obtained = tt
 over_obtained n (Err fault) m obtained = refusal_over n fault m obtained
+
+-- the fetch of a header
+pub header_tried : (fault : FetchFault) (old new : MeterState) → TriesFetch {T = Unit {0}} 0 32 (Err fault) old new → TriesHeader (Err (refusal_of_fetch fault)) old new
+header_tried (fetch.Source fault) old new tried = tt
+header_tried (fetch.Budget offset size) old new tried = tried
+
+refusal_tried : (fault : OpenFault) (old new : MeterState) → IsFromBytes {T = Header} (Err fault) → TriesHeader (Err fault) old new
+refusal_tried (opening.Budget offset size) old new obtained = absurd obtained
+refusal_tried _ old new obtained = tt
+
+pub header_obtained : (r : Result Header OpenFault) (old new : MeterState) → IsFromBytes r → new.fetched ≡ raised old.fetched 32 → TriesHeader r old new
+header_obtained (Ok header) old new obtained made = made
+header_obtained (Err fault) old new obtained made = refusal_tried fault old new obtained
 
 -- behind the header no more than that was fetched
 pub header-kept : (limits : Limits) (old : SourceState) (began m : MeterState)

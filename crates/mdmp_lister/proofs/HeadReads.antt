@@ -1,13 +1,15 @@
 -- What is fetched for the head of a stream.
 use Rattle.std.proofs.Common.{◌≡◌, ◌≤◌, ℕ, List, None, Result, Ok, Err, ap, arith, refl}
 use Rattle.std.specs.Prelude.{IfErr, min, if◌then◌else◌}
-use Rattle.std.proofs.lemmas.Bool.{le-ltb}
+use Rattle.std.proofs.lemmas.Bool.{le-ltb, lt-ltb}
+use Rattle.mdmp_source.specs.Count.{raised}
 use Rattle.mdmp_source.specs.Window.{WindowState}
 use Rattle.mdmp_source.specs.declared.location.Location.{Location}
 use Rattle.mdmp_lister.specs.declared.fault.Fault.{Fault}
 use Rattle.mdmp_lister.specs.declared.fault.FaultKind.{FaultKind}
 use Rattle.mdmp_lister.specs.declared.fault.FaultKind.TheVariants as kinds
 use Rattle.mdmp_lister.specs.declared.fault.FetchFault.{FetchFault}
+use Rattle.mdmp_lister.specs.declared.fault.FetchFault.TheVariants as fetch
 use Rattle.mdmp_lister.specs.declared.form.Form.{Form}
 use Rattle.mdmp_lister.specs.declared.head.Head.{Head}
 use Rattle.mdmp_lister.specs.declared.kind.StreamKind.{StreamKind}
@@ -17,7 +19,7 @@ use Rattle.mdmp_lister.specs.Format.Kind.{form_of, greatest_record, record_size}
 use Rattle.mdmp_lister.specs.Format.Numbers.{maybe_name}
 use Rattle.mdmp_lister.specs.Format.Shape.{head_cost, head_size}
 use Rattle.mdmp_lister.specs.Holding.{ComesTo, Slides, needed, started, unfetched}
-use Rattle.mdmp_lister.specs.Meter.{Books, IsUnmade, MeterState, counts_of}
+use Rattle.mdmp_lister.specs.Meter.{Books, IsTried, IsUnmade, MeterState, TriesFetch, TriesRead, counts_of}
 use Rattle.mdmp_lister.specs.StreamHead.{IsShort, head_spent}
 use Rattle.mdmp_lister.specs.Walk.Reaching.{ReachesAtFault}
 use Rattle.mdmp_lister.proofs.Budgets.{over_read}
@@ -60,6 +62,31 @@ module _ (old new : MeterState) (same : new.names ≡ old.names) (caused : IsCau
   plain_over : (most : ℕ) (kind : FaultKind) (offset size : ℕ) → maybe_name kind ≡ 0 → IsUnmade most kind offset size (counts_of new) new.source.size
   plain_over most kinds.Budget offset size none = absurd (omega (arith, none))
   plain_over most _ offset size none = tt
+
+-- ---- the fetch of a head
+
+-- whatever the head says, where its bytes were obtained or none were needed
+pub tried_plain : (offset size : ℕ) (result : Result Head Fault) (old new : MeterState) → new.fetched ≡ raised old.fetched size → IfErr result (λ fault. maybe_name fault.kind ≡ 0)
+    → TriesRead offset size result old new
+tried_plain offset size (Ok head) old new made plain = made
+tried_plain offset size (Err fault) old new made plain = tried_kind fault.kind fault.offset fault.size plain where
+  tried_kind : (kind : FaultKind) (at len : ℕ) → maybe_name kind ≡ 0 → IsTried offset size kind at len old.fetched new.fetched
+  tried_kind (kinds.Source f) at len none = absurd (omega (arith, none))
+  tried_kind kinds.Budget at len none = absurd (omega (arith, none))
+  tried_kind _ at len none = made
+
+-- or they were not
+pub tried_fetch : (offset size : ℕ) (fault : FetchFault) (old new : MeterState) → TriesFetch {T = Unit {0}} offset size (Err fault) old new
+    → TriesRead {T = Head} offset size (Err (fault_of_fetch fault)) old new
+tried_fetch offset size (fetch.Source f) old new tried = tt
+tried_fetch offset size (fetch.Budget at len) old new tried = tried
+
+-- of a stream that is too short none are
+pub tried_short : (at : Location) (kind : StreamKind) (fault : Fault) (m : MeterState) → IsShort at kind fault → TriesRead {T = Head} at.rva (head_spent at.size kind) (Err fault) m m
+tried_short at kind fault m short =
+    let none : head_spent at.size kind ≡ 0 = ap (λ few. if few then 0 else head_cost (form_of kind)) (lt-ltb at.size (head_size (form_of kind) (record_size kind)) short.less) in
+    let kept : m.fetched ≡ raised m.fetched (head_spent at.size kind) = rw none (omega arith) in
+    rw short.is kept
 
 -- ---- a window that was started over a stream, and holds its head
 
@@ -120,7 +147,7 @@ module _ (at : Location) (form : Form) (old new : MeterState) (was mid now : Win
 -- ---- the head alone
 
 -- the bytes of a head are fetched where the stream has room for it
-head_room : (size : ℕ) (kind : StreamKind) → head_size (form_of kind) (record_size kind) ≤ size → head_spent size kind ≡ head_cost (form_of kind)
+pub head_room : (size : ℕ) (kind : StreamKind) → head_size (form_of kind) (record_size kind) ≤ size → head_spent size kind ≡ head_cost (form_of kind)
 head_room size kind room = ap (λ short. if short then 0 else head_cost (form_of kind)) (le-ltb size (head_size (form_of kind) (record_size kind)) room)
 
 pub reads_short : (at : Location) (kind : StreamKind) (fault : Fault) (m : MeterState) → IsShort at kind fault → ReadsHead at.size kind (Err fault) m m

@@ -32,6 +32,7 @@ pub mod NameRows
 pub mod Naming
 pub mod Numbers
 pub mod Offsets
+pub mod Openings
 pub mod Owing
 pub mod Paying
 pub mod RangeRows

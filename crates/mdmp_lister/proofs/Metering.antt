@@ -1,5 +1,6 @@
 -- Fetches for a listing, one behind the other.
-use Rattle.std.proofs.Common.{◌≤◌, ◌+◌, ◌∙◌, ℕ, arith, refl}
+use Rattle.std.proofs.Common.{◌≡◌, ◌≤◌, ◌+◌, ◌∙◌, ℕ, arith, refl}
+use Rattle.mdmp_source.specs.Count.{raised}
 use Rattle.mdmp_source.specs.SourceLaws.{fetches_then}
 use Rattle.mdmp_lister.specs.Meter.{MeterState, Books}
 use Rattle.mdmp_lister.proofs.Fetches.{FetchesAtMost-none, FetchesAtMost-within}
@@ -36,3 +37,7 @@ Books-then i j calls m n k a b c few le first then = record {
 
 pub Books-within : (i calls m n : ℕ) (a b : MeterState) → i ≤ calls → m ≤ n → Books i m a b → Books calls n a b
 Books-within i calls m n a b few le books = Books-then i 0 calls m 0 n a b b (omega (arith, few)) (omega (arith, le)) books (Books_none 0 0 b)
+
+-- what one fetch counts behind another
+pub counted_then : (c m n a b d : ℕ) → m ≡ raised c a → n ≡ raised m b → a + b ≡ d → n ≡ raised c d
+counted_then c m n a b d first then all = omega (arith, first, then, all)

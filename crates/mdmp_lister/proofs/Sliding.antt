@@ -1,20 +1,23 @@
 -- A window that is filled, and one that is moved on.
-use Rattle.std.proofs.Common.{◌≡◌, ◌≤◌, ◌<◌, ◌+◌, ◌-◌, ◌*◌, ◌/◌, ◌++◌, ◌∙◌, ◌⊎◌, true, false, ℕ, zero, suc, min, List, Option, Some, None, [], Result, Ok, Err, take, drop, length, ap, sym, refl, arith, inl, inr, length-append}
+use Rattle.std.proofs.Common.{◌≡◌, ◌≤◌, ◌<◌, ◌+◌, ◌-◌, ◌*◌, ◌/◌, ◌++◌, ◌∙◌, ◌⊎◌, true, false, ℕ, zero, suc, min, List, Option, Some, None, [], Result, Ok, Err, take, drop, length, ap, sym, subst, refl, arith, inl, inr, length-append}
 use Rattle.std.specs.Prelude.{nat_lt}
 use Rattle.std.proofs.Math.Seq.{take-add}
 use Rattle.std.proofs.Math.Nat.{min-le_left, min-le_right, add-mul, div-mul-le_self}
 use Rattle.std.proofs.lemmas.Nat.{le-div}
 use Rattle.std.proofs.lemmas.Bool.{cases_lt}
 use Rattle.std.proofs.lemmas.List.{drop_all, drop-drop, drop-take, length-drop, take-take}
+use Rattle.mdmp_source.specs.Count.{raised}
 use Rattle.mdmp_source.specs.Range.{bytes_at}
 use Rattle.mdmp_source.specs.Source.{SourceState}
-use Rattle.mdmp_source.specs.Window.{IsFilled, WindowState, next_len_of}
+use Rattle.mdmp_source.specs.Window.{IsFilled, WindowState, behind_of, next_len_of}
 use Rattle.mdmp_lister.specs.declared.fault.FetchFault.{FetchFault}
 use Rattle.mdmp_source.specs.declared.location.Location.{Location}
 use Rattle.mdmp_lister.specs.declared.form.Form.{Form}
 use Rattle.mdmp_lister.specs.Format.Kind.{greatest_record}
 use Rattle.mdmp_lister.specs.Format.Shape.{head_cost}
 use Rattle.mdmp_lister.specs.Holding.{ComesTo, IsAhead, IsHeldOf, Slides, fills, fills_of, jumped, left_behind, needed, reached, started, unfetched}
+use Rattle.mdmp_lister.specs.Fetching.{TriesHold}
+use Rattle.mdmp_lister.specs.Meter.{MeterState, TriesFetch}
 use Rattle.mdmp_lister.specs.Format.KindLaws.{most_head}
 
 -- ---- the bytes held
@@ -192,6 +195,41 @@ module _ {source : SourceState} {at size : ℕ} {w mid : WindowState} (ahead : I
       record {
         bytes = rw need (omega (arith, taken_most, bytes_moved));
         calls = λ most small wide. rw need (omega (arith, fills_fall few most small wide, min-le_left 1 (next_len_of mid)));
+      }
+
+  -- what a fill is to bring, the bytes that are needed are
+  tries_lacking : (result : Result (Unit {0}) FetchFault) (was now : MeterState) → length mid.held < size → TriesFetch (behind_of mid) (next_len_of mid) result was now
+      → TriesFetch (behind_of (reached at w)) (needed at size w) result was now
+  tries_lacking result was now few tried =
+      subst (λ (u : WindowState). TriesFetch (behind_of u) (needed at size w) result was now) moved (subst (λ n. TriesFetch (behind_of mid) n result was now) (sym (needed_lacking few)) tried)
+
+  pub holds_failed : (fault : FetchFault) (new : WindowState) (was now : MeterState) → length mid.held < size → TriesFetch {T = Unit {0}} (behind_of mid) (next_len_of mid) (Err fault) was now
+      → TriesHold at size w (Err fault) new was now
+  holds_failed fault new was now few tried = record {
+    tries = tries_lacking (Err fault) was now few tried;
+    behind = tt;
+    lacks = subst (λ (u : WindowState). length u.held < size) moved few;
+  }
+
+  pub holds_filled : (new : WindowState) (was now : MeterState) → length mid.held < size → IsFilled source.store.content mid new → TriesFetch {T = Unit {0}} (behind_of mid) (next_len_of mid) (Ok tt) was now
+      → TriesHold at size w (Ok tt) new was now
+  holds_filled new was now few f tried =
+      let held_is : length new.held ≡ length mid.held + next_len_of mid =
+      ap (λ (u : WindowState). length u.held) f.appended ∙ length-append mid.held f.more ∙ ap (λ k. length mid.held + k) f.more_len in
+      let all : behind_of new ≡ behind_of mid + next_len_of mid = omega (arith, held_is, ap (λ (u : WindowState). u.place) f.appended) in
+      record {
+        tries = tries_lacking (Ok tt) was now few tried;
+        behind = subst (λ (u : WindowState). behind_of new ≡ behind_of u + needed at size w) moved (subst (λ n. behind_of new ≡ behind_of mid + n) (sym (needed_lacking few)) all);
+        lacks = tt;
+      }
+
+  pub holds_held : (was : MeterState) → size ≤ length mid.held → TriesHold at size w (Ok tt) mid was was
+  holds_held was enough =
+      let none = needed_held enough in
+      record {
+        tries = subst (λ n. was.fetched ≡ raised was.fetched n) (sym none) (omega arith);
+        behind = subst (λ (u : WindowState). behind_of mid ≡ behind_of u + needed at size w) moved (subst (λ n. behind_of mid ≡ behind_of mid + n) (sym none) (omega arith));
+        lacks = tt;
       }
 
 -- ---- a window that was started over a stream

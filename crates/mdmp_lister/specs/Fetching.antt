@@ -1,8 +1,8 @@
 -- What reading promises: some bytes, the head of a stream, a name, a record.
-use Rattle.std.specs.Prelude.{◌≡◌, ◌≤◌, ◌<◌, ◌+◌, ◌-◌, ◌/◌, ◌^◌, ℕ, List, None, Some, Result, IfErr, IfOk, min, nat_lt, max}
+use Rattle.std.specs.Prelude.{◌≡◌, ◌≤◌, ◌<◌, ◌+◌, ◌-◌, ◌/◌, ◌^◌, ℕ, List, None, Some, Result, IfErr, IfOk, OnOk, length, min, nat_lt, max}
 use Rattle.mdmp_source.specs.Count.{raised_if}
 use Rattle.mdmp_source.specs.Source.{FetchesAtMost, fault_of}
-use Rattle.mdmp_source.specs.Window.{WindowState}
+use Rattle.mdmp_source.specs.Window.{WindowState, behind_of}
 use Rattle.mdmp_source.specs.declared.fault.SourceFault.{SourceFault}
 use Rattle.mdmp_source.specs.declared.location.Location.{Location}
 use Rattle.mdmp_wire.specs.declared.entry.Entry.{Entry}
@@ -16,8 +16,8 @@ use Rattle.mdmp_lister.specs.declared.step.Step.{Step}
 use Rattle.mdmp_lister.specs.Costs.{name_spent, read_cost, step_spent}
 use Rattle.mdmp_lister.specs.Following.{mapped}
 use Rattle.mdmp_lister.specs.StreamHead.{head_spent}
-use Rattle.mdmp_lister.specs.Holding.{ComesTo, fills, left_behind, started, unfetched}
-use Rattle.mdmp_lister.specs.Meter.{Books, BooksAside, IsUnmade, MeterState, Spends, TellsBudget, counts_of, store_fault_of}
+use Rattle.mdmp_lister.specs.Holding.{ComesTo, fills, left_behind, needed, reached, started, unfetched}
+use Rattle.mdmp_lister.specs.Meter.{Books, BooksAside, IsUnmade, MeterState, Spends, TellsBudget, TriesFetch, counts_of, store_fault_of}
 use Rattle.mdmp_lister.specs.declared.fault.FetchFault.{FetchFault}
 use Rattle.mdmp_lister.specs.Walk.Owing.{count_told, ranges_by}
 use Rattle.mdmp_lister.specs.Walk.Reaching.{Reaches, ReachesAtFault, read_once, told_once}
@@ -33,6 +33,13 @@ pub record Reads {T : Type 0} (most : ℕ) (Booked : MeterState → MeterState �
   pub books : Booked old new
   pub caused : IsCaused (store_fault_of result) old.source new.source
   pub refused : TellsBudget most result new
+
+-- the bytes behind those that a window holds were fetched, so that `size` bytes at `at` are held, or the budget is told of
+-- them: not all of the `size` bytes are held then
+pub record TriesHold (at size : ℕ) (old : WindowState) (result : Result (Unit {0}) FetchFault) (new : WindowState) (was now : MeterState) : Type 0 where
+  pub tries : TriesFetch (behind_of (reached at old)) (needed at size old) result was now
+  pub behind : OnOk result (behind_of new ≡ behind_of (reached at old) + needed at size old)
+  pub lacks : IfErr result (λ _. length (reached at old).held < size)
 
 -- the same beside the listing, in at most so many calls, of at most n bytes, which no budget limits
 pub record ReadsBeside {T : Type 0} (calls n : ℕ) (Is : List ℕ → T → Type 0) (result : Result T SourceFault) (old new : MeterState) : Type 0 where

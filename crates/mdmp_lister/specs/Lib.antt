@@ -17,6 +17,7 @@ pub mod Lister
 pub mod Memory
 pub mod Meter
 pub mod NameBuffer
+pub mod NextFetch
 pub mod Opening
 pub mod Painting
 pub mod Sink

@@ -4,6 +4,7 @@ use Rattle.mdmp_source.specs.Count.{raised}
 use Rattle.mdmp_source.specs.Range.{IsInside}
 use Rattle.mdmp_source.specs.Source.{SourceState, FetchesAtMost}
 use Rattle.mdmp_source.specs.declared.fault.SourceFault.{SourceFault}
+use Rattle.mdmp_lister.specs.declared.fault.Fault.{Fault}
 use Rattle.mdmp_lister.specs.declared.fault.FaultKind.{FaultKind}
 use Rattle.mdmp_lister.specs.declared.fault.FaultKind.TheVariants as kind
 use Rattle.mdmp_lister.specs.declared.fault.FetchFault.{FetchFault}
@@ -68,6 +69,22 @@ pub record IsRefusedFetch (most offset size : ℕ) (c : MeterCounts) (file_size 
 abbrev pub RefusesFetch : {T : Type 0} → ℕ → ℕ → Result T FetchFault → MeterState → MeterState → Type 0
 RefusesFetch offset size (Err (Budget at len)) old new = ((at ≡ offset) × (len ≡ size)) × (IsRefusedFetch size offset size (counts_of new) new.source.size × (new.source ≡ old.source))
 RefusesFetch offset size answer old new = Unit {0}
+
+-- the fetch of these bytes was made and counted, or it is the one that the budget is told of, and nothing was fetched
+abbrev pub TriesFetch : {T : Type 0} → (offset size : ℕ) → Result T FetchFault → MeterState → MeterState → Type 0
+TriesFetch offset size (Ok x) old new = new.fetched ≡ raised old.fetched size
+TriesFetch offset size (Err (Budget at len)) old new = ((at ≡ offset) × (len ≡ size)) × (new.fetched ≡ old.fetched)
+TriesFetch offset size (Err (Source fault)) old new = Unit {0}
+
+-- the same by the fault that was told behind it
+abbrev pub IsTried : (offset size : ℕ) → FaultKind → (at len before after : ℕ) → Type 0
+IsTried offset size kind.Budget at len before after = ((at ≡ offset) × (len ≡ size)) × (after ≡ before)
+IsTried offset size (kind.Source fault) at len before after = Unit {0}
+IsTried offset size kind at len before after = after ≡ raised before size
+
+abbrev pub TriesRead : {T : Type 0} → (offset size : ℕ) → Result T Fault → MeterState → MeterState → Type 0
+TriesRead offset size (Ok x) old new = new.fetched ≡ raised old.fetched size
+TriesRead offset size (Err fault) old new = IsTried offset size fault.kind fault.offset fault.size old.fetched new.fetched
 
 -- a fault that tells the budget is of some fetch that was not made, of at most so many bytes
 abbrev pub IsFetchOver : ℕ → FetchFault → MeterState → Type 0

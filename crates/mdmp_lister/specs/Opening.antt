@@ -184,6 +184,12 @@ pub record FitsHeader (old : SourceState) (result : Result Header OpenFault) (ne
   -- a file that is too short is not touched
   pub untouched : (size : ℕ) → result ≡ Err (TooShort size) → new ≡ old
 
+-- the header was fetched, or it is what the budget is told of, and nothing was fetched
+abbrev pub TriesHeader : Result Header OpenFault → MeterState → MeterState → Type 0
+TriesHeader (Ok header) old new = new.fetched ≡ raised old.fetched 32
+TriesHeader (Err (Budget offset size)) old new = ((offset ≡ 0) × (size ≡ 32)) × (new.fetched ≡ old.fetched)
+TriesHeader (Err fault) old new = Unit {0}
+
 -- the header of a file was read, or it or the place of the directory was refused
 pub record ReadsHeader (old : MeterState) (result : Result Header OpenFault) (new : MeterState) : Type 0 where
   pub finds : (file : List ℕ) → old.source.store.content ≡ Some file → Finds file result
@@ -191,6 +197,7 @@ pub record ReadsHeader (old : MeterState) (result : Result Header OpenFault) (ne
   pub books : Books 1 32 old new
   pub caused : IsCaused (unread_fault result) old.source new.source
   pub over : IfErr result (λ fault. IsOpeningOver 32 fault new)
+  pub tries : TriesHeader result old new
 
 -- the header or the directory of a file was refused, or there was no memory to list it, and its source was handed back
 pub record IsRefused (old : SourceState) (fault : OpenFault) (new : SourceState) : Type 0 where

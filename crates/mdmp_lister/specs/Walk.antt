@@ -35,6 +35,7 @@ use Rattle.mdmp_lister.specs.Format.Item.{range_offset}
 use Rattle.mdmp_lister.specs.Format.Listing.{Run, nothing, only_fault, with_item, joined, items_from, entry_body, listing_from}
 use Rattle.mdmp_lister.specs.Listed.{AreListed}
 use Rattle.mdmp_lister.specs.Memory.{is_within}
+use Rattle.mdmp_lister.specs.NextFetch.{TriesHeads}
 use Rattle.mdmp_lister.specs.Meter.{Books, TellsBudget, store_fault_of}
 use Rattle.mdmp_lister.specs.declared.fault.FetchFault.{FetchFault}
 use Rattle.mdmp_lister.specs.Format.Refusal.{directory_refusal}
@@ -141,6 +142,7 @@ module _ {S A : Type 0} where
     pub calls : w.meter.source.calls ≤ raised source.calls (1 + w.header.number_of_streams)
     pub steady : IsSteady source w.meter.source
     pub asked : w.meter.asked ≤ 32 + 12 * w.header.number_of_streams
+    pub fetched : w.meter.fetched ≡ 32 + 12 * w.header.number_of_streams
     pub called : w.meter.calls ≤ 1 + fills_of (12 * w.header.number_of_streams) (w.window.room - 11)
     pub names : w.meter.names ≡ 0
     pub aside : w.meter.aside ≡ record { bytes = 0; calls = 0 }
@@ -182,6 +184,7 @@ module _ {S A : Type 0} where
     pub books : Books (vec_len old.entries) (heads_ahead old.choice old.meter.source.size old.entries.items) old.meter new.meter
     pub caused : IsCaused (store_fault_of result) old.meter.source new.meter.source
     pub refused : TellsBudget 16 result new.meter
+    pub tries : TriesHeads old.choice old.meter.source.size old.entries.items result old.meter new.meter
 
   -- where it stands in its directory
   abbrev pub cursor_of : Walk S A → Cursor

@@ -3,8 +3,9 @@ ghost use Rattle.std.specs.Prelude.{◌≡◌, ◌<◌, ◌^◌, ℕ, List, Some
 ghost use Rattle.mdmp_lister.specs.Format.Numbers.{range_count, ranges_in};
 ghost use Rattle.mdmp_lister.specs.Format.Directory.{IsDirectory};
 ghost use Rattle.mdmp_lister.specs.Fetching.{Reads};
+ghost use Rattle.mdmp_lister.specs.NextFetch.{TriesHeads};
 ghost use Rattle.mdmp_lister.specs.StreamHead.{ahead_of, heads_ahead};
-ghost use Rattle.mdmp_lister.specs.Meter.{Books};
+ghost use Rattle.mdmp_lister.specs.Meter.{Books, TriesFetch};
 ghost use Rattle.mdmp_lister.specs.Format.Kind.{kind_of};
 
 use crate::choice::Choice;
@@ -21,8 +22,9 @@ use mdmp_wire::Entry;
 /// anything else nothing.
 #[tactic(auto, using(crate::proofs::Metering::Books_none))]
 fn ranges_of_entry<S: Store>(meter: &mut Meter<S>, entry: Entry) -> Result<u64, FetchFault>
-    ensures { Reads 16 (Books 1 (ahead_of meter.old.source.size entry)) (λ file count. count ≡ ranges_in file entry (kind_of entry.stream_type))
+    ensures reads { Reads 16 (Books 1 (ahead_of meter.old.source.size entry)) (λ file count. count ≡ ranges_in file entry (kind_of entry.stream_type))
         result meter.old meter.new }
+    ensures tries { TriesFetch entry.location.rva (ahead_of meter.old.source.size entry) result meter.old meter.new }
 {
     let Some(kind) = StreamKind::of_type(entry.stream_type) else {
         return Ok(0);
@@ -51,8 +53,9 @@ pub(crate) fn count_ranges<S: Store>(
 ) -> Result<u128, FetchFault>
     requires few { length entries.now < 2 ^ 32 }
     requires directory { (file : List ℕ) → meter.old.source.store.content ≡ Some file → IsDirectory file entries.now }
-    ensures { Reads 16 (Books (length entries.now) (heads_ahead choice.now meter.old.source.size entries.now)) (λ file count. count ≡ range_count file choice.now)
+    ensures reads { Reads 16 (Books (length entries.now) (heads_ahead choice.now meter.old.source.size entries.now)) (λ file count. count ≡ range_count file choice.now)
         result meter.old meter.new }
+    ensures tries { TriesHeads choice.now meter.old.source.size entries.now result meter.old meter.new }
 {
     let mut total = 0;
     for entry in entries {

@@ -4,7 +4,7 @@ ghost use Rattle.mdmp_source.specs.Range.{IsInside, bytes_at};
 ghost use Rattle.mdmp_wire.specs.Number.{u32_at};
 ghost use Rattle.mdmp_lister.specs.Fetching.{Reads, ReadsBeside, ReadsName};
 ghost use Rattle.mdmp_lister.specs.Following.{IsSomeName};
-ghost use Rattle.mdmp_lister.specs.Meter.{Books};
+ghost use Rattle.mdmp_lister.specs.Meter.{Books, TriesFetch};
 ghost use Rattle.mdmp_lister.specs.Format.Name.{name_at};
 ghost use Rattle.mdmp_lister.specs.Fault.{Answers};
 ghost use Rattle.mdmp_lister.specs.Step.{IsHeld, name_read};
@@ -37,7 +37,8 @@ pub(crate) fn fetch_front<S: Store>(
 ) -> Result<(), FetchFault>
     requires room { count ≤ length buffer.old }
     requires inside { IsInside at count meter.old.source.size }
-    ensures { Reads count (Books 1 count) (λ file _. take count buffer.new ≡ bytes_at file at count) result meter.old meter.new }
+    ensures reads { Reads count (Books 1 count) (λ file _. take count buffer.new ≡ bytes_at file at count) result meter.old meter.new }
+    ensures tries { TriesFetch at count result meter.old meter.new }
 {
     meter.fetch(at, &mut buffer[..count])
 }
@@ -67,7 +68,8 @@ pub(crate) fn first_of<R: Record>(bytes: &[u8]) -> R
 /// How many bytes the units of the name at `rva` have, as it says.
 fn read_length<S: Store>(meter: &mut Meter<S>, rva: u64) -> Result<u32, FetchFault>
     requires { rva + 4 ≤ meter.old.source.size }
-    ensures { Reads 4 (Books 1 4) (λ file length. u32_at file rva ≡ length) result meter.old meter.new }
+    ensures reads { Reads 4 (Books 1 4) (λ file length. u32_at file rva ≡ length) result meter.old meter.new }
+    ensures tries { TriesFetch rva 4 result meter.old meter.new }
 {
     let mut bytes = [0; 4];
     meter.fetch(rva, &mut bytes)?;

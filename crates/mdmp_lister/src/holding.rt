@@ -1,7 +1,7 @@
 //! Bytes of a stretch of a file, held at the front of a window.
 ghost use Rattle.std.specs.Prelude.{◌≡◌, ◌≤◌, length, min, take, OnOk};
 ghost use Rattle.mdmp_source.specs.Range.{bytes_at};
-ghost use Rattle.mdmp_lister.specs.Fetching.{Reads};
+ghost use Rattle.mdmp_lister.specs.Fetching.{Reads, TriesHold};
 ghost use Rattle.mdmp_lister.specs.Holding.{ComesTo, IsAhead, Slides, needed, reached};
 ghost use Rattle.mdmp_lister.specs.Meter.{Books};
 
@@ -40,6 +40,7 @@ pub(crate) fn hold<S: Store, A: Allocator>(
     ensures comes { ComesTo at meter.old.source.store.content window.old window.new }
     ensures enough { OnOk result (size ≤ length window.new.held) }
     ensures slides { Slides at size window.old result window.new }
+    ensures tries { TriesHold at size window.old result window.new meter.old meter.new }
 {
     reach(window, at);
     if window.bytes().len() < size {

@@ -6,6 +6,7 @@ ghost use Rattle.mdmp_source.specs.Range.{IsInside, bytes_at};
 ghost use Rattle.mdmp_source.specs.Store.{IsGood, IsSizeOf};
 ghost use Rattle.mdmp_wire.specs.CodeView.{codeview_of};
 ghost use Rattle.mdmp_lister.specs.CodeView.{AreFetched, codeview_cost, codeview_told};
+ghost use Rattle.mdmp_lister.specs.NextFetch.{TellsNextOpening};
 ghost use Rattle.mdmp_lister.specs.Opening.{IsHandedBack, IsOpenRefusal, IsRefusalOf, IsUnread, IsUnreadFor, KeepsToBudget};
 ghost use Rattle.mdmp_lister.specs.Format.Refusal.{opening_fault};
 ghost use Rattle.mdmp_map.specs.Ranges.{IsWithin};
@@ -128,6 +129,7 @@ impl<S: Store + Drop, A: Allocator + Copy> Lister<S, A> {
             → FetchesAtMost 32 source refused.source ⊎ ((file : List ℕ) → source.store.content ≡ Some file → opening_fault file choice ≡ None)) }
         ensures cause { IfErr result (λ refused. IsUnreadFor refused.fault source refused.source) }
         ensures kept { IfErr result (λ refused. KeepsToBudget limits source refused.fault refused.source) }
+        ensures next { IfErr result (λ refused. TellsNextOpening (Some choice) limits source refused.fault refused.source) }
     {
         let mut walk = match Walk::open(alloc, source, limits, choice) {
             Ok(walk) => walk,

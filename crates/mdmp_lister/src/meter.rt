@@ -6,7 +6,7 @@ ghost use Rattle.mdmp_source.specs.Store.{IsOfBytes, IsSizeOf};
 ghost use Rattle.mdmp_source.specs.Window.{IsFilled, next_len_of};
 ghost use Rattle.mdmp_lister.specs.Fault.{IsCaused};
 ghost use Rattle.mdmp_lister.specs.Fetching.{Reads, ReadsBeside};
-ghost use Rattle.mdmp_lister.specs.Meter.{Books, CountsFetch, IsBooked, IsMetered, IsSourceOf, MeterState, RefusesFetch, counts_of, is_passed, store_fault_of};
+ghost use Rattle.mdmp_lister.specs.Meter.{Books, CountsFetch, IsBooked, IsMetered, IsSourceOf, MeterState, RefusesFetch, TriesFetch, counts_of, is_passed, store_fault_of};
 ghost use Rattle.mdmp_lister.specs.declared.fault.FetchFault.{FetchFault};
 
 use crate::fault::FetchFault;
@@ -124,6 +124,7 @@ impl<S: Store> Meter<S> {
         ensures reads { Reads (length out.new) (Books 1 (length out.new)) (λ file _. out.new ≡ bytes_at file at (length out.new)) result self.old self.new }
         ensures counts { CountsFetch 1 (length out.new) result self.old self.new }
         ensures refused { RefusesFetch at (length out.new) result self.old self.new }
+        ensures tries { TriesFetch at (length out.new) result self.old self.new }
     {
         let size = out.len();
         if is_passed(self.budget, self.fetched, size) {
@@ -144,6 +145,7 @@ impl<S: Store> Meter<S> {
         ensures books { Books (min 1 (next_len_of window.old)) (next_len_of window.old) self.old self.new }
         ensures caused { IsCaused (store_fault_of result) self.old.source self.new.source }
         ensures refused { RefusesFetch (window.old.place + length window.old.held) (next_len_of window.old) result self.old self.new }
+        ensures tries { TriesFetch (window.old.place + length window.old.held) (next_len_of window.old) result self.old self.new }
     {
         // The proof learns here that a place inside the file has 64 bits.
         let _size = self.size();

@@ -29,7 +29,7 @@ impl<A: Allocator> NameBuffer<A> {
     ghost use Rattle.std.specs.Prelude.{◌≡◌, ◌≤◌, [], IfOk, length, take};
     ghost use Rattle.mdmp_source.specs.Range.{IsInside, bytes_at};
     ghost use Rattle.mdmp_lister.specs.Fetching.{Reads, ReadsBeside};
-    ghost use Rattle.mdmp_lister.specs.Meter.{Books};
+    ghost use Rattle.mdmp_lister.specs.Meter.{Books, TriesFetch};
 
     /// A buffer for at most that many bytes. The memory for them is taken here, and no later call takes any.
     pub(crate) fn with_limit(alloc: A, limit: usize) -> Result<Self, AllocError>
@@ -66,6 +66,7 @@ impl<A: Allocator> NameBuffer<A> {
         ensures limit { self.new.limit ≡ self.old.limit }
         ensures holds { count ≤ length self.new.items }
         ensures reads { Reads count (Books 1 count) (λ file _. take count self.new.items ≡ bytes_at file at count) result meter.old meter.new }
+        ensures tries { TriesFetch at count result meter.old meter.new }
     {
         lengthen(&mut self.bytes, count);
         fetch_front(meter, at, &mut self.bytes, count)

@@ -5,6 +5,7 @@ ghost use Rattle.mdmp_wire.specs.Header.{header_at};
 ghost use Rattle.mdmp_lister.specs.Format.Directory.{IsDirectory};
 ghost use Rattle.mdmp_lister.specs.Format.Refusal.{directory_refusal};
 ghost use Rattle.mdmp_lister.specs.Fetching.{Reads};
+ghost use Rattle.mdmp_lister.specs.NextFetch.{TriesDirectory};
 ghost use Rattle.mdmp_lister.specs.Holding.{fills_of};
 ghost use Rattle.mdmp_lister.specs.Meter.{Books};
 ghost use Rattle.mdmp_lister.specs.Opening.{IsHeaderIn, IsNextChosen, ReadsHeader};
@@ -63,7 +64,7 @@ pub fn header_of(file: &[u8]) -> Result<Header, OpenFault>
 }
 
 /// Fetches the header of a file whose directory lies inside it.
-#[tactic(auto, using(crate::proofs::Budgets::over_fetched, crate::proofs::Budgets::over_obtained))]
+#[tactic(auto, using(crate::proofs::Budgets::over_fetched, crate::proofs::Budgets::over_obtained, crate::proofs::Budgets::header_tried, crate::proofs::Budgets::header_obtained))]
 pub(crate) fn read_header<S: Store>(meter: &mut Meter<S>) -> Result<Header, OpenFault>
     ensures { ReadsHeader meter.old result meter.new }
 {
@@ -92,6 +93,7 @@ pub(crate) fn read_directory<S: Store, A: Allocator>(
     ensures kept { window.new.room ≡ window.old.room }
     ensures reads { Reads window.old.room (Books (fills_of (12 * header.number_of_streams) (window.old.room - 11)) (12 * header.number_of_streams)) (λ file _. header ≡ header_at file 0 → IsDirectory file entries.new.items)
         result meter.old meter.new }
+    ensures tries { TriesDirectory window.old.room header result meter.old meter.new }
 {
     if header.number_of_streams == 0 {
         // An empty directory may stand anywhere.

@@ -7,6 +7,8 @@ ghost use Rattle.mdmp_lister.specs.Following.{IsSomeShape};
 ghost use Rattle.mdmp_lister.specs.Format.Kind.{greatest_record};
 ghost use Rattle.mdmp_lister.specs.Format.Shape.{shape_of};
 ghost use Rattle.mdmp_lister.specs.Fault.{Answers};
+ghost use Rattle.mdmp_lister.specs.Meter.{TriesRead};
+ghost use Rattle.mdmp_lister.specs.StreamHead.{head_spent};
 
 use crate::fault::Fault;
 use crate::fetching::fetch_front;
@@ -35,6 +37,7 @@ pub(crate) fn fetch_head<S: Store>(
         → kind ≡ StreamKind.Memory64 → IfOk result (λ head. head.base ≡ number_at file (at.rva + 8) 8) }
     ensures head { IfOk result (IsHeadOf at.size kind) }
     ensures reads { ReadsHead at.size kind result meter.old meter.new }
+    ensures tries { TriesRead at.rva (head_spent at.size kind) result meter.old meter.new }
 {
     check_head(at, kind)?;
     let least = kind.form().head_cost() as usize;

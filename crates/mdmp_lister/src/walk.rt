@@ -3,6 +3,7 @@ ghost use Rattle.std.specs.Prelude.{◌≡◌, ◌+◌, ◌*◌, ◌^◌, ◌≤
 ghost use Rattle.mdmp_lister.specs.Format.Kind.{HasNoNames, kind_of};
 ghost use Rattle.mdmp_lister.specs.HeldStep.{AnswerHasItsBytes, HasItsBytes, answer_told, given_told, read_told, step_told};
 ghost use Rattle.mdmp_lister.specs.Meter.{IsBooked, IsMetered, KeepsTo, counts_of};
+ghost use Rattle.mdmp_lister.specs.NextFetch.{TellsNextOpening};
 ghost use Rattle.mdmp_lister.specs.Opening.{IsRefused, KeepsToBudget};
 ghost use Rattle.mdmp_lister.specs.Stage.{IsUnended, StaysUnchanged, fault_stage, records_left_in};
 ghost use Rattle.mdmp_lister.specs.Walk.Owing.{ranges_ahead};
@@ -68,6 +69,7 @@ impl<S: Store + Drop, A: Allocator + Copy> Walk<S, A> {
         ensures new { IfOk result (IsNewWalk source choice limits) }
         ensures refused { IfErr result (λ refused. IsRefused source refused.fault refused.source) }
         ensures kept { IfErr result (λ refused. KeepsToBudget limits source refused.fault refused.source) }
+        ensures next { IfErr result (λ refused. TellsNextOpening None limits source refused.fault refused.source) }
         ensures within { (file : List ℕ) → source.store.content ≡ Some file → MatchResult result (λ _. walk_fault limits file ≡ None) (λ refused. IsWalkRefusal limits file refused.fault) }
         ensures over { IfErr result (λ refused. TellsWalkMemory limits source refused.fault refused.source) }
     {

@@ -14,6 +14,7 @@ ghost use Rattle.mdmp_lister.specs.Format.Listing.{entry_of, is_chosen};
 ghost use Rattle.mdmp_lister.specs.Format.Refusal.{directory_refusal};
 ghost use Rattle.mdmp_lister.specs.HeldStep.{AnswerHasItsBytes, answer_told};
 ghost use Rattle.mdmp_lister.specs.Meter.{IsBooked, counts_of};
+ghost use Rattle.mdmp_lister.specs.NextFetch.{TellsNextOpening};
 ghost use Rattle.mdmp_lister.specs.Opening.{IsBareRefusal, IsDirectoryRefusal, IsHandedBackBare, IsUnread, IsUnreadFor, KeepsToBudget};
 ghost use Rattle.mdmp_lister.specs.Following.{through};
 ghost use Rattle.mdmp_lister.specs.Stage.{StaysUnchanged, stop_after};
@@ -118,6 +119,7 @@ impl<S: Store + Drop, A: Allocator + Copy> Walker<S, A> {
         ensures memory { IfErr result (λ refused. refused.fault ≡ OpenFault.Memory → FetchesAtMost 32 source refused.source) }
         ensures cause { IfErr result (λ refused. IsUnreadFor refused.fault source refused.source) }
         ensures kept { IfErr result (λ refused. KeepsToBudget limits source refused.fault refused.source) }
+        ensures next { IfErr result (λ refused. TellsNextOpening None limits source refused.fault refused.source) }
     {
         match Walk::open(alloc, source, limits, choice) {
             Ok(walk) => {

@@ -11,7 +11,7 @@ use Rattle.mdmp_lister.proofs.fetching.read_name.Goals as goal
 pub returns-in_err-check_units-clause-reads : goal.returns-in_err-check_units-clause-reads
 returns-in_err-check_units-clause-reads g c =
     let bad = c.in_err-check_units in
-    let read = c.in_ok-length.ensures in
+    let read = c.in_ok-length.ensures.reads in
     let is : c.from_residual-in_err-check_units.result ≡ Err bad.field-0.0 = search rules in
     rw is (name_bad c.args.buffer.now.limit c.args.rva c.args.meter.now c.reach_name.new.self c.read_length.new.meter c.reach_name.ensures c.if-rva-eq0.false 1 4 read.books (omega arith) (omega arith)
     (omega arith) read.caused _ _ c.in_ok-length.length bad.field-0.0 (rw c.check_units.ensures at bad.was))
@@ -42,14 +42,14 @@ returns-clause-some g c = some_units _ _ c.args.rva c.in_ok-length.length c.if-r
 pub returns-in_err-length-clause-reads : goal.returns-in_err-length-clause-reads
 returns-in_err-length-clause-reads g c =
     let fault = c.in_err-length.field-0.0 in
-    let read = c.in_err-length.ensures in
+    let read = c.in_err-length.ensures.reads in
     let is : c.from_residual.result ≡ Err (fault_of_fetch fault) = search rules in
     rw is (name_unread c.args.buffer.now.limit c.args.rva c.args.meter.now c.reach_name.new.self c.read_length.new.meter c.reach_name.ensures c.if-rva-eq0.false 1 4 read.books (omega arith) (omega arith)
     4 fault (omega arith) read.refused read.caused)
 
 pub returns-then-limit-length-clause-reads : goal.returns-then-limit-length-clause-reads
 returns-then-limit-length-clause-reads g c =
-    let read = c.in_ok-length.ensures in
+    let read = c.in_ok-length.ensures.reads in
     name_obtained c.args.buffer.now.limit c.args.rva c.args.meter.now c.reach_name.new.self c.read_length.new.meter c.reach_name.ensures c.if-rva-eq0.false 1 4 read.books (omega arith) (omega arith)
     (Long c.in_ok-length.length) (omega arith) refl read.caused
 
@@ -57,7 +57,7 @@ pub returns-in_err-fetch-clause-reads : goal.returns-in_err-fetch-clause-reads
 returns-in_err-fetch-clause-reads g c =
     let bytes = c.in_ok-length.length in
     let fault = c.in_err-fetch.field-0.0 in
-    let first = c.in_ok-length.ensures in
+    let first = c.in_ok-length.ensures.reads in
     let then = c.in_err-fetch.ensures.reads in
     let few : bytes ≤ c.fetch.new.self.limit = omega (arith, c.if-limit-length.false, c.limit.ensures, c.fetch.ensures.limit) in
     let is : c.from_residual-in_err-fetch.result ≡ Err (fault_of_fetch fault) = search rules in
@@ -69,7 +69,7 @@ returns-in_err-fetch-clause-reads g c =
 pub returns-clause-reads : goal.returns-clause-reads
 returns-clause-reads g c =
     let bytes = c.in_ok-length.length in
-    let first = c.in_ok-length.ensures in
+    let first = c.in_ok-length.ensures.reads in
     let then = c.in_ok-fetch.ensures.reads in
     let few : bytes ≤ c.fetch.new.self.limit = omega (arith, c.if-limit-length.false, c.limit.ensures, c.fetch.ensures.limit) in
     name_obtained c.fetch.new.self.limit c.args.rva c.args.meter.now c.reach_name.new.self c.fetch.new.meter c.reach_name.ensures c.if-rva-eq0.false 2 (4 + bytes)

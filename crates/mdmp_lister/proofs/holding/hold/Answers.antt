@@ -1,7 +1,7 @@
 use Rattle.std.proofs.Common.{◌≡◌, ◌≤◌, ◌<◌, Err, arith, length, rules}
 use Rattle.mdmp_lister.proofs.Fetches.{IsCaused_none}
 use Rattle.mdmp_lister.proofs.Metering.{Books_none}
-use Rattle.mdmp_lister.proofs.Sliding.{comes_filled, comes_moved, enough_filled, held_front, needed_held, needed_lacking, slides_failed, slides_filled, slides_held}
+use Rattle.mdmp_lister.proofs.Sliding.{comes_filled, comes_moved, enough_filled, held_front, needed_held, needed_lacking, holds_failed, holds_filled, holds_held, slides_failed, slides_filled, slides_held}
 use Rattle.mdmp_lister.proofs.holding.hold.Goals as goal
 
 pub returns-in_err-fill-clause-reads : goal.returns-in_err-fill-clause-reads
@@ -66,3 +66,19 @@ pub returns-else-bytes-size-clause-slides : goal.returns-else-bytes-size-clause-
 returns-else-bytes-size-clause-slides g c =
     let enough : c.args.size ≤ length c.reach.new.window.held = omega (arith, (rw c.bytes.ensures at c.if-bytes-size.false)) in
     slides_held c.requires c.reach.ensures enough
+
+pub returns-in_err-fill-clause-tries : goal.returns-in_err-fill-clause-tries
+returns-in_err-fill-clause-tries g c =
+    let few : length c.reach.new.window.held < c.args.size = rw c.bytes.ensures at c.if-bytes-size.true in
+    let is : c.from_residual.result ≡ Err c.in_err-fill.field-0.0 = search rules in
+    rw is (holds_failed c.requires c.reach.ensures c.in_err-fill.field-0.0 c.fill.new.window c.args.meter.now c.fill.new.self few c.in_err-fill.ensures.tries)
+
+pub returns-in_ok-fill-clause-tries : goal.returns-in_ok-fill-clause-tries
+returns-in_ok-fill-clause-tries g c =
+    let few : length c.reach.new.window.held < c.args.size = rw c.bytes.ensures at c.if-bytes-size.true in
+    holds_filled c.requires c.reach.ensures c.fill.new.window c.args.meter.now c.fill.new.self few c.in_ok-fill.ensures.filled c.in_ok-fill.ensures.tries
+
+pub returns-else-bytes-size-clause-tries : goal.returns-else-bytes-size-clause-tries
+returns-else-bytes-size-clause-tries g c =
+    let enough : c.args.size ≤ length c.reach.new.window.held = omega (arith, (rw c.bytes.ensures at c.if-bytes-size.false)) in
+    holds_held c.requires c.reach.ensures c.args.meter.now enough

@@ -1,4 +1,4 @@
-use Rattle.std.proofs.Common.{◌≡◌, ◌≤◌, ◌+◌, ◌*◌, ◌∙◌, ap, arith, length, length-append, sym, take}
+use Rattle.std.proofs.Common.{◌≡◌, ◌≤◌, ◌+◌, ◌*◌, ◌∙◌, ℕ, Err, ap, arith, refl, rules, subst, length, length-append, sym, take}
 use Rattle.std.proofs.lemmas.List.{length-take-le}
 use Rattle.mdmp_source.specs.Range.{bytes_at}
 use Rattle.mdmp_source.specs.Window.{WindowState}
@@ -6,7 +6,8 @@ use Rattle.mdmp_wire.specs.declared.header.Header.{Header}
 use Rattle.mdmp_wire.specs.Entry.{entry_at}
 use Rattle.mdmp_wire.specs.Header.{header_at}
 use Rattle.mdmp_lister.specs.Format.Listing.{entry_of}
-use Rattle.mdmp_lister.proofs.Directory.{each-more, passes_more}
+use Rattle.mdmp_lister.proofs.Directory.{each-more, filling_more, filling_refused, passes_more}
+use Rattle.mdmp_lister.specs.NextFetch.{TriesDirectory}
 use Rattle.mdmp_lister.proofs.opening.read_directory.Goals as goal
 
 pub loop-number-preserved : goal.loop-number-preserved
@@ -16,7 +17,8 @@ loop-number-preserved g c =
     let here : c.from-first.result + 12 * c.from-in-loop-number.result ≡ c.from-first.result + 12 * c.loop-number.number = omega (arith, c.from-in-loop-number.ensures) in
     let wide : 12 ≤ c.loop-number.window.room = omega (arith, i.window, ap (λ (v : WindowState). v.room) c.start.ensures, c.requires.window) in
     record {
-      passes = passes_more i.passes here wide held.reads.books held.reads.caused held.comes held.slides;
+      passes = passes_more i.passes here wide held.reads.books held.reads.caused held.comes held.slides
+          (filling_more i.passes.filling (omega (arith, i.passes.place, here)) i.passes.end here c.loop-number-test.true c.hold.new.meter c.hold.new.window held.comes.room held.tries held.comes.place held.enough);
       window = rw held.comes.room i.window;
       capacity = rw c.push_reserved.ensures.capacity i.capacity;
       room = rw c.push_reserved.ensures.capacity i.room;
@@ -30,3 +32,14 @@ loop-number-preserved g c =
           let is = sym (c.first_of.ensures file at (rw all bytes)) ∙ ap (entry_at file) place in
           rw c.push_reserved.ensures.items (each-more (entry_of file) c.loop-number.entries.items _ (i.each file known same) is);
     }
+
+pub returns-in_err-hold-clause-tries : goal.returns-in_err-hold-clause-tries
+returns-in_err-hold-clause-tries g c =
+    let i = c.loop-number.invariant in
+    let here : c.from-first.result + 12 * c.from-in-loop-number.result ≡ c.from-first.result + 12 * c.loop-number.number = omega (arith, c.from-in-loop-number.ensures) in
+    let fault = c.in_err-hold.field-0.0 in
+    let is : c.from_residual.result ≡ Err fault = search rules in
+    let room : c.loop-number.window.room ≡ c.args.window.now.room = i.window ∙ ap (λ (v : WindowState). v.room) c.start.ensures in
+    let refused = filling_refused i.passes.filling (omega (arith, i.passes.place, here)) i.passes.end here c.loop-number-test.true c.hold.new.meter c.hold.new.window c.args.header fault (sym c.from-first.ensures) refl
+    c.in_err-hold.ensures.tries in
+    rw is (subst (λ (n : ℕ). TriesDirectory n c.args.header (Err fault) c.args.meter.now c.hold.new.meter) room refused)

@@ -1,4 +1,4 @@
-use Rattle.std.proofs.Common.{◌≡◌, ◌∙◌, ◌≤◌, ℕ, List, None, Ok, Err, ap, arith, inr, refl, rules, subst, vec_capacity}
+use Rattle.std.proofs.Common.{◌≡◌, ◌∙◌, ◌≤◌, ℕ, List, None, Some, Ok, Err, ap, arith, inr, refl, rules, subst, vec_capacity}
 use Rattle.std.proofs.lemmas.Bool.{le-ltb, lt-ltb}
 use Rattle.mdmp_source.specs.Source.{FetchesAtMost}
 use Rattle.mdmp_source.specs.SourceLaws.{fetches_then}
@@ -10,6 +10,7 @@ use Rattle.mdmp_lister.specs.StreamHead.{heads_ahead}
 use Rattle.mdmp_lister.proofs.Budgets.{over_fetched}
 use Rattle.mdmp_lister.proofs.Advancing.{IsCaused-counted, IsHandedBack-counted, KeepsToBudget-counted}
 use Rattle.mdmp_lister.proofs.Fetches.{not_unread, unread_caused}
+use Rattle.mdmp_lister.proofs.Openings.{heads-next, next-counted}
 use Rattle.mdmp_lister.proofs.Refusals.{IsHandedBack_bare, not_of_head, not_of_memory, open_refusal, refusal_of-directory, refusal_of_fetch-any, refusal_of_fetch-caused, refusal_of_fetch-long}
 use Rattle.mdmp_lister.proofs.lister.Lister.open.Goals as goal
 
@@ -26,6 +27,15 @@ returns-in-Err-count_ranges-clause-kept g c =
     rw (refused.made, c.from.ensures)
     (KeepsToBudget-counted c.args.source c.args.choice c.args.limits c.in-Ok.walk c.count_ranges.new.self (Err fault) c.in-Ok.ensures.new counts refused.booked refused.kept (refusal_of_fetch fault)
     (over_fetched 16 fault c.count_ranges.new.self.meter counts.refused))
+
+pub returns-in-Err-clause-next : goal.returns-in-Err-clause-next
+returns-in-Err-clause-next g c = next-counted c.args.limits c.args.source (Some c.args.choice) c.in-Err.refused.fault c.in-Err.refused.source c.in-Err.ensures.next
+
+pub returns-in-Err-count_ranges-clause-next : goal.returns-in-Err-count_ranges-clause-next
+returns-in-Err-count_ranges-clause-next g c =
+    let refused = c.refused.ensures in
+    rw (refused.made, c.from.ensures)
+    (heads-next c.args.source c.args.choice c.args.limits c.in-Ok.walk c.count_ranges.new.self c.in-Err-count_ranges.fault c.in-Ok.ensures.new c.in-Err-count_ranges.ensures refused.booked refused.kept)
 
 pub returns-then-count-gt-MOST_RANGES-clause-kept : goal.returns-then-count-gt-MOST_RANGES-clause-kept
 returns-then-count-gt-MOST_RANGES-clause-kept g c =

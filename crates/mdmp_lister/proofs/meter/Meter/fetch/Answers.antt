@@ -92,3 +92,6 @@ invariant_of-self-2 g c =
     let m = c.self.inside in
     let booked : IsBookedBy c.fetch.new.self c.saturating_add-self-inside-2.result c.saturating_add-self-inside-3.result m.aside m.start × IsMetered m.budget c.saturating_add-self-inside-2.result (raised c.saturating_add-self-inside-2.result m.refused) = search rules in
     booked
+
+pub returns-then-is_passed-clause-tries : goal.returns-then-is_passed-clause-tries
+returns-then-is_passed-clause-tries g c = rw (← c.self.view_is, c.over_budget.ensures) ((refl, refl), refl)

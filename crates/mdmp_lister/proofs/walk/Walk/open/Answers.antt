@@ -1,12 +1,14 @@
-use Rattle.std.proofs.Common.{◌≡◌, ◌+◌, ◌-◌, ◌*◌, ◌∙◌, None, ap, arith, refl, rules, sym}
+use Rattle.std.proofs.Common.{◌≡◌, ◌+◌, ◌-◌, ◌*◌, ◌∙◌, ℕ, None, Err, ap, arith, refl, rules, subst, sym}
 use Rattle.mdmp_lister.specs.Holding.{fills_of}
 use Rattle.mdmp_lister.specs.Meter.{Books}
 use Rattle.mdmp_wire.specs.declared.header.Header.{Header}
+use Rattle.mdmp_lister.specs.NextFetch.{TriesDirectory}
 use Rattle.mdmp_lister.specs.Opening.{refusal_of_fetch}
 use Rattle.mdmp_lister.proofs.Budgets.{header-kept, opening-begun, opening-over, opening-then, over_fetched}
 use Rattle.mdmp_lister.proofs.Fetches.{IsCaused_later}
 use Rattle.mdmp_lister.proofs.Directory.{directory_fills}
 use Rattle.mdmp_lister.proofs.Metering.{Books-then, Books-within}
+use Rattle.mdmp_lister.proofs.Openings.{directory-next, header-next, header_read}
 use Rattle.mdmp_lister.proofs.Refusals.{IsRefused-directory, IsRefused-header, IsRefused-memory, directory_room, header-long}
 use Rattle.mdmp_lister.proofs.walk.Walk.open.Goals as goal
 
@@ -80,6 +82,29 @@ returns-in-Err-read_directory-clause-kept g c =
     (rw c.new-meter.ensures at (directory_room c.in-Ok.header.stream_directory_rva n c.new-meter.result.source.size of.fits.inside))
     (λ file known. let same = ap (λ (h : Header). h.number_of_streams) (finds file known).1 in omega (arith, same)) (refusal_of_fetch read.fault) (over_fetched window.room read.fault c.read_directory.new.meter read.ensures.reads.refused))
 
+pub returns-in-Err-clause-next : goal.returns-in-Err-clause-next
+returns-in-Err-clause-next g c =
+    let of = c.in-Err.ensures in
+    rw c.refused.ensures.made (header-next c.args.limits c.args.source c.new-meter.result c.read_header.new.meter c.new-meter.ensures of.books c.refused.ensures.booked c.refused.ensures.kept c.in-Err.fault of.over of.tries)
+
+pub returns-in-Err-read_directory-clause-next : goal.returns-in-Err-read_directory-clause-next
+returns-in-Err-read_directory-clause-next g c =
+    let of = c.in-Ok.ensures in
+    let read = c.in-Err-read_directory in
+    let limits = c.args.limits in
+    let h = c.in-Ok.header in
+    let n = h.number_of_streams in
+    let window = c.in-Ok-with_room.window in
+    let began = opening-then limits c.args.source 0 1 32 c.new-meter.result c.read_header.new.meter (opening-begun limits c.args.source c.new-meter.result c.new-meter.ensures) of.books in
+    let is = opening-then limits c.args.source (0 + 32) _ (12 * n) c.read_header.new.meter c.read_directory.new.meter began read.ensures.reads.books in
+    let room : window.room ≡ limits.window = search rules in
+    let first : c.read_header.new.meter.fetched ≡ 32 = rw c.new-meter.ensures at of.tries in
+    let tried = subst (λ (k : ℕ). TriesDirectory k h (Err read.fault) c.read_header.new.meter c.read_directory.new.meter) room read.ensures.tries in
+    let header = rw c.new-meter.ensures at (header_read h c.new-meter.result.source c.read_header.new.meter.source of.fits of.finds) in
+    rw (c.refused-in-Err-read_directory.ensures.made, c.from.ensures)
+    (directory-next limits c.args.source (0 + 32 + 12 * n) window.room c.read_header.new.meter c.read_directory.new.meter h header (search rules) first is c.refused-in-Err-read_directory.ensures.booked
+    c.refused-in-Err-read_directory.ensures.kept read.fault read.ensures.reads.refused tried)
+
 pub returns-clause-new : goal.returns-clause-new
 returns-clause-new g c =
     let of = c.in-Ok.ensures in
@@ -100,6 +125,9 @@ returns-clause-new g c =
         calls = omega (arith, few, books.source_calls);
         steady = steady;
         asked = omega (arith, books.asked);
+        fetched =
+            let first : c.read_header.new.meter.fetched ≡ 32 = rw began at of.tries in
+            omega (arith, first, read.tries);
         called = rw read.kept (omega (arith, books.most_calls));
         names = books.same_names;
         aside = books.same_aside;

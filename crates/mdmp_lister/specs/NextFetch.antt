@@ -1,0 +1,86 @@
+-- Which fetch it is that a budget doesn't allow.
+use Rattle.std.specs.Prelude.{◌≡◌, ◌<◌, ◌+◌, ◌-◌, ◌*◌, ◌/◌, ℕ, zero, suc, List, Option, Some, None, Result, Ok, Err, IsTrue, min, take, slice_get}
+use Rattle.mdmp_source.specs.Count.{raised}
+use Rattle.mdmp_source.specs.Range.{IsInside}
+use Rattle.mdmp_source.specs.Source.{SourceState}
+use Rattle.mdmp_wire.specs.Header.{header_at}
+use Rattle.mdmp_wire.specs.HeaderFault.{header_fault_of}
+use Rattle.mdmp_wire.specs.declared.entry.Entry.{Entry}
+use Rattle.mdmp_wire.specs.declared.header.Header.{Header}
+use Rattle.mdmp_lister.specs.declared.choice.Choice.{Choice}
+use Rattle.mdmp_lister.specs.declared.fault.FetchFault.{FetchFault}
+use Rattle.mdmp_lister.specs.declared.fault.FetchFault.TheVariants as fetch
+use Rattle.mdmp_lister.specs.declared.fault.OpenFault.{OpenFault}
+use Rattle.mdmp_lister.specs.declared.fault.OpenFault.TheVariants.{Budget}
+use Rattle.mdmp_lister.specs.declared.limits.Limits.{Limits}
+use Rattle.mdmp_lister.specs.Format.Directory.{IsDirectory}
+use Rattle.mdmp_lister.specs.Format.Listing.{is_chosen}
+use Rattle.mdmp_lister.specs.Format.Refusal.{directory_refusal}
+use Rattle.mdmp_lister.specs.Meter.{KeepsTo, MeterState, is_passed}
+use Rattle.mdmp_lister.specs.StreamHead.{ahead_of, heads_ahead}
+
+-- ---- as a file is opened
+
+-- the header of a file was read: it has no fault, and the directory lies inside
+pub record IsHeaderRead (source : SourceState) (header : Header) : Type 0 where
+  pub checked : header_fault_of header ≡ None
+  pub inside : IsInside header.stream_directory_rva (12 * header.number_of_streams) source.size
+  pub of_file : (file : List ℕ) → source.store.content ≡ Some file → (directory_refusal file ≡ None) × (header ≡ header_at file 0)
+
+-- so many bytes of a long directory are fetched by the first fills of a window: the first takes all that the window has room
+-- for, and each further one as many as whole entries have room in it
+abbrev pub filled : (window fills : ℕ) → ℕ
+filled window zero = 0
+filled window (suc fills) = window + fills * (12 * (window / 12))
+
+-- these bytes of the directory come next, behind those of some fills: what is left, or what the window takes
+pub record IsDirectoryFetch (window : ℕ) (header : Header) (fetched offset size : ℕ) : Type 0 where
+  pub fills : ℕ
+  pub more : filled window fills < 12 * header.number_of_streams
+  -- the header and those fills were fetched
+  pub before : fetched ≡ 32 + filled window fills
+  pub offset_is : offset ≡ header.stream_directory_rva + filled window fills
+  pub size_is : size ≡ min (filled window (suc fills)) (12 * header.number_of_streams) - filled window fills
+
+-- the head of this memory list of the directory comes next, which is chosen, in a file of z bytes
+pub record IsHeadFetch (choice : Choice) (z : ℕ) (entries : List Entry) (before fetched offset size : ℕ) : Type 0 where
+  pub number : ℕ
+  pub entry : Entry
+  pub is : slice_get entries number ≡ Some entry
+  pub chosen : IsTrue (is_chosen choice entry.stream_type)
+  -- so many bytes were fetched before the heads, and then those of the chosen memory lists before it
+  pub behind : fetched ≡ before + heads_ahead choice z (take number entries)
+  pub offset_is : offset ≡ entry.location.rva
+  pub size_is : size ≡ ahead_of z entry
+
+-- the next fetch of an opening that has fetched so many bytes, where the ranges of the lists that this choice has are counted,
+-- or no ranges are
+pub data IsOpeningFetch (counted : Option Choice) (window : ℕ) (source : SourceState) (fetched offset size : ℕ) : Type 0 where
+  of_header : fetched ≡ 0 → offset ≡ 0 → size ≡ 32 → IsOpeningFetch counted window source fetched offset size
+  of_directory : (header : Header) → IsHeaderRead source header → IsDirectoryFetch window header fetched offset size → IsOpeningFetch counted window source fetched offset size
+  of_head : (header : Header) → IsHeaderRead source header → (entries : List Entry) → ((file : List ℕ) → source.store.content ≡ Some file → IsDirectory file entries)
+      → (choice : Choice) → counted ≡ Some choice → IsHeadFetch choice source.size entries (32 + 12 * header.number_of_streams) fetched offset size → IsOpeningFetch counted window source fetched offset size
+
+-- so many bytes were fetched, and with the next fetch they would be more than the budget
+pub record ComesToFetch (counted : Option Choice) (limits : Limits) (old : SourceState) (offset size : ℕ) (new : SourceState) : Type 0 where
+  pub fetched : ℕ
+  pub spent : new.fetched ≡ raised old.fetched fetched
+  pub kept : KeepsTo limits.budget fetched
+  pub passes : IsTrue (is_passed limits.budget (raised fetched size))
+  pub next : IsOpeningFetch counted limits.window old fetched offset size
+
+-- a refusal that tells the budget is of the next fetch
+abbrev pub TellsNextOpening : Option Choice → Limits → SourceState → OpenFault → SourceState → Type 0
+TellsNextOpening counted limits old (Budget offset size) new = ComesToFetch counted limits old offset size new
+TellsNextOpening counted limits old fault new = Unit {0}
+
+-- what the parts of an opening come to: the budget is told of the next fetch of the directory, or the whole of it was fetched
+abbrev pub TriesDirectory : ℕ → Header → Result (Unit {0}) FetchFault → MeterState → MeterState → Type 0
+TriesDirectory window header (Ok done) old new = new.fetched ≡ raised old.fetched (12 * header.number_of_streams)
+TriesDirectory window header (Err (fetch.Budget offset size)) old new = (taken : ℕ) × ((new.fetched ≡ raised old.fetched taken) × IsDirectoryFetch window header (32 + taken) offset size)
+TriesDirectory window header (Err (fetch.Source fault)) old new = Unit {0}
+
+-- and it is told of the next head
+abbrev pub TriesHeads : {T : Type 0} → Choice → ℕ → List Entry → Result T FetchFault → MeterState → MeterState → Type 0
+TriesHeads choice z entries (Err (fetch.Budget offset size)) old new = (taken : ℕ) × ((new.fetched ≡ raised old.fetched taken) × IsHeadFetch choice z entries 0 taken offset size)
+TriesHeads choice z entries answer old new = Unit {0}
