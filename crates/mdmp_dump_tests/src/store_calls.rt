@@ -7,6 +7,7 @@ use crate::viewed::view_fault_of;
 use mdmp_dump::{Dump, FileView, ReadAnswered, ReadFault, ViewRefused, read_dump, read_source};
 use mdmp_lister::{Choice, FaultKind, ListFault, OpenFault};
 use mdmp_source::{PatchyStore, Source, SourceFault, Store};
+use mdmp_test_support::thousand_entries_file;
 use std::alloc::Global;
 use std::process::Abort;
 
@@ -195,19 +196,20 @@ fn stopping<'a>(bytes: &'a [u8]) -> Source<PatchyStore<'a>> {
     Source::new(PatchyStore::new(bytes, &[1, 3, 0], None))
 }
 
-/// Asserts that this is why it gives neither a value nor a view.
-fn assert_stops(rt: &impl Abort, alloc: Global, sample: Sample<'_>, fault: ReadFault) {
-    let bytes = file_of(rt, alloc, sample);
-    let value = fault_of_source(alloc, stopping(&bytes), NAMED, 18);
+/// Asserts that this is why a file gives neither a value nor a view.
+fn assert_stops(rt: &impl Abort, alloc: Global, bytes: &[u8], fault: ReadFault) {
+    let value = fault_of_source(alloc, stopping(bytes), NAMED, 18);
     assert_same(rt, value, Some(fault));
-    let view = view_fault_of(alloc, stopping(&bytes), NAMED);
+    let view = view_fault_of(alloc, stopping(bytes), NAMED);
     assert_same(rt, view, Some(fault));
 }
 
 #[test]
 fn store_that_gives_nothing_is_told(rt: HostRuntime) {
-    // Of a directory of a thousand entries.
-    let thousand = Sample::Numbers(1000, &[0; 3000]);
-    let short = OpenFault::Source(SourceFault::ShortRead { at: 4 });
-    assert_stops(&rt, rt.alloc(), thousand, ReadFault::Opening(short));
+    // A directory of a thousand entries, which are unused, or name one list of threads.
+    let unused = file_of(&rt, rt.alloc(), Sample::Numbers(1000, &[0; 3000]));
+    let threads = thousand_entries_file(rt.alloc()).expect(&rt, "memory for a file");
+    let short = ReadFault::Opening(OpenFault::Source(SourceFault::ShortRead { at: 4 }));
+    assert_stops(&rt, rt.alloc(), &unused, short);
+    assert_stops(&rt, rt.alloc(), &threads, short);
 }
