@@ -3,13 +3,17 @@ ghost use Rattle.std.specs.Prelude.{◌≡◌};
 ghost use Rattle.mdmp_tool.specs.Faults.{exit_status};
 ghost use Rattle.mdmp_tool.specs.Telling.{listing_told, opening_told, reading_told, fault_as_told};
 
+use crate::fault_words::FaultWords;
 use mdmp_dump::ReadFault;
 use mdmp_lister::{FaultKind, ListFault, OpenFault};
 use mdmp_source::SourceFault;
 use mdmp_writer::LayoutFault;
+use thiserror::Error;
 
-/// Why a command ends early.
-#[derive(Clone, Copy, Debug, PartialEq, Eq)]
+/// Why a command ends early. As text it says what the line of [`fault_line`](crate::fault_line) says
+/// behind the program's name.
+#[derive(Clone, Copy, Debug, PartialEq, Eq, Error)]
+#[error("{}", FaultWords(*self))]
 pub enum ToolFault {
     /// The file can't be listed.
     Opening(OpenFault),

@@ -26,6 +26,7 @@ mod digits;
 mod engine;
 mod fault;
 mod fault_lines;
+mod fault_words;
 mod forms;
 mod hex;
 mod hex_lines;

@@ -15,7 +15,7 @@ const ROOM: usize = 256;
 /// The end of a line, as far as it is put together and not yet written: an output with room for
 /// [`ROOM`] bytes, which takes all bytes of a call or refuses them.
 #[derive(Drop)]
-struct Held {
+pub(crate) struct Held {
     text: ArrayVec<u8, ROOM>,
     failures: u128,
 }
@@ -23,13 +23,20 @@ struct Held {
 impl Held {
     ghost use Rattle.std.specs.Prelude.{[]};
 
-    fn new() -> Self
+    pub(crate) fn new() -> Self
         ensures { result.text.items ≡ [] }
     {
         Held {
             text: ArrayVec::new(),
             failures: 0,
         }
+    }
+
+    /// What was put together.
+    pub(crate) fn text(&self) -> &[u8]
+        ensures { result.now ≡ self.now.text.items }
+    {
+        self.text.as_slice()
     }
 }
 

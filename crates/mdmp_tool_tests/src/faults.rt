@@ -1,4 +1,5 @@
 //! What is said of faults.
+use crate::each_fault::assert_shown;
 use crate::runs::{BAD_NAME, bytes_in, out_of, start_of, text_of};
 use crate::same::{assert_same, assert_same_at};
 use mdmp_source::SourceFault;
@@ -68,17 +69,19 @@ fn assert_line_and_start(rt: &impl Abort, alloc: Global, fault: &ToolFault, line
     );
 }
 
-/// Asserts the status of a fault, and what is said of it behind the program's name.
+/// Asserts the status of a fault, what is said of it behind the program's name, and that it is shown so.
 fn assert_told(rt: &impl Abort, alloc: Global, fault: &ToolFault, code: u8, text: &str) {
     assert_same(rt, status(fault), code);
+    assert_shown(rt, alloc, fault);
     let line = format!(in alloc; "mdmp: {text}\n").expect(rt, "memory for a line");
     assert_line_and_start(rt, alloc, fault, line.as_str());
 }
 
 /// A fault, its status, and what is said of it.
-type FaultRow<'a> = (ToolFault, u8, &'a str);
+pub type FaultRow<'a> = (ToolFault, u8, &'a str);
 
-fn assert_each_told(rt: &impl Abort, alloc: Global, rows: &[FaultRow<'_>]) {
+/// Asserts it of each row.
+pub fn assert_each_told(rt: &impl Abort, alloc: Global, rows: &[FaultRow<'_>]) {
     for (fault, code, text) in rows {
         assert_told(rt, alloc, fault, *code, *text);
     }
@@ -126,7 +129,7 @@ const UNREAD: ListFault = ListFault {
     size: 5,
 };
 
-const ROWS: [FaultRow<'static>; 16] = [
+pub const ROWS: [FaultRow<'static>; 16] = [
     (
         ToolFault::Opening(OpenFault::TooShort { size: 0 }),
         1,
@@ -243,7 +246,7 @@ fn each_kind_of_fault_has_its_words(rt: HostRuntime) {
     assert_each_has_words(&rt, rt.alloc(), &rows);
 }
 
-const COPY_ROWS: [FaultRow<'static>; 6] = [
+pub const COPY_ROWS: [FaultRow<'static>; 6] = [
     (
         ToolFault::Reading(ReadFault::PartOutside {
             entry: 0,
@@ -330,7 +333,7 @@ fn each_part_has_its_word(rt: HostRuntime) {
 const ENDED: SourceFault = SourceFault::ShortRead { at: 7 };
 
 /// What is told of faults that `Reading` has inside.
-const INSIDE_ROWS: [FaultRow<'static>; 8] = [
+pub const INSIDE_ROWS: [FaultRow<'static>; 8] = [
     (
         ToolFault::Reading(ReadFault::PartsTooLarge { entry: 0, index: 0 }),
         1,

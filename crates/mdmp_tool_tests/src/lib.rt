@@ -15,6 +15,8 @@ mod copy;
 #[cfg(test)]
 mod copy_limits;
 #[cfg(test)]
+mod each_fault;
+#[cfg(test)]
 mod failing_outputs;
 #[cfg(test)]
 mod failing_stores;
