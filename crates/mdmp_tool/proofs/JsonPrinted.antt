@@ -22,7 +22,8 @@ use Rattle.mdmp_tool.specs.Forms.{dump_line_in}
 use Rattle.mdmp_tool.specs.Json.{object_line}
 use Rattle.mdmp_tool.specs.JsonLaws.{AreJsonLines, IsJsonLine, check_objects, item_objects, list_objects, objects_unless_refused, symbols_objects}
 use Rattle.mdmp_tool.specs.JsonLines.{dump_object, item_object, verdict_object}
-use Rattle.mdmp_tool.specs.Text.{inside_only, item_lines, list_text, symbols_of, symbols_text}
+use Rattle.mdmp_tool.specs.Symbols.{inside_only, symbols_of}
+use Rattle.mdmp_tool.specs.Text.{item_lines, list_text, symbols_text}
 use Rattle.mdmp_tool.specs.declared.list.ModuleSymbols.{ModuleSymbols}
 use Rattle.mdmp_tool.proofs.JsonListings.{HasSmallSymbols, IsPrinted, listing-printed, verdicts-lines}
 use Rattle.mdmp_tool.proofs.JsonObjects.{dump-line, pdb-line}

@@ -1,3 +1,4 @@
+pub mod Besides
 pub mod BlockLemmas
 pub mod BufferLemmas
 pub mod Bytewise

@@ -124,5 +124,5 @@ module _ (name last : ℕ) (start behind stop inner_old inner_new : OutState) (b
   pub printed_lent : (print : Print) (limits : Limits) (old : SourceState) (err_before : OutState) (status : ℕ) (new : SourceState) (err_after : OutState)
       → HasPrinted print limits old inner_old err_before status new inner_new err_after → HasPrinted print limits old start err_before status new stop err_after
   printed_lent (Check form) limits old err_before status new err_after ran = ran_lent (check_access limits) _ _ _ old err_before status new err_after (λ file. runs_lent name start stop _ file _ _ _) ran
-  printed_lent (Listing form pdb) limits old err_before status new err_after ran = ran_lent (list_access limits) _ _ _ old err_before status new err_after (λ file. runs_lent name start stop _ file _ _ _) ran
+  printed_lent (Listing form pdb) limits old err_before status new err_after ran = ran_lent (list_access pdb limits) _ _ _ old err_before status new err_after (λ file. runs_lent name start stop _ file _ _ _) ran
   printed_lent (Hex span) limits old err_before status new err_after ran = ran_lent (hex_access span.length limits) _ _ _ old err_before status new err_after (λ file. runs_lent name start stop _ file _ _ _) ran

@@ -11,7 +11,8 @@ use Rattle.mdmp_tool.specs.Forms.{item_line_in}
 use Rattle.mdmp_tool.specs.ItemLines.{name_text, item_line}
 use Rattle.mdmp_tool.specs.Json.{name_value, object_line}
 use Rattle.mdmp_tool.specs.JsonLines.{item_object}
-use Rattle.mdmp_tool.specs.Text.{item_lines, symbols_of}
+use Rattle.mdmp_tool.specs.Symbols.{symbols_of}
+use Rattle.mdmp_tool.specs.Text.{item_lines}
 use Rattle.mdmp_words.specs.declared.request.LineForm.{LineForm}
 use Rattle.mdmp_words.specs.declared.request.LineForm.TheVariants.{Text, Json}
 

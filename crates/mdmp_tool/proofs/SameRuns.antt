@@ -33,16 +33,19 @@ use Rattle.mdmp_tool.specs.Telling.{listing_told, opening_beside, told_by}
 -- ---- a lister that a command was given
 
 pub run_none : (v : ListerState) → IsSameRun v v
-run_none v = record { rooms = refl; limit = refl; start = refl; budget = refl }
+run_none v = record { header_is = refl; entries = refl; choice = refl; rooms = refl; limit = refl; start = refl; budget = refl }
 
 pub run_then : (u v w : ListerState) → IsSameRun u v → IsSameRun v w → IsSameRun u w
-run_then u v w p q = record { rooms = q.rooms ∙ p.rooms; limit = q.limit ∙ p.limit; start = q.start ∙ p.start; budget = q.budget ∙ p.budget }
+run_then u v w p q = record { header_is = q.header_is ∙ p.header_is; entries = q.entries ∙ p.entries; choice = q.choice ∙ p.choice; rooms = q.rooms ∙ p.rooms; limit = q.limit ∙ p.limit; start = q.start ∙ p.start; budget = q.budget ∙ p.budget }
 
 pub run_list : (u v w : ListerState) → IsSameRun u v → IsSameLister v w → IsSameRun u w
-run_list u v w p q = record { rooms = q.rooms ∙ p.rooms; limit = q.limit ∙ p.limit; start = q.start ∙ p.start; budget = q.budget ∙ p.budget }
+run_list u v w p q = record { header_is = q.header_is ∙ p.header_is; entries = q.entries ∙ p.entries; choice = q.choice ∙ p.choice; rooms = q.rooms ∙ p.rooms; limit = q.limit ∙ p.limit; start = q.start ∙ p.start; budget = q.budget ∙ p.budget }
 
 pub run_aside : {T : Type 0} {calls : ℕ} (n : ℕ) (result : Result T SourceFault) (v w : ListerState) → ReadsAside calls n result v w → IsSameRun v w
 run_aside n result v w q = record {
+  header_is = ap (λ (x : ListerState). x.header) q.same;
+  entries = ap (λ (x : ListerState). x.entries) q.same;
+  choice = ap (λ (x : ListerState). x.choice) q.same;
   rooms = ap (λ (x : ListerState). x.rooms) q.same;
   limit = ap (λ (x : ListerState). x.limit) q.same;
   start = q.aside.same_start;
@@ -105,11 +108,12 @@ listed_with : {T : Type 0} (access : Access) (old new : SourceState) (answer oth
     → HasBudgetCause other is.lister → HasAsideCause access.aside other is.lister → IsWithinMemory other → HasListed access old other new
 listed_with access old new answer other is over cause within = record {
   lister = is.lister;
-  window = is.window;
-  limit = is.limit;
+  opened = is.opened;
+  of_file = is.of_file;
   budget = is.budget;
   over = over;
   aside_kept = record { kept = is.aside_kept.kept; over = cause };
+  beside = is.beside;
   memory = is.memory;
   within = within;
   source = is.source;
@@ -144,7 +148,7 @@ reached T limits z most offset size c file_size budget same here refused = (
 module _ {T : Type 0} (access : Access) (old : SourceState) where
   pub may_reach : (answer : Result T ToolFault) (new : SourceState) → new.size ≡ old.size → IsReadThrough access old answer new → MayReachBudget access.limits old.size answer
   may_reach (Err (Budget offset size)) new same (IsReadThrough.listed is) =
-      reached T access.limits old.size _ offset size is.lister.counts is.lister.source.size is.budget (λ i. max (is.window i) (is.limit i)) (ap (λ (s : SourceState). s.size) is.source ∙ same) is.over
+      reached T access.limits old.size _ offset size is.lister.counts is.lister.source.size is.budget (λ i. max (is.opened.asked.window_room i) (is.opened.asked.limit_is i)) (ap (λ (s : SourceState). s.size) is.source ∙ same) is.over
   may_reach (Err (Budget offset size)) new same (IsReadThrough.refused asked early over memory most inside) =
       let of = over.over in (λ none. let never : IsTrue false = rw none at of.passes in cc never, (of.inside, of.most))
   may_reach answer new same through = tt
@@ -154,7 +158,7 @@ module _ {T : Type 0} (access : Access) (old : SourceState) where
   may_reach_aside (Err (AsideLimit offset size)) new same (IsReadThrough.listed is) =
       let cause = is.aside_kept.over in (
         λ none. let open_end : is_within access.aside (is.lister.counts.aside.bytes + size) ≡ true = rw none refl in cc,
-        (rw (ap (λ (s : SourceState). s.size) is.source ∙ same) at cause.1.0, rw is.limit at cause.1.1),
+        (rw (ap (λ (s : SourceState). s.size) is.source ∙ same) at cause.1.0, rw is.opened.asked.limit_is at cause.1.1),
       )
   may_reach_aside (Err (AsideLimit offset size)) new same (IsReadThrough.refused asked early over memory most inside) = absurd early
   may_reach_aside answer new same through = tt

@@ -35,7 +35,8 @@ use Rattle.mdmp_tool.specs.Engines.{EndsAtFault, IsBehind, Leaves, Pace, UnlessE
 use Rattle.mdmp_tool.specs.Forms.{item_line_in}
 use Rattle.mdmp_tool.specs.Runs.{IsBehindNext, ListsNext, PutsSymbols}
 use Rattle.mdmp_tool.specs.Telling.{listing_told, told_by}
-use Rattle.mdmp_tool.specs.Text.{inside_only, item_lines, next_lines, symbols_of, symbols_text}
+use Rattle.mdmp_tool.specs.Symbols.{inside_only, symbols_of}
+use Rattle.mdmp_tool.specs.Text.{item_lines, next_lines, symbols_text}
 use Rattle.mdmp_tool.specs.declared.list.ModuleSymbols.{ModuleSymbols}
 use Rattle.mdmp_words.specs.declared.request.LineForm.{LineForm}
 use Rattle.mdmp_tool.proofs.Checking.{told-cause}
@@ -71,7 +72,7 @@ symbols-inside pdb z e x classed = subst (IsTellable z) (symbols_of-plain pdb x)
 pub symbols_text-is : (form : LineForm) (F : List ℕ) (a b : ℕ) (s t : Option ModuleSymbols) → a ≡ b → s ≡ t → symbols_text form F a s ≡ symbols_text form F b t
 symbols_text-is form F a b s t limit symbols = rw (limit, symbols) refl
 
-first_then : (x : Item) (xs : List Item) → slice_get xs 0 ≡ Some x → take 1 xs ≡ x ∷ []
+pub first_then : (x : Item) (xs : List Item) → slice_get xs 0 ≡ Some x → take 1 xs ≡ x ∷ []
 first_then x [] none = absurd (cc)
 first_then x (y ∷ ys) first = let same : y ≡ x = cc in ap (λ (z : Item). z ∷ []) same
 

@@ -49,7 +49,7 @@ pub record HasRun {T : Type 0} (access : Access) (End : Result T ToolFault → �
 -- a command that prints, over a source and through blocks, within these limits
 abbrev pub HasPrinted : Print → Limits → SourceState → OutState → OutState → ℕ → SourceState → OutState → OutState → Type 0
 HasPrinted (Check form) limits = HasRun (check_access limits) IsCheckEnd (λ file. ChecksThrough form file limits.name) past_faults
-HasPrinted (Listing form pdb) limits = HasRun (list_access limits) IsEnd (λ file. ListsThrough form pdb file limits.name) up_to_a_fault
+HasPrinted (Listing form pdb) limits = HasRun (list_access pdb limits) IsEnd (λ file. ListsThrough form pdb file limits.name) up_to_a_fault
 HasPrinted (Hex span) limits = HasRun (hex_access span.length limits) IsEnd (λ file. HexesThrough file limits.name span.address span.length) at_the_end
 
 -- the streams of these types were copied, within these limits

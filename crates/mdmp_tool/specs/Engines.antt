@@ -1,5 +1,5 @@
 -- What every command over a listing promises, whatever it prints.
-use Rattle.std.specs.Prelude.{◌≡◌, ◌<◌, ◌≤◌, ◌+◌, ◌*◌, ◌⊎◌, ◌++◌, ℕ, List, [], Option, Some, None, Result, Ok, Err, true}
+use Rattle.std.specs.Prelude.{◌≡◌, ◌<◌, ◌≤◌, ◌+◌, ◌*◌, ◌⊎◌, ◌++◌, ℕ, Bool, List, [], Option, Some, None, Result, Ok, Err, true, false}
 use Rattle.mdmp_source.specs.Output.{HasRefused, OutState, PutsAll, PutsPrefix, TakesPrefix, refused_once}
 use Rattle.mdmp_source.specs.Source.{SourceState, FetchesAtMost, FetchesSome}
 use Rattle.mdmp_source.specs.Store.{StoreState, IsGood}
@@ -7,15 +7,17 @@ use Rattle.mdmp_lister.specs.declared.choice.Choice.{Choice}
 use Rattle.mdmp_lister.specs.declared.fault.OpenFault.{OpenFault}
 use Rattle.mdmp_lister.specs.declared.fault.OpenFault.TheVariants.{TooShort}
 use Rattle.mdmp_lister.specs.declared.limits.Limits.{Limits}
-use Rattle.mdmp_lister.specs.Counts.{AreHeld, AreSpent, numbers_of}
+use Rattle.mdmp_lister.specs.Counts.{AreHeld, AreOfFile, AreSpent, numbers_of}
 use Rattle.mdmp_lister.specs.declared.choice.Choice.TheVariants.{All}
 use Rattle.mdmp_lister.specs.Format.Listing.{listing, memory_lists}
 use Rattle.mdmp_lister.specs.Memory.{is_within}
-use Rattle.mdmp_lister.specs.Lister.{ListerState, room_held}
+use Rattle.mdmp_lister.specs.Format.Numbers.{range_count}
+use Rattle.mdmp_lister.specs.Lister.{HasReadDirectory, IsAskedFor, ListerState, room_held}
 use Rattle.mdmp_wire.specs.Header.{header_at}
-use Rattle.mdmp_lister.specs.Format.Refusal.{directory_refusal, opening_fault}
+use Rattle.mdmp_lister.specs.Format.Refusal.{directory_refusal, most_ranges, opening_fault}
 use Rattle.mdmp_tool.specs.declared.fault.ToolFault.{ToolFault}
 use Rattle.mdmp_tool.specs.declared.fault.ToolFault.TheVariants.{Opening, List as BadList, Source, Budget, Out, Memory, MemoryLimit, AsideLimit}
+use Rattle.mdmp_tool.specs.Symbols.{symbols_bytes}
 use Rattle.mdmp_tool.specs.Causes.{HasBudgetCause, HasOpeningBudget, HasOutCause, HasSourceCause, IsListTold, HasMemoryCause, IsNoSourceFault, IsRefusal, IsWithinMemory, KeepsAside, MayChange}
 
 -- ---- what is written, by the class of the answer
@@ -181,42 +183,69 @@ pub record ReadsSource {T : Type 0} (old : SourceState) (answer : Result T ToolF
 
 -- ---- through which window
 
--- what a command leaves as it was of the lister that it is given: the room that it took, its budget, and what its source's own
--- counts were as it was opened
+-- what a command leaves as it was of the lister that it is given: the header and the directory that it read, the room that it
+-- took, its budget, and what its source's own counts were as it was opened
 pub record IsSameRun (old new : ListerState) : Type 0 where
+  pub header_is : new.header ≡ old.header
+  pub entries : new.entries ≡ old.entries
+  pub choice : new.choice ≡ old.choice
   pub rooms : new.rooms ≡ old.rooms
   pub limit : new.limit ≡ old.limit
   pub start : new.counts.start ≡ old.counts.start
   pub budget : new.counts.budget ≡ old.counts.budget
 
--- how a command reads a file: within which limits and of which streams, how many bytes it holds beside its lister, and how many of
--- CodeView records it may read, if there is such a limit
+-- what a command reads of a file beside its listing: at most so many bytes, or the CodeView records of the modules that it lists
+pub data Beside : Type 0 where
+  at_most : ℕ → Beside
+  symbols : Beside
+
+-- a lister has read no more than that beside its listing; how many records there are is known if the file is
+abbrev pub KeepsBeside : Beside → ListerState → Type 0
+KeepsBeside (at_most n) v = v.counts.aside.bytes ≤ n
+KeepsBeside symbols v = (file : List ℕ) → v.source.store.content ≡ Some file → v.counts.aside.bytes ≤ symbols_bytes true v.limit (listing file v.choice v.limit).items
+
+-- a list reads these records if they are told
+abbrev pub list_beside : Bool → Beside
+list_beside true = symbols
+list_beside false = at_most 0
+
+-- how a command reads a file: within which limits and of which streams, how many bytes it holds beside its lister, how many of
+-- CodeView records it may read, if there is such a limit, and what it reads beside the listing
 pub record Access : Type 0 where
   pub limits : Limits
   pub choice : Choice
   pub held : ℕ
   pub aside : Option ℕ
+  pub beside : Beside
 
--- that of `check`, of `list`, and of `hex`, which holds two bytes for each address
+-- that of `check`, of `list`, and of `hex`, which holds two bytes for each address, and reads one
 abbrev pub check_access : Limits → Access
-check_access limits = record { limits = limits; choice = All; held = 0; aside = None }
+check_access limits = record { limits = limits; choice = All; held = 0; aside = None; beside = at_most 0 }
 
-abbrev pub list_access : Limits → Access
-list_access limits = record { limits = limits; choice = All; held = 0; aside = limits.aside }
+abbrev pub list_access : Bool → Limits → Access
+list_access pdb limits = record { limits = limits; choice = All; held = 0; aside = limits.aside; beside = list_beside pdb }
 
 abbrev pub hex_access : ℕ → Limits → Access
-hex_access length limits = record { limits = limits; choice = memory_lists; held = 2 * length; aside = None }
+hex_access length limits = record { limits = limits; choice = memory_lists; held = 2 * length; aside = None; beside = at_most length }
 
--- a file was listed through the window that was asked for, with names up to that limit and within the other limits: what such a
--- lister holds, and all that its source counted since it was opened, is within the bounds that its numbers tell, beside what
--- it read aside
+-- a lister was opened over this source, with the window that was asked for, names up to that limit and that choice of streams: of a
+-- known file its header and directory are the file's, and it has room for as many ranges as the chosen memory lists count
+pub record IsListerOf (access : Access) (old : SourceState) (lister : ListerState) : Type 0 where
+  pub asked : IsAskedFor access.choice access.limits lister
+  pub read : HasReadDirectory old lister
+  pub range_room : (file : List ℕ) → old.store.content ≡ Some file → lister.rooms.ranges ≡ range_count file access.choice
+  pub few_ranges : lister.rooms.ranges ≤ most_ranges
+
+-- a file was listed by such a lister, within the other limits: what the lister holds, and all that its source counted since it was
+-- opened, is within the bounds that its numbers tell, beside what it read aside, which is no more than the command needs
 pub record HasListed {T : Type 0} (access : Access) (old : SourceState) (answer : Result T ToolFault) (new : SourceState) : Type 0 where
   pub lister : ListerState
-  pub window : lister.rooms.window ≡ access.limits.window
-  pub limit : lister.limit ≡ access.limits.name
+  pub opened : IsListerOf access old lister
+  pub of_file : (file : List ℕ) → old.store.content ≡ Some file → AreOfFile file access.choice (numbers_of lister)
   pub budget : lister.counts.budget ≡ access.limits.budget
   pub over : HasBudgetCause answer lister
   pub aside_kept : KeepsAside access.aside answer lister
+  pub beside : KeepsBeside access.beside lister
   -- what it has room for, and what the command holds beside it, is within the limit of memory, which it does not end by
   pub memory : is_within access.limits.memory (room_held lister + access.held) ≡ true
   pub within : IsWithinMemory answer
@@ -237,6 +266,20 @@ pub data IsReadThrough {T : Type 0} (access : Access) (old : SourceState) (answe
   listed : HasListed access old answer new → IsReadThrough access old answer new
   refused : (asked : ℕ) → IsEarly answer → HasOpeningBudget access.limits old answer new → HasMemoryCause access.limits access.choice access.held old answer
       → FetchesAtMost (32 + 28 * asked) old new → 12 * asked ≤ old.size → IsReadThrough access old answer new
+
+-- ---- where the source is gone
+
+-- a source over a store that has fetched nothing
+abbrev pub source_over : StoreState → SourceState
+source_over store = record { store = store; size = store.size; fetched = 0; calls = 0; fault = None }
+
+-- a store was read by such a source, which is gone: it was left so, as one that is handed back
+pub record ReadsStore {T : Type 0} (access : Access) (store : StoreState) (answer : Result T ToolFault) : Type 0 where
+  pub gone : SourceState
+  pub reads : ReadsSource (source_over store) answer gone
+  pub through : IsReadThrough access (source_over store) answer gone
+
+-- ---- behind the opening
 
 -- what ends the part of a command behind the opening, over a file of `size` bytes: no fault of the opening, and of the listing
 -- only the file's own, if its pace lets one end it; where nothing was written the output is untouched, which is ⊥ where some

@@ -15,7 +15,7 @@ use Rattle.mdmp_lister.specs.Format.Listing.{listing, verdicts}
 use Rattle.mdmp_lister.specs.Format.Refusal.{opening_fault}
 use Rattle.mdmp_tool.specs.Json.{object_line}
 use Rattle.mdmp_tool.specs.JsonLines.{dump_object, item_object, pdb_object, verdict_object}
-use Rattle.mdmp_tool.specs.Text.{symbols_of}
+use Rattle.mdmp_tool.specs.Symbols.{symbols_of}
 use Rattle.mdmp_tool.specs.declared.list.ModuleSymbols.{ModuleSymbols}
 
 -- the grammar of JSON (specs/Json.antt of the crate json) reads the text of these tokens as an object, which has these tokens

@@ -22,6 +22,7 @@ pub mod Pieces
 pub mod Program
 pub mod Runs
 pub mod Standing
+pub mod Symbols
 pub mod Telling
 pub mod Text
 pub mod VerdictLines

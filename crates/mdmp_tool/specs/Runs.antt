@@ -1,5 +1,5 @@
 -- What a run of `list` answers, and what it leaves written.
-use Rattle.std.specs.Prelude.{◌≡◌, ◌<◌, ◌++◌, ℕ, Bool, true, false, List, None, Some, Result, Ok, Err, length}
+use Rattle.std.specs.Prelude.{◌≡◌, ◌<◌, ◌≤◌, ◌+◌, ◌++◌, ℕ, Bool, true, false, List, None, Some, Result, Ok, Err, length, take}
 use Rattle.std.specs.Option.{option_map}
 use Rattle.mdmp_source.specs.Output.{OutState, PutsAll, PutsPrefix}
 use Rattle.mdmp_lister.specs.declared.choice.Choice.TheVariants.{All}
@@ -11,6 +11,7 @@ use Rattle.mdmp_wire.specs.declared.header.Header.{Header}
 use Rattle.mdmp_tool.specs.Engines.{Runs, RunsThrough, StopsShort, WritesText, up_to_a_fault}
 use Rattle.mdmp_tool.specs.Forms.{dump_line_in}
 use Rattle.mdmp_words.specs.declared.request.LineForm.{LineForm}
+use Rattle.mdmp_tool.specs.Symbols.{symbols_bytes}
 use Rattle.mdmp_tool.specs.Text.{run_text, list_text, next_lines}
 
 -- what may end the printing of a run: its fault, or none; the store's, the budget's or the output's
@@ -59,6 +60,17 @@ pub record IsBehindNext (old new : ListerState) : Type 0 where
   pub left : new.left ≡ option_map tail old.left
   pub going : new.stop ≡ None
   pub falls : new.work < old.work
+
+-- what giving the next item reads beside the listing: its CodeView record, if such are told
+pub record ReadsNext (pdb : Bool) (old new : ListerState) : Type 0 where
+  pub most : new.counts.aside.bytes ≤ old.counts.aside.bytes + (24 + old.limit)
+  pub none : pdb ≡ false → new.counts.aside.bytes ≤ old.counts.aside.bytes
+  pub known : (left : Run) → old.left ≡ Some left → new.counts.aside.bytes ≤ old.counts.aside.bytes + symbols_bytes pdb old.limit (take 1 left.items)
+
+-- and giving all that is left
+pub record ReadsLeft (pdb : Bool) (old new : ListerState) : Type 0 where
+  pub none : pdb ≡ false → new.counts.aside.bytes ≤ old.counts.aside.bytes
+  pub known : (left : Run) → old.left ≡ Some left → new.counts.aside.bytes ≤ old.counts.aside.bytes + symbols_bytes pdb old.limit left.items
 
 -- a run of `list` over F, of which the text is printed while it is read: with `pdb` the CodeView records of modules are told
 abbrev pub Lists : LineForm → Bool → List ℕ → ℕ → OutState → Result (Unit {0}) ToolFault → OutState → Type 0

@@ -1,29 +1,17 @@
 -- What `list` prints.
-use Rattle.std.specs.Prelude.{ℕ, List, [], ◌++◌, Bool, true, Option, Some, None, take}
+use Rattle.std.specs.Prelude.{ℕ, List, [], ◌++◌, Bool, Option, Some, None, take}
 use Rattle.std.specs.List.{flat_map}
-use Rattle.mdmp_source.specs.declared.location.Extent.{Extent}
-use Rattle.mdmp_source.specs.declared.location.Extent.TheVariants.{Inside}
 use Rattle.mdmp_wire.specs.CodeView.{codeview_of}
 use Rattle.mdmp_wire.specs.Header.{header_at}
 use Rattle.mdmp_lister.specs.declared.choice.Choice.TheVariants.{All}
 use Rattle.mdmp_lister.specs.declared.item.Item.{Item}
-use Rattle.mdmp_lister.specs.declared.item.Item.TheVariants as items
 use Rattle.mdmp_lister.specs.Format.Listing.{Run, listing}
 use Rattle.mdmp_lister.specs.Format.Refusal.{opening_fault}
 use Rattle.mdmp_tool.specs.Engines.{unless_refused}
 use Rattle.mdmp_tool.specs.Forms.{dump_line_in, item_line_in, pdb_line_in}
+use Rattle.mdmp_tool.specs.Symbols.{symbols_of}
 use Rattle.mdmp_tool.specs.declared.list.ModuleSymbols.{ModuleSymbols}
 use Rattle.mdmp_words.specs.declared.request.LineForm.{LineForm}
-
--- symbols whose record is of this class, if that is inside the file
-abbrev pub inside_only : Extent → ModuleSymbols → Option ModuleSymbols
-inside_only Inside symbols = Some symbols
-inside_only class symbols = None
-
--- where the CodeView record of an item stands that is told: a module's, if it lies inside the file and such are asked for
-abbrev pub symbols_of : Bool → Item → Option ModuleSymbols
-symbols_of true (items.Module m) = inside_only m.codeview (record { place = record { entry = m.entry; index = m.index }; location = m.fields.cv_record })
-symbols_of pdb item = None
 
 -- the line of a CodeView record of F, of whose name at most `limit` bytes are fetched
 abbrev pub symbols_text : LineForm → List ℕ → ℕ → Option ModuleSymbols → List ℕ

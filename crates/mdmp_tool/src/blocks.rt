@@ -52,7 +52,7 @@ pub fn list_in_blocks<S: Store + Drop, A: Allocator + Copy, O: Out, B: Allocator
     ensures flushed { IsFlushed result.answer blocks.new.pending }
     ensures tells { Tells in_blocks up_to_a_fault source.store source.size blocks.old.inner result.answer blocks.new.inner }
     ensures reads { ReadsSource source result.answer result.source }
-    ensures through { IsReadThrough (list_access limits) source result.answer result.source }
+    ensures through { IsReadThrough (list_access pdb limits) source result.answer result.source }
 {
     let aside = limits.aside;
     run_in_blocks(

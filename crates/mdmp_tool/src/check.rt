@@ -1,11 +1,11 @@
 //! The command `check`.
-ghost use Rattle.std.specs.Prelude.{◌≡◌, ℕ, List, None, Some};
+ghost use Rattle.std.specs.Prelude.{◌≡◌, ◌≤◌, ℕ, List, None, Some};
 ghost use Rattle.mdmp_lister.specs.declared.choice.Choice.TheVariants.{All};
 ghost use Rattle.mdmp_lister.specs.Format.Listing.{verdicts};
 ghost use Rattle.mdmp_tool.specs.CheckRuns.{CheckEnds, Checks};
 ghost use Rattle.mdmp_tool.specs.CheckText.{verdict_lines};
 ghost use Rattle.mdmp_tool.specs.Causes.{HasBudgetCause, KeepsAside, MayReachAside, MayReachBudget, MayReachMemory};
-ghost use Rattle.mdmp_tool.specs.Engines.{IsOpened, IsSameRun, IsReadThrough, Leaves, ReadsSource, Tells, WritesText, directly, past_faults, check_access};
+ghost use Rattle.mdmp_tool.specs.Engines.{IsOpened, IsSameRun, IsReadThrough, Leaves, ReadsSource, ReadsStore, Tells, WritesText, directly, past_faults, check_access};
 
 use crate::engine::{Engine, RunAnswered, run, run_source};
 use crate::fault::{ToolFault, told_list};
@@ -33,6 +33,7 @@ pub fn run_check<S: Store + Drop, A: Allocator + Copy, O: Out>(
     ensures budget { MayReachBudget limits (S.state store).size result }
     ensures memory { MayReachMemory limits result }
     ensures aside { MayReachAside None limits (S.state store).size result }
+    ensures read { ReadsStore (check_access limits) (S.state store) result }
 {
     run(CheckEngine { form }, alloc, store, limits, out)
 }
@@ -65,7 +66,7 @@ impl Engine for CheckEngine {
     ghost use Rattle.mdmp_lister.specs.Format.Listing.{verdicts};
     ghost use Rattle.mdmp_tool.specs.CheckRuns.{CheckEnds};
     ghost use Rattle.mdmp_tool.specs.CheckText.{verdict_lines};
-    ghost use Rattle.mdmp_tool.specs.Engines.{past_faults};
+    ghost use Rattle.mdmp_tool.specs.Engines.{at_most, past_faults};
 
     type Answer = u64;
 
@@ -78,6 +79,8 @@ impl Engine for CheckEngine {
     ghost aside = { λ _. None };
 
     ghost held = { λ _. 0 };
+
+    ghost reads = { λ _. at_most 0 };
 
     ghost Ends = { λ _ file limit. CheckEnds file limit };
 
@@ -122,6 +125,7 @@ fn check_listed<S: Store + Drop, A: Allocator + Copy, O: Out>(
     ensures same { IsSameRun lister.old lister.new }
     ensures over { HasBudgetCause result lister.new }
     ensures aside { KeepsAside None result lister.new }
+    ensures beside { lister.new.counts.aside.bytes ≤ lister.old.counts.aside.bytes }
 {
     // The prover needs that a directory has fewer than 2^32 entries: so the count is never at its greatest.
     let _entries = lister.header().number_of_streams;

@@ -4,7 +4,7 @@ ghost use Rattle.mdmp_source.specs.Blocks.{MovesFront};
 ghost use Rattle.mdmp_lister.specs.Format.Refusal.{opening_fault};
 ghost use Rattle.mdmp_tool.specs.Causes.{MayReachAside, MayReachBudget, MayReachMemory};
 ghost use Rattle.mdmp_tool.specs.Telling.{opening_beside};
-ghost use Rattle.mdmp_tool.specs.Engines.{EndsFlushed, IsFlushed, IsReadThrough, ReadsSource, Runs, RunsThrough, Tells, directly, in_blocks, unless_refused};
+ghost use Rattle.mdmp_tool.specs.Engines.{EndsFlushed, IsFlushed, IsReadThrough, ReadsSource, ReadsStore, Runs, RunsThrough, Tells, directly, in_blocks, unless_refused};
 
 use crate::fault::{ToolFault, told_opening};
 use mdmp_lister::{Choice, Limits, Lister, OpenFault};
@@ -26,7 +26,7 @@ pub(crate) trait Engine: Copy {
     ghost use Rattle.mdmp_lister.specs.declared.choice.Choice.{Choice};
     ghost use Rattle.mdmp_tool.specs.declared.fault.ToolFault.{ToolFault};
     ghost use Rattle.mdmp_tool.specs.Causes.{HasBudgetCause, IsWithinMemory, KeepsAside};
-    ghost use Rattle.mdmp_tool.specs.Engines.{IsOpened, IsSameRun, Leaves, Pace, WritesText};
+    ghost use Rattle.mdmp_tool.specs.Engines.{Beside, IsOpened, IsSameRun, KeepsBeside, Leaves, Pace, WritesText};
 
     /// What it answers where all was printed.
     type Answer: Copy;
@@ -48,6 +48,9 @@ pub(crate) trait Engine: Copy {
 
     // How many bytes it holds beside its lister.
     ghost held: { Self → ℕ };
+
+    // What it reads beside the listing.
+    ghost reads: { Self → Beside };
 
     // All that it prints of such a file.
     ghost text: { Self → List ℕ → ℕ → List ℕ };
@@ -76,6 +79,7 @@ pub(crate) trait Engine: Copy {
         ensures same { IsSameRun lister.old lister.new }
         ensures over { HasBudgetCause result lister.new }
         ensures aside { KeepsAside (aside self.now) result lister.new }
+        ensures beside { KeepsBeside (reads self.now) lister.new }
         ensures within { IsWithinMemory result };
 }
 
@@ -95,6 +99,7 @@ pub(crate) fn run<E: Engine, S: Store + Drop, A: Allocator + Copy, O: Out>(
     ensures budget { MayReachBudget limits (S.state store).size result }
     ensures memory { MayReachMemory limits result }
     ensures aside { MayReachAside (E.aside engine) limits (S.state store).size result }
+    ensures read { ReadsStore (record { limits = limits; choice = E.choice; held = E.held engine; aside = E.aside engine; beside = E.reads engine }) (S.state store) result }
 {
     let RunAnswered { answer, source: _ } = run_source(
         engine,
@@ -122,7 +127,7 @@ pub(crate) fn run_source<E: Engine, S: Store + Drop, A: Allocator + Copy, O: Out
         (O.state out.old) result.answer (O.state out.new) }
     ensures tells { Tells directly E.pace source.store source.size (O.state out.old) result.answer (O.state out.new) }
     ensures reads { ReadsSource source result.answer result.source }
-    ensures through { IsReadThrough (record { limits = limits; choice = E.choice; held = E.held engine; aside = E.aside engine }) source result.answer result.source }
+    ensures through { IsReadThrough (record { limits = limits; choice = E.choice; held = E.held engine; aside = E.aside engine; beside = E.reads engine }) source result.answer result.source }
 {
     let beside = engine.beside();
     // The proof learns here that the size has 64 bits.
@@ -178,7 +183,7 @@ pub(crate) fn run_in_blocks<E: Engine, S: Store + Drop, A: Allocator + Copy, O: 
     ensures flushed { IsFlushed result.answer blocks.new.pending }
     ensures tells { Tells in_blocks E.pace source.store source.size blocks.old.inner result.answer blocks.new.inner }
     ensures reads { ReadsSource source result.answer result.source }
-    ensures through { IsReadThrough (record { limits = limits; choice = E.choice; held = E.held engine; aside = E.aside engine }) source result.answer result.source }
+    ensures through { IsReadThrough (record { limits = limits; choice = E.choice; held = E.held engine; aside = E.aside engine; beside = E.reads engine }) source result.answer result.source }
 {
     let answered = run_source(engine, alloc, source, limits, blocks);
     flushed(answered, blocks)

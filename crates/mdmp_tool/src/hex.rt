@@ -3,7 +3,7 @@ ghost use Rattle.std.specs.Prelude.{◌≡◌, ◌≤◌, ◌<◌, ◌+◌, ℕ,
 ghost use Rattle.mdmp_map.specs.Ranges.{address_end};
 ghost use Rattle.mdmp_lister.specs.Format.Listing.{Run};
 ghost use Rattle.mdmp_tool.specs.Causes.{HasBudgetCause, KeepsAside, MayReachAside, MayReachBudget, MayReachMemory};
-ghost use Rattle.mdmp_tool.specs.Engines.{IsSameRun, IsReadThrough, Leaves, ReadsSource, Tells, at_the_end, directly, hex_access};
+ghost use Rattle.mdmp_tool.specs.Engines.{IsSameRun, IsReadThrough, Leaves, ReadsSource, ReadsStore, Tells, at_the_end, directly, hex_access};
 ghost use Rattle.mdmp_tool.specs.HexRuns.{Hexes, HexesMemory, HexesRun};
 ghost use Rattle.mdmp_words.specs.NumberWords.{length_limit};
 
@@ -35,6 +35,7 @@ pub fn run_hex<S: Store + Drop, A: Allocator + Copy, O: Out>(
     ensures budget { MayReachBudget limits (S.state store).size result }
     ensures memory { MayReachMemory limits result }
     ensures aside { MayReachAside None limits (S.state store).size result }
+    ensures read { ReadsStore (hex_access length limits) (S.state store) result }
 {
     run(HexEngine { address, length }, alloc, store, limits, out)
 }
@@ -69,7 +70,7 @@ impl Engine for HexEngine {
     ghost use Rattle.std.specs.Prelude.{◌≤◌, ◌+◌, ◌*◌};
     ghost use Rattle.mdmp_map.specs.Ranges.{address_end};
     ghost use Rattle.mdmp_lister.specs.Format.Listing.{listing, memory_lists};
-    ghost use Rattle.mdmp_tool.specs.Engines.{at_the_end};
+    ghost use Rattle.mdmp_tool.specs.Engines.{at_most, at_the_end};
     ghost use Rattle.mdmp_tool.specs.HexRuns.{HexEnds, run_hex_text};
 
     type Answer = ();
@@ -83,6 +84,8 @@ impl Engine for HexEngine {
     ghost aside = { λ _. None };
 
     ghost held = { λ hex. 2 * hex.length };
+
+    ghost reads = { λ hex. at_most hex.length };
 
     ghost Ends = { λ _ file limit. HexEnds (listing file memory_lists limit) };
 
@@ -123,6 +126,7 @@ fn hex_listed<S: Store + Drop, A: Allocator + Copy, O: Out>(
     ensures same { IsSameRun lister.old lister.new }
     ensures over { HasBudgetCause result lister.new }
     ensures aside { KeepsAside None result lister.new }
+    ensures beside { lister.new.counts.aside.bytes ≤ lister.old.counts.aside.bytes + length }
 {
     match lister.list_ranges() {
         Ok(()) => {}
@@ -153,6 +157,7 @@ fn put_memory<S: Store + Drop, A: Allocator + Copy, O: Out>(
     ensures same { IsSameRun lister.old lister.new }
     ensures over { HasBudgetCause result lister.new }
     ensures aside { KeepsAside None result lister.new }
+    ensures beside { lister.new.counts.aside.bytes ≤ lister.old.counts.aside.bytes + length bytes.new }
 {
     match lister.read_address(address, bytes, known) {
         Ok(()) => {}

@@ -1,12 +1,13 @@
 //! The command `list`.
-ghost use Rattle.std.specs.Prelude.{◌≡◌, ◌+◌, ℕ, List, MatchOption, None, Some, Ok, false, true, IfSome};
+ghost use Rattle.std.specs.Prelude.{◌≡◌, ◌≤◌, ◌+◌, ℕ, List, MatchOption, None, Some, Ok, false, true, IfSome};
 ghost use Rattle.mdmp_source.specs.Range.{IsInside};
 ghost use Rattle.mdmp_lister.specs.Format.Listing.{Run};
 ghost use Rattle.mdmp_lister.specs.Memory.{is_within};
 ghost use Rattle.mdmp_tool.specs.Causes.{HasBudgetCause, KeepsAside, MayReachAside, MayReachBudget, MayReachMemory, symbols_cost};
-ghost use Rattle.mdmp_tool.specs.Engines.{IsSameRun, IsReadThrough, Leaves, ReadsSource, Tells, directly, up_to_a_fault, list_access};
-ghost use Rattle.mdmp_tool.specs.Runs.{IsBehindNext, Lists, ListsFile, ListsNext, ListsRun, PutsSymbols};
-ghost use Rattle.mdmp_tool.specs.Text.{symbols_of, symbols_text};
+ghost use Rattle.mdmp_tool.specs.Engines.{IsSameRun, IsReadThrough, Leaves, ReadsSource, ReadsStore, Tells, directly, up_to_a_fault, list_access};
+ghost use Rattle.mdmp_tool.specs.Runs.{IsBehindNext, Lists, ListsFile, ListsNext, ListsRun, PutsSymbols, ReadsLeft, ReadsNext};
+ghost use Rattle.mdmp_tool.specs.Symbols.{symbols_of, symbols_read};
+ghost use Rattle.mdmp_tool.specs.Text.{symbols_text};
 
 use crate::engine::{Engine, RunAnswered, run, run_source};
 use crate::fault::{ToolFault, told_list};
@@ -38,6 +39,7 @@ pub fn run_list<S: Store + Drop, A: Allocator + Copy, O: Out>(
     ensures budget { MayReachBudget limits (S.state store).size result }
     ensures memory { MayReachMemory limits result }
     ensures aside { MayReachAside limits.aside limits (S.state store).size result }
+    ensures read { ReadsStore (list_access pdb limits) (S.state store) result }
 {
     let aside = limits.aside;
     run(ListEngine { form, pdb, aside }, alloc, store, limits, out)
@@ -55,7 +57,7 @@ pub fn list_source<S: Store + Drop, A: Allocator + Copy, O: Out>(
     ensures lists { (file : List ℕ) → source.store.content ≡ Some file → Lists form pdb file limits.name (O.state out.old) result.answer (O.state out.new) }
     ensures tells { Tells directly up_to_a_fault source.store source.size (O.state out.old) result.answer (O.state out.new) }
     ensures reads { ReadsSource source result.answer result.source }
-    ensures through { IsReadThrough (list_access limits) source result.answer result.source }
+    ensures through { IsReadThrough (list_access pdb limits) source result.answer result.source }
 {
     let aside = limits.aside;
     run_source(ListEngine { form, pdb, aside }, alloc, source, limits, out)
@@ -77,7 +79,7 @@ impl Engine for ListEngine {
     ghost use Rattle.mdmp_wire.specs.Header.{header_at};
     ghost use Rattle.mdmp_lister.specs.declared.choice.Choice.TheVariants.{All};
     ghost use Rattle.mdmp_lister.specs.Format.Listing.{listing};
-    ghost use Rattle.mdmp_tool.specs.Engines.{up_to_a_fault};
+    ghost use Rattle.mdmp_tool.specs.Engines.{list_beside, up_to_a_fault};
     ghost use Rattle.mdmp_tool.specs.Forms.{dump_line_in};
     ghost use Rattle.mdmp_tool.specs.Runs.{ListEnds};
     ghost use Rattle.mdmp_tool.specs.Text.{run_text};
@@ -93,6 +95,8 @@ impl Engine for ListEngine {
     ghost aside = { λ e. e.aside };
 
     ghost held = { λ _. 0 };
+
+    ghost reads = { λ e. list_beside e.pdb };
 
     ghost Ends = { λ _ file limit. ListEnds (listing file All limit) };
 
@@ -133,6 +137,7 @@ fn put_listing<S: Store + Drop, A: Allocator + Copy, O: Out>(
     ensures same { IsSameRun lister.old lister.new }
     ensures over { HasBudgetCause result lister.new }
     ensures aside { KeepsAside aside result lister.new }
+    ensures read { ReadsLeft pdb lister.old lister.new }
 {
     if let Err(OutFailed) = put_dump(form, &lister.header(), out) {
         return Err(ToolFault::Out);
@@ -156,6 +161,7 @@ fn list_items<S: Store + Drop, A: Allocator + Copy, O: Out>(
     ensures same { IsSameRun lister.old lister.new }
     ensures over { HasBudgetCause result lister.new }
     ensures aside { KeepsAside aside result lister.new }
+    ensures read { ReadsLeft pdb lister.old lister.new }
 {
     while list_next(lister, form, pdb, aside, out)? {}
     Ok(())
@@ -181,6 +187,7 @@ pub fn list_next<S: Store + Drop, A: Allocator + Copy, O: Out>(
     ensures same { IsSameRun lister.old lister.new }
     ensures over { HasBudgetCause result lister.new }
     ensures aside { is_within aside lister.old.counts.aside.bytes ≡ true → KeepsAside aside result lister.new }
+    ensures read { ReadsNext pdb lister.old lister.new }
 {
     let symbols = match lister.next() {
         Ok(None) => return Ok(false),
@@ -239,6 +246,7 @@ fn put_symbols<S: Store + Drop, A: Allocator + Copy, O: Out>(
     ensures same { IsSameRun lister.old lister.new }
     ensures over { HasBudgetCause result lister.new }
     ensures aside { is_within aside lister.old.counts.aside.bytes ≡ true → KeepsAside aside result lister.new }
+    ensures read { lister.new.counts.aside.bytes ≤ lister.old.counts.aside.bytes + symbols_read lister.old.limit symbols }
 {
     let Some(ModuleSymbols { place, location }) = symbols else {
         return Ok(());

@@ -91,6 +91,30 @@ fn over_memory(held: u128) -> Result<u64, ToolFault> {
     Err(ToolFault::MemoryLimit { held })
 }
 
+/// This fetch was not made.
+fn over_budget(offset: u64, size: u64) -> Result<u64, ToolFault> {
+    Err(ToolFault::Budget { offset, size })
+}
+
+#[test]
+fn hex_keeps_to_its_budget(rt: HostRuntime) {
+    let bytes = bytes_of(&rt, rt.alloc(), &File::Bytes(&MEMORY64));
+    let run = least_run(&rt, FOUR, 16);
+    // The header, an entry, the head of the list, and the list. What is read at the addresses is not counted.
+    for row in [
+        (108, Ok(0), WIDE_TEXT, 6),
+        (107, over_budget(44, 48), "", 4),
+        (60, over_budget(44, 48), "", 4),
+        (59, over_budget(44, 16), "", 3),
+        (43, over_budget(32, 12), "", 3),
+        (31, over_budget(0, 32), "", 0),
+    ] {
+        let limits = Limits::with_budget(168, 16, row.0).expect(&rt, "limits");
+        let within = limited(&run, limits);
+        assert_in_each_way(&rt, rt.alloc(), &bytes, &PRINT_WAYS, &within, &row);
+    }
+}
+
 #[test]
 fn listing_ends_at_a_record_that_passes_the_limit_aside(rt: HostRuntime) {
     let text = symbols_text(&rt, rt.alloc());

@@ -1,3 +1,4 @@
+use Rattle.mdmp_tool.proofs.Besides.{reads_store, source_is}
 use Rattle.mdmp_tool.proofs.SameRuns.{may_reach, may_reach_aside, may_reach_memory}
 use Rattle.mdmp_tool.proofs.engine.run.Goals as goal
 
@@ -16,3 +17,9 @@ returns-clause-aside g c =
 
 pub returns-clause-memory : goal.returns-clause-memory
 returns-clause-memory g c = may_reach_memory _ c.new.result _ _ c.run_source-answer.ensures.through
+
+pub returns-clause-read : goal.returns-clause-read
+returns-clause-read g c =
+    let of = c.run_source-answer.ensures in
+    let new = c.new.ensures in
+    reads_store _ _ c.new.result _ _ (source_is c.new.result _ new.store new.size new.counts.0 new.counts.1 new.fault) of.reads of.through

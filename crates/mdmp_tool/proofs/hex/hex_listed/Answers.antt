@@ -1,7 +1,8 @@
-use Rattle.std.proofs.Common.{rules, ◌≡◌, ◌∙◌, ◌+◌, ℕ, length, arith, refl, subst, None}
+use Rattle.std.proofs.Common.{rules, ◌≡◌, ◌∙◌, ◌+◌, ℕ, length, ap, arith, refl, subst, None}
 use Rattle.mdmp_source.specs.SourceLaws.{fetches_then}
 use Rattle.mdmp_lister.specs.FaultLaws.{ranges_fit}
 use Rattle.mdmp_tool.specs.Engines.{IsBehind, at_the_end}
+use Rattle.mdmp_lister.specs.declared.meter.Amount.{Amount}
 use Rattle.mdmp_tool.proofs.Hexing.{HexesRun-printed}
 use Rattle.mdmp_tool.proofs.SameRuns.{over_listing, run_list, run_none, run_then, aside_listing}
 use Rattle.mdmp_tool.proofs.Symbols.{Leaves-listed}
@@ -52,3 +53,19 @@ returns-in_default-clause-same g c = run_list _ _ _ (run_none _) c.list_ranges.e
 
 pub returns-in-Err-clause-aside : goal.returns-in-Err-clause-aside
 returns-in-Err-clause-aside g c = rw c.told_list.ensures (aside_listing (Unit {0}) None c.in-Err.fault c.list_ranges.new.self refl)
+
+pub returns-clause-beside : goal.returns-clause-beside
+returns-clause-beside g c =
+    let room : length c.put_memory.new.bytes ≡ c.args.length = grind (arith, c.put_memory.auto.bytes, c.deref_mut.ensures, c.in-Ok-vec.ensures) in
+    let same = ap (λ (a : Amount). a.bytes) c.list_ranges.ensures.same.aside in
+    let more = c.put_memory.ensures.beside in
+    omega (arith, room, same, more)
+
+pub returns-in-Err-clause-beside : goal.returns-in-Err-clause-beside
+returns-in-Err-clause-beside g c = let same = ap (λ (a : Amount). a.bytes) c.list_ranges.ensures.same.aside in omega (arith, same)
+
+pub returns-in_default-vec-clause-beside : goal.returns-in_default-vec-clause-beside
+returns-in_default-vec-clause-beside g c = let same = ap (λ (a : Amount). a.bytes) c.list_ranges.ensures.same.aside in omega (arith, same)
+
+pub returns-in_default-clause-beside : goal.returns-in_default-clause-beside
+returns-in_default-clause-beside g c = let same = ap (λ (a : Amount). a.bytes) c.list_ranges.ensures.same.aside in omega (arith, same)

@@ -16,3 +16,12 @@ returns-in-Ok-put_hex_lines-clause-leaves g c = Leaves-done _ _ _ _ _ tt c.in-Ok
 
 pub returns-in-Err-put_hex_lines-clause-leaves : goal.returns-in-Err-put_hex_lines-clause-leaves
 returns-in-Err-put_hex_lines-clause-leaves g c = Leaves-cut _ _ _ _ _ c.in-Ok.ensures.reads.fetches c.in-Err-put_hex_lines.ensures.refused
+
+pub returns-in-Err-clause-beside : goal.returns-in-Err-clause-beside
+returns-in-Err-clause-beside g c = c.in-Err.ensures.reads.aside.aside
+
+pub returns-in-Ok-put_hex_lines-clause-beside : goal.returns-in-Ok-put_hex_lines-clause-beside
+returns-in-Ok-put_hex_lines-clause-beside g c = c.in-Ok.ensures.reads.aside.aside
+
+pub returns-in-Err-put_hex_lines-clause-beside : goal.returns-in-Err-put_hex_lines-clause-beside
+returns-in-Err-put_hex_lines-clause-beside g c = c.in-Ok.ensures.reads.aside.aside

@@ -6,6 +6,7 @@ use Rattle.mdmp_lister.specs.Format.Item.{plain}
 use Rattle.mdmp_tool.specs.Engines.{up_to_a_fault}
 use Rattle.mdmp_tool.specs.Runs.{PutsSymbols}
 use Rattle.mdmp_tool.proofs.Symbols.{IsBehindNext-aside, Leaves-cut, Leaves-done, Leaves-fault, Leaves-later, Leaves-listed, ListsNext-cut, ListsNext-fault, ListsNext-line, ListsNext-symbols, end-more, fault-more, refused_by, symbols-inside, symbols_text-is}
+use Rattle.mdmp_tool.proofs.Besides.{ReadsNext-none, ReadsNext-record}
 use Rattle.mdmp_tool.proofs.SameRuns.{over_fault, over_listing, run_list, run_none, run_then, aside_fault, aside_listing, aside_same}
 use Rattle.mdmp_tool.proofs.list.list_next.Goals as goal
 
@@ -144,3 +145,22 @@ returns-clause-aside g c = λ kept.
 pub returns-in-Err-clause-aside : goal.returns-in-Err-clause-aside
 returns-in-Err-clause-aside g c = λ kept.
     rw c.told_list.ensures (aside_listing Bool c.args.aside c.in-Err.fault _ (aside_same c.args.aside _ _ c.next.follows.holds-at-none.list.same kept))
+
+pub returns-in-Ok-None-clause-read : goal.returns-in-Ok-None-clause-read
+returns-in-Ok-None-clause-read g c = ReadsNext-none c.args.pdb _ _ c.next.follows.holds-at-none.list.same.aside
+
+pub returns-in-Err-put_item-clause-read : goal.returns-in-Err-put_item-clause-read
+returns-in-Err-put_item-clause-read g c = ReadsNext-none c.args.pdb _ _ c.next.follows.holds-at-none.list.same.aside
+
+pub returns-in-Err-clause-read : goal.returns-in-Err-clause-read
+returns-in-Err-clause-read g c = ReadsNext-none c.args.pdb _ _ c.next.follows.holds-at-none.list.same.aside
+
+pub returns-in_err-put_symbols-clause-read : goal.returns-in_err-put_symbols-clause-read
+returns-in_err-put_symbols-clause-read g c =
+    ReadsNext-record c.args.pdb _ _ _ c.in-Ok-Some.item _ c.next.follows.holds-at-none.list.same c.symbols_of.ensures
+    (λ left known. rw c.in-Ok-Some.field-0-is at (c.in-Ok-Some.ensures.gives left known)) c.in_err-put_symbols.ensures.read
+
+pub returns-clause-read : goal.returns-clause-read
+returns-clause-read g c =
+    ReadsNext-record c.args.pdb _ _ _ c.in-Ok-Some.item _ c.next.follows.holds-at-none.list.same c.symbols_of.ensures
+    (λ left known. rw c.in-Ok-Some.field-0-is at (c.in-Ok-Some.ensures.gives left known)) c.in_ok-put_symbols.ensures.read

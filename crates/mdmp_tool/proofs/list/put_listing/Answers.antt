@@ -4,6 +4,7 @@ use Rattle.mdmp_source.specs.OutputLaws.{PutsPrefix-front}
 use Rattle.mdmp_wire.specs.declared.header.Header.{Header}
 use Rattle.mdmp_tool.specs.Forms.{dump_line_in}
 use Rattle.mdmp_tool.specs.Text.{run_text}
+use Rattle.mdmp_tool.proofs.Besides.{ReadsLeft-none}
 use Rattle.mdmp_tool.proofs.Listings.{Leaves-behind, ListsFile-behind}
 use Rattle.mdmp_tool.proofs.list.put_listing.Goals as goal
 
@@ -29,3 +30,9 @@ returns-clause-leaves g c =
 
 pub returns-clause-aside : goal.returns-clause-aside
 returns-clause-aside g c = c.list_items.ensures.aside
+
+pub returns-clause-read : goal.returns-clause-read
+returns-clause-read g c = c.list_items.ensures.read
+
+pub returns-in-Err-clause-read : goal.returns-in-Err-clause-read
+returns-in-Err-clause-read g c = ReadsLeft-none c.args.pdb _

@@ -1,4 +1,5 @@
 use Rattle.mdmp_tool.proofs.Symbols.{Leaves-cut, Leaves-done}
+use Rattle.mdmp_tool.proofs.Besides.{read_more}
 use Rattle.mdmp_tool.proofs.SameRuns.{aside_read, record_read, run_aside}
 use Rattle.mdmp_tool.proofs.list.put_symbols.Goals as goal
 
@@ -34,3 +35,12 @@ returns-in-Err-put_pdb-clause-aside g c = λ kept. record { kept = aside_read _ 
 
 pub returns-in-Err-clause-aside : goal.returns-in-Err-clause-aside
 returns-in-Err-clause-aside g c = λ kept. record { kept = aside_read _ _ _ _ _ c.in_default-over_aside.ensures (record_read _ _ _ c.codeview.ensures.fetched) c.codeview.follows.holds-at-none.aside.aside; over = tt }
+
+pub returns-in-Ok-put_pdb-clause-read : goal.returns-in-Ok-put_pdb-clause-read
+returns-in-Ok-put_pdb-clause-read g c = rw c.in-Some.is (read_more _ _ _ _ (record_read _ _ _ c.codeview.ensures.fetched) c.codeview.follows.holds-at-none.aside.aside)
+
+pub returns-in-Err-put_pdb-clause-read : goal.returns-in-Err-put_pdb-clause-read
+returns-in-Err-put_pdb-clause-read g c = rw c.in-Some.is (read_more _ _ _ _ (record_read _ _ _ c.codeview.ensures.fetched) c.codeview.follows.holds-at-none.aside.aside)
+
+pub returns-in-Err-clause-read : goal.returns-in-Err-clause-read
+returns-in-Err-clause-read g c = rw c.in-Some.is (read_more _ _ _ _ (record_read _ _ _ c.codeview.ensures.fetched) c.codeview.follows.holds-at-none.aside.aside)

@@ -1,3 +1,4 @@
+use Rattle.std.proofs.Common.{arith}
 use Rattle.mdmp_lister.specs.Format.Listing.{listing, memory_lists}
 use Rattle.mdmp_tool.proofs.hex.HexEngineEngine.put.Goals as goal
 
@@ -17,3 +18,6 @@ returns-clause-same g c = c.hex_listed.ensures.same
 
 pub returns-clause-over : goal.returns-clause-over
 returns-clause-over g c = c.hex_listed.ensures.over
+
+pub returns-clause-beside : goal.returns-clause-beside
+returns-clause-beside g c = let most = c.hex_listed.ensures.beside in let none = c.requires.opened.aside in omega (arith, most, none)
