@@ -7,7 +7,7 @@ use crate::same::assert_same_at;
 use mdmp_disk::{GivenFile, MemoryDisk};
 use mdmp_test_support::{
     CODEVIEW_LINE, CODEVIEW_RECORD, FOR_LONG_TEXT, HeapCounts, MEMORY64, MODULE_FILE_TEXT,
-    MeteredHeap, Refusal, SIX, WIDE_TEXT, file_of_numbers, module_file,
+    MeteredHeap, Refusal, SIX, SYSTEM, SYSTEM_TEXT, WIDE_TEXT, file_of_numbers, module_file,
 };
 use std::alloc::{AllocGlobal, Global};
 use std::fs;
@@ -71,6 +71,7 @@ fn end_on_disk<R: AllocGlobal + Abort>(
         given("six.dmp", &six),
         given("module.dmp", &module),
         given("wide.dmp", &MEMORY64),
+        given("system.dmp", &SYSTEM),
     ];
     let mut disk = MemoryDisk::new(alloc, &files);
     let mut out = new_out(rt, alloc, FOR_LONG_TEXT);
@@ -169,6 +170,7 @@ fn assert_edges<R: Files + AllocGlobal + Abort>(rt: &R, alloc: Global, lines: &[
     write_made(rt, "six.dmp", file_of_numbers(alloc, 6, &SIX));
     write_made(rt, "module.dmp", module_file(alloc, 30, CODEVIEW_RECORD));
     write_file(rt, "wide.dmp", &MEMORY64);
+    write_file(rt, "system.dmp", &SYSTEM);
     remove_file(rt, "edge.dmp");
     for &(words, end) in lines {
         assert_at(rt, alloc, FilesAt::System, words, end);
@@ -270,6 +272,25 @@ const MEMORY: [EdgeLine; 9] = [
 #[test]
 fn command_holds_no_more_than_its_limit(rt: HostRuntime) {
     assert_edges(&rt, rt.alloc(), &MEMORY);
+}
+
+/// Command lines without limits: a block of output, a directory, a window and a name; and where memory is printed, a map,
+/// the bytes, and which of them are known.
+const UNLIMITED: [EdgeLine; 3] = [
+    (
+        &["check", "system.dmp"],
+        (0, ["entry 0: ok\n", ""], "", 0, 4),
+    ),
+    (&["list", "system.dmp"], (0, [SYSTEM_TEXT, ""], "", 0, 4)),
+    (
+        &["hex", "wide.dmp", "0x1000", "4"],
+        (0, [WIDE_TEXT, ""], "", 0, 7),
+    ),
+];
+
+#[test]
+fn each_growth_before_a_text_may_be_refused(rt: HostRuntime) {
+    assert_edges(&rt, rt.alloc(), &UNLIMITED);
 }
 
 /// Command lines by their limits on what is read of CodeView records.

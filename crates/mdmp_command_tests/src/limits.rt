@@ -131,8 +131,9 @@ fn limits_are_those_of_the_words(rt: HostRuntime) {
     }
 }
 
-/// Command lines that their budget ends: before the directory is read, or before the one stream.
-const REACHED: [CommandCase<'static>; 5] = [
+/// Command lines that their budget ends: before the directory is read, or before the one stream; and one that it just
+/// does not.
+const REACHED: [CommandCase<'static>; 7] = [
     (
         &["list", "--budget", "43", "system.dmp"],
         (3, "", "mdmp: fetch budget reached: offset 32 size 12\n"),
@@ -156,6 +157,15 @@ const REACHED: [CommandCase<'static>; 5] = [
     (
         &["check", "--budget", "99", "system.dmp"],
         (3, "", "mdmp: fetch budget reached: offset 44 size 56\n"),
+    ),
+    (
+        &["hex", "--budget", "107", "wide.dmp", "0x1000", "4"],
+        (3, "", "mdmp: fetch budget reached: offset 44 size 48\n"),
+    ),
+    // The four bytes are not counted.
+    (
+        &["hex", "--budget", "108", "wide.dmp", "0x1000", "4"],
+        (0, WIDE_TEXT, ""),
     ),
 ];
 

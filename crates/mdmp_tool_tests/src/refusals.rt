@@ -5,7 +5,10 @@ use crate::files::{File, bytes_of};
 use crate::runs::{FOUR, RunOutcome, assert_wrote, in_way, least_run, run_over, with_room};
 use crate::same::{assert_same_at, assert_that};
 use mdmp_source::{MemoryStore, PatchyStore, Store, TwoFaces};
-use mdmp_test_support::{CODEVIEW_RECORD, FOR_LONG_TEXT, HeapCounts, MeteredHeap, Refusal, SIX};
+use mdmp_test_support::{
+    CODEVIEW_RECORD, FOR_LONG_TEXT, HeapCounts, MEMORY64, MeteredHeap, Refusal, SIX, SYSTEM,
+    SYSTEM_TEXT, WIDE_TEXT,
+};
 use mdmp_tool::ToolFault;
 use std::alloc::Global;
 use std::process::Abort;
@@ -143,6 +146,42 @@ fn each_growth_may_be_refused(rt: HostRuntime) {
     assert_growths(&rt, alloc, &WITHOUT_ITEMS, FOUR, &six, 5, Ok(0));
     let copy = Task::Copy(&[3, 6]);
     assert_growths(&rt, alloc, &COPY_WAYS, copy, &six, 5, Ok(292));
+}
+
+/// Asserts in each of these ways that a command prints this of a file by so many growths, each of which may be
+/// refused before anything is printed.
+fn assert_text_by(
+    rt: &impl Abort,
+    alloc: Global,
+    ways: &[CallWay],
+    task: Task<'_>,
+    file: &[u8],
+    text: &str,
+    growths: u64,
+) {
+    let run = with_room(&least_run(rt, task, 28), FOR_LONG_TEXT);
+    for way in ways {
+        let wanted = (Ok(0), text.as_bytes(), growths);
+        assert_ends_in_heap(rt, alloc, file, &in_way(&run, *way), wanted);
+    }
+}
+
+#[test]
+fn each_growth_before_a_text_may_be_refused(rt: HostRuntime) {
+    let alloc = rt.alloc();
+    // A directory, a window, a name, and a map of two ranges; four bytes, and which of them are known.
+    assert_text_by(&rt, alloc, &WITHOUT_ITEMS, FOUR, &MEMORY64, WIDE_TEXT, 6);
+    let check = Task::Check;
+    assert_text_by(
+        &rt,
+        alloc,
+        &WITHOUT_ITEMS,
+        check,
+        &SYSTEM,
+        "entry 0: ok\n",
+        3,
+    );
+    assert_text_by(&rt, alloc, &EACH_WAY, Task::List, &SYSTEM, SYSTEM_TEXT, 3);
 }
 
 #[test]
