@@ -48,6 +48,7 @@ pub mod SomeNames
 pub mod Sliding
 pub mod Soundness
 pub mod Spending
+pub mod Stretches
 pub mod Summary
 pub mod Unchanged
 pub mod Unseen

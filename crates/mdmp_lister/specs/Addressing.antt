@@ -1,13 +1,15 @@
 -- What is read of the dumped process's memory. A cell is the byte of an address, or none where no range holds the
 -- address.
-use Rattle.std.specs.Prelude.{◌≡◌, ◌≤◌, ◌<◌, ◌+◌, ◌*◌, ◌/◌, ◌^◌, ℕ, Bool, if◌then◌else◌, List, Option, Some, None, is_some, length, map, option_map, slice_index, unwrap_or, Result, OnOk}
+use Rattle.std.specs.Prelude.{◌≡◌, ◌≤◌, ◌<◌, ◌+◌, ◌*◌, ◌/◌, ◌^◌, ℕ, Bool, if◌then◌else◌, ◌==◌, ◌&&◌, not, true, false, zero, suc, List, Option, Some, None, is_some, length, map, option_map, slice_index, unwrap_or, Result, OnOk}
 use Rattle.std.specs.List.{range_with_len, zip}
 use Rattle.mdmp_map.specs.declared.range.Range.{Range}
 use Rattle.mdmp_map.specs.Ranges.{AreSorted, byte_at, first_range}
-use Rattle.mdmp_source.specs.Source.{fault_of}
+use Rattle.mdmp_source.specs.Count.{raised}
+use Rattle.mdmp_source.specs.Source.{SourceState, fault_of}
 use Rattle.mdmp_source.specs.declared.fault.SourceFault.{SourceFault}
 use Rattle.mdmp_lister.specs.Fault.{IsCaused}
 use Rattle.mdmp_lister.specs.Meter.{BooksAside, MeterState}
+use Rattle.mdmp_lister.specs.declared.meter.MeterCounts.{MeterCounts}
 
 -- whether a range holds the address
 abbrev pub is_held : List Range → ℕ → Bool
@@ -33,6 +35,26 @@ cells bytes known = map (λ (byte, is_known). cell byte is_known) (zip bytes kno
 pub record IsStretch (ranges : List Range) (address : ℕ) (offset : Option ℕ) (count : ℕ) : Type 0 where
   pub held : (k : ℕ) → k < count → is_held ranges (address + k) ≡ is_some offset
   pub bytes : (F : List ℕ) (k : ℕ) → k < count → byte_at F ranges (address + k) ≡ option_map (λ at. slice_index F (at + k)) offset
+
+-- whether two addresses have the same range, which is the first to hold them
+abbrev pub is_same_range : Option Range → Option Range → Bool
+is_same_range (Some q) (Some r) = q.start == r.start && (q.length == r.length && q.offset == r.offset)
+is_same_range q r = false
+
+-- whether a stretch begins at place k behind an address: a range holds it that is not the first to hold the place before
+abbrev pub begins_stretch : List Range → ℕ → ℕ → Bool
+begins_stretch ranges address zero = is_held ranges (address + 0)
+begins_stretch ranges address (suc k) = is_held ranges (address + suc k) && not (is_same_range (first_range ranges (address + k)) (first_range ranges (address + suc k)))
+
+-- how many stretches so many addresses have from this one on, each of them of one range
+unfoldable pub stretches_at : List Range → ℕ → ℕ → ℕ
+stretches_at ranges address zero = 0
+stretches_at ranges address (suc n) = stretches_at ranges address n + (if begins_stretch ranges address n then 1 else 0)
+
+-- beside the listing at most so many calls of `fetch` were made
+pub record FetchesAside (calls : ℕ) (before after : SourceState) (old new : MeterCounts) : Type 0 where
+  pub calls_are : after.calls ≤ raised before.calls calls
+  pub aside : new.aside.calls ≤ old.aside.calls + calls
 
 -- these are the bytes of the addresses from this one on, and whether each is known
 pub record ReadsCells (content : Option (List ℕ)) (ranges : List Range) (address : ℕ) (bytes : List ℕ) (known : List Bool) : Type 0 where

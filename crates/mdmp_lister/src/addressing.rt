@@ -3,11 +3,11 @@ ghost use Rattle.std.specs.Prelude.{◌≡◌, ◌≤◌, ◌<◌, ◌+◌, ◌-
 ghost use Rattle.mdmp_source.specs.Range.{IsInside, bytes_at};
 ghost use Rattle.mdmp_source.specs.Source.{fault_of};
 ghost use Rattle.mdmp_map.specs.declared.range.Range.{Range};
-ghost use Rattle.mdmp_map.specs.Ranges.{AreSorted, IsPlaced, IsWithin};
-ghost use Rattle.mdmp_lister.specs.Addressing.{HalvesAtMost, IsStretch, LooksUpAtMost, ReadsAddresses};
+ghost use Rattle.mdmp_map.specs.Ranges.{AreSorted, IsPlaced, IsWithin, first_range};
+ghost use Rattle.mdmp_lister.specs.Addressing.{FetchesAside, HalvesAtMost, IsStretch, LooksUpAtMost, ReadsAddresses, is_same_range, stretches_at};
 ghost use Rattle.mdmp_lister.specs.Fault.{IsCaused};
 ghost use Rattle.mdmp_lister.specs.Fetching.{ReadsBeside};
-ghost use Rattle.mdmp_lister.specs.Meter.{BooksAside};
+ghost use Rattle.mdmp_lister.specs.Meter.{BooksAside, counts_of};
 ghost use Rattle.mdmp_lister.specs.Painting.{AreCells, ArePainted, BooksNewly, count_known};
 
 use crate::meter::Meter;
@@ -40,6 +40,7 @@ fn stretch_at<A: Allocator, G: Ledger>(
     ensures most { result.count ≤ most }
     ensures stretch { IsStretch map.now.ranges address result.offset result.count }
     ensures within { (size : ℕ) → All (IsWithin size) map.now.ranges → IfSome result.offset (λ at. at + result.count ≤ size) }
+    ensures edge { result.count < most → is_same_range (first_range map.now.ranges (address + (result.count - 1))) (first_range map.now.ranges (address + result.count)) ≡ false }
     ensures looks { HalvesAtMost (length map.now.ranges) 1 steps.old steps.new }
 {
     let Ok(first) = u64::try_from(address) else {
@@ -72,6 +73,7 @@ fn read_stretch<S: Store>(
     requires inside { IfSome offset (λ at. IsInside at (length out.old) meter.old.source.size) }
     ensures known { IfOk result (λ _. known.new ≡ replicate (length out.new) (is_some offset)) }
     ensures zeros { offset ≡ None → out.new ≡ replicate (length out.new) 0 }
+    ensures none { offset ≡ None → meter.new ≡ meter.old }
     ensures reads { ReadsBeside 1 (length out.new) (λ file _. IfSome offset (λ at. out.new ≡ bytes_at file at (length out.new))) result meter.old meter.new }
 {
     known.fill(offset.is_some());
@@ -210,6 +212,7 @@ fn read_stretches<S: Store, A: Allocator, G: Ledger>(
     requires sorted { AreSorted map.now.ranges }
     ensures reads { ReadsAddresses map.now.ranges address result out.new known.new meter.old meter.new }
     ensures looks { HalvesAtMost (length map.now.ranges) (length out.new) steps.old steps.new }
+    ensures calls { FetchesAside (stretches_at map.now.ranges address (length out.new)) meter.old.source meter.new.source (counts_of meter.old) (counts_of meter.new) }
 {
     let mut done = 0;
     while done < out.len() {
@@ -244,6 +247,7 @@ pub(crate) fn read_addresses<S: Store, A: Allocator, G: Ledger>(
     requires inside { All (IsWithin meter.old.source.size) map.now.ranges }
     ensures reads { ReadsAddresses map.now.ranges address result out.new known.new meter.old meter.new }
     ensures looks { LooksUpAtMost map.now.ranges (length out.new) steps.old steps.new }
+    ensures calls { AreSorted map.now.ranges → FetchesAside (stretches_at map.now.ranges address (length out.new)) meter.old.source meter.new.source (counts_of meter.old) (counts_of meter.new) }
 {
     if map.is_sorted() {
         read_stretches(meter, map, address, out, known, steps)

@@ -9,9 +9,9 @@ ghost use Rattle.mdmp_lister.specs.CodeView.{AreFetched, codeview_cost, codeview
 ghost use Rattle.mdmp_lister.specs.NextFetch.{TellsNextOpening};
 ghost use Rattle.mdmp_lister.specs.Opening.{IsHandedBack, IsOpenRefusal, IsRefusalOf, IsUnread, IsUnreadFor, KeepsToBudget};
 ghost use Rattle.mdmp_lister.specs.Format.Refusal.{opening_fault};
-ghost use Rattle.mdmp_map.specs.Ranges.{IsWithin};
+ghost use Rattle.mdmp_map.specs.Ranges.{AreSorted, IsWithin};
 ghost use Rattle.mdmp_source.specs.Source.{FetchesAtMost, FetchesSome};
-ghost use Rattle.mdmp_lister.specs.Addressing.{LooksUpAtMost, ReadsCells};
+ghost use Rattle.mdmp_lister.specs.Addressing.{FetchesAside, LooksUpAtMost, ReadsCells, stretches_at};
 ghost use Rattle.mdmp_lister.specs.Meter.{IsBooked};
 ghost use Rattle.mdmp_lister.specs.Counts.{AreHeld, AreOfFile, AreSpent, numbers_of};
 ghost use Rattle.mdmp_lister.specs.Following.{through};
@@ -341,6 +341,7 @@ impl<S: Store + Drop, A: Allocator + Copy> Lister<S, A> {
         requires { length out.old ≡ length known.old }
         ensures cells { OnOk result (ReadsCells self.old.source.store.content self.old.ranges address out.new known.new) }
         ensures reads { ReadsAside (length out.new) (length out.new) result self.old self.new }
+        ensures stretches { AreSorted self.old.ranges → FetchesAside (stretches_at self.old.ranges address (length out.new)) self.old.source self.new.source self.old.counts self.new.counts }
     {
         self.read_address_under::<Brand>(address, out, known, Blank::new(1))
     }
@@ -360,6 +361,7 @@ impl<S: Store + Drop, A: Allocator + Copy> Lister<S, A> {
         requires { length out.old ≡ length known.old }
         ensures cells { OnOk result (ReadsCells self.old.source.store.content self.old.ranges address out.new known.new) }
         ensures reads { ReadsAside (length out.new) (length out.new) result self.old self.new }
+        ensures stretches { AreSorted self.old.ranges → FetchesAside (stretches_at self.old.ranges address (length out.new)) self.old.source self.new.source self.old.counts self.new.counts }
         ensures looks { LooksUpAtMost self.old.ranges (length out.new) steps.old steps.new }
     {
         read_addresses(&mut self.walk.meter, &self.map, address, out, known, steps)
@@ -379,6 +381,7 @@ impl<S: Store + Drop, A: Allocator + Copy> Lister<S, A> {
         requires some { 0 < blank.parts }
         ensures cells { OnOk result (ReadsCells self.old.source.store.content self.old.ranges address out.new known.new) }
         ensures reads { ReadsAside (length out.new) (length out.new) result self.old self.new }
+        ensures stretches { AreSorted self.old.ranges → FetchesAside (stretches_at self.old.ranges address (length out.new)) self.old.source self.new.source self.old.counts self.new.counts }
     {
         self.read_address_counted(address, out, known, &mut Steps::<G>::new(blank))
     }
