@@ -15,6 +15,7 @@ pub mod Ending
 pub mod Entries
 pub mod EntrySteps
 pub mod Fetches
+pub mod FetchRows
 pub mod Files
 pub mod Handing
 pub mod HeadReads
