@@ -279,7 +279,7 @@ module _ (number : ℕ) (e : Entry) (old mid new : WalkerState) (at : slice_get 
         of_file = λ F known not. absurd (not own);
         counts = tt;
         fetches = λ none. absurd (let some = own.1 in cc (some, ended, none));
-        told = (f, (refl, unbudgeted_again));
+        told = (f, (refl, unbudgeted_again, leaves_again.unchanged));
         failed = ended;
         repeats = λ fault told. (refl, sym ended ∙ told);
       })
@@ -481,7 +481,7 @@ module _ (x : Numbered) (old mid new : WalkerState) (kept : IsKept old) (at : Is
         good = λ file good. no_store_fault f.kind (counts.good file good);
         refusal = follows_fits mid.list.choice mid.list.entries mid.list.source.size mid.list.limit (cursor_in mid.list) f (cursor_in new.list) (counts.follows at.stop);
       });
-      told = (f, (refl, unbudgeted_new));
+      told = (f, (refl, unbudgeted_new, counts.unchanged));
       failed = ap ended_with counts.stop;
       repeats = λ fault told. never x old mid new kept at (Err f) counts stream is fresh fault told;
     }

@@ -1,20 +1,26 @@
 -- What a view tells of a fault.
 use Rattle.std.proofs.Common.{◌≡◌, ◌∙◌, ◌+◌, ◌<◌, ℕ, List, Option, Some, None, Result, Ok, Err, refl, sym, ap, arith, subst}
 use Rattle.std.specs.Prelude.{IfSome, IsOk}
-use Rattle.mdmp_source.specs.Source.{SourceState}
+use Rattle.mdmp_source.specs.Source.{SourceState, IsTold}
 use Rattle.mdmp_source.specs.declared.fault.SourceFault.{SourceFault}
+use Rattle.mdmp_source.specs.declared.fault.SourceFault.TheVariants.{Failed, ShortRead, Changed}
+use Rattle.mdmp_lister.specs.Fault.{TellsNoChange}
+use Rattle.mdmp_lister.specs.declared.fault.FaultKind.{FaultKind}
+use Rattle.mdmp_lister.specs.declared.fault.FaultKind.TheVariants as kinds
 use Rattle.mdmp_lister.specs.declared.fault.Fault.{Fault}
 use Rattle.mdmp_lister.specs.declared.fault.ListFault.{ListFault}
 use Rattle.mdmp_lister.specs.Format.Listing.{Numbered, count_listed}
 use Rattle.mdmp_lister.specs.Format.Shape.{record_count}
 use Rattle.mdmp_dump.specs.declared.fault.ReadFault.{ReadFault}
 use Rattle.mdmp_dump.specs.declared.pass.Pass.{Pass}
+use Rattle.mdmp_dump.specs.declared.view.ViewFault.TheVariants as view
 use Rattle.mdmp_dump.specs.declared.fault.ReadFault.TheVariants as faults
 use Rattle.mdmp_dump.specs.declared.found_record.FoundRecord.{FoundRecord}
 use Rattle.mdmp_dump.specs.EntryWalk.{Begins, FindsRow, GivesNext, WalkState, ended_by, chosen_entry}
-use Rattle.mdmp_dump.specs.FileRefusal.{body_told}
+use Rattle.mdmp_dump.specs.FileRefusal.{IsOfWalk, IsUnbudgeted, body_told}
 use Rattle.mdmp_dump.specs.FileView.{IsPass, IsPassOf, TellsViewFault, source_fault, told_as}
-use Rattle.mdmp_dump.specs.Reading.{Fetches, IsLastTold, IsOwn, store_fault}
+use Rattle.mdmp_dump.specs.Reading.{Fetches, IsLastTold, IsOwn, store_fault, store_fault_in}
+use Rattle.mdmp_dump.specs.Shape.{IsChangeAt}
 use Rattle.mdmp_dump.proofs.Refusals.{row_refused}
 
 -- content that no file can be is not known
@@ -27,25 +33,52 @@ own_by : (fault : ReadFault) → (fault ≡ faults.Memory → ⊥) → store_fau
 own_by faults.Memory able none own = able refl
 own_by _ able none own = (let some = own.1 in cc)
 
-ended_is : (T : Type 0) (fault : ReadFault) (told : SourceFault) → ended_by {T = T} (Err fault) ≡ Some told → store_fault fault ≡ Some told
-ended_is T (faults.List fault) told is = is
-ended_is T _ told is = absurd (cc)
+-- a fault with which the walk ends is one of its listing, which tells no change
+ended_as : (rva : ℕ) (told : SourceFault) → TellsNoChange (kinds.Source told) → told_as rva (Some told) ≡ view.Source told
+ended_as rva (Changed at) steady = absurd steady
+ended_as rva (Failed at) steady = refl
+ended_as rva (ShortRead at) steady = refl
+
+ended_kind : (rva : ℕ) (kind : FaultKind) (told : SourceFault) → TellsNoChange kind → store_fault_in kind ≡ Some told → told_as rva (store_fault_in kind) ≡ view.Source told
+ended_kind rva (kinds.Source fault) told steady is = ended_as rva fault steady ∙ (let same : fault ≡ told = cc is in ap (λ (f : SourceFault). view.Source f) same)
+ended_kind rva kind told steady is = absurd (cc is)
+
+ended_is : (T : Type 0) (rva : ℕ) (fault : ReadFault) (told : SourceFault) → IsOfWalk fault → ended_by {T = T} (Err fault) ≡ Some told → told_as rva (store_fault fault) ≡ view.Source told
+ended_is T rva (faults.List fault) told walk is = ended_kind rva fault.kind told walk.1 is
+ended_is T rva _ told walk is = absurd (cc is)
 
 last_by : (rva : ℕ) (o : Option SourceFault) (old new : SourceState) → IfSome o (λ of_store. IsLastTold of_store old new) → ((F : List ℕ) → old.store.content ≡ Some F → o ≡ None → ⊥)
     → IsLastTold (source_fault (told_as rva o)) old new
-last_by rva (Some fault) old new told none = told
+last_by rva (Some (Changed at)) old new told none = told
+last_by rva (Some (Failed at)) old new told none = told
+last_by rva (Some (ShortRead at)) old new told none = told
 last_by rva None old new told none = unknown old.store.content (λ F known. none F known refl)
+
+-- a fault of the listing is one of a walk
+listed_walk : (fault : ReadFault) → (told : ListFault) × ((fault ≡ faults.List told) × IsUnbudgeted told.kind × TellsNoChange told.kind) → IsOfWalk fault
+listed_walk fault told = subst IsOfWalk (sym told.1.0) (told.1.1, told.1.2)
+
+-- a fault that a fetch told is no change
+pub last_of : (fault : SourceFault) (old new : SourceState) → IsTold fault old new → IsLastTold fault old new
+last_of (Changed at) old new told = absurd told.cause
+last_of (Failed at) old new told = told
+last_of (ShortRead at) old new told = told
+
+pub fetched_place : (rva : ℕ) (fault : SourceFault) (old new : SourceState) → IsTold fault old new → IsChangeAt rva (view.Source fault)
+fetched_place rva (Changed at) old new told = absurd told.cause
+fetched_place rva (Failed at) old new told = tt
+fetched_place rva (ShortRead at) old new told = tt
 
 module _ (T U : Type 0) (old new : WalkState) where
   -- a fault of the walk is told
-  pub tells_fault : (fault : ReadFault) (rva : ℕ) → (old.failed ≡ None → Fetches {T = U} (Err fault) old.source new.source)
+  pub tells_fault : (fault : ReadFault) (rva : ℕ) → IsOfWalk fault → (old.failed ≡ None → Fetches {T = U} (Err fault) old.source new.source)
       → ((F : List ℕ) → old.source.store.content ≡ Some F → store_fault fault ≡ None → ⊥)
       → new.failed ≡ ended_by {T = U} (Err fault)
       → ((told : SourceFault) → old.failed ≡ Some told → (new.source ≡ old.source) × (new.failed ≡ old.failed))
       → TellsViewFault {T = T} old (Err (told_as rva (store_fault fault))) new
-  tells_fault fault rva fetches none failed repeats = record {
+  tells_fault fault rva walk fetches none failed repeats = record {
     told = λ going. last_by rva (store_fault fault) old.source new.source (fetches going).told none;
-    ended = λ told is. ap (told_as rva) (ended_is U fault told (sym failed ∙ is));
+    ended = λ told is. ended_is U rva fault told walk (sym failed ∙ is);
     repeats = repeats;
     good = λ F good going. absurd (none F good.known ((fetches going).good F good));
   }
@@ -77,7 +110,7 @@ count_kept number (Err fault) n f is told = cc
 
 module _ (T : Type 0) (old new : WalkState) (k count : ℕ) (counted : (F : List ℕ) → old.source.store.content ≡ Some F → record_count F (chosen_entry old k).entry ≡ Ok count) where
   pub begin_refused : (fault : ReadFault) (rva : ℕ) → Begins old k (Err fault) new → TellsViewFault {T = T} old (Err (told_as rva (store_fault fault))) new
-  begin_refused fault rva begins = tells_fault T ℕ old new fault rva begins.fetches
+  begin_refused fault rva begins = tells_fault T ℕ old new fault rva (listed_walk fault begins.told) begins.fetches
       (λ F known none.
       let listed = begins.told in
       let told = begins.of_file F known (own_by fault (λ memory. (let list : faults.List listed.0 ≡ faults.Memory = sym listed.1.0 ∙ memory in cc)) none) in
@@ -110,7 +143,7 @@ module _ (Z : Type 0) (old new : WalkState) (limit : ℕ) (p : Pass) (passing : 
       subst (λ (i : ℕ). FindsRow F limit (chosen_entry old p.stream) i result) same (subst (λ (x : Numbered). FindsRow F limit x next.0 result) stands.0 next.1.1)
 
   pub next_refused : (T : Type 0) (fault : ReadFault) (rva : ℕ) → GivesNext old limit (Err fault) new → TellsViewFault {T = T} old (Err (told_as rva (store_fault fault))) new
-  next_refused T fault rva gives = tells_fault T FoundRecord old new fault rva (λ _. gives.fetches)
+  next_refused T fault rva gives = tells_fault T FoundRecord old new fault rva gives.told (λ _. gives.fetches)
       (λ F known none.
       let pass = of_file F known in
       let refused : body_told F limit (chosen_entry old p.stream) p.given ≡ Some fault =

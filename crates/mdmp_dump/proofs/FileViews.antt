@@ -12,10 +12,10 @@ use Rattle.mdmp_dump.specs.declared.view.Fields.{Fields}
 use Rattle.mdmp_dump.specs.declared.view.Kind.{Kind}
 use Rattle.mdmp_dump.specs.declared.view.Kind.TheVariants as kinds
 use Rattle.mdmp_dump.specs.EntryWalk.{IsFoundIn, WalkState, chosen_entry, kind_by, no_entry, pass_cost, raw_size}
-use Rattle.mdmp_dump.specs.FileView.{bytes_by, costs_in, first_pass, greatest, raw_by, stream_in, streams_in, unknown_cursor, unknown_shape}
+use Rattle.mdmp_dump.specs.FileView.{bytes_by, costs_in, first_pass, greatest, places_in, raw_by, stream_in, streams_in, unknown_cursor, unknown_shape}
 use Rattle.mdmp_dump.specs.FoundRecord.{AreIn, IsPartIn, fields_of, no_part}
 use Rattle.mdmp_dump.specs.Placed.{far_by, far_room, fields_bytes, fields_room, room_by, size_at, size_in}
-use Rattle.mdmp_dump.specs.Shape.{StreamCursor, GivesRecord, StreamShape, TakesOff, begun, body_by, body_of, far_of, is_far, raw_sizes, room_of, told, type_told, unused_shape}
+use Rattle.mdmp_dump.specs.Shape.{StreamCursor, GivesRecord, StreamShape, TakesOff, begun, body_by, body_of, far_of, is_far, raw_sizes, room_of, stream_at, told, type_told, unused_shape}
 use Rattle.mdmp_dump.proofs.Values.{HasOneRoom, one_room}
 
 -- a record takes room in one way alone
@@ -78,11 +78,11 @@ fields_small size ps w most inside =
 
 -- a record that was taken is given
 pub takes_record : (w v : WalkState) (p q : Pass) (f : FoundRecord) (g : Fields) → IsFoundIn w.source.size (chosen_entry w p.stream).entry.stream_type f → g ≡ fields_of f → v.chosen ≡ w.chosen
-    → w.source.size < 2 ^ 64 → q.stream ≡ p.stream → p.left ≡ q.left + 1 → q.room ≡ p.room → q.parts ≡ f.parts → p.room ≤ greatest → p.met ≤ p.room → q.met ≤ p.room
+    → w.source.size < 2 ^ 64 → q.stream ≡ p.stream → q.rva ≡ p.rva → p.left ≡ q.left + 1 → q.room ≡ p.room → q.parts ≡ f.parts → p.room ≤ greatest → p.met ≤ p.room → q.met ≤ p.room
     → q.met ≡ told (told (p.met + fields_room g) + far_room g) → (q.left ≡ 0 → q.met ≡ p.room)
     → GivesRecord (unknown_cursor w p) g (unknown_cursor v q)
 unfolding left_by
-takes_record w v p q f g found same chosen size stream one room parts most old new sum last =
+takes_record w v p q f g found same chosen size stream place one room parts most old new sum last =
     let is : kind_by (chosen_entry w p.stream).entry.stream_type ≡ kinds.Known (type_told g.wire) = found.kind_is ∙ ap (λ (h : Fields). kinds.Known (type_told h.wire)) (sym same) in
     let stays : kind_by (chosen_entry v q.stream).entry.stream_type ≡ kind_by (chosen_entry w p.stream).entry.stream_type =
     ap (λ (xs : List Numbered). kind_by (get_or xs q.stream no_entry).entry.stream_type) chosen ∙ ap (λ (k : ℕ). kind_by (chosen_entry w k).entry.stream_type) stream in
@@ -98,6 +98,7 @@ takes_record w v p q f g found same chosen size stream one room parts most old n
       bytes = bytes_take (p.room == greatest) p.room p.met (fields_room g) (far_room g) q.met q.left p.left (fields_bytes g) refl most old new sum bytes small one;
       sizes = λ k. ap (λ (ps : List PartAt). size_in (get_or ps k no_part).size) parts ∙ sizes_are f.parts k ∙ ap (λ (h : Fields). size_in (size_at h k)) (sym same);
       seen = λ xs known. absurd (let none = known in cc);
+      at = place;
     }
 
 -- ---- the streams
@@ -167,8 +168,8 @@ raw_are kind size at (suc (suc zero)) = refl
 raw_are kind size at (suc (suc (suc j))) = refl
 
 -- the cursor of a stream that is begun
-cursor_of : StreamShape → StreamCursor
-cursor_of t = record {
+cursor_of : StreamShape → ℕ → StreamCursor
+cursor_of t at = record {
   kind = t.kind;
   records = t.records;
   room = room_of t;
@@ -177,11 +178,12 @@ cursor_of t = record {
   seen = None;
   sizes = raw_sizes t.raw;
   parts = None;
+  at = at;
 }
 
 fresh : (e : Numbered) (n r at : ℕ) (w : WalkState) (k rva : ℕ) → chosen_entry w k ≡ e
     → unknown_cursor w (record { stream = k; rva = rva; given = 0; left = n; room = r; met = 0; parts = record { size = raw_size (kind_by e.entry.stream_type) e.entry.location.size; at = at } ∷ no_part ∷ no_part ∷ [] })
-    ≡ cursor_of (stream_in e n r)
+    ≡ cursor_of (stream_in e n r) rva
 unfolding cursor_of
 fresh e n r at w k rva is =
     let kind = kind_by e.entry.stream_type in
@@ -194,7 +196,12 @@ fresh e n r at w k rva is =
       seen = None;
       sizes = λ j. raw_are kind e.entry.location.size at j i;
       parts = None;
+      at = rva;
     })
+
+-- where the stream of an entry stands
+pub place_is : (es : List Numbered) (k : ℕ) → (get_or es k no_entry).entry.location.rva ≡ get_or (places_in es) k 0
+place_is es k = sym (get_or-map (λ (x : Numbered). x.entry.location.rva) es k no_entry)
 
 pub begun_is : (w v : WalkState) (ns rs : List ℕ) (k n r : ℕ) → v.chosen ≡ w.chosen → length ns ≡ length w.chosen → length rs ≡ length w.chosen
     → k < length w.chosen → n ≡ get_or ns k 0 → r ≡ get_or rs k 0 → unknown_cursor v (first_pass w k n r) ≡ begun (unknown_shape w ns rs) k
@@ -202,7 +209,8 @@ unfolding cursor_of
 begun_is w v ns rs k n r same nl rl inside count room =
     let e = chosen_entry w k in
     fresh e n r e.entry.location.rva v k e.entry.location.rva (ap (λ (es : List Numbered). get_or es k no_entry) same)
-    ∙ ap cursor_of (rw (count, room) (sym (stream_is w.chosen ns rs k nl rl inside)))
+    ∙ ap (λ (t : StreamShape). cursor_of t e.entry.location.rva) (rw (count, room) (sym (stream_is w.chosen ns rs k nl rl inside)))
+    ∙ ap (cursor_of (stream_at (unknown_shape w ns rs) k)) (place_is w.chosen k)
 
 part_each : (part : PartAt) (whole : ℕ) → (0 < size_in part.size → part.at + size_in part.size ≤ whole) → (k : ℕ)
     → 0 < size_in (get_or (part ∷ no_part ∷ no_part ∷ []) k no_part).size

@@ -11,10 +11,10 @@ use Rattle.mdmp_dump.specs.declared.dump.Stream.TheVariants as streams
 use Rattle.mdmp_dump.specs.EntryWalk.{WalkState, chosen_entry, kind_by, no_entry, pass_cost}
 use Rattle.mdmp_dump.specs.FileView.{IsViewed, cursor_by, file_shape, first_pass, header_fields, known_shape, pass_cursor, shape_by, stream_in, stream_of}
 use Rattle.mdmp_dump.specs.InFile.{dump_in, stream_named}
-use Rattle.mdmp_dump.specs.Shape.{StreamCursor, ViewShape, StreamShape, all_bytes, begun, body_by, body_of, cost_at, is_far, raw_sizes, rooms, seen_at, shape_seen, stream_at, told, unused_seen, value_cursor}
+use Rattle.mdmp_dump.specs.Shape.{StreamCursor, ViewShape, StreamShape, all_bytes, begun, body_by, body_of, cost_at, is_far, place_at, raw_sizes, rooms, seen_at, shape_seen, stream_at, told, unused_seen, value_cursor}
 use Rattle.mdmp_dump.specs.ShapeLaws.{held}
 use Rattle.mdmp_dump.specs.View.{DumpSeen, StreamSeen, dump_seen, stream_seen}
-use Rattle.mdmp_dump.proofs.FileViews.{begun_is, cost_is, stream_is, streams_count}
+use Rattle.mdmp_dump.proofs.FileViews.{begun_is, cost_is, place_is, stream_is, streams_count}
 use Rattle.mdmp_dump.proofs.Viewed.{kind_is, raw_is, records_are}
 
 -- a fact of unknown content, and of each that is known, is one of any
@@ -43,8 +43,8 @@ module _ {Z : Type 0} (d : Dump Z) (w : WalkState) (counts : List ℕ) (k : ℕ)
   shape_in_dump = get_or-map shape_seen (dump_seen d).streams k unused_seen ∙ ap shape_seen seen_in_dump
 
 -- the cursor of a stream that is begun
-begun_seen : StreamShape → StreamSeen → StreamCursor
-begun_seen t s = record {
+begun_seen : StreamShape → StreamSeen → ℕ → StreamCursor
+begun_seen t s at = record {
   kind = t.kind;
   records = t.records;
   room = if is_far t.kind then 0 else t.parts;
@@ -53,13 +53,16 @@ begun_seen t s = record {
   seen = Some s.records;
   sizes = raw_sizes t.raw;
   parts = Some (s.raw ∷ []);
+  at = at;
 }
 
-known_begun : {Z : Type 0} (d : Dump Z) (w : WalkState) (counts : List ℕ) (k : ℕ) → value_cursor (get_or d.streams k streams.Unused) 0 ≡ begun (known_shape d w counts) k
+known_begun : {Z : Type 0} (d : Dump Z) (w : WalkState) (counts : List ℕ) (k at : ℕ) → at ≡ place_at (known_shape d w counts) k → record (value_cursor (get_or d.streams k streams.Unused) 0) { at = at } ≡ begun (known_shape d w counts) k
 unfolding begun_seen
-known_begun d w counts k =
-    sym (ap (λ (t : StreamShape). begun_seen t (seen_at (dump_seen d) k)) (shape_in_dump d w counts k)
-    ∙ ap (λ (s : StreamSeen). begun_seen (shape_seen (stream_seen (get_or d.streams k streams.Unused))) s) (seen_in_dump d w counts k))
+known_begun d w counts k at place =
+    let stands = place_at (known_shape d w counts) k in
+    sym (ap (λ (t : StreamShape). begun_seen t (seen_at (dump_seen d) k) stands) (shape_in_dump d w counts k)
+    ∙ ap (λ (s : StreamSeen). begun_seen (shape_seen (stream_seen (get_or d.streams k streams.Unused))) s stands) (seen_in_dump d w counts k)
+    ∙ ap (begun_seen (shape_seen (stream_seen (get_or d.streams k streams.Unused))) (stream_seen (get_or d.streams k streams.Unused))) (sym place))
 
 header_of_dump : (Z : Type 0) (F : List ℕ) (choice : Choice) → header_fields (header_at F 0) ≡ (dump_seen (dump_in {Z = Z} F choice)).header
 unfolding dump_in
@@ -146,6 +149,11 @@ module _ (Z : Type 0) (limit : ℕ) (w : WalkState) (counts rooms : List ℕ) (c
         (begun_is w v counts rooms k n r chosen_same counted roomed inside count room)
         (λ F is.
         let u = known F is in
-        ap (λ (xs : List Numbered). value_cursor (stream_named {Z = Z} F (get_or xs k no_entry).entry) 0) (chosen_same ∙ u.chosen_are)
-        ∙ ap (λ (s : Stream Z). value_cursor s 0) (sym (stream_in_dump Z F w.choice k))
-        ∙ known_begun (dump_in {Z = Z} F w.choice) w counts k))
+        let at = (chosen_entry w k).entry.location.rva in
+        ap (λ (xs : List Numbered). record (value_cursor (stream_named {Z = Z} F (get_or xs k no_entry).entry) 0) { at = at }) (chosen_same ∙ u.chosen_are)
+        ∙ ap (λ (s : Stream Z). record (value_cursor s 0) { at = at }) (sym (stream_in_dump Z F w.choice k))
+        ∙ known_begun (dump_in {Z = Z} F w.choice) w counts k at (place_is w.chosen k)))
+
+    -- where its stream stands
+    pub place_told : (chosen_entry w k).entry.location.rva ≡ place_at (file_shape Z w counts rooms) k
+    place_told = by_content (λ c. (chosen_entry w k).entry.location.rva ≡ place_at (shape_in c) k) w.source.store.content (place_is w.chosen k) (λ F is. place_is w.chosen k)

@@ -321,6 +321,13 @@ module _ (Z : Type 0) (limit : ℕ) (w : WalkState) (counts rooms : List ℕ) (p
   pub reliable_err : {T : Type 0} (fault : ViewFault) → TellsViewFault {T = T} w (Err fault) v → IsTrue (file_shape Z w counts rooms).is_reliable → ⊥
   reliable_err fault tells = unreliable Z w counts rooms (λ F good. let ok = tells.good F good (is.steady F good) in cc)
 
+-- ---- where the stream stands that was begun
+
+pub cursor_place : (Z : Type 0) (w : WalkState) (pass : Option Pass) (p : Pass) → pass ≡ Some p → p.rva ≡ (file_cursor Z w pass).at
+cursor_place Z w pass p here =
+    by_content (λ c. p.rva ≡ (cursor_by Z c w p).at) w.source.store.content refl (λ F known. refl)
+    ∙ ap (λ (o : Option Pass). (file_cursor Z w o).at) (sym here)
+
 -- ---- bytes that are asked of a part
 
 -- a view without a pass has no records and no bytes

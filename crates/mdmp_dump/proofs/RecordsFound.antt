@@ -500,7 +500,7 @@ module _ (old new : WalkerState) (kept : IsKept old) (left : 0 < records_to_give
                     (gives (left_from F 0 (current_entry old.list) had.0 had.1) had.2.0),
               ),
             );
-        told = unbudgeted_new;
+        told = (unbudgeted_new, leaves.unchanged);
         able = λ F known is. cc is;
         fetches = record {
           fetches = stays.fetches;

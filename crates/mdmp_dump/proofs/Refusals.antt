@@ -258,5 +258,5 @@ bare_refusal budget size fault none is = is
 pub walk_refusal : (budget : Option ℕ) (size : ℕ) (fault : ReadFault) → IsOfOpening budget fault → IsReadRefusal size fault → IsViewRefusal budget size fault
 walk_refusal budget size (faults.Opening (opening.Budget offset len)) is fits = (is, fits)
 walk_refusal budget size (faults.Opening f) is fits = absurd is
-walk_refusal budget size (faults.List f) is fits = (fits, is)
+walk_refusal budget size (faults.List f) is fits = (fits, is.0)
 walk_refusal budget size fault is fits = is

@@ -11,7 +11,7 @@ use Rattle.mdmp_dump.specs.FileView.{IsPass, IsPassOf, cursor_by, greatest, met_
 use Rattle.mdmp_dump.specs.FoundRecord.{fields_of}
 use Rattle.mdmp_dump.specs.InFile.{stream_named}
 use Rattle.mdmp_dump.specs.Placed.{far_room, fields_room}
-use Rattle.mdmp_dump.specs.Shape.{GivesRecord, parts_at, seen_record, sizes_at, told, value_cursor}
+use Rattle.mdmp_dump.specs.Shape.{StreamCursor, GivesRecord, parts_at, seen_record, sizes_at, told, value_cursor}
 use Rattle.mdmp_dump.specs.View.{kind_in, records_seen}
 use Rattle.mdmp_dump.proofs.FaultsTold.{next_row}
 use Rattle.mdmp_dump.proofs.FileViews.{takes_record}
@@ -19,6 +19,22 @@ use Rattle.mdmp_dump.proofs.KnownViews.{by_content}
 use Rattle.mdmp_dump.proofs.Refusals.{row_passed}
 use Rattle.mdmp_dump.proofs.Values.{value_next}
 use Rattle.mdmp_dump.proofs.Viewed.{records_are, rooms_all, rooms_step, rooms_within, row_seen, sizes_are}
+
+-- a record is given of a stream wherever that stands
+gives_at : {old new : StreamCursor} {f : Fields} (at now : ℕ) → now ≡ at → GivesRecord old f new → GivesRecord (record old { at = at }) f (record new { at = now })
+gives_at at now same gives = record {
+  kind = gives.kind;
+  stays = gives.stays;
+  records = gives.records;
+  room = gives.room;
+  far = gives.far;
+  bytes = gives.bytes;
+  sizes = gives.sizes;
+  seen = λ xs known.
+      let is = gives.seen xs known in
+      record { first = is.first; others = is.others; split = is.split; fields = is.fields; sized = is.sized; left = is.left; parts = is.parts };
+  at = same;
+}
 
 module _ (Z : Type 0) (w v : WalkState) (limit : ℕ) (p : Pass) (passing : IsPass w p) (going : 0 < p.left) (unfailed : w.failed ≡ None)
     (of_file : (F : List ℕ) → w.source.store.content ≡ Some F → IsPassOf Z F limit w p) (bytes : IsOfBytes w.source.store.content)
@@ -53,7 +69,7 @@ module _ (Z : Type 0) (w v : WalkState) (limit : ℕ) (p : Pass) (passing : IsPa
 
   -- ---- the pass behind it
 
-  module _ (q : Pass) (stream : q.stream ≡ p.stream) (given : q.given ≡ p.given + 1) (left : p.left ≡ q.left + 1) (room : q.room ≡ p.room) (parts : q.parts ≡ f.parts) (met_same : q.met ≡ met) where
+  module _ (q : Pass) (stream : q.stream ≡ p.stream) (place : q.rva ≡ p.rva) (given : q.given ≡ p.given + 1) (left : p.left ≡ q.left + 1) (room : q.room ≡ p.room) (parts : q.parts ≡ f.parts) (met_same : q.met ≡ met) where
     entry_same : chosen_entry v q.stream ≡ chosen_entry w p.stream
     entry_same = ap (λ (xs : List Numbered). get_or xs q.stream no_entry) gives.pays.same.chosen ∙ ap (chosen_entry w) stream
 
@@ -86,7 +102,7 @@ module _ (Z : Type 0) (w v : WalkState) (limit : ℕ) (p : Pass) (passing : IsPa
     record_given small most within last =
         subst (λ (c : Option (List ℕ)). GivesRecord (pass_cursor Z w p) g (cursor_by Z c v q)) (sym gives.pays.same.fetches.fetches.same_content)
         (by_content (λ c. GivesRecord (cursor_by Z c w p) g (cursor_by Z c v q)) w.source.store.content
-        (takes_record w v p q f g (rw (← (passing.going going).0) gives.found) same gives.pays.same.chosen small stream left room parts most passing.met (omega (arith, met_same, within)) (met_same ∙ sum) (λ none. met_same ∙ last none))
+        (takes_record w v p q f g (rw (← (passing.going going).0) gives.found) same gives.pays.same.chosen small stream place left room parts most passing.met (omega (arith, met_same, within)) (met_same ∙ sum) (λ none. met_same ∙ last none))
         (λ F known.
-        subst (λ (s : Stream Z). GivesRecord (value_cursor (seen F known) p.given) g (value_cursor s q.given)) (sym (seen_same F))
-        (value_next (seen F known) p.given q.given g given (inside F known) (fields F known))))
+        subst (λ (s : Stream Z). GivesRecord (record (value_cursor (seen F known) p.given) { at = p.rva }) g (record (value_cursor s q.given) { at = q.rva })) (sym (seen_same F))
+        (gives_at p.rva q.rva place (value_next (seen F known) p.given q.given g given (inside F known) (fields F known)))))

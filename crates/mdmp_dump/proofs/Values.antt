@@ -105,6 +105,7 @@ module _ {Z : Type 0} where
           left = refl;
           parts = ap (λ (n : ℕ). (value_cursor s n).parts) place;
         };
+        at = refl;
       }
 
   -- the parts that can be asked for have the sizes told

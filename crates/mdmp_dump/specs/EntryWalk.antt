@@ -1,6 +1,6 @@
 -- A walk over the chosen entries of a file, a record at a time, which reads no name.
 use Rattle.std.specs.Prelude.{◌≡◌, ◌≤◌, ◌<◌, ◌+◌, ◌*◌, ◌^◌, ℕ, List, [], ◌∷◌, length, get_or, Option, Some, None, Result, Ok, Err, ◌==◌, if◌then◌else◌, IfErr, IfOk, IsOk, MatchResult}
-use Rattle.mdmp_source.specs.Source.{SourceState, FetchesSome}
+use Rattle.mdmp_source.specs.Source.{SourceState, FetchesSome, IsTold}
 use Rattle.mdmp_source.specs.Store.{IsGood}
 use Rattle.mdmp_source.specs.declared.fault.SourceFault.{SourceFault}
 use Rattle.mdmp_wire.specs.declared.entry.Entry.{Entry}
@@ -12,6 +12,7 @@ use Rattle.mdmp_lister.specs.declared.fault.ListFault.{ListFault}
 use Rattle.mdmp_lister.specs.declared.item.Item.{Item}
 use Rattle.mdmp_lister.specs.declared.kind.StreamKind.{StreamKind}
 use Rattle.mdmp_lister.specs.declared.shape.Shape.{Shape}
+use Rattle.mdmp_lister.specs.Fault.{TellsNoChange}
 use Rattle.mdmp_lister.specs.Following.{IsBegun, Standing, records_by}
 use Rattle.mdmp_lister.specs.Format.Item.{item_at}
 use Rattle.mdmp_lister.specs.Format.Kind.{has_names, is_known, kind_of}
@@ -29,7 +30,7 @@ use Rattle.mdmp_dump.specs.FileRefusal.{IsOfWalk, IsUnbudgeted, first_told}
 use Rattle.mdmp_dump.specs.Finding.{IsSeenAt, seen_in}
 use Rattle.mdmp_dump.specs.FoundRecord.{AreIn, fields_of}
 use Rattle.mdmp_dump.specs.Placed.{far_room, fields_bytes, fields_room}
-use Rattle.mdmp_dump.specs.Reading.{Fetches, IsLastTold, IsOwn, store_fault, store_fault_in}
+use Rattle.mdmp_dump.specs.Reading.{Fetches, IsOwn, store_fault, store_fault_in}
 use Rattle.mdmp_dump.specs.Refusal.{item_steps}
 use Rattle.mdmp_dump.specs.Seen.{Seen}
 use Rattle.mdmp_dump.specs.Shape.{type_told}
@@ -147,8 +148,8 @@ pub record Begins (old : WalkState) (stream : ℕ) (result : Result ℕ ReadFaul
   pub of_file : (file : List ℕ) → old.source.store.content ≡ Some file → IsCountOf file (chosen_entry old stream) result
   pub counts : IfOk result (MayCount old.source.size (chosen_entry old stream).entry)
   pub fetches : old.failed ≡ None → Fetches result old.source new.source
-  -- each fault is one of the listing, and none of a budget
-  pub told : IfErr result (λ fault. (told : ListFault) × ((fault ≡ faults.List told) × IsUnbudgeted told.kind))
+  -- each fault is one of the listing, none of a budget, and not that the file has changed
+  pub told : IfErr result (λ fault. (told : ListFault) × ((fault ≡ faults.List told) × IsUnbudgeted told.kind × TellsNoChange told.kind))
   pub failed : new.failed ≡ ended_by result
   -- a walk that has ended is answered so again
   pub repeats : (fault : SourceFault) → old.failed ≡ Some fault → (new ≡ old) × MatchResult result (λ count. ⊥) (λ told. store_fault told ≡ Some fault)
@@ -203,7 +204,7 @@ pub record WalkReadsAside (count : ℕ) (old : WalkState) (result : Result (Unit
   pub same : new ≡ record old { source = new.source; aside = new.aside }
   pub aside : new.aside ≤ old.aside + count
   pub fetches : FetchesSome old.source new.source
-  pub told : IfErr result (λ fault. IsLastTold fault old.source new.source)
+  pub told : IfErr result (λ fault. IsTold fault old.source new.source)
   pub good : (file : List ℕ) → IsGood old.source.store file → IsOk result
 
 -- ---- parts

@@ -6,6 +6,7 @@ use Rattle.mdmp_lister.specs.declared.fault.FaultKind.{FaultKind}
 use Rattle.mdmp_lister.specs.declared.fault.FaultKind.TheVariants as kinds
 use Rattle.mdmp_lister.specs.declared.fault.OpenFault.{OpenFault}
 use Rattle.mdmp_lister.specs.declared.fault.OpenFault.TheVariants as opening
+use Rattle.mdmp_lister.specs.Fault.{TellsNoChange}
 use Rattle.mdmp_lister.specs.Following.{FitsFile}
 use Rattle.mdmp_lister.specs.Format.Listing.{Numbered, Run, entry_listing, listing}
 use Rattle.mdmp_lister.specs.Format.Refusal.{directory_refusal}
@@ -52,11 +53,12 @@ abbrev pub IsUnbudgeted : FaultKind → Type 0
 IsUnbudgeted kinds.Budget = ⊥
 IsUnbudgeted kind = Unit {0}
 
--- a walk may answer this fault, whatever the file's bytes: none of its opening, parts have no limit, and its budget was lifted
+-- a walk may answer this fault, whatever the file's bytes: none of its opening, parts have no limit, its budget was lifted, and
+-- its listing, which keeps no ranges, never tells that the file has changed
 abbrev pub IsOfWalk : ReadFault → Type 0
 IsOfWalk (faults.Opening fault) = ⊥
 IsOfWalk (faults.PartsTooLarge e k) = ⊥
-IsOfWalk (faults.List fault) = IsUnbudgeted fault.kind
+IsOfWalk (faults.List fault) = IsUnbudgeted fault.kind × TellsNoChange fault.kind
 IsOfWalk fault = Unit {0}
 
 -- the opening of a view may answer this fault while it walks over the streams: its budget is told only if there is one

@@ -78,8 +78,19 @@ streams_in xs ns rs = []
 abbrev pub header_fields : Header → HeaderFields
 header_fields h = record { version_high = h.version / 65536; checksum = h.checksum; time = h.time_date_stamp; flags = h.flags }
 
+-- where the streams of some entries stand
+abbrev pub places_in : List Numbered → List ℕ
+places_in xs = map (λ x. x.entry.location.rva) xs
+
 abbrev pub unknown_shape : WalkState → List ℕ → List ℕ → ViewShape
-unknown_shape w counts rooms = record { header = header_fields w.header; streams = streams_in w.chosen counts rooms; costs = costs_in w.chosen counts; is_reliable = false; seen = None }
+unknown_shape w counts rooms = record {
+  header = header_fields w.header;
+  streams = streams_in w.chosen counts rooms;
+  costs = costs_in w.chosen counts;
+  places = places_in w.chosen;
+  is_reliable = false;
+  seen = None;
+}
 
 -- what is left of the room of a stream
 abbrev pub left_room : Pass → ℕ
@@ -95,11 +106,12 @@ unknown_cursor w p = record {
   seen = None;
   sizes = λ k. size_in (get_or p.parts k no_part).size;
   parts = None;
+  at = p.rva;
 }
 
 -- no stream is begun
 abbrev pub no_cursor : StreamCursor
-no_cursor = record { kind = kinds.Unused; records = 0; room = 0; far = 0; bytes = 0; seen = None; sizes = λ k. 0; parts = None }
+no_cursor = record { kind = kinds.Unused; records = 0; room = 0; far = 0; bytes = 0; seen = None; sizes = λ k. 0; parts = None; at = 0 }
 
 -- a pass fits the walk: while records are left, its stream is the current one; and the parts lie inside the file
 pub record IsPass (w : WalkState) (p : Pass) : Type 0 where
@@ -133,13 +145,14 @@ module _ {Z : Type 0} where
     header = header_seen d;
     streams = map shape_seen (dump_seen d).streams;
     costs = costs_in w.chosen counts;
+    places = places_in w.chosen;
     is_reliable = w.source.store.is_reliable;
     seen = Some (dump_seen d);
   }
 
 module _ (Z : Type 0) where
   abbrev pub known_cursor : List ℕ → WalkState → Pass → StreamCursor
-  known_cursor F w p = value_cursor (stream_of {Z = Z} F w p.stream) p.given
+  known_cursor F w p = record (value_cursor (stream_of {Z = Z} F w p.stream) p.given) { at = p.rva }
 
   -- a view of F: its entries have as many records as were counted, whose names and parts take what was told, and nothing of
   -- it is refused
@@ -287,6 +300,7 @@ source_fault (view.Source fault) = fault
 
 -- a fault of the store is told as it is, and any other says that the file has changed where the stream stands
 abbrev pub told_as : ℕ → Option SourceFault → ViewFault
+told_as rva (Some (Changed at)) = view.Source (Changed rva)
 told_as rva (Some fault) = view.Source fault
 told_as rva None = view.Source (Changed rva)
 

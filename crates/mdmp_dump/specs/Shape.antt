@@ -11,6 +11,8 @@ use Rattle.mdmp_dump.specs.declared.view.HeaderFields.{HeaderFields}
 use Rattle.mdmp_dump.specs.declared.view.Kind.{Kind}
 use Rattle.mdmp_dump.specs.declared.view.Kind.TheVariants as kinds
 use Rattle.mdmp_dump.specs.declared.view.ViewFault.{ViewFault}
+use Rattle.mdmp_dump.specs.declared.view.ViewFault.TheVariants as view
+use Rattle.mdmp_source.specs.declared.fault.SourceFault.TheVariants.{Changed}
 use Rattle.mdmp_dump.specs.declared.dump.Stream.{Stream}
 use Rattle.mdmp_dump.specs.declared.dump.Dump.{Dump}
 use Rattle.mdmp_dump.specs.Seen.{Seen, nothing_seen}
@@ -75,12 +77,13 @@ far_of s = if is_far s.kind then s.parts else 0
 abbrev pub asks_of : StreamShape → ℕ
 asks_of s = s.bytes + s.raw
 
--- a view: the numbers of its header; its streams, and the cost of a pass over each, 0 where none is told; whether none of its
--- calls answers a fault, and what it gives where that is known
+-- a view: the numbers of its header; its streams, the cost of a pass over each, 0 where none is told, and where each of them
+-- stands in a file; whether none of its calls answers a fault, and what it gives where that is known
 pub record ViewShape : Type 0 where
   pub header : HeaderFields
   pub streams : List StreamShape
   pub costs : List ℕ
+  pub places : List ℕ
   pub is_reliable : Bool
   pub seen : Option DumpSeen
 
@@ -128,6 +131,9 @@ stream_at s k = get_or s.streams k unused_shape
 abbrev pub cost_at : ViewShape → ℕ → ℕ
 cost_at s k = get_or s.costs k 0
 
+abbrev pub place_at : ViewShape → ℕ → ℕ
+place_at s k = get_or s.places k 0
+
 abbrev pub seen_at : DumpSeen → ℕ → StreamSeen
 seen_at x k = get_or x.streams k unused_seen
 
@@ -149,7 +155,7 @@ told n = min n (2 ^ 64 - 1)
 -- what is still to be given of a stream of this kind: how many records, the room of their parts and their bytes of 64-bit
 -- memory, how many bytes their names and parts have at most, and the records where they are known. Then what `part` can be
 -- asked for: the sizes of the parts of the record given last, or of the raw bytes as part 0, and their bytes where they are
--- known.
+-- known. And where the stream stands in a file.
 pub record StreamCursor : Type 0 where
   pub kind : Kind
   pub records : ℕ
@@ -159,6 +165,7 @@ pub record StreamCursor : Type 0 where
   pub seen : Option (List Seen)
   pub sizes : ℕ → ℕ
   pub parts : Option (List (List ℕ))
+  pub at : ℕ
 
 abbrev pub raw_sizes : ℕ → ℕ → ℕ
 raw_sizes n zero = n
@@ -175,6 +182,7 @@ begun s k = record {
   seen = option_map (λ x. (seen_at x k).records) s.seen;
   sizes = raw_sizes (stream_at s k).raw;
   parts = option_map (λ x. (seen_at x k).raw ∷ []) s.seen;
+  at = place_at s k;
 }
 
 -- a record's parts have the sizes that its fields tell
@@ -220,6 +228,7 @@ pub record GivesRecord (old : StreamCursor) (f : Fields) (new : StreamCursor) : 
   pub bytes : fields_bytes f + new.bytes ≤ old.bytes
   pub sizes : (k : ℕ) → new.sizes k ≡ size_in (size_at f k)
   pub seen : (xs : List Seen) → old.seen ≡ Some xs → GivesSeen xs f new
+  pub at : new.at ≡ old.at
 
 -- ---- what is spent
 
@@ -234,11 +243,21 @@ pub record Spent : Type 0 where
 abbrev pub unspent : Spent
 unspent = record { passed = 0; asked = 0; fault = None }
 
+-- a call tells at this place of a file that the file has changed
+abbrev pub IsChangeAt : ℕ → ViewFault → Type 0
+IsChangeAt at (view.Source (Changed told)) = told ≡ at
+IsChangeAt at fault = Unit {0}
+
+-- the fault of a call is the one that was answered last, and a change is told at this place
+pub record IsToldAt (at : ℕ) (spent : Spent) (fault : ViewFault) : Type 0 where
+  pub last : spent.fault ≡ Some fault
+  pub place : IsChangeAt at fault
+
 -- ---- of a value
 
 module _ {Z : Type 0} where
   abbrev pub value_shape : Dump Z → ViewShape
-  value_shape d = record { header = header_seen d; streams = map shape_seen (dump_seen d).streams; costs = []; is_reliable = true; seen = Some (dump_seen d) }
+  value_shape d = record { header = header_seen d; streams = map shape_seen (dump_seen d).streams; costs = []; places = []; is_reliable = true; seen = Some (dump_seen d) }
 
   -- a view of this value
   abbrev pub IsViewOf : Dump Z → ViewShape → Type 0
@@ -267,4 +286,5 @@ module _ {Z : Type 0} where
     seen = Some (drop k (records_seen s));
     sizes = sizes_at s k;
     parts = Some (parts_at s k);
+    at = 0;
   }

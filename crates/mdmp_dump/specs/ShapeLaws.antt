@@ -1,5 +1,6 @@
 -- A value has the shape of its view, and its records are of their streams' kinds.
-use Rattle.std.proofs.Common.{◌≡◌, ℕ, zero, suc, List, [], ◌∷◌, length, map, get_or, ap, arith, subst, refl, Bool, true, false, Option, Some, None, if◌then◌else◌}
+use Rattle.std.proofs.Common.{◌≡◌, ℕ, zero, suc, List, [], ◌∷◌, length, map, get_or, ap, arith, subst, refl, Bool, true, false, Option, Some, None, Result, Ok, Err, if◌then◌else◌}
+use Rattle.std.specs.Prelude.{IfErr}
 use Rattle.mdmp_wire.specs.NumberLaws.{length-les}
 use Rattle.mdmp_wire.specs.declared.any_record.AnyRecord.{AnyRecord}
 use Rattle.mdmp_dump.specs.declared.dump.Dump.{Dump}
@@ -10,6 +11,7 @@ use Rattle.mdmp_dump.specs.declared.part.Part.TheVariants as parts
 use Rattle.mdmp_dump.specs.declared.view.Kind.{Kind}
 use Rattle.mdmp_dump.specs.declared.view.Kind.TheVariants.{Known}
 use Rattle.mdmp_dump.specs.declared.view.PartSize.{PartSize}
+use Rattle.mdmp_dump.specs.declared.view.ViewFault.{ViewFault}
 use Rattle.mdmp_dump.specs.Exception.{exception_seen}
 use Rattle.mdmp_dump.specs.Memory.{memory_seen}
 use Rattle.mdmp_dump.specs.Memory64.{memory64_seen}
@@ -17,7 +19,7 @@ use Rattle.mdmp_dump.specs.MemoryInfo.{memory_info_seen}
 use Rattle.mdmp_dump.specs.Module.{module_seen}
 use Rattle.mdmp_dump.specs.Placed.{size_in}
 use Rattle.mdmp_dump.specs.Seen.{Seen, seen, size_of, bytes_of, name_size, unit_bytes}
-use Rattle.mdmp_dump.specs.Shape.{AreOf, AreOfTheirKinds, GivesNone, HaveNoStrayParts, IsOf, IsSized, IsShapeOfSeen, fars, is_far, parts_in, rooms, seen_at, shape_seen, type_told, unused_seen, unused_shape, value_shape}
+use Rattle.mdmp_dump.specs.Shape.{AreOf, AreOfTheirKinds, GivesNone, HaveNoStrayParts, IsOf, IsSized, IsShapeOfSeen, IsToldAt, Spent, fars, is_far, parts_in, rooms, seen_at, shape_seen, type_told, unused_seen, unused_shape, value_shape}
 use Rattle.mdmp_dump.specs.System.{system_seen}
 use Rattle.mdmp_dump.specs.Thread.{thread_seen}
 use Rattle.mdmp_dump.specs.ThreadName.{thread_name_seen}
@@ -104,3 +106,10 @@ module _ {Z : Type 0} where
 
   pub value_stray : (d : Dump Z) → HaveNoStrayParts (value_shape d)
   value_stray d k none = streams_stray d.streams k none
+
+-- ---- faults
+
+-- the fault of a call is the one that was answered last
+pub last_told : {T : Type 0} (at : ℕ) (spent : Spent) (result : Result T ViewFault) → IfErr result (IsToldAt at spent) → IfErr result (λ fault. spent.fault ≡ Some fault)
+last_told at spent (Ok x) told = tt
+last_told at spent (Err fault) told = told.last

@@ -1,11 +1,11 @@
 //! A pass over the records of a stream of a file, and what it costs.
-ghost use Rattle.std.specs.Prelude.{◌≡◌, ◌≤◌, ◌<◌, ◌+◌, ◌^◌, ℕ, List, length, Some, Err, IfOk, Ok};
+ghost use Rattle.std.specs.Prelude.{◌≡◌, ◌≤◌, ◌<◌, ◌+◌, ◌^◌, ℕ, List, length, Some, Err, IfErr, IfOk, Ok};
 ghost use Rattle.mdmp_lister.specs.Format.Shape.{record_count};
 ghost use Rattle.mdmp_dump.specs.EntryWalk.{Pays, chosen_entry, kind_by, listed, name_cost, pass_cost, raw_part};
 ghost use Rattle.mdmp_dump.specs.FileView.{IsPass, IsPassOf, TellsViewFault, first_pass, pass_cursor, told_as};
 ghost use Rattle.mdmp_dump.specs.Reading.{store_fault};
 ghost use Rattle.mdmp_dump.specs.Placed.{far_room, fields_room};
-ghost use Rattle.mdmp_dump.specs.Shape.{GivesRecord, body_by, told};
+ghost use Rattle.mdmp_dump.specs.Shape.{GivesRecord, IsChangeAt, body_by, told};
 
 use crate::body::rows_size;
 use crate::entry_walk::EntryWalk;
@@ -85,15 +85,28 @@ pub(crate) fn changed(rva: u32) -> ViewFault
     ViewFault::Source(SourceFault::Changed { at: u64::from(rva) })
 }
 
-/// A fault of the store is told as it is, and any other says that the file has changed.
-fn told_reading(fault: ReadFault, rva: u32) -> ViewFault
-    ensures { result ≡ told_as rva (store_fault fault) }
+/// A fault of the store is told as it is. A change is told where the stream stands.
+fn told_source(fault: SourceFault, rva: u32) -> ViewFault
+    ensures told { result ≡ told_as rva (Some fault) }
+    ensures place { IsChangeAt rva result }
 {
     match fault {
-        ReadFault::Source(fault) => ViewFault::Source(fault),
-        ReadFault::Opening(OpenFault::Source(fault)) => ViewFault::Source(fault),
+        SourceFault::Failed { at } => ViewFault::Source(SourceFault::Failed { at }),
+        SourceFault::ShortRead { at } => ViewFault::Source(SourceFault::ShortRead { at }),
+        SourceFault::Changed { .. } => changed(rva),
+    }
+}
+
+/// A fault of the store is told as it is, and any other says that the file has changed.
+fn told_reading(fault: ReadFault, rva: u32) -> ViewFault
+    ensures told { result ≡ told_as rva (store_fault fault) }
+    ensures place { IsChangeAt rva result }
+{
+    match fault {
+        ReadFault::Source(fault) => told_source(fault, rva),
+        ReadFault::Opening(OpenFault::Source(fault)) => told_source(fault, rva),
         ReadFault::List(fault) => match fault.kind {
-            FaultKind::Source(fault) => ViewFault::Source(fault),
+            FaultKind::Source(fault) => told_source(fault, rva),
             _ => changed(rva),
         },
         _ => changed(rva),
@@ -133,6 +146,7 @@ pub(crate) fn begin_pass<S: Store + Drop, A: Allocator + Copy>(
     ensures pays { Pays (listed (chosen_entry walk.old stream).entry) 0 walk.old walk.new }
     ensures begins { IfOk result (λ pass. IsPass walk.new pass × (pass ≡ first_pass walk.old stream count room)) }
     ensures tells { TellsViewFault walk.old result walk.new }
+    ensures place { IfErr result (IsChangeAt (chosen_entry walk.old stream).entry.location.rva) }
 {
     let entry = walk.entry(stream);
     let rva = entry.location.rva;
@@ -170,6 +184,7 @@ pub(crate) fn take_record<S: Store + Drop, A: Allocator + Copy>(
     ensures passes { IfOk result (λ r. IsPass walk.new r.1 × (r.1.stream ≡ pass.stream) × (r.1.left + 1 ≡ pass.left)) }
     ensures passes_of { (file : List ℕ) → walk.old.source.store.content ≡ Some file → IfOk result (λ r. IsPassOf A file limit walk.new r.1) }
     ensures tells { TellsViewFault walk.old result walk.new }
+    ensures place { IfErr result (IsChangeAt pass.rva) }
 {
     // The proof learns here that the size has 64 bits, and that known content is one of bytes.
     let _size = walk.size();

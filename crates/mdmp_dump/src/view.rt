@@ -63,10 +63,13 @@ pub enum Kind {
 /// stream that was begun last. After a fault nothing is said of the cursor, so `next_record` and
 /// `part` want a new `rewind` first. And it counts what is spent of it: what the passes over its
 /// streams cost, and how many bytes it is asked for.
+///
+/// If a file has changed, a view of it tells so at the RVA of the stream that was begun last, or that was to be
+/// begun.
 // No condition of a call is stated by what the view gives: of a view of a file that may be unknown.
 pub trait DumpView {
     ghost use Rattle.std.specs.Prelude.{◌≡◌, ◌<◌, ◌≤◌, ◌+◌, ℕ, List, [], Some, length, take, drop, get_or, IfErr, IfOk, IsTrue, OnOk};
-    ghost use Rattle.mdmp_dump.specs.Shape.{AreOfTheirKinds, begun, body_of, cost_at, StreamCursor, GivesRecord, HaveNoStrayParts, IsShapeOfSeen, ViewShape, Spent, stream_at, told};
+    ghost use Rattle.mdmp_dump.specs.Shape.{AreOfTheirKinds, begun, body_of, cost_at, place_at, StreamCursor, GivesRecord, HaveNoStrayParts, IsShapeOfSeen, IsToldAt, ViewShape, Spent, stream_at, told};
     ghost use Rattle.mdmp_dump.specs.View.{DumpSeen};
 
     /// The memory of a value that this may be a view of.
@@ -137,7 +140,7 @@ pub trait DumpView {
         ensures begins { OnOk result (cursor self.new ≡ begun (shape self.old) stream) }
         ensures passed { (spent self.new).passed ≤ (spent self.old).passed + cost_at (shape self.old) stream }
         ensures asked { (spent self.new).asked ≤ (spent self.old).asked }
-        ensures told { IfErr result (λ fault. (spent self.new).fault ≡ Some fault) }
+        ensures told { IfErr result (IsToldAt (place_at (shape self.old) stream) (spent self.new)) }
         ensures moves { Moves self.old self.new }
         ensures reliable { IsTrue (shape self.old).is_reliable → IfErr result (λ _. ⊥) };
 
@@ -148,7 +151,7 @@ pub trait DumpView {
         ensures gives { IfOk result (λ f. GivesRecord (cursor self.old) f (cursor self.new)) }
         ensures passed { (spent self.new).passed ≤ (spent self.old).passed }
         ensures asked { (spent self.new).asked ≤ (spent self.old).asked }
-        ensures told { IfErr result (λ fault. (spent self.new).fault ≡ Some fault) }
+        ensures told { IfErr result (IsToldAt (cursor self.old).at (spent self.new)) }
         ensures moves { Moves self.old self.new }
         ensures reliable { IsTrue (shape self.old).is_reliable → IfErr result (λ _. ⊥) };
 
@@ -163,7 +166,7 @@ pub trait DumpView {
             → out.new ≡ take (length out.old) (drop at (get_or parts which []))) }
         ensures passed { (spent self.new).passed ≤ (spent self.old).passed }
         ensures asked { (spent self.new).asked ≤ (spent self.old).asked + length out.old }
-        ensures told { IfErr result (λ fault. (spent self.new).fault ≡ Some fault) }
+        ensures told { IfErr result (IsToldAt (cursor self.old).at (spent self.new)) }
         ensures moves { Moves self.old self.new }
         ensures reliable { IsTrue (shape self.old).is_reliable → IfErr result (λ _. ⊥) };
 

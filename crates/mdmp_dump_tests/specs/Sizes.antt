@@ -8,6 +8,7 @@ pub no_stray_parts : (stream_type raw far : ℕ) → HaveNoStrayParts (record {
   streams = record { kind = kinds.Raw stream_type; records = 0; raw = raw; parts = 0; bytes = 0 }
       ∷ record { kind = kinds.Known 9; records = 1; raw = 0; parts = far; bytes = 0 } ∷ [];
   costs = [];
+  places = [];
   is_reliable = false;
   seen = None;
 })

@@ -142,7 +142,7 @@ cause_copied source w v first last r opened none moved told = tt
 
 -- nothing is said of a view where there is none
 no_shape : ViewShape
-no_shape = record { header = record { version_high = 0; checksum = 0; time = 0; flags = 0 }; streams = []; costs = []; is_reliable = false; seen = None }
+no_shape = record { header = record { version_high = 0; checksum = 0; time = 0; flags = 0 }; streams = []; costs = []; places = []; is_reliable = false; seen = None }
 
 -- a type is refused
 pub Copies-not : (Z : Type 0) (content : Option (List ℕ)) (file_size : ℕ) (types : List ℕ) (limit : ℕ) (before : OutState) (t : ℕ) → first_not_copied types ≡ Some t

@@ -2,6 +2,9 @@
 use super::{Through, ViewOutcome, Written, reads_to_open, reads_to_write, written_by_turns};
 use crate::files::{NAMED, SIX_FILE, file_of};
 use crate::same::assert_same_at;
+use mdmp_dump::ViewFault;
+use mdmp_source::SourceFault;
+use mdmp_writer::WriteFault;
 use std::alloc::Global;
 use std::process::Abort;
 
@@ -74,9 +77,17 @@ fn file_that_changes_is_never_written_with_another_length(rt: HostRuntime) {
     }
 }
 
+/// Asserts that where the writing stopped, the file was told as changed at this place.
+fn assert_place(rt: &impl Abort, turn: u64, written: &Written, rva: u64) {
+    let changed = ViewFault::Source(SourceFault::Changed { at: rva });
+    if let ViewOutcome::Stopped(fault) = written.outcome {
+        assert_same_at(rt, &turn, fault, WriteFault::View(changed));
+    }
+}
+
 /// Asserts that a first part of the six streams is written, a byte of which changes, at each read behind the
-/// opening of their view.
-fn assert_first_part(rt: &impl Abort, alloc: Global, at: usize, byte: u8) {
+/// opening of their view, and that the change is told at the place of the byte's stream.
+fn assert_first_part(rt: &impl Abort, alloc: Global, at: usize, byte: u8, rva: u64) {
     let six = file_of(rt, alloc, SIX_FILE);
     let other = changed(rt, alloc, at, byte);
     let opened = reads_to_open(rt, alloc, &six, NAMED);
@@ -86,15 +97,16 @@ fn assert_first_part(rt: &impl Abort, alloc: Global, at: usize, byte: u8) {
         let first = six.get(..written.bytes.len());
         assert_same_at(rt, &turn, first, Some(written.bytes.as_slice()));
         assert_length(rt, turn, &written);
+        assert_place(rt, turn, &written, rva);
     }
 }
 
 #[test]
 fn list_that_changes_behind_the_opening_leaves_a_first_part(rt: HostRuntime) {
     // The number of threads, the size of a name, the sizes of a stack and of two contexts.
-    assert_first_part(&rt, rt.alloc(), 196, 0);
-    assert_first_part(&rt, rt.alloc(), 160, 40);
-    assert_first_part(&rt, rt.alloc(), 232, 8);
-    assert_first_part(&rt, rt.alloc(), 240, 12);
-    assert_first_part(&rt, rt.alloc(), 425, 0xff);
+    assert_first_part(&rt, rt.alloc(), 196, 0, 196);
+    assert_first_part(&rt, rt.alloc(), 160, 40, 104);
+    assert_first_part(&rt, rt.alloc(), 232, 8, 196);
+    assert_first_part(&rt, rt.alloc(), 240, 12, 196);
+    assert_first_part(&rt, rt.alloc(), 425, 0xff, 264);
 }

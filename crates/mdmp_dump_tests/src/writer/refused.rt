@@ -31,11 +31,12 @@ impl DumpView for SizesView {
       streams = record { kind = kinds.Raw v.stream_type; records = 0; raw = v.raw; parts = 0; bytes = 0 }
           ∷ record { kind = kinds.Known 9; records = 1; raw = 0; parts = v.far; bytes = 0 } ∷ [];
       costs = [];
+      places = [];
       is_reliable = false;
       seen = None;
     } };
 
-    ghost cursor = { λ v. record { kind = kinds.Unused; records = 1; room = 0; far = 0; bytes = 0; seen = None; sizes = λ k. 0; parts = None } };
+    ghost cursor = { λ v. record { kind = kinds.Unused; records = 1; room = 0; far = 0; bytes = 0; seen = None; sizes = λ k. 0; parts = None; at = 0 } };
 
     ghost spent = { λ v. record { passed = 0; asked = 0; fault = Some (Source (Failed 0)) } };
 

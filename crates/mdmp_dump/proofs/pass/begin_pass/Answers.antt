@@ -1,9 +1,10 @@
-use Rattle.std.proofs.Common.{◌≡◌, ◌∙◌, List, [], ◌∷◌, length, get_or, ap, sym, subst, arith, rules, Ok, Err, Some, true, false}
+use Rattle.std.proofs.Common.{◌≡◌, ◌∙◌, ℕ, List, [], ◌∷◌, length, get_or, ap, sym, subst, arith, rules, Ok, Err, Some, true, false}
 use Rattle.mdmp_lister.specs.Format.Listing.{Numbered}
 use Rattle.mdmp_wire.specs.declared.entry.Entry.{Entry}
 use Rattle.mdmp_dump.specs.declared.pass.Pass.{Pass}
 use Rattle.mdmp_dump.specs.EntryWalk.{Begins, WalkState, chosen_entry, no_entry, raw_part}
 use Rattle.mdmp_dump.specs.FoundRecord.{IsPartIn, no_part}
+use Rattle.mdmp_dump.specs.Shape.{IsChangeAt}
 use Rattle.mdmp_dump.proofs.FaultsTold.{begin_refused, going_on, same_count, tells_change, tells_ok}
 use Rattle.mdmp_dump.proofs.FileViews.{raw_parts}
 use Rattle.mdmp_dump.proofs.Viewed.{raw_inside}
@@ -13,7 +14,7 @@ use Rattle.mdmp_dump.proofs.pass.begin_pass.Goals.{then-now-count-via-then-now-c
 pub returns-in-Err-clause-tells : goal.returns-in-Err-clause-tells
 returns-in-Err-clause-tells g c =
     let begins = subst (λ (v : WalkState). Begins v c.args.stream (Err c.in-Err.fault) c.begin.new.self) c.entry-entry.ensures.same c.in-Err.ensures in
-    rw c.told_reading.ensures (begin_refused Pass c.args.walk.now c.begin.new.self c.args.stream c.args.count c.requires.counted c.in-Err.fault c.entry-entry.result.location.rva begins)
+    rw c.told_reading.ensures.told (begin_refused Pass c.args.walk.now c.begin.new.self c.args.stream c.args.count c.requires.counted c.in-Err.fault c.entry-entry.result.location.rva begins)
 
 pub returns-then-now-count-clause-tells : goal.returns-then-now-count-clause-tells
 returns-then-now-count-clause-tells g c =
@@ -66,6 +67,14 @@ returns-clause-begins g c =
         parts = part i ∷ no_part ∷ no_part ∷ [];
       },
     )
+
+pub returns-in-Err-clause-place : goal.returns-in-Err-clause-place
+returns-in-Err-clause-place g c =
+    let rva = ap (λ (e : Entry). e.location.rva) c.entry-entry.ensures.value in
+    subst (λ (at : ℕ). IsChangeAt at c.told_reading.result) rva c.told_reading.ensures.place
+
+pub returns-then-now-count-clause-place : goal.returns-then-now-count-clause-place
+returns-then-now-count-clause-place g c = rw c.changed.ensures (ap (λ (e : Entry). e.location.rva) c.entry-entry.ensures.value)
 
 pub returns-in-Err-clause-pays : goal.returns-in-Err-clause-pays
 returns-in-Err-clause-pays g c =

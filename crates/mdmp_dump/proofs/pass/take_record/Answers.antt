@@ -12,7 +12,7 @@ pub returns-in-Err-clause-tells : goal.returns-in-Err-clause-tells
 returns-in-Err-clause-tells g c =
     let w = c.args.walk.now in
     let p = c.args.pass in
-    rw c.told_reading.ensures
+    rw c.told_reading.ensures.told
     (next_refused g.row.A.Denot w c.next_record.new.self c.args.limit p c.requires.passing c.requires.going c.requires.unfailed c.requires.of_file (Fields × Pass) c.in-Err.fault p.rva c.in-Err.ensures)
 
 pub returns-then-met-pass-clause-tells : goal.returns-then-met-pass-clause-tells
@@ -45,7 +45,7 @@ returns-clause-gives g c =
     let q = record p { given = p.given + 1; left = p.left - 1; met = c.met_room-met.result; parts = c.in-Ok.found.parts } in
     record_given g.row.A.Denot w c.next_record.new.self c.args.limit p c.requires.passing c.requires.going c.requires.unfailed c.requires.of_file c.size-size.ensures.bytes
     c.in-Ok.found c.in-Ok.ensures c.fields-fields.result c.fields-fields.ensures c.met_room-met.result c.met_room-met.ensures
-    q refl refl (omega (arith, c.requires.going)) refl refl refl (omega (arith, c.size-size.ensures.value)) (omega arith) (omega arith)
+    q refl refl refl (omega (arith, c.requires.going)) refl refl refl (omega (arith, c.size-size.ensures.value)) (omega arith) (omega arith)
     (λ none. elim c.else-left-eq0.branch [ else-left-eq0-via-then-left-eq0+else-met-pass-2 v ↦ omega (arith, c.if-met-pass.false, v.if-met-pass-2.false) | else-left-eq0-via-else-left-eq0 v ↦ absurd (omega (arith, none, v.if-left-eq0.false)) ])
 
 pub returns-clause-passes_of : goal.returns-clause-passes_of
@@ -55,7 +55,7 @@ returns-clause-passes_of g c =
     let q = record p { given = p.given + 1; left = p.left - 1; met = c.met_room-met.result; parts = c.in-Ok.found.parts } in
     pass_behind g.row.A.Denot w c.next_record.new.self c.args.limit p c.requires.passing c.requires.going c.requires.unfailed c.requires.of_file c.size-size.ensures.bytes
     c.in-Ok.found c.in-Ok.ensures c.fields-fields.result c.fields-fields.ensures c.met_room-met.result c.met_room-met.ensures
-    q refl refl (omega (arith, c.requires.going)) refl refl refl
+    q refl refl refl (omega (arith, c.requires.going)) refl refl refl
 
 pub next_record-requires : goal.next_record-requires
 next_record-requires g c = let begun = c.requires.passing.going c.requires.going in omega (arith, begun.1, c.requires.going)

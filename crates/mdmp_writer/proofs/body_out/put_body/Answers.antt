@@ -44,7 +44,7 @@ returns-in-Err-put_head-clause-uses g c =
 pub returns-in-Err-clause-uses : goal.returns-in-Err-clause-uses
 returns-in-Err-clause-uses g c =
     let of = c.in-Err.ensures in
-    uses_fault uses_none c.rewind.ensures.shape of.reliable of.passed (omega (arith, of.asked)) of.told
+    uses_fault uses_none c.rewind.ensures.shape of.reliable of.passed (omega (arith, of.asked)) of.told.last
 
 pub returns-in-Ok-put_head-clause-moves : goal.returns-in-Ok-put_head-clause-moves
 returns-in-Ok-put_head-clause-moves g c = g.met.V.DumpView.follows _ _ _ c.in-Ok.ensures.moves c.put_record_texts.ensures.moves

@@ -1,6 +1,7 @@
 use Rattle.std.proofs.Common.{◌≡◌, ◌≤◌, ◌∙◌, ◌+◌, ◌-◌, ◌++◌, ℕ, List, [], length, take, drop, get_or, arith, ap, length-take, length-drop}
 use Rattle.std.proofs.lemmas.List.{take_all}
 use Rattle.mdmp_source.proofs.Bytes.{take-put_mid_more}
+use Rattle.mdmp_dump.specs.ShapeLaws.{last_told}
 use Rattle.mdmp_writer.proofs.Sending.{on_ok}
 use Rattle.mdmp_writer.proofs.gather.fetch_behind.Goals as goal
 use borrow.Rule.Slice.PartMut.{put_mid}
@@ -22,3 +23,6 @@ returns-clause-gives g c =
           (omega arith) c.requires.room c.part.auto.out (gave ps known),
     ))
     c.part.ensures.cursor c.part.ensures.bytes
+
+pub returns-clause-told : goal.returns-clause-told
+returns-clause-told g c = last_told _ _ c.part.result c.part.ensures.told

@@ -85,7 +85,7 @@ returns-clause-uses g c = uses_within c.loop-left.invariant.uses (omega arith) (
 pub returns-in-Err-clause-uses : goal.returns-in-Err-clause-uses
 returns-in-Err-clause-uses g c =
     uses_fault c.loop-left.invariant.uses c.next_record.ensures.shape c.in-Err.ensures.reliable (omega (arith, c.loop-left.invariant.uses.passed, c.in-Err.ensures.passed))
-    (omega (arith, c.loop-left.invariant.uses.asked, c.in-Err.ensures.asked)) c.in-Err.ensures.told
+    (omega (arith, c.loop-left.invariant.uses.asked, c.in-Err.ensures.asked)) c.in-Err.ensures.told.last
 
 pub returns-in-Err-put_record_text-clause-uses : goal.returns-in-Err-put_record_text-clause-uses
 returns-in-Err-put_record_text-clause-uses g c =

@@ -1,5 +1,6 @@
-use Rattle.std.proofs.Common.{◌<◌, arith}
-use Rattle.mdmp_dump.proofs.Moving.{cursor_left, moves_err, moves_quiet, records_none, reliable_err, shape_stays, unended, view_taken, view_untaken}
+use Rattle.std.proofs.Common.{◌<◌, ℕ, arith, refl, subst}
+use Rattle.mdmp_dump.specs.Shape.{IsChangeAt}
+use Rattle.mdmp_dump.proofs.Moving.{cursor_left, cursor_place, moves_err, moves_quiet, records_none, reliable_err, shape_stays, unended, view_taken, view_untaken}
 use Rattle.mdmp_dump.proofs.file_view.FileViewDumpView.next_record.Goals as goal
 
 pub take_record-requires-clause-going : goal.take_record-requires-clause-going
@@ -44,6 +45,12 @@ returns-in-Err-clause-reliable g c =
 
 pub returns-in-Ok-clause-gives : goal.returns-in-Ok-clause-gives
 returns-in-Ok-clause-gives g c = rw c.in-Some.is c.in-Ok.ensures.gives
+
+pub returns-in-Err-clause-told : goal.returns-in-Err-clause-told
+returns-in-Err-clause-told g c =
+    let s = c.args.self.now in
+    let at = cursor_place g.row.A.Denot s.walk s.pass c.in-Some.pass c.in-Some.is in
+    record { last = refl; place = subst (λ (n : ℕ). IsChangeAt n c.in-Err.fault) at c.in-Err.ensures.place }
 
 pub returns-in_default-clause-told : goal.returns-in_default-clause-told
 returns-in_default-clause-told g c =

@@ -1,5 +1,6 @@
-use Rattle.std.proofs.Common.{◌≡◌, ◌<◌, ◌+◌, ◌-◌, ◌^◌, arith, inr, length, Ok, Err, Some, None}
-use Rattle.mdmp_dump.specs.FileView.{opening_cost}
+use Rattle.std.proofs.Common.{◌≡◌, ◌<◌, ◌+◌, ◌-◌, ◌^◌, arith, inr, length, refl, Ok, Err, Some, None}
+use Rattle.mdmp_dump.specs.FileView.{file_cursor, opening_cost}
+use Rattle.mdmp_dump.proofs.FaultsTold.{fetched_place, last_of}
 use Rattle.mdmp_dump.specs.declared.view.ViewFault.TheVariants as view
 use Rattle.mdmp_dump.proofs.Moving.{aside_same, asked_bytes, asked_inside, asked_which, bytes_none, cursor_stays, moves_quiet, moves_told, reliable_read, shape_stays, uncut, view_read, view_unasked}
 use Rattle.mdmp_dump.proofs.file_view.FileViewDumpView.part.Goals as goal
@@ -105,7 +106,13 @@ pub returns-in-Err-clause-moves : goal.returns-in-Err-clause-moves
 returns-in-Err-clause-moves g c =
     let s = c.args.self.now in
     let of = c.in-Err.ensures.reads in
-    moves_told s.walk c.read_part.new.self (aside_same of) s.last (view.Source c.in-Err.fault) of.told
+    moves_told s.walk c.read_part.new.self (aside_same of) s.last (view.Source c.in-Err.fault) (last_of c.in-Err.fault s.walk.source c.read_part.new.self.source of.told)
+
+pub returns-in-Err-clause-told : goal.returns-in-Err-clause-told
+returns-in-Err-clause-told g c =
+    let s = c.args.self.now in
+    let of = c.in-Err.ensures.reads in
+    record { last = refl; place = fetched_place (file_cursor g.row.A.Denot s.walk s.pass).at c.in-Err.fault s.walk.source c.read_part.new.self.source of.told }
 
 pub returns-in-Err-clause-reliable : goal.returns-in-Err-clause-reliable
 returns-in-Err-clause-reliable g c =

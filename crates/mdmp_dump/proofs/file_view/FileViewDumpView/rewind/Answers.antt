@@ -1,10 +1,11 @@
-use Rattle.std.proofs.Common.{◌≡◌, ◌∙◌, ◌<◌, ◌+◌, ◌-◌, ◌^◌, get_or, ap, subst, sym, arith, Ok, Err}
+use Rattle.std.proofs.Common.{◌≡◌, ◌∙◌, ◌<◌, ◌+◌, ◌-◌, ◌^◌, ℕ, get_or, ap, refl, subst, sym, arith, Ok, Err}
 use Rattle.std.proofs.lemmas.List.{get_or_read}
 use Rattle.mdmp_wire.specs.declared.entry.Entry.{Entry}
 use Rattle.mdmp_dump.specs.declared.pass.Pass.{Pass}
 use Rattle.mdmp_dump.specs.EntryWalk.{Pays, WalkState, chosen_entry, listed, pass_cost}
 use Rattle.mdmp_dump.specs.FileView.{TellsViewFault, first_pass, opening_cost, pass_cursor}
-use Rattle.mdmp_dump.proofs.KnownViews.{cost_told, inside_view, pass_begins}
+use Rattle.mdmp_dump.specs.Shape.{IsChangeAt}
+use Rattle.mdmp_dump.proofs.KnownViews.{cost_told, inside_view, pass_begins, place_told}
 use Rattle.mdmp_dump.proofs.Moving.{moves_err, moves_quiet, reliable_err, shape_stays, uncut_before, view_begun, view_unbegun}
 use Rattle.mdmp_dump.proofs.file_view.FileViewDumpView.rewind.Goals as goal
 
@@ -133,6 +134,16 @@ returns-in-Err-clause-reliable g c =
     let pays = subst (λ (u : WalkState). Pays (listed (chosen_entry u k).entry) 0 u v) c.entry.ensures.same c.in-Err.ensures.pays in
     let tells = subst (λ (u : WalkState). TellsViewFault {T = Pass} u (Err c.in-Err.fault) v) c.entry.ensures.same c.in-Err.ensures.tells in
     λ reliable. reliable_err g.row.A.Denot s.limit w s.counts.items s.rooms.items s.pass s.passed s.asked s.last s.sound v pays.same c.in-Err.fault tells reliable
+
+pub returns-in-Err-clause-told : goal.returns-in-Err-clause-told
+returns-in-Err-clause-told g c =
+    let s = c.args.self.now in
+    let w = s.walk in
+    let k = c.args.stream in
+    let inside = inside_view g.row.A.Denot s.limit w s.counts.items s.rooms.items s.sound.counted s.sound.roomed s.sound.of_file k c.requires in
+    let stands = place_told g.row.A.Denot s.limit w s.counts.items s.rooms.items s.sound.counted s.sound.roomed s.sound.of_file k inside in
+    let at = ap (λ (u : WalkState). (chosen_entry u k).entry.location.rva) c.entry.ensures.same ∙ stands in
+    record { last = refl; place = subst (λ (n : ℕ). IsChangeAt n c.in-Err.fault) at c.in-Err.ensures.place }
 
 pub returns-in-Ok-clause-shape : goal.returns-in-Ok-clause-shape
 returns-in-Ok-clause-shape g c =
