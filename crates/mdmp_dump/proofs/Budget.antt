@@ -23,6 +23,7 @@ use Rattle.mdmp_dump.specs.declared.reader.Reader.{Reader}
 use Rattle.mdmp_dump.specs.Part.{part_in}
 use Rattle.mdmp_dump.specs.Reading.{AreBytesOf, Fetches, HasBytesAt, IsReadRefusal, TakesSteps, store_fault}
 use Rattle.mdmp_dump.specs.Refusal.{Refuse, ReadStep, Take, first_refusal, part_steps}
+use Rattle.mdmp_dump.proofs.Keeping.{keeps_none, keeps_till}
 use Rattle.mdmp_dump.proofs.Refusal.{refusal_moved}
 
 -- nothing was fetched, and no fault of the store is told
@@ -91,6 +92,7 @@ outside-refused old e k part at size = record {
   same = refl;
   fetches = Fetches-none _ old.lister.source refl tt;
   settles = λ rest last own. refused-first (faults.PartOutside e k part at size) old.left rest last;
+  keeps = keeps_till old old (faults.PartOutside e k part at size) tt (keeps_none old);
 }
 
 -- the bytes that were taken of a location of this class are its part

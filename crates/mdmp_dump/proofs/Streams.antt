@@ -16,6 +16,8 @@ use Rattle.mdmp_lister.specs.Format.Classes.{IsStream as IsStreamItem}
 use Rattle.mdmp_lister.specs.Format.Kind.{form_of, is_known, kind_of}
 use Rattle.mdmp_lister.specs.Format.Listing.{Numbered, Run, list_fault, only_fault}
 use Rattle.mdmp_lister.specs.Format.Shape.{location_fault, shape_of, single}
+use Rattle.mdmp_dump.specs.Keeping.{KeepsOn}
+use Rattle.mdmp_dump.proofs.Keeping.{keeps_none}
 use Rattle.mdmp_dump.specs.declared.fault.ReadFault.{ReadFault}
 use Rattle.mdmp_lister.specs.Lister.{ListerState, tail}
 use Rattle.mdmp_dump.specs.declared.dump.Stream.{Stream}
@@ -63,6 +65,7 @@ RawValue F item stream = (bytes : List ℕ) × ((stream ≡ Some (streams.Raw it
 pub record RawTaken {S A Z : Type 0} (old : Reader S A) (item : StreamItem) (stream : Option (Stream Z)) (new : Reader S A) : Type 0 where
   pub same : new.lister ≡ record old.lister { source = new.lister.source; counts = new.lister.counts }
   pub fetches : FetchesSome old.lister.source new.lister.source
+  pub keeps : KeepsOn old new
   pub settles : (F : List ℕ) → old.lister.source.store.content ≡ Some F → IsRaw item.stream_type → (rest : List ReadStep) (last : Option ReadFault)
       → first_refusal old.left 0 (stream_steps (length F) item.entry item.stream_type item.location ++ rest) last ≡ first_refusal new.left 0 rest last
   pub value : (F : List ℕ) → old.lister.source.store.content ≡ Some F → IsRaw item.stream_type → IsTrue (is_inside item.location.rva item.location.size (length F))
@@ -97,6 +100,7 @@ module _ {S A : Type 0} (old : Reader S A) (item : StreamItem) (size : ℕ) (is_
   raw_inside {Z} bytes new inside takes has = record {
     same = takes.same;
     fetches = takes.fetches.fetches;
+    keeps = takes.keeps;
     settles = λ F known raw rest last.
         ap (λ (steps : List ReadStep). first_refusal old.left 0 (steps ++ rest) last) (steps_by true inside F known raw) ∙ takes.settles rest last;
     value = λ F known raw within.
@@ -108,6 +112,7 @@ module _ {S A : Type 0} (old : Reader S A) (item : StreamItem) (size : ℕ) (is_
   raw_outside {Z} outside = record {
     same = refl;
     fetches = FetchesSome_none old.lister.source;
+    keeps = keeps_none old;
     settles = λ F known raw rest last. ap (λ (steps : List ReadStep). first_refusal old.left 0 (steps ++ rest) last) (steps_by false outside F known raw);
     value = λ F known raw within.
         let same : size ≡ length F = sized F old.lister.source.store.content size known is_size in

@@ -1,6 +1,6 @@
 -- Steps that are taken one after another.
 use Rattle.std.proofs.Common.{◌≡◌, ◌∙◌, ◌+◌, ℕ, List, [], ◌∷◌, ◌++◌, Option, Some, None, Result, Ok, Err, ap, append_assoc, refl, subst, sym}
-use Rattle.std.specs.Prelude.{IfSome}
+use Rattle.std.specs.Prelude.{IfSome, MatchResult}
 use Rattle.std.specs.Result.{IsErrAnd}
 use Rattle.mdmp_source.specs.Source.{SourceState, FetchesSome}
 use Rattle.mdmp_source.specs.SourceLaws.{fetches_then, told_later}
@@ -23,6 +23,7 @@ use Rattle.mdmp_dump.specs.declared.row.ToldRecord.{ToldRecord}
 use Rattle.mdmp_dump.specs.Reading.{Fetches, IsLastTold, IsReadRefusal, IsRowRead, IsToldOf, Settles, TakesSteps, name_steps_of, store_fault, store_fault_in}
 use Rattle.mdmp_dump.specs.Refusal.{Refuse, ReadStep, first_refusal, name_steps}
 use Rattle.mdmp_dump.specs.declared.reader.Told.{Told}
+use Rattle.mdmp_dump.proofs.Keeping.{keeps_later, keeps_memory, keeps_none}
 use Rattle.mdmp_lister.specs.Format.Summary.{summary_of}
 use Rattle.mdmp_lister.specs.declared.name.Name.{Name}
 use Rattle.mdmp_lister.specs.declared.name.Name.TheVariants.{Long}
@@ -128,6 +129,7 @@ module _ {S A : Type 0} where
     same = refl;
     fetches = Fetches_only x old.lister.source old.lister.source (FetchesSome_none old.lister.source);
     settles = λ rest last. refl;
+    keeps = keeps_none old;
   }
 
   -- where memory is wanting, whatever is asked
@@ -136,7 +138,13 @@ module _ {S A : Type 0} where
     same = refl;
     fetches = Fetches_memory old.lister.source old.lister.source (FetchesSome_none old.lister.source);
     settles = λ rest last other. absurd (other tt);
+    keeps = keeps_memory old old (keeps_none old);
   }
+
+  -- a part whose size alone is told, or which can't be
+  pub Takes_absent : {T : Type 0} (P : T → Type 0) (old : Reader S A) (result : Result T ReadFault) → MatchResult result P (λ fault. fault ≡ faults.Memory) → TakesSteps [] old result old
+  Takes_absent P old (Ok x) is = Takes_none old x
+  Takes_absent {T = T} P old (Err fault) is = subst (λ (f : ReadFault). TakesSteps {T = T} [] old (Err f) old) (sym is) (Takes_memory [] old)
 
   module _ {T : Type 0} (steps : List ReadStep) (old new : Reader S A) (result : Result T ReadFault) (takes : TakesSteps steps old result new) where
     -- the file stays, and its size
@@ -153,6 +161,7 @@ module _ {S A : Type 0} where
       same = takes.same;
       fetches = Fetches_only y old.lister.source new.lister.source takes.fetches.fetches;
       settles = λ rest last. takes.settles rest last;
+      keeps = takes.keeps;
     }
 
     -- behind what was taken some more is asked
@@ -165,6 +174,7 @@ module _ {S A : Type 0} where
           let all : first_refusal old.left 0 ((steps ++ more) ++ rest) last ≡ first_refusal mid.left 0 (more ++ rest) last =
           ap (λ (all : List ReadStep). first_refusal old.left 0 all last) (append_assoc steps more rest) ∙ first.settles (more ++ rest) last in
           subst (λ (refusal : Option ReadFault). Settles refusal result (λ _. first_refusal new.left 0 rest last)) (sym all) (then.settles rest last);
+      keeps = keeps_later result old mid new first.keeps then.keeps;
     }
 
     -- a step that can't be taken is the last
@@ -175,6 +185,7 @@ module _ {S A : Type 0} where
       fetches = Fetches_as fault old.lister.source new.lister.source takes.fetches;
       settles = λ rest last other.
           ap (λ (all : List ReadStep). first_refusal old.left 0 all last) (append_assoc steps more rest) ∙ takes.settles (more ++ rest) last other;
+      keeps = takes.keeps;
     }
 
     -- and so at another type of result
@@ -183,6 +194,7 @@ module _ {S A : Type 0} where
       same = takes.same;
       fetches = Fetches_as fault old.lister.source new.lister.source takes.fetches;
       settles = λ rest last other. takes.settles rest last other;
+      keeps = takes.keeps;
     }
 
   -- ---- records

@@ -9,6 +9,7 @@ use Rattle.mdmp_lister.specs.Lister.{ListerState, tail}
 use Rattle.mdmp_dump.specs.declared.dump.Stream.{Stream}
 use Rattle.mdmp_dump.specs.declared.fault.ReadFault.{ReadFault}
 use Rattle.mdmp_dump.specs.declared.reader.Reader.{Reader}
+use Rattle.mdmp_dump.specs.Keeping.{KeepsOn}
 use Rattle.mdmp_dump.specs.LaysOut.{AreStreams, NamesStream}
 use Rattle.mdmp_dump.specs.Left.{is_item_of, left_from, run_of}
 use Rattle.mdmp_dump.specs.Reading.{IsEntryRead, IsGoing, IsLeftBehind, IsNextStream, IsOneStream, IsWanting, NoRowFirst, Settles, owed}
@@ -38,6 +39,7 @@ pub record AreRead {S A Z : Type 0} (F : List ℕ) (limit : ℕ) (xs : List Numb
 -- some streams were read
 pub record StreamsRead {S A Z : Type 0} (old : Reader S A) (streams : List (Stream Z)) (next : Option StreamItem) (new : Reader S A) : Type 0 where
   pub fetches : FetchesSome old.lister.source new.lister.source
+  pub keeps : KeepsOn old new
   pub awaited : IsAwaited next new.lister
   pub of_file : (F : List ℕ) (limit : ℕ) (xs : List Numbered) → old.lister.source.store.content ≡ Some F → old.lister.left ≡ Some (run_of F limit xs)
       → AreRead F limit xs old streams next new

@@ -7,6 +7,7 @@ pub mod Finding
 pub mod Fits
 pub mod FoundRecord
 pub mod InFile
+pub mod Keeping
 pub mod LaysOut
 pub mod Left
 pub mod Memory

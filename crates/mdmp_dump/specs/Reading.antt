@@ -37,6 +37,7 @@ use Rattle.mdmp_dump.specs.declared.reader.Told.TheVariants as tolds
 use Rattle.mdmp_dump.specs.declared.reader.Next.{Next}
 use Rattle.mdmp_dump.specs.declared.reader.Next.TheVariants as nexts
 use Rattle.mdmp_dump.specs.FileRefusal.{IsUnbudgeted}
+use Rattle.mdmp_dump.specs.Keeping.{KeepsStep, KeepsReading}
 use Rattle.mdmp_dump.specs.LaysOut.{EachFrom, NamesStream}
 use Rattle.mdmp_dump.specs.declared.dump.Stream.{Stream}
 use Rattle.mdmp_wire.specs.declared.entry.Entry.{Entry}
@@ -147,11 +148,19 @@ pub record TellsOf (content : Option (List ℕ)) (fault : ReadFault) : Type 0 wh
   pub memory : fault ≡ faults.Memory → (file : List ℕ) → content ≡ Some file → directory_refusal file ≡ None
   pub changed : MayBeTold content (store_fault fault)
 
+-- what a reading answers was fetched so: the source that it left is one of these fetches, and keeps to the limits
+pub record IsReadWithin {T : Type 0} (limits : Limits) (parts : ℕ) (result : Result T ReadFault) (old : SourceState) : Type 0 where
+  pub after : SourceState
+  pub fetches : Fetches result old after
+  pub keeps : KeepsReading limits parts result old after
+  pub unbudgeted : limits.budget ≡ None → IfErr result IsWithoutBudget
+
 -- what some steps ask was done, or the first of them that can't be is told
 pub record TakesSteps {S A T : Type 0} (steps : List ReadStep) (old : Reader S A) (result : Result T ReadFault) (new : Reader S A) : Type 0 where
   pub same : new.lister ≡ record old.lister { source = new.lister.source; counts = new.lister.counts }
   pub fetches : Fetches result old.lister.source new.lister.source
   pub settles : (rest : List ReadStep) (last : Option ReadFault) → Settles (first_refusal old.left 0 (steps ++ rest) last) result (λ _. first_refusal new.left 0 rest last)
+  pub keeps : KeepsStep result old new
 
 -- these are the bytes at a place inside the file
 pub record HasBytesAt (F : List ℕ) (at size : ℕ) (bytes : List ℕ) : Type 0 where

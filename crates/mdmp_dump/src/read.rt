@@ -2,9 +2,11 @@
 ghost use Rattle.std.specs.Prelude.{◌≡◌, ◌<◌, ℕ, List, None, Some, Err, IfErr, IfOk};
 ghost use Rattle.mdmp_source.specs.Store.{IsGood};
 ghost use Rattle.mdmp_lister.specs.Format.Listing.{Numbered};
+ghost use Rattle.mdmp_lister.specs.Meter.{IsBooked, KeepsTo};
+ghost use Rattle.mdmp_dump.specs.Keeping.{KeepsStep, KeepsReading};
 ghost use Rattle.mdmp_dump.specs.LaysOut.{AreStreams, LaysOut};
 ghost use Rattle.mdmp_dump.specs.Left.{is_item_of, left_from, run_of};
-ghost use Rattle.mdmp_dump.specs.Reading.{Fetches, IsEntryRead, IsGoing, IsOneStream, IsRaw, IsReadRefusal, IsWithoutBudget, Settles, TellsLimit, TellsOf, owed, read_within, refusal_of, store_fault};
+ghost use Rattle.mdmp_dump.specs.Reading.{Fetches, IsEntryRead, IsGoing, IsOneStream, IsRaw, IsReadRefusal, IsReadWithin, IsWithoutBudget, Settles, TellsLimit, TellsOf, owed, read_within, refusal_of, store_fault};
 ghost use Rattle.mdmp_dump.specs.Refusal.{read_refusal};
 
 use crate::dump::{Dump, Stream};
@@ -56,7 +58,7 @@ pub fn read_dump<S: Store + Drop, A: Allocator + Copy>(
     ensures short { source.size < 32 → result ≡ Err (ReadFault.Opening (OpenFault.TooShort source.size)) }
     ensures tells { IfErr result (TellsOf source.store.content) }
     ensures limited { IfErr result (TellsLimit limits choice source.store.content) }
-    ensures unbudgeted { limits.budget ≡ None → IfErr result IsWithoutBudget }
+    ensures within { IsReadWithin limits parts result source }
 {
     read_source(alloc, source, limits, choice, parts).answer
 }
@@ -75,6 +77,7 @@ pub fn read_source<S: Store + Drop, A: Allocator + Copy>(
     ensures short { source.size < 32 → result.answer ≡ Err (ReadFault.Opening (OpenFault.TooShort source.size)) }
     ensures tells { IfErr result.answer (TellsOf source.store.content) }
     ensures limited { IfErr result.answer (TellsLimit limits choice source.store.content) }
+    ensures keeps { KeepsReading limits parts result.answer source result.source }
     ensures unbudgeted { limits.budget ≡ None → IfErr result.answer IsWithoutBudget }
 {
     let all = matches!(&choice, Choice::All);
@@ -108,13 +111,24 @@ pub fn read_source<S: Store + Drop, A: Allocator + Copy>(
                 flags: header.flags,
                 streams,
             }),
-            source: reader.lister.into_source(),
+            source: source_of(reader),
         },
         Err(fault) => ReadAnswered {
             answer: Err(told_within(limits.budget, fault)),
-            source: reader.lister.into_source(),
+            source: source_of(reader),
         },
     }
+}
+
+/// The source of a reading that has ended.
+fn source_of<S: Store + Drop, A: Allocator + Copy>(reader: Reader<S, A>) -> Source<S>
+    ensures value { result ≡ reader.lister.source }
+    ensures booked { IsBooked result reader.lister.counts }
+    ensures kept { KeepsTo reader.lister.counts.budget reader.lister.counts.fetched }
+{
+    // The proof learns here that what was fetched is within the budget.
+    let _counts = reader.lister.counts();
+    reader.lister.into_source()
 }
 
 /// Why a file that was opened gives no dump. Without a budget no listing ends by it, and none by the limit of
@@ -155,6 +169,7 @@ fn read_streams<S: Store + Drop, A: Allocator + Copy>(
 ) -> Result<Records<Stream<A>, A>, ReadFault>
     requires { reader.old.lister.stop ≡ None }
     ensures fetches { Fetches result reader.old.lister.source reader.new.lister.source }
+    ensures keeps { KeepsStep result reader.old reader.new }
     ensures of_file { (file : List ℕ) (limit : ℕ) (xs : List Numbered) → reader.old.lister.source.store.content ≡ Some file
         → reader.old.lister.left ≡ Some (run_of file limit xs)
         → IfOk result (AreStreams file xs) × Settles (owed file reader.old.left None reader.old.lister.left) result (λ _. None) }
@@ -183,6 +198,7 @@ fn read_stream<S: Store + Drop, A: Allocator + Copy>(
 ) -> Result<(Option<Stream<A>>, Option<StreamItem>), ReadFault>
     requires { reader.old.lister.stop ≡ None }
     ensures fetches { Fetches result reader.old.lister.source reader.new.lister.source }
+    ensures keeps { KeepsStep result reader.old reader.new }
     ensures going { IfOk result (λ r. IsGoing reader.old.lister r.1 reader.new.lister) }
     ensures of_file { (file : List ℕ) (limit : ℕ) (x : Numbered) (xs : List Numbered) → reader.old.lister.source.store.content ≡ Some file
         → reader.old.lister.left ≡ Some (left_from file limit x 0 xs) → item ≡ is_item_of x
@@ -241,6 +257,7 @@ fn read_raw<S: Store + Drop, A: Allocator + Copy>(
 ) -> Result<(Option<Stream<A>>, Option<StreamItem>), ReadFault>
     requires { reader.old.lister.stop ≡ None }
     ensures fetches { Fetches result reader.old.lister.source reader.new.lister.source }
+    ensures keeps { KeepsStep result reader.old reader.new }
     ensures going { IfOk result (λ r. IsGoing reader.old.lister r.1 reader.new.lister) }
     ensures of_file { (file : List ℕ) (limit : ℕ) (x : Numbered) (xs : List Numbered) → reader.old.lister.source.store.content ≡ Some file
         → reader.old.lister.left ≡ Some (left_from file limit x 0 xs) → item ≡ is_item_of x → IsRaw x.entry.stream_type

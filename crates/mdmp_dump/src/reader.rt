@@ -7,6 +7,7 @@ ghost use Rattle.mdmp_lister.specs.Format.Item.{plain};
 ghost use Rattle.mdmp_lister.specs.Format.Name.{plain_name};
 ghost use Rattle.mdmp_lister.specs.Format.Kind.{kind_of};
 ghost use Rattle.mdmp_lister.specs.Format.Listing.{Numbered, Run};
+ghost use Rattle.mdmp_dump.specs.Keeping.{KeepsStep};
 ghost use Rattle.mdmp_dump.specs.LaysOut.{HasRecords};
 ghost use Rattle.mdmp_dump.specs.Left.{left_from};
 ghost use Rattle.mdmp_dump.specs.Part.{part_in};
@@ -154,6 +155,7 @@ impl<S: Store + Drop, A: Allocator + Copy> Reader<S, A> {
     pub(crate) fn behind(&mut self) -> Result<Option<StreamItem>, ReadFault>
         requires { self.old.lister.stop ≡ None }
         ensures fetches { Fetches result self.old.lister.source self.new.lister.source }
+        ensures keeps { KeepsStep result self.old self.new }
         ensures going { IfOk result (λ next. IsGoing self.old.lister next self.new.lister) }
         ensures gives { (file : List ℕ) (run : Run) → self.old.lister.source.store.content ≡ Some file → self.old.lister.left ≡ Some run → NoRowFirst run
             → IfOk result (λ next. IsNextStream run next self.new.lister.left) × Settles (owed file self.old.left None self.old.lister.left) result (λ next. owed file self.new.left next self.new.lister.left) }
@@ -170,6 +172,7 @@ impl<S: Store + Drop, A: Allocator + Copy> Reader<S, A> {
     fn find<T: Row<S, A>>(&mut self) -> Result<Told<T::Fields, A>, ReadFault>
         requires { self.old.lister.stop ≡ None }
         ensures fetches { Fetches result self.old.lister.source self.new.lister.source }
+        ensures keeps { KeepsStep result self.old self.new }
         ensures left { self.new.left ≡ self.old.left }
         ensures of_file { (file : List ℕ) (limit : ℕ) (x : Numbered) (k : ℕ) (xs : List Numbered) → self.old.lister.source.store.content ≡ Some file
             → self.old.lister.left ≡ Some (left_from file limit x k xs) → kind_of x.entry.stream_type ≡ Some T.kind
@@ -190,6 +193,7 @@ impl<S: Store + Drop, A: Allocator + Copy> Reader<S, A> {
     fn next<T: Row<S, A>>(&mut self) -> Result<Next<T>, ReadFault>
         requires { self.old.lister.stop ≡ None }
         ensures fetches { Fetches result self.old.lister.source self.new.lister.source }
+        ensures keeps { KeepsStep result self.old self.new }
         ensures going { IfOk result (λ next. IsGoingOn self.old.lister next self.new.lister) }
         ensures of_file { (file : List ℕ) (limit : ℕ) (x : Numbered) (k : ℕ) (xs : List Numbered) → self.old.lister.source.store.content ≡ Some file
             → self.old.lister.left ≡ Some (left_from file limit x k xs) → kind_of x.entry.stream_type ≡ Some T.kind
@@ -212,6 +216,7 @@ impl<S: Store + Drop, A: Allocator + Copy> Reader<S, A> {
     ) -> Result<(Records<T, A>, Option<StreamItem>), ReadFault>
         requires { self.old.lister.stop ≡ None }
         ensures fetches { Fetches result self.old.lister.source self.new.lister.source }
+        ensures keeps { KeepsStep result self.old self.new }
         ensures going { IfOk result (λ r. IsGoing self.old.lister r.1 self.new.lister) }
         ensures of_file { (file : List ℕ) (limit : ℕ) (x : Numbered) (xs : List Numbered) → self.old.lister.source.store.content ≡ Some file
             → self.old.lister.left ≡ Some (left_from file limit x 0 xs) → kind_of x.entry.stream_type ≡ Some T.kind
@@ -240,6 +245,7 @@ impl<S: Store + Drop, A: Allocator + Copy> Reader<S, A> {
     ) -> Result<(Option<T>, Option<StreamItem>), ReadFault>
         requires { self.old.lister.stop ≡ None }
         ensures fetches { Fetches result self.old.lister.source self.new.lister.source }
+        ensures keeps { KeepsStep result self.old self.new }
         ensures going { IfOk result (λ r. IsGoing self.old.lister r.1 self.new.lister) }
         ensures of_file { (file : List ℕ) (limit : ℕ) (x : Numbered) (xs : List Numbered) → self.old.lister.source.store.content ≡ Some file
             → self.old.lister.left ≡ Some (left_from file limit x 0 xs) → kind_of x.entry.stream_type ≡ Some T.kind → HasOneRecord file x T.kind

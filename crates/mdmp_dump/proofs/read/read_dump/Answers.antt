@@ -12,5 +12,7 @@ returns-clause-tells g c = c.read_source.ensures.tells
 pub returns-clause-short : goal.returns-clause-short
 returns-clause-short g c = c.read_source.ensures.short
 
-pub returns-clause-unbudgeted : goal.returns-clause-unbudgeted
-returns-clause-unbudgeted g c = c.read_source.ensures.unbudgeted
+pub returns-clause-within : goal.returns-clause-within
+returns-clause-within g c =
+    let read = c.read_source.ensures in
+    record { after = c.read_source.result.source; fetches = read.cause; keeps = read.keeps; unbudgeted = read.unbudgeted }

@@ -1,4 +1,5 @@
 use Rattle.std.proofs.Common.{◌∙◌, Err, Ok, sym}
+use Rattle.mdmp_dump.proofs.Keeping.{keeps_err, keeps_then}
 use Rattle.mdmp_dump.proofs.Streams.{RawTaken, raw_going, raw_left, raw_read, raw_taken}
 use Rattle.mdmp_dump.proofs.Taking.{fetches_err, fetches_ok, refused_by}
 use Rattle.mdmp_dump.proofs.read.read_raw.Goals as goal
@@ -72,3 +73,31 @@ returns-clause-going g c =
           (sym c.inside.ensures.value ∙ w.if-inside.false) w.reader-is w.stream-is
     ] in
     raw_going old mid item c.if-inside.stream taken c.in_ok-behind.field-0 c.behind.new.self.lister c.in_ok-behind.ensures.going
+
+pub returns-clause-keeps : goal.returns-clause-keeps
+returns-clause-keeps g c =
+    let old = c.args.reader.now in
+    let item = c.args.item in
+    let mid = c.if-inside.reader in
+    let taken : RawTaken old item c.if-inside.stream mid = elim c.if-inside.branch [
+      | then-inside+in_ok-bytes w ↦ raw_taken old item c.size.result c.size.ensures.content c.from-at.result c.from-size.result c.from-at.ensures c.from-size.ensures c.if-inside.stream mid
+          w.in_ok-bytes.field-0 w.bytes.new.self (sym c.inside.ensures.value ∙ w.if-inside.true) w.in_ok-bytes.ensures.takes w.in_ok-bytes.ensures.of_file w.reader-is w.stream-is
+      | else-inside w ↦ raw_left old item c.size.result c.size.ensures.content c.from-at.result c.from-size.result c.from-at.ensures c.from-size.ensures c.if-inside.stream mid
+          (sym c.inside.ensures.value ∙ w.if-inside.false) w.reader-is w.stream-is
+    ] in
+    keeps_then old mid c.behind.new.self taken.keeps c.in_ok-behind.ensures.keeps
+
+pub returns-in_err-behind-clause-keeps : goal.returns-in_err-behind-clause-keeps
+returns-in_err-behind-clause-keeps g c =
+    let old = c.args.reader.now in
+    let item = c.args.item in
+    let mid = c.if-inside.reader in
+    let taken : RawTaken old item c.if-inside.stream mid = elim c.if-inside.branch [
+      | then-inside+in_ok-bytes w ↦ raw_taken old item c.size.result c.size.ensures.content c.from-at.result c.from-size.result c.from-at.ensures c.from-size.ensures c.if-inside.stream mid
+          w.in_ok-bytes.field-0 w.bytes.new.self (sym c.inside.ensures.value ∙ w.if-inside.true) w.in_ok-bytes.ensures.takes w.in_ok-bytes.ensures.of_file w.reader-is w.stream-is
+      | else-inside w ↦ raw_left old item c.size.result c.size.ensures.content c.from-at.result c.from-size.result c.from-at.ensures c.from-size.ensures c.if-inside.stream mid
+          (sym c.inside.ensures.value ∙ w.if-inside.false) w.reader-is w.stream-is
+    ] in
+    let fault = c.in_err-behind.field-0.0 in
+    let is = refused_by c.from_residual-in_err-behind.result fault c.from_residual-in_err-behind.ensures.1 in
+    rw is (keeps_err old mid c.behind.new.self taken.keeps fault c.in_err-behind.ensures.keeps)

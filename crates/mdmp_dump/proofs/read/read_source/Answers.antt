@@ -5,6 +5,7 @@ use Rattle.mdmp_lister.specs.Format.Refusal.{opening_fault}
 use Rattle.mdmp_dump.specs.Left.{run_of}
 use Rattle.mdmp_dump.specs.Reading.{owed, read_within, refusal_of}
 use Rattle.mdmp_dump.specs.Refusal.{read_refusal}
+use Rattle.mdmp_dump.proofs.Keeping.{opening_keeps, reading_ends, reading_keeps}
 use Rattle.mdmp_dump.proofs.Opened.{opened-head, opened_behind, opening-fetches, opening-settles, tells_none, tells_of, wants_behind}
 use Rattle.mdmp_dump.proofs.ReadWithin.{fetches-within, limited-within, opening-limited, refusal-without, settles-within, without}
 use Rattle.mdmp_dump.proofs.Taking.{fetches_err, fetches_ok}
@@ -32,7 +33,7 @@ returns-in-Err-read_streams-clause-refuses g c = λ file known.
 
 pub returns-in-Err-read_streams-clause-cause : goal.returns-in-Err-read_streams-clause-cause
 returns-in-Err-read_streams-clause-cause g c =
-    rw (c.into_source-in-Err-read_streams.ensures.value, c.told_within.ensures) (fetches-within c.args.limits.budget c.in-Err-read_streams.fault c.args.source c.read_streams.new.reader.lister.source
+    rw (c.source_of-in-Err-read_streams.ensures.value, c.told_within.ensures) (fetches-within c.args.limits.budget c.in-Err-read_streams.fault c.args.source c.read_streams.new.reader.lister.source
     (fetches_err c.args.source c.in-Ok.lister.source c.read_streams.new.reader.lister.source
     (record { count = _; fetches = c.in-Ok.ensures.new.fetches }) c.in-Err-read_streams.fault c.in-Err-read_streams.ensures.fetches))
 
@@ -56,7 +57,7 @@ returns-in-Ok-read_streams-clause-refuses g c = λ file known.
 
 pub returns-in-Ok-read_streams-clause-cause : goal.returns-in-Ok-read_streams-clause-cause
 returns-in-Ok-read_streams-clause-cause g c =
-    rw c.into_source.ensures.value (fetches_ok c.args.source c.in-Ok.lister.source c.read_streams.new.reader.lister.source
+    rw c.source_of.ensures.value (fetches_ok c.args.source c.in-Ok.lister.source c.read_streams.new.reader.lister.source
     (record { count = _; fetches = c.in-Ok.ensures.new.fetches }) _ c.in-Ok-read_streams.ensures.fetches.fetches)
 
 pub returns-in-Err-read_streams-clause-short : goal.returns-in-Err-read_streams-clause-short
@@ -94,3 +95,21 @@ returns-in-Err-clause-unbudgeted g c = λ none.
 
 pub returns-in-Err-read_streams-clause-unbudgeted : goal.returns-in-Err-read_streams-clause-unbudgeted
 returns-in-Err-read_streams-clause-unbudgeted g c = λ none. rw (c.told_within.ensures, none) (without c.in-Err-read_streams.fault)
+
+pub returns-in-Err-clause-keeps : goal.returns-in-Err-clause-keeps
+returns-in-Err-clause-keeps g c =
+    rw c.refusal.ensures (opening_keeps c.args.limits c.args.parts c.args.source c.in-Err.refused.fault c.in-Err.refused.source c.in-Err.ensures.kept)
+
+pub returns-in-Ok-read_streams-clause-keeps : goal.returns-in-Ok-read_streams-clause-keeps
+returns-in-Ok-read_streams-clause-keeps g c =
+    let opened = c.in-Ok.ensures.new in
+    reading_keeps c.args.limits c.args.parts c.args.choice c.args.source _ c.read_streams.new.reader c.source_of.result opened opened.fetches.same_size refl c.source_of.ensures.booked c.source_of.ensures.kept _
+    c.in-Ok-read_streams.ensures.keeps
+
+pub returns-in-Err-read_streams-clause-keeps : goal.returns-in-Err-read_streams-clause-keeps
+returns-in-Err-read_streams-clause-keeps g c =
+    let opened = c.in-Ok.ensures.new in
+    let ended = c.source_of-in-Err-read_streams.ensures in
+    rw c.told_within.ensures
+    (reading_ends c.args.limits c.args.parts c.args.choice c.args.source _ c.read_streams.new.reader c.source_of-in-Err-read_streams.result opened opened.fetches.same_size refl ended.booked ended.kept
+    c.in-Err-read_streams.fault c.in-Err-read_streams.ensures.keeps)

@@ -334,3 +334,83 @@ returns-in_err-regions-in-16-clause-of_file g c =
     rw (refused_by c.from_residual-in_err-regions-in-16.result fault c.from_residual-in_err-regions-in-16.ensures.1)
     (stream_refused c.args.reader.now c.rows-in-16.new.self c.args.item 16 c.in-16.is (λ size e at. refl) kinds.MemoryInfo refl
     (λ F at. HasRecords F at kinds.MemoryInfo (λ k o row. memory_info_at F o ≡ row)) fault c.in_err-regions-in-16.ensures.of_file)
+
+pub returns-in_err-next-in-0-clause-keeps : goal.returns-in_err-next-in-0-clause-keeps
+returns-in_err-next-in-0-clause-keeps g c =
+    let fault = c.in_err-next-in-0.field-0.0 in
+    rw (refused_by c.from_residual.result fault c.from_residual.ensures.1) (c.in_err-next-in-0.ensures.keeps)
+
+pub returns-in_ok-next-in-0-clause-keeps : goal.returns-in_ok-next-in-0-clause-keeps
+returns-in_ok-next-in-0-clause-keeps g c = c.in_ok-next-in-0.ensures.keeps
+
+pub returns-in_err-threads-in-3-clause-keeps : goal.returns-in_err-threads-in-3-clause-keeps
+returns-in_err-threads-in-3-clause-keeps g c =
+    let fault = c.in_err-threads-in-3.field-0.0 in
+    rw (refused_by c.from_residual-in_err-threads-in-3.result fault c.from_residual-in_err-threads-in-3.ensures.1) (c.in_err-threads-in-3.ensures.keeps)
+
+pub returns-in_ok-threads-in-3-clause-keeps : goal.returns-in_ok-threads-in-3-clause-keeps
+returns-in_ok-threads-in-3-clause-keeps g c = c.in_ok-threads-in-3.ensures.keeps
+
+pub returns-in_err-modules-in-4-clause-keeps : goal.returns-in_err-modules-in-4-clause-keeps
+returns-in_err-modules-in-4-clause-keeps g c =
+    let fault = c.in_err-modules-in-4.field-0.0 in
+    rw (refused_by c.from_residual-in_err-modules-in-4.result fault c.from_residual-in_err-modules-in-4.ensures.1) (c.in_err-modules-in-4.ensures.keeps)
+
+pub returns-in_ok-modules-in-4-clause-keeps : goal.returns-in_ok-modules-in-4-clause-keeps
+returns-in_ok-modules-in-4-clause-keeps g c = c.in_ok-modules-in-4.ensures.keeps
+
+pub returns-in_err-ranges-in-5-clause-keeps : goal.returns-in_err-ranges-in-5-clause-keeps
+returns-in_err-ranges-in-5-clause-keeps g c =
+    let fault = c.in_err-ranges-in-5.field-0.0 in
+    rw (refused_by c.from_residual-in_err-ranges-in-5.result fault c.from_residual-in_err-ranges-in-5.ensures.1) (c.in_err-ranges-in-5.ensures.keeps)
+
+pub returns-in_ok-ranges-in-5-clause-keeps : goal.returns-in_ok-ranges-in-5-clause-keeps
+returns-in_ok-ranges-in-5-clause-keeps g c = c.in_ok-ranges-in-5.ensures.keeps
+
+pub returns-in_err-exception-in-6-clause-keeps : goal.returns-in_err-exception-in-6-clause-keeps
+returns-in_err-exception-in-6-clause-keeps g c =
+    let fault = c.in_err-exception-in-6.field-0.0 in
+    rw (refused_by c.from_residual-in_err-exception-in-6.result fault c.from_residual-in_err-exception-in-6.ensures.1) (c.in_err-exception-in-6.ensures.keeps)
+
+pub returns-in_ok-exception-in-6-clause-keeps : goal.returns-in_ok-exception-in-6-clause-keeps
+returns-in_ok-exception-in-6-clause-keeps g c = c.in_ok-exception-in-6.ensures.keeps
+
+pub returns-in_err-system-in-7-clause-keeps : goal.returns-in_err-system-in-7-clause-keeps
+returns-in_err-system-in-7-clause-keeps g c =
+    let fault = c.in_err-system-in-7.field-0.0 in
+    rw (refused_by c.from_residual-in_err-system-in-7.result fault c.from_residual-in_err-system-in-7.ensures.1) (c.in_err-system-in-7.ensures.keeps)
+
+pub returns-in_ok-system-in-7-clause-keeps : goal.returns-in_ok-system-in-7-clause-keeps
+returns-in_ok-system-in-7-clause-keeps g c = c.in_ok-system-in-7.ensures.keeps
+
+pub returns-in_err-ranges-in-9-clause-keeps : goal.returns-in_err-ranges-in-9-clause-keeps
+returns-in_err-ranges-in-9-clause-keeps g c =
+    let fault = c.in_err-ranges-in-9.field-0.0 in
+    rw (refused_by c.from_residual-in_err-ranges-in-9.result fault c.from_residual-in_err-ranges-in-9.ensures.1) (c.in_err-ranges-in-9.ensures.keeps)
+
+pub returns-in_ok-ranges-in-9-clause-keeps : goal.returns-in_ok-ranges-in-9-clause-keeps
+returns-in_ok-ranges-in-9-clause-keeps g c = c.in_ok-ranges-in-9.ensures.keeps
+
+pub returns-in_err-modules-in-14-clause-keeps : goal.returns-in_err-modules-in-14-clause-keeps
+returns-in_err-modules-in-14-clause-keeps g c =
+    let fault = c.in_err-modules-in-14.field-0.0 in
+    rw (refused_by c.from_residual-in_err-modules-in-14.result fault c.from_residual-in_err-modules-in-14.ensures.1) (c.in_err-modules-in-14.ensures.keeps)
+
+pub returns-in_ok-modules-in-14-clause-keeps : goal.returns-in_ok-modules-in-14-clause-keeps
+returns-in_ok-modules-in-14-clause-keeps g c = c.in_ok-modules-in-14.ensures.keeps
+
+pub returns-in_err-regions-in-16-clause-keeps : goal.returns-in_err-regions-in-16-clause-keeps
+returns-in_err-regions-in-16-clause-keeps g c =
+    let fault = c.in_err-regions-in-16.field-0.0 in
+    rw (refused_by c.from_residual-in_err-regions-in-16.result fault c.from_residual-in_err-regions-in-16.ensures.1) (c.in_err-regions-in-16.ensures.keeps)
+
+pub returns-in_ok-regions-in-16-clause-keeps : goal.returns-in_ok-regions-in-16-clause-keeps
+returns-in_ok-regions-in-16-clause-keeps g c = c.in_ok-regions-in-16.ensures.keeps
+
+pub returns-in_err-threads-in-24-clause-keeps : goal.returns-in_err-threads-in-24-clause-keeps
+returns-in_err-threads-in-24-clause-keeps g c =
+    let fault = c.in_err-threads-in-24.field-0.0 in
+    rw (refused_by c.from_residual-in_err-threads-in-24.result fault c.from_residual-in_err-threads-in-24.ensures.1) (c.in_err-threads-in-24.ensures.keeps)
+
+pub returns-in_ok-threads-in-24-clause-keeps : goal.returns-in_ok-threads-in-24-clause-keeps
+returns-in_ok-threads-in-24-clause-keeps g c = c.in_ok-threads-in-24.ensures.keeps

@@ -1,4 +1,6 @@
 use Rattle.mdmp_lister.specs.FaultLaws.{next_fits}
+use Rattle.std.proofs.Common.{refl}
+use Rattle.mdmp_dump.proofs.Keeping.{keeps_next, keeps_till}
 use Rattle.mdmp_dump.proofs.Settled.{fault-owed}
 use Rattle.mdmp_dump.proofs.Taking.{Fetches_listed}
 use Rattle.mdmp_dump.proofs.reader.Reader.behind.Goals as goal
@@ -11,3 +13,8 @@ returns-in-Err-clause-fetches g c =
     let holds = c.next.follows.holds-at-none in
     Fetches_listed c.args.self.now.lister.current c.in-Err.fault _ _ (record { count = _; fetches = holds.list.spends.fetches }) (rw c.in-Err.is at (holds.list.told c.requires)) c.in-Err.ensures.good
     (next_fits c.args.self.now.lister c.in-Err.fault c.next.follows.lender-at-none (rw c.in-Err.is at (holds.follows c.requires)))
+
+pub returns-in-Err-clause-keeps : goal.returns-in-Err-clause-keeps
+returns-in-Err-clause-keeps g c =
+    let list = c.next.follows.holds-at-none.list in
+    keeps_till c.args.self.now _ _ (rw c.in-Err.is at list.spends.refused) (keeps_next c.args.self.now _ list.same list.spends.fetches.same_size refl)

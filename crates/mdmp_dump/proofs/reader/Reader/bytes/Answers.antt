@@ -1,6 +1,7 @@
-use Rattle.std.proofs.Common.{◌≡◌, ◌∙◌, length, arith, refl, sym}
-use Rattle.mdmp_dump.proofs.Budget.{array_is, Fetches-none, inside_is, taken-all, take-refused, take-taken}
-use Rattle.mdmp_dump.proofs.Taking.{Fetches_only}
+use Rattle.std.proofs.Common.{◌≡◌, ◌∙◌, ◌≤◌, length, arith, refl, sym}
+use Rattle.mdmp_dump.proofs.Budget.{array_is, Fetches-none, Fetches-read, inside_is, taken-all, take-refused, take-taken}
+use Rattle.mdmp_dump.proofs.Keeping.{keeps_none, keeps_taken, keeps_till, keeps_untaken}
+use Rattle.mdmp_dump.proofs.Taking.{Fetches_only, Takes_memory}
 use Rattle.mdmp_dump.proofs.reader.Reader.bytes.Goals as goal
 
 pub returns-then-size-self-clause-takes : goal.returns-then-size-self-clause-takes
@@ -8,14 +9,36 @@ returns-then-size-self-clause-takes g c = record {
   same = refl;
   fetches = Fetches-none _ c.args.self.now.lister.source refl tt;
   settles = λ rest last own. take-refused c.args.self.now.left c.args.place.entry c.args.place.index c.args.size rest last c.if-size-self.true;
+  keeps = keeps_till c.args.self.now c.args.self.now _ tt (keeps_none c.args.self.now);
 }
 
 pub returns-clause-takes : goal.returns-clause-takes
-returns-clause-takes g c = record {
-  same = c.in-Ok-read_part.ensures.reads.same;
-  fetches = Fetches_only _ c.args.self.now.lister.source _ (record { count = _; fetches = c.in-Ok-read_part.ensures.reads.fetches });
-  settles = λ rest last. take-taken c.args.self.now.left c.args.place.entry c.args.place.index c.args.size rest last (omega (arith, c.if-size-self.false));
-}
+returns-clause-takes g c =
+    let reads = c.in-Ok-read_part.ensures.reads in
+    let len : length c.read_part.new.out ≡ c.args.size = omega (arith, c.deref_mut.ensures.len, c.in-Ok.ensures.len) in
+    let fits : c.args.size ≤ c.args.self.now.left = omega (arith, c.if-size-self.false) in
+    record {
+      same = reads.same;
+      fetches = Fetches_only _ c.args.self.now.lister.source _ (record { count = _; fetches = reads.fetches });
+      settles = λ rest last. take-taken c.args.self.now.left c.args.place.entry c.args.place.index c.args.size rest last fits;
+      keeps = keeps_taken c.args.self.now _ c.args.size reads.same (rw len at reads.aside) reads.fetches.same_size fits (omega (arith, fits));
+    }
+
+pub returns-in-Err-clause-takes : goal.returns-in-Err-clause-takes
+returns-in-Err-clause-takes g c = Takes_memory _ c.args.self.now
+
+pub returns-in-Err-read_part-clause-takes : goal.returns-in-Err-read_part-clause-takes
+returns-in-Err-read_part-clause-takes g c =
+    let reads = c.in-Err-read_part.ensures.reads in
+    let fault = c.in-Err-read_part.fault in
+    let len : length c.read_part.new.out ≡ c.args.size = omega (arith, c.deref_mut.ensures.len, c.in-Ok.ensures.len) in
+    let fits : c.args.size ≤ c.args.self.now.left = omega (arith, c.if-size-self.false) in
+    record {
+      same = reads.same;
+      fetches = Fetches-read _ fault c.args.self.now.lister.source _ reads.fetches reads.told (λ file good. let no = reads.good file good in cc);
+      settles = λ rest last own. absurd (own tt);
+      keeps = keeps_untaken c.args.self.now _ c.args.size reads.same (rw len at reads.aside) reads.fetches.same_size fits _ tt;
+    }
 
 pub returns-clause-of_file : goal.returns-clause-of_file
 returns-clause-of_file g c = λ file known.

@@ -4,6 +4,7 @@ use Rattle.mdmp_lister.specs.FaultLaws.{next_fits}
 use Rattle.mdmp_dump.specs.Left.{left_from}
 use Rattle.mdmp_dump.specs.Telling.{record_told}
 use Rattle.mdmp_dump.proofs.Classed.{found_classed}
+use Rattle.mdmp_dump.proofs.Keeping.{keeps_next, keeps_till, keeps_told}
 use Rattle.mdmp_dump.proofs.Settled.{end-given, fault-owed, found-given}
 use Rattle.mdmp_dump.proofs.Taking.{Fetches_listed, Fetches_told}
 use Rattle.mdmp_dump.proofs.reader.Reader.find.Goals as goal
@@ -38,3 +39,18 @@ returns-in-Ok-Some-clause-classed g c =
     let list = c.next.follows.holds-at-none.list in
     let classed = rw (c.in-Ok-Some.is, c.in-Ok-Some.field-0-is) at list.places.classed in
     found_classed g.T.Row.told _ c.next.follows.lender-at-none.current _ c.told_of.result (rw (← list.spends.fetches.same_size) at classed) c.told_of.ensures
+
+pub returns-in-Err-clause-keeps : goal.returns-in-Err-clause-keeps
+returns-in-Err-clause-keeps g c =
+    let list = c.next.follows.holds-at-none.list in
+    keeps_till c.args.self.now _ _ (rw c.in-Err.is at list.spends.refused) (keeps_next c.args.self.now _ list.same list.spends.fetches.same_size refl)
+
+pub returns-in-Ok-None-clause-keeps : goal.returns-in-Ok-None-clause-keeps
+returns-in-Ok-None-clause-keeps g c =
+    let list = c.next.follows.holds-at-none.list in
+    keeps_next c.args.self.now _ list.same list.spends.fetches.same_size refl
+
+pub returns-in-Ok-Some-clause-keeps : goal.returns-in-Ok-Some-clause-keeps
+returns-in-Ok-Some-clause-keeps g c =
+    let list = c.next.follows.holds-at-none.list in
+    keeps_told (record_told g.T.Row.told) _ c.args.self.now _ (keeps_next c.args.self.now _ list.same list.spends.fetches.same_size refl) c.told_of.result c.told_of.ensures

@@ -1,5 +1,6 @@
 use Rattle.std.proofs.Common.{◌∙◌}
 use Rattle.mdmp_dump.specs.Telling.{record_told}
+use Rattle.mdmp_dump.proofs.Keeping.{keeps_err, keeps_then}
 use Rattle.mdmp_dump.proofs.Settled.{row-read, row-refused}
 use Rattle.mdmp_dump.proofs.Taking.{Fetches_as, fetches_err, fetches_ok, refused_by}
 use Rattle.mdmp_dump.proofs.reader.Reader.next.Goals as goal
@@ -36,3 +37,19 @@ returns-in_err-found-clause-fetches g c =
     let fault = c.in_err-found.field-0.0 in
     let is = refused_by c.from_residual.result fault c.from_residual.ensures.1 in
     rw is (Fetches_as fault c.args.self.now.lister.source c.find.new.self.lister.source c.in_err-found.ensures.fetches)
+
+pub returns-in_err-read-in-Record-clause-keeps : goal.returns-in_err-read-in-Record-clause-keeps
+returns-in_err-read-in-Record-clause-keeps g c =
+    let fault = c.in_err-read-in-Record.field-0.0 in
+    let is = refused_by c.from_residual-in_err-read-in-Record.result fault c.from_residual-in_err-read-in-Record.ensures.1 in
+    rw is (keeps_err c.args.self.now c.find.new.self c.read.new.reader c.in_ok-found.ensures.keeps fault c.in_err-read-in-Record.ensures.takes.keeps)
+
+pub returns-in_ok-read-in-Record-clause-keeps : goal.returns-in_ok-read-in-Record-clause-keeps
+returns-in_ok-read-in-Record-clause-keeps g c =
+    keeps_then c.args.self.now c.find.new.self c.read.new.reader c.in_ok-found.ensures.keeps c.in_ok-read-in-Record.ensures.takes.keeps
+
+pub returns-in_err-found-clause-keeps : goal.returns-in_err-found-clause-keeps
+returns-in_err-found-clause-keeps g c =
+    let fault = c.in_err-found.field-0.0 in
+    let is = refused_by c.from_residual.result fault c.from_residual.ensures.1 in
+    rw is (c.in_err-found.ensures.keeps)

@@ -1,6 +1,6 @@
 use Rattle.mdmp_dump.specs.declared.part.Part.TheVariants as parts
 use Rattle.mdmp_dump.proofs.Budget.{bytes-part}
-use Rattle.mdmp_dump.proofs.Taking.{Takes_as, Takes_fault_as, refused_by}
+use Rattle.mdmp_dump.proofs.Taking.{Takes_absent, Takes_as, Takes_fault_as, refused_by}
 use Rattle.mdmp_dump.proofs.reader.Reader.part.Goals as goal
 
 pub returns-in_err-bytes-in_default : goal.returns-in_err-bytes-in_default
@@ -20,3 +20,6 @@ returns-in_ok-bytes-in_default g c =
           bytes-part file c.args.location c.args.class bytes c.in_default.not-Absent
           (rw (c.from.ensures, c.from-size.ensures) at (c.in_ok-bytes-in_default.ensures.of_file file known));
     }
+
+pub returns-in-Absent-clause-takes : goal.returns-in-Absent-clause-takes
+returns-in-Absent-clause-takes g c = rw c.in-Absent.is (Takes_absent _ c.args.self.now c.absent.result c.absent.ensures)

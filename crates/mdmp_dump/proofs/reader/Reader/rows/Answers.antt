@@ -1,5 +1,6 @@
 use Rattle.std.proofs.Common.{◌≡◌, ◌∙◌, ◌+◌, ◌∷◌, [], ◌++◌, ℕ, length, length-append, Some, arith, subst, sym}
 use Rattle.mdmp_dump.specs.Left.{left_from}
+use Rattle.mdmp_dump.proofs.Keeping.{keeps_err, keeps_memory, keeps_then}
 use Rattle.mdmp_dump.proofs.Settled.{rows-all, rows-more}
 use Rattle.mdmp_dump.proofs.Taking.{FetchesSome_then, Fetches_memory, fetches_err, fetches_ok, refused_by}
 use Rattle.mdmp_dump.proofs.reader.Reader.rows.Goals as goal
@@ -21,6 +22,7 @@ loop-rows-preserved g c =
     record {
       going = going.0;
       fetches = FetchesSome_then c.args.self.now.lister.source c.loop-rows.self.lister.source c.next.new.self.lister.source before.fetches c.in_ok-row.ensures.fetches.fetches;
+      keeps = keeps_then c.args.self.now c.loop-rows.self c.next.new.self before.keeps c.in_ok-row.ensures.keeps;
       rests = omega (arith, before.rests, going.1);
       of_file = λ file limit x xs known left kind.
           let so_far = before.of_file file limit x xs known left kind in
@@ -59,3 +61,18 @@ returns-in_err-row-clause-of_file g c =
     let so_far = before.of_file file limit x xs known left kind in
     let given = c.in_err-row.ensures.of_file file limit x (length c.loop-rows.rows.items) xs (before.fetches.fetches.same_content ∙ known) so_far.0 kind in
     record { value = tt; settles = λ own. so_far.1.1 ∙ given.1 own })
+
+pub returns-in_err-row-clause-keeps : goal.returns-in_err-row-clause-keeps
+returns-in_err-row-clause-keeps g c =
+    let fault = c.in_err-row.field-0.0 in
+    let is = refused_by c.from_residual.result fault c.from_residual.ensures.1 in
+    rw is (keeps_err c.args.self.now c.loop-rows.self c.next.new.self c.loop-rows.invariant.keeps fault c.in_err-row.ensures.keeps)
+
+pub returns-in-Err-clause-keeps : goal.returns-in-Err-clause-keeps
+returns-in-Err-clause-keeps g c =
+    keeps_memory c.args.self.now c.next.new.self
+    (keeps_then c.args.self.now c.loop-rows.self c.next.new.self c.loop-rows.invariant.keeps c.in_ok-row.ensures.keeps)
+
+pub returns-in-Behind-clause-keeps : goal.returns-in-Behind-clause-keeps
+returns-in-Behind-clause-keeps g c =
+    keeps_then c.args.self.now c.loop-rows.self c.next.new.self c.loop-rows.invariant.keeps c.in_ok-row.ensures.keeps

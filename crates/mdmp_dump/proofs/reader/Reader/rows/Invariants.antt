@@ -2,6 +2,7 @@ use Rattle.std.proofs.Common.{◌≡◌, ◌≤◌, ℕ, List, length, Some, Non
 use Rattle.mdmp_source.specs.Source.{FetchesSome}
 use Rattle.mdmp_lister.specs.Format.Kind.{kind_of}
 use Rattle.mdmp_lister.specs.Format.Listing.{Numbered}
+use Rattle.mdmp_dump.specs.Keeping.{KeepsOn}
 use Rattle.mdmp_dump.specs.Left.{left_from}
 use Rattle.mdmp_dump.specs.Reading.{AreRows, owed}
 use Rattle.mdmp_dump.proofs.reader.Reader.rows.Given as goal
@@ -11,6 +12,7 @@ abbrev pub invariant-loop-rows : goal.invariant-loop-rows
 invariant-loop-rows g l = record {
   going : l.self.lister.stop ≡ None;
   fetches : FetchesSome l.initial.self.lister.source l.self.lister.source;
+  keeps : KeepsOn l.initial.self l.self;
   rests : l.self.lister.work ≤ l.initial.self.lister.work;
   of_file : (file : List ℕ) (limit : ℕ) (x : Numbered) (xs : List Numbered) → l.initial.self.lister.source.store.content ≡ Some file
       → l.initial.self.lister.left ≡ Some (left_from file limit x 0 xs) → kind_of x.entry.stream_type ≡ Some g.T.Row.kind

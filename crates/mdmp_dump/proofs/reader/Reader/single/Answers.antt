@@ -1,4 +1,5 @@
 use Rattle.std.proofs.Common.{◌∙◌, refl}
+use Rattle.mdmp_dump.proofs.Keeping.{keeps_err, keeps_then}
 use Rattle.mdmp_dump.proofs.Settled.{behind-given, no-row-after-one, one-read}
 use Rattle.mdmp_dump.proofs.Taking.{Fetches_as, fetches_err, fetches_ok, refused_by}
 use Rattle.mdmp_dump.proofs.reader.Reader.single.Goals as goal
@@ -38,3 +39,19 @@ returns-in_err-row-clause-fetches g c =
     let fault = c.in_err-row.field-0.0 in
     let is = refused_by c.from_residual.result fault c.from_residual.ensures.1 in
     rw is (Fetches_as fault c.args.self.now.lister.source c.next.new.self.lister.source c.in_err-row.ensures.fetches)
+
+pub returns-in_err-behind-in-Row-clause-keeps : goal.returns-in_err-behind-in-Row-clause-keeps
+returns-in_err-behind-in-Row-clause-keeps g c =
+    let fault = c.in_err-behind-in-Row.field-0.0 in
+    let is = refused_by c.from_residual-in_err-behind-in-Row.result fault c.from_residual-in_err-behind-in-Row.ensures.1 in
+    rw is (keeps_err c.args.self.now c.next.new.self c.behind.new.self c.in_ok-row.ensures.keeps fault c.in_err-behind-in-Row.ensures.keeps)
+
+pub returns-in_ok-behind-in-Row-clause-keeps : goal.returns-in_ok-behind-in-Row-clause-keeps
+returns-in_ok-behind-in-Row-clause-keeps g c =
+    keeps_then c.args.self.now c.next.new.self c.behind.new.self c.in_ok-row.ensures.keeps c.in_ok-behind-in-Row.ensures.keeps
+
+pub returns-in_err-row-clause-keeps : goal.returns-in_err-row-clause-keeps
+returns-in_err-row-clause-keeps g c =
+    let fault = c.in_err-row.field-0.0 in
+    let is = refused_by c.from_residual.result fault c.from_residual.ensures.1 in
+    rw is (c.in_err-row.ensures.keeps)
