@@ -1,5 +1,5 @@
 -- A view of a file as those see it who open it.
-use Rattle.std.specs.Prelude.{◌≡◌, ◌≤◌, ◌+◌, ◌*◌, ◌/◌, ℕ, List, Option, None, Some, false, true, length, map, sum}
+use Rattle.std.specs.Prelude.{◌≡◌, ◌≤◌, ◌+◌, ◌*◌, ◌/◌, ℕ, List, Option, None, Some, false, true, length, map, sum, vec_capacity}
 use Rattle.mdmp_source.specs.Count.{raised}
 use Rattle.mdmp_source.specs.Source.{SourceState, FetchesSome}
 use Rattle.mdmp_source.specs.declared.store.Store.{Ghosts}
@@ -121,6 +121,8 @@ module _ {S A : Type 0} {G : Ghosts S} where
     pub fetches : FetchesSome source (source_in v)
     pub start : started_by v ≡ source.fetched
     pub held : held_by v ≡ window + 24 * entries_in v
+    -- its two lists have room for one number of 4 and one of 8 bytes for each entry, and no more
+    pub lists : 4 * vec_capacity v.counts + 8 * vec_capacity v.rooms ≡ 12 * entries_in v
     -- a copy holds no more than the limit of memory, if there is one
     pub within : is_within memory (copy_held window (entries_in v)) ≡ true
     -- it needs no less than three passes over each stream cost

@@ -1,5 +1,5 @@
 //! The walk over all streams of a file, as a view of it is opened.
-ghost use Rattle.std.specs.Prelude.{◌≡◌, ◌≤◌, ◌<◌, ◌+◌, ◌*◌, ◌^◌, ◌⊎◌, ℕ, List, length, map, None, Some, Err, IfErr, IfOk, IsTrue, MatchResult, sum};
+ghost use Rattle.std.specs.Prelude.{◌≡◌, ◌≤◌, ◌<◌, ◌+◌, ◌*◌, ◌^◌, ◌⊎◌, ℕ, List, length, map, None, Some, Err, IfErr, IfOk, IsTrue, MatchResult, sum, vec_capacity};
 ghost use Rattle.mdmp_source.specs.Count.{raised};
 ghost use Rattle.mdmp_lister.specs.Meter.{KeepsTo, is_passed};
 ghost use Rattle.mdmp_dump.specs.EntryWalk.{MayCount, Pays, chosen_entry, listed, name_cost, pass_cost};
@@ -136,6 +136,7 @@ pub(crate) fn walk_all<S: Store + Drop, A: Allocator + Copy>(
     requires long { 32 ≤ walk.old.source.size }
     ensures pays { MatchResult result (λ kept. PaysAll kept.counts.items walk.old walk.new) (λ _. PaysSome walk.old walk.new) }
     ensures counts { IfOk result (λ kept. (length kept.counts.items ≡ length walk.old.chosen) × (length kept.rooms.items ≡ length walk.old.chosen)) }
+    ensures lists { IfOk result (λ kept. (vec_capacity kept.counts ≡ walk.old.header.number_of_streams) × (vec_capacity kept.rooms ≡ walk.old.header.number_of_streams)) }
     ensures goes { IfOk result (λ _. walk.new.failed ≡ None) }
     ensures counted { IfOk result (λ kept. AreCounted walk.old.source.size walk.old kept.counts.items) }
     ensures bare { IfOk result (λ kept. AreBare (kind_at walk.old) kept.counts.items kept.rooms.items) }

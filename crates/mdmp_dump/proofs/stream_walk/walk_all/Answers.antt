@@ -25,7 +25,7 @@ loop-stream-init g c =
     record {
       walking = rw (c.in-Ok.ensures.items, c.in-Ok-with_capacity.ensures.items) (all_begin g.row.A.Denot c.args.limit c.args.walk.now c.requires.going);
       summed = rw c.in-Ok.ensures.items (all_summed g.row.A.Denot c.args.budget c.args.walk.now);
-      room = (omega (arith, entries, c.in-Ok.ensures.capacity), omega (arith, entries, c.in-Ok-with_capacity.ensures.capacity));
+      room = (c.in-Ok.ensures.exact ∙ entries, c.in-Ok-with_capacity.ensures.exact ∙ entries);
     }
 
 pub loop-stream-preserved : goal.loop-stream-preserved
@@ -47,8 +47,11 @@ loop-stream-preserved g c =
           (one_summed g.row.A.Denot c.args.limit c.args.walk.now c.loop-stream.walk c.loop-stream.counts.items c.loop-stream.rooms.items c.loop-stream.stream c.loop-stream.invariant.walking inside c.walk_stream.new.walk c.args.budget c.loop-stream.costs
           c.loop-stream.asks c.loop-stream.invariant.summed n cost c.in-Ok-walk_stream.walked.asks of.cost.0 of.cost.1 kept (λ F known. (of.of_file F known).3) c.push_reserved.new.self.items c.push_reserved.ensures.items c.saturating_add-asks.result
           (omega (arith, c.saturating_add-asks.ensures, c.loop-stream.invariant.summed.asks_few)));
-      room = (omega (arith, c.loop-stream.invariant.room, c.push_reserved.ensures.capacity), omega (arith, c.loop-stream.invariant.room, c.push_reserved-in-Ok-walk_stream.ensures.capacity));
+      room = (c.push_reserved.ensures.capacity ∙ c.loop-stream.invariant.room.0, c.push_reserved-in-Ok-walk_stream.ensures.capacity ∙ c.loop-stream.invariant.room.1);
     }
+
+pub returns-clause-lists : goal.returns-clause-lists
+returns-clause-lists g c = c.loop-stream.invariant.room
 
 pub returns-in-Err-clause-pays : goal.returns-in-Err-clause-pays
 returns-in-Err-clause-pays g c =
