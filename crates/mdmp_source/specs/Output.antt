@@ -1,6 +1,6 @@
 -- What an output has taken, and what a call that writes a text leaves.
 use Rattle.std.specs.Prelude.{◌≡◌, ℕ, Bool, if◌then◌else◌, List, [], ◌∷◌, ◌++◌, Option, Some, Result, Ok, Err, MatchResult}
-use Rattle.mdmp_source.specs.Count.{HasRisen, raised}
+use Rattle.mdmp_source.specs.Count.{raised}
 
 -- how often an output refused, and by which loans it is reached
 pub record Refusals : Type 0 where
@@ -21,9 +21,9 @@ refused_once r = record { count = raised r.count 1; loans = r.loans }
 abbrev pub refused_if : Bool → Refusals → Refusals
 refused_if more r = if more then refused_once r else r
 
--- there are more since, or as many as can be counted, and the loans are the same
+-- there is one more since and no other, and the loans are the same
 pub record HasRefused (before after : Refusals) : Type 0 where
-  pub more : HasRisen before.count after.count
+  pub more : after.count ≡ raised before.count 1
   pub loans : after.loans ≡ before.loans
 
 -- an output as its callers see it
@@ -57,12 +57,12 @@ pub record PutsAll (before : OutState) (text : List ℕ) (after : OutState) : Ty
   pub took : Takes before.taken text after.taken
   pub steady : after.failures ≡ before.failures
 
--- the output refused, and the first part of the text had gone out
+-- the output refused once, and the first part of the text had gone out: behind its refusal nothing was asked of it
 pub record PutsPrefix (before : OutState) (text : List ℕ) (after : OutState) : Type 0 where
   pub took : TakesPrefix before.taken text after.taken
   pub refused : HasRefused before.failures after.failures
 
--- a call that writes a text: all of it, or an error because the output refused
+-- a call that writes a text: all of it, or an error because the output refused once
 abbrev pub Puts : {T E : Type 0} → Result T E → OutState → List ℕ → OutState → Type 0
 Puts result before text after = MatchResult result (λ _. PutsAll before text after) (λ _. PutsPrefix before text after)
 

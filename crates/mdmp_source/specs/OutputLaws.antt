@@ -1,7 +1,7 @@
 -- Texts that go to an output one behind the other.
 use Rattle.std.specs.Prelude.{◌≡◌, ◌<◌, ◌++◌, ℕ, List, [], Option, Some, Result, Ok, Err, take, drop, length, slice_index_or}
 use Rattle.std.specs.List.{flat_map}
-use Rattle.std.proofs.Common.{arith, ap, sym, subst, ◌∙◌, refl, suc, append_assoc, append-nil, drop-cons}
+use Rattle.std.proofs.Common.{ap, sym, subst, ◌∙◌, refl, suc, append_assoc, append-nil, drop-cons}
 use Rattle.std.proofs.lemmas.List.{take-append-drop}
 use Rattle.std.proofs.lemmas.Grind.{flat_map-append}
 use Rattle.std.proofs.lemmas.List.Concat.{flat_map-cons}
@@ -11,7 +11,7 @@ use Rattle.mdmp_source.specs.Output.{HasRefused, OutState, Refusals, refused_onc
 
 -- one refusal more
 pub HasRefused-once : (r : Refusals) → HasRefused r (refused_once r)
-HasRefused-once r = record { more = omega (arith); loans = refl }
+HasRefused-once r = record { more = refl; loans = refl }
 
 -- ---- all of a text
 

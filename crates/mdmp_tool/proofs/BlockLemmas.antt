@@ -1,11 +1,11 @@
 -- A run whose output is gathered into blocks, and the flush behind it.
-use Rattle.std.proofs.Common.{◌≡◌, ◌≤◌, ◌∙◌, ◌++◌, ℕ, List, [], ◌∷◌, Option, Some, None, ap, sym, refl, append_assoc, append-nil, subst, arith, inl, inr}
+use Rattle.std.proofs.Common.{◌≡◌, ◌≢◌, ◌∙◌, ◌++◌, ℕ, List, [], ◌∷◌, Option, Some, None, ap, sym, refl, append_assoc, append-nil, subst, inl, inr}
 use Rattle.std.specs.Prelude.{Result, Ok, Err}
 use Rattle.std.specs.Io.KnownBytes.{append_known}
 use Rattle.mdmp_source.specs.Output.{HasRefused, OutState, Refusals, refused_once, Keeps, Takes, TakesPrefix, PutsAll}
 use Rattle.mdmp_source.specs.Blocks.{MovesFront}
 use Rattle.mdmp_source.specs.BlockLaws.{Keeps-moved}
-use Rattle.mdmp_source.specs.OutputLaws.{PutsAll-nothing}
+use Rattle.mdmp_source.specs.OutputLaws.{HasRefused-once, PutsAll-nothing}
 use Rattle.mdmp_tool.specs.declared.fault.ToolFault.{ToolFault}
 use Rattle.mdmp_tool.specs.declared.fault.ToolFault.TheVariants.{Opening, List as BadList, Source, Budget, Out, Memory, MemoryLimit, AsideLimit}
 use Rattle.mdmp_source.specs.Store.{StoreState}
@@ -148,21 +148,14 @@ WritesText-prefix at_the_end text a b (Err (AsideLimit offset size)) short = non
 WritesText-prefix pace text a b (Err Out) cut = cut.took
 WritesText-prefix pace text a b (Err fault) never = absurd never
 
--- the count of refusals does not fall, and the loans stay
-record IsSince (before after : Refusals) : Type 0 where
-  pub count : before.count ≤ after.count
-  pub loans : after.loans ≡ before.loans
+-- where a run was not refused, the refusals are as they were
+not_refused : {T : Type 0} (a b : OutState) (r : Result T ToolFault) → r ≢ Err Out → HasOutCause a r b → b.failures ≡ a.failures
+not_refused a b (Err Out) other cause = absurd (other refl)
+not_refused a b r other cause = cause
 
-no_fewer : {T : Type 0} (a b : OutState) (r : Result T ToolFault) → HasOutCause a r b → IsSince a.failures b.failures
-no_fewer a b (Err Out) cause = record { count = omega (arith, cause.more); loans = cause.loans }
-no_fewer a b r cause = let count : b.failures.count ≡ a.failures.count = ap (λ (r : Refusals). r.count) cause in record {
-  count = omega (arith, count);
-  loans = ap (λ (r : Refusals). r.loans) cause;
-}
-
--- so behind one refusal more there are more
-more_refused : (before now after : Refusals) → IsSince before now → after ≡ refused_once now → HasRefused before after
-more_refused before now after since once = subst (HasRefused before) (sym once) (record { more = omega (arith, since.count); loans = since.loans })
+-- so behind one refusal more there is one more
+one_refused : (before now after : Refusals) → now ≡ before → after ≡ refused_once now → HasRefused before after
+one_refused before now after same once = subst (HasRefused before) (sym (once ∙ ap refused_once same)) (HasRefused-once before)
 
 -- ---- a run that is flushed
 
@@ -208,9 +201,9 @@ Runs-flushed {T = T} F choice Ends pace text a b c old pending left r s none mov
   by (stands same steady) =
       let done : IsFlushed r left = subst (λ (x : Result T ToolFault). IsFlushed x left) same flushed in
       subst (λ (x : Result T ToolFault). RunsThrough F choice Ends pace text a x c) (sym same) (through r done steady run cut)
-  by (refused out more) =
-      let since : IsSince a.failures b.failures = no_fewer (with_pending a old) (with_pending b pending) r cause in
-      subst (λ (x : Result T ToolFault). RunsThrough F choice Ends pace text a x c) (sym out) (cut (more_refused a.failures b.failures c.failures since more))
+  by (refused other out more) =
+      let same : b.failures ≡ a.failures = not_refused (with_pending a old) (with_pending b pending) r other cause in
+      subst (λ (x : Result T ToolFault). RunsThrough F choice Ends pace text a x c) (sym out) (cut (one_refused a.failures b.failures c.failures same more))
 
 -- ---- what is said of whatever file
 
@@ -242,9 +235,6 @@ Tells-flushed {T = T} pace store size a b c old pending left r s none moved flus
   flush : Flush a b c old pending left
   flush = record { none = none; moved = moved }
 
-  since : IsSince a.failures b.failures
-  since = no_fewer (with_pending a old) (with_pending b pending) r tells.out_cause
-
   by : EndsFlushed r s b c → Tells in_blocks pace store size a s c
   by (stands same steady) =
       let done : IsFlushed r left = subst (λ (x : Result T ToolFault). IsFlushed x left) same flushed in
@@ -256,12 +246,13 @@ Tells-flushed {T = T} pace store size a b c old pending left r s none moved flus
         out_cause = cause_from (with_pending a old) (with_pending b pending) a c r refl steady tells.out_cause;
         changed = tells.changed;
       })
-  by (refused out more) =
+  by (refused other out more) =
+      let same : b.failures ≡ a.failures = not_refused (with_pending a old) (with_pending b pending) r other tells.out_cause in
       subst (λ (x : Result T ToolFault). Tells in_blocks pace store size a x c) (sym out) (record {
         good = λ file good. tt;
         refusal = tt;
         short = λ few. inr refl;
         quiet = tt;
-        out_cause = more_refused a.failures b.failures c.failures since more;
+        out_cause = one_refused a.failures b.failures c.failures same more;
         changed = tt;
       })

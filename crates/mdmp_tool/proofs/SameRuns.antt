@@ -130,9 +130,9 @@ module _ {T : Type 0} (access : Access) (old new : SourceState) (answer flushed 
 
   pub through_flushed : EndsFlushed answer flushed before after → IsReadThrough access old answer new → IsReadThrough access old flushed new
   through_flushed (EndsFlushed.stands is same) through = subst (λ (r : Result T ToolFault). IsReadThrough access old r new) (sym is) through
-  through_flushed (EndsFlushed.refused is same) (IsReadThrough.listed was) =
+  through_flushed (EndsFlushed.refused other is same) (IsReadThrough.listed was) =
       subst (λ (r : Result T ToolFault). IsReadThrough access old r new) (sym is) (IsReadThrough.listed (listed_with access old new answer (Err Out) was tt tt tt))
-  through_flushed (EndsFlushed.refused is same) (IsReadThrough.refused asked early over memory most inside) =
+  through_flushed (EndsFlushed.refused other is same) (IsReadThrough.refused asked early over memory most inside) =
       subst (λ (r : Result T ToolFault). IsReadThrough access old r new) (sym is) (IsReadThrough.refused asked tt (kept_answer answer over) tt most inside)
 
 -- ---- a budget that is told

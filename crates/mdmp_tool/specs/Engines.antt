@@ -1,5 +1,5 @@
 -- What every command over a listing promises, whatever it prints.
-use Rattle.std.specs.Prelude.{◌≡◌, ◌<◌, ◌≤◌, ◌+◌, ◌*◌, ◌⊎◌, ◌++◌, ℕ, Bool, List, [], Option, Some, None, Result, Ok, Err, true, false}
+use Rattle.std.specs.Prelude.{◌≡◌, ◌≢◌, ◌<◌, ◌≤◌, ◌+◌, ◌*◌, ◌⊎◌, ◌++◌, ℕ, Bool, List, [], Option, Some, None, Result, Ok, Err, true, false}
 use Rattle.mdmp_source.specs.Output.{HasRefused, OutState, PutsAll, PutsPrefix, TakesPrefix, refused_once}
 use Rattle.mdmp_source.specs.Source.{SourceState, FetchesAtMost, FetchesSome}
 use Rattle.mdmp_source.specs.Store.{StoreState, IsGood}
@@ -108,7 +108,7 @@ pub record IsFirstPart (taken : Option (List ℕ)) (whole : List ℕ) : Type 0 w
   pub known : taken ≡ Some out
   pub splits : whole ≡ out ++ rest
 
--- the output refused, and what it has taken is a first part of what it had taken before and the text
+-- the output refused once, and what it has taken is a first part of what it had taken before and the text
 pub record RefusesWithin (before : OutState) (text : List ℕ) (after : OutState) : Type 0 where
   pub within : (start : List ℕ) → before.taken ≡ Some start → IsFirstPart after.taken (start ++ text)
   pub refused : HasRefused before.failures after.failures
@@ -123,10 +123,11 @@ abbrev pub IsFlushed : {T : Type 0} → Result T ToolFault → List ℕ → Type
 IsFlushed (Err Out) pending = Unit {0}
 IsFlushed answer pending = pending ≡ []
 
--- what a run answers after the flush: the same, or the output's fault where the flush was refused
+-- what a run answers after the flush: the same, or the output's fault where the flush was refused. Behind a run that the
+-- output refused nothing is asked of it again.
 pub data EndsFlushed {T : Type 0} (answer flushed : Result T ToolFault) (before after : OutState) : Type 0 where
   stands : flushed ≡ answer → after.failures ≡ before.failures → EndsFlushed answer flushed before after
-  refused : flushed ≡ Err Out → after.failures ≡ refused_once before.failures → EndsFlushed answer flushed before after
+  refused : answer ≢ Err Out → flushed ≡ Err Out → after.failures ≡ refused_once before.failures → EndsFlushed answer flushed before after
 
 -- ---- of whatever file
 
