@@ -1,7 +1,7 @@
 -- Why calls stop that stand one after the other, and what they spend together.
 use Rattle.std.proofs.Common.{◌≡◌, ◌∙◌, ◌≤◌, ◌+◌, ℕ, Result, Ok, Err, Some, Bool, ap, arith, subst, refl}
 use Rattle.std.specs.Prelude.{IsFalse, IsTrue, true, false}
-use Rattle.mdmp_source.specs.Output.{HasRefused, OutState, Refusals}
+use Rattle.mdmp_source.specs.Output.{OutState, refused_once}
 use Rattle.mdmp_dump.specs.Shape.{Spent, ViewShape}
 use Rattle.mdmp_dump.specs.declared.view.ViewFault.{ViewFault}
 use Rattle.mdmp_writer.specs.declared.fault.WriteFault.{WriteFault}
@@ -13,7 +13,7 @@ use Rattle.mdmp_writer.specs.Uses.{Used, Uses, used}
 pub cause_after : {T : Type 0} (r : Result T WriteFault) (a b c : OutState) (s t : Bool)
     → b.failures ≡ a.failures → t ≡ s → HasCause t r b c → HasCause s r a c
 cause_after (Ok x) a b c s t same is cause = cause ∙ same
-cause_after (Err Out) a b c s t same is cause = subst (λ (r : Refusals). HasRefused r c.failures) same cause
+cause_after (Err Out) a b c s t same is cause = cause ∙ ap refused_once same
 cause_after (Err (View fault)) a b c s t same is cause = (subst IsFalse is cause.0, cause.1 ∙ same)
 cause_after (Err (Layout fault)) a b c s t same is cause = cause
 
@@ -61,7 +61,7 @@ pub uses_out : {T U : Type 0} {x : T} {r : Result U WriteFault} {a b : Used} {n 
 uses_out {r = Ok y} first stops = record { shape = first.shape; cause = stops ∙ first.cause; passed = first.passed; asked = first.asked; told = tt }
 uses_out {r = Err Out} {o = o} first stops = record {
   shape = first.shape;
-  cause = subst (λ (r : Refusals). HasRefused r o.failures) first.cause stops;
+  cause = stops ∙ ap refused_once first.cause;
   passed = first.passed;
   asked = first.asked;
   told = tt;

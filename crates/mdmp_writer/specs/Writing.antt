@@ -1,6 +1,6 @@
 -- What a writer of a whole dump answers, and what goes out.
 use Rattle.std.specs.Prelude.{◌≡◌, ℕ, List, length, Some, None, Result, Ok, Err, IsFalse}
-use Rattle.mdmp_source.specs.Output.{HasRefused, OutState, Takes, TakesPrefix}
+use Rattle.mdmp_source.specs.Output.{OutState, Takes, TakesPrefix, refused_once}
 use Rattle.mdmp_dump.specs.declared.dump.Dump.{Dump}
 use Rattle.mdmp_dump.specs.Shape.{ViewShape}
 use Rattle.mdmp_writer.specs.declared.fault.WriteFault.{WriteFault}
@@ -9,12 +9,12 @@ use Rattle.mdmp_writer.specs.Layout.{layout_fault, shape_fault, size_answer, wri
 use Rattle.mdmp_writer.specs.Written.{BeginsWith, written}
 
 -- over every view of this shape, whatever it gives: the size or the refusal is that of the shape, where it is refused
--- nothing goes out, and a run stops only where the output refused, or where the view answered a fault, which a reliable one
--- does not
+-- nothing goes out, and a run stops only where the output refused, which is then not asked again, or where the view answered a
+-- fault, which a reliable one does not
 abbrev pub IsWritingOf : ViewShape → Result ℕ WriteFault → OutState → OutState → Type 0
 IsWritingOf shape (Ok size) before after = (size_answer shape.streams ≡ Ok size) × (after.failures ≡ before.failures)
 IsWritingOf shape (Err (Layout fault)) before after = (size_answer shape.streams ≡ Err fault) × (after ≡ before)
-IsWritingOf shape (Err Out) before after = (shape_fault shape.streams ≡ None) × HasRefused before.failures after.failures
+IsWritingOf shape (Err Out) before after = (shape_fault shape.streams ≡ None) × (after.failures ≡ refused_once before.failures)
 IsWritingOf shape (Err (View fault)) before after =
     (shape_fault shape.streams ≡ None) × IsFalse shape.is_reliable × (after.failures ≡ before.failures)
 

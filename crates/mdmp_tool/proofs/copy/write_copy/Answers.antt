@@ -1,3 +1,6 @@
+use Rattle.std.proofs.Common.{subst, sym}
+use Rattle.mdmp_source.specs.Output.{HasRefused}
+use Rattle.mdmp_source.specs.OutputLaws.{HasRefused-once}
 use Rattle.mdmp_tool.proofs.copy.write_copy.Goals as goal
 
 pub returns-in-Ok : goal.returns-in-Ok
@@ -33,12 +36,15 @@ pub returns-in-Err-Out : goal.returns-in-Err-Out
 returns-in-Err-Out g c =
     let of = c.in-Err-Out.ensures in
     let is = c.in-Err-Out.field-0-is in
+    let ends = rw is at of.ends in
+    let before = (g.O.Out.state c.args.out.now).failures in
+    let refused = subst (HasRefused before) (sym ends.1) (HasRefused-once before) in
     record {
       shape = of.shape;
       passed = of.passed;
       asked = of.asked;
-      ends = rw is at of.ends;
-      copies = λ d viewed. let went = rw is at (of.writes d viewed) in (went.0, record { took = went.1; refused = (rw is at of.ends).1 });
+      ends = (ends.0, refused);
+      copies = λ d viewed. let went = rw is at (of.writes d viewed) in (went.0, record { took = went.1; refused = refused });
       out = tt;
       told = tt;
       moves = of.moves;
