@@ -1,6 +1,6 @@
 //! Calls that take memory, each of whose growths is refused.
 use crate::dump::built::{fault_of, fault_of_source, read};
-use crate::files::{CRASH_FILE, NAMED, SIX_FILE, Sample, file_of};
+use crate::files::{CRASH_FILE, NAMED, SIX_FILE, SYSTEM_FILE, Sample, file_of};
 use crate::same::assert_same_at;
 use crate::viewed::view_fault_of;
 use crate::writer::{fault_back, stored_size};
@@ -214,4 +214,5 @@ fn each_growth_may_be_refused(rt: HostRuntime) {
     assert_growths(&rt, rt.alloc(), module, 3 + 1 + 1 + 3);
     assert_growths(&rt, rt.alloc(), CRASH_FILE, 3 + 1 + 1 + 3);
     assert_growths(&rt, rt.alloc(), SIX_FILE, 3 + 1 + 1 + 5);
+    assert_growths(&rt, rt.alloc(), SYSTEM_FILE, 3 + 1 + 1);
 }
