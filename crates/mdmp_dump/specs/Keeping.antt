@@ -1,5 +1,5 @@
 -- What reading a file into a value fetches: for the listing within a budget, and beside it the bytes of parts.
-use Rattle.std.specs.Prelude.{◌≡◌, ◌≤◌, ◌+◌, ℕ, None, Option, Result, Ok, Err, IfErr, IsTrue, max}
+use Rattle.std.specs.Prelude.{◌≡◌, ◌≤◌, ◌+◌, ℕ, Result, Ok, Err, IfErr, IsTrue, max}
 use Rattle.mdmp_source.specs.Count.{raised}
 use Rattle.mdmp_source.specs.Range.{IsInside}
 use Rattle.mdmp_source.specs.Source.{SourceState}
